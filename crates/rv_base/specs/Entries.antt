@@ -1,0 +1,11 @@
+-- Entries, the newest first, as a finite map.
+use Rattle.std.specs.Prelude.{List, [], ◌∷◌}
+use Rattle.std.specs.String.{string_bytes}
+use Rattle.std.specs.FinMap.{insert, empty}
+use Rattle.rv_base.specs.Shelf.{Shelf}
+use Rattle.rv_base.specs.declared.entries.Entry.{Entry}
+
+-- What the entries hold: of those of one name the newest counts.
+abbrev pub shelf_of : List Entry → Shelf
+shelf_of [] = empty
+shelf_of (entry ∷ entries) = insert (shelf_of entries) (string_bytes entry.name) entry.bytes.items

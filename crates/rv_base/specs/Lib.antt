@@ -1,0 +1,9 @@
+pub mod Causes
+pub mod Shelf
+pub mod Shown
+pub mod MemoryFiles
+pub mod SureFiles
+pub mod Entries
+pub mod MemorySink
+pub mod SureSink
+pub mod formers

@@ -1,0 +1,29 @@
+//! What stands between the program and the outside, and the small types that every layer shares.
+#![tactic(auto)]
+
+mod entries;
+mod files;
+mod held;
+mod many;
+mod memory;
+mod memory_files;
+mod memory_sink;
+mod sink;
+mod sure_files;
+mod sure_sink;
+#[cfg(test)]
+mod tests;
+mod text;
+mod value;
+
+pub use files::{Files, LoadFault};
+pub use held::Box;
+pub use many::Many;
+pub use memory::Memory;
+pub use memory_files::MemoryFiles;
+pub use memory_sink::MemorySink;
+pub use sink::{PutFault, Sink};
+pub use sure_files::SureFiles;
+pub use sure_sink::SureSink;
+pub use text::Text;
+pub use value::{Place, Trace, Value};

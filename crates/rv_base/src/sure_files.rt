@@ -1,0 +1,77 @@
+//! Files in memory that never fail.
+
+ghost use Rattle.std.specs.Prelude.{◌≡◌, ℕ, List, Some, IsTrue, OnOk, OnErr};
+ghost use Rattle.std.specs.FinMap.{empty, insert, contains_key};
+
+use crate::entries::{Entry, add_entry, copy_front, find_bytes};
+use crate::{Files, LoadFault, Memory};
+use std::alloc::Global;
+
+/// Named bytes in memory. It serves exactly the names that it holds, and its loads fail for want of memory alone,
+/// so its count of faults is constantly 0.
+#[derive(Drop)]
+pub struct SureFiles {
+    alloc: Global,
+    entries: Vec<Entry>,
+}
+
+impl SureFiles {
+    ghost use Rattle.rv_base.specs.SureFiles.{held_by};
+
+    /// No file.
+    pub fn new(alloc: Global) -> SureFiles
+        ensures { held_by result ≡ empty }
+    {
+        SureFiles {
+            alloc,
+            entries: Vec::new(alloc),
+        }
+    }
+
+    /// Holds these bytes under the name, in place of earlier ones. From then on the name is served.
+    pub fn add(&mut self, name: &str, bytes: &[u8]) -> Result<(), Memory>
+        ensures ok { OnOk result (held_by self.new ≡ insert (held_by self.old) name.now bytes.now) }
+        ensures serves { OnOk result (IsTrue (contains_key (held_by self.new) name.now)) }
+        ensures serves_more { (other : List ℕ) → IsTrue (contains_key (held_by self.old) other) → IsTrue (contains_key (held_by self.new) other) }
+        ensures err { OnErr result (held_by self.new ≡ held_by self.old) }
+    {
+        add_entry(self.alloc, &mut self.entries, name, bytes)
+    }
+}
+
+impl Files for SureFiles {
+    ghost use Rattle.rv_base.specs.SureFiles.{held_by};
+
+    ghost held = { λ files. Some (held_by files) };
+
+    ghost faults = { λ _. 0 };
+
+    ghost serves = { λ files name. contains_key (held_by files) name };
+
+    fn load(&mut self, alloc: Global, name: &str, limit: u64) -> Result<Vec<u8>, LoadFault> {
+        match find_bytes(&self.entries, name) {
+            Some(bytes) => Ok(copy_front(alloc, bytes, limit)?),
+            None => unreachable!(),
+        }
+    }
+}
+
+#[cfg(test)]
+mod tests {
+    use super::*;
+    use std::test::Fail;
+
+    // What a load gives of five bytes, with the limit 2.
+    fn load_surely(alloc: Global) -> Result<Vec<u8>, LoadFault> {
+        let mut files = SureFiles::new(alloc);
+        files.add("five", b"other")?;
+        files.add("five", b"12345")?;
+        files.load(alloc, "five", 2)
+    }
+
+    #[test]
+    fn a_load_gives_a_byte_more_than_the_limit(rt: HostRuntime) -> Result<(), Fail> {
+        assert_eq!(rt; load_surely(rt.alloc())?.as_slice(), b"123".as_slice());
+        Ok(())
+    }
+}

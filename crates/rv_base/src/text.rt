@@ -1,0 +1,96 @@
+//! A text whose contracts speak of its bytes alone.
+
+ghost use Rattle.std.specs.Prelude.{◌≡◌, IfOk, length, string_bytes, nat_eq, IsTrue, ◌↔◌};
+ghost use Rattle.std.specs.Cmp.{nat_eq_equiv, partial_equiv_from_equiv};
+ghost use Rattle.std.specs.Cmp.Lexicographic.{pointwise, lists_per, lists_equiv};
+
+use std::alloc::{AllocError, Global};
+use std::marker::Model;
+
+/// A text. To a contract it is the list of its bytes: neither the capacity nor the place of the block is part of
+/// its value.
+#[derive(Debug, Drop)]
+pub struct Text {
+    text: String,
+}
+
+impl Model for Text {
+    ghost use Rattle.std.specs.Prelude.{List, ℕ, string_bytes};
+
+    ghost Value = { List ℕ };
+
+    ghost view = { λ t. string_bytes t.text };
+}
+
+impl Text {
+    /// A copy of the text.
+    pub fn from_str(alloc: Global, text: &str) -> Result<Text, AllocError>
+        ensures { IfOk result (λ t. t ≡ text.now) }
+    {
+        let text = String::from_str(alloc, text)?;
+        Ok(Text { text })
+    }
+
+    /// The `String`'s text, left where it is.
+    pub fn from_string(text: String) -> Text
+        ensures { result ≡ string_bytes text }
+    {
+        Text { text }
+    }
+
+    /// The text as a `String`, left where it is.
+    pub fn into_string(self) -> String
+        ensures { string_bytes result ≡ self }
+    {
+        let Text { text } = self;
+        text
+    }
+
+    /// The text as a slice.
+    pub fn as_str(&self) -> &str
+        ensures { result.now ≡ self.now }
+    {
+        self.text.as_str()
+    }
+
+    /// Whether the two texts have the same bytes.
+    pub fn is(&self, other: &Text) -> bool
+        ensures { IsTrue result ↔ (self.now ≡ other.now) }
+    {
+        self.text.as_bytes() == other.text.as_bytes()
+    }
+
+    /// The length in bytes.
+    pub fn len(&self) -> usize
+        ensures { result ≡ length self.now }
+    {
+        self.text.len()
+    }
+}
+
+/// A clone is the same text.
+impl Clone for Text {
+    ghost is_clone = { λ a b. a ≡ b };
+
+    /// Copies the text, into a block of its own.
+    fn clone(&self) -> Result<Text, AllocError> {
+        let text = self.text.clone()?;
+        Ok(Text { text })
+    }
+}
+
+/// Equal where the bytes are.
+impl PartialEq for Text {
+    ghost eq = { pointwise nat_eq };
+
+    ghost laws = { lists_per (partial_equiv_from_equiv nat_eq_equiv) };
+
+    /// Whether the two texts have the same bytes.
+    fn eq(&self, other: &Text) -> bool {
+        self.text.as_bytes() == other.text.as_bytes()
+    }
+}
+
+impl Eq for Text {
+    ghost laws = { lists_equiv nat_eq_equiv };
+}
