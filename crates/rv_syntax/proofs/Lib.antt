@@ -1,0 +1,14 @@
+pub mod Words
+pub mod Lexed
+pub mod Marked
+pub mod Steps
+pub mod Complete
+pub mod Limits
+pub mod Sound
+pub mod Nested
+pub mod Exact
+pub mod Expressions
+pub mod ExactRules
+pub mod Loop
+pub mod Whole
+pub mod LongestCut

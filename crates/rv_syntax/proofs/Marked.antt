@@ -1,0 +1,59 @@
+-- A word or symbol is known by its number.
+use Rattle.std.proofs.Common.{◌≡◌, ℕ, true, false, [], ◌∷◌, get_or, refl, sym, ap, ◌∙◌}
+use Rattle.std.specs.Prelude.{nat_eq, Some, None, ⊤, cond, Bool}
+use Rattle.std.proofs.lemmas.Bool.{eqb-true, eq-eqb}
+use Rattle.rv_syntax.specs.declared.token.Mark.{Mark}
+use Rattle.rv_syntax.specs.declared.token.Mark.TheVariants as mark
+use Rattle.rv_syntax.specs.declared.token.Kind.{Kind}
+use Rattle.rv_syntax.specs.declared.token.Kind.TheVariants as kind
+use Rattle.rv_syntax.specs.declared.token.Token.{Token}
+use Rattle.rv_syntax.specs.Grammar.{fixed}
+use Rattle.rv_syntax.specs.Marks.{number_of, kind_is, is_mark, has_mark}
+
+abbrev marked : ℕ → Mark
+marked n = get_or (
+    mark.Node ∷ mark.Returns ∷ mark.Let ∷ mark.Tel ∷ mark.Bool ∷ mark.True ∷ mark.False ∷ mark.Not ∷ mark.Or ∷ mark.And
+    ∷ mark.Open ∷ mark.Close ∷ mark.Comma ∷ mark.Semi ∷ mark.Colon ∷ mark.Equal ∷ []
+    ) n mark.Node
+
+back : (m : Mark) → marked (number_of m) ≡ m
+back mark.Node = refl
+back mark.Returns = refl
+back mark.Let = refl
+back mark.Tel = refl
+back mark.Bool = refl
+back mark.True = refl
+back mark.False = refl
+back mark.Not = refl
+back mark.Or = refl
+back mark.And = refl
+back mark.Open = refl
+back mark.Close = refl
+back mark.Comma = refl
+back mark.Semi = refl
+back mark.Colon = refl
+back mark.Equal = refl
+
+same-mark : (a b : Mark) → nat_eq (number_of a) (number_of b) ≡ true → a ≡ b
+same-mark a b h = sym (back a) ∙ ap marked (eqb-true (number_of a) (number_of b) h) ∙ back b
+
+kind-mark : (m : Mark) (k : Kind) → kind_is m k ≡ true → k ≡ kind.Fixed m
+kind-mark m (kind.Fixed f) h = ap kind.Fixed (same-mark f m h)
+kind-mark m (kind.Name x) h = cc
+kind-mark m kind.Other h = cc
+
+pub token-mark : (m : Mark) (t : Token) → is_mark m t ≡ true → t ≡ fixed m t.at
+token-mark m t h = ap (λ k. record { kind = k; at = t.at }) (kind-mark m t.kind h)
+
+pub mark-token : (m : Mark) (at : ℕ) → is_mark m (fixed m at) ≡ true
+mark-token m at = eq-eqb (number_of m) (number_of m) refl
+
+some-if : (b : Bool) (u : ⊤) → cond b (Some tt) None ≡ Some u → b ≡ true
+some-if true u h = refl
+some-if false u h = cc
+
+pub from-has : (m : Mark) (t : Token) (u : ⊤) → has_mark m t ≡ Some u → t ≡ fixed m t.at
+from-has m t u h = token-mark m t (some-if (is_mark m t) u h)
+
+pub has-mark : (m : Mark) (at : ℕ) → has_mark m (fixed m at) ≡ Some tt
+has-mark m at = ap (λ b. cond b (Some tt) None) (mark-token m at)

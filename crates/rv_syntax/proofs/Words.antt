@@ -1,0 +1,57 @@
+-- The bytes of a word.
+use Rattle.std.proofs.Common.{◌≡◌, ℕ, zero, suc, ◌+◌, ◌<◌, ◌≤◌, true, false, cond, ◌||◌, List, [], ◌∷◌, take, refl, sym, ap, ◌∙◌, subst, inl, inr, arith, one-add, lit<}
+use Rattle.std.specs.List.{prefix_len}
+use Rattle.std.specs.Str.{IsAscii}
+use Rattle.std.specs.Char.{is_ascii_alphanumeric}
+use Rattle.std.specs.Int.{is_in_range}
+use Rattle.std.specs.Prelude.{◌==◌, nat_le, Result, Ok, Err, MatchResult, is_ok}
+use Rattle.std.proofs.lemmas.Bool.{cases_Bool, or_cases, and_parts, leb-true, eqb-true}
+use Rattle.rv_syntax.specs.Lexing.{is_word_byte}
+
+in-range : (lo hi b : ℕ) → is_in_range lo hi b ≡ true → hi < 128 → b < 128
+in-range lo hi b h l =
+    let le : b ≤ hi = leb-true b hi (and_parts (nat_le lo b) (nat_le b hi) h).1 in
+    omega arith
+
+below : (b : ℕ) → is_word_byte b ≡ true → b < 128
+below b h =
+    elim (or_cases (is_ascii_alphanumeric b) (b == 95) h) [
+      | inl a ↦ elim (or_cases (is_in_range 48 57 b || is_in_range 65 90 b) (is_in_range 97 122 b) a) [
+        | inl d ↦ elim (or_cases (is_in_range 48 57 b) (is_in_range 65 90 b) d) [
+          | inl e ↦ in-range 48 57 b e (lit< tt)
+          | inr e ↦ in-range 65 90 b e (lit< tt)
+        ]
+        | inr e ↦ in-range 97 122 b e (lit< tt)
+      ]
+      | inr e ↦ let is : b ≡ 95 = eqb-true b 95 e in omega arith
+    ]
+
+is-ok : {T E : Type 0} (P : T → Type 0) (Q : E → Type 0) (r : Result T E) → MatchResult r P Q → ((e : E) → Q e → ⊥) → is_ok r ≡ true
+is-ok P Q (Ok x) h none = refl
+is-ok P Q (Err e) h none = absurd (none e h)
+
+-- what is text by its bytes is read as text
+pub reads-text : {T E : Type 0} (P : T → Type 0) (U : Type 0) (Q : E → Type 0) (r : Result T E) → U → MatchResult r P (λ e. ¬ U × Q e) → is_ok r ≡ true
+reads-text P U Q r u h = is-ok P (λ e. ¬ U × Q e) r h (λ e n. n.0 u)
+
+word-more : (b : ℕ) (bs : List ℕ) → is_word_byte b ≡ true → prefix_len is_word_byte (b ∷ bs) ≡ suc (prefix_len is_word_byte bs)
+word-more b bs e = ap (λ c. cond c (1 + prefix_len is_word_byte bs) 0) e ∙ one-add (prefix_len is_word_byte bs)
+
+word-none : (b : ℕ) (bs : List ℕ) → is_word_byte b ≡ false → prefix_len is_word_byte (b ∷ bs) ≡ 0
+word-none b bs e = ap (λ c. cond c (1 + prefix_len is_word_byte bs) 0) e
+
+ascii-none : IsAscii []
+ascii-none i = lit< tt
+
+ascii-more : (b : ℕ) (bs : List ℕ) → b < 128 → IsAscii bs → IsAscii (b ∷ bs)
+ascii-more b bs h f zero = h
+ascii-more b bs h f (suc i) = f i
+
+-- a word is ASCII
+pub ascii_word : (bs : List ℕ) → IsAscii (take (prefix_len is_word_byte bs) bs)
+ascii_word [] = ascii-none
+ascii_word (b ∷ bs) =
+    elim (cases_Bool (is_word_byte b)) [
+      | inl e ↦ subst (λ n. IsAscii (take n (b ∷ bs))) (sym (word-more b bs e)) (ascii-more b (take (prefix_len is_word_byte bs) bs) (below b e) (ascii_word bs))
+      | inr e ↦ subst (λ n. IsAscii (take n (b ∷ bs))) (sym (word-none b bs e)) ascii-none
+    ]

@@ -1,0 +1,15 @@
+pub mod Tree
+pub mod Places
+pub mod Lexing
+pub mod Grammar
+pub mod Nesting
+pub mod Rules
+pub mod ProgramText
+pub mod Marks
+pub mod Machine
+pub mod Limited
+pub mod Parse
+pub mod Reads
+pub mod Reading
+pub mod Correct
+pub mod Longest

@@ -1,0 +1,83 @@
+//! From the bytes of a Lustre source to its syntax tree.
+#![tactic(auto)]
+
+ghost use Rattle.std.specs.Prelude.{◌≡◌, ◌<◌, ◌≤◌, ℕ, List, length, IfOk, IfErr};
+ghost use Rattle.rv_syntax.specs.Correct.{Finds, IsRefusal};
+ghost use Rattle.rv_syntax.specs.Lexing.{cut};
+ghost use Rattle.rv_syntax.specs.Longest.{IsLongest};
+ghost use Rattle.rv_syntax.specs.ProgramText.{IsNode, IsTextOf};
+ghost use Rattle.rv_syntax.specs.Tree.{NodeTree, ProgramTree, node_tree, program_tree};
+
+mod fault;
+mod lexer;
+mod operator;
+mod parser;
+mod rules;
+#[cfg(test)]
+mod tests;
+mod token;
+mod tree;
+
+use fault::Stop;
+pub use fault::TextFault;
+use lexer::tokens_of;
+use parser::Parser;
+use rules::{only, read_node};
+use rv_base::Many;
+use std::alloc::Global;
+use token::Token;
+pub use tree::{
+    Assertion, ConstDecl, Decl, Equation, Expr, ExprForm, Name, Node, Op, Program, TypeBody,
+    TypeDecl, TypeName,
+};
+
+/// Reads the bytes of a source of at most 1,048,576 bytes. It answers the tree of the text where the text is
+/// one node without locals whose one equation is built from `true`, `false`, names, brackets, `not`, `and`
+/// and `or`, nested at most 200 deep, and otherwise `LeftOut(0)`. `Memory` comes where memory runs out.
+/// Time and memory grow with the length of the source alone.
+pub fn parse(alloc: Global, bytes: &[u8]) -> Result<Program, TextFault>
+    requires { length bytes.now ≤ 1048576 }
+    // What is answered is the tree of the text.
+    ensures found { IfOk result (λ p. IsTextOf bytes.now (program_tree p)) }
+    // The tree of the text is answered, unless memory runs out.
+    ensures only { (t : ProgramTree) → IsTextOf bytes.now t → Finds program_tree t result }
+    // Any other text is refused as left out, with the number 0.
+    ensures refused { IfErr result IsRefusal }
+{
+    let tokens = tokens_of(alloc, bytes)?;
+    let node = whole_node(alloc, &tokens)?;
+    Ok(Program {
+        types: Many::new(alloc),
+        constants: Many::new(alloc),
+        nodes: only(alloc, node)?,
+    })
+}
+
+/// A text has at most one tree.
+pub fn one_tree()
+    ensures { (bytes : List ℕ) (t u : ProgramTree) → IsTextOf bytes t → IsTextOf bytes u → t ≡ u }
+{}
+
+/// Tokens are cut by longest match: what begins a text is one token, and no longer front is one.
+pub fn longest_match()
+    ensures { (text : List ℕ) → 0 < length text → IsLongest text (cut text) }
+{}
+
+/// The node that all the tokens are.
+fn whole_node(alloc: Global, tokens: &[Token]) -> Result<Node, TextFault>
+    ensures found { IfOk result (λ n. IsNode (node_tree n) tokens.now) }
+    ensures only { (n : NodeTree) → IsNode n tokens.now → Finds node_tree n result }
+    ensures refused { IfErr result IsRefusal }
+{
+    let mut parser = Parser::new(tokens);
+    let node = match read_node(alloc, &mut parser) {
+        Ok(node) => node,
+        Err(Stop::Memory) => return Err(TextFault::Memory),
+        Err(Stop::Token(_, _)) => return Err(TextFault::LeftOut(0)),
+    };
+    if parser.is_at_end() {
+        Ok(node)
+    } else {
+        Err(TextFault::LeftOut(0))
+    }
+}

@@ -1,0 +1,159 @@
+//! What no clause says: outside rows, and that a call succeeds.
+
+use crate::{Expr, ExprForm, Program, TextFault, longest_match, one_tree, parse};
+use std::alloc::{AllocError, Global};
+use std::fmt::Write;
+use std::test::Fail;
+
+/// The source of a node `m` with the inputs `a`, `b`, `c` and `d`, of which `ok` is this expression. The
+/// expression begins at offset 54.
+fn source(
+    alloc: Global,
+    front: &str,
+    part: &str,
+    times: usize,
+    back: &str,
+) -> Result<String, AllocError> {
+    let mut text = String::from_str(
+        alloc,
+        "node m(a, b, c, d: bool) returns (ok: bool); let ok = ",
+    )?;
+    text.push_str(front)?;
+    for _ in 0..times {
+        text.push_str(part)?;
+    }
+    text.push_str(back)?;
+    text.push_str("; tel")?;
+    Ok(text)
+}
+
+/// Writes an expression with all its brackets, each operator before its operands, and each offset.
+fn write_expr(text: &mut String, expr: &Expr) -> Result<(), Fail> {
+    write!(text, "{}:", expr.at)?;
+    match &expr.form {
+        ExprForm::Named(name) => text.push_str(name.as_str())?,
+        ExprForm::True => text.push_str("true")?,
+        ExprForm::Not(operand) => {
+            text.push_str("not ")?;
+            write_expr(text, operand)?;
+        }
+        ExprForm::Binary(op, left, right) => {
+            write!(text, "{op:?}(")?;
+            write_expr(text, left)?;
+            text.push_str(", ")?;
+            write_expr(text, right)?;
+            text.push_str(")")?;
+        }
+        _ => text.push_str("other")?,
+    }
+    Ok(())
+}
+
+fn is_refused(answer: Result<Program, TextFault>) -> bool {
+    matches!(answer, Err(TextFault::LeftOut(0)))
+}
+
+#[test]
+fn reads_a_tautology(rt: HostRuntime) -> Result<(), Fail> {
+    let text = b"node m(a: bool) returns (ok: bool); let ok = a or not a; tel";
+    let program = parse(rt.alloc(), text).expect(&rt, "a tree");
+    assert_eq!(rt; program.nodes.len(), 1);
+    let node = program.nodes.get(0).expect(&rt, "a node");
+    let input = node.inputs.get(0).expect(&rt, "an input");
+    let output = node.outputs.get(0).expect(&rt, "an output");
+    let equation = node.equations.get(0).expect(&rt, "an equation");
+    let left = equation.lefts.get(0).expect(&rt, "a left side");
+    let mut found = String::new(rt.alloc());
+    for name in [&node.name, &input.name, &output.name, left] {
+        write!(found, "{}:{} ", name.at, name.text.as_str())?;
+    }
+    write_expr(&mut found, &equation.right)?;
+    assert_eq!(rt;
+        found.as_str(),
+        "5:m 7:a 25:ok 40:ok 47:Or(45:a, 50:not 54:a)"
+    );
+    one_tree();
+    longest_match();
+    Ok(())
+}
+
+#[test]
+fn groups_by_level_and_to_the_left(rt: HostRuntime) -> Result<(), Fail> {
+    let text = source(rt.alloc(), "a or b and not (c or d) or true", "", 0, "")?;
+    assert!(rt; text.len() <= 1048576);
+    let program = parse(rt.alloc(), text.as_bytes()).expect(&rt, "a tree");
+    let node = program.nodes.get(0).expect(&rt, "a node");
+    let equation = node.equations.get(0).expect(&rt, "an equation");
+    let mut found = String::new(rt.alloc());
+    write_expr(&mut found, &equation.right)?;
+    let wanted = "78:Or(56:Or(54:a, 61:And(59:b, 65:not 72:Or(70:c, 75:d))), 81:true)";
+    assert_eq!(rt; found.as_str(), wanted);
+    Ok(())
+}
+
+#[test]
+fn refuses_what_is_outside_the_form(rt: HostRuntime) -> Result<(), Fail> {
+    let texts = [
+        "",
+        "node m(a: bool) returns (ok: bool); let ok = a + 1; tel",
+        "node m(a: bool) returns (ok: bool); let ok = a; ok = a; tel",
+        "node m(a: bool) returns (ok: bool); let ok = a; tel;",
+        "node m(a: bool) returns (ok: bool); let ok = a; tel.",
+        "node m(a: bool) returns (ok: bool) let ok = a; tel",
+        "node m(a: bool) returns (ok: bool); var b: bool; let ok = a; tel",
+        "node m(a: bool) returns (ok: bool); let ok = true -> a; tel",
+        "node m(a: bool) returns (ok: bool); let ok = pre a; tel",
+        "node m(if: bool) returns (ok: bool); let ok = true; tel",
+        "node m(merge: bool) returns (ok: bool); let ok = true; tel",
+        "node m(a: bool) returns (ok: bool); let ok = a; tel -- done",
+        "node m(a: bool) returns (ok: bool); let ok = (* yes *) a; tel",
+        "node m(a: int) returns (ok: bool); let ok = true; tel",
+        "node m(a, : bool) returns (ok: bool); let ok = true; tel",
+        "node m(a: bool) returns (ok: bool); let ok = (a; tel",
+        "node m(a: bool) returns (ok: bool); let ok = a b; tel",
+        "node m(é: bool) returns (ok: bool); let ok = true; tel",
+    ];
+    for text in texts {
+        assert!(rt; text.len() <= 1048576);
+        assert!(rt; is_refused(parse(rt.alloc(), text.as_bytes())), "at {text}");
+    }
+    assert!(rt; is_refused(parse(rt.alloc(), [0, 255, 128].as_slice())));
+    Ok(())
+}
+
+#[test]
+fn names_may_begin_with_a_reserved_word(rt: HostRuntime) -> Result<(), Fail> {
+    let text =
+        "node nodes(not_, _or, and1, tell: bool) returns (prefix: bool);\r\n\tlet\x0Cprefix=not(not_)and tell;tel\n";
+    assert!(rt; text.len() <= 1048576);
+    assert!(rt; parse(rt.alloc(), text.as_bytes()).is_ok());
+    Ok(())
+}
+
+#[test]
+fn nesting_ends_at_200(rt: HostRuntime) -> Result<(), Fail> {
+    let alloc = rt.alloc();
+    // The front, what is repeated, how often it may be, and the back.
+    let rows = [
+        ("", "not ", 200, "a"),
+        ("a", " or a", 200, ""),
+        ("not (", "not ", 198, "a)"),
+        ("((not a))", " and (not a)", 198, ""),
+        ("not not not a and b", " or a", 196, ""),
+    ];
+    for (front, part, most, back) in rows {
+        let accepted = source(alloc, front, part, most, back)?;
+        assert!(rt; accepted.len() <= 1048576);
+        assert!(rt;
+            parse(alloc, accepted.as_bytes()).is_ok(),
+            "at {front} {part}"
+        );
+        let refused = source(alloc, front, part, most + 1, back)?;
+        assert!(rt; refused.len() <= 1048576);
+        assert!(rt;
+            is_refused(parse(alloc, refused.as_bytes())),
+            "at {front} {part}"
+        );
+    }
+    Ok(())
+}
