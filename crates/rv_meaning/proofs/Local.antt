@@ -1,0 +1,144 @@
+-- The value of an expression depends only on the earlier instants and on the flows that it needs.
+use Rattle.std.proofs.Common.{◌≡◌, ℕ, zero, suc, ◌+◌, ◌<◌, ◌≤◌, pos, ◌-ℤ◌, Bool, true, false, not, ◌||◌, cond, unwrap_or, List, [], ◌∷◌, ◌++◌, length, refl, ap, subst, arith, Option, Some, length-append, nat_le}
+use Rattle.std.proofs.Common.{None as Nothing}
+use Rattle.std.specs.List.{All}
+use Rattle.std.proofs.lemmas.List.{get_or_append_left, get_or-append-add}
+use Rattle.rv_base.specs.declared.value.Value.{Value}
+use Rattle.rv_base.specs.declared.value.Value.TheVariants.{Flag, Whole}
+use Rattle.rv_syntax.specs.Tree.{Tree, Node, Form, True, False, Number, Named, Not, Minus, Pre, Current, When, Binary, If, AtMostOne, Call, Trees, None, More, ProgramTree}
+use Rattle.rv_syntax.specs.Places.{Sites, is_flow}
+use Rattle.rv_meaning.specs.Clocks.{Clock, Base, taken, clock}
+use Rattle.rv_meaning.specs.Instances.{Right, Body, Output, Instance, place, absolute, clock_in, clock_taken, clock_of_arguments, output_place}
+use Rattle.rv_meaning.specs.Meaning.{Cells, is_true, number, held, is_on, operate, constant_value, is_there, was_there, last_before, kept_place, content, form_content, trues, value, right_value}
+use Rattle.rv_meaning.specs.Needs.{flow_of, needs, form_needs, needs_all, needs_of_right}
+
+-- what holds of a joined list holds of its first part
+pub all_left : {X : Type 0} (P : X → Type 0) (xs ys : List X) → All P (xs ++ ys) → All P xs
+all_left P xs ys h k d lt = subst P (get_or_append_left xs ys d k lt) (h k d (omega (arith, length-append xs ys)))
+
+-- and of its second
+pub all_right : {X : Type 0} (P : X → Type 0) (xs ys : List X) → All P (xs ++ ys) → All P ys
+all_right P xs ys h k d lt = subst P (get_or-append-add xs ys k d) (h (length xs + k) d (omega (arith, length-append xs ys)))
+
+-- a clock that is taken twice is taken once
+pub taken_twice : (c : Option Clock) → taken (taken Base c) c ≡ taken Base c
+taken_twice Nothing = refl
+taken_twice (Some c) = refl
+
+module _ (g h : Cells) where
+  -- the histories are the same before u
+  abbrev pub AreAlike : ℕ → Type 0
+  AreAlike u = (s : ℕ) (p : Sites) → s < u → g s p ≡ h s p
+
+  -- they have the same at t for this flow
+  abbrev pub IsAlike : ℕ → Sites → Type 0
+  IsAlike t p = g t p ≡ h t p
+
+  -- a clock before u
+  pub there_before : (u : ℕ) → AreAlike u → (k : Option Sites) (t : ℕ) → t < u → is_there g k t ≡ is_there h k t
+  there_before u alike Nothing t lt = refl
+  there_before u alike (Some p) t lt = ap is_on (alike t p lt)
+
+  -- a clock whose flow is the same
+  there_now : (k : Option Sites) (t : ℕ) → All (IsAlike t) (flow_of k) → is_there g k t ≡ is_there h k t
+  there_now Nothing t same = refl
+  there_now (Some p) t same = ap is_on (same 0 p (omega arith))
+
+  -- whether a clock was there
+  was_before : (u : ℕ) → AreAlike u → (k : Option Sites) (t : ℕ) → t ≤ u → was_there g k t ≡ was_there h k t
+  was_before u alike k zero le = refl
+  was_before u alike k (suc t) le = λ i. there_before u alike k t (omega arith) i || was_before u alike k t (omega arith) i
+
+  -- a memory
+  last_alike : (u : ℕ) → AreAlike u → (k : Option Sites) (a b : ℕ → Value) (start : Value) (t : ℕ) → t ≤ u → ((s : ℕ) → s < t → a s ≡ b s) → last_before g k a start t ≡ last_before h k b start t
+  last_alike u alike k a b start zero le same = refl
+  last_alike u alike k a b start (suc t) le same = λ i. cond
+      (there_before u alike k t (omega arith) i)
+      (same t (omega arith) i)
+      (last_alike u alike k a b start t (omega arith) (λ s lt. same s (omega arith)) i)
+
+  -- a name of a flow that is needed, or a constant
+  named_now : (b : Bool) (p : Sites) (c : Value) (t : ℕ) → All (IsAlike t) (cond b (p ∷ []) []) → cond b (held (g t p)) c ≡ cond b (held (h t p)) c
+  named_now true p c t same = ap held (same 0 p (omega arith))
+  named_now false p c t same = refl
+
+  module _ (program : ProgramTree) (starts : Sites → Value) (i : Instance) where
+    mutual
+      -- an expression before u
+      pub before : (e : Tree) (u t : ℕ) → AreAlike u → t < u → content program starts g i e t ≡ content program starts h i e t
+      before (Node at site form) u t alike lt = form_before site form u t alike lt
+
+      -- by its form
+      form_before : (site : Option ℕ) (form : Form) (u t : ℕ) → AreAlike u → t < u → form_content program starts g i site form t ≡ form_content program starts h i site form t
+      form_before site True u t alike lt = refl
+      form_before site False u t alike lt = refl
+      form_before site (Number n) u t alike lt = refl
+      form_before site (Named x) u t alike lt = ap (λ o. cond (is_flow i.node x) (held o) (constant_value program x)) (alike t _ lt)
+      form_before site (Not e) u t alike lt = ap (λ v. Flag (not (is_true v))) (before e u t alike lt)
+      form_before site (Minus e) u t alike lt = ap (λ v. Whole (pos 0 -ℤ number v)) (before e u t alike lt)
+      form_before site (Binary o a b) u t alike lt = λ j. operate o
+          (not (was_before u alike (clock_in i Base (Node 0 site (Binary o a b))) t (omega arith) j))
+          (before a u t alike lt j) (before b u t alike lt j)
+      form_before site (Pre e) u t alike lt = last_alike u alike (clock_in i Base e) _ _ (starts (kept_place i site e)) t (omega arith) (λ s less. before e u s alike (omega arith))
+      form_before site (Current e) u t alike lt = last_alike u alike (clock_in i Base e) _ _ (starts (kept_place i site e)) (suc t) (omega arith) (λ s less. before e u s alike (omega arith))
+      form_before site (When e c) u t alike lt = before e u t alike lt
+      form_before site (If a b c) u t alike lt = λ j. cond (is_true (before a u t alike lt j)) (before b u t alike lt j) (before c u t alike lt j)
+      form_before site (AtMostOne es) u t alike lt = ap (λ n. Flag (nat_le n 1)) (all_before es u t alike lt)
+      form_before site (Call f args) u t alike lt = ap held (alike t _ lt)
+
+      -- some expressions
+      all_before : (es : Trees) (u t : ℕ) → AreAlike u → t < u → trues program starts g i es t ≡ trues program starts h i es t
+      all_before None u t alike lt = refl
+      all_before (More e es) u t alike lt = λ j. cond (is_true (before e u t alike lt j)) 1 0 + all_before es u t alike lt j
+
+    mutual
+      -- an expression at t, where what it needs is the same
+      pub now : (k : Clock) (e : Tree) (t : ℕ) → AreAlike t → All (IsAlike t) (needs program i k e) → content program starts g i e t ≡ content program starts h i e t
+      now k (Node at site form) t alike same = form_now (clock_taken i k (Node at site form)) site form t alike (all_right (IsAlike t) (flow_of (clock_in i k (Node at site form))) _ same)
+
+      -- by its form
+      form_now : (k : Clock) (site : Option ℕ) (form : Form) (t : ℕ) → AreAlike t → All (IsAlike t) (form_needs program i k site form) → form_content program starts g i site form t ≡ form_content program starts h i site form t
+      form_now k site True t alike same = refl
+      form_now k site False t alike same = refl
+      form_now k site (Number n) t alike same = refl
+      form_now k site (Named x) t alike same = named_now (is_flow i.node x) (place i x) (constant_value program x) t same
+      form_now k site (Not e) t alike same = ap (λ v. Flag (not (is_true v))) (now k e t alike same)
+      form_now k site (Minus e) t alike same = ap (λ v. Whole (pos 0 -ℤ number v)) (now k e t alike same)
+      form_now k site (Binary o a b) t alike same = λ j. operate o
+          (not (was_before t alike (clock_in i Base (Node 0 site (Binary o a b))) t (omega arith) j))
+          (now k a t alike (all_left (IsAlike t) (needs program i k a) _ same) j)
+          (now k b t alike (all_right (IsAlike t) (needs program i k a) _ same) j)
+      form_now k site (Pre e) t alike same = last_alike t alike (clock_in i Base e) _ _ (starts (kept_place i site e)) t (omega arith) (λ s less. before e t s alike less)
+      form_now k site (Current e) t alike same = λ j. cond
+          (subst (λ c. is_there g (absolute i c) t ≡ is_there h (absolute i c) t) (taken_twice (clock i.node e)) (there_of (clock_taken i Base e) e t same) j)
+          (now (clock_taken i Base e) e t alike same j)
+          (last_alike t alike (clock_in i Base e) (content program starts g i e) (content program starts h i e) (starts (kept_place i site e)) t (omega arith) (λ s less. before e t s alike less) j)
+      form_now k site (When e c) t alike same = now _ e t alike same
+      form_now k site (If a b c) t alike same = let first : All (IsAlike t) (needs program i k a ++ needs program i k b) = all_left (IsAlike t) (needs program i k a ++ needs program i k b) _ same in λ j. cond
+          (is_true (now k a t alike (all_left (IsAlike t) (needs program i k a) _ first) j))
+          (now k b t alike (all_right (IsAlike t) (needs program i k a) _ first) j)
+          (now k c t alike (all_right (IsAlike t) (needs program i k a ++ needs program i k b) _ same) j)
+      form_now k site (AtMostOne es) t alike same = ap (λ n. Flag (nat_le n 1)) (all_now k es t alike same)
+      form_now k site (Call f args) t alike same = ap held (same 0 (output_place program i (unwrap_or site 0) f 0) (omega arith))
+
+      -- some expressions
+      all_now : (k : Clock) (es : Trees) (t : ℕ) → AreAlike t → All (IsAlike t) (needs_all program i k es) → trues program starts g i es t ≡ trues program starts h i es t
+      all_now k None t alike same = refl
+      all_now k (More e es) t alike same = λ j.
+          cond (is_true (now k e t alike (all_left (IsAlike t) (needs program i k e) _ same) j)) 1 0
+          + all_now k es t alike (all_right (IsAlike t) (needs program i k e) _ same) j
+
+      -- its clock
+      there_of : (k : Clock) (e : Tree) (t : ℕ) → All (IsAlike t) (needs program i k e) → is_there g (clock_in i k e) t ≡ is_there h (clock_in i k e) t
+      there_of k (Node at site form) t same = there_now (clock_in i k (Node at site form)) t (all_left (IsAlike t) (flow_of (clock_in i k (Node at site form))) _ same)
+
+    -- the value of an expression at t
+    pub value_now : (k : Clock) (e : Tree) (t : ℕ) → AreAlike t → All (IsAlike t) (needs program i k e) → value program starts g i k e t ≡ value program starts h i k e t
+    value_now k e t alike same = λ j. cond (there_of k e t same j) (Some (now k e t alike same j)) Nothing
+
+    -- the value of a right side at t
+    pub right_now : (k : Clock) (r : Right) (t : ℕ) → AreAlike t → All (IsAlike t) (needs_of_right program i k r) → right_value program starts g i k r t ≡ right_value program starts h i k r t
+    right_now k (Body e) t alike same = value_now k e t alike same
+    right_now k (Output c n) t alike same = λ j. cond
+        (there_now (absolute i (clock_of_arguments i c.args)) t (all_left (IsAlike t) (flow_of (absolute i (clock_of_arguments i c.args))) _ same) j)
+        (Some (held (all_right (IsAlike t) (flow_of (absolute i (clock_of_arguments i c.args))) _ same 0 (output_place program i c.site c.name n) (omega arith) j))) Nothing

@@ -1,0 +1,54 @@
+-- Places as keys of a row, and what a row has after one more place is written.
+use Rattle.std.proofs.Common.{◌≡◌, Bool, true, false, cond, refl, sym, ◌∙◌, ap, arith, ◌⊎◌, inl, inr, Option, Some}
+use Rattle.std.proofs.lemmas.Cmp.{nat_list_cmp_total, tied_itself}
+use Rattle.std.proofs.Common.{Ordering, Less, Equal, Greater}
+use Rattle.std.specs.Ordering.{is_eq, eq_by_cmp, nat_cmp}
+use Rattle.std.specs.Cmp.Lexicographic.{slice_cmp}
+use Rattle.std.specs.FinMap as map
+use Rattle.std.specs.FinMap.{slice_cmp-IsAntisymmetric, nat_cmp-IsAntisymmetric, get-insert}
+use Rattle.rv_base.specs.declared.value.Value.{Value}
+use Rattle.rv_syntax.specs.Places.{Sites}
+use Rattle.rv_meaning.specs.Runs.{Instant}
+
+-- places in a map
+only_equal : (r : Ordering) → is_eq r ≡ true → r ≡ Equal
+only_equal Less e = grind arith
+only_equal Equal e = refl
+only_equal Greater e = grind arith
+
+-- the order of places cannot tell them apart
+abbrev pub ties : Sites → Sites → Bool
+ties q p = eq_by_cmp (slice_cmp nat_cmp) q p
+
+-- then they are equal
+pub same_place : (q p : Sites) → ties q p ≡ true → q ≡ p
+same_place q p e = slice_cmp-IsAntisymmetric nat_cmp-IsAntisymmetric q p (only_equal (slice_cmp nat_cmp q p) e)
+
+-- a place ties with itself
+pub ties_itself : (p : Sites) → ties p p ≡ true
+ties_itself p = ap is_eq (tied_itself nat_list_cmp_total p)
+
+-- and no other
+other_place : (q p : Sites) (b : Bool) → ties q p ≡ b → (q ≡ p → ⊥) → b ≡ false
+other_place q p true e n = absurd (n (same_place q p e))
+other_place q p false e n = refl
+
+-- what is written is read
+pub get_same : (m : Instant) (p : Sites) (v : Option Value) → map.get (map.insert m p v) p ≡ Some v
+get_same m p v = get-insert nat_list_cmp_total m p v p ∙ ap (λ b. cond b (Some v) (map.get m p)) (ties_itself p)
+
+-- and nothing else is changed
+pub get_other : (m : Instant) (p q : Sites) (v : Option Value) → (q ≡ p → ⊥) → map.get (map.insert m p v) q ≡ map.get m q
+get_other m p q v n = get-insert nat_list_cmp_total m p v q ∙ ap (λ b. cond b (Some v) (map.get m q)) (other_place q p _ refl n)
+
+-- false is not true
+pub no_flag : false ≡ true → ⊥
+no_flag e = grind arith
+
+-- two places are equal or not
+pub one_or_other : (q p : Sites) → (q ≡ p) ⊎ (q ≡ p → ⊥)
+one_or_other q p = decided (ties q p) refl
+  where
+    decided : (b : Bool) → ties q p ≡ b → (q ≡ p) ⊎ (q ≡ p → ⊥)
+    decided true e = inl (same_place q p e)
+    decided false e = inr (λ is. let bad : false ≡ true = sym e ∙ ap (λ r. ties r p) is ∙ ties_itself p in no_flag bad)

@@ -1,0 +1,10 @@
+use Rattle.rv_meaning.proofs.Extend.{a_solution}
+use Rattle.rv_meaning.proofs.Defined.{are_defined}
+use Rattle.rv_meaning.proofs.Sources.{wanted, wanted_is_local, run_of_solution}
+use Rattle.rv_meaning.proofs.laws.some_run.Goals as goal
+
+pub returns : goal.returns
+returns c program main sequence starts inputs n wf ordered typed given =
+    let defined = are_defined program main wf in
+    let s = a_solution program main (wanted program starts inputs) sequence (wanted_is_local program starts inputs) defined ordered n in
+    (s.0, run_of_solution program main starts inputs defined typed n given s.0 s.1)

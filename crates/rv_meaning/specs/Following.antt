@@ -1,0 +1,25 @@
+-- When a valuation is that of a run at an instant.
+use Rattle.std.specs.Prelude.{◌≡◌, ℕ, Option, Some, slice_get}
+use Rattle.std.specs.List.{Contains}
+use Rattle.rv_base.specs.declared.value.Value.{Value}
+use Rattle.rv_syntax.specs.declared.tree.Decl.{Decl}
+use Rattle.rv_syntax.specs.Tree.{ProgramTree}
+use Rattle.rv_syntax.specs.Places.{Identifier, Sites}
+use Rattle.rv_meaning.specs.Clocks.{Base}
+use Rattle.rv_meaning.specs.Instances.{Instance, clock_in, node_of, IsInstance}
+use Rattle.rv_meaning.specs.Memories.{Delay, node_delays}
+use Rattle.rv_meaning.specs.Kinds.{kind}
+use Rattle.rv_meaning.specs.Meaning.{Cells, was_there, last_before, kept_place, content}
+use Rattle.rv_meaning.specs.Valuations.{Valuation, spelled}
+
+-- what the memory of a `pre` or `current` of an instance holds before the instant t
+abbrev pub held_before : ProgramTree → (Sites → Value) → Cells → Instance → Delay → ℕ → Value
+held_before program starts h i d t = last_before h (clock_in i Base d.operand) (content program starts h i d.operand) (starts (kept_place i d.site d.operand)) t
+
+-- A valuation follows a history at the instant t: each tick bit says whether its clock was there before, and the
+-- bits of each memory and of each input spell what these have.
+pub record Follows (program : ProgramTree) (main : Identifier) (starts : Sites → Value) (inputs : ℕ → ℕ → Value) (h : Cells) (t : ℕ) (v : Valuation) : Type 0 where
+  pub ticks : (k : Option Sites) → v.ticked k ≡ was_there h k t
+  pub memories : (i : Instance) (d : Delay) → IsInstance program main i → Contains (node_delays i.node) d
+      → spelled (kind program i.node d.operand) (v.kept (kept_place i d.site d.operand)) ≡ held_before program starts h i d t
+  pub given : (j : ℕ) (d : Decl) → slice_get (node_of program main).inputs j ≡ Some d → spelled d.kind (v.input j) ≡ inputs t j

@@ -1,0 +1,82 @@
+//! Laws of the meaning, each the contract of a function that does nothing.
+
+ghost use Rattle.std.specs.Prelude.{◌≡◌, ℕ, ◌+◌, ◌<◌, ◌↔◌, List, slice_index_or};
+ghost use Rattle.std.specs.FinMap.{empty};
+ghost use Rattle.rv_base.specs.declared.value.Value.{Value};
+ghost use Rattle.rv_syntax.specs.Tree.{ProgramTree};
+ghost use Rattle.rv_syntax.specs.Places.{Identifier, Sites};
+ghost use Rattle.rv_meaning.specs.Runs.{History, Instant, cells, AssertionsHold, AreStarts, AreInputs, IsRun, IsAllowed, IsSafe, Falsifies};
+ghost use Rattle.rv_meaning.specs.Needs.{IsSequence};
+ghost use Rattle.rv_meaning.specs.Accepted.{IsAcceptable};
+ghost use Rattle.rv_meaning.specs.Valuations.{Valuation, IsSymbolicInstant, AllowsAt, HoldsEverywhere, FailsSomewhere};
+ghost use Rattle.rv_meaning.specs.Boolean.{IsBooleanProgram};
+ghost use Rattle.rv_meaning.specs.Following.{Follows};
+ghost use Rattle.rv_meaning.specs.Samples.{main, excluded_middle, identity};
+
+/// Two runs with the same starts and inputs are equal, where the flows stand in an order of evaluation.
+pub fn one_run()
+    ensures { (program : ProgramTree) (main : Identifier) (sequence : List Sites) (starts : Sites → Value) (inputs : ℕ → ℕ → Value) (n : ℕ) (h g : History)
+        → IsAcceptable program main → IsSequence program main sequence → IsRun program main starts inputs n h → IsRun program main starts inputs n g → h ≡ g }
+{}
+
+/// All starts and inputs of their types have a run, where the flows stand in an order of evaluation.
+pub fn some_run()
+    ensures { (program : ProgramTree) (main : Identifier) (sequence : List Sites) (starts : Sites → Value) (inputs : ℕ → ℕ → Value) (n : ℕ)
+        → IsAcceptable program main → IsSequence program main sequence → AreStarts program main starts → AreInputs program main n inputs
+        → (h : History) × IsRun program main starts inputs n h }
+{}
+
+/// For a Boolean node all starts and inputs of their types have exactly one run.
+pub fn exactly_one_run()
+    ensures { (program : ProgramTree) (main : Identifier) (starts : Sites → Value) (inputs : ℕ → ℕ → Value) (n : ℕ)
+        → IsBooleanProgram program main → AreStarts program main starts → AreInputs program main n inputs
+        → (h : History) × IsRun program main starts inputs n h × ((g : History) → IsRun program main starts inputs n g → g ≡ h) }
+{}
+
+/// For a Boolean node each valuation has exactly one symbolic instant.
+pub fn exactly_one_instant()
+    ensures { (program : ProgramTree) (main : Identifier) (v : Valuation) → IsBooleanProgram program main
+        → (row : Instant) × IsSymbolicInstant program main v row × ((other : Instant) → IsSymbolicInstant program main v other → other ≡ row) }
+{}
+
+/// Where a valuation follows a run at an instant, the row of the instant is its symbolic instant, and the
+/// assertions hold in both or in neither.
+pub fn following_instants()
+    ensures { (program : ProgramTree) (main : Identifier) (starts : Sites → Value) (inputs : ℕ → ℕ → Value) (n : ℕ) (h : History) (t : ℕ) (v : Valuation)
+        → IsRun program main starts inputs n h → t < n → Follows program main starts inputs (cells h) t v
+        → IsSymbolicInstant program main v (slice_index_or h t empty)
+        × (AssertionsHold program main starts h t ↔ AllowsAt program main v (slice_index_or h t empty)) }
+{}
+
+/// Each instant of a run of a Boolean node is the symbolic instant of some valuation, which is allowed where
+/// the assertions hold.
+pub fn instants_agree()
+    ensures { (program : ProgramTree) (main : Identifier) (starts : Sites → Value) (inputs : ℕ → ℕ → Value) (n : ℕ) (h : History) (t : ℕ)
+        → IsBooleanProgram program main → IsRun program main starts inputs n h → t < n
+        → (v : Valuation) × IsSymbolicInstant program main v (slice_index_or h t empty)
+        × (IsAllowed program main starts h t → AllowsAt program main v (slice_index_or h t empty)) }
+{}
+
+/// A Boolean node whose observer is true at every valuation is safe.
+pub fn everywhere_is_safe()
+    ensures { (program : ProgramTree) (main : Identifier) → IsBooleanProgram program main → HoldsEverywhere program main → IsSafe program main }
+{}
+
+/// A valuation at which the observer of a Boolean node is false gives starts and inputs whose run falsifies at
+/// once.
+pub fn somewhere_falsifies()
+    ensures { (program : ProgramTree) (main : Identifier) → IsBooleanProgram program main → FailsSomewhere program main
+        → (starts : Sites → Value) × (inputs : ℕ → ℕ → Value) × Falsifies program main starts inputs 0 }
+{}
+
+/// `ok = a or not a` is a Boolean program, and safe.
+pub fn excluded_middle_is_safe()
+    ensures accepted { IsBooleanProgram excluded_middle main }
+    ensures safe { IsSafe excluded_middle main }
+{}
+
+/// `ok = a` is a Boolean program, and starts and inputs falsify it.
+pub fn identity_is_falsified()
+    ensures accepted { IsBooleanProgram identity main }
+    ensures falsified { (starts : Sites → Value) × (inputs : ℕ → ℕ → Value) × Falsifies identity main starts inputs 0 }
+{}
