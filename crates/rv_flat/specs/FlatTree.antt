@@ -1,0 +1,31 @@
+-- A flat expression without where its parts lie in memory: all definitions recurse over it.
+use Rattle.std.specs.Prelude.{ℕ}
+use Rattle.rv_base.specs.declared.value.Value.{Value}
+use Rattle.rv_syntax.specs.declared.tree.Op.{Op}
+use Rattle.rv_syntax.specs.Places.{Sites}
+use Rattle.rv_flat.specs.declared.parts.FlatExpr.{FlatExpr}
+use Rattle.rv_flat.specs.declared.parts.FlatForm.TheOpen.{FlatForm-F, FlatExpr-F}
+use Rattle.rv_flat.specs.declared.parts.FlatForm.TheOpen as step
+use Rattle.rv_flat.specs.declared.parts.FlatForm.TheFolds.{fold-FlatExpr}
+
+mutual
+  pub data FlatTree : Type 0 where
+    Node : (at : Sites) (form : TreeForm) → FlatTree
+
+  pub data TreeForm : Type 0 where
+    Constant : Value → TreeForm
+    Flow : ℕ → TreeForm
+    Input : ℕ → TreeForm
+    Not : FlatTree → TreeForm
+    Binary : Op → FlatTree → FlatTree → TreeForm
+
+abbrev pub form_of : FlatForm-F TreeForm FlatTree → TreeForm
+form_of (step.Constant v) = Constant v
+form_of (step.Flow k) = Flow k
+form_of (step.Input j) = Input j
+form_of (step.Not e) = Not e
+form_of (step.Binary o a b) = Binary o a b
+
+-- the tree that a flat expression is
+abbrev pub flat_tree : FlatExpr → FlatTree
+flat_tree = fold-FlatExpr TreeForm FlatTree form_of (λ e. Node e.at.sites e.form)

@@ -1,0 +1,4 @@
+pub mod FlatTree
+pub mod Numbers
+pub mod Instants
+pub mod Reads

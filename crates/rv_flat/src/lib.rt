@@ -1,0 +1,12 @@
+//! A program as one flat system of Boolean equations, and the truth of its observer at a valuation.
+#![tactic(auto)]
+
+mod build;
+mod evaluate;
+mod flat;
+mod parts;
+
+pub use build::flatten;
+pub use evaluate::observer_at;
+pub use flat::Flat;
+pub use parts::{Bit, FlatExpr, FlatFlow, FlatForm, FlatInput};
