@@ -1,0 +1,6 @@
+mod Served
+mod Named
+mod Outside
+mod ShapeLemmas
+mod CodeLemmas
+mod Searched

@@ -1,0 +1,8 @@
+pub mod Words
+pub mod Answers
+pub mod Programs
+pub mod Printed
+pub mod StandardOut
+pub mod Refusals
+pub mod Shapes
+pub mod Codes

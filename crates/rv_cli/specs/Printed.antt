@@ -1,0 +1,48 @@
+-- The text and the status of a report.
+use Rattle.std.specs.Prelude.{ℕ, List, [], ◌∷◌, ◌++◌, codes}
+use Rattle.std.specs.Fmt.{decimal}
+use Rattle.rv_syntax.specs.declared.fault.TextFault.{TextFault}
+use Rattle.rv_syntax.specs.declared.fault.TextFault.TheVariants.{BadText, TooDeep, LeftOut, Memory as TextMemory}
+use Rattle.rv_cli.specs.declared.report.Report.{Report}
+use Rattle.rv_cli.specs.declared.report.Report.TheVariants.{Safe, Unknown, Refused, TooLong, ReadFault, Usage, Memory}
+use Rattle.rv_cli.specs.declared.report.SourceFault.TheVariants.{Text}
+use Rattle.rv_cli.specs.declared.report.Sent.{Sent}
+use Rattle.rv_cli.specs.declared.report.Sent.TheVariants.{Whole, Failed, Memory as SentMemory}
+
+-- A record ends with a line feed.
+abbrev pub record_of : List ℕ → List ℕ
+record_of fields = fields ++ 10 ∷ []
+
+-- The record of a fault of text: its number, its name and its offset.
+abbrev pub text_of_fault : TextFault → List ℕ
+text_of_fault (BadText at) = record_of (codes "reaver,refused,1,badtext," ++ decimal at)
+text_of_fault (TooDeep at) = record_of (codes "reaver,refused,2,toodeep," ++ decimal at)
+text_of_fault (LeftOut at) = record_of (codes "reaver,refused,3,leftout," ++ decimal at)
+text_of_fault TextMemory = record_of (codes "reaver,memory")
+
+-- What is printed for a report.
+abbrev pub text_of : Report → List ℕ
+text_of Safe = record_of (codes "reaver,safe")
+text_of Unknown = record_of (codes "reaver,unknown")
+text_of (Refused (Text fault)) = text_of_fault fault
+text_of (TooLong count) = record_of (codes "reaver,toolong," ++ decimal count)
+text_of ReadFault = record_of (codes "reaver,readfault")
+text_of Usage = record_of (codes "reaver,usage")
+text_of Memory = record_of (codes "reaver,memory")
+
+-- The status of a report that was shown whole.
+abbrev pub report_status : Report → ℕ
+report_status Safe = 0
+report_status Unknown = 2
+report_status (Refused fault) = 3
+report_status Usage = 4
+report_status ReadFault = 5
+report_status Memory = 7
+report_status (TooLong count) = 9
+
+-- The status that the program ends with: 6 where the report was not shown for a failure, 7 where it was not shown
+-- for want of memory, else that of the report.
+abbrev pub status_of : Report → Sent → ℕ
+status_of report Whole = report_status report
+status_of report Failed = 6
+status_of report SentMemory = 7

@@ -1,0 +1,128 @@
+//! The files of the machine.
+
+ghost use Rattle.std.specs.Prelude.{◌≤◌, ◌+◌, true, None, IfOk, vec_len};
+
+use rv_base::{Files, LoadFault};
+use std::alloc::Global;
+use std::io::{ErrorKind, Read};
+use std::{fs, io, rt};
+
+/// How many bytes are read at a time.
+const CHUNK: usize = 4096;
+
+/// The files of the machine, by path. They do not tell what they hold, serve every name, and count the loads that
+/// failed.
+#[derive(Drop)]
+pub struct DiskFiles<'a, R> {
+    rt: &'a R,
+    faults: u64,
+}
+
+impl<'a, R: rt::Files> DiskFiles<'a, R> {
+    /// The files of this machine, with no failure counted.
+    pub fn new(rt: &'a R) -> Self {
+        DiskFiles { rt, faults: 0 }
+    }
+}
+
+impl<R: rt::Files> Files for DiskFiles<'_, R> {
+    ghost held = { λ _. None };
+
+    ghost faults = { λ files. files.faults };
+
+    ghost serves = { λ _ _. true };
+
+    fn load(&mut self, alloc: Global, name: &str, limit: u64) -> Result<Vec<u8>, LoadFault> {
+        let result = read_file(self.rt, alloc, name, limit);
+        if let Err(LoadFault::Failed) = result {
+            self.faults = self.faults.saturating_add(1);
+        }
+        result
+    }
+}
+
+/// The bytes of a file, at most `limit + 1`.
+fn read_file<R: rt::Files>(
+    rt: &R,
+    alloc: Global,
+    name: &str,
+    limit: u64,
+) -> Result<Vec<u8>, LoadFault>
+    ensures { IfOk result (λ bytes. vec_len bytes ≤ limit + 1) }
+{
+    match fs::open(rt, name) {
+        Ok(mut file) => read_some(&mut file, alloc, limit),
+        Err(error) => Err(fault_of(&error)),
+    }
+}
+
+/// Want of memory is told apart from a failure of the machine.
+fn fault_of(error: &io::Error) -> LoadFault {
+    if error.kind() == ErrorKind::OutOfMemory {
+        LoadFault::Memory
+    } else {
+        LoadFault::Failed
+    }
+}
+
+/// Reads to the end, or until there is a byte more than the limit.
+fn read_some<T: Read>(reader: &mut T, alloc: Global, limit: u64) -> Result<Vec<u8>, LoadFault>
+    ensures { IfOk result (λ bytes. vec_len bytes ≤ limit + 1) }
+{
+    let mut bytes: Vec<u8> = Vec::new(alloc);
+    let mut chunk = [0u8; CHUNK];
+    while bytes.len() as u64 <= limit {
+        let left = limit - bytes.len() as u64;
+        let room = if left < CHUNK as u64 - 1 {
+            left as usize + 1
+        } else {
+            CHUNK
+        };
+        match reader.read(&mut chunk[..room]) {
+            Ok(0) => return Ok(bytes),
+            Ok(count) => bytes.extend_from_slice(&chunk[..count])?,
+            Err(error) => return Err(fault_of(&error)),
+        }
+    }
+    Ok(bytes)
+}
+
+#[cfg(test)]
+mod tests {
+    use super::*;
+    use std::test::Fail;
+
+    #[test]
+    fn reads_a_file(rt: HostRuntime) -> Result<(), Fail> {
+        let all = vec![in rt.alloc(); b'y'; 10_000]?;
+        fs::write(&rt, "ten_thousand", all.as_slice())?;
+        let mut files = DiskFiles::new(&rt);
+        for (limit, length) in [
+            (0, 1),
+            (4095, 4096),
+            (4096, 4097),
+            (9_999, 10_000),
+            (10_000, 10_000),
+            (u64::MAX, 10_000),
+        ] {
+            match files.load(rt.alloc(), "ten_thousand", limit) {
+                Ok(bytes) => {
+                    assert_eq!(rt; bytes.len(), length, "at {limit}");
+                    assert!(rt; bytes.iter().all(|byte| *byte == b'y'), "at {limit}");
+                }
+                Err(_) => assert!(rt; false, "at {limit}"),
+            }
+        }
+        assert_eq!(rt; files.faults, 0);
+        assert_eq!(rt;
+            files.load(rt.alloc(), "absent", 9).err(),
+            Some(LoadFault::Failed)
+        );
+        assert_eq!(rt;
+            files.load(rt.alloc(), ".", 9).err(),
+            Some(LoadFault::Failed)
+        );
+        assert_eq!(rt; files.faults, 2);
+        Ok(())
+    }
+}

@@ -1,0 +1,279 @@
+//! Rows over the implementations in memory.
+
+ghost use Rattle.std.specs.Prelude.{◌≡◌, ◌≢◌, ◌⊎◌, Some, All, IsTrue, IfOk};
+ghost use Rattle.std.specs.String.{string_bytes};
+ghost use Rattle.std.specs.FinMap.{contains_key};
+ghost use Rattle.rv_base.specs.SureFiles.{held_by};
+ghost use Rattle.rv_base.specs.MemoryFiles as memory_files;
+ghost use Rattle.rv_base.specs.MemorySink as memory_sink;
+ghost use Rattle.rv_meaning.specs.Runs.{IsSafe};
+ghost use Rattle.rv_cli.specs.Answers.{OnFile};
+ghost use Rattle.rv_cli.specs.Programs.{OnProgram};
+ghost use Rattle.rv_cli.specs.Words.{texts};
+
+use crate::prove::SOURCE_LIMIT;
+use crate::report::{Outcome, Report, Sent, SourceFault, text};
+use crate::run::run;
+use rv_base::{Memory, MemoryFiles, MemorySink, SureFiles, SureSink};
+use rv_syntax::TextFault;
+use std::alloc::{AllocError, Global};
+use std::process::Abort;
+use std::test::Fail;
+
+const TAUTOLOGY: &str = "node m(a: bool) returns (ok: bool); let ok = a or not a; tel";
+
+const REFUSED: Report = Report::Refused(SourceFault::Text(TextFault::LeftOut(0)));
+
+#[derive(Drop)]
+struct Row<'a> {
+    words: &'a str,
+    failing_loads: &'a [u32],
+    failing_puts: &'a [u32],
+    report: Report,
+    sent: Sent,
+    status: u8,
+    shown: &'a str,
+}
+
+// A row in which nothing is set to fail.
+fn plain<'a>(words: &'a str, report: Report, status: u8, shown: &'a str) -> Row<'a> {
+    Row {
+        words,
+        failing_loads: &[],
+        failing_puts: &[],
+        report,
+        sent: Sent::Whole,
+        status,
+        shown,
+    }
+}
+
+fn words_of(alloc: Global, line: &str) -> Result<Vec<String>, AllocError> {
+    let mut words = Vec::new(alloc);
+    for word in line.split(' ') {
+        words.push(String::from_str(alloc, word)?)?;
+    }
+    Ok(words)
+}
+
+fn files_of(alloc: Global) -> Result<MemoryFiles, Memory> {
+    let mut files = MemoryFiles::new(alloc);
+    files.add("tautology", b"replaced by what follows")?;
+    files.add("tautology", TAUTOLOGY.as_bytes())?;
+    files.add(
+        "falsifiable",
+        b"node m(a, b: bool) returns (ok: bool); let ok = a or not b; tel",
+    )?;
+    files.add(
+        "sum",
+        b"node m(a: bool) returns (ok: bool); let ok = a + 1; tel",
+    )?;
+    files.add(
+        "second_equation",
+        b"node m(a: bool) returns (ok: bool); let ok = true; ok = true; tel",
+    )?;
+    files.add("empty", b"")?;
+    files.add("no_text", &[0, 255, 128, 10])?;
+    Ok(files)
+}
+
+// Runs the words of a row, and compares.
+fn check_row(rt: &impl Abort, alloc: Global, row: &Row) -> Result<(), Fail> {
+    let words = words_of(alloc, row.words)?;
+    let mut files = files_of(alloc)?;
+    files.fail_calls(row.failing_loads)?;
+    let mut out = MemorySink::new(alloc);
+    out.fail_calls(row.failing_puts)?;
+    let outcome = run(alloc, &words, &mut files, &mut out);
+    assert_eq!(rt; outcome.report, row.report, "at {}", row.words);
+    assert_eq!(rt; outcome.sent, row.sent, "at {}", row.words);
+    assert_eq!(rt; outcome.status, row.status, "at {}", row.words);
+    assert_eq!(rt; out.bytes(), row.shown.as_bytes(), "at {}", row.words);
+    Ok(())
+}
+
+#[test]
+fn answers_on_sources(rt: HostRuntime) -> Result<(), Fail> {
+    let refused = "reaver,refused,3,leftout,0\n";
+    for row in &[
+        plain("reaver prove tautology m", Report::Safe, 0, "reaver,safe\n"),
+        plain(
+            "reaver prove falsifiable m",
+            Report::Unknown,
+            2,
+            "reaver,unknown\n",
+        ),
+        plain("reaver prove tautology main", REFUSED, 3, refused),
+        plain("reaver prove sum m", REFUSED, 3, refused),
+        plain("reaver prove second_equation m", REFUSED, 3, refused),
+        plain("reaver prove empty m", REFUSED, 3, refused),
+        plain("reaver prove no_text m", REFUSED, 3, refused),
+    ] {
+        check_row(&rt, rt.alloc(), row)?;
+    }
+    Ok(())
+}
+
+#[test]
+fn answers_on_words(rt: HostRuntime) -> Result<(), Fail> {
+    let usage = "reaver,usage\n";
+    for row in &[
+        plain("reaver", Report::Usage, 4, usage),
+        plain("reaver prove tautology", Report::Usage, 4, usage),
+        plain("reaver prove tautology m more", Report::Usage, 4, usage),
+        plain("reaver proved tautology m", Report::Usage, 4, usage),
+        plain("reaver check tautology m", Report::Usage, 4, usage),
+        plain("prove tautology m reaver", Report::Usage, 4, usage),
+    ] {
+        check_row(&rt, rt.alloc(), row)?;
+    }
+    Ok(())
+}
+
+#[test]
+fn answers_on_failures(rt: HostRuntime) -> Result<(), Fail> {
+    for row in &[
+        plain(
+            "reaver prove none m",
+            Report::ReadFault,
+            5,
+            "reaver,readfault\n",
+        ),
+        Row {
+            words: "reaver prove tautology m",
+            failing_loads: &[0],
+            failing_puts: &[],
+            report: Report::ReadFault,
+            sent: Sent::Whole,
+            status: 5,
+            shown: "reaver,readfault\n",
+        },
+        Row {
+            words: "reaver prove tautology m",
+            failing_loads: &[1],
+            failing_puts: &[0],
+            report: Report::Safe,
+            sent: Sent::Failed,
+            status: 6,
+            shown: "reaver",
+        },
+        Row {
+            words: "reaver prove tautology m",
+            failing_loads: &[],
+            failing_puts: &[1],
+            report: Report::Safe,
+            sent: Sent::Whole,
+            status: 0,
+            shown: "reaver,safe\n",
+        },
+    ] {
+        check_row(&rt, rt.alloc(), row)?;
+    }
+    Ok(())
+}
+
+#[test]
+fn answers_on_long_files(rt: HostRuntime) -> Result<(), Fail> {
+    let too_long = "reaver,toolong,1048577\n";
+    for (length, report, shown) in [
+        (
+            SOURCE_LIMIT as usize,
+            REFUSED,
+            "reaver,refused,3,leftout,0\n",
+        ),
+        (
+            SOURCE_LIMIT as usize + 1,
+            Report::TooLong(1_048_577),
+            too_long,
+        ),
+        (
+            SOURCE_LIMIT as usize + 5,
+            Report::TooLong(1_048_577),
+            too_long,
+        ),
+    ] {
+        let spaces = vec![in rt.alloc(); b' '; length]?;
+        let mut files = MemoryFiles::new(rt.alloc());
+        files.add("f", &spaces)?;
+        let words = words_of(rt.alloc(), "reaver prove f m")?;
+        let mut out = SureSink::new(rt.alloc());
+        let outcome = run(rt.alloc(), &words, &mut files, &mut out);
+        assert_eq!(rt; outcome.report, report, "at {length}");
+        assert_eq!(rt; out.bytes(), shown.as_bytes(), "at {length}");
+    }
+    Ok(())
+}
+
+#[test]
+fn prints_each_fault_of_text(rt: HostRuntime) -> Result<(), Fail> {
+    for (fault, shown) in [
+        (TextFault::BadText(16), "reaver,refused,1,badtext,16\n"),
+        (TextFault::TooDeep(845), "reaver,refused,2,toodeep,845\n"),
+        (TextFault::LeftOut(64), "reaver,refused,3,leftout,64\n"),
+    ] {
+        let printed = text(rt.alloc(), &Report::Refused(SourceFault::Text(fault)))?;
+        assert_eq!(rt; printed.as_str(), shown);
+    }
+    Ok(())
+}
+
+// Files that hold these bytes under each of the words.
+fn sure_files(alloc: Global, words: &Vec<String>, bytes: &[u8]) -> Result<SureFiles, Memory>
+    ensures { IfOk result (λ files. All (λ word. IsTrue (contains_key (held_by files) (string_bytes word))) words.now.items) }
+{
+    let mut files = SureFiles::new(alloc);
+    for word in words {
+        files.add(word.as_str(), bytes)?;
+    }
+    Ok(files)
+}
+
+// Where nothing can fail, no fault is answered.
+fn run_surely(
+    alloc: Global,
+    words: &Vec<String>,
+    files: &mut SureFiles,
+    out: &mut SureSink,
+) -> Outcome
+    requires { All (λ word. IsTrue (contains_key (held_by files.old) (string_bytes word))) words.now.items }
+    ensures reads { result.report ≢ Report.ReadFault }
+    ensures writes { result.sent ≢ Sent.Failed }
+{
+    run(alloc, words, files, out)
+}
+
+#[test]
+fn answers_no_fault_where_nothing_fails(rt: HostRuntime) -> Result<(), Fail> {
+    let words = words_of(rt.alloc(), "reaver prove f m")?;
+    let mut files = sure_files(rt.alloc(), &words, TAUTOLOGY.as_bytes())?;
+    let mut out = SureSink::new(rt.alloc());
+    let outcome = run_surely(rt.alloc(), &words, &mut files, &mut out);
+    assert_eq!(rt; outcome.report, Report::Safe);
+    assert_eq!(rt; out.bytes(), b"reaver,safe\n".as_slice());
+    Ok(())
+}
+
+// Over files in memory Safe means that every run of what they hold is safe, and a fresh sink is given one piece.
+fn run_in_memory(
+    alloc: Global,
+    words: &Vec<String>,
+    files: &mut MemoryFiles,
+    out: &mut MemorySink,
+) -> Outcome
+    requires { memory_sink.calls_of out.old ≡ 0 }
+    ensures safe { result.report ≡ Report.Safe
+        → OnFile (Some (memory_files.held_by files.old)) (texts words.now.items) (OnProgram IsSafe) }
+    ensures one_put { (result.sent ≡ Sent.Whole) ⊎ (result.sent ≡ Sent.Failed) → memory_sink.calls_of out.new ≡ 1 }
+{
+    run(alloc, words, files, out)
+}
+
+#[test]
+fn answers_by_the_headline(rt: HostRuntime) -> Result<(), Fail> {
+    let words = words_of(rt.alloc(), "reaver prove tautology m")?;
+    let mut files = files_of(rt.alloc())?;
+    let mut out = MemorySink::new(rt.alloc());
+    let outcome = run_in_memory(rt.alloc(), &words, &mut files, &mut out);
+    assert_eq!(rt; outcome.report, Report::Safe);
+    Ok(())
+}
