@@ -1,0 +1,14 @@
+pub mod Meaning
+pub mod Canon
+pub mod Needed
+pub mod Building
+pub mod ChainLemmas
+pub mod StoreLemmas
+pub mod Choosing
+pub mod Calls
+pub mod Fixing
+pub mod Thawing
+pub mod Tables
+pub mod Steps
+pub mod Picking
+pub mod Freezing
