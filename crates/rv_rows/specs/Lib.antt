@@ -1,0 +1,4 @@
+pub mod Rows
+pub mod Multipliers
+pub mod Tight
+pub mod Forms

@@ -1,0 +1,15 @@
+//! Linear rows and forms over the whole numbers, and multipliers that prove a row from others (Farkas' lemma).
+#![tactic(auto)]
+
+mod farkas;
+mod forms;
+mod linear;
+mod sums;
+mod tighten;
+
+pub use farkas::{Multipliers, Weight, proves, refutes};
+pub use linear::{Form, Row};
+pub use sums::number_at;
+
+#[cfg(test)]
+mod tests;
