@@ -1,0 +1,28 @@
+-- The least bound that a pair of places shows.
+use Rattle.std.specs.Prelude.{◌≡◌, ℕ, ◌<◌, ℤ, ◌+ℤ◌, ◌-ℤ◌, ◌≤ℤ◌, List, Option, IfSome, IsSomeAnd}
+use Rattle.rv_rows.specs.declared.linear.Row.{Row}
+use Rattle.rv_rows.specs.declared.linear.Form.{Form}
+use Rattle.rv_rows.specs.Rows.{coefficient, row_at}
+use Rattle.rv_rows.specs.Forms.{number}
+use Rattle.rv_seek.specs.declared.least.Best.{Best}
+use Rattle.rv_seek.specs.Pairs.{PairShows}
+
+-- The row with these coefficients and this bound.
+abbrev pub bounded : List ℤ → ℤ → Row
+bounded cs bound = record { coefficients = cs; bound = bound }
+
+-- The row that says that a form is at most a bound.
+abbrev pub at_most : Form → ℤ → Row
+at_most form bound = bounded form.coefficients (bound -ℤ form.constant)
+
+-- The left sides at the two places, the first before the second, sum to the wanted one, and their bounds to the
+-- bound.
+pub record PairSums (rows : List Row) (cs : List ℤ) (b : Best) : Type 0 where
+  pub order : b.first < b.second
+  pub sides : (k : ℕ) → number k cs ≡ coefficient k (row_at rows b.first) +ℤ coefficient k (row_at rows b.second)
+  pub bound : b.bound ≡ (row_at rows b.first).bound +ℤ (row_at rows b.second).bound
+
+-- `best` is a pair whose left sides sum to the wanted one, and no pair of places below n has a lesser sum of bounds.
+pub record IsLeast (rows : List Row) (cs : List ℤ) (n : ℕ) (best : Option Best) : Type 0 where
+  pub shown : IfSome best (PairSums rows cs)
+  pub least : (i j : ℕ) → i < j → j < n → (bound : ℤ) → PairShows rows (bounded cs bound) i j → IsSomeAnd best (λ b. b.bound ≤ℤ bound)

@@ -1,0 +1,404 @@
+ghost use Rattle.std.specs.Prelude.{◌≡◌, ◌⊎◌, ◌<◌, ◌≤◌, ◌^◌, ◌++◌, [], List, ℤ, negsuc, ◌+ℤ◌, ◌≤ℤ◌, pos, All, length, IfSome, IsSome, IfOk, OnOk, IsSomeAnd, Some};
+ghost use Rattle.std.specs.Int.RustNames.{unsigned_abs};
+ghost use Rattle.rv_rows.specs.Rows.{RowWithin, Holds};
+ghost use Rattle.rv_rows.specs.Multipliers.{Proves, Refutes, ShowsAtOnce, AreShutAtOnce};
+ghost use Rattle.rv_rows.specs.Forms.{FormWithin, value};
+ghost use Rattle.rv_seek.specs.Least.{PairSums, at_most, bounded};
+ghost use Rattle.rv_seek.specs.Pairs.{PairShows, HasRanges, unit_at};
+
+use crate::least::{Best, least_pair, shown_pair};
+use crate::ranges::{has_ranges, reduced, reduced_refutation};
+use crate::simplex::{Goal, simplex};
+use rv_base::{Many, Memory};
+use rv_rows::{Form, Multipliers, Row, Weight, proves, refutes};
+use std::alloc::Global;
+
+const MOST_WANTED: u128 = 1 << 78;
+
+/// Adds the weight 1 on a premise; a place past the end stands for none.
+fn push_unit(weights: &mut Many<Weight>, premises: usize, place: usize) -> Result<(), Memory>
+    requires { premises < 2 ^ 32 }
+    ensures { OnOk result (weights.new ≡ weights.old ++ unit_at premises place) }
+{
+    if place < premises {
+        weights.push(Weight {
+            premise: place as u32,
+            by: 1,
+        })?;
+    }
+    Ok(())
+}
+
+fn unit_weights(
+    alloc: Global,
+    premises: usize,
+    first: usize,
+    second: usize,
+) -> Result<Many<Weight>, Memory>
+    requires { premises < 2 ^ 32 }
+    ensures { IfOk result (λ w. w ≡ unit_at premises first ++ unit_at premises second) }
+{
+    let mut weights = Many::new(alloc);
+    push_unit(&mut weights, premises, first)?;
+    push_unit(&mut weights, premises, second)?;
+    Ok(weights)
+}
+
+/// What was found, if it is a proof in range.
+fn checked(premises: &Many<Row>, wanted: &Row, found: Multipliers) -> Option<Multipliers>
+    requires premises { All (RowWithin (2 ^ 60)) premises.now }
+    requires wanted { RowWithin (2 ^ 78) wanted.now }
+    requires few { length premises.now < 2 ^ 32 }
+    ensures proof { IfSome result (λ m. Proves premises.now wanted.now m) }
+    ensures ranges { IfSome result (λ m. HasRanges (length premises.now) m) }
+{
+    if !has_ranges(&found, premises.len()) {
+        return None;
+    }
+    if !proves(premises, wanted, &found) {
+        return None;
+    }
+    Some(found)
+}
+
+/// What was found, if it is a refutation in range.
+fn checked_refutation(premises: &Many<Row>, found: Multipliers) -> Option<Multipliers>
+    requires premises { All (RowWithin (2 ^ 60)) premises.now }
+    requires few { length premises.now < 2 ^ 32 }
+    ensures proof { IfSome result (λ m. Refutes premises.now m) }
+    ensures ranges { IfSome result (λ m. HasRanges (length premises.now) m) }
+{
+    if found.divisor != 1 {
+        return None;
+    }
+    if !has_ranges(&found, premises.len()) {
+        return None;
+    }
+    if !refutes(premises, &found) {
+        return None;
+    }
+    Some(found)
+}
+
+/// The weight 1 on both premises of a pair.
+fn by_pair(
+    alloc: Global,
+    premises: &Many<Row>,
+    wanted: &Row,
+    first: usize,
+    second: usize,
+) -> Result<Multipliers, Memory>
+    requires few { length premises.now < 2 ^ 32 }
+    requires order { first < second }
+    requires shows { PairShows premises.now wanted.now first second }
+    ensures proof { IfOk result (λ m. Proves premises.now wanted.now m) }
+    ensures ranges { IfOk result (λ m. HasRanges (length premises.now) m) }
+    ensures divisor { IfOk result (λ m. m.divisor ≡ pos 1) }
+{
+    let weights = unit_weights(alloc, premises.len(), first, second)?;
+    Ok(Multipliers {
+        divisor: 1,
+        weights,
+    })
+}
+
+/// The weight 1 on both premises of a pair that shows `0 <= -1`.
+fn refuted_by_pair(
+    alloc: Global,
+    premises: &Many<Row>,
+    wanted: &Row,
+    first: usize,
+    second: usize,
+) -> Result<Multipliers, Memory>
+    requires few { length premises.now < 2 ^ 32 }
+    requires order { first < second }
+    requires wanted { wanted.now ≡ bounded [] (negsuc 0) }
+    requires shows { PairShows premises.now wanted.now first second }
+    ensures proof { IfOk result (λ m. Refutes premises.now m) }
+    ensures ranges { IfOk result (λ m. HasRanges (length premises.now) m) }
+{
+    let multipliers = by_pair(alloc, premises, wanted, first, second)?;
+    Ok(multipliers)
+}
+
+/// What the simplex finds for a row.
+fn by_simplex(
+    alloc: Global,
+    premises: &Many<Row>,
+    wanted: &Row,
+) -> Result<Option<Multipliers>, Memory>
+    requires premises { All (RowWithin (2 ^ 60)) premises.now }
+    requires wanted { RowWithin (2 ^ 78) wanted.now }
+    requires few { length premises.now < 2 ^ 32 }
+    ensures proof { IfOk result (λ o. IfSome o (λ m. Proves premises.now wanted.now m)) }
+    ensures ranges { IfOk result (λ o. IfSome o (λ m. HasRanges (length premises.now) m)) }
+{
+    let found = match simplex(
+        alloc,
+        premises,
+        &wanted.coefficients,
+        Goal::Below(wanted.bound + 1),
+    )? {
+        Some(found) => found,
+        None => return Ok(None),
+    };
+    match reduced(alloc, found.weights, found.divisor)? {
+        Some(multipliers) => Ok(checked(premises, wanted, multipliers)),
+        None => Ok(None),
+    }
+}
+
+/// What the simplex finds against the premises.
+fn refuted_by_simplex(alloc: Global, premises: &Many<Row>) -> Result<Option<Multipliers>, Memory>
+    requires premises { All (RowWithin (2 ^ 60)) premises.now }
+    requires few { length premises.now < 2 ^ 32 }
+    ensures proof { IfOk result (λ o. IfSome o (λ m. Refutes premises.now m)) }
+    ensures ranges { IfOk result (λ o. IfSome o (λ m. HasRanges (length premises.now) m)) }
+{
+    let found = match simplex(alloc, premises, &Many::new(alloc), Goal::Below(0))? {
+        Some(found) => found,
+        None => return Ok(None),
+    };
+    match reduced_refutation(alloc, found.weights)? {
+        Some(multipliers) => Ok(checked_refutation(premises, multipliers)),
+        None => Ok(None),
+    }
+}
+
+/// Multipliers that prove the row from the premises, so that it holds at every whole point of them. They are found
+/// wherever none, one or two premises show the row at once; elsewhere None promises nothing. The only error is
+/// want of memory.
+pub fn seek_row(
+    alloc: Global,
+    premises: &Many<Row>,
+    wanted: &Row,
+) -> Result<Option<Multipliers>, Memory>
+    requires premises { All (RowWithin (2 ^ 60)) premises.now }
+    requires wanted { RowWithin (2 ^ 78) wanted.now }
+    requires few { length premises.now < 2 ^ 32 }
+    ensures proof { IfOk result (λ o. IfSome o (λ m. Proves premises.now wanted.now m)) }
+    ensures ranges { IfOk result (λ o. IfSome o (λ m. HasRanges (length premises.now) m)) }
+    ensures at_once { IfOk result (λ o. ShowsAtOnce premises.now wanted.now → IsSome o) }
+{
+    match shown_pair(alloc, premises, wanted)? {
+        Some(best) => {
+            let multipliers = by_pair(alloc, premises, wanted, best.first, best.second)?;
+            Ok(Some(multipliers))
+        }
+        None => {
+            let found = by_simplex(alloc, premises, wanted)?;
+            Ok(found)
+        }
+    }
+}
+
+/// Multipliers that refute the premises, so that no whole point meets them all; their divisor is 1. They are found
+/// wherever none, one or two premises are shut at once; elsewhere None promises nothing. The only error is want of
+/// memory.
+pub fn seek_refutation(alloc: Global, premises: &Many<Row>) -> Result<Option<Multipliers>, Memory>
+    requires premises { All (RowWithin (2 ^ 60)) premises.now }
+    requires few { length premises.now < 2 ^ 32 }
+    ensures proof { IfOk result (λ o. IfSome o (λ m. Refutes premises.now m)) }
+    ensures ranges { IfOk result (λ o. IfSome o (λ m. HasRanges (length premises.now) m)) }
+    ensures at_once { IfOk result (λ o. AreShutAtOnce premises.now → IsSome o) }
+{
+    let wanted = Row {
+        coefficients: Many::new(alloc),
+        bound: -1,
+    };
+    match shown_pair(alloc, premises, &wanted)? {
+        Some(best) => {
+            let multipliers = refuted_by_pair(alloc, premises, &wanted, best.first, best.second)?;
+            Ok(Some(multipliers))
+        }
+        None => {
+            let found = refuted_by_simplex(alloc, premises)?;
+            Ok(found)
+        }
+    }
+}
+
+/// A bound of a form, and the multipliers that prove it.
+#[derive(Debug, Drop)]
+pub struct Bounded {
+    /// What the form is at most, its constant included.
+    pub bound: i128,
+    /// They prove the row that says so.
+    pub by: Multipliers,
+}
+
+/// The bound that a pair shows.
+fn bounded_by(
+    alloc: Global,
+    premises: &Many<Row>,
+    form: &Form,
+    best: Best,
+) -> Result<Bounded, Memory>
+    requires premises { All (RowWithin (2 ^ 60)) premises.now }
+    requires few { length premises.now < 2 ^ 32 }
+    requires form { FormWithin (2 ^ 78) form.now }
+    requires best { PairSums premises.now form.now.coefficients best }
+    ensures proof { IfOk result (λ b. Proves premises.now (at_most form.now b.bound) b.by) }
+    ensures ranges { IfOk result (λ b. HasRanges (length premises.now) b.by) }
+    ensures bound { IfOk result (λ b. b.bound ≡ best.bound +ℤ form.now.constant) }
+{
+    let weights = unit_weights(alloc, premises.len(), best.first, best.second)?;
+    Ok(Bounded {
+        bound: best.bound + form.constant,
+        by: Multipliers {
+            divisor: 1,
+            weights,
+        },
+    })
+}
+
+/// The least bound that a pair shows.
+fn bounded_by_pair(
+    alloc: Global,
+    premises: &Many<Row>,
+    form: &Form,
+) -> Result<Option<Bounded>, Memory>
+    requires premises { All (RowWithin (2 ^ 60)) premises.now }
+    requires form { FormWithin (2 ^ 78) form.now }
+    requires few { length premises.now < 2 ^ 32 }
+    ensures proof { IfOk result (λ o. IfSome o (λ b. Proves premises.now (at_most form.now b.bound) b.by)) }
+    ensures ranges { IfOk result (λ o. IfSome o (λ b. HasRanges (length premises.now) b.by)) }
+    ensures at_once { IfOk result (λ o. (bound : ℤ) → ShowsAtOnce premises.now (at_most form.now bound) → IsSomeAnd o (λ b. b.bound ≤ℤ bound)) }
+{
+    let least = least_pair(alloc, premises, &form.coefficients)?;
+    match least {
+        Some(best) => {
+            let bounded = bounded_by(alloc, premises, form, best)?;
+            Ok(Some(bounded))
+        }
+        None => Ok(None),
+    }
+}
+
+/// The weighted sum of the bounds, where it fits.
+fn sum_of(premises: &Many<Row>, multipliers: &Multipliers) -> Option<i128> {
+    let mut sum: i128 = 0;
+    for weight in multipliers.weights.as_slice() {
+        let row = premises.get(weight.premise as usize)?;
+        let product = weight.by.checked_mul(row.bound)?;
+        sum = sum.checked_add(product)?;
+    }
+    Some(sum)
+}
+
+fn copy(alloc: Global, numbers: &Many<i128>) -> Result<Many<i128>, Memory>
+    ensures { IfOk result (λ c. c ≡ numbers.now) }
+{
+    Ok(Many::from_vec(numbers.as_slice().to_vec(alloc)?))
+}
+
+/// What was found, if it proves that the form without its constant is at most `most`.
+fn checked_bound(
+    alloc: Global,
+    premises: &Many<Row>,
+    form: &Form,
+    found: Multipliers,
+    most: i128,
+) -> Result<Option<Bounded>, Memory>
+    requires premises { All (RowWithin (2 ^ 60)) premises.now }
+    requires few { length premises.now < 2 ^ 32 }
+    requires form { FormWithin (2 ^ 78) form.now }
+    ensures proof { IfOk result (λ o. IfSome o (λ b. Proves premises.now (at_most form.now b.bound) b.by)) }
+    ensures ranges { IfOk result (λ o. IfSome o (λ b. HasRanges (length premises.now) b.by)) }
+{
+    if most.unsigned_abs() > MOST_WANTED {
+        return Ok(None);
+    }
+    let wanted = Row {
+        coefficients: copy(alloc, &form.coefficients)?,
+        bound: most,
+    };
+    match checked(premises, &wanted, found) {
+        Some(by) => {
+            Ok(Some(Bounded {
+                bound: most + form.constant,
+                by,
+            }))
+        }
+        None => Ok(None),
+    }
+}
+
+/// The bound that the simplex finds.
+fn bounded_by_simplex(
+    alloc: Global,
+    premises: &Many<Row>,
+    form: &Form,
+) -> Result<Option<Bounded>, Memory>
+    requires premises { All (RowWithin (2 ^ 60)) premises.now }
+    requires few { length premises.now < 2 ^ 32 }
+    requires form { FormWithin (2 ^ 78) form.now }
+    ensures proof { IfOk result (λ o. IfSome o (λ b. Proves premises.now (at_most form.now b.bound) b.by)) }
+    ensures ranges { IfOk result (λ o. IfSome o (λ b. HasRanges (length premises.now) b.by)) }
+{
+    let found = match simplex(alloc, premises, &form.coefficients, Goal::Least)? {
+        Some(found) => found,
+        None => return Ok(None),
+    };
+    let multipliers = match reduced(alloc, found.weights, found.divisor)? {
+        Some(multipliers) => multipliers,
+        None => return Ok(None),
+    };
+    let most = match sum_of(premises, &multipliers) {
+        Some(sum) => sum.checked_div_euclid(multipliers.divisor),
+        None => None,
+    };
+    match most {
+        Some(most) => checked_bound(alloc, premises, form, multipliers, most),
+        None => Ok(None),
+    }
+}
+
+/// The one with the lesser bound.
+fn lesser_bound(pair: Option<Bounded>, other: Option<Bounded>) -> Option<Bounded>
+    ensures one { (result ≡ pair) ⊎ (result ≡ other) }
+    ensures least { IfSome pair (λ p. IsSomeAnd result (λ b. b.bound ≤ℤ p.bound)) }
+{
+    match pair {
+        Some(pair) => lesser_of(pair, other),
+        None => other,
+    }
+}
+
+fn lesser_of(pair: Bounded, other: Option<Bounded>) -> Option<Bounded>
+    ensures one { (result ≡ Some pair) ⊎ (result ≡ other) }
+    ensures least { IsSomeAnd result (λ b. b.bound ≤ℤ pair.bound) }
+{
+    match other {
+        Some(other) => {
+            if other.bound < pair.bound {
+                Some(other)
+            } else {
+                Some(pair)
+            }
+        }
+        None => Some(pair),
+    }
+}
+
+/// A bound of the form at the whole points of the premises, and the multipliers that prove it. It is found where
+/// the form's left side is the sum of the left sides of none, one or two different premises, and is then at most
+/// the least such sum of their bounds plus the form's constant; elsewhere None promises nothing. The only error is
+/// want of memory.
+pub fn seek_bound(
+    alloc: Global,
+    premises: &Many<Row>,
+    form: &Form,
+) -> Result<Option<Bounded>, Memory>
+    requires premises { All (RowWithin (2 ^ 60)) premises.now }
+    requires form { FormWithin (2 ^ 78) form.now }
+    requires few { length premises.now < 2 ^ 32 }
+    ensures proof { IfOk result (λ o. IfSome o (λ b. Proves premises.now (at_most form.now b.bound) b.by)) }
+    ensures ranges { IfOk result (λ o. IfSome o (λ b. HasRanges (length premises.now) b.by)) }
+    ensures at_once { IfOk result (λ o. (bound : ℤ) → ShowsAtOnce premises.now (at_most form.now bound) → IsSomeAnd o (λ b. b.bound ≤ℤ bound)) }
+    ensures holds { IfOk result (λ o. IfSome o (λ b. (point : List ℤ) → All (λ r. Holds r point) premises.now → value form.now point ≤ℤ b.bound)) }
+{
+    let pair = bounded_by_pair(alloc, premises, form)?;
+    let other = bounded_by_simplex(alloc, premises, form)?;
+    Ok(lesser_bound(pair, other))
+}
