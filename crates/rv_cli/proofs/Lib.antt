@@ -1,5 +1,6 @@
 mod Served
 mod Named
+pub mod Decided
 mod Outside
 mod ShapeLemmas
 mod CodeLemmas

@@ -7,9 +7,6 @@ use std::alloc::Global;
 use std::io::{ErrorKind, Read};
 use std::{fs, io, rt};
 
-/// How many bytes are read at a time.
-const CHUNK: usize = 4096;
-
 /// The files of the machine, by path. They do not tell what they hold, serve every name, and count the loads that
 /// failed.
 #[derive(Drop)]
@@ -51,7 +48,7 @@ fn read_file<R: rt::Files>(
     ensures { IfOk result (λ bytes. vec_len bytes ≤ limit + 1) }
 {
     match fs::open(rt, name) {
-        Ok(mut file) => read_some(&mut file, alloc, limit),
+        Ok(file) => read_some(file, alloc, limit),
         Err(error) => Err(fault_of(&error)),
     }
 }
@@ -66,25 +63,19 @@ fn fault_of(error: &io::Error) -> LoadFault {
 }
 
 /// Reads to the end, or until there is a byte more than the limit.
-fn read_some<T: Read>(reader: &mut T, alloc: Global, limit: u64) -> Result<Vec<u8>, LoadFault>
+fn read_some<T: Read + Drop>(reader: T, alloc: Global, limit: u64) -> Result<Vec<u8>, LoadFault>
     ensures { IfOk result (λ bytes. vec_len bytes ≤ limit + 1) }
 {
+    let most = limit.saturating_add(1);
     let mut bytes: Vec<u8> = Vec::new(alloc);
-    let mut chunk = [0u8; CHUNK];
-    while bytes.len() as u64 <= limit {
-        let left = limit - bytes.len() as u64;
-        let room = if left < CHUNK as u64 - 1 {
-            left as usize + 1
-        } else {
-            CHUNK
-        };
-        match reader.read(&mut chunk[..room]) {
-            Ok(0) => return Ok(bytes),
-            Ok(count) => bytes.extend_from_slice(&chunk[..count])?,
-            Err(error) => return Err(fault_of(&error)),
+    match reader.take(most).read_to_end(&mut bytes) {
+        Ok(_) => {
+            // What bounds the answer, whatever the reader does.
+            bytes.truncate(most as usize);
+            Ok(bytes)
         }
+        Err(error) => Err(fault_of(&error)),
     }
-    Ok(bytes)
 }
 
 #[cfg(test)]

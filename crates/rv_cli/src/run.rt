@@ -8,7 +8,7 @@ ghost use Rattle.rv_base.specs.Shown.{AppendsPrefix};
 ghost use Rattle.rv_meaning.specs.Runs.{IsSafe};
 ghost use Rattle.rv_meaning.specs.Valuations.{HoldsEverywhere, FailsSomewhere};
 ghost use Rattle.rv_cli.specs.Words.{texts, command};
-ghost use Rattle.rv_cli.specs.Answers.{OnFile};
+ghost use Rattle.rv_cli.specs.Answers.{OnFile, IsTold, IsUnlessCutOff};
 ghost use Rattle.rv_cli.specs.Programs.{OnProgram, IsOutside};
 ghost use Rattle.rv_cli.specs.Printed.{text_of, status_of};
 ghost use Rattle.rv_cli.specs.declared.report.SourceFault.{SourceFault};
@@ -18,7 +18,7 @@ use crate::prove::{SOURCE_LIMIT, report_on_source};
 use crate::report::{Outcome, Report, Sent, status, text};
 use crate::words::read_words;
 use rv_base::{Files, PutFault, Sink};
-use rv_syntax::TextFault;
+use rv_syntax::{TextFault, one_tree};
 use std::alloc::Global;
 
 /// The status where there is no memory.
@@ -77,9 +77,10 @@ fn show<S: Sink>(alloc: Global, report: &Report, out: &mut S) -> Sent
 /// line, the program's name first; each has to be served by the files.
 ///
 /// `prove FILE NODE` answers Safe or Unknown on the source under FILE and its node NODE. Usage comes exactly where
-/// the words are not four or the second is not `prove`, ReadFault only where the files count one more fault, TooLong
-/// where the file is longer than 1,048,576 bytes, Refused where its bytes are no text of the accepted form with this
-/// node, and Memory where there is no memory.
+/// the words are not four or the second is not `prove`, ReadFault only where the files count one more fault, and Memory
+/// where there is no memory. Beside these two, TooLong comes exactly where the file is longer than 1,048,576 bytes,
+/// Refused exactly where its bytes are no text of the accepted form with this node, Safe exactly where the observer is
+/// true at every valuation, and Unknown exactly where it is false at some.
 pub fn run<F: Files, S: Sink>(
     alloc: Global,
     words: &Vec<String>,
@@ -98,6 +99,14 @@ pub fn run<F: Files, S: Sink>(
         → (n ≡ SOURCE_LIMIT + 1) × OnFile (F.held files.old) (texts words.now.items) (λ bytes _. SOURCE_LIMIT < length bytes) }
     ensures read_fault { result.report ≡ Report.ReadFault → Rose (F.faults files.old) (F.faults files.new) }
     ensures usage { (result.report ≡ Report.Usage) ↔ (command (texts words.now.items) ≡ None) }
+    ensures only_safe { IsTold (F.held files.old) (texts words.now.items) (λ bytes node. (length bytes ≤ SOURCE_LIMIT) × OnProgram HoldsEverywhere bytes node)
+        → IsUnlessCutOff Report.Safe result.report }
+    ensures only_unknown { IsTold (F.held files.old) (texts words.now.items) (λ bytes node. (length bytes ≤ SOURCE_LIMIT) × OnProgram FailsSomewhere bytes node)
+        → IsUnlessCutOff Report.Unknown result.report }
+    ensures only_refused { IsTold (F.held files.old) (texts words.now.items) (λ bytes node. (length bytes ≤ SOURCE_LIMIT) × IsOutside bytes node)
+        → IsUnlessCutOff (Report.Refused (SourceFault.Text (TextFault.LeftOut 0))) result.report }
+    ensures only_too_long { IsTold (F.held files.old) (texts words.now.items) (λ bytes _. SOURCE_LIMIT < length bytes)
+        → IsUnlessCutOff (Report.TooLong (SOURCE_LIMIT + 1)) result.report }
     ensures same_held { F.held files.new ≡ F.held files.old }
 
     ensures shown_whole { result.sent ≡ Sent.Whole → Appends (S.shown out.old) (S.shown out.new) (text_of result.report) }
@@ -109,6 +118,7 @@ pub fn run<F: Files, S: Sink>(
     ensures status { result.status ≡ status_of result.report result.sent }
 {
     let report = report_on(alloc, words.as_slice(), files);
+    one_tree();
     let sent = show(alloc, &report, out);
     let status = status(&report, sent);
     Outcome {

@@ -51,7 +51,7 @@ impl<R: Print> Sink for StandardOut<'_, R> {
         ensures never_memory { ¬ IsErrOf result PutFault.Memory }
     {
         self.puts = self.puts.saturating_add(1);
-        if write_whole(&mut io::writer(self.rt), piece) {
+        if io::writer(self.rt).write_all(piece).is_ok() {
             return Ok(());
         }
         self.faults = self.faults.saturating_add(1);
@@ -59,67 +59,9 @@ impl<R: Print> Sink for StandardOut<'_, R> {
     }
 }
 
-/// Writes the whole piece, and tells whether it could. A write that takes nothing of what is left is a failure.
-fn write_whole<W: Write>(writer: &mut W, piece: &[u8]) -> bool {
-    let mut at = 0;
-    while at < piece.len() {
-        match writer.write(&piece[at..]) {
-            Ok(0) | Err(_) => return false,
-            Ok(count) => at += count,
-        }
-    }
-    true
-}
-
 #[cfg(test)]
 mod tests {
     use super::*;
-
-    // Takes so many bytes at a write, until there is no room.
-    #[derive(Drop)]
-    struct Narrow {
-        at_once: usize,
-        room: usize,
-    }
-
-    impl Write for Narrow {
-        fn write(&mut self, buf: &[u8]) -> io::Result<usize> {
-            let count = buf.len().min(self.at_once).min(self.room);
-            self.room -= count;
-            Ok(count)
-        }
-
-        fn flush(&mut self) -> io::Result<()> {
-            Ok(())
-        }
-    }
-
-    #[test]
-    fn writes_until_nothing_is_taken(rt: HostRuntime) {
-        for (at_once, room, whole) in [
-            (1, 5, true),
-            (2, 5, true),
-            (9, 9, true),
-            (2, 4, false),
-            (0, 9, false),
-        ] {
-            let mut writer = Narrow { at_once, room };
-            assert_eq!(rt;
-                write_whole(&mut writer, b"seven"),
-                whole,
-                "at {at_once} and {room}"
-            );
-        }
-        assert!(rt;
-            write_whole(
-                &mut Narrow {
-                    at_once: 0,
-                    room: 0
-                },
-                b""
-            )
-        );
-    }
 
     #[test]
     fn shows_a_piece(rt: HostRuntime) {
