@@ -1,9 +1,6 @@
 -- The causes of the reports exclude one another: where the files tell that one holds, no other report is left.
-use Rattle.std.proofs.Common.{◌≡◌, ◌↔◌, ◌⊎◌, inl, inr, ℕ, ◌+◌, ◌<◌, ◌≤◌, List, length, Bool, true, false, true≢false, Some, None, Option, subst, sym, ap, ◌∙◌, refl, IsSomeAnd, is_some, unwrap_or, arith}
-use Rattle.std.specs.FinMap.{get}
+use Rattle.std.proofs.Common.{◌≡◌, ◌↔◌, ◌⊎◌, inl, inr, ℕ, ◌<◌, ◌≤◌, List, length, true≢false, Some, None, Option, subst, sym, ap, ◌∙◌, refl, IsSomeAnd, is_some, arith}
 use Rattle.rv_base.specs.Shelf.{Shelf, HoldsUnder}
-use Rattle.rv_base.specs.declared.value.Value.{Value}
-use Rattle.rv_base.specs.declared.value.Value.TheVariants.{Flag}
 use Rattle.rv_syntax.specs.Tree.{ProgramTree}
 use Rattle.rv_syntax.specs.ProgramText.{IsTextOf}
 use Rattle.rv_syntax.specs.declared.fault.TextFault.TheVariants.{LeftOut}

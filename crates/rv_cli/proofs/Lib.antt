@@ -4,4 +4,5 @@ pub mod Decided
 mod Outside
 mod ShapeLemmas
 mod CodeLemmas
+mod RisingSites
 mod Searched

@@ -1,74 +1,65 @@
 -- What the truth of a flat system's observer says of its program.
-use Rattle.std.proofs.Common.{◌≡◌, ℕ, suc, ◌+◌, ◌<◌, ◌==◌, Bool, true, false, List, [], ◌∷◌, length, get_or, refl, sym, ◌∙◌, ap, subst, arith}
+use Rattle.std.proofs.Common.{◌≡◌, ℕ, zero, suc, ◌+◌, ◌-◌, ◌<◌, Bool, false, List, [], ◌∷◌, ◌++◌, length, get_or, refl, sym, ◌∙◌, ap, subst, arith, inl, inr}
 use Rattle.std.proofs.Common.{None as Nothing}
-use Rattle.std.proofs.lemmas.List.{get_or-map}
+use Rattle.std.proofs.lemmas.Bool.{cases_lt}
+use Rattle.std.proofs.lemmas.List.{get_or-map, ext_get_or}
 use Rattle.std.proofs.Math.ListN.{length-map}
 use Rattle.std.specs.List.{Contains}
 use Rattle.rv_syntax.specs.Tree.{ProgramTree}
-use Rattle.rv_syntax.specs.Places.{Identifier}
-use Rattle.rv_meaning.specs.Instances.{Instance}
+use Rattle.rv_syntax.specs.Places.{Identifier, Sites}
+use Rattle.rv_syntax.specs.Delays.{memory_sites}
+use Rattle.rv_meaning.specs.Instances.{Instance, node_of}
 use Rattle.rv_meaning.specs.Runs.{Instant, cell, observer_place}
 use Rattle.rv_meaning.specs.Valuations.{Valuation, AllowsAt, HoldsEverywhere, FailsSomewhere}
-use Rattle.rv_meaning.specs.Boolean.{IsBooleanProgram}
+use Rattle.rv_meaning.specs.Boolean.{IsBooleanProgram, AreDistinct}
 use Rattle.rv_meaning.proofs.Distinct.{none_in}
 use Rattle.rv_meaning.proofs.Plain.{only_main}
 use Rattle.rv_meaning.proofs.BooleanNodes.{plain}
 use Rattle.rv_flat.specs.declared.parts.Bit.{Bit}
-use Rattle.rv_flat.specs.declared.parts.Bit.TheVariants as bit
 use Rattle.rv_flat.specs.declared.flat.Flat.{Flat}
-use Rattle.rv_flat.specs.Numbers.{is_input_bit, are_input_bits, are_variables}
+use Rattle.rv_flat.specs.Numbers.{memory_places, kept_bits, input_bits, variables_of}
 use Rattle.rv_flat.specs.Instants.{nth, places, row_of, instant_of, IsFlatOf, bits_of, valuation_of}
-use Rattle.rv_flat.proofs.Evaluation.{both}
+use Rattle.rv_flat.proofs.Observed.{Spells, spells}
 use Rattle.rv_cli.specs.Codes.{IsAlwaysTrue, IsSometimesFalse}
+use Rattle.rv_cli.proofs.RisingSites.{rising_sites, distinct_places, number_at}
 
-same_number : (a b : ℕ) → (a == b) ≡ true → a ≡ b
-same_number a b e = grind arith
+-- a valuation has one bit for the main tick, one for each memory, and one for each input
+module _ (v : Valuation) where
+  count_kept : (ps : List Sites) (more : List Bit) → length (bits_of v (kept_bits ps ++ more)) ≡ length ps + length (bits_of v more)
+  count_kept [] more = omega arith
+  count_kept (p ∷ ps) more = let rest = count_kept ps more in omega (arith, rest)
 
--- a valuation has one bit for each input, after the main tick
-count_inputs : (v : Valuation) (j inputs : ℕ) (bs : List Bit) → are_input_bits j inputs bs ≡ true → j + length (bits_of v bs) ≡ inputs
-count_inputs v j inputs [] e = let is = same_number j inputs e in omega (arith, is)
-count_inputs v j inputs (bit.Input k b ∷ bs) e =
-    let p = both (is_input_bit j (bit.Input k b)) (are_input_bits (j + 1) inputs bs) e in
-    let rest = count_inputs v (j + 1) inputs bs p.1 in omega (arith, rest)
-count_inputs v j inputs (bit.MainTick ∷ bs) e = let bad : false ≡ true = e in absurd (grind arith)
-count_inputs v j inputs (bit.Next ∷ bs) e = let bad : false ≡ true = e in absurd (grind arith)
+  count_inputs : (j n : ℕ) → length (bits_of v (input_bits j n)) ≡ n
+  count_inputs j zero = refl
+  count_inputs j (suc n) = ap suc (count_inputs (j + 1) n)
 
-count_bits : (v : Valuation) (inputs : ℕ) (bs : List Bit) → are_variables inputs bs ≡ true → length (bits_of v bs) ≡ 1 + inputs
-count_bits v inputs (bit.MainTick ∷ (bit.Next ∷ bs)) e = let rest = count_inputs v 0 inputs bs e in omega (arith, rest)
-count_bits v inputs [] e = let bad : false ≡ true = e in absurd (grind arith)
-count_bits v inputs (bit.MainTick ∷ []) e = let bad : false ≡ true = e in absurd (grind arith)
-count_bits v inputs (bit.MainTick ∷ (bit.MainTick ∷ bs)) e = let bad : false ≡ true = e in absurd (grind arith)
-count_bits v inputs (bit.MainTick ∷ (bit.Input k b ∷ bs)) e = let bad : false ≡ true = e in absurd (grind arith)
-count_bits v inputs (bit.Next ∷ bs) e = let bad : false ≡ true = e in absurd (grind arith)
-count_bits v inputs (bit.Input k b ∷ bs) e = let bad : false ≡ true = e in absurd (grind arith)
+  count_bits : (ps : List Sites) (inputs : ℕ) → length (bits_of v (variables_of ps inputs)) ≡ 1 + (length ps + inputs)
+  count_bits ps inputs = omega (arith, count_kept ps (input_bits 0 inputs), count_inputs 0 inputs)
 
--- the bits of the valuation that bits give are these bits
-spell_inputs : (all bits : List Bool) (j inputs : ℕ) (bs : List Bit) → are_input_bits j inputs bs ≡ true → j + length bits ≡ inputs → ((i : ℕ) → i < length bits → get_or all (1 + (j + i)) false ≡ get_or bits i false)
-    → bits_of (valuation_of all) bs ≡ bits
-spell_inputs all [] j inputs [] e long at = refl
-spell_inputs all (x ∷ bits) j inputs [] e long at = let is = same_number j inputs e in absurd (omega (arith, is, long))
-spell_inputs all [] j inputs (bit.Input k b ∷ bs) e long at =
-    let p = both (is_input_bit j (bit.Input k b)) (are_input_bits (j + 1) inputs bs) e in
-    let more = count_inputs (valuation_of all) (j + 1) inputs bs p.1 in absurd (omega (arith, more, long))
-spell_inputs all (x ∷ bits) j inputs (bit.Input k b ∷ bs) e long at =
-    let p = both (is_input_bit j (bit.Input k b)) (are_input_bits (j + 1) inputs bs) e in
-    let q = both (k == j) (b == 0) p.0 in
-    let first : k ≡ j + 0 = omega (arith, same_number k j q.0) in
-    (λ i. (ap (λ n. get_or all (1 + n) false) first ∙ at 0 (omega arith)) i
-    ∷ spell_inputs all bits (j + 1) inputs bs p.1 (omega (arith, long)) (λ i lt. ap (λ n. get_or all (1 + n) false) (let e : (j + 1) + i ≡ j + suc i = omega arith in e) ∙ at (suc i) (omega arith)) i)
-spell_inputs all bits j inputs (bit.MainTick ∷ bs) e long at = let bad : false ≡ true = e in absurd (grind arith)
-spell_inputs all bits j inputs (bit.Next ∷ bs) e long at = let bad : false ≡ true = e in absurd (grind arith)
+-- the bits of the valuation that bits give are these bits, where no two memories have one place
+module _ (bits : List Bool) (ps : List Sites) (inputs : ℕ) (distinct : AreDistinct ps) (long : length bits ≡ 1 + (length ps + inputs)) where
+  abbrev given : Valuation
+  given = valuation_of ps bits
 
-spell_bits : (bits : List Bool) (inputs : ℕ) (bs : List Bit) → are_variables inputs bs ≡ true → length bits ≡ 1 + inputs → bits_of (valuation_of bits) bs ≡ bits
-spell_bits [] inputs bs e long = absurd (omega (arith, long))
-spell_bits (x ∷ bits) inputs (bit.MainTick ∷ (bit.Next ∷ bs)) e long =
-    ap (λ rest. x ∷ rest) (spell_inputs (x ∷ bits) bits 0 inputs bs e (omega (arith, long)) (λ i lt. ap (λ n. get_or (x ∷ bits) n false) (let e : 1 + (0 + i) ≡ suc i = omega arith in e)))
-spell_bits (x ∷ bits) inputs [] e long = let bad : false ≡ true = e in absurd (grind arith)
-spell_bits (x ∷ bits) inputs (bit.MainTick ∷ []) e long = let bad : false ≡ true = e in absurd (grind arith)
-spell_bits (x ∷ bits) inputs (bit.MainTick ∷ (bit.MainTick ∷ bs)) e long = let bad : false ≡ true = e in absurd (grind arith)
-spell_bits (x ∷ bits) inputs (bit.MainTick ∷ (bit.Input k b ∷ bs)) e long = let bad : false ≡ true = e in absurd (grind arith)
-spell_bits (x ∷ bits) inputs (bit.Next ∷ bs) e long = let bad : false ≡ true = e in absurd (grind arith)
-spell_bits (x ∷ bits) inputs (bit.Input k b ∷ bs) e long = let bad : false ≡ true = e in absurd (grind arith)
+  said : Spells given ps inputs (bits_of given (variables_of ps inputs))
+  said = spells given ps inputs
+
+  spelled_at : (k : ℕ) → k < 1 + (length ps + inputs) → get_or (bits_of given (variables_of ps inputs)) k false ≡ get_or bits k false
+  spelled_at zero lt = said.tick
+  spelled_at (suc k) lt = elim (cases_lt k (length ps)) [
+    | inl below ↦
+        let at : suc k ≡ 1 + k = omega arith in
+        ap (λ n. get_or (bits_of given (variables_of ps inputs)) n false) at ∙ said.memory k below
+        ∙ ap (λ n. get_or bits (1 + n) false) (number_at ps k distinct below) ∙ ap (λ n. get_or bits n false) (sym at)
+    | inr above ↦
+        let at : suc k ≡ 1 + (length ps + (k - length ps)) = omega arith in
+        ap (λ n. get_or (bits_of given (variables_of ps inputs)) n false) at ∙ said.input (k - length ps) (omega arith) ∙ ap (λ n. get_or bits n false) (sym at)
+  ]
+
+  spell_bits : bits_of given (variables_of ps inputs) ≡ bits
+  spell_bits =
+      let count = count_bits given ps inputs in
+      ext_get_or false (bits_of given (variables_of ps inputs)) bits (count ∙ sym long) (λ k lt. spelled_at k (omega (arith, count)))
 
 module _ (program : ProgramTree) (main : Identifier) (f : Flat) (flat : IsFlatOf program main f) where
   -- what the observer has in an instant it has in its row
@@ -77,10 +68,24 @@ module _ (program : ProgramTree) (main : Identifier) (f : Flat) (flat : IsFlatOf
       let long = length-map f.flows (λ g. g.place.sites) in
       get_or-map (cell instant) (places f.flows) f.observer [] Nothing (omega (arith, f.observed, long)) ∙ ap (cell instant) flat.observer
 
+  count_places : length (memory_places f.memories) ≡ length f.memories
+  count_places = length-map f.memories (λ m. m.place.sites)
+
+  -- no two memories have one place
+  distinct : AreDistinct (memory_places f.memories)
+  distinct = subst AreDistinct (sym flat.memories) (distinct_places (memory_sites (node_of program main)) (rising_sites (node_of program main)))
+
+  -- the memories and inputs are those of the node
+  pub counted : length f.memories + length f.inputs ≡ length (memory_sites (node_of program main)) + length (node_of program main).inputs
+  counted =
+      let long = ap length flat.memories ∙ length-map (memory_sites (node_of program main)) (λ s. s ∷ []) in
+      omega (arith, long, count_places, flat.inputs)
+
   pub everywhere : IsAlwaysTrue f → HoldsEverywhere program main
   everywhere all v instant symbolic allows =
       let bits = bits_of v f.variables in
-      sym (observer_cell instant) ∙ (all bits (count_bits v (length f.inputs) f.variables f.numbered)).all v (row_of (places f.flows) instant) refl (flat.instants v instant symbolic)
+      let long = ap (λ bs. length (bits_of v bs)) f.numbered ∙ count_bits v (memory_places f.memories) (length f.inputs) in
+      sym (observer_cell instant) ∙ (all bits (omega (arith, long, count_places))).all v (row_of (places f.flows) instant) refl (flat.instants v instant symbolic)
 
   module _ (boolean : IsBooleanProgram program main) where
     no_assertion : (v : Valuation) (instant : Instant) → AllowsAt program main v instant
@@ -90,8 +95,9 @@ module _ (program : ProgramTree) (main : Identifier) (f : Flat) (flat : IsFlatOf
 
     pub somewhere : IsSometimesFalse f → FailsSomewhere program main
     somewhere (bits, long, observed) =
-        let v = valuation_of bits in
-        let spelled = spell_bits bits (length f.inputs) f.variables f.numbered long in
+        let v = valuation_of (memory_places f.memories) bits in
+        let spelled = ap (bits_of v) f.numbered
+        ∙ spell_bits bits (memory_places f.memories) (length f.inputs) distinct (omega (arith, long, count_places)) in
         let found = observed.some v spelled in
         let row = found.0 in
         let instant = instant_of (places f.flows) row in (

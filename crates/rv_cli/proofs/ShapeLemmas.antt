@@ -1,140 +1,225 @@
--- Names among declarations, a turn at a time, and lists in which no name stands twice.
-use Rattle.std.proofs.Common.{◌≡◌, ℕ, zero, suc, ◌+◌, ◌<◌, ◌≤◌, Bool, true, false, not, ◌&&◌, ◌||◌, List, [], ◌∷◌, ◌++◌, length, map, drop, get_or, refl, sym, ◌∙◌, ap, subst, arith, inl, inr, Some, length-append, drop-cons}
-use Rattle.std.proofs.lemmas.List.{drop_all, get_or_default, get_or_append_left, append-nil, length-map}
+-- Names that are put one to another, equations that follow one another, and programs of one node.
+use Rattle.std.proofs.Common.{◌≡◌, ℕ, zero, suc, ◌+◌, ◌<◌, ◌≤◌, Bool, true, false, cond, nat_eq, List, [], ◌∷◌, ◌++◌, length, map, get_or, refl, sym, ◌∙◌, ap, subst, arith, inl, inr, Some, length-append, ◌↔◌, Result, Ok, Err, IfOk, IsTrue, MatchBool}
+use Rattle.std.proofs.lemmas.Bool.{both_ways}
+use Rattle.std.proofs.lemmas.List.{append_assoc, append-nil, get_or_default, length-map}
+use Rattle.std.proofs.lemmas.List.Elements.{Contains-append_right, Contains-append_cases}
+use Rattle.std.proofs.lemmas.Map.Keys.{IsDistinct-from_apart}
+use Rattle.std.proofs.lemmas.Map.Made.{length-le_from_is_member}
 use Rattle.std.proofs.lemmas.Option.{get_or_from_slice_get}
-use Rattle.std.proofs.Math.Seq.{get_or-append_seam}
-use Rattle.std.proofs.Math.Nat.{eq-or-lt_of_le}
 use Rattle.std.specs.Prelude.{slice_get}
 use Rattle.std.specs.List.{Contains}
-use Rattle.rv_syntax.specs.declared.tree.Decl.{Decl}
-use Rattle.rv_syntax.specs.Places.{Identifier, is_same, flows, names, is_among}
+use Rattle.std.specs.Cmp.{nat_eq_equiv}
+use Rattle.std.specs.Cmp.Lexicographic.{pointwise, lists_equiv}
+use Rattle.rv_base.specs.declared.memory.Memory.{Memory}
+use Rattle.rv_syntax.specs.declared.tree.Name.{Name}
 use Rattle.rv_syntax.specs.declared.tree.ConstDecl.{ConstDecl}
 use Rattle.rv_syntax.specs.declared.tree.Node as declared
 use Rattle.rv_syntax.specs.declared.tree.Program.{Program}
-use Rattle.rv_syntax.specs.Tree.{NodeTree, node_tree, constant_tree, program_tree}
-use Rattle.rv_meaning.specs.Boolean.{AreDistinct, IsBooleanNode, IsBooleanProgram}
-use Rattle.rv_meaning.proofs.Names.{same_text, text_itself}
-use Rattle.rv_meaning.proofs.Distinct.{found, is_found}
-use Rattle.rv_cli.specs.Shapes.{is_free_of_repeats, IsOneNode, HasFewFlows, HasBooleanFlows, HasBooleanEquation}
+use Rattle.rv_syntax.specs.Tree.{EquationTree, NodeTree, node_tree, constant_tree, program_tree}
+use Rattle.rv_syntax.specs.Places.{Identifier, is_same, flows, names, is_among}
+use Rattle.rv_syntax.specs.Delays.{IsNumbered}
+use Rattle.rv_meaning.specs.Instances.{texts}
+use Rattle.rv_meaning.specs.Numbering.{with_name}
+use Rattle.rv_meaning.specs.Boolean.{AreDistinct, AreOrdered, IsBooleanNode, IsBooleanProgram, lefts}
+use Rattle.rv_meaning.proofs.NameLemmas.{same_text, text_itself}
+use Rattle.rv_meaning.proofs.HashedNames.{among_any}
+use Rattle.rv_meaning.proofs.Distinct.{none_in, found, is_found, distinct_left, distinct_right, distinct_append, apart}
+use Rattle.rv_cli.specs.Shapes.{IsOneNode, IsBoolean, HasBooleanEquations, IsAdded, IsNextLeft, AreNext}
 
-names-drop : (ds : List Decl) (k : ℕ) (d : Decl) → k < length ds → d ≡ get_or ds k d → names (drop k ds) ≡ d.name.text ∷ names (drop (k + 1) ds)
-names-drop ds k d lt is =
-    ap names (drop-cons ds k d lt ∙ ap (λ e. e ∷ drop (suc k) ds) (sym is) ∙ ap (λ n. d ∷ drop n ds) (let next : suc k ≡ k + 1 = omega arith in next))
+-- no element where their images are none
+pub unmapped : {X Y : Type 0} (f : X → Y) (xs : List X) → map f xs ≡ [] → xs ≡ []
+unmapped f [] e = refl
+unmapped f (x ∷ xs) e = absurd (omega (arith, ap length e))
 
--- the declaration in turn has the name
-pub among-here : (ds : List Decl) (x : Identifier) (k : ℕ) (d : Decl) → k < length ds → d ≡ get_or ds k d → is_same d.name.text x ≡ true
-    → is_among (names ds) x ≡ is_among (names (drop k ds)) x → is_among (names ds) x ≡ true
-among-here ds x k d lt is same before = before ∙ ap (λ l. is_among l x) (names-drop ds k d lt is) ∙ ap (λ b. b || is_among (names (drop (k + 1) ds)) x) same
+-- what an answer says, for another fact
+pub ok_iff : {P Q : Type 0} (r : Result Bool Memory) → (P → Q) → (Q → P) → IfOk r (λ b. IsTrue b ↔ P) → IfOk r (λ b. IsTrue b ↔ Q)
+ok_iff (Ok b) to from h = (λ yes. to (h.0 yes), λ q. h.1 (from q))
+ok_iff (Err e) to from h = tt
 
--- or it has not
-pub among-later : (ds : List Decl) (x : Identifier) (k : ℕ) (d : Decl) → k < length ds → d ≡ get_or ds k d → is_same d.name.text x ≡ false
-    → is_among (names ds) x ≡ is_among (names (drop k ds)) x → is_among (names ds) x ≡ is_among (names (drop (k + 1) ds)) x
-among-later ds x k d lt is other before = before ∙ ap (λ l. is_among l x) (names-drop ds k d lt is) ∙ ap (λ b. b || is_among (names (drop (k + 1) ds)) x) other
-
-pub among-none : (ds : List Decl) (x : Identifier) (k : ℕ) → length ds ≤ k → is_among (names ds) x ≡ is_among (names (drop k ds)) x → is_among (names ds) x ≡ false
-among-none ds x k le before = before ∙ ap (λ l. is_among (names l) x) (drop_all k ds le)
-
--- the name in turn stands again
-pub repeat-here : (ds : List Decl) (k : ℕ) (d : Decl) → k < length ds → d ≡ get_or ds k d → is_among (names (drop (k + 1) ds)) d.name.text ≡ true
-    → is_free_of_repeats (names ds) ≡ is_free_of_repeats (names (drop k ds)) → is_free_of_repeats (names ds) ≡ false
-repeat-here ds k d lt is again before = before ∙ ap is_free_of_repeats (names-drop ds k d lt is) ∙ ap (λ b. not b && is_free_of_repeats (names (drop (k + 1) ds))) again
-
--- or it does not
-pub repeat-later : (ds : List Decl) (k : ℕ) (d : Decl) → k < length ds → d ≡ get_or ds k d → is_among (names (drop (k + 1) ds)) d.name.text ≡ false
-    → is_free_of_repeats (names ds) ≡ is_free_of_repeats (names (drop k ds)) → is_free_of_repeats (names ds) ≡ is_free_of_repeats (names (drop (k + 1) ds))
-repeat-later ds k d lt is once before = before ∙ ap is_free_of_repeats (names-drop ds k d lt is) ∙ ap (λ b. not b && is_free_of_repeats (names (drop (k + 1) ds))) once
-
-pub repeat-none : (ds : List Decl) (k : ℕ) → length ds ≤ k → is_free_of_repeats (names ds) ≡ is_free_of_repeats (names (drop k ds)) → is_free_of_repeats (names ds) ≡ true
-repeat-none ds k le before = before ∙ ap (λ l. is_free_of_repeats (names l)) (drop_all k ds le)
-
--- the test says that the names are distinct
-pub distinct_by_test : (xs : List Identifier) → is_free_of_repeats xs ≡ true → AreDistinct xs
-distinct_by_test [] e = λ j k less lt same. absurd (omega arith)
-distinct_by_test (x ∷ xs) e = at (is_among xs x) refl e (distinct_by_test xs)
-  where
-    clash : (k : ℕ) → k < length xs → x ≡ get_or xs k [] → is_among xs x ≡ false → ⊥
-    clash k lt same none = let there = is_found xs x (k, lt, same_default xs k lt ∙ sym same) in let bad = sym there ∙ none in grind arith
-      where
-        same_default : (ys : List Identifier) (k : ℕ) → k < length ys → get_or ys k x ≡ get_or ys k []
-        same_default [] k lt = absurd (omega arith)
-        same_default (y ∷ ys) zero lt = refl
-        same_default (y ∷ ys) (suc k) lt = same_default ys k (omega arith)
-
-    at : (b : Bool) → is_among xs x ≡ b → (not b && is_free_of_repeats xs) ≡ true → (is_free_of_repeats xs ≡ true → AreDistinct xs) → AreDistinct (x ∷ xs)
-    at true is e again j k less lt same = let bad : false ≡ true = e in absurd (grind arith)
-    at false is e again zero zero less lt same = absurd (omega arith)
-    at false is e again zero (suc k) less lt same = clash k (omega arith) same is
-    at false is e again (suc j) zero less lt same = absurd (omega arith)
-    at false is e again (suc j) (suc k) less lt same = again e j k (omega arith) (omega arith) same
-
--- and the other way round
-pub test_by_distinct : (xs : List Identifier) → AreDistinct xs → is_free_of_repeats xs ≡ true
-test_by_distinct [] distinct = refl
-test_by_distinct (x ∷ xs) distinct =
-    at (is_among xs x) refl (test_by_distinct xs (λ j k less lt same. distinct (suc j) (suc k) (omega arith) (omega arith) same))
-  where
-    default : (ys : List Identifier) (k : ℕ) → k < length ys → get_or ys k [] ≡ get_or ys k x
-    default [] k lt = absurd (omega arith)
-    default (y ∷ ys) zero lt = refl
-    default (y ∷ ys) (suc k) lt = default ys k (omega arith)
-
-    at : (b : Bool) → is_among xs x ≡ b → is_free_of_repeats xs ≡ true → (not b && is_free_of_repeats xs) ≡ true
-    at true is rest = let w = found xs x is in absurd (distinct 0 (suc w.0) (omega arith) (omega (arith, w.1)) (sym w.2 ∙ sym (default xs w.0 w.1)))
-    at false is rest = rest
+pub ok_decided : {P Q : Type 0} (r : Result Bool Memory) → (P → Q) → (Q → P) → IfOk r (λ b. IsTrue b ↔ P) → IfOk r (λ b. MatchBool b Q (Q → ⊥))
+ok_decided (Ok true) to from h = to (h.0 refl)
+ok_decided (Ok false) to from h = λ q. both_ways false refl (h.1 (from q))
+ok_decided (Err e) to from h = tt
 
 -- one name more
 one_more : (xs : List Identifier) (x : Identifier) → AreDistinct xs → is_among xs x ≡ false → AreDistinct (xs ++ x ∷ [])
-one_more xs x distinct none j k less lt same =
-    let long = length-append xs (x ∷ []) in
-    let first : j < length xs = omega (arith, long) in
-    elim (eq-or-lt_of_le {n = k} {m = length xs} (omega (arith, long))) [
-      | inl at_end ↦
-          let there : Contains xs x = (
-            j,
-            first,
-            read xs j first
-                ∙ sym (get_or_append_left xs (x ∷ []) [] j first) ∙ same ∙ ap (λ i. get_or (xs ++ x ∷ []) i []) at_end ∙ get_or-append_seam xs x [] [],
-          ) in
-          let bad = sym (is_found xs x there) ∙ none in grind arith
-      | inr below ↦ distinct j k less below (sym (get_or_append_left xs (x ∷ []) [] j first) ∙ same ∙ get_or_append_left xs (x ∷ []) [] k below)
-    ]
+one_more xs x distinct none =
+    distinct_append xs (x ∷ []) distinct (λ j k less lt same. absurd (omega arith)) (λ y a b.
+    let there : is_among xs x ≡ true = ap (is_among xs) (the_one y b.0 b.1 b.2) ∙ is_found xs y a in
+    let bad = sym there ∙ none in grind arith)
   where
-    read : (ys : List Identifier) (i : ℕ) → i < length ys → get_or ys i x ≡ get_or ys i []
-    read [] i lt = absurd (omega arith)
-    read (y ∷ ys) zero lt = refl
-    read (y ∷ ys) (suc i) lt = read ys i (omega arith)
+    the_one : (y : Identifier) (k : ℕ) → k < length (x ∷ []) → get_or (x ∷ []) k y ≡ y → x ≡ y
+    the_one y zero lt is = is
+    the_one y (suc k) lt is = absurd (omega arith)
 
-one_less : (xs : List Identifier) (x : Identifier) → AreDistinct (xs ++ x ∷ []) → AreDistinct xs
-one_less xs x distinct j k less lt same =
-    let first : j < length xs = omega arith in
-    distinct j k less (omega (arith, length-append xs (x ∷ [])))
-    (get_or_append_left xs (x ∷ []) [] j first ∙ same ∙ sym (get_or_append_left xs (x ∷ []) [] k lt))
+-- a name that is there already
+pub add_stops : (start now all left rest : List Identifier) (x : Identifier) → start ++ all ≡ now ++ left → left ≡ x ∷ rest → is_among now x ≡ true → AreDistinct (start ++ all) → ⊥
+add_stops start now all left rest x before is there distinct =
+    apart now (x ∷ rest) x (subst AreDistinct (before ∙ ap (λ l. now ++ l) is) distinct) (found now x there) (0, omega arith, refl)
 
-not_again : (xs : List Identifier) (x : Identifier) → AreDistinct (xs ++ x ∷ []) → is_among xs x ≡ true → ⊥
-not_again xs x distinct e =
-    let w = found xs x e in
-    distinct w.0 (length xs) w.1 (omega (arith, length-append xs (x ∷ [])))
-    (get_or_append_left xs (x ∷ []) [] w.0 w.1 ∙ get_or_default xs w.0 [] x w.1 ∙ w.2 ∙ sym (get_or-append_seam xs x [] []))
+-- and a new one
+pub add_goes : (start now all left rest next : List Identifier) (x : Identifier) → AreDistinct now → start ++ all ≡ now ++ left → left ≡ x ∷ rest
+    → is_among now x ≡ false → next ≡ with_name now x → AreDistinct next × (start ++ all ≡ next ++ rest)
+add_goes start now all left rest next x distinct before is none put =
+    let grown : next ≡ now ++ x ∷ [] = put ∙ ap (λ b. cond b now (now ++ x ∷ [])) none in (
+      subst AreDistinct (sym grown) (one_more now x distinct none),
+      before ∙ ap (λ l. now ++ l) is ∙ sym (append_assoc now (x ∷ []) rest) ∙ ap (λ l. l ++ rest) (sym grown),
+    )
 
--- the flows of a node with one output and no local
-pub few_flows : (n : NodeTree) (d : Decl) → HasFewFlows n → slice_get n.outputs 0 ≡ Some d → flows n ≡ names n.inputs ++ d.name.text ∷ []
-few_flows n d few at =
-    (λ i. names n.inputs ++ names (one n.outputs few.one_output at i) ++ names (few.locals i))
-    ∙ append-nil (names n.inputs ++ d.name.text ∷ [])
+pub is_added : (all now : List Identifier) (b : Bool) → IsAdded all now b → b ≡ true → (now ≡ all) × AreDistinct all
+is_added all now true h e = h
+is_added all now false h e = absurd (both_ways false refl e)
+
+pub is_not_added : (all now : List Identifier) (b : Bool) → IsAdded all now b → b ≡ false → AreDistinct all → ⊥
+is_not_added all now true h e = absurd (both_ways true e refl)
+is_not_added all now false h e = h
+
+-- distinct names that are among others are no more than these
+no_longer : (xs ys : List Identifier) → AreDistinct xs → ((x : Identifier) → Contains xs x → Contains ys x) → length xs ≤ length ys
+no_longer xs ys distinct within =
+    length-le_from_is_member (lists_equiv nat_eq_equiv) xs ys
+    (IsDistinct-from_apart (pointwise nat_eq) xs (λ i j d less lt. differs (is_same (get_or xs i d) (get_or xs j d)) i j d refl less lt))
+    (λ q e. among_any ys q ∙ is_found ys q (within q (found xs q (sym (among_any xs q) ∙ e))))
   where
-    one : (ds : List Decl) → length ds ≡ 1 → slice_get ds 0 ≡ Some d → ds ≡ d ∷ []
-    one [] long e = absurd (omega (arith, long))
-    one (c ∷ []) long e = ap (λ r. r ∷ []) (get_or_from_slice_get (c ∷ []) 0 d c e)
-    one (c ∷ b ∷ ds) long e = absurd (omega (arith, long))
+    differs : (b : Bool) (i j : ℕ) (d : Identifier) → b ≡ is_same (get_or xs i d) (get_or xs j d) → i < j → j < length xs → is_same (get_or xs i d) (get_or xs j d) ≡ false
+    differs true i j d e less lt =
+        absurd (distinct i j less lt
+        (get_or_default xs i [] d (omega arith) ∙ same_text (get_or xs i d) (get_or xs j d) (sym e) ∙ get_or_default xs j d [] lt))
+    differs false i j d e less lt = sym e
 
-pub repeats_output : (n : NodeTree) (d : Decl) → HasFewFlows n → slice_get n.outputs 0 ≡ Some d → is_among (names n.inputs) d.name.text ≡ true → AreDistinct (flows n) → ⊥
-repeats_output n d few at again distinct = not_again (names n.inputs) d.name.text (subst AreDistinct (few_flows n d few at) distinct) again
+-- and where they are as many, they are all of them
+all_of_them : (xs ys : List Identifier) → AreDistinct xs → ((x : Identifier) → Contains xs x → Contains ys x) → length ys ≤ length xs → (x : Identifier) → Contains ys x → Contains xs x
+all_of_them xs ys distinct within few x w = tested (is_among xs x) refl
+  where
+    tested : (b : Bool) → is_among xs x ≡ b → Contains xs x
+    tested true e = found xs x e
+    tested false e =
+        let more = no_longer (xs ++ x ∷ []) ys (one_more xs x distinct e) (λ y v. elim (Contains-append_cases xs (x ∷ []) y v) [
+          | inl a ↦ within y a
+          | inr b ↦ subst (Contains ys) (the_one y b.0 b.1 b.2) w
+        ]) in
+        absurd (omega (arith, more, length-append xs (x ∷ [])))
+      where
+        the_one : (y : Identifier) (k : ℕ) → k < length (x ∷ []) → get_or (x ∷ []) k y ≡ y → x ≡ y
+        the_one y zero lt is = is
+        the_one y (suc k) lt is = absurd (omega arith)
 
-pub distinct_by_tests : (n : NodeTree) (d : Decl) → HasFewFlows n → slice_get n.outputs 0 ≡ Some d → is_among (names n.inputs) d.name.text ≡ false → is_free_of_repeats (names n.inputs) ≡ true → AreDistinct (flows n)
-distinct_by_tests n d few at once test = subst AreDistinct (sym (few_flows n d few at)) (one_more (names n.inputs) d.name.text (distinct_by_test (names n.inputs) test) once)
+module _ (all : List Identifier) where
+  one_left : (known : List Identifier) (ls : List Name) → IsNextLeft all known (texts ls) → length ls ≡ 1
+  one_left known [] h = absurd h
+  one_left known (l ∷ []) h = refl
+  one_left known (l ∷ m ∷ ls) h = absurd h
 
-pub tests_by_distinct : (n : NodeTree) (d : Decl) → HasFewFlows n → slice_get n.outputs 0 ≡ Some d → AreDistinct (flows n) → is_free_of_repeats (names n.inputs) ≡ true
-tests_by_distinct n d few at distinct = test_by_distinct (names n.inputs) (one_less (names n.inputs) d.name.text (subst AreDistinct (few_flows n d few at) distinct))
+  left_grows : (known xs : List Identifier) → IsNextLeft all known xs → AreDistinct known → AreDistinct (known ++ xs)
+  left_grows known [] h distinct = absurd h
+  left_grows known (x ∷ []) h distinct = one_more known x distinct h.1
+  left_grows known (x ∷ y ∷ xs) h distinct = absurd h
+
+  left_within : (known xs : List Identifier) → IsNextLeft all known xs → (y : Identifier) → Contains xs y → Contains all y
+  left_within known [] h y w = absurd h
+  left_within known (x ∷ []) h y w = subst (Contains all) (the_one w.0 w.1 w.2) (found all x h.0)
+    where
+      the_one : (k : ℕ) → k < length (x ∷ []) → get_or (x ∷ []) k y ≡ y → x ≡ y
+      the_one zero lt is = is
+      the_one (suc k) lt is = absurd (omega arith)
+  left_within known (x ∷ z ∷ xs) h y w = absurd h
+
+  -- equations that follow one another are in order
+  next_ordered : (known : List Identifier) (qs : List EquationTree) → AreNext all known qs → AreOrdered all known qs
+  next_ordered known [] h = tt
+  next_ordered known (q ∷ qs) h = (one_left known q.lefts h.0.0, h.0.1, next_ordered (known ++ texts q.lefts) qs h.1)
+
+  -- their left sides are distinct
+  next_distinct : (known : List Identifier) (qs : List EquationTree) → AreNext all known qs → AreDistinct known → AreDistinct (known ++ lefts qs)
+  next_distinct known [] h distinct = subst AreDistinct (sym (append-nil known)) distinct
+  next_distinct known (q ∷ qs) h distinct =
+      subst AreDistinct (append_assoc known (texts q.lefts) (lefts qs))
+      (next_distinct (known ++ texts q.lefts) qs h.1 (left_grows known (texts q.lefts) h.0.0 distinct))
+
+  -- and flows
+  next_within : (known : List Identifier) (qs : List EquationTree) → AreNext all known qs → (x : Identifier) → Contains (lefts qs) x → Contains all x
+  next_within known [] h x w = absurd (none_in x w)
+  next_within known (q ∷ qs) h x w = elim (Contains-append_cases (texts q.lefts) (lefts qs) x w) [
+    | inl here ↦ left_within known (texts q.lefts) h.0.0 x here
+    | inr there ↦ next_within (known ++ texts q.lefts) qs h.1 x there
+  ]
+
+  -- one for each equation in order
+  ordered_long : (known : List Identifier) (qs : List EquationTree) → AreOrdered all known qs → length (lefts qs) ≡ length qs
+  ordered_long known [] o = refl
+  ordered_long known (q ∷ qs) o =
+      let one : length (texts q.lefts) ≡ 1 = length-map q.lefts (λ x. x.text) ∙ o.0 in
+      omega (arith, length-append (texts q.lefts) (lefts qs), ordered_long (known ++ texts q.lefts) qs o.2, one)
+
+  -- the other way round
+  left_next : (known : List Identifier) (ls : List Name) (rest : List Identifier) → length ls ≡ 1 → AreDistinct (known ++ (texts ls ++ rest))
+      → ((x : Identifier) → Contains (texts ls ++ rest) x → Contains all x) → IsNextLeft all known (texts ls)
+  left_next known [] rest long distinct within = absurd (omega (arith, long))
+  left_next known (l ∷ []) rest long distinct within = (is_found all l.text (within l.text (0, omega arith, refl)), tested (is_among known l.text) refl)
+    where
+      tested : (b : Bool) → is_among known l.text ≡ b → is_among known l.text ≡ false
+      tested true e = absurd (apart known (l.text ∷ rest) l.text distinct (found known l.text e) (0, omega arith, refl))
+      tested false e = e
+  left_next known (l ∷ m ∷ ls) rest long distinct within = absurd (omega (arith, long))
+
+  ordered_next : (known : List Identifier) (qs : List EquationTree) → AreOrdered all known qs → AreDistinct (known ++ lefts qs)
+      → ((x : Identifier) → Contains (lefts qs) x → Contains all x) → AreNext all known qs
+  ordered_next known [] o distinct within = tt
+  ordered_next known (q ∷ qs) o distinct within = (
+    (left_next known q.lefts (lefts qs) o.0 distinct within, o.1),
+    ordered_next (known ++ texts q.lefts) qs o.2
+        (subst AreDistinct (sym (append_assoc known (texts q.lefts) (lefts qs))) distinct)
+        (λ x w. within x (Contains-append_right (texts q.lefts) (lefts qs) x w)),
+  )
+
+pub next_along : (a b c d : List Identifier) (e f : List EquationTree) → a ≡ b → c ≡ d → e ≡ f → AreNext a c e → AreNext b d f
+next_along a b c d e f p q r h = subst (λ l. AreNext b d l) r (subst (λ l. AreNext b l e) q (subst (λ l. AreNext l c e) p h))
+
+-- the flows that are no inputs
+abbrev own : NodeTree → List Identifier
+own n = names n.outputs ++ names n.locals
+
+own_long : (n : NodeTree) → length (own n) ≡ length n.outputs + length n.locals
+own_long n = length-append (names n.outputs) (names n.locals) ∙ (λ i. length-map n.outputs (λ d. d.name.text) i + length-map n.locals (λ d. d.name.text) i)
+
+split : (n : NodeTree) → flows n ≡ names n.inputs ++ own n
+split n = append_assoc (names n.inputs) (names n.outputs) (names n.locals)
+
+-- as many equations that follow one another as there are flows without the inputs
+pub equations_by_next : (n : NodeTree) → AreDistinct (flows n) → AreNext (flows n) (names n.inputs) n.equations → length n.equations ≡ length n.outputs + length n.locals → HasBooleanEquations n
+equations_by_next n distinct next count =
+    let parted = subst AreDistinct (split n) distinct in
+    let together = next_distinct (flows n) (names n.inputs) n.equations next (distinct_left (names n.inputs) (own n) parted) in
+    let once = distinct_right (names n.inputs) (lefts n.equations) together in
+    let ordered = next_ordered (flows n) (names n.inputs) n.equations next in
+    let long = ordered_long (flows n) (names n.inputs) n.equations ordered in
+    let inside : (x : Identifier) → Contains (lefts n.equations) x → Contains (own n) x = λ x w.
+    elim (Contains-append_cases (names n.inputs) (own n) x (subst (λ l. Contains l x) (split n) (next_within (flows n) (names n.inputs) n.equations next x w))) [
+      | inl bad ↦ absurd (apart (names n.inputs) (lefts n.equations) x together bad w)
+      | inr there ↦ there
+    ] in
+    record {
+      once = once;
+      defined = λ x. (inside x, all_of_them (lefts n.equations) (own n) once inside (omega (arith, long, count, own_long n)) x);
+      ordered = ordered;
+    }
+
+-- and the other way round
+pub next_by_equations : (n : NodeTree) → AreDistinct (flows n) → HasBooleanEquations n → AreNext (flows n) (names n.inputs) n.equations
+next_by_equations n distinct e =
+    let parted = subst AreDistinct (split n) distinct in
+    ordered_next (flows n) (names n.inputs) n.equations e.ordered
+    (distinct_append (names n.inputs) (lefts n.equations) (distinct_left (names n.inputs) (own n) parted) e.once
+    (λ x a b. apart (names n.inputs) (own n) x parted a ((e.defined x).0 b)))
+    (λ x w. subst (λ l. Contains l x) (sym (split n)) (Contains-append_right (names n.inputs) (own n) x ((e.defined x).0 w)))
+
+pub count_by_equations : (n : NodeTree) → AreDistinct (flows n) → HasBooleanEquations n → length n.equations ≡ length n.outputs + length n.locals
+count_by_equations n distinct e =
+    let parted = subst AreDistinct (split n) distinct in
+    let long = ordered_long (flows n) (names n.inputs) n.equations e.ordered in
+    let least = no_longer (lefts n.equations) (own n) e.once (λ x w. (e.defined x).0 w) in
+    let most = no_longer (own n) (lefts n.equations) (distinct_right (names n.inputs) (own n) parted) (λ x w. (e.defined x).1 w) in
+    omega (arith, long, least, most, own_long n)
 
 -- a program of one node
 one_node : (ns : List declared.Node) (node : declared.Node) → length ns ≡ 1 → slice_get ns 0 ≡ Some node → map node_tree ns ≡ node_tree node ∷ []
@@ -144,25 +229,29 @@ one_node (m ∷ k ∷ ns) node long at = absurd (omega (arith, long))
 
 module _ (program : Program) (main : Identifier) (one : IsOneNode program) where
   module _ (node : declared.Node) (at : slice_get program.nodes 0 ≡ Some node) where
-    pub is_accepted : is_same node.name.text main ≡ true → HasBooleanFlows (node_tree node) → HasBooleanEquation (node_tree node) → IsBooleanProgram (program_tree program) main
-    is_accepted name flows equation = (
+    pub in_program : Contains (program_tree program).nodes (node_tree node)
+    in_program = subst (λ l. Contains l (node_tree node)) (sym (one_node program.nodes node one.nodes at)) (0, omega arith, refl)
+
+    pub is_accepted : is_same node.name.text main ≡ true → IsNumbered (node_tree node) → IsBoolean (node_tree node) → IsBooleanProgram (program_tree program) main
+    is_accepted name numbered boolean = (
       node_tree node,
       record {
         types = one.types;
         constants = ap (map constant_tree) one.constants;
         nodes = one_node program.nodes node one.nodes at;
         name = same_text node.name.text main name;
-        inputs = flows.inputs;
-        some_input = flows.few.some_input;
-        outputs = flows.outputs;
-        one_output = flows.few.one_output;
-        locals = flows.few.locals;
-        assertions = equation.assertions;
-        distinct = flows.distinct;
-        one_equation = equation.one_equation;
-        defined = equation.defined;
-        ordered = equation.ordered;
-        few = flows.few.few;
+        inputs = boolean.flows_of.inputs;
+        some_input = boolean.flows_of.some_input;
+        outputs = boolean.flows_of.outputs;
+        one_output = boolean.flows_of.one_output;
+        locals = boolean.flows_of.locals;
+        assertions = boolean.flows_of.assertions;
+        distinct = boolean.distinct;
+        once = boolean.equations.once;
+        defined = boolean.equations.defined;
+        ordered = boolean.equations.ordered;
+        few = boolean.few;
+        numbered = numbered;
       },
     )
 
@@ -174,11 +263,15 @@ module _ (program : Program) (main : Identifier) (one : IsOneNode program) where
     pub accepted_name : IsBooleanProgram (program_tree program) main → is_same node.name.text main ≡ true
     accepted_name b = ap (λ x. is_same x main) (accepted_node b).name ∙ text_itself main
 
-    pub accepted_flows : IsBooleanProgram (program_tree program) main → HasBooleanFlows (node_tree node)
-    accepted_flows b = let a = accepted_node b in record { few = record { some_input = a.some_input; one_output = a.one_output; locals = a.locals; few = a.few }; inputs = a.inputs; outputs = a.outputs; distinct = a.distinct }
-
-    pub accepted_equation : IsBooleanProgram (program_tree program) main → HasBooleanEquation (node_tree node)
-    accepted_equation b = let a = accepted_node b in record { assertions = a.assertions; one_output = a.one_output; one_equation = a.one_equation; defined = a.defined; ordered = a.ordered }
+    pub accepted_boolean : IsBooleanProgram (program_tree program) main → IsBoolean (node_tree node)
+    accepted_boolean b =
+        let a = accepted_node b in
+        record {
+          flows_of = record { inputs = a.inputs; some_input = a.some_input; outputs = a.outputs; one_output = a.one_output; locals = a.locals; assertions = a.assertions };
+          distinct = a.distinct;
+          equations = record { once = a.once; defined = a.defined; ordered = a.ordered };
+          few = a.few;
+        }
 
 -- what is accepted is one node
 pub accepted_one : (program : Program) (main : Identifier) → IsBooleanProgram (program_tree program) main → IsOneNode program

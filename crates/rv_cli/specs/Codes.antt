@@ -10,8 +10,8 @@ bits_of_code (suc n) code = (code % 2 == 1) ∷ bits_of_code n (code / 2)
 
 -- at every valuation of the flat system its observer is true
 abbrev pub IsAlwaysTrue : Flat → Type 0
-IsAlwaysTrue f = (bits : List Bool) → length bits ≡ 1 + length f.inputs → IsObserved f bits true
+IsAlwaysTrue f = (bits : List Bool) → length bits ≡ 1 + (length f.memories + length f.inputs) → IsObserved f bits true
 
 -- at some valuation of the flat system its observer is false
 abbrev pub IsSometimesFalse : Flat → Type 0
-IsSometimesFalse f = (bits : List Bool) × (length bits ≡ 1 + length f.inputs) × IsObserved f bits false
+IsSometimesFalse f = (bits : List Bool) × (length bits ≡ 1 + (length f.memories + length f.inputs)) × IsObserved f bits false

@@ -12,7 +12,7 @@ use crate::boolean::is_boolean_program;
 use crate::report::{Report, SourceFault};
 use crate::search::holds_everywhere;
 use rv_meaning::everywhere_is_safe;
-use rv_syntax::{TextFault, parse};
+use rv_syntax::{TextFault, numbered_sites, parse};
 use std::alloc::Global;
 
 /// The length in bytes that a source may have.
@@ -33,7 +33,11 @@ pub fn report_on_source(alloc: Global, source: &[u8], node: &str) -> Report
         Ok(program) => program,
         Err(fault) => return refusal(fault),
     };
-    if !is_boolean_program(&program, node) {
+    numbered_sites();
+    let Ok(accepted) = is_boolean_program(alloc, &program, node) else {
+        return Report::Memory;
+    };
+    if !accepted {
         return Report::Refused(SourceFault::Text(TextFault::LeftOut(0)));
     }
     everywhere_is_safe();

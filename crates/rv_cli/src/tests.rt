@@ -69,8 +69,8 @@ fn files_of(alloc: Global) -> Result<MemoryFiles, Memory> {
         b"node m(a: bool) returns (ok: bool); let ok = a + 1; tel",
     )?;
     files.add(
-        "second_equation",
-        b"node m(a: bool) returns (ok: bool); let ok = true; ok = true; tel",
+        "latch",
+        b"node m(a: bool) returns (ok: bool); let ok = true -> pre ok; tel",
     )?;
     files.add("empty", b"")?;
     files.add("no_text", &[0, 255, 128, 10])?;
@@ -103,9 +103,14 @@ fn answers_on_sources(rt: HostRuntime) -> Result<(), Fail> {
             2,
             "reaver,unknown\n",
         ),
+        plain(
+            "reaver prove latch m",
+            Report::Unknown,
+            2,
+            "reaver,unknown\n",
+        ),
         plain("reaver prove tautology main", REFUSED, 3, refused),
         plain("reaver prove sum m", REFUSED, 3, refused),
-        plain("reaver prove second_equation m", REFUSED, 3, refused),
         plain("reaver prove empty m", REFUSED, 3, refused),
         plain("reaver prove no_text m", REFUSED, 3, refused),
     ] {
@@ -213,6 +218,127 @@ fn prints_each_fault_of_text(rt: HostRuntime) -> Result<(), Fail> {
     ] {
         let printed = text(rt.alloc(), &Report::Refused(SourceFault::Text(fault)))?;
         assert_eq!(rt; printed.as_str(), shown);
+    }
+    Ok(())
+}
+
+// Nodes whose observer is true at every valuation of the main tick, the memories and the inputs: the names of the
+// inputs, and what stands after the header.
+const SAFE: &[(&str, &str)] = &[
+    ("a", "let ok = true -> true; tel"),
+    ("a", "let ok = pre a or not pre a; tel"),
+    ("a", "let ok = pre (a) or not pre a; tel"),
+    ("a", "let ok = true -> (pre a or not pre a); tel"),
+    ("a", "let ok = (true -> pre a) or not (true -> pre a); tel"),
+    (
+        "a",
+        "var x: bool; let x = pre a; ok = pre x or not pre x; tel",
+    ),
+    ("a", "var x: bool; let x = pre pre a; ok = x or not x; tel"),
+    ("a", "let ok = pre ok or not pre ok; tel"),
+    ("a", "var x: bool; let ok = pre x or not pre x; x = a; tel"),
+    (
+        "a",
+        "var x, y: bool; let x = not a; y = not x; ok = (y and a) or (x and not a); tel",
+    ),
+    ("a", "let ok = (true -> false) or (false -> true); tel"),
+    ("a", "let ok = not false -> true; tel"),
+    (
+        "a, b, c, d, e, f, g, h, i, j, k",
+        "let ok = true -> true; tel",
+    ),
+    (
+        "a, b, c, d, e, f, g, h, i, j",
+        "let ok = pre a or not pre a; tel",
+    ),
+    (
+        "a",
+        "var p, q, r, s, t, u, v, w, x, y: bool; let p = pre a; q = pre p; r = pre q; s = \
+         pre r; t = pre s; u = pre t; v = pre u; w = pre v; x = pre w; y = pre x; ok = y \
+         or not y; tel",
+    ),
+];
+
+// Nodes whose observer is false at some valuation.
+const UNKNOWN: &[(&str, &str)] = &[
+    ("a", "let ok = true -> pre ok; tel"),
+    ("a", "let ok = true -> false; tel"),
+    ("a", "let ok = false -> true; tel"),
+    ("a", "let ok = pre a; tel"),
+    ("a", "let ok = pre (a or a) or not pre (a or a); tel"),
+    ("a", "let ok = pre not a or pre a; tel"),
+    ("a", "let ok = pre true or not pre true; tel"),
+    ("a", "let ok = pre (true -> a) or not pre (true -> a); tel"),
+    ("a", "let ok = pre pre a or not pre pre a; tel"),
+    ("a", "let ok = (true -> false) and (false -> true); tel"),
+    ("a", "let ok = false and a -> true; tel"),
+    ("a, b", "let ok = a -> b -> a or not a; tel"),
+    (
+        "a",
+        "let ok = pre a and pre pre a and pre pre pre a or not (pre a and pre pre a and \
+         pre pre pre a); tel",
+    ),
+];
+
+// Texts that are outside the form: a name outside `pre` before its equation, a flow that is defined twice or never, an
+// equation for an input or for nothing, a name twice, and thirteen bits.
+const OUTSIDE: &[(&str, &str)] = &[
+    ("a", "var x: bool; let ok = x or not x; x = a; tel"),
+    ("a", "let ok = ok; tel"),
+    ("a", "let ok = true -> ok; tel"),
+    ("a", "var x: bool; let x = a; x = a; ok = x or not x; tel"),
+    ("a", "let ok = true; ok = true; tel"),
+    ("a", "var x: bool; let ok = a or not a; tel"),
+    ("a", "var x: bool; let x = a; tel"),
+    ("a", "let a = true; ok = true; tel"),
+    ("a", "let ok = true; z = a; tel"),
+    ("a", "let ok = pre z or not pre z; tel"),
+    ("a", "var a: bool; let a = true; ok = true; tel"),
+    ("a", "var x, x: bool; let x = a; ok = true; tel"),
+    ("a", "var ok: bool; let ok = true; tel"),
+    ("a", "var x, y: bool; let y = not x; x = not a; ok = x; tel"),
+    (
+        "a, b, c, d, e, f, g, h, i, j, k",
+        "let ok = pre a or not pre a; tel",
+    ),
+    ("a, b, c, d, e, f, g, h, i, j, k, l", "let ok = true; tel"),
+    (
+        "a, b, c, d, e, f, g, h, i, j",
+        "let ok = pre (a or b) or not pre a; tel",
+    ),
+    (
+        "a, b, c, d, e, f, g, h, i, j",
+        "let ok = pre a or not pre b; tel",
+    ),
+    (
+        "a",
+        "var p, q, r, s, t, u, v, w, x, y: bool; let p = pre a; q = pre p; r = pre q; s = \
+         pre r; t = pre s; u = pre t; v = pre u; w = pre v; x = pre w; y = pre x; ok = \
+         pre y or not pre y; tel",
+    ),
+];
+
+// The report on the node `m` of a source with these inputs.
+fn report_on_node(alloc: Global, inputs: &str, rest: &str) -> Result<Report, Fail> {
+    let source = format!(in alloc; "node m({inputs}: bool) returns (ok: bool); {rest}")?;
+    let mut files = MemoryFiles::new(alloc);
+    files.add("f", source.as_bytes())?;
+    let words = words_of(alloc, "reaver prove f m")?;
+    let mut out = SureSink::new(alloc);
+    Ok(run(alloc, &words, &mut files, &mut out).report)
+}
+
+#[test]
+fn answers_on_boolean_nodes(rt: HostRuntime) -> Result<(), Fail> {
+    for (rows, report) in [
+        (SAFE, Report::Safe),
+        (UNKNOWN, Report::Unknown),
+        (OUTSIDE, REFUSED),
+    ] {
+        for (inputs, rest) in rows {
+            let found = report_on_node(rt.alloc(), inputs, rest)?;
+            assert_eq!(rt; found, report, "at ({inputs}) {rest}");
+        }
     }
     Ok(())
 }

@@ -4,4 +4,6 @@ pub mod Building
 pub mod RowsOf
 pub mod Same
 pub mod Node
+pub mod Kept
 pub mod Whole
+pub mod Lanes

@@ -1,37 +1,42 @@
 -- The flat system that has the flows of a Boolean node is that of its program.
 use Rattle.std.proofs.Common.{◌≡◌, ℕ, zero, suc, ◌+◌, ◌<◌, ◌↔◌, true, cond, List, [], ◌∷◌, ◌++◌, length, map, get_or, refl, sym, ◌∙◌, ap, subst, arith, inl, inr, Some, IsSome, append_assoc, length-append}
 use Rattle.std.proofs.Common.{None as Nothing}
-use Rattle.std.proofs.lemmas.List.{length-map, get_or-map, get_or_default, get_or_append_left}
-use Rattle.std.proofs.lemmas.List.Elements.{Contains-append_cases}
+use Rattle.std.proofs.lemmas.List.{length-map, append-nil, get_or-map, get_or_default}
+use Rattle.std.proofs.lemmas.List.Elements.{Contains-append_cases, Contains-append_left}
 use Rattle.std.specs.FinMap as map
 use Rattle.std.specs.List.{Contains}
 use Rattle.std.specs.Prelude.{slice_get}
 use Rattle.std.proofs.lemmas.Option.{get_or_from_slice_get}
 use Rattle.rv_syntax.specs.declared.tree.Node as declared
 use Rattle.rv_syntax.specs.Tree.{EquationTree, NodeTree, ProgramTree, node_tree}
-use Rattle.rv_syntax.specs.Places.{Identifier, Sites, names, flows, index_of, is_among, is_flow, site_of, flow_place}
+use Rattle.rv_syntax.specs.Places.{Identifier, Sites, names, flows, index_of, is_among, is_flow, site_of, flow_place, memory_site}
+use Rattle.rv_syntax.specs.Delays.{Delay, node_delays, delays_in_equations, delays_in_assertions, memory_sites}
+use Rattle.rv_base.specs.declared.value.Value.TheVariants.{Flag}
 use Rattle.rv_meaning.specs.Clocks.{Base, taken, clock, clock_of}
 use Rattle.rv_meaning.specs.Instances.{texts, Body, alone, Instance, place, absolute, node_of, main_instance, is_main}
 use Rattle.rv_meaning.specs.Runs.{Instant, cell, cells, IsFlow}
 use Rattle.rv_meaning.specs.Needs.{Giver, Given, Of, Gives, given, by_equation, IsSequence, AreDefined}
-use Rattle.rv_meaning.specs.Valuations.{Valuation, spelled, is_on_in, symbol, symbolic_right, IsSymbolicInstant}
+use Rattle.rv_meaning.specs.Valuations.{Valuation, spelled, is_on_in, memory, symbol, symbolic_right, IsSymbolicInstant}
+use Rattle.rv_meaning.specs.Meaning.{kept_place}
 use Rattle.rv_meaning.specs.Boolean.{IsBooleanTree, IsBooleanNode, AreOrdered, lefts}
-use Rattle.rv_meaning.proofs.Distinct.{none_in, is_found}
+use Rattle.rv_meaning.proofs.Distinct.{none_in, found, is_found}
 use Rattle.rv_meaning.proofs.BooleanTrees.{on_base}
-use Rattle.rv_meaning.proofs.Plain.{order, IsPlain}
+use Rattle.rv_meaning.proofs.Plain.{IsPlain}
+use Rattle.rv_meaning.proofs.Parts.{of_equation}
 use Rattle.rv_meaning.proofs.Sequence.{is_sequence}
 use Rattle.rv_meaning.proofs.Solutions.{IsSolution}
 use Rattle.rv_meaning.proofs.Symbols.{symbolic, some_decl, kind_is, solution_of_symbols, symbols_of_solution}
-use Rattle.rv_meaning.proofs.BooleanNodes.{node_is, plain, boolean_defined, input_kind}
+use Rattle.rv_meaning.proofs.BooleanNodes.{node_is, plain, plain_node, delay_kind, boolean_defined, input_kind}
 use Rattle.rv_flat.specs.declared.parts.FlatFlow.{FlatFlow}
 use Rattle.rv_flat.specs.declared.flat.Flat.{Flat}
 use Rattle.rv_flat.specs.FlatTree.{Node, Input}
 use Rattle.rv_flat.specs.Numbers.{are_ordered, bodies}
 use Rattle.rv_flat.specs.Instants.{Row, nth, truth, no_body, IsFlatInstant, places, row_of, instant_of, IsFlatOf}
-use Rattle.rv_flat.specs.Reads.{flat_of, FlowView, views, input_flows, equation_flows, node_flows, HasFlows}
+use Rattle.rv_flat.specs.Reads.{number_in, flat_of, FlowView, views, input_flows, equation_flow, equation_flows, order, node_flows, observer_name, main_places, HasFlows}
 use Rattle.rv_flat.proofs.RowsOf.{AreApart, read_back, has_places, kept_row}
 use Rattle.rv_flat.proofs.Same.{numbered, bodies_of, inputs_ordered, left_of, equations_ordered, truth_same}
-use Rattle.rv_flat.proofs.Node.{site_at, all_flows, input_site}
+use Rattle.rv_flat.proofs.Node.{input_site, output_site, observer_known}
+use Rattle.rv_flat.proofs.Kept.{number_there, site_kept}
 
 -- places and bodies of flows are those of their views
 abbrev pub places_of : List FlowView → List Sites
@@ -56,14 +61,14 @@ input_places n j (x ∷ xs) at =
     let here : j ≡ site_of n x = omega (arith, at 0 (omega arith)) in
     (λ i. (here i ∷ []) ∷ input_places n (j + 1) xs (λ k lt. let next = at (suc k) (omega arith) in omega (arith, next)) i)
 
-equation_places : (n : NodeTree) (known : List Identifier) (qs : List EquationTree) → places_of (equation_flows n known qs) ≡ map (flow_place [] n) (lefts qs)
-equation_places n known [] = refl
-equation_places n known (q ∷ qs) =
-    places-append (map (λ x. record { place = flow_place [] n x; body = flat_of known q.right }) (texts q.lefts)) (equation_flows n (known ++ texts q.lefts) qs)
-    ∙ (λ i. lefts_places (texts q.lefts) i ++ equation_places n (known ++ texts q.lefts) qs i)
+equation_places : (n : NodeTree) (all : List Identifier) (kept : List ℕ) (qs : List EquationTree) → places_of (equation_flows n all kept qs) ≡ map (flow_place [] n) (lefts qs)
+equation_places n all kept [] = refl
+equation_places n all kept (q ∷ qs) =
+    places-append (equation_flow n all kept q) (equation_flows n all kept qs)
+    ∙ (λ i. lefts_places (texts q.lefts) i ++ equation_places n all kept qs i)
     ∙ sym (map-append (texts q.lefts) (lefts qs))
   where
-    lefts_places : (xs : List Identifier) → places_of (map (λ x. record { place = flow_place [] n x; body = flat_of known q.right }) xs) ≡ map (flow_place [] n) xs
+    lefts_places : (xs : List Identifier) → places_of (map (λ x. record { place = flow_place [] n x; body = flat_of n all kept q.right }) xs) ≡ map (flow_place [] n) xs
     lefts_places [] = refl
     lefts_places (x ∷ xs) = ap (λ ps. flow_place [] n x ∷ ps) (lefts_places xs)
 
@@ -72,53 +77,51 @@ equation_places n known (q ∷ qs) =
     map-append (x ∷ xs) ys = ap (λ ps. flow_place [] n x ∷ ps) (map-append xs ys)
 
 -- how a flow of an equation stands: what is known before it is a front of the names in order
-pub record StandsIn (n : NodeTree) (all : List Identifier) (qs : List EquationTree) (w : FlowView) : Type 0 where
+pub record StandsIn (n : NodeTree) (inside all : List Identifier) (kept : List ℕ) (qs : List EquationTree) (w : FlowView) : Type 0 where
   pub equation : EquationTree
   pub left : Identifier
   pub known : List Identifier
-  pub after : List Identifier
   pub there : Contains qs equation
   pub one : texts equation.lefts ≡ left ∷ []
-  pub names_known : IsBooleanTree known equation.right
-  pub front : all ≡ known ++ after
+  pub names_known : IsBooleanTree inside known equation.right
+  pub among : (x : Identifier) → is_among known x ≡ true → is_among all x ≡ true
   pub place_is : w.place ≡ flow_place [] n left
-  pub body_is : w.body ≡ flat_of known equation.right
+  pub body_is : w.body ≡ flat_of n all kept equation.right
 
-stands_in : (n : NodeTree) (all known : List Identifier) (qs : List EquationTree) → AreOrdered known qs → all ≡ known ++ lefts qs → (w : FlowView) → Contains (equation_flows n known qs) w → StandsIn n all qs w
-stands_in n all known [] o e w c = absurd (none_in w c)
-stands_in n all known (q ∷ qs) o e w c =
+stands_in : (n : NodeTree) (inside all known : List Identifier) (kept : List ℕ) (qs : List EquationTree) → AreOrdered inside known qs → all ≡ known ++ lefts qs → (w : FlowView)
+    → Contains (equation_flows n all kept qs) w → StandsIn n inside all kept qs w
+stands_in n inside all known kept [] o e w c = absurd (none_in w c)
+stands_in n inside all known kept (q ∷ qs) o e w c =
     let x = left_of q o.0 in
-    let view : FlowView = record { place = flow_place [] n x.0; body = flat_of known q.right } in
-    let split : equation_flows n known (q ∷ qs) ≡ view ∷ equation_flows n (known ++ texts q.lefts) qs =
-    ap (λ l. map (λ x. record { place = flow_place [] n x; body = flat_of known q.right }) l ++ equation_flows n (known ++ texts q.lefts) qs) x.1 in
+    let view : FlowView = record { place = flow_place [] n x.0; body = flat_of n all kept q.right } in
+    let split : equation_flows n all kept (q ∷ qs) ≡ view ∷ equation_flows n all kept qs =
+    ap (λ l. map (λ x. record { place = flow_place [] n x; body = flat_of n all kept q.right }) l ++ equation_flows n all kept qs) x.1 in
     let here = subst (λ l. Contains l w) split c in
-    cases (λ v. stands_in n all (known ++ texts q.lefts) qs o.2 (e ∙ sym (append_assoc known (texts q.lefts) (lefts qs))) w v) x.0 x.1 here.0 (omega (arith, here.1)) here.2
+    cases (λ v. stands_in n inside all (known ++ texts q.lefts) kept qs o.2 (e ∙ sym (append_assoc known (texts q.lefts) (lefts qs))) w v) x.0 x.1 here.0 (omega (arith, here.1)) here.2
   where
-    later : StandsIn n all qs w → StandsIn n all (q ∷ qs) w
+    later : StandsIn n inside all kept qs w → StandsIn n inside all kept (q ∷ qs) w
     later s = record {
       equation = s.equation;
       left = s.left;
       known = s.known;
-      after = s.after;
       there = (suc s.there.0, omega (arith, s.there.1), s.there.2);
       one = s.one;
       names_known = s.names_known;
-      front = s.front;
+      among = s.among;
       place_is = s.place_is;
       body_is = s.body_is;
     }
 
-    cases : (Contains (equation_flows n (known ++ texts q.lefts) qs) w → StandsIn n all qs w) → (x : Identifier) (one : texts q.lefts ≡ x ∷ []) (k : ℕ) → k < suc (length (equation_flows n (known ++ texts q.lefts) qs))
-        → get_or (record { place = flow_place [] n x; body = flat_of known q.right } ∷ equation_flows n (known ++ texts q.lefts) qs) k w ≡ w → StandsIn n all (q ∷ qs) w
+    cases : (Contains (equation_flows n all kept qs) w → StandsIn n inside all kept qs w) → (x : Identifier) (one : texts q.lefts ≡ x ∷ []) (k : ℕ) → k < suc (length (equation_flows n all kept qs))
+        → get_or (record { place = flow_place [] n x; body = flat_of n all kept q.right } ∷ equation_flows n all kept qs) k w ≡ w → StandsIn n inside all kept (q ∷ qs) w
     cases again x one zero lt is = record {
       equation = q;
       left = x;
       known = known;
-      after = lefts (q ∷ qs);
       there = (0, omega arith, refl);
       one = one;
       names_known = o.1;
-      front = e;
+      among = λ y v. is_found all y (subst (λ l. Contains l y) (sym e) (Contains-append_left known (lefts (q ∷ qs)) y (found known y v)));
       place_is = ap (λ (w : FlowView). w.place) (sym is);
       body_is = ap (λ (w : FlowView). w.body) (sym is);
     }
@@ -158,8 +161,8 @@ module _ (program : ProgramTree) (main : Identifier) (b : IsBooleanNode program 
   places_flows : (fs : List FlatFlow) → views fs ≡ node_flows n → places fs ≡ seq
   places_flows fs is =
       places_are fs ∙ ap places_of is
-      ∙ places-append (input_flows 0 (names n.inputs)) (equation_flows n (names n.inputs) n.equations)
-      ∙ (λ i. input_places n 0 (names n.inputs) sites i ++ equation_places n (names n.inputs) n.equations i)
+      ∙ places-append (input_flows 0 (names n.inputs)) (equation_flows n (order n) (memory_sites n) n.equations)
+      ∙ (λ i. input_places n 0 (names n.inputs) sites i ++ equation_places n (order n) (memory_sites n) n.equations i)
       ∙ sym (map-append (names n.inputs) (lefts n.equations))
     where
       sites : (k : ℕ) → k < length (names n.inputs) → site_of n (get_or (names n.inputs) k []) ≡ 0 + k
@@ -179,35 +182,33 @@ module _ (program : ProgramTree) (main : Identifier) (b : IsBooleanNode program 
   defined = boolean_defined program main (n, b)
 
   module _ (v : Valuation) (instant : Instant) (row : Row) (fs : List FlatFlow) (views_are : views fs ≡ node_flows n) (same : row ≡ row_of seq instant) where
-    -- the row has what the instant has at the flows of known names
-    known_agree : (known after : List Identifier) → order n ≡ known ++ after → (x : Identifier) → is_among known x ≡ true → nth row (index_of known x) ≡ cell instant (place top x)
-    known_agree known after front x e =
-        let w = numbered known x e in
-        let k = index_of known x in
-        let lt : k < length (order n) = omega (arith, ap length front, length-append known after, w.0) in
+    -- the row has what the instant has at the flows
+    agree : (x : Identifier) → is_among (order n) x ≡ true → nth row (index_of (order n) x) ≡ cell instant (place top x)
+    agree x e =
+        let w = numbered (order n) x e in
+        let k = index_of (order n) x in
         let long = length-map (order n) (flow_place [] n) in
         ap (λ r. nth r k) same
-        ∙ get_or-map (cell instant) seq k [] Nothing (omega (arith, long))
-        ∙ ap (cell instant) (get_or-map (flow_place [] n) (order n) k [] [] lt)
-        ∙ ap (λ y. cell instant (flow_place [] n y)) (ap (λ l. get_or l k []) front ∙ get_or_append_left known after [] k w.0 ∙ w.1)
+        ∙ get_or-map (cell instant) seq k [] Nothing (omega (arith, long, w.0))
+        ∙ ap (cell instant) (get_or-map (flow_place [] n) (order n) k [] [] w.0)
+        ∙ ap (λ y. cell instant (flow_place [] n y)) w.1
 
-    known_flows : (known after : List Identifier) → order n ≡ known ++ after → (x : Identifier) → is_among known x ≡ true → is_flow n x ≡ true
-    known_flows known after front x e =
-        let w = numbered known x e in
-        let lt : index_of known x < length (order n) = omega (arith, ap length front, length-append known after, w.0) in
-        let there : Contains (order n) x = (index_of known x, lt, get_or_default' (order n) (index_of known x) x lt ∙ ap (λ l. get_or l (index_of known x) []) front ∙ get_or_append_left known after [] (index_of known x) w.0 ∙ w.1) in
-        is_found (flows n) x (is_plain.only x there)
-      where
-        get_or_default' : (xs : List Identifier) (k : ℕ) (x : Identifier) → k < length xs → get_or xs k x ≡ get_or xs k []
-        get_or_default' [] k x lt = absurd (omega arith)
-        get_or_default' (y ∷ ys) zero x lt = refl
-        get_or_default' (y ∷ ys) (suc k) x lt = get_or_default' ys k x (omega arith)
+    are_flows : (x : Identifier) → is_among (order n) x ≡ true → is_flow n x ≡ true
+    are_flows x e = is_found (flows n) x (is_plain.only x (found (order n) x e))
+
+    -- and so it is with the memories
+    read : (d : Delay) → Contains (node_delays n) d → Flag (v.kept (get_or (main_places (memory_sites n)) (number_in (memory_sites n) (memory_site n d.site d.operand)) []) 0) ≡ memory program v instant top d.site d.operand
+    read d w =
+        let s = memory_site n d.site d.operand in
+        let at = number_there (memory_sites n) s (site_kept n d w) in
+        ap (λ p. Flag (v.kept p 0)) (get_or-map (λ s. s ∷ []) (memory_sites n) (number_in (memory_sites n) s) 0 [] at.0 ∙ ap (λ s. s ∷ []) at.1)
+        ∙ ap (λ k. spelled k (v.kept (kept_place top d.site d.operand))) (sym (delay_kind program main n b d w))
 
     -- what gives a flow, and that it gives what the flat flow has
     pub record IsGiven (w : FlowView) : Type 0 where
       pub giver : Giver
       pub gives : Gives program main w.place giver
-      pub made : symbolic program main v giver (instant ∷ []) 0 ≡ Some (truth v row w.body)
+      pub made : symbolic program main v giver (instant ∷ []) 0 ≡ Some (truth v (main_places (memory_sites n)) row w.body)
 
     input_given : (k : ℕ) → k < length n.inputs → IsGiven (input_view k)
     input_given k lt =
@@ -218,27 +219,29 @@ module _ (program : ProgramTree) (main : Identifier) (b : IsBooleanNode program 
           made = ap (λ t. Some (spelled t (v.input k))) (kind_is n.inputs k d.0 d.1 ∙ input_kind program main (n, b) k d.0 d.1);
         }
 
-    equation_given : (w : FlowView) → StandsIn n (order n) n.equations w → IsGiven w
+    equation_given : (w : FlowView) → StandsIn n (flows n) (order n) (memory_sites n) n.equations w → IsGiven w
     equation_given w s =
         let e = s.equation.right in
         let x = s.left in
         let base : clock_of n x ≡ Base = is_plain.based x in
-        let on : absolute top (taken Base (clock n e)) ≡ Nothing = ap (absolute top) (on_base n is_plain.based s.known e s.names_known) in
-        let value : truth v row (flat_of s.known e) ≡ symbol program v instant top e = truth_same program v top instant row s.known (known_flows s.known s.after s.front) (known_agree s.known s.after s.front) e s.names_known in
+        let on : absolute top (taken Base (clock n e)) ≡ Nothing = ap (absolute top) (on_base n is_plain.based (flows n) s.known e s.names_known) in
+        let value : truth v (main_places (memory_sites n)) row (flat_of n (order n) (memory_sites n) e) ≡ symbol program v instant top e =
+        truth_same program v top refl is_plain.based instant row (order n) (memory_sites n) (main_places (memory_sites n)) (flows n) s.known (λ y v. are_flows y (s.among y v)) (λ y v. agree y (s.among y v)) e s.names_known
+        (λ d c. read d (of_equation top.node s.equation d s.there c)) in
         record {
           giver = Of top (clock_of n x) (Body e);
           gives = by_equation top x (Body e) is_main (alone s.equation s.there s.one) (sym s.place_is);
           made = ap (λ k. symbolic_right program v instant top k (Body e)) base
               ∙ ap (λ o. cond (is_on_in instant o) (Some (symbol program v instant top e)) Nothing) on
-              ∙ ap Some (sym value ∙ ap (truth v row) (sym s.body_is));
+              ∙ ap Some (sym value ∙ ap (truth v (main_places (memory_sites n)) row) (sym s.body_is));
         }
 
     each_given : (w : FlowView) → Contains (views fs) w → IsGiven w
-    each_given w c = elim (Contains-append_cases (input_flows 0 (names n.inputs)) (equation_flows n (names n.inputs) n.equations) w (subst (λ ws. Contains ws w) views_are c)) [
+    each_given w c = elim (Contains-append_cases (input_flows 0 (names n.inputs)) (equation_flows n (order n) (memory_sites n) n.equations) w (subst (λ ws. Contains ws w) views_are c)) [
       | inl here ↦ let s = stands_input 0 (names n.inputs) w here in
           let e : 0 + s.0 ≡ s.0 = omega arith in
           subst IsGiven (ap input_view (sym e) ∙ sym s.2) (input_given s.0 (omega (arith, s.1, length-map n.inputs (λ d. d.name.text))))
-      | inr there ↦ equation_given w (stands_in n (order n) (names n.inputs) n.equations is_plain.ordered refl w there)
+      | inr there ↦ equation_given w (stands_in n (flows n) (order n) (names n.inputs) (memory_sites n) n.equations is_plain.ordered refl w there)
     ]
 
   -- the k-th flow, by its place and its body
@@ -277,7 +280,8 @@ module _ (program : ProgramTree) (main : Identifier) (b : IsBooleanNode program 
               get_or-map (cell instant) seq k [] Nothing (omega (arith, long))
               ∙ ap (cell instant) (place_at f.flows is.flows k lt)
               ∙ solution.has 0 w.place g.giver (omega arith) g.gives
-              ∙ g.made ∙ ap (λ e. Some (truth v row e)) (sym (body_at f.flows k lt));
+              ∙ g.made ∙ ap (λ e. Some (truth v (main_places (memory_sites n)) row e)) (sym (body_at f.flows k lt))
+              ∙ ap (λ ps. Some (truth v ps row (get_or (bodies f.flows) k no_body))) (sym is.memories);
         }
 
     module _ (row : Row) (r : IsFlatInstant f v row) where
@@ -301,7 +305,8 @@ module _ (program : ProgramTree) (main : Identifier) (b : IsBooleanNode program 
           let place_is = place_at f.flows is.flows k lt in
           let one : m.giver ≡ g = defined.one w.place m.giver g m.gives (subst (λ p. Gives program main p g) place_is gives) in
           read_back seq row apart rows_long k (omega (arith, long))
-          ∙ r.holds k lt ∙ ap (λ e. Some (truth v row e)) (body_at f.flows k lt)
+          ∙ r.holds k lt ∙ ap (λ ps. Some (truth v ps row (get_or (bodies f.flows) k no_body))) is.memories
+          ∙ ap (λ e. Some (truth v (main_places (memory_sites n)) row e)) (body_at f.flows k lt)
           ∙ sym m.made ∙ ap (λ g. symbolic program main v g (back ∷ []) 0) one
 
       at_zero : (p : Sites) (g : Giver) → Gives program main p g → cell back p ≡ symbolic program main v g (back ∷ []) 0
@@ -338,56 +343,62 @@ module _ (program : ProgramTree) (main : Identifier) (b : IsBooleanNode program 
       record {
         name = is.name ∙ b.name;
         inputs = is.inputs;
+        memories = is.memories;
         observer = ap (λ l. get_or l f.observer []) ps ∙ ap (λ k. get_or seq k []) is.observer ∙ observer_is;
         instants = λ v instant s. subst (λ l. IsFlatInstant f v (row_of l instant)) (sym ps) (from_symbols f is v instant s);
         rows = λ v row r. subst (λ l. IsSymbolicInstant program main v (instant_of l row)) (sym ps) (to_symbols f is v row r);
         kept = λ row long. subst (λ l. row_of l (instant_of l row) ≡ row) (sym ps) (kept_row seq row apart (long ∙ sym (seq_long f.flows is.flows)));
       }
     where
-      -- the output comes after the inputs
-      observer_is : get_or seq (length n.inputs) [] ≡ length n.inputs ∷ []
+      -- the observer is the output
+      observer_is : get_or seq (index_of (order n) (observer_name n)) [] ≡ length n.inputs ∷ []
       observer_is =
-          let m = length n.inputs in
-          let one : length (lefts n.equations) ≡ 1 = ap length b.defined ∙ length-map n.outputs (λ d. d.name.text) ∙ b.one_output in
-          let long = length-map n.inputs (λ d. d.name.text) in
-          let within : m < length (order n) = omega (arith, length-append (names n.inputs) (lefts n.equations), one, long) in
-          let whole : m < length (flows n) = omega (arith, within, ap length (all_flows program main n b)) in
-          get_or-map (flow_place [] n) (order n) m [] [] within
-          ∙ ap (λ k. k ∷ []) (site_at (flows n) (get_or (order n) m []) m b.distinct whole (ap (λ l. get_or l m []) (all_flows program main n b)))
+          let x = observer_name n in
+          let w = numbered (order n) x (observer_known program main n b) in
+          get_or-map (flow_place [] n) (order n) (index_of (order n) x) [] [] w.0
+          ∙ ap (flow_place [] n) w.1
+          ∙ ap (λ k. k ∷ []) (output_site program main n b)
 
 -- such flows name earlier flows alone
-pub flows_ordered : (program : ProgramTree) (main : Identifier) (n : NodeTree) → IsBooleanNode program main n → (fs : List FlatFlow) → views fs ≡ node_flows n → are_ordered 0 (length n.inputs) (bodies fs) ≡ true
+pub flows_ordered : (program : ProgramTree) (main : Identifier) (n : NodeTree) → IsBooleanNode program main n → (fs : List FlatFlow) → views fs ≡ node_flows n
+    → are_ordered (length (memory_sites n)) (length n.inputs) 0 (bodies fs) ≡ true
 flows_ordered program main n b fs is =
-    let long : 0 + length (names n.inputs) ≡ length n.inputs = omega (arith, length-map n.inputs (λ d. d.name.text)) in
-    let none : length (names n.inputs) ≡ 0 + length (names n.inputs) = omega arith in
-    ap (are_ordered 0 (length n.inputs)) (bodies_are fs ∙ ap bodies_of is)
-    ∙ inputs_ordered (length n.inputs) 0 (names n.inputs) (equation_flows n (names n.inputs) n.equations) (omega (arith, long))
-    (ap (λ k. are_ordered k (length n.inputs) (bodies_of (equation_flows n (names n.inputs) n.equations))) (sym none)
-    ∙ equations_ordered (length n.inputs) n (names n.inputs) n.equations b.ordered)
+    let memories = length (memory_sites n) in
+    let ins : List Identifier = names n.inputs in
+    let long : 0 + length ins ≡ length n.inputs = omega (arith, length-map n.inputs (λ d. d.name.text)) in
+    let none : length ins ≡ 0 + length ins = omega arith in
+    let plain : IsPlain n = plain_node program main n b in
+    ap (are_ordered memories (length n.inputs) 0) (bodies_are fs ∙ ap bodies_of is)
+    ∙ inputs_ordered memories (length n.inputs) 0 ins (equation_flows n (order n) (memory_sites n) n.equations) (omega (arith, long))
+    (ap (λ k. are_ordered memories (length n.inputs) k (bodies_of (equation_flows n (order n) (memory_sites n) n.equations))) (sym none)
+    ∙ equations_ordered n (order n) (memory_sites n) memories (length n.inputs) (flows n) ins n.equations plain.ordered [] (ap (λ l. ins ++ l) (sym (append-nil (lefts n.equations))))
+    (λ d w. (number_there (memory_sites n) (memory_site n d.site d.operand) (site_kept n d (Contains-append_left (delays_in_equations n.equations) (delays_in_assertions n.assertions) d w))).0))
 
 length-inputs : (j : ℕ) (xs : List Identifier) → length (input_flows j xs) ≡ length xs
 length-inputs j [] = refl
 length-inputs j (x ∷ xs) = ap suc (length-inputs (j + 1) xs)
 
--- and the output stands among them
-pub output_there : (program : ProgramTree) (main : Identifier) (n : NodeTree) → IsBooleanNode program main n → (fs : List FlatFlow) → views fs ≡ node_flows n → length n.inputs < length fs
-output_there program main n b fs is =
+-- as many as stand in the order of evaluation
+length-flows : (n : NodeTree) (all : List Identifier) (kept : List ℕ) (qs : List EquationTree) → length (equation_flows n all kept qs) ≡ length (lefts qs)
+length-flows n all kept [] = refl
+length-flows n all kept (q ∷ qs) =
+    let first = length-map (texts q.lefts) (λ x. let v : FlowView = record { place = flow_place [] n x; body = flat_of n all kept q.right } in v) in
+    omega (arith, first, length-flows n all kept qs, length-append (equation_flow n all kept q) (equation_flows n all kept qs), length-append (texts q.lefts) (lefts qs))
+
+-- and the observer stands among them
+pub observer_there : (program : ProgramTree) (main : Identifier) (n : NodeTree) → IsBooleanNode program main n → (fs : List FlatFlow) → views fs ≡ node_flows n → index_of (order n) (observer_name n) < length fs
+observer_there program main n b fs is =
+    let w = numbered (order n) (observer_name n) (observer_known program main n b) in
     let long = sym (length-views fs) ∙ ap length is in
     omega (
       arith,
       long,
-      length-append (input_flows 0 (names n.inputs)) (equation_flows n (names n.inputs) n.equations),
+      w.0,
+      length-append (input_flows 0 (names n.inputs)) (equation_flows n (order n) (memory_sites n) n.equations),
       length-inputs 0 (names n.inputs),
-      length-map n.inputs (λ d. d.name.text),
-      more (names n.inputs) n.equations b.ordered (omega (arith, b.one_equation)),
+      length-flows n (order n) (memory_sites n) n.equations,
+      length-append (names n.inputs) (lefts n.equations),
     )
-  where
-    more : (known : List Identifier) (qs : List EquationTree) → AreOrdered known qs → 0 < length qs → 0 < length (equation_flows n known qs)
-    more known [] o lt = absurd (omega arith)
-    more known (q ∷ qs) o lt =
-        let x = left_of q o.0 in
-        let first = ap (λ l. length (map (λ x. record { place = flow_place [] n x; body = flat_of known q.right }) l ++ equation_flows n (known ++ texts q.lefts) qs)) x.1 in
-        omega (arith, first)
 
 -- the first node is the one node
 pub first_node : (ns : List declared.Node) (node : declared.Node) (n : NodeTree) → map node_tree ns ≡ n ∷ [] → slice_get ns 0 ≡ Some node → node_tree node ≡ n

@@ -15,16 +15,22 @@ mutual
   pub data TreeForm : Type 0 where
     Constant : Value → TreeForm
     Flow : ℕ → TreeForm
+    Memory : ℕ → TreeForm
+    Ticked : ℕ → TreeForm
     Input : ℕ → TreeForm
     Not : FlatTree → TreeForm
     Binary : Op → FlatTree → FlatTree → TreeForm
+    If : FlatTree → FlatTree → FlatTree → TreeForm
 
 abbrev pub form_of : FlatForm-F TreeForm FlatTree → TreeForm
 form_of (step.Constant v) = Constant v
 form_of (step.Flow k) = Flow k
+form_of (step.Memory m) = Memory m
+form_of (step.Ticked k) = Ticked k
 form_of (step.Input j) = Input j
 form_of (step.Not e) = Not e
 form_of (step.Binary o a b) = Binary o a b
+form_of (step.If c a b) = If c a b
 
 -- the tree that a flat expression is
 abbrev pub flat_tree : FlatExpr → FlatTree

@@ -1,4 +1,4 @@
-//! A program as one flat system of Boolean equations, and the truth of its observer at a valuation.
+//! A program as one flat system of Boolean equations, and the truth of its observer at valuations.
 #![tactic(auto)]
 
 mod build;
@@ -7,6 +7,6 @@ mod flat;
 mod parts;
 
 pub use build::flatten;
-pub use evaluate::observer_at;
+pub use evaluate::observers_at;
 pub use flat::Flat;
-pub use parts::{Bit, FlatExpr, FlatFlow, FlatForm, FlatInput};
+pub use parts::{Bit, FlatExpr, FlatFlow, FlatForm, FlatInput, FlatMemory};

@@ -1,21 +1,22 @@
 -- A Boolean program is a plain node: so it is acceptable, and has a sequence.
-use Rattle.std.proofs.Common.{◌≡◌, ℕ, true, cond, List, ◌++◌, sym, ◌∙◌, ap, subst, arith, Some}
-use Rattle.std.proofs.Common.{None as Nothing}
-use Rattle.std.proofs.lemmas.List.{append-nil, append_assoc}
+use Rattle.std.proofs.Common.{◌≡◌, ℕ, true, cond, List, ◌++◌, sym, ◌∙◌, ap, subst, Some}
+use Rattle.std.proofs.lemmas.List.Elements.{All-append}
 use Rattle.std.proofs.lemmas.Option.{slice_get_within, get_or_from_slice_get}
 use Rattle.std.specs.List.{All, Contains, slice_get}
 use Rattle.rv_syntax.specs.declared.tree.Decl.{Decl}
 use Rattle.rv_syntax.specs.declared.tree.TypeName.TheVariants as type_name
-use Rattle.rv_syntax.specs.Tree.{NodeTree, ProgramTree}
-use Rattle.rv_syntax.specs.Places.{Identifier, Sites, is_same, names}
+use Rattle.rv_syntax.specs.Tree.{Tree, NodeTree, ProgramTree}
+use Rattle.rv_syntax.specs.Places.{Identifier, Sites, is_same, flows}
+use Rattle.rv_syntax.specs.Delays.{Delay, node_delays}
+use Rattle.rv_meaning.specs.Kinds.{kind}
 use Rattle.rv_meaning.specs.Instances.{no_node, node_of, node_among}
 use Rattle.rv_meaning.specs.Accepted.{IsAcceptable}
 use Rattle.rv_meaning.specs.Needs.{IsSequence, AreDefined}
-use Rattle.rv_meaning.specs.Boolean.{AreDistinct, lefts, IsBooleanFlow, IsBooleanNode, IsBooleanProgram}
-use Rattle.rv_meaning.proofs.Names.{text_itself}
-use Rattle.rv_meaning.proofs.Distinct.{distinct_right}
+use Rattle.rv_meaning.specs.Boolean.{IsBooleanTree, IsBooleanNode, IsBooleanProgram}
+use Rattle.rv_meaning.proofs.NameLemmas.{text_itself}
+use Rattle.rv_meaning.proofs.BooleanTrees.{kind_of_tree}
 use Rattle.rv_meaning.proofs.Defined.{are_defined}
-use Rattle.rv_meaning.proofs.Plain.{IsPlain, plain_of, acceptable}
+use Rattle.rv_meaning.proofs.Plain.{IsPlain, plain_of, delay_stands, acceptable}
 use Rattle.rv_meaning.proofs.Sequence.{sequence, is_sequence}
 
 -- the main node is the one node
@@ -24,23 +25,41 @@ node_is program main n b =
     let same : is_same n.name.text main ≡ true = ap (λ z. is_same z main) b.name ∙ text_itself main in
     ap (λ ns. node_among ns main) b.nodes ∙ ap (λ c. cond c n no_node) same
 
--- its flows are distinct, and its equation gives its output
+-- its flows are distinct, and its equations give its outputs and locals
 pub plain_node : (program : ProgramTree) (main : Identifier) (n : NodeTree) → IsBooleanNode program main n → IsPlain n
-plain_node program main n b =
-    let outs : List Identifier = names n.outputs ++ names n.locals in
-    let given : lefts n.equations ≡ outs = b.defined ∙ sym (append-nil (names n.outputs)) ∙ ap (λ l. names n.outputs ++ names l) (sym b.locals) in
-    let parted : AreDistinct (names n.inputs ++ outs) = subst AreDistinct (append_assoc (names n.inputs) (names n.outputs) (names n.locals)) b.distinct in
-    plain_of n b.distinct
-    (subst AreDistinct (sym given) (distinct_right (names n.inputs) outs parted))
-    (λ x. (subst (λ l. Contains l x) given, subst (λ l. Contains l x) (sym given)))
-    (subst (All (λ d. d.clock ≡ Nothing)) (sym b.locals) (λ k d lt. absurd (omega arith)))
-    b.ordered
-    b.assertions
+plain_node program main n b = plain_of n b.distinct b.once b.defined (λ k d lt. (b.locals k d lt).1) b.ordered b.assertions
+
+-- all its flows are Boolean
+flow_kinds : (program : ProgramTree) (main : Identifier) (n : NodeTree) → IsBooleanNode program main n → All (λ d. d.kind ≡ type_name.Bool) (n.inputs ++ n.outputs ++ n.locals)
+flow_kinds program main n b =
+    let P : Decl → Type 0 = λ d. d.kind ≡ type_name.Bool in
+    All-append P (n.inputs ++ n.outputs) n.locals
+    (All-append P n.inputs n.outputs (λ k d lt. (b.inputs k d lt).0) (λ k d lt. (b.outputs k d lt).0))
+    (λ k d lt. (b.locals k d lt).0)
+
+-- so each expression of the form is Boolean
+pub boolean_kind : (program : ProgramTree) (main : Identifier) (n : NodeTree) → IsBooleanNode program main n
+    → (inside known : List Identifier) (e : Tree) → IsBooleanTree inside known e → kind program n e ≡ type_name.Bool
+boolean_kind program main n b inside known e h = kind_of_tree program n (flow_kinds program main n b) inside known e h
+
+-- the operand of each `pre` is of the form, over all flows
+pub delay_boolean : (program : ProgramTree) (main : Identifier) (n : NodeTree) → IsBooleanNode program main n
+    → (d : Delay) → Contains (node_delays n) d → IsBooleanTree (flows n) (flows n) d.operand
+delay_boolean program main n b d w = delay_stands n (plain_node program main n b) d w
+
+-- and Boolean
+pub delay_kind : (program : ProgramTree) (main : Identifier) (n : NodeTree) → IsBooleanNode program main n
+    → (d : Delay) → Contains (node_delays n) d → kind program n d.operand ≡ type_name.Bool
+delay_kind program main n b d w = boolean_kind program main n b (flows n) (flows n) d.operand (delay_boolean program main n b d w)
 
 module _ (program : ProgramTree) (main : Identifier) (boolean : IsBooleanProgram program main) where
-  -- the main node of a Boolean program is plain
+  -- the main node of a Boolean program is of the form
+  pub boolean_main : IsBooleanNode program main (node_of program main)
+  boolean_main = subst (IsBooleanNode program main) (sym (node_is program main boolean.0 boolean.1)) boolean.1
+
+  -- so it is plain
   pub plain : IsPlain (node_of program main)
-  plain = subst IsPlain (sym (node_is program main boolean.0 boolean.1)) (plain_node program main boolean.0 boolean.1)
+  plain = plain_node program main (node_of program main) boolean_main
 
   -- so the program is acceptable
   pub boolean_acceptable : IsAcceptable program main
@@ -62,6 +81,5 @@ module _ (program : ProgramTree) (main : Identifier) (boolean : IsBooleanProgram
   -- each input is Boolean
   pub input_kind : (j : ℕ) (d : Decl) → slice_get (node_of program main).inputs j ≡ Some d → d.kind ≡ type_name.Bool
   input_kind j d e =
-      let is : All IsBooleanFlow (node_of program main).inputs = subst (λ (n : NodeTree). All IsBooleanFlow n.inputs) (sym (node_is program main boolean.0 boolean.1)) boolean.1.inputs in
       let lt = slice_get_within (node_of program main).inputs j d e in
-      subst (λ (d : Decl). d.kind ≡ type_name.Bool) (get_or_from_slice_get (node_of program main).inputs j d d e) (is j d lt).0
+      subst (λ (d : Decl). d.kind ≡ type_name.Bool) (get_or_from_slice_get (node_of program main).inputs j d d e) (boolean_main.inputs j d lt).0

@@ -12,7 +12,7 @@ use Rattle.rv_meaning.specs.Meaning.{Cells, is_there, right_value}
 use Rattle.rv_meaning.specs.Runs.{IsFlow}
 use Rattle.rv_meaning.specs.Needs.{Giver, Given, Of, Gives, given, by_equation, by_call, expected, AreDefined}
 use Rattle.rv_meaning.specs.Accepted.{IsAcceptable}
-use Rattle.rv_meaning.proofs.Names.{snoc, index_at, arg_same, masked}
+use Rattle.rv_meaning.proofs.NameLemmas.{snoc, index_at, arg_same, masked}
 
 module _ (program : ProgramTree) (main : Identifier) (wf : IsAcceptable program main) where
   -- the site of a name is its number

@@ -5,7 +5,7 @@ use Rattle.std.proofs.lemmas.Bool.{cases_order, cases_lt}
 use Rattle.std.specs.List.{Contains}
 use Rattle.rv_syntax.specs.Places.{Identifier, is_same, is_among}
 use Rattle.rv_meaning.specs.Boolean.{AreDistinct}
-use Rattle.rv_meaning.proofs.Names.{same_text, text_itself}
+use Rattle.rv_meaning.proofs.NameLemmas.{same_text, text_itself}
 
 -- nothing is in the empty list
 pub none_in : {X : Type 0} (x : X) → Contains [] x → ⊥

@@ -11,7 +11,7 @@ use Rattle.rv_syntax.specs.Tree.{Tree, Node, Form, True, False, Number, Named, N
 use Rattle.rv_syntax.specs.Places.{Identifier, Sites}
 use Rattle.rv_meaning.specs.Clocks.{Clock, Base, clock_of}
 use Rattle.rv_meaning.specs.Instances.{Right, IsRight, alone, in_order, Instance, absolute, clock_in, clock_of_arguments, output_place, node_of, IsInstance}
-use Rattle.rv_meaning.specs.Memories.{Delay, delays, form_delays, delays_of_all, node_delays}
+use Rattle.rv_syntax.specs.Delays.{Delay, delays, form_delays, delays_of_all, node_delays}
 use Rattle.rv_meaning.specs.Meaning.{is_true, number, held, operate, was_there, content, form_content, trues, value, right_value}
 use Rattle.rv_meaning.specs.Runs.{History, cells, IsRun, AssertionsHold}
 use Rattle.rv_meaning.specs.Valuations.{Valuation, memory, symbol, form_symbol, true_symbols, symbolic_value, symbolic_right, IsSymbolicInstant, AllowsAt}

@@ -3,7 +3,7 @@ pub mod Solutions
 pub mod Agree
 pub mod Rows
 pub mod Extend
-pub mod Names
+pub mod NameLemmas
 pub mod Defined
 pub mod Sources
 pub mod LocalSymbols
@@ -16,8 +16,15 @@ pub mod Sequence
 pub mod BooleanNodes
 pub mod Parts
 pub mod Following
+pub mod NextStates
+pub mod Flags
+pub mod Kept
 pub mod Agreement
 pub mod Instants
+pub mod BooleanRuns
 pub mod Verdicts
+pub mod Initial
 pub mod SampleNodes
 pub mod Examples
+pub mod HashedNames
+pub mod SiteLemmas

@@ -4,7 +4,7 @@ use Rattle.std.proofs.lemmas.List.Elements.{Contains-append_left, Contains-appen
 use Rattle.std.specs.List.{Contains}
 use Rattle.rv_syntax.specs.Tree.{Tree, Node, Form, True, False, Number, Named, Not, Minus, Pre, Current, When, Binary, If, AtMostOne, Call, Trees, None, More, EquationTree, AssertionTree, NodeTree}
 use Rattle.rv_meaning.specs.Instances.{CallTree, calls, calls_in, form_calls, calls_in_all, calls_in_equations, calls_in_assertions}
-use Rattle.rv_meaning.specs.Memories.{Delay, delays, form_delays, delays_of_all, delays_in_equations, delays_in_assertions, node_delays}
+use Rattle.rv_syntax.specs.Delays.{Delay, delays, form_delays, delays_of_all, delays_in_equations, delays_in_assertions, node_delays}
 use Rattle.rv_meaning.specs.Runs.{IsArgument, head, tail}
 use Rattle.rv_meaning.proofs.Distinct.{none_in}
 
@@ -113,3 +113,61 @@ of_equation n q d w inner = Contains-append_left (delays_in_equations n.equation
 -- and so are those of an assertion
 pub of_assertion : (n : NodeTree) (a : AssertionTree) (d : Delay) → Contains n.assertions a → Contains (delays a.body) d → Contains (node_delays n) d
 of_assertion n a d w inner = Contains-append_right (delays_in_equations n.equations) (delays_in_assertions n.assertions) d (assertion_within n.assertions a d w inner)
+
+module _ (d e : Delay) (inner : Contains (delays d.operand) e) where
+  abbrev Passes : List Delay → Type 0
+  Passes ds = Contains ds d → Contains ds e
+
+  -- two parts
+  pair : (ds es : List Delay) → Passes ds → Passes es → Passes (ds ++ es)
+  pair ds es p q w = elim (Contains-append_cases ds es d w) [
+    | inl here ↦ Contains-append_left ds es e (p here)
+    | inr there ↦ Contains-append_right ds es e (q there)
+  ]
+
+  -- the delay itself, and those of its operand
+  itself : (site : Option ℕ) (t : Tree) → Passes (delays t) → Passes (record { site = site; operand = t } ∷ delays t)
+  itself site t p w = elim (contains_cases (record { site = site; operand = t }) (delays t) d w) [
+    | inl is ↦ contains_tail (record { site = site; operand = t }) (delays t) e (subst (λ (d : Delay). Contains (delays d.operand) e) (sym is) inner)
+    | inr later ↦ contains_tail (record { site = site; operand = t }) (delays t) e (p later)
+  ]
+
+  mutual
+    -- the delays of a delay's operand are delays of the expression
+    passes : (t : Tree) → Passes (delays t)
+    passes (Node at site form) = form_passes site form
+
+    -- by its form
+    form_passes : (site : Option ℕ) (form : Form) → Passes (form_delays site form)
+    form_passes site True w = absurd (none_in d w)
+    form_passes site False w = absurd (none_in d w)
+    form_passes site (Number n) w = absurd (none_in d w)
+    form_passes site (Named x) w = absurd (none_in d w)
+    form_passes site (Not t) w = passes t w
+    form_passes site (Minus t) w = passes t w
+    form_passes site (Pre t) w = itself site t (passes t) w
+    form_passes site (Current t) w = itself site t (passes t) w
+    form_passes site (When t x) w = passes t w
+    form_passes site (Binary o l r) w = pair (delays l) (delays r) (passes l) (passes r) w
+    form_passes site (If l r s) w = pair (delays l) (delays r ++ delays s) (passes l) (pair (delays r) (delays s) (passes r) (passes s)) w
+    form_passes site (AtMostOne es) w = all_passes es w
+    form_passes site (Call f args) w = all_passes args w
+
+    -- some expressions
+    all_passes : (es : Trees) → Passes (delays_of_all es)
+    all_passes None w = absurd (none_in d w)
+    all_passes (More t es) w = pair (delays t) (delays_of_all es) (passes t) (all_passes es) w
+
+  -- equations
+  equations_pass : (qs : List EquationTree) → Passes (delays_in_equations qs)
+  equations_pass [] w = absurd (none_in d w)
+  equations_pass (q ∷ qs) w = pair (delays q.right) (delays_in_equations qs) (passes q.right) (equations_pass qs) w
+
+  -- assertions
+  assertions_pass : (qs : List AssertionTree) → Passes (delays_in_assertions qs)
+  assertions_pass [] w = absurd (none_in d w)
+  assertions_pass (q ∷ qs) w = pair (delays q.body) (delays_in_assertions qs) (passes q.body) (assertions_pass qs) w
+
+  -- so those of the operand of a delay of a node are delays of the node
+  pub of_delay : (n : NodeTree) → Passes (node_delays n)
+  of_delay n w = pair (delays_in_equations n.equations) (delays_in_assertions n.assertions) (equations_pass n.equations) (assertions_pass n.assertions) w

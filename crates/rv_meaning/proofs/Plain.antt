@@ -1,7 +1,7 @@
 -- A node without calls whose equations stand in order keeps the rules, and is the one instance of its program.
 use Rattle.std.proofs.Common.{◌≡◌, ℕ, suc, ◌↔◌, Bool, true, false, cond, List, [], ◌∷◌, ◌++◌, refl, sym, ◌∙◌, ap, subst, arith, inl, inr}
 use Rattle.std.proofs.Common.{None as Nothing}
-use Rattle.std.proofs.lemmas.List.{append_assoc}
+use Rattle.std.proofs.lemmas.List.{append-nil, append_assoc}
 use Rattle.std.proofs.lemmas.List.Elements.{Contains-append_left, Contains-append_right, Contains-append_cases}
 use Rattle.std.specs.List.{All, Contains}
 use Rattle.rv_syntax.specs.declared.tree.Decl.{Decl}
@@ -9,12 +9,12 @@ use Rattle.rv_syntax.specs.Tree.{Tree, EquationTree, NodeTree, ProgramTree}
 use Rattle.rv_syntax.specs.Places.{Identifier, is_same, names, flows}
 use Rattle.rv_meaning.specs.Clocks.{Base, taken, clock, clock_of, clock_among, declared_clock}
 use Rattle.rv_meaning.specs.Instances.{CallTree, calls, calls_in_assertions, texts, Right, Body, Output, IsRight, alone, in_order, Instance, node_of, main_instance, IsInstance, is_main, is_callee}
-use Rattle.rv_meaning.specs.Memories.{Delay, node_delays, delays_in_assertions}
+use Rattle.rv_syntax.specs.Delays.{Delay, node_delays, delays_in_equations, delays_in_assertions}
 use Rattle.rv_meaning.specs.Accepted.{IsWellFormed, IsAcceptable}
 use Rattle.rv_meaning.specs.Boolean.{IsBooleanTree, AreDistinct, AreOrdered, lefts}
 use Rattle.rv_meaning.proofs.Distinct.{none_in, distinct_left, distinct_right, distinct_append, apart}
 use Rattle.rv_meaning.proofs.BooleanTrees.{on_base}
-use Rattle.rv_meaning.proofs.Ordered.{Stands, stands, equation_of, in_lefts, same_equation, no_calls_in, no_delays_in}
+use Rattle.rv_meaning.proofs.Ordered.{Stands, stands, equation_of, in_lefts, same_equation, no_calls_in, delays_inside}
 
 -- the flows of a node in an order of evaluation
 abbrev pub order : NodeTree → List Identifier
@@ -27,7 +27,7 @@ pub record IsPlain (n : NodeTree) : Type 0 where
   pub among : (x : Identifier) → Contains (flows n) x → Contains (order n) x
   pub only : (x : Identifier) → Contains (order n) x → Contains (flows n) x
   pub based : (x : Identifier) → clock_of n x ≡ Base
-  pub ordered : AreOrdered (names n.inputs) n.equations
+  pub ordered : AreOrdered (flows n) (names n.inputs) n.equations
   pub assertions : n.assertions ≡ []
 
 -- flows without declared clocks are on the base clock
@@ -43,7 +43,7 @@ all_based (d ∷ ds) all x = tested (is_same d.name.text x) (all_based ds (λ k 
 -- and nothing else is.
 pub plain_of : (n : NodeTree) → AreDistinct (flows n) → AreDistinct (lefts n.equations)
     → ((x : Identifier) → Contains (lefts n.equations) x ↔ Contains (names n.outputs ++ names n.locals) x)
-    → All (λ d. d.clock ≡ Nothing) n.locals → AreOrdered (names n.inputs) n.equations → n.assertions ≡ [] → IsPlain n
+    → All (λ d. d.clock ≡ Nothing) n.locals → AreOrdered (flows n) (names n.inputs) n.equations → n.assertions ≡ [] → IsPlain n
 plain_of n distinct lefts_distinct same unclocked ordered assertions =
     let ins : List Identifier = names n.inputs in
     let outs : List Identifier = names n.outputs ++ names n.locals in
@@ -65,9 +65,9 @@ plain_of n distinct lefts_distinct same unclocked ordered assertions =
     }
 
 -- the right side is an expression of these names, or an output
-abbrev IsBody : List Identifier → Right → Type 0
-IsBody known (Body e) = IsBooleanTree known e
-IsBody known (Output c j) = Unit {0}
+abbrev IsBody : List Identifier → List Identifier → Right → Type 0
+IsBody inside known (Body e) = IsBooleanTree inside known e
+IsBody inside known (Output c j) = Unit {0}
 
 -- the right side is an output
 abbrev IsOutput : Right → Type 0
@@ -77,23 +77,23 @@ IsOutput (Output c j) = Unit {0}
 module _ (n : NodeTree) (plain : IsPlain n) where
   -- it has no calls
   pub calls_none : calls n ≡ []
-  calls_none = let first = no_calls_in (names n.inputs) n.equations plain.ordered in λ j. first j ++ calls_in_assertions (plain.assertions j)
+  calls_none = let first = no_calls_in (flows n) (names n.inputs) n.equations plain.ordered in λ j. first j ++ calls_in_assertions (plain.assertions j)
 
-  -- and no delays
-  pub delays_none : node_delays n ≡ []
-  delays_none = let first = no_delays_in (names n.inputs) n.equations plain.ordered in λ j. first j ++ delays_in_assertions (plain.assertions j)
+  -- and its delays are in its equations
+  delays_are : node_delays n ≡ delays_in_equations n.equations
+  delays_are = ap (λ l. delays_in_equations n.equations ++ delays_in_assertions l) plain.assertions ∙ append-nil (delays_in_equations n.equations)
 
   -- so nothing is among them
   pub no_call : (c : CallTree) → Contains (calls n) c → ⊥
   no_call c w = none_in c (subst (λ l. Contains l c) calls_none w)
 
-  -- nor among these
-  pub no_delay : (d : Delay) → Contains (node_delays n) d → ⊥
-  no_delay d w = none_in d (subst (λ l. Contains l d) delays_none w)
+  -- the operand of each delay is an expression over all flows
+  pub delay_stands : (d : Delay) → Contains (node_delays n) d → IsBooleanTree (flows n) (flows n) d.operand
+  delay_stands d w = delays_inside (flows n) (names n.inputs) n.equations plain.ordered d (subst (λ l. Contains l d) delays_are w)
 
   -- how the equation of a right side stands
-  pub right_stands : (q : EquationTree) → Contains n.equations q → Stands (names n.inputs) n.equations q
-  right_stands q w = stands (names n.inputs) n.equations plain.ordered q w
+  pub right_stands : (q : EquationTree) → Contains n.equations q → Stands (flows n) (names n.inputs) n.equations q
+  right_stands q w = stands (flows n) (names n.inputs) n.equations plain.ordered q w
 
   -- a right side is the body of an equation for its flow alone
   pub right_body : (x : Identifier) (r : Right) → IsRight n x r → (q : EquationTree) × Contains n.equations q × (texts q.lefts ≡ x ∷ []) × (r ≡ Body q.right)
@@ -102,7 +102,7 @@ module _ (n : NodeTree) (plain : IsPlain n) where
 
   -- each left side has a right side
   some_right : (x : Identifier) → Contains (lefts n.equations) x → (r : Right) × IsRight n x r
-  some_right x w = let r = equation_of (names n.inputs) n.equations plain.ordered x w in (Body r.0.right, alone r.0 r.1 r.2)
+  some_right x w = let r = equation_of (flows n) (names n.inputs) n.equations plain.ordered x w in (Body r.0.right, alone r.0 r.1 r.2)
 
   -- and what has a right side is a left side
   left_side : (x : Identifier) (r : Right) → IsRight n x r → Contains (lefts n.equations) x
@@ -110,7 +110,7 @@ module _ (n : NodeTree) (plain : IsPlain n) where
 
   -- a right side is on the base clock
   body_on_base : (x : Identifier) (r : Right) → IsRight n x r → (e : Tree) → r ≡ Body e → taken Base (clock n e) ≡ Base
-  body_on_base x _ (alone q w is) e same = on_base n plain.based (right_stands q w).before e (subst (λ r. IsBody (right_stands q w).before r) same (right_stands q w).names_before)
+  body_on_base x _ (alone q w is) e same = on_base n plain.based (flows n) (right_stands q w).before e (subst (λ r. IsBody (flows n) (right_stands q w).before r) same (right_stands q w).names_before)
   body_on_base x _ (in_order q at site f args j w call several below is) e same = let one = (right_stands q w).one_left in absurd (omega (arith, one, several))
 
   -- and no output of a call

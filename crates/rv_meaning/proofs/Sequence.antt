@@ -79,7 +79,7 @@ module _ (program : ProgramTree) (main : Identifier) (plain : IsPlain (node_of p
       (v.0, omega (arith, v.1, at), nth v.0 below ∙ ap (place top) (ap (λ l. get_or l v.0 []) split ∙ get_or_append_left s.before (x ∷ s.after) [] v.0 v.1 ∙ get_or_default s.before v.0 [] y v.1 ∙ v.2)) in
       subst (λ r. All (IsAmongFirst program main sequence k) (needs_of_right program top (clock_of top.node x) r)) (sym b.3)
       (subst (λ c. All (IsAmongFirst program main sequence k) (needs_of_right program top c (Body b.0.right))) (sym (plain.based x))
-      (needs_known program top refl plain.based s.before (IsAmongFirst program main sequence k) each b.0.right s.names_before))
+      (needs_known program top refl plain.based (flows top.node) s.before (IsAmongFirst program main sequence k) each b.0.right s.names_before))
 
   -- each stands after what it needs
   all_after : (k : ℕ) (g : Giver) → k < length sequence → Gives program main (get_or sequence k []) g → All (IsAmongFirst program main sequence k) (needs_of program g)

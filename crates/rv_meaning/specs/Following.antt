@@ -1,13 +1,14 @@
 -- When a valuation is that of a run at an instant.
-use Rattle.std.specs.Prelude.{◌≡◌, ℕ, Option, Some, slice_get}
+use Rattle.std.specs.Prelude.{◌≡◌, ℕ, false, Option, Some, slice_get}
 use Rattle.std.specs.List.{Contains}
 use Rattle.rv_base.specs.declared.value.Value.{Value}
+use Rattle.rv_base.specs.declared.value.Value.TheVariants.{Flag}
 use Rattle.rv_syntax.specs.declared.tree.Decl.{Decl}
 use Rattle.rv_syntax.specs.Tree.{ProgramTree}
 use Rattle.rv_syntax.specs.Places.{Identifier, Sites}
 use Rattle.rv_meaning.specs.Clocks.{Base}
 use Rattle.rv_meaning.specs.Instances.{Instance, clock_in, node_of, IsInstance}
-use Rattle.rv_meaning.specs.Memories.{Delay, node_delays}
+use Rattle.rv_syntax.specs.Delays.{Delay, node_delays}
 use Rattle.rv_meaning.specs.Kinds.{kind}
 use Rattle.rv_meaning.specs.Meaning.{Cells, was_there, last_before, kept_place, content}
 use Rattle.rv_meaning.specs.Valuations.{Valuation, spelled}
@@ -23,3 +24,14 @@ pub record Follows (program : ProgramTree) (main : Identifier) (starts : Sites �
   pub memories : (i : Instance) (d : Delay) → IsInstance program main i → Contains (node_delays i.node) d
       → spelled (kind program i.node d.operand) (v.kept (kept_place i d.site d.operand)) ≡ held_before program starts h i d t
   pub given : (j : ℕ) (d : Decl) → slice_get (node_of program main).inputs j ≡ Some d → spelled d.kind (v.input j) ≡ inputs t j
+
+-- All tick bits are false, as at the first instant.
+abbrev pub IsInitial : Valuation → Type 0
+IsInitial v = (k : Option Sites) → v.ticked k ≡ false
+
+-- the start values and the inputs that the bits of a valuation spell, where all are Boolean
+abbrev pub spelled_starts : Valuation → Sites → Value
+spelled_starts v p = Flag (v.kept p 0)
+
+abbrev pub spelled_inputs : Valuation → ℕ → ℕ → Value
+spelled_inputs v t j = Flag (v.input j 0)

@@ -2,11 +2,12 @@ pub mod Clocks
 pub mod Instances
 pub mod Meaning
 pub mod Kinds
-pub mod Memories
 pub mod Runs
 pub mod Needs
 pub mod Accepted
 pub mod Valuations
 pub mod Boolean
+pub mod Numbering
+pub mod Gathering
 pub mod Samples
 pub mod Following

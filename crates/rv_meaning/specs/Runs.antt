@@ -13,7 +13,7 @@ use Rattle.rv_syntax.specs.Tree.{Tree, Trees, More, AssertionTree, ProgramTree}
 use Rattle.rv_syntax.specs.Places.{Identifier, Sites, flows}
 use Rattle.rv_meaning.specs.Clocks.{Base, clock_of}
 use Rattle.rv_meaning.specs.Instances.{CallTree, Right, IsRight, calls, Instance, place, absolute, clock_of_arguments, node_of, IsInstance}
-use Rattle.rv_meaning.specs.Memories.{Delay, node_delays}
+use Rattle.rv_syntax.specs.Delays.{Delay, node_delays}
 use Rattle.rv_meaning.specs.Kinds.{HasType, kind}
 use Rattle.rv_meaning.specs.Meaning.{Cells, is_there, kept_place, value, right_value}
 

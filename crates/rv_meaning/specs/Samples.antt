@@ -1,10 +1,11 @@
--- Two small programs: one whose observer is always true, and one whose observer follows its input.
-use Rattle.std.specs.Prelude.{[], ◌∷◌}
+-- Three small programs: one whose observer is always true, one whose observer follows its input, and one whose
+-- observer is true by what it remembers.
+use Rattle.std.specs.Prelude.{[], ◌∷◌, Some}
 use Rattle.std.specs.Prelude.{None as Nothing}
-use Rattle.rv_syntax.specs.declared.tree.Op.TheVariants.{Or}
+use Rattle.rv_syntax.specs.declared.tree.Op.TheVariants.{Or, Arrow}
 use Rattle.rv_syntax.specs.declared.tree.Decl.{Decl}
 use Rattle.rv_syntax.specs.declared.tree.TypeName.TheVariants as type_name
-use Rattle.rv_syntax.specs.Tree.{Tree, Node, Named, Not, Binary, NodeTree, ProgramTree}
+use Rattle.rv_syntax.specs.Tree.{Tree, Node, True, Named, Not, Pre, Binary, NodeTree, ProgramTree}
 use Rattle.rv_syntax.specs.Places.{Identifier}
 
 -- the name of the node
@@ -42,10 +43,26 @@ program_with e = record { types = []; constants = []; nodes = node_with e ∷ []
 abbrev pub name_a : Tree
 name_a = Node 0 Nothing (Named a)
 
+-- a or not a
+abbrev pub a_or_not_a : Tree
+a_or_not_a = Node 0 Nothing (Binary Or name_a (Node 0 Nothing (Not name_a)))
+
+-- the output as an expression
+abbrev pub name_ok : Tree
+name_ok = Node 0 Nothing (Named ok)
+
+-- true -> pre ok
+abbrev pub kept_ok : Tree
+kept_ok = Node 0 Nothing (Binary Arrow (Node 0 Nothing True) (Node 0 (Some 2) (Pre name_ok)))
+
 -- ok = a or not a;
 abbrev pub excluded_middle : ProgramTree
-excluded_middle = program_with (Node 0 Nothing (Binary Or name_a (Node 0 Nothing (Not name_a))))
+excluded_middle = program_with a_or_not_a
 
 -- ok = a;
 abbrev pub identity : ProgramTree
 identity = program_with name_a
+
+-- ok = true -> pre ok;
+abbrev pub latch : ProgramTree
+latch = program_with kept_ok

@@ -1,7 +1,7 @@
 -- Valuations of the control of a program, and what its flows have at one.
 -- (Jeannet 2003 for the control state; here no order of tests comes in yet, since no program that is accepted
 -- today compares integers.)
-use Rattle.std.specs.Prelude.{◌≡◌, ℕ, ◌+◌, ◌↔◌, ◌⊎◌, pos, ◌-ℤ◌, Bool, true, false, not, cond, nat_le, unwrap_or, [], ◌∷◌, ◌++◌, Option, Some, IsSome, slice_get}
+use Rattle.std.specs.Prelude.{◌≡◌, ℕ, ◌+◌, ◌↔◌, ◌⊎◌, pos, ◌-ℤ◌, Bool, true, false, not, ◌||◌, cond, nat_le, unwrap_or, [], ◌∷◌, ◌++◌, Option, Some, IsSome, slice_get}
 use Rattle.std.specs.Prelude.{None as Nothing}
 use Rattle.std.specs.FinMap as map
 use Rattle.std.specs.List.{Contains}
@@ -12,6 +12,7 @@ use Rattle.rv_syntax.specs.declared.tree.TypeName.{TypeName}
 use Rattle.rv_syntax.specs.declared.tree.TypeName.TheVariants as type_name
 use Rattle.rv_syntax.specs.Tree.{Tree, Node, Form, True, False, Number, Named, Not, Minus, Pre, Current, When, Binary, If, AtMostOne, Call, Trees, None, More, AssertionTree, ProgramTree}
 use Rattle.rv_syntax.specs.Places.{Identifier, Sites, flows, is_flow}
+use Rattle.rv_syntax.specs.Delays.{Delay, node_delays}
 use Rattle.rv_meaning.specs.Clocks.{Clock, Base, clock_of}
 use Rattle.rv_meaning.specs.Instances.{CallTree, Right, Body, Output, IsRight, calls, Instance, place, absolute, clock_in, clock_of_arguments, output_place, node_of, IsInstance}
 use Rattle.rv_meaning.specs.Kinds.{kind}
@@ -87,6 +88,14 @@ module _ (program : ProgramTree) (main : Identifier) where
         → cell row (i.path ++ c.site ∷ j ∷ []) ≡ symbolic_value program v row i (clock_of_arguments i c.args) e
     pub clocks : (i : Instance) (x : Identifier) → IsInstance program main i → Contains (flows i.node) x
         → IsSome (cell row (place i x)) ↔ (is_on_in row (absolute i (clock_of i.node x)) ≡ true)
+
+  -- The control state after that instant: each tick bit is true where it was or where its clock is there, and each
+  -- memory has its operand's value where that is present, and keeps its own elsewhere.
+  pub record IsNext (v : Valuation) (row : Instant) (next : Valuation) : Type 0 where
+    pub ticks : (k : Option Sites) → next.ticked k ≡ (v.ticked k || is_on_in row k)
+    pub memories : (i : Instance) (d : Delay) → IsInstance program main i → Contains (node_delays i.node) d
+        → memory program next row i d.site d.operand
+        ≡ cond (is_on_in row (clock_in i Base d.operand)) (symbol program v row i d.operand) (memory program v row i d.site d.operand)
 
   -- every assertion of every instance is true or absent there
   abbrev pub AllowsAt : Valuation → Instant → Type 0

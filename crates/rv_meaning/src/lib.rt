@@ -2,8 +2,15 @@
 #![tactic(auto)]
 
 mod laws;
+mod memory_list;
+mod names;
+#[cfg(test)]
+mod tests;
 
 pub use laws::{
     everywhere_is_safe, exactly_one_instant, exactly_one_run, excluded_middle_is_safe,
-    identity_is_falsified, instants_agree, one_run, some_run, somewhere_falsifies,
+    following_instants, following_next, identity_is_falsified, initial_falsifies, instants_agree,
+    latch_is_safe, one_run, some_run,
 };
+pub use memory_list::memories;
+pub use names::Names;

@@ -27,8 +27,10 @@ tree-leaf (Called x) at = refl
 
 pub role-prefix : (p : Prefix) (at : ℕ) → role (fixed (prefix_mark p) at) ≡ part.Before p at
 role-prefix prefixed.Not at = refl
+role-prefix prefixed.Pre at = refl
 
 pub role-infix : (o : Infix) (at : ℕ) → role (fixed (infix_mark o) at) ≡ part.Between o at
+role-infix infixed.Arrow at = refl
 role-infix infixed.Or at = refl
 role-infix infixed.And at = refl
 
@@ -88,6 +90,7 @@ beats p q h =
     ]
 
 above_all : (o : Infix) (at n : ℕ) → accepts (part.Between o at) 9 n ≡ false
+above_all infixed.Arrow at n = refl
 above_all infixed.Or at n = refl
 above_all infixed.And at n = refl
 

@@ -1,12 +1,12 @@
 -- When a reader reads a rule: each rule's law from the laws of its parts.
-use Rattle.std.proofs.Common.{◌≡◌, ℕ, zero, suc, ◌+◌, ◌<◌, Bool, true, false, cond, List, [], ◌∷◌, ◌++◌, length, refl, sym, ap, ◌∙◌, subst, arith, append_assoc, length-append}
+use Rattle.std.proofs.Common.{inl, inr, ◌≡◌, ℕ, zero, suc, ◌+◌, ◌<◌, Bool, true, false, cond, List, [], ◌∷◌, ◌++◌, length, refl, sym, ap, ◌∙◌, subst, arith, append_assoc, length-append}
 use Rattle.std.specs.Prelude.{Option, Some, None, ⊤, Ok, Err}
 use Rattle.std.proofs.lemmas.List.{append-nil, append_cancel_right}
 use Rattle.rv_syntax.specs.declared.token.Mark.{Mark}
 use Rattle.rv_syntax.specs.declared.token.Token.{Token}
 use Rattle.rv_syntax.specs.Grammar.{fixed}
 use Rattle.rv_syntax.specs.Marks.{has_mark}
-use Rattle.rv_syntax.specs.Rules.{Gives, Word, Part, Each}
+use Rattle.rv_syntax.specs.Rules.{Gives, Word, Part, OneOf, Each}
 use Rattle.rv_syntax.specs.Parse.{Reading, Parse, bind, then, done, stop, one_of, one, starts, choose, turns, many}
 use Rattle.rv_syntax.specs.Reading.{word}
 use Rattle.rv_syntax.proofs.Marked.{from-has, has-mark}
@@ -358,6 +358,33 @@ exact-many L test F G p first after last x = record {
   sound = Sound-many L test p x.sound first;
   local = Local-many L test p x.sound first x.local;
   complete = Complete-many L test p x.sound first F G x.complete after last;
+}
+
+-- one of two, told apart by the next token
+sound-choose : {T A : Type 0} (L M : A → List T → Type 0) (p q : Parse T A) → Sound L p → Sound M q → (b : Bool) (ts : List T) → Answers (OneOf L M) ts (cond b (p ts) (q ts))
+sound-choose L M p q s t true ts = answers-to L (OneOf L M) ts (p ts) (λ a w l. inl l) (s.answers ts)
+sound-choose L M p q s t false ts = answers-to M (OneOf L M) ts (q ts) (λ a w m. inr m) (t.answers ts)
+
+starts-more : {T : Type 0} (test : T → Bool) (w rest : List T) → starts test w ≡ true → starts test (w ++ rest) ≡ true
+starts-more test [] rest h = cc
+starts-more test (t ∷ w) rest h = h
+
+reads-choose : {T A : Type 0} (L M : A → List T → Type 0) (test : T → Bool) (G : List T → Type 0) (p q : Parse T A)
+    → ((a : A) (w : List T) → L a w → starts test w ≡ true) → ((a : A) (w rest : List T) → M a w → G rest → starts test (w ++ rest) ≡ false)
+    → Complete L G p → Complete M G q → (a : A) (w rest : List T) → OneOf L M a w → G rest → choose test p q (w ++ rest) ≡ Ok (a, rest)
+reads-choose L M test G p q first other c d a w rest (inl l) g =
+    ap (λ b. cond b (p (w ++ rest)) (q (w ++ rest))) (starts-more test w rest (first a w l)) ∙ c.reads a w rest l g
+reads-choose L M test G p q first other c d a w rest (inr m) g =
+    ap (λ b. cond b (p (w ++ rest)) (q (w ++ rest))) (other a w rest m g) ∙ d.reads a w rest m g
+
+pub exact-choose : {T A : Type 0} (L M : A → List T → Type 0) (test : T → Bool) (G : List T → Type 0) (p q : Parse T A)
+    → ((a : A) (w : List T) → L a w → starts test w ≡ true) → ((a : A) (w rest : List T) → M a w → G rest → starts test (w ++ rest) ≡ false)
+    → Exact L G p → Exact M G q → Exact (OneOf L M) G (choose test p q)
+exact-choose L M test G p q first other x y = record {
+  some = (x.some.0, x.some.1, inl x.some.2);
+  sound = record { answers = λ ts. sound-choose L M p q x.sound y.sound (starts test ts) ts };
+  local = Local-choose test p q x.local y.local;
+  complete = record { reads = reads-choose L M test G p q first other x.complete y.complete };
 }
 
 -- this word or symbol, and then the rest

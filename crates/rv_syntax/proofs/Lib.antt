@@ -12,3 +12,7 @@ pub mod ExactRules
 pub mod Loop
 pub mod Whole
 pub mod LongestCut
+pub mod Counting
+pub mod Spelled
+pub mod Joined
+pub mod Numbered

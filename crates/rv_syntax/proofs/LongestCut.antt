@@ -1,12 +1,13 @@
 -- A token is the longest front that is one.
 use Rattle.std.proofs.Common.{◌≡◌, ℕ, zero, suc, ◌+◌, ◌<◌, ◌≤◌, Bool, true, false, cond, ◌||◌, List, [], ◌∷◌, length, take, refl, sym, ap, ◌∙◌, inl, inr, arith, one-add}
-use Rattle.std.specs.Prelude.{Some, None, ◌==◌, slice_get}
+use Rattle.std.specs.Prelude.{Option, Some, None, ◌==◌, slice_get}
 use Rattle.std.specs.List.{prefix_len}
 use Rattle.std.specs.Int.{is_in_range}
 use Rattle.std.specs.Char.{is_ascii_digit}
 use Rattle.std.proofs.lemmas.Bool.{cases_Bool, and_from, and_left, and_right}
+use Rattle.rv_syntax.specs.declared.lexer.Shape.{Shape}
 use Rattle.rv_syntax.specs.declared.lexer.Shape.TheVariants as shape
-use Rattle.rv_syntax.specs.Lexing.{is_letter, is_word_byte, word_len, number_len, word, single, is_pair, symbol, cut}
+use Rattle.rv_syntax.specs.Lexing.{is_letter, is_word_byte, word_len, number_len, word, pair, or_single, symbol, cut}
 use Rattle.rv_syntax.specs.Longest.{every, symbol_of, one_token, IsLongest}
 
 pick-true : {A : Type 0} (b : Bool) (x y : A) → b ≡ true → cond b x y ≡ x
@@ -98,19 +99,19 @@ beyond-two b c (x ∷ xs) e d (suc zero) h l = absurd (omega arith)
 beyond-two b c (x ∷ xs) e d (suc (suc zero)) h l = absurd (omega arith)
 beyond-two b c (x ∷ xs) e d (suc (suc (suc k))) h l = at-symbol b (c ∷ x ∷ take k xs) e d
 
-beyond-one : (b c : ℕ) (cs : List ℕ) → is_letter b ≡ false → is_ascii_digit b ≡ false → is_pair b c ≡ false → (m : ℕ) → 1 < m → m ≤ length (b ∷ c ∷ cs) → one_token (take m (b ∷ c ∷ cs)) ≡ None
+beyond-one : (b c : ℕ) (cs : List ℕ) → is_letter b ≡ false → is_ascii_digit b ≡ false → pair b c ≡ None → (m : ℕ) → 1 < m → m ≤ length (b ∷ c ∷ cs) → one_token (take m (b ∷ c ∷ cs)) ≡ None
 beyond-one b c cs e d p zero h l = absurd (omega arith)
 beyond-one b c cs e d p (suc zero) h l = absurd (omega arith)
-beyond-one b c cs e d p (suc (suc zero)) h l = at-symbol b (c ∷ []) e d ∙ pick-false (is_pair b c) (Some shape.Other) None p
+beyond-one b c cs e d p (suc (suc zero)) h l = at-symbol b (c ∷ []) e d ∙ p
 beyond-one b c cs e d p (suc (suc (suc k))) h l = beyond-two b c cs e d (suc (suc (suc k))) (omega arith) l
 
-longest-pair : (b c : ℕ) (cs : List ℕ) → is_letter b ≡ false → is_ascii_digit b ≡ false → (p : Bool) → is_pair b c ≡ p → IsLongest (b ∷ c ∷ cs) (cond p (shape.Other, 2) (single b, 1))
-longest-pair b c cs e d true p = (at-symbol b (c ∷ []) e d ∙ pick-true (is_pair b c) (Some shape.Other) None p, beyond-two b c cs e d)
-longest-pair b c cs e d false p = (at-symbol b [] e d, beyond-one b c cs e d p)
+longest-pair : (b c : ℕ) (cs : List ℕ) → is_letter b ≡ false → is_ascii_digit b ≡ false → (p : Option Shape) → pair b c ≡ p → IsLongest (b ∷ c ∷ cs) (or_single p b)
+longest-pair b c cs e d (Some s) p = (at-symbol b (c ∷ []) e d ∙ p, beyond-two b c cs e d)
+longest-pair b c cs e d None p = (at-symbol b [] e d, beyond-one b c cs e d p)
 
 longest-symbol : (b : ℕ) (bs : List ℕ) → is_letter b ≡ false → is_ascii_digit b ≡ false → IsLongest (b ∷ bs) (symbol b (slice_get (b ∷ bs) 1))
 longest-symbol b [] e d = (at-symbol b [] e d, λ m h l. absurd (omega arith))
-longest-symbol b (c ∷ cs) e d = longest-pair b c cs e d (is_pair b c) refl
+longest-symbol b (c ∷ cs) e d = longest-pair b c cs e d (pair b c) refl
 
 -- what begins a text is cut by longest match
 longest-cut : (b : ℕ) (bs : List ℕ) (l : Bool) (d : Bool) → is_letter b ≡ l → is_ascii_digit b ≡ d

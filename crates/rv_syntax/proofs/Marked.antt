@@ -13,7 +13,7 @@ use Rattle.rv_syntax.specs.Marks.{number_of, kind_is, is_mark, has_mark}
 abbrev marked : ℕ → Mark
 marked n = get_or (
     mark.Node ∷ mark.Returns ∷ mark.Let ∷ mark.Tel ∷ mark.Bool ∷ mark.True ∷ mark.False ∷ mark.Not ∷ mark.Or ∷ mark.And
-    ∷ mark.Open ∷ mark.Close ∷ mark.Comma ∷ mark.Semi ∷ mark.Colon ∷ mark.Equal ∷ []
+    ∷ mark.Open ∷ mark.Close ∷ mark.Comma ∷ mark.Semi ∷ mark.Colon ∷ mark.Equal ∷ mark.Var ∷ mark.Pre ∷ mark.Arrow ∷ []
     ) n mark.Node
 
 back : (m : Mark) → marked (number_of m) ≡ m
@@ -33,6 +33,9 @@ back mark.Comma = refl
 back mark.Semi = refl
 back mark.Colon = refl
 back mark.Equal = refl
+back mark.Var = refl
+back mark.Pre = refl
+back mark.Arrow = refl
 
 same-mark : (a b : Mark) → nat_eq (number_of a) (number_of b) ≡ true → a ≡ b
 same-mark a b h = sym (back a) ∙ ap marked (eqb-true (number_of a) (number_of b) h) ∙ back b

@@ -58,6 +58,7 @@ AreFine (Over p at ∷ h) = AreFine h
 AreFine (Left o at w ∷ h) = IsGrammatical w × (left_level o ≤ level w) × (need (frames h) ≤ level_of o) × AreFine h
 
 right-low : (o : Infix) → right_level o ≤ 9
+right-low infixed.Arrow = omega arith
 right-low infixed.Or = omega arith
 right-low infixed.And = omega arith
 
@@ -155,12 +156,15 @@ spells-mark : (m : Mark) (at : ℕ) → Spells (role (fixed m at)) (fixed m at)
 spells-mark mark.True at = (Yes, refl, refl)
 spells-mark mark.False at = (No, refl, refl)
 spells-mark mark.Not at = refl
+spells-mark mark.Pre at = refl
+spells-mark mark.Arrow at = refl
 spells-mark mark.Or at = refl
 spells-mark mark.And at = refl
 spells-mark mark.Open at = refl
 spells-mark mark.Close at = refl
 spells-mark mark.Node at = tt
 spells-mark mark.Returns at = tt
+spells-mark mark.Var at = tt
 spells-mark mark.Let at = tt
 spells-mark mark.Tel at = tt
 spells-mark mark.Bool at = tt

@@ -11,9 +11,13 @@ use Rattle.rv_syntax.specs.Correct.{Finds}
 use Rattle.rv_syntax.specs.declared.token.Token.{Token}
 use Rattle.rv_syntax.specs.Tree.{NodeTree, ProgramTree, node_tree, program_tree}
 use Rattle.rv_syntax.specs.Lexing.{lex}
+use Rattle.rv_syntax.specs.Sites.{with_sites}
+use Rattle.rv_syntax.specs.Counted.{counted_sites}
 use Rattle.rv_syntax.specs.ProgramText.{IsNode, program_of, IsTextOf}
 use Rattle.rv_syntax.specs.Parse.{Reading}
 use Rattle.rv_syntax.specs.Reading.{node}
+use Rattle.rv_syntax.proofs.Counting.{counted-node}
+use Rattle.rv_syntax.proofs.Spelled.{node-rises}
 use Rattle.rv_syntax.proofs.Exact.{Any, left, reads-whole, whole-spells, one-value}
 use Rattle.rv_syntax.proofs.ExactRules.{Exact-node}
 
@@ -39,7 +43,7 @@ stopped ts new e m h =
 
 -- there is at most one tree
 pub same_tree : (bytes : List ℕ) (t u : ProgramTree) → IsTextOf bytes t → IsTextOf bytes u → t ≡ u
-same_tree bytes t u x y = x.1 ∙ ap program_of (one-value IsNode Any node Exact-node tt (lex 0 0 bytes) x.0 y.0 x.2 y.2) ∙ sym y.1
+same_tree bytes t u x y = x.1 ∙ ap (λ n. program_of (with_sites n)) (one-value IsNode Any node Exact-node tt (lex 0 0 bytes) x.0 y.0 x.2 y.2) ∙ sym y.1
 
 -- a refusal of the tokens is one of the text
 pub refuses : (bytes : List ℕ) (t : ProgramTree) (e : TextFault) → ((n : NodeTree) → IsNode n (lex 0 0 bytes) → Finds {X = Node} node_tree n (Err e)) → IsTextOf bytes t → Finds {X = Program} program_tree t (Err e)
@@ -55,3 +59,7 @@ built types constants nodes n a b c =
     ap (λ x. program_tree (record { types = x; constants = constants; nodes = nodes })) a
     ∙ ap (λ x. program_tree (record { types = []; constants = x; nodes = nodes })) b
     ∙ ap (λ x. program_tree (record { types = []; constants = []; nodes = x })) c
+
+-- the sites that are given in order are those of the text's node
+pub sited : (bytes : List ℕ) (n m : NodeTree) → IsNode n (lex 0 0 bytes) → m ≡ counted_sites n → m ≡ with_sites n
+sited bytes n m h e = e ∙ counted-node n 0 (node-rises bytes n h)

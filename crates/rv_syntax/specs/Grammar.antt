@@ -41,8 +41,10 @@ leaf_token l at = record { kind = leaf_kind l; at = at }
 
 abbrev pub prefix_mark : Prefix → Mark
 prefix_mark prefixed.Not = mark.Not
+prefix_mark prefixed.Pre = mark.Pre
 
 abbrev pub infix_mark : Infix → Mark
+infix_mark infixed.Arrow = mark.Arrow
 infix_mark infixed.Or = mark.Or
 infix_mark infixed.And = mark.And
 
@@ -60,12 +62,14 @@ leaf_form (Called x) = tree.Named x
 
 abbrev pub prefix_form : Prefix → Tree → Form
 prefix_form prefixed.Not t = tree.Not t
+prefix_form prefixed.Pre t = tree.Pre t
 
 abbrev pub infix_op : Infix → Op
+infix_op infixed.Arrow = op.Arrow
 infix_op infixed.Or = op.Or
 infix_op infixed.And = op.And
 
--- The nodes of a tree: none of these expressions has a site.
+-- The nodes of a tree, which have no site yet.
 abbrev pub Just : Leaf → ℕ → Tree
 Just l at = Node at Nothing (leaf_form l)
 
@@ -86,6 +90,7 @@ syntax_of (Between o at a b) = Joined o at (syntax_of a) (syntax_of b)
 -- The table of levels, weakest first, and how the operators of a level group: 1 and 2 to the right, 5 not
 -- at all, the others to the left. A prefix has level 9, and what has no operator outside brackets 10.
 abbrev pub level_of : Infix → ℕ
+level_of infixed.Arrow = 1
 level_of infixed.Or = 3
 level_of infixed.And = 4
 

@@ -38,24 +38,26 @@ unfoldable pub fixed_word : List ℕ → Option Mark
 fixed_word w =
     cond (is w (codes "node")) (Some mark.Node)
     (cond (is w (codes "returns")) (Some mark.Returns)
+    (cond (is w (codes "var")) (Some mark.Var)
     (cond (is w (codes "let")) (Some mark.Let)
     (cond (is w (codes "tel")) (Some mark.Tel)
     (cond (is w (codes "bool")) (Some mark.Bool)
     (cond (is w (codes "true")) (Some mark.True)
     (cond (is w (codes "false")) (Some mark.False)
     (cond (is w (codes "not")) (Some mark.Not)
+    (cond (is w (codes "pre")) (Some mark.Pre)
     (cond (is w (codes "or")) (Some mark.Or)
-    (cond (is w (codes "and")) (Some mark.And) None)))))))))
+    (cond (is w (codes "and")) (Some mark.And) None)))))))))))
 
 -- the other reserved words
 unfoldable pub is_reserved : List ℕ → Bool
 is_reserved w =
-    is w (codes "var") || is w (codes "const") || is w (codes "type") || is w (codes "enum") || is w (codes "int")
+    is w (codes "const") || is w (codes "type") || is w (codes "enum") || is w (codes "int")
     || is w (codes "if") || is w (codes "then") || is w (codes "else")
 
 unfoldable pub is_reserved_operator : List ℕ → Bool
 is_reserved_operator w =
-    is w (codes "xor") || is w (codes "pre") || is w (codes "when") || is w (codes "current") || is w (codes "assert")
+    is w (codes "xor") || is w (codes "when") || is w (codes "current") || is w (codes "assert")
     || is w (codes "div") || is w (codes "mod")
 
 -- the words that are left out of the language
@@ -92,16 +94,24 @@ single b =
     (cond (b == 58) (shape.Fixed mark.Colon)
     (cond (b == 61) (shape.Fixed mark.Equal) shape.Other)))))
 
--- The symbols of two bytes: `->` and `--`, `=>`, `<>` `<=` `<<`, `>=` `>>`, `(*`, `/*`, `::`. The accepted
--- language uses none of them.
+-- The symbols of two bytes that the accepted language does not use, and what begins a comment: `--`, `=>`,
+-- `<>` `<=` `<<`, `>=` `>>`, `(*`, `/*`, `::`.
 abbrev pub is_pair : ℕ → ℕ → Bool
 is_pair a b =
-    (a == 45 && (b == 62 || b == 45)) || (a == 61 && b == 62) || (a == 60 && (b == 62 || b == 61 || b == 60))
+    (a == 45 && b == 45) || (a == 61 && b == 62) || (a == 60 && (b == 62 || b == 61 || b == 60))
     || (a == 62 && (b == 61 || b == 62)) || ((a == 40 || a == 47) && b == 42) || (a == 58 && b == 58)
+
+-- a symbol of two bytes, of which `->` is in the accepted language
+abbrev pub pair : ℕ → ℕ → Option Shape
+pair a b = cond (a == 45 && b == 62) (Some (shape.Fixed mark.Arrow)) (cond (is_pair a b) (Some shape.Other) None)
+
+abbrev pub or_single : Option Shape → ℕ → Shape × ℕ
+or_single (Some s) a = (s, 2)
+or_single None a = (single a, 1)
 
 abbrev pub symbol : ℕ → Option ℕ → Shape × ℕ
 symbol a None = (single a, 1)
-symbol a (Some b) = cond (is_pair a b) (shape.Other, 2) (single a, 1)
+symbol a (Some b) = or_single (pair a b) a
 
 -- The shape and the length of the token that begins a text: a word or a number as long as it goes, else a
 -- symbol, the longer first.

@@ -1,5 +1,8 @@
 pub mod Tree
 pub mod Places
+pub mod Delays
+pub mod Sites
+pub mod Counted
 pub mod Lexing
 pub mod Grammar
 pub mod Nesting

@@ -3,7 +3,7 @@ use Rattle.std.specs.Prelude.{◌≡◌, ◌<◌, ◌≤◌, ℕ, Bool, true, �
 use Rattle.std.specs.Char.{is_ascii_digit}
 use Rattle.rv_syntax.specs.declared.lexer.Shape.{Shape}
 use Rattle.rv_syntax.specs.declared.lexer.Shape.TheVariants as shape
-use Rattle.rv_syntax.specs.Lexing.{is_letter, is_word_byte, word, single, is_pair}
+use Rattle.rv_syntax.specs.Lexing.{is_letter, is_word_byte, word, single, pair}
 
 abbrev pub every : (ℕ → Bool) → List ℕ → Bool
 every test [] = true
@@ -11,7 +11,7 @@ every test (b ∷ bs) = test b && every test bs
 
 abbrev pub symbol_of : ℕ → List ℕ → Option Shape
 symbol_of b [] = Some (single b)
-symbol_of b (c ∷ []) = cond (is_pair b c) (Some shape.Other) None
+symbol_of b (c ∷ []) = pair b c
 symbol_of b (c ∷ d ∷ more) = None
 
 -- The shape of bytes that are one token: a word, a number, a symbol, or one byte of no token.

@@ -19,6 +19,8 @@ abbrev pub mark_role : Mark → ℕ → Role
 mark_role mark.True at = Operand
 mark_role mark.False at = Operand
 mark_role mark.Not at = Before prefixed.Not at
+mark_role mark.Pre at = Before prefixed.Pre at
+mark_role mark.Arrow at = Between infixed.Arrow at
 mark_role mark.Or at = Between infixed.Or at
 mark_role mark.And at = Between infixed.And at
 mark_role mark.Open at = Opens

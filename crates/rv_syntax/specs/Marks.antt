@@ -1,5 +1,5 @@
 -- Words and symbols, told apart by number.
-use Rattle.std.specs.Prelude.{ℕ, Bool, false, cond, nat_eq, Option, Some, None, ⊤}
+use Rattle.std.specs.Prelude.{ℕ, Bool, true, false, cond, nat_eq, Option, Some, None, ⊤}
 use Rattle.rv_syntax.specs.declared.token.Mark.{Mark}
 use Rattle.rv_syntax.specs.declared.token.Mark.TheVariants as mark
 use Rattle.rv_syntax.specs.declared.token.Kind.{Kind}
@@ -24,6 +24,9 @@ number_of mark.Comma = 12
 number_of mark.Semi = 13
 number_of mark.Colon = 14
 number_of mark.Equal = 15
+number_of mark.Var = 16
+number_of mark.Pre = 17
+number_of mark.Arrow = 18
 
 abbrev pub kind_is : Mark → Kind → Bool
 kind_is m (kind.Fixed f) = nat_eq (number_of f) (number_of m)
@@ -36,6 +39,15 @@ is_mark m t = kind_is m t.kind
 
 abbrev pub has_mark : Mark → Token → Option ⊤
 has_mark m t = cond (is_mark m t) (Some tt) None
+
+abbrev pub kind_named : Kind → Bool
+kind_named (kind.Name x) = true
+kind_named (kind.Fixed m) = false
+kind_named kind.Other = false
+
+-- whether a token is a name
+abbrev pub is_name : Token → Bool
+is_name t = kind_named t.kind
 
 -- the name that a token is
 abbrev pub kind_name : Kind → ℕ → Option Name

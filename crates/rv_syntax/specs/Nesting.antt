@@ -26,6 +26,8 @@ outer (n ∷ m ∷ ns) = m ∷ ns
 -- is open, one that closes changes nothing.
 abbrev pub past_mark : Mark → Parts → Parts
 past_mark mark.Not ns = one_more ns
+past_mark mark.Pre ns = one_more ns
+past_mark mark.Arrow ns = one_more ns
 past_mark mark.Or ns = one_more ns
 past_mark mark.And ns = one_more ns
 past_mark mark.Open ns = 0 ∷ ns

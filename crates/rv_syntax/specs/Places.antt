@@ -45,16 +45,16 @@ is_flow n x = is_among (flows n) x
 abbrev pub flow_place : Sites → NodeTree → Identifier → Sites
 flow_place path n x = path ++ site_of n x ∷ []
 
--- the place of an expression that has a site of its own
-abbrev pub own_place : Sites → Option ℕ → Sites
-own_place path site = path ++ unwrap_or site 0 ∷ []
-
--- The place of the memory of a `pre` or `current`, by its operand: all those of one flow share the flow's
--- place, and any other has its own.
+-- The site of the memory of a `pre` or `current`, by its operand: all those of one flow share the flow's site, and
+-- any other has its own.
 abbrev mutual
-  pub memory_place : Sites → NodeTree → Option ℕ → Tree → Sites
-  memory_place path n site (Node _ _ form) = memory_of path n site form
+  pub memory_site : NodeTree → Option ℕ → Tree → ℕ
+  memory_site n site (Node _ _ form) = memory_of n site form
 
-  pub memory_of : Sites → NodeTree → Option ℕ → Form → Sites
-  memory_of path n site (Named x) = cond (is_flow n x) (flow_place path n x) (own_place path site)
-  memory_of path n site _ = own_place path site
+  pub memory_of : NodeTree → Option ℕ → Form → ℕ
+  memory_of n site (Named x) = cond (is_flow n x) (site_of n x) (unwrap_or site 0)
+  memory_of n site _ = unwrap_or site 0
+
+-- the place of that memory in the instance with these call sites
+abbrev pub memory_place : Sites → NodeTree → Option ℕ → Tree → Sites
+memory_place path n site e = path ++ memory_site n site e ∷ []

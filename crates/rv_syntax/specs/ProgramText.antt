@@ -1,5 +1,6 @@
 -- The grammar of a program's text.
---     node     = 'node' NAME '(' group ')' 'returns' '(' output ')' ';' 'let' equation 'tel'
+--     node     = 'node' NAME '(' group ')' 'returns' '(' output ')' ';' [ 'var' group ';' ]
+--                'let' equation { equation } 'tel'
 --     group    = names ':' 'bool'
 --     names    = NAME { ',' NAME }
 --     output   = NAME ':' 'bool'
@@ -15,7 +16,8 @@ use Rattle.rv_syntax.specs.declared.tree.TypeName.TheVariants as typed
 use Rattle.rv_syntax.specs.Tree.{Tree, EquationTree, NodeTree, ProgramTree}
 use Rattle.rv_syntax.specs.Lexing.{lex}
 use Rattle.rv_syntax.specs.Nesting.{IsExpr}
-use Rattle.rv_syntax.specs.Rules.{Gives, Word, Part, Each}
+use Rattle.rv_syntax.specs.Sites.{with_sites}
+use Rattle.rv_syntax.specs.Rules.{Gives, Word, Part, OneOf, Each}
 
 -- a name, with the offset of its token
 abbrev pub IsName : Name → List Token → Type 0
@@ -60,28 +62,41 @@ IsInputs = Word mark.Open (Part IsGroup (λ ds. Word mark.Close (Gives ds)))
 abbrev pub IsReturns : Decl → List Token → Type 0
 IsReturns = Word mark.Returns (Word mark.Open (Part IsOutput (λ d. Word mark.Close (Word mark.Semi (Gives d)))))
 
--- 'let' equation 'tel'
-abbrev pub IsBody : EquationTree → List Token → Type 0
-IsBody = Word mark.Let (Part IsEquation (λ q. Word mark.Tel (Gives q)))
+-- 'var' names ':' 'bool' ';'
+abbrev pub IsVar : List Decl → List Token → Type 0
+IsVar = Word mark.Var (Part IsGroup (λ ds. Word mark.Semi (Gives ds)))
 
-abbrev pub node_of : Name → List Decl → Decl → EquationTree → NodeTree
-node_of x inputs output q = record {
+-- [ 'var' names ':' 'bool' ';' ]
+abbrev pub IsLocals : List Decl → List Token → Type 0
+IsLocals = OneOf IsVar (Gives [])
+
+-- equation { equation }
+abbrev pub IsEquations : List EquationTree → List Token → Type 0
+IsEquations = Part IsEquation (λ q. Part (Each IsEquation) (λ more. Gives (q ∷ more)))
+
+-- 'let' equation { equation } 'tel'
+abbrev pub IsBody : List EquationTree → List Token → Type 0
+IsBody = Word mark.Let (Part IsEquations (λ qs. Word mark.Tel (Gives qs)))
+
+abbrev pub node_of : Name → List Decl → Decl → List Decl → List EquationTree → NodeTree
+node_of x inputs output locals qs = record {
   name = x;
   inputs = inputs;
   outputs = output ∷ [];
-  locals = [];
-  equations = q ∷ [];
+  locals = locals;
+  equations = qs;
   assertions = [];
 }
 
--- node = title inputs returns body
+-- node = title inputs returns locals body
 abbrev pub IsNode : NodeTree → List Token → Type 0
-IsNode = Part IsTitle (λ x. Part IsInputs (λ ds. Part IsReturns (λ d. Part IsBody (λ q. Gives (node_of x ds d q)))))
+IsNode = Part IsTitle (λ x. Part IsInputs (λ ds. Part IsReturns (λ d. Part IsLocals (λ ls. Part IsBody (λ qs. Gives (node_of x ds d ls qs))))))
 
 -- a program of one node
 abbrev pub program_of : NodeTree → ProgramTree
 program_of n = record { types = []; constants = []; nodes = n ∷ [] }
 
--- The grammar derives the tokens of these bytes with this tree, and no expression is nested too deep.
+-- The tree of these bytes: the grammar derives their tokens with a node, no expression of which is nested too deep,
+-- and the tree is that node with its sites.
 abbrev pub IsTextOf : List ℕ → ProgramTree → Type 0
-IsTextOf bytes t = (n : NodeTree) × (t ≡ program_of n) × IsNode n (lex 0 0 bytes)
+IsTextOf bytes t = (n : NodeTree) × (t ≡ program_of (with_sites n)) × IsNode n (lex 0 0 bytes)

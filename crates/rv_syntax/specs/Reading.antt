@@ -1,13 +1,13 @@
 -- How the rules of a program's text are read.
-use Rattle.std.specs.Prelude.{List, ◌∷◌, ◌++◌, map}
+use Rattle.std.specs.Prelude.{List, [], ◌∷◌, ◌++◌, map}
 use Rattle.rv_syntax.specs.declared.token.Mark.{Mark}
 use Rattle.rv_syntax.specs.declared.token.Mark.TheVariants as mark
 use Rattle.rv_syntax.specs.declared.token.Token.{Token}
 use Rattle.rv_syntax.specs.declared.tree.Name.{Name}
 use Rattle.rv_syntax.specs.declared.tree.Decl.{Decl}
 use Rattle.rv_syntax.specs.Tree.{EquationTree, NodeTree}
-use Rattle.rv_syntax.specs.Marks.{is_mark, has_mark, name_of}
-use Rattle.rv_syntax.specs.Parse.{Reading, Parse, bind, then, done, one, many}
+use Rattle.rv_syntax.specs.Marks.{is_mark, is_name, has_mark, name_of}
+use Rattle.rv_syntax.specs.Parse.{Reading, Parse, bind, then, done, one, choose, many}
 use Rattle.rv_syntax.specs.Reads.{expression}
 use Rattle.rv_syntax.specs.ProgramText.{flow, equation_of, node_of}
 
@@ -42,12 +42,24 @@ given = word mark.Open (then group (λ ds. word mark.Close (done ds)))
 unfoldable pub returned : Parse Token Decl
 returned = word mark.Returns (word mark.Open (then output (λ d. word mark.Close (word mark.Semi (done d)))))
 
-unfoldable pub body : Parse Token EquationTree
-body = word mark.Let (then equation (λ q. word mark.Tel (done q)))
+unfoldable pub var : Parse Token (List Decl)
+var = word mark.Var (then group (λ ds. word mark.Semi (done ds)))
+
+unfoldable pub local : Parse Token (List Decl)
+local = choose (is_mark mark.Var) var (done [])
+
+unfoldable pub next_equations : Parse Token (List EquationTree)
+next_equations = many is_name equation
+
+unfoldable pub all_equations : Parse Token (List EquationTree)
+all_equations = then equation (λ q. then next_equations (λ more. done (q ∷ more)))
+
+unfoldable pub body : Parse Token (List EquationTree)
+body = word mark.Let (then all_equations (λ qs. word mark.Tel (done qs)))
 
 unfoldable pub node : Parse Token NodeTree
-node = then title (λ x. then given (λ ds. then returned (λ d. then body (λ q. done (node_of x ds d q)))))
+node = then title (λ x. then given (λ ds. then returned (λ d. then local (λ ls. then body (λ qs. done (node_of x ds d ls qs))))))
 
--- names before those that are read
+-- values before those that are read
 abbrev pub with_front : {A : Type 0} → List A → Reading Token (List A) → Reading Token (List A)
 with_front front r = bind r (λ more. done (front ++ more))

@@ -1,5 +1,5 @@
 -- What the rules of a grammar are made of. A rule says of a value and tokens that these spell that.
-use Rattle.std.specs.Prelude.{◌≡◌, ℕ, List, [], ◌∷◌, ◌++◌}
+use Rattle.std.specs.Prelude.{◌≡◌, ℕ, List, [], ◌∷◌, ◌++◌, ◌⊎◌}
 use Rattle.rv_syntax.specs.declared.token.Mark.{Mark}
 use Rattle.rv_syntax.specs.declared.token.Token.{Token}
 use Rattle.rv_syntax.specs.Grammar.{fixed}
@@ -15,6 +15,10 @@ Word m L b ts = (at : ℕ) × (rest : List Token) × (ts ≡ fixed m at ∷ rest
 -- a part with a value of its own, and then what the rest says of that value
 abbrev pub Part : {T A B : Type 0} → (A → List T → Type 0) → (A → B → List T → Type 0) → B → List T → Type 0
 Part {T = T} {A = A} L M b ts = (a : A) × (part : List T) × (rest : List T) × (ts ≡ part ++ rest) × L a part × M a b rest
+
+-- one rule or the other
+abbrev pub OneOf : {T A : Type 0} → (A → List T → Type 0) → (A → List T → Type 0) → A → List T → Type 0
+OneOf L M a ts = L a ts ⊎ M a ts
 
 -- any number of such parts
 abbrev pub Each : {T A : Type 0} → (A → List T → Type 0) → List A → List T → Type 0

@@ -67,6 +67,8 @@ fn fixed_word(text: &[u8]) -> Option<Mark>
         Some(Mark::Node)
     } else if is(text, b"returns") {
         Some(Mark::Returns)
+    } else if is(text, b"var") {
+        Some(Mark::Var)
     } else if is(text, b"let") {
         Some(Mark::Let)
     } else if is(text, b"tel") {
@@ -79,6 +81,8 @@ fn fixed_word(text: &[u8]) -> Option<Mark>
         Some(Mark::False)
     } else if is(text, b"not") {
         Some(Mark::Not)
+    } else if is(text, b"pre") {
+        Some(Mark::Pre)
     } else if is(text, b"or") {
         Some(Mark::Or)
     } else if is(text, b"and") {
@@ -93,8 +97,7 @@ fn fixed_word(text: &[u8]) -> Option<Mark>
 fn is_reserved(text: &[u8]) -> bool
     ensures { result ≡ spec.is_reserved text.now }
 {
-    is(text, b"var")
-        || is(text, b"const")
+    is(text, b"const")
         || is(text, b"type")
         || is(text, b"enum")
         || is(text, b"int")
@@ -109,7 +112,6 @@ fn is_reserved_operator(text: &[u8]) -> bool
     ensures { result ≡ spec.is_reserved_operator text.now }
 {
     is(text, b"xor")
-        || is(text, b"pre")
         || is(text, b"when")
         || is(text, b"current")
         || is(text, b"assert")
@@ -177,11 +179,11 @@ fn single(b: u8) -> Shape
     }
 }
 
-/// Whether two bytes are a symbol, or begin a comment.
+/// Whether two bytes are a symbol that is not accepted, or begin a comment.
 fn is_pair(a: u8, b: u8) -> bool
     ensures { result ≡ spec.is_pair a b }
 {
-    (a == b'-' && (b == b'>' || b == b'-'))
+    (a == b'-' && b == b'-')
         || (a == b'=' && b == b'>')
         || (a == b'<' && (b == b'>' || b == b'=' || b == b'<'))
         || (a == b'>' && (b == b'=' || b == b'>'))
@@ -197,6 +199,7 @@ fn symbol(first: u8, second: Option<u8>) -> (Shape, usize)
     ensures plain { (w : List ℕ) → spec.IsPlain result.0 w }
 {
     match second {
+        Some(b'>') if first == b'-' => (Shape::Fixed(Mark::Arrow), 2),
         Some(next) if is_pair(first, next) => (Shape::Other, 2),
         _ => (single(first), 1),
     }

@@ -2,7 +2,9 @@
 #![tactic(auto)]
 
 ghost use Rattle.std.specs.Prelude.{◌≡◌, ◌<◌, ◌≤◌, ℕ, List, length, IfOk, IfErr};
+ghost use Rattle.std.specs.List.{Contains};
 ghost use Rattle.rv_syntax.specs.Correct.{Finds, IsRefusal};
+ghost use Rattle.rv_syntax.specs.Delays.{IsNumbered};
 ghost use Rattle.rv_syntax.specs.Lexing.{cut};
 ghost use Rattle.rv_syntax.specs.Longest.{IsLongest};
 ghost use Rattle.rv_syntax.specs.ProgramText.{IsNode, IsTextOf};
@@ -13,6 +15,7 @@ mod lexer;
 mod operator;
 mod parser;
 mod rules;
+mod sites;
 #[cfg(test)]
 mod tests;
 mod token;
@@ -24,6 +27,7 @@ use lexer::tokens_of;
 use parser::Parser;
 use rules::{only, read_node};
 use rv_base::Many;
+use sites::with_sites;
 use std::alloc::Global;
 use token::Token;
 pub use tree::{
@@ -32,8 +36,9 @@ pub use tree::{
 };
 
 /// Reads the bytes of a source of at most 1,048,576 bytes. It answers the tree of the text where the text is
-/// one node without locals whose one equation is built from `true`, `false`, names, brackets, `not`, `and`
-/// and `or`, nested at most 200 deep, and otherwise `LeftOut(0)`. `Memory` comes where memory runs out.
+/// one node with one output, at most one `var` and one or more equations, which are built from `true`, `false`,
+/// names, brackets, `->`, `or`, `and`, `not` and `pre`, nested at most 200 deep, and otherwise `LeftOut(0)`.
+/// `Memory` comes where memory runs out.
 /// Time and memory grow with the length of the source alone.
 pub fn parse(alloc: Global, bytes: &[u8]) -> Result<Program, TextFault>
     requires { length bytes.now ≤ 1048576 }
@@ -46,10 +51,11 @@ pub fn parse(alloc: Global, bytes: &[u8]) -> Result<Program, TextFault>
 {
     let tokens = tokens_of(alloc, bytes)?;
     let node = whole_node(alloc, &tokens)?;
+    let sited = with_sites(alloc, node)?;
     Ok(Program {
         types: Many::new(alloc),
         constants: Many::new(alloc),
-        nodes: only(alloc, node)?,
+        nodes: only(alloc, sited)?,
     })
 }
 
@@ -61,6 +67,12 @@ pub fn one_tree()
 /// Tokens are cut by longest match: what begins a text is one token, and no longer front is one.
 pub fn longest_match()
     ensures { (text : List ℕ) → 0 < length text → IsLongest text (cut text) }
+{}
+
+/// In the tree of a text within the limit the sites of each node are numbered: its flows come first, and each `pre` has
+/// a later site of its own.
+pub fn numbered_sites()
+    ensures { (bytes : List ℕ) (t : ProgramTree) (n : NodeTree) → length bytes ≤ 1048576 → IsTextOf bytes t → Contains t.nodes n → IsNumbered n }
 {}
 
 /// The node that all the tokens are.

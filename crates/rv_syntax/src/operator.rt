@@ -7,11 +7,13 @@ ghost use Rattle.rv_syntax.specs.Grammar as grammar;
 #[derive(Clone, Copy, Debug)]
 pub enum Prefix {
     Not,
+    Pre,
 }
 
 /// An operator between two operands.
 #[derive(Clone, Copy, Debug)]
 pub enum Infix {
+    Arrow,
     Or,
     And,
 }
@@ -22,6 +24,7 @@ impl Infix {
         ensures { result ≡ grammar.level_of self }
     {
         match self {
+            Infix::Arrow => 1,
             Infix::Or => 3,
             Infix::And => 4,
         }
@@ -32,6 +35,7 @@ impl Infix {
         ensures { result ≡ grammar.left_level self }
     {
         match self {
+            Infix::Arrow => 2,
             Infix::Or => 3,
             Infix::And => 4,
         }
@@ -42,6 +46,7 @@ impl Infix {
         ensures { result ≡ grammar.right_level self }
     {
         match self {
+            Infix::Arrow => 1,
             Infix::Or => 4,
             Infix::And => 5,
         }

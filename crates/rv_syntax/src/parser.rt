@@ -38,6 +38,8 @@ fn mark_role(mark: Mark, at: u32) -> Role
     match mark {
         Mark::True | Mark::False => Role::Operand,
         Mark::Not => Role::Before(Prefix::Not, at),
+        Mark::Pre => Role::Before(Prefix::Pre, at),
+        Mark::Arrow => Role::Between(Infix::Arrow, at),
         Mark::Or => Role::Between(Infix::Or, at),
         Mark::And => Role::Between(Infix::And, at),
         Mark::Open => Role::Opens,
@@ -61,6 +63,7 @@ fn joined(alloc: Global, op: Infix, at: u32, left: Expr, right: Expr) -> Result<
     ensures memory { IfErr result (λ e. e ≡ Stop.Memory) }
 {
     let op = match op {
+        Infix::Arrow => Op::Arrow,
         Infix::Or => Op::Or,
         Infix::And => Op::And,
     };
@@ -79,6 +82,7 @@ fn applied(alloc: Global, op: Prefix, at: u32, operand: Expr) -> Result<Expr, St
     let operand = Box::new(alloc, operand)?;
     let form = match op {
         Prefix::Not => ExprForm::Not(operand),
+        Prefix::Pre => ExprForm::Pre(operand),
     };
     Ok(Expr {
         at,
@@ -125,6 +129,9 @@ fn number_of(mark: Mark) -> u8
         Mark::Semi => 13,
         Mark::Colon => 14,
         Mark::Equal => 15,
+        Mark::Var => 16,
+        Mark::Pre => 17,
+        Mark::Arrow => 18,
     }
 }
 
@@ -192,6 +199,16 @@ impl<'a> Parser<'a> {
         match self.tokens {
             [] => false,
             [token, ..] => is_mark(mark, token),
+        }
+    }
+
+    /// Whether the next token is a name.
+    pub fn sees_name(&self) -> bool
+        ensures { result ≡ starts marks.is_name self.now.rest }
+    {
+        match self.tokens {
+            [] => false,
+            [token, ..] => matches!(token.kind, Kind::Name(_)),
         }
     }
 

@@ -146,15 +146,63 @@ fn read_returns(alloc: Global, parser: &mut Parser<'_>) -> Result<Decl, Stop>
     Ok(output)
 }
 
-/// `let`, an equation and `tel`.
+/// `var`, a group and a semicolon.
+#[tactic(auto, unfolding(crate::specs::Reading::var))]
+fn read_var(alloc: Global, parser: &mut Parser<'_>) -> Result<Many<Decl>, Stop>
+    ensures { Reads (same {A = List Decl}) (spec.var parser.old.rest) result parser.new.rest }
+{
+    parser.expect(Mark::Var)?;
+    let locals = read_group(alloc, parser)?;
+    parser.expect(Mark::Semi)?;
+    Ok(locals)
+}
+
+/// The locals, if there are any.
+#[tactic(auto, unfolding(crate::specs::Reading::local))]
+fn read_locals(alloc: Global, parser: &mut Parser<'_>) -> Result<Many<Decl>, Stop>
+    ensures { Reads (same {A = List Decl}) (spec.local parser.old.rest) result parser.new.rest }
+{
+    if parser.sees(Mark::Var) {
+        read_var(alloc, parser)
+    } else {
+        Ok(Many::new(alloc))
+    }
+}
+
+/// Equations, as long as there is a name, after the equations that were found before.
+fn read_next_equations(
+    alloc: Global,
+    parser: &mut Parser<'_>,
+    found: Many<Equation>,
+) -> Result<Many<Equation>, Stop>
+    ensures { Reads (map equation_tree) (spec.with_front (map equation_tree found) (spec.next_equations parser.old.rest)) result parser.new.rest }
+{
+    let mut found = found;
+    'more: while parser.sees_name() {
+        found.push(read_equation(alloc, parser)?)?;
+    }
+    Ok(found)
+}
+
+/// One equation or more.
+#[tactic(auto, unfolding(crate::specs::Reading::all_equations))]
+fn read_equations(alloc: Global, parser: &mut Parser<'_>) -> Result<Many<Equation>, Stop>
+    ensures { Reads (map equation_tree) (spec.all_equations parser.old.rest) result parser.new.rest }
+{
+    let first = read_equation(alloc, parser)?;
+    let found = only(alloc, first)?;
+    read_next_equations(alloc, parser, found)
+}
+
+/// `let`, equations and `tel`.
 #[tactic(auto, unfolding(crate::specs::Reading::body))]
-fn read_body(alloc: Global, parser: &mut Parser<'_>) -> Result<Equation, Stop>
-    ensures { Reads equation_tree (spec.body parser.old.rest) result parser.new.rest }
+fn read_body(alloc: Global, parser: &mut Parser<'_>) -> Result<Many<Equation>, Stop>
+    ensures { Reads (map equation_tree) (spec.body parser.old.rest) result parser.new.rest }
 {
     parser.expect(Mark::Let)?;
-    let equation = read_equation(alloc, parser)?;
+    let equations = read_equations(alloc, parser)?;
     parser.expect(Mark::Tel)?;
-    Ok(equation)
+    Ok(equations)
 }
 
 /// A node.
@@ -165,13 +213,14 @@ pub fn read_node(alloc: Global, parser: &mut Parser<'_>) -> Result<Node, Stop>
     let name = read_title(alloc, parser)?;
     let inputs = read_inputs(alloc, parser)?;
     let output = read_returns(alloc, parser)?;
-    let equation = read_body(alloc, parser)?;
+    let locals = read_locals(alloc, parser)?;
+    let equations = read_body(alloc, parser)?;
     Ok(Node {
         name,
         inputs,
         outputs: only(alloc, output)?,
-        locals: Many::new(alloc),
-        equations: only(alloc, equation)?,
+        locals,
+        equations,
         assertions: Many::new(alloc),
     })
 }

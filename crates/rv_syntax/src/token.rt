@@ -7,12 +7,14 @@ use rv_base::Text;
 pub enum Mark {
     Node,
     Returns,
+    Var,
     Let,
     Tel,
     Bool,
     True,
     False,
     Not,
+    Pre,
     Or,
     And,
     Open,
@@ -21,6 +23,7 @@ pub enum Mark {
     Semi,
     Colon,
     Equal,
+    Arrow,
 }
 
 /// What a token is: a name, a word or a symbol of the accepted language, or anything else.

@@ -6,9 +6,12 @@ use Rattle.rv_cli.specs.Answers.{IsOnSource}
 use Rattle.rv_cli.proofs.Outside.{when_true, when_false, refusal-not_safe, refusal-not_unknown, refusal-on_source, refusal-outside, outside_from_no}
 use Rattle.rv_cli.proofs.prove.report_on_source.Goals as goal
 
+pub is_boolean_program-requires : goal.is_boolean_program-requires
+is_boolean_program-requires c = λ n w. c.numbered_sites.ensures c.args.source.now (program_tree c.in-Ok.program) n c.requires c.in-Ok.ensures.found w
+
 pub returns-in-Ok-true-clause-safe : goal.returns-in-Ok-true-clause-safe
 returns-in-Ok-true-clause-safe c = λ _.
-    let accepted : IsBooleanProgram (program_tree c.in-Ok.program) c.args.node.now = when_true _ _ _ c.is_boolean_program.ensures c.if-not-is_boolean_program.false in
+    let accepted : IsBooleanProgram (program_tree c.in-Ok.program) c.args.node.now = when_true _ _ _ c.in-Ok-is_boolean_program.ensures c.if-not-accepted.false in
     let everywhere : HoldsEverywhere (program_tree c.in-Ok.program) c.args.node.now =
     when_true _ _ _ c.in-Ok-true.ensures c.in-Ok-true.field-0-test in
     record {
@@ -22,7 +25,7 @@ pub returns-in-Ok-true-clause-safe_everywhere : goal.returns-in-Ok-true-clause-s
 returns-in-Ok-true-clause-safe_everywhere c = λ _. record {
   program = program_tree c.in-Ok.program;
   text = c.in-Ok.ensures.found;
-  accepted = when_true _ _ _ c.is_boolean_program.ensures c.if-not-is_boolean_program.false;
+  accepted = when_true _ _ _ c.in-Ok-is_boolean_program.ensures c.if-not-accepted.false;
   holds = when_true _ _ _ c.in-Ok-true.ensures c.in-Ok-true.field-0-test;
 }
 
@@ -42,9 +45,9 @@ returns-in-Err-clause-refused c = λ fault h.
 pub returns-in-Err-clause-only : goal.returns-in-Err-clause-only
 returns-in-Err-clause-only c = subst IsOnSource (sym c.refusal.ensures) (refusal-on_source c.in-Err.fault)
 
-pub returns-then-not-is_boolean_program-clause-refused : goal.returns-then-not-is_boolean_program-clause-refused
-returns-then-not-is_boolean_program-clause-refused c = λ fault h. (
+pub returns-then-not-accepted-clause-refused : goal.returns-then-not-accepted-clause-refused
+returns-then-not-accepted-clause-refused c = λ fault h. (
   cc,
   outside_from_no c.args.source.now c.args.node.now (program_tree c.in-Ok.program) c.in-Ok.ensures.only
-      (when_false _ _ _ c.is_boolean_program.ensures c.if-not-is_boolean_program.true),
+      (when_false _ _ _ c.in-Ok-is_boolean_program.ensures c.if-not-accepted.true),
 )

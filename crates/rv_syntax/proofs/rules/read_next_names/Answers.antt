@@ -1,4 +1,7 @@
 use Rattle.std.proofs.Common.{sym, ◌∙◌}
+use Rattle.std.specs.Prelude.{List}
+use Rattle.rv_syntax.specs.declared.tree.Name.{Name}
+use Rattle.rv_syntax.specs.Reads.{same}
 use Rattle.std.proofs.lemmas.Result.{err_from_is_err_and}
 use Rattle.rv_syntax.specs.Reading.{with_front, next_names}
 use Rattle.rv_syntax.proofs.Loop.{goes-on, fewer, ends, faults}
@@ -7,7 +10,7 @@ use Rattle.rv_syntax.proofs.rules.read_next_names.Goals as goal
 pub returns-in_err-read_next_name : goal.returns-in_err-read_next_name
 returns-in_err-read_next_name c =
     let p = err_from_is_err_and c.from_residual.result c.from_residual.ensures.1 in
-    rw (p.1, p.2) (faults c.in_err-read_next_name.field-0.0 (with_front c.args.found (next_names c.args.parser.now.rest)) c.more.found c.more.parser.rest c.read_next_name.new.parser.rest
+    rw (p.1, p.2) (faults {X = List Name} {Y = Name} same same c.in_err-read_next_name.field-0.0 (with_front c.args.found (next_names c.args.parser.now.rest)) c.more.found c.more.parser.rest c.read_next_name.new.parser.rest
     (sym c.more-test.true ∙ c.sees.ensures) c.more.invariant c.in_err-read_next_name.ensures)
 
 pub more-smaller : goal.more-smaller
