@@ -24,6 +24,7 @@ pub mod Instants
 pub mod BooleanRuns
 pub mod Verdicts
 pub mod Initial
+pub mod Momentary
 pub mod SampleNodes
 pub mod Examples
 pub mod HashedNames

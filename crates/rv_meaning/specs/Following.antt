@@ -1,10 +1,11 @@
 -- When a valuation is that of a run at an instant.
-use Rattle.std.specs.Prelude.{◌≡◌, ℕ, false, Option, Some, slice_get}
+use Rattle.std.specs.Prelude.{◌≡◌, ℕ, Bool, true, false, ◌&&◌, Option, Some, slice_get}
 use Rattle.std.specs.List.{Contains}
 use Rattle.rv_base.specs.declared.value.Value.{Value}
 use Rattle.rv_base.specs.declared.value.Value.TheVariants.{Flag}
 use Rattle.rv_syntax.specs.declared.tree.Decl.{Decl}
-use Rattle.rv_syntax.specs.Tree.{ProgramTree}
+use Rattle.rv_syntax.specs.declared.tree.Op.TheVariants as op
+use Rattle.rv_syntax.specs.Tree.{Tree, Node, Form, True, False, Named, Not, Binary, EquationTree, NodeTree, ProgramTree}
 use Rattle.rv_syntax.specs.Places.{Identifier, Sites}
 use Rattle.rv_meaning.specs.Clocks.{Base}
 use Rattle.rv_meaning.specs.Instances.{Instance, clock_in, node_of, IsInstance}
@@ -35,3 +36,21 @@ spelled_starts v p = Flag (v.kept p 0)
 
 abbrev pub spelled_inputs : Valuation → ℕ → ℕ → Value
 spelled_inputs v t j = Flag (v.input j 0)
+
+-- The expression is of `true`, `false`, names, `not`, `and` and `or` alone: no instant before says anything of it.
+abbrev mutual
+  pub is_momentary : Tree → Bool
+  is_momentary (Node at site form) = form_is_momentary form
+
+  pub form_is_momentary : Form → Bool
+  form_is_momentary True = true
+  form_is_momentary False = true
+  form_is_momentary (Named x) = true
+  form_is_momentary (Not e) = is_momentary e
+  form_is_momentary (Binary op.And a b) = is_momentary a && is_momentary b
+  form_is_momentary (Binary op.Or a b) = is_momentary a && is_momentary b
+  form_is_momentary _ = false
+
+-- All right sides of the node are such.
+abbrev pub IsMomentary : NodeTree → Type 0
+IsMomentary n = (q : EquationTree) → Contains n.equations q → is_momentary q.right ≡ true

@@ -7,11 +7,12 @@ ghost use Rattle.rv_base.specs.declared.value.Value.TheVariants.{Flag};
 ghost use Rattle.rv_syntax.specs.Tree.{ProgramTree};
 ghost use Rattle.rv_syntax.specs.Places.{Identifier, Sites};
 ghost use Rattle.rv_meaning.specs.Runs.{History, Instant, cell, cells, observer_place, AssertionsHold, AreStarts, AreInputs, IsRun, IsAllowed, IsSafe, Falsifies};
+ghost use Rattle.rv_meaning.specs.Instances.{node_of};
 ghost use Rattle.rv_meaning.specs.Needs.{IsSequence};
 ghost use Rattle.rv_meaning.specs.Accepted.{IsAcceptable};
 ghost use Rattle.rv_meaning.specs.Valuations.{Valuation, IsSymbolicInstant, IsNext, AllowsAt, HoldsEverywhere, FailsSomewhere};
 ghost use Rattle.rv_meaning.specs.Boolean.{IsBooleanProgram};
-ghost use Rattle.rv_meaning.specs.Following.{Follows, IsInitial, spelled_starts, spelled_inputs};
+ghost use Rattle.rv_meaning.specs.Following.{Follows, IsInitial, IsMomentary, spelled_starts, spelled_inputs};
 ghost use Rattle.rv_meaning.specs.Samples.{main, excluded_middle, identity, latch};
 
 /// Two runs with the same starts and inputs are equal, where the flows stand in an order of evaluation.
@@ -77,6 +78,14 @@ pub fn everywhere_is_safe()
 pub fn initial_falsifies()
     ensures { (program : ProgramTree) (main : Identifier) (v : Valuation) (row : Instant)
         → IsBooleanProgram program main → IsInitial v → IsSymbolicInstant program main v row → AllowsAt program main v row
+        → cell row (observer_place program main) ≡ Some (Flag false) → Falsifies program main (spelled_starts v) (spelled_inputs v) 0 }
+{}
+
+/// Where no right side of a Boolean node has a `->` or a `pre`, each valuation at which its observer is false gives start
+/// values and inputs that have a run that falsifies at once.
+pub fn momentary_falsifies()
+    ensures { (program : ProgramTree) (main : Identifier) (v : Valuation) (row : Instant)
+        → IsBooleanProgram program main → IsMomentary (node_of program main) → IsSymbolicInstant program main v row
         → cell row (observer_place program main) ≡ Some (Flag false) → Falsifies program main (spelled_starts v) (spelled_inputs v) 0 }
 {}
 

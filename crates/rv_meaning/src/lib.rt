@@ -10,7 +10,7 @@ mod tests;
 pub use laws::{
     everywhere_is_safe, exactly_one_instant, exactly_one_run, excluded_middle_is_safe,
     following_instants, following_next, identity_is_falsified, initial_falsifies, instants_agree,
-    latch_is_safe, one_run, some_run,
+    latch_is_safe, momentary_falsifies, one_run, some_run,
 };
 pub use memory_list::memories;
 pub use names::Names;
