@@ -21,7 +21,8 @@ use Rattle.rv_flat.specs.Numbers.{memory_places, kept_bits, input_bits, variable
 use Rattle.rv_flat.specs.Instants.{nth, places, row_of, instant_of, IsFlatOf, bits_of, valuation_of}
 use Rattle.rv_flat.proofs.Observed.{Spells, spells}
 use Rattle.rv_cli.specs.Codes.{IsAlwaysTrue, IsSometimesFalse}
-use Rattle.rv_cli.proofs.RisingSites.{rising_sites, distinct_places, number_at}
+use Rattle.rv_syntax.proofs.MemorySites.{rising_sites}
+use Rattle.rv_cli.proofs.RisingSites.{distinct_places, number_at}
 
 -- a valuation has one bit for the main tick, one for each memory, and one for each input
 module _ (v : Valuation) where
@@ -79,7 +80,8 @@ module _ (program : ProgramTree) (main : Identifier) (f : Flat) (flat : IsFlatOf
   pub counted : length f.memories + length f.inputs ≡ length (memory_sites (node_of program main)) + length (node_of program main).inputs
   counted =
       let long = ap length flat.memories ∙ length-map (memory_sites (node_of program main)) (λ s. s ∷ []) in
-      omega (arith, long, count_places, flat.inputs)
+      let inputs = sym (length-map f.inputs (λ i. i.name)) ∙ ap length flat.inputs ∙ length-map (node_of program main).inputs (λ d. d.name.text) in
+      omega (arith, long, count_places, inputs)
 
   pub everywhere : IsAlwaysTrue f → HoldsEverywhere program main
   everywhere all v instant symbolic allows =

@@ -18,6 +18,8 @@ use Rattle.rv_flat.specs.declared.parts.Bit.{Bit}
 use Rattle.rv_flat.specs.declared.parts.Bit.TheVariants as bit
 use Rattle.rv_flat.specs.declared.parts.FlatFlow.{FlatFlow}
 use Rattle.rv_flat.specs.declared.parts.FlatMemory.{FlatMemory}
+use Rattle.rv_flat.specs.declared.parts.FlatInput.{FlatInput}
+use Rattle.rv_flat.specs.Instants.{input_names}
 use Rattle.rv_flat.specs.FlatTree.{Node, Input, flat_tree}
 use Rattle.rv_flat.specs.Numbers.{memory_places, kept_bits, input_bits}
 use Rattle.rv_flat.specs.Reads.{number_in, main_places, FlowView, view, views, input_flows, equation_flow, equation_flows}
@@ -116,3 +118,17 @@ flows-more n all kept qs k q made flow lt is one =
 -- there are as many memories as places
 pub places_long : (memories : List FlatMemory) (sites : List ℕ) → memory_places memories ≡ main_places sites → length memories ≡ length sites
 places_long memories sites is = sym (length-map memories (λ m. m.place.sites)) ∙ ap length is ∙ length-map sites (λ s. s ∷ [])
+
+-- one more input, by its name
+pub inputs-named : (ds : List Decl) (k : ℕ) (d : Decl) (made : List FlatInput) (input : FlatInput) → k < length ds → d ≡ get_or ds k d → input.name ≡ d.name.text
+    → input_names (made ++ input ∷ []) ++ names (drop (k + 1) ds) ≡ input_names made ++ names (drop k ds)
+inputs-named ds k d made input lt is named =
+    ap (λ l. l ++ names (drop (k + 1) ds)) (map_push (λ (i : FlatInput). i.name) made input)
+    ∙ append_assoc (input_names made) (input.name ∷ []) (names (drop (k + 1) ds))
+    ∙ ap (λ x. input_names made ++ x ∷ names (drop (k + 1) ds)) named
+    ∙ ap (λ l. input_names made ++ names l)
+    (sym (drop-cons ds k d lt ∙ ap (λ e. e ∷ drop (suc k) ds) (sym is) ∙ ap (λ n. d ∷ drop n ds) (let next : suc k ≡ k + 1 = omega arith in next)))
+
+-- there are as many inputs as names
+pub inputs_long : (inputs : List FlatInput) (ds : List Decl) → input_names inputs ≡ names ds → length inputs ≡ length ds
+inputs_long inputs ds is = sym (length-map inputs (λ i. i.name)) ∙ ap length is ∙ length-map ds (λ d. d.name.text)

@@ -19,6 +19,7 @@ use Rattle.rv_meaning.specs.Needs.{Giver, Given, Of, Gives, given, by_equation, 
 use Rattle.rv_meaning.specs.Valuations.{Valuation, spelled, is_on_in, memory, symbol, symbolic_right, IsSymbolicInstant}
 use Rattle.rv_meaning.specs.Meaning.{kept_place}
 use Rattle.rv_meaning.specs.Boolean.{IsBooleanTree, IsBooleanNode, AreOrdered, lefts}
+use Rattle.rv_syntax.proofs.MemorySites.{site_kept}
 use Rattle.rv_meaning.proofs.Distinct.{none_in, found, is_found}
 use Rattle.rv_meaning.proofs.BooleanTrees.{on_base}
 use Rattle.rv_meaning.proofs.Plain.{IsPlain}
@@ -36,7 +37,7 @@ use Rattle.rv_flat.specs.Reads.{number_in, flat_of, FlowView, views, input_flows
 use Rattle.rv_flat.proofs.RowsOf.{AreApart, read_back, has_places, kept_row}
 use Rattle.rv_flat.proofs.Same.{numbered, bodies_of, inputs_ordered, left_of, equations_ordered, truth_same}
 use Rattle.rv_flat.proofs.Node.{input_site, output_site, observer_known}
-use Rattle.rv_flat.proofs.Kept.{number_there, site_kept}
+use Rattle.rv_flat.proofs.Kept.{number_there}
 
 -- places and bodies of flows are those of their views
 abbrev pub places_of : List FlowView → List Sites

@@ -5,7 +5,7 @@ use Rattle.std.specs.FinMap.{empty, insert}
 use Rattle.rv_base.specs.declared.value.Value.{Value}
 use Rattle.rv_base.specs.declared.value.Value.TheVariants.{Flag}
 use Rattle.rv_syntax.specs.Tree.{ProgramTree}
-use Rattle.rv_syntax.specs.Places.{Identifier, Sites, index_of}
+use Rattle.rv_syntax.specs.Places.{Identifier, Sites, names, index_of}
 use Rattle.rv_syntax.specs.Delays.{memory_sites}
 use Rattle.rv_meaning.specs.Instances.{node_of}
 use Rattle.rv_meaning.specs.Meaning.{held, is_true, operate}
@@ -14,6 +14,7 @@ use Rattle.rv_meaning.specs.Valuations.{Valuation, IsSymbolicInstant}
 use Rattle.rv_flat.specs.declared.parts.Bit.{Bit}
 use Rattle.rv_flat.specs.declared.parts.Bit.TheVariants as bit
 use Rattle.rv_flat.specs.declared.parts.FlatFlow.{FlatFlow}
+use Rattle.rv_flat.specs.declared.parts.FlatInput.{FlatInput}
 use Rattle.rv_flat.specs.declared.flat.Flat.{Flat}
 use Rattle.rv_flat.specs.FlatTree.{FlatTree, Node, TreeForm, Constant, Flow, Memory, Ticked, Input, Not, Binary, If}
 use Rattle.rv_flat.specs.Numbers.{bodies, memory_places}
@@ -64,11 +65,15 @@ instant_of [] row = empty
 instant_of (p ∷ ps) [] = empty
 instant_of (p ∷ ps) (x ∷ row) = insert (instant_of ps row) p x
 
--- The flat system is that of the program: both have the same name, as many inputs and the same memories, at every valuation
+-- the names of the inputs
+abbrev pub input_names : List FlatInput → List Identifier
+input_names inputs = map (λ i. i.name) inputs
+
+-- The flat system is that of the program: both have the same name, the same inputs and the same memories, at every valuation
 -- they have the same instants, and the observer is the same flow.
 pub record IsFlatOf (program : ProgramTree) (main : Identifier) (f : Flat) : Type 0 where
   pub name : f.main ≡ main
-  pub inputs : length f.inputs ≡ length (node_of program main).inputs
+  pub inputs : input_names f.inputs ≡ names (node_of program main).inputs
   pub memories : memory_places f.memories ≡ map (λ s. s ∷ []) (memory_sites (node_of program main))
   pub observer : slice_index_or (places f.flows) f.observer [] ≡ observer_place program main
   pub instants : (v : Valuation) (instant : Instant) → IsSymbolicInstant program main v instant → IsFlatInstant f v (row_of (places f.flows) instant)

@@ -17,6 +17,7 @@ use Rattle.rv_flat.specs.declared.parts.FlatFlow.{FlatFlow}
 use Rattle.rv_flat.specs.declared.flat.Flat.{Flat}
 use Rattle.rv_flat.specs.FlatTree.{FlatTree, Node, TreeForm, Constant, Flow, Memory, Ticked, Input, Not, Binary, If, flat_tree}
 use Rattle.rv_flat.specs.Numbers.{memory_places}
+use Rattle.rv_flat.specs.Instants.{input_names}
 
 -- the program is one Boolean node
 abbrev pub IsFlattenable : ProgramTree → Type 0
@@ -107,7 +108,7 @@ main_places sites = map (λ s. s ∷ []) sites
 pub record HasFlows (n : NodeTree) (f : Flat) : Type 0 where
   pub name : f.main ≡ n.name.text
   pub observer : f.observer ≡ index_of (order n) (observer_name n)
-  pub inputs : length f.inputs ≡ length n.inputs
+  pub inputs : input_names f.inputs ≡ names n.inputs
   pub memories : memory_places f.memories ≡ main_places (memory_sites n)
   pub flows : views f.flows ≡ node_flows n
 

@@ -10,7 +10,7 @@ ghost use Rattle.rv_meaning.specs.Numbering.{with_names};
 ghost use Rattle.rv_flat.specs.FlatTree.{flat_tree};
 ghost use Rattle.rv_flat.specs.FlatTree as tree;
 ghost use Rattle.rv_flat.specs.Numbers.{memory_places, kept_bits, input_bits, variables_of};
-ghost use Rattle.rv_flat.specs.Instants.{IsFlatOf};
+ghost use Rattle.rv_flat.specs.Instants.{IsFlatOf, input_names};
 ghost use Rattle.rv_flat.specs.Reads.{IsFlattenable, IsNode, IsFlatEquation, HasFlows, is_leaf, number_in, joined_form, main_places, flat_of, view, views, input_flows as flows_of_inputs, equation_flow as flows_of_equation, equation_flows as flows_of_equations, order};
 ghost use Rattle.rv_flat.specs.Scopes.{IsScopeOf, IsFit};
 
@@ -113,7 +113,7 @@ fn add_lefts(equations: &[Equation], known: &mut Names) -> Result<(), Memory>
 
 /// The inputs, by their names.
 fn flat_inputs(alloc: Global, inputs: &[Decl]) -> Result<Many<FlatInput>, Memory>
-    ensures { IfOk result (λ made. length made ≡ length inputs.now) }
+    ensures { IfOk result (λ made. input_names made ≡ names inputs.now) }
 {
     let mut made = Vec::new(alloc);
     for input in inputs {

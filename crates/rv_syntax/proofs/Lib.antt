@@ -16,3 +16,4 @@ pub mod Counting
 pub mod Spelled
 pub mod Joined
 pub mod Numbered
+pub mod MemorySites

@@ -1,12 +1,13 @@
 //! From the bytes of a Lustre source to its syntax tree.
 #![tactic(auto)]
 
-ghost use Rattle.std.specs.Prelude.{◌≡◌, ◌<◌, ◌≤◌, ℕ, List, length, IfOk, IfErr};
+ghost use Rattle.std.specs.Prelude.{◌≡◌, ◌<◌, ◌≤◌, ℕ, List, length, slice_index_or, IfOk, IfErr};
 ghost use Rattle.std.specs.List.{Contains};
 ghost use Rattle.rv_syntax.specs.Correct.{Finds, IsRefusal};
-ghost use Rattle.rv_syntax.specs.Delays.{IsNumbered};
+ghost use Rattle.rv_syntax.specs.Delays.{Delay, node_delays, memory_sites, IsNumbered};
 ghost use Rattle.rv_syntax.specs.Lexing.{cut};
 ghost use Rattle.rv_syntax.specs.Longest.{IsLongest};
+ghost use Rattle.rv_syntax.specs.Places.{memory_site};
 ghost use Rattle.rv_syntax.specs.ProgramText.{IsNode, IsTextOf};
 ghost use Rattle.rv_syntax.specs.Tree.{NodeTree, ProgramTree, node_tree, program_tree};
 
@@ -73,6 +74,13 @@ pub fn longest_match()
 /// a later site of its own.
 pub fn numbered_sites()
     ensures { (bytes : List ℕ) (t : ProgramTree) (n : NodeTree) → length bytes ≤ 1048576 → IsTextOf bytes t → Contains t.nodes n → IsNumbered n }
+{}
+
+/// The memories of a node stand at the sites that its `pre` and `current` read, each once and in rising order.
+pub fn memories_in_order()
+    ensures rising { (n : NodeTree) (j k : ℕ) → j < k → k < length (memory_sites n) → slice_index_or (memory_sites n) j 0 < slice_index_or (memory_sites n) k 0 }
+    ensures all { (n : NodeTree) (d : Delay) → Contains (node_delays n) d → Contains (memory_sites n) (memory_site n d.site d.operand) }
+    ensures only { (n : NodeTree) (s : ℕ) → Contains (memory_sites n) s → (d : Delay) × Contains (node_delays n) d × (memory_site n d.site d.operand ≡ s) }
 {}
 
 /// The node that all the tokens are.

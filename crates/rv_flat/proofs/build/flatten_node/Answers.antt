@@ -6,7 +6,7 @@ use Rattle.rv_syntax.specs.Delays.{memory_sites}
 use Rattle.rv_flat.specs.Numbers.{are_ordered, bodies, variables_of}
 use Rattle.rv_flat.specs.Reads.{views, order, main_places, input_flows, equation_flows, observer_name, IsFlatEquation}
 use Rattle.rv_flat.proofs.Node.{few_sites, few_flows, few_memories, flow_back, all_flat, observer_known, first_name}
-use Rattle.rv_flat.proofs.Building.{places_long}
+use Rattle.rv_flat.proofs.Building.{inputs_long, places_long}
 use Rattle.rv_flat.proofs.Whole.{flows_ordered, observer_there}
 use Rattle.rv_flat.proofs.build.flatten_node.Goals as goal
 
@@ -41,7 +41,7 @@ number_of-requires-clause-known c =
 pub invariant_of-result-clause-numbered : goal.invariant_of-result-clause-numbered
 invariant_of-result-clause-numbered c =
     let places = ap main_places c.deref.ensures.value ∙ sym (c.in_ok-flat_memories.ensures ∙ ap main_places c.deref-2.ensures.value) in
-    let inputs = c.len.ensures ∙ sym (c.in_ok-flat_inputs.ensures ∙ ap length c.as_slice-3.ensures) in
+    let inputs = c.len.ensures ∙ sym (inputs_long c.in_ok-flat_inputs.field-0 c.args.node.now.inputs (c.in_ok-flat_inputs.ensures ∙ ap names c.as_slice-3.ensures)) in
     c.in_ok-variables.ensures ∙ (λ i. variables_of (places i) (inputs i))
 
 pub invariant_of-result-clause-ordered : goal.invariant_of-result-clause-ordered
@@ -49,7 +49,7 @@ invariant_of-result-clause-ordered c =
     let n = node_tree c.args.node.now in
     let places = c.in_ok-flat_memories.ensures ∙ ap main_places (c.deref-2.ensures.value ∙ c.in_ok-scope.ensures.memories) in
     let memories = places_long c.in_ok-flat_memories.field-0 (memory_sites n) places in
-    let inputs = c.in_ok-flat_inputs.ensures ∙ ap length c.as_slice-3.ensures in
+    let inputs = inputs_long c.in_ok-flat_inputs.field-0 c.args.node.now.inputs (c.in_ok-flat_inputs.ensures ∙ ap names c.as_slice-3.ensures) in
     (λ i. are_ordered (memories i) (inputs i) 0 (bodies c.from_vec.result))
     ∙ flows_ordered c.requires.0 c.requires.1 n c.requires.2 c.from_vec.result
     (ap views c.from_vec.ensures ∙ c.in_ok-add_equations.ensures n c.in_ok-scope.ensures
@@ -72,7 +72,7 @@ returns c =
     record {
       name = sym c.in_ok-clone.ensures.cases;
       observer = c.number_of.ensures ∙ (λ i. index_of (c.in_ok-scope.ensures.order i) (sym is i));
-      inputs = c.in_ok-flat_inputs.ensures ∙ ap length c.as_slice-3.ensures;
+      inputs = c.in_ok-flat_inputs.ensures ∙ ap names c.as_slice-3.ensures;
       memories = c.in_ok-flat_memories.ensures ∙ ap main_places (c.deref-2.ensures.value ∙ c.in_ok-scope.ensures.memories);
       flows =
           (ap views c.from_vec.ensures ∙ c.in_ok-add_equations.ensures n c.in_ok-scope.ensures
