@@ -1,14 +1,15 @@
 -- What a fault of text, or a test that failed, says of the bytes.
-use Rattle.std.proofs.Common.{◌≡◌, ℕ, List, Bool, true, false, true≢false, subst, sym, MatchBool, Err}
-use Rattle.rv_syntax.specs.Tree.{ProgramTree, program_tree}
+use Rattle.std.proofs.Common.{◌≡◌, ℕ, List, Bool, true, false, true≢false, subst, sym, inl, inr, MatchBool}
+use Rattle.rv_syntax.specs.Tree.{ProgramTree}
 use Rattle.rv_syntax.specs.Places.{Identifier}
 use Rattle.rv_syntax.specs.ProgramText.{IsTextOf}
-use Rattle.rv_syntax.specs.Correct.{Finds, IsRefusal}
+use Rattle.rv_syntax.specs.Correct.{Explains}
+use Rattle.rv_syntax.specs.Faults.{IsFault}
 use Rattle.rv_syntax.specs.declared.fault.TextFault.{TextFault}
 use Rattle.rv_syntax.specs.declared.fault.TextFault.TheVariants.{BadText, TooDeep, LeftOut, Memory as TextMemory}
 use Rattle.rv_meaning.specs.Boolean.{IsBooleanProgram}
 use Rattle.rv_cli.specs.Answers.{IsOnSource}
-use Rattle.rv_cli.specs.Programs.{IsOutside}
+use Rattle.rv_cli.specs.Programs.{IsRefusedFor}
 use Rattle.rv_cli.specs.Refusals.{refusal_of}
 use Rattle.rv_cli.specs.declared.report.Report.TheVariants.{Safe, Unknown, Refused}
 use Rattle.rv_cli.specs.declared.report.SourceFault.{SourceFault}
@@ -42,19 +43,17 @@ refusal-on_source (BadText at) = tt
 refusal-on_source (TooDeep at) = tt
 refusal-on_source (LeftOut at) = tt
 
--- a text that is refused has no tree
-pub refusal-outside : (bytes : List ℕ) (node : Identifier) (e : TextFault) (fault : SourceFault)
-    → ((t : ProgramTree) → IsTextOf bytes t → Finds program_tree t (Err e)) → IsRefusal e → refusal_of e ≡ Refused fault
-    → (fault ≡ Text (LeftOut 0)) × IsOutside bytes node
-refusal-outside bytes node TextMemory fault only is h = absurd (let different : ⊥ = cc in different)
-refusal-outside bytes node (BadText at) fault only is h = absurd is
-refusal-outside bytes node (TooDeep at) fault only is h = absurd is
-refusal-outside bytes node (LeftOut at) fault only is h =
-    let same : fault ≡ Text (LeftOut at) = cc in
-    let zero : fault ≡ Text (LeftOut 0) = cc in
-    (zero, λ t text accepted. only t text)
+-- a fault of text is told as it is
+pub refusal-refused : (bytes : List ℕ) (node : Identifier) (e : TextFault) (fault : SourceFault) → Explains bytes e → refusal_of e ≡ Refused fault
+    → IsRefusedFor fault bytes node
+refusal-refused bytes node TextMemory fault is h = absurd (let different : ⊥ = cc in different)
+refusal-refused bytes node (BadText at) (Text fault) is h = let same : BadText at ≡ fault = cc in inl (subst (IsFault bytes) same is)
+refusal-refused bytes node (TooDeep at) (Text fault) is h = let same : TooDeep at ≡ fault = cc in inl (subst (IsFault bytes) same is)
+refusal-refused bytes node (LeftOut at) (Text fault) is h = let same : LeftOut at ≡ fault = cc in inl (subst (IsFault bytes) same is)
 
--- a text whose one tree is not of the accepted form is outside
-pub outside_from_no : (bytes : List ℕ) (node : Identifier) (p : ProgramTree) → ((t : ProgramTree) → IsTextOf bytes t → p ≡ t)
-    → ¬ IsBooleanProgram p node → IsOutside bytes node
-outside_from_no bytes node p only denied = λ t text accepted. denied (subst (λ q. IsBooleanProgram q node) (sym (only t text)) accepted)
+-- a tree that is not of the accepted form is told as `LeftOut` with 0
+pub other-refused : (bytes : List ℕ) (node : Identifier) (p : ProgramTree) (fault : SourceFault) → IsTextOf bytes p → ¬ IsBooleanProgram p node
+    → Refused (Text (LeftOut 0)) ≡ Refused fault → IsRefusedFor fault bytes node
+other-refused bytes node p (Text fault) text denied h =
+    let same : LeftOut 0 ≡ fault = cc in
+    inr (sym same, record { program = p; text = text; other = denied })

@@ -4,7 +4,7 @@ ghost use Rattle.std.specs.Prelude.{◌≡◌, ◌≤◌, length};
 ghost use Rattle.rv_meaning.specs.Runs.{IsSafe};
 ghost use Rattle.rv_meaning.specs.Valuations.{HoldsEverywhere, FailsSomewhere};
 ghost use Rattle.rv_cli.specs.Answers.{IsOnSource};
-ghost use Rattle.rv_cli.specs.Programs.{OnProgram, IsOutside};
+ghost use Rattle.rv_cli.specs.Programs.{OnProgram, IsRefusedFor};
 ghost use Rattle.rv_cli.specs.Refusals.{refusal_of};
 ghost use Rattle.rv_cli.specs.declared.report.SourceFault.{SourceFault};
 
@@ -19,14 +19,14 @@ use std::alloc::Global;
 pub const SOURCE_LIMIT: u64 = 1_048_576;
 
 /// Safe where the observer of the node is true at every valuation, Unknown where it is false at some, and Refused
-/// where the bytes are no text of the accepted form with this node.
+/// where the bytes have no tree, with the fault of the first offending token, or their tree is not of the accepted
+/// form with this node.
 pub fn report_on_source(alloc: Global, source: &[u8], node: &str) -> Report
     requires { length source.now ≤ SOURCE_LIMIT }
     ensures safe { result ≡ Report.Safe → OnProgram IsSafe source.now node.now }
     ensures safe_everywhere { result ≡ Report.Safe → OnProgram HoldsEverywhere source.now node.now }
     ensures unknown { result ≡ Report.Unknown → OnProgram FailsSomewhere source.now node.now }
-    ensures refused { (fault : SourceFault) → result ≡ Report.Refused fault
-        → (fault ≡ SourceFault.Text (TextFault.LeftOut 0)) × IsOutside source.now node.now }
+    ensures refused { (fault : SourceFault) → result ≡ Report.Refused fault → IsRefusedFor fault source.now node.now }
     ensures only { IsOnSource result }
 {
     let program = match parse(alloc, source) {

@@ -9,7 +9,7 @@ ghost use Rattle.rv_meaning.specs.Runs.{IsSafe};
 ghost use Rattle.rv_meaning.specs.Valuations.{HoldsEverywhere, FailsSomewhere};
 ghost use Rattle.rv_cli.specs.Words.{texts, command};
 ghost use Rattle.rv_cli.specs.Answers.{OnFile, IsTold, IsUnlessCutOff};
-ghost use Rattle.rv_cli.specs.Programs.{OnProgram, IsOutside};
+ghost use Rattle.rv_cli.specs.Programs.{OnProgram, IsRefusedFor};
 ghost use Rattle.rv_cli.specs.Printed.{text_of, status_of};
 ghost use Rattle.rv_cli.specs.declared.report.SourceFault.{SourceFault};
 
@@ -18,7 +18,7 @@ use crate::prove::{SOURCE_LIMIT, report_on_source};
 use crate::report::{Outcome, Report, Sent, status, text};
 use crate::words::read_words;
 use rv_base::{Files, PutFault, Sink};
-use rv_syntax::{TextFault, one_tree};
+use rv_syntax::{one_fault, one_tree};
 use std::alloc::Global;
 
 /// The status where there is no memory.
@@ -36,7 +36,7 @@ fn report_on<F: Files>(alloc: Global, words: &[String], files: &mut F) -> Report
     ensures not_too_long { (result ≡ Report.Safe) ⊎ (result ≡ Report.Unknown)
         → OnFile (F.held files.old) (texts words.now) (λ bytes _. length bytes ≤ SOURCE_LIMIT) }
     ensures refused { (fault : SourceFault) → result ≡ Report.Refused fault
-        → (fault ≡ SourceFault.Text (TextFault.LeftOut 0)) × OnFile (F.held files.old) (texts words.now) (λ bytes node. (length bytes ≤ SOURCE_LIMIT) × IsOutside bytes node) }
+        → OnFile (F.held files.old) (texts words.now) (λ bytes node. (length bytes ≤ SOURCE_LIMIT) × IsRefusedFor fault bytes node) }
     ensures too_long { (n : ℕ) → result ≡ Report.TooLong n
         → (n ≡ SOURCE_LIMIT + 1) × OnFile (F.held files.old) (texts words.now) (λ bytes _. SOURCE_LIMIT < length bytes) }
     ensures read_fault { result ≡ Report.ReadFault → Rose (F.faults files.old) (F.faults files.new) }
@@ -79,8 +79,9 @@ fn show<S: Sink>(alloc: Global, report: &Report, out: &mut S) -> Sent
 /// `prove FILE NODE` answers Safe or Unknown on the source under FILE and its node NODE. Usage comes exactly where
 /// the words are not four or the second is not `prove`, ReadFault only where the files count one more fault, and Memory
 /// where there is no memory. Beside these two, TooLong comes exactly where the file is longer than 1,048,576 bytes,
-/// Refused exactly where its bytes are no text of the accepted form with this node, Safe exactly where the observer is
-/// true at every valuation, and Unknown exactly where it is false at some.
+/// Refused exactly where its bytes have no tree, with the fault of their first offending token, or have one that is not
+/// of the accepted form with this node, with `LeftOut` and the number 0; Safe exactly where the observer is true at every
+/// valuation, and Unknown exactly where it is false at some.
 pub fn run<F: Files, S: Sink>(
     alloc: Global,
     words: &Vec<String>,
@@ -94,7 +95,7 @@ pub fn run<F: Files, S: Sink>(
     ensures not_too_long { (result.report ≡ Report.Safe) ⊎ (result.report ≡ Report.Unknown)
         → OnFile (F.held files.old) (texts words.now.items) (λ bytes _. length bytes ≤ SOURCE_LIMIT) }
     ensures refused { (fault : SourceFault) → result.report ≡ Report.Refused fault
-        → (fault ≡ SourceFault.Text (TextFault.LeftOut 0)) × OnFile (F.held files.old) (texts words.now.items) (λ bytes node. (length bytes ≤ SOURCE_LIMIT) × IsOutside bytes node) }
+        → OnFile (F.held files.old) (texts words.now.items) (λ bytes node. (length bytes ≤ SOURCE_LIMIT) × IsRefusedFor fault bytes node) }
     ensures too_long { (n : ℕ) → result.report ≡ Report.TooLong n
         → (n ≡ SOURCE_LIMIT + 1) × OnFile (F.held files.old) (texts words.now.items) (λ bytes _. SOURCE_LIMIT < length bytes) }
     ensures read_fault { result.report ≡ Report.ReadFault → Rose (F.faults files.old) (F.faults files.new) }
@@ -103,8 +104,8 @@ pub fn run<F: Files, S: Sink>(
         → IsUnlessCutOff Report.Safe result.report }
     ensures only_unknown { IsTold (F.held files.old) (texts words.now.items) (λ bytes node. (length bytes ≤ SOURCE_LIMIT) × OnProgram FailsSomewhere bytes node)
         → IsUnlessCutOff Report.Unknown result.report }
-    ensures only_refused { IsTold (F.held files.old) (texts words.now.items) (λ bytes node. (length bytes ≤ SOURCE_LIMIT) × IsOutside bytes node)
-        → IsUnlessCutOff (Report.Refused (SourceFault.Text (TextFault.LeftOut 0))) result.report }
+    ensures only_refused { (fault : SourceFault) → IsTold (F.held files.old) (texts words.now.items) (λ bytes node. (length bytes ≤ SOURCE_LIMIT) × IsRefusedFor fault bytes node)
+        → IsUnlessCutOff (Report.Refused fault) result.report }
     ensures only_too_long { IsTold (F.held files.old) (texts words.now.items) (λ bytes _. SOURCE_LIMIT < length bytes)
         → IsUnlessCutOff (Report.TooLong (SOURCE_LIMIT + 1)) result.report }
     ensures same_held { F.held files.new ≡ F.held files.old }
@@ -119,6 +120,7 @@ pub fn run<F: Files, S: Sink>(
 {
     let report = report_on(alloc, words.as_slice(), files);
     one_tree();
+    one_fault();
     let sent = show(alloc, &report, out);
     let status = status(&report, sent);
     Outcome {

@@ -73,6 +73,7 @@ fn files_of(alloc: Global) -> Result<MemoryFiles, Memory> {
         b"node m(a: bool) returns (ok: bool); let ok = true -> pre ok; tel",
     )?;
     files.add("empty", b"")?;
+    files.add("cut", b"node m(a: bool) retur")?;
     files.add("no_text", &[0, 255, 128, 10])?;
     Ok(files)
 }
@@ -112,7 +113,18 @@ fn answers_on_sources(rt: HostRuntime) -> Result<(), Fail> {
         plain("reaver prove tautology main", REFUSED, 3, refused),
         plain("reaver prove sum m", REFUSED, 3, refused),
         plain("reaver prove empty m", REFUSED, 3, refused),
-        plain("reaver prove no_text m", REFUSED, 3, refused),
+        plain(
+            "reaver prove no_text m",
+            Report::Refused(SourceFault::Text(TextFault::BadText(0))),
+            3,
+            "reaver,refused,1,badtext,0\n",
+        ),
+        plain(
+            "reaver prove cut m",
+            Report::Refused(SourceFault::Text(TextFault::BadText(16))),
+            3,
+            "reaver,refused,1,badtext,16\n",
+        ),
     ] {
         check_row(&rt, rt.alloc(), row)?;
     }

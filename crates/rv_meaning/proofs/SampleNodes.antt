@@ -1,12 +1,13 @@
 -- The samples are Boolean programs. The observer of the first holds everywhere, that of the second is false in a
 -- run, and that of the third is true in every run but false at some valuation.
-use Rattle.std.proofs.Common.{◌≡◌, ℕ, zero, suc, ◌<◌, ◌≤◌, Bool, true, false, not, ◌||◌, [], ◌∷◌, length, refl, sym, ◌∙◌, ap, arith, get_or, inl, inr, Some}
+use Rattle.std.proofs.Common.{◌≡◌, ℕ, zero, suc, ◌<◌, ◌≤◌, Bool, true, false, not, ◌||◌, [], ◌∷◌, length, refl, sym, ◌∙◌, ap, subst, arith, get_or, inl, inr, Some}
 use Rattle.std.specs.List.{All, Contains}
 use Rattle.rv_base.specs.declared.value.Value.{Value}
 use Rattle.rv_base.specs.declared.value.Value.TheVariants.{Flag}
 use Rattle.rv_syntax.specs.Tree.{Tree}
 use Rattle.rv_syntax.specs.Places.{Sites, flows}
 use Rattle.rv_syntax.specs.Delays.{Delay, node_delays, IsNumbered}
+use Rattle.rv_syntax.specs.SitedParts.{SitedPart, node_parts}
 use Rattle.rv_meaning.specs.Instances.{Body, IsRight, alone, main_instance, node_of, is_main}
 use Rattle.rv_meaning.specs.Meaning.{is_true, held, is_on}
 use Rattle.rv_meaning.specs.Runs.{History, cell, observed, IsRun, IsSafe, Falsifies}
@@ -56,9 +57,22 @@ boolean_with e b few numbered = (
     distinct (suc j) zero less lt e = absurd (omega arith)
     distinct (suc j) (suc k) less lt e = absurd (omega arith)
 
--- a node without delays is numbered
-no_delay : (e : Tree) → ((d : Delay) → Contains (node_delays (node_with e)) d → ⊥) → IsNumbered (node_with e)
-no_delay e none = record { few = omega arith; beyond = λ d w. absurd (none d w); own = λ d c v w same. absurd (none d v) }
+-- a node in which nothing has a site but its flows is numbered
+no_site : (e : Tree) → node_delays (node_with e) ≡ [] → node_parts (node_with e) ≡ [] → IsNumbered (node_with e)
+no_site e delays parts = record {
+  few = omega arith;
+  beyond = λ d w. absurd (no_delay d w);
+  own = λ d c v w same. absurd (no_delay d v);
+  next = λ p w. absurd (no_part p w);
+  in_order = λ p q s t v w less. absurd (no_part p v);
+  apart = λ i j p less lt. absurd (omega (arith, ap length parts));
+}
+  where
+    no_delay : (d : Delay) → Contains (node_delays (node_with e)) d → ⊥
+    no_delay d w = none_in d (subst (λ ds. Contains ds d) delays w)
+
+    no_part : (p : SitedPart) → Contains (node_parts (node_with e)) p → ⊥
+    no_part p w = none_in p (subst (λ ps. Contains ps p) parts w)
 
 -- the equation of the observer
 right_of : (e : Tree) → IsRight (node_of (program_with e) main) ok (Body e)
@@ -66,7 +80,7 @@ right_of e = alone record { lefts = record { text = ok; at = 0 } ∷ []; right =
 
 -- `ok = a or not a` is of the form
 pub excluded_middle_boolean : IsBooleanProgram excluded_middle main
-excluded_middle_boolean = boolean_with a_or_not_a (refl, refl) (omega arith) (no_delay a_or_not_a (λ d w. none_in d w))
+excluded_middle_boolean = boolean_with a_or_not_a (refl, refl) (omega arith) (no_site a_or_not_a refl refl)
 
 -- and holds everywhere
 pub excluded_middle_holds : HoldsEverywhere excluded_middle main
@@ -79,7 +93,7 @@ excluded_middle_holds v row s allowed =
 
 -- `ok = a` is of the form
 pub identity_boolean : IsBooleanProgram identity main
-identity_boolean = boolean_with name_a refl (omega arith) (no_delay name_a (λ d w. none_in d w))
+identity_boolean = boolean_with name_a refl (omega arith) (no_site name_a refl refl)
 
 -- in the run of one instant whose input is false the observer is false
 pub identity_falsified : (starts : Sites → Value) × (inputs : ℕ → ℕ → Value) × Falsifies identity main starts inputs 0
@@ -102,8 +116,18 @@ latch_boolean = boolean_with kept_ok (tt, refl) (omega arith) record {
   few = omega arith;
   beyond = λ d w. (2, ap (λ (d : Delay). d.site) (sym (the_one d w)), omega arith);
   own = λ d e v w same. sym (the_one d v) ∙ the_one e w;
+  next = λ p w. (2, ap (λ (p : SitedPart). p.site) (sym (the_part p w)), omega arith, omega arith);
+  in_order = λ p q s t v w less. let same : p.at ≡ q.at = ap (λ (p : SitedPart). p.at) (sym (the_part p v) ∙ the_part q w) in absurd (omega arith);
+  apart = λ i j p less lt. absurd (omega arith);
 }
   where
+    -- its one part with a site
+    the_part : (p : SitedPart) → Contains (node_parts (node_with kept_ok)) p → record { at = 0; site = Some 2 } ≡ p
+    the_part p w = elim (contains_cases (record { at = 0; site = Some 2 }) [] p w) [
+      | inl is ↦ is
+      | inr there ↦ absurd (none_in p there)
+    ]
+
     -- its one delay
     the_one : (d : Delay) → Contains (node_delays (node_with kept_ok)) d → record { site = Some 2; operand = name_ok } ≡ d
     the_one d w = elim (contains_cases (record { site = Some 2; operand = name_ok }) [] d w) [

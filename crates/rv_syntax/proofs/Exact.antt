@@ -1,421 +1,532 @@
 -- When a reader reads a rule: each rule's law from the laws of its parts.
-use Rattle.std.proofs.Common.{inl, inr, ◌≡◌, ℕ, zero, suc, ◌+◌, ◌<◌, Bool, true, false, cond, List, [], ◌∷◌, ◌++◌, length, refl, sym, ap, ◌∙◌, subst, arith, append_assoc, length-append}
-use Rattle.std.specs.Prelude.{Option, Some, None, ⊤, Ok, Err}
+use Rattle.std.proofs.Common.{inl, inr, ◌≡◌, ℕ, zero, suc, ◌+◌, ◌<◌, ◌≤◌, Bool, true, false, cond, List, [], ◌∷◌, ◌++◌, length, refl, sym, ap, ◌∙◌, subst, arith, append_assoc, length-append}
+use Rattle.std.specs.Prelude.{Option, Some, None, ⊤, Ok, Err, ◌⊎◌}
 use Rattle.std.proofs.lemmas.List.{append-nil, append_cancel_right}
+use Rattle.rv_syntax.specs.declared.fault.Why.{Why}
+use Rattle.rv_syntax.specs.declared.fault.Why.TheVariants.{Offends, TooDeep}
 use Rattle.rv_syntax.specs.declared.token.Mark.{Mark}
 use Rattle.rv_syntax.specs.declared.token.Token.{Token}
 use Rattle.rv_syntax.specs.Grammar.{fixed}
 use Rattle.rv_syntax.specs.Marks.{has_mark}
-use Rattle.rv_syntax.specs.Rules.{Gives, Word, Part, OneOf, Each}
-use Rattle.rv_syntax.specs.Parse.{Reading, Parse, bind, then, done, stop, one_of, one, starts, choose, turns, many}
+use Rattle.rv_syntax.specs.Nesting.{Standing, behind, behind_all, depth, limit, IsShallowText}
+use Rattle.rv_syntax.specs.Rules.{Gives, Word, Part, OneOf, Each, Maybe}
+use Rattle.rv_syntax.specs.Parse.{Reading, Parse, bind, then, done, stop, one_of, one, starts, choose, after_turn, turns, loop, found, many, maybe}
 use Rattle.rv_syntax.specs.Reading.{word}
 use Rattle.rv_syntax.proofs.Marked.{from-has, has-mark}
+use Rattle.rv_syntax.proofs.Exactly.{Begins, Answers, left, with_left, ReadsAs, Exact}
 
--- The tokens begin a word of the language.
-abbrev pub Begins : {T A : Type 0} → (A → List T → Type 0) → List T → Type 0
-Begins {A = A} L front = (more : _) × (a : A) × L a (front ++ more)
+-- some word
+abbrev pub Has : {A : Type 0} → (A → List Token → Type 0) → Type 0
+Has {A = A} K = (a : A) × (w : List Token) × K a w
 
--- What is found is spelled by what was read; what was read before a fault begins a word.
-abbrev pub Answers : {T A : Type 0} → (A → List T → Type 0) → List T → Reading T A → Type 0
-Answers {T = T} L ts (Ok x) = (w : List T) × (ts ≡ w ++ x.1) × L x.0 w
-Answers {T = T} L ts (Err rest) = (front : List T) × (ts ≡ front ++ rest) × Begins L front
+abbrev pub Passes : {A : Type 0} → (Standing → Type 0) → (Standing → Type 0) → (A → List Token → Type 0) → Type 0
+Passes {A = A} P Q K = (s : Standing) → P s → (a : A) (w : List Token) → K a w → Q (behind_all w s)
 
-abbrev pub left : {T A : Type 0} → Reading T A → List T
-left (Ok x) = x.1
-left (Err rest) = rest
-
-abbrev pub with_left : {T A : Type 0} → List T → Reading T A → Reading T A
-with_left ts (Ok x) = Ok (x.0, ts)
-with_left ts (Err rest) = Err ts
-
-pub record Sound {T A : Type 0} (L : A → List T → Type 0) (p : Parse T A) : Type 0 where
-  pub answers : (ts : List T) → Answers L ts (p ts)
+abbrev pub Sound : {A : Type 0} → (Standing → Type 0) → (A → List Token → Type 0) → Parse A → Type 0
+Sound P K p = (s : Standing) → P s → (ts : List Token) → Answers K s ts (p ts)
 
 -- what is left decides nothing beyond its first token
-pub record Local {T A : Type 0} (p : Parse T A) : Type 0 where
-  pub local : (front : List T) (t : T) (rest other g : List T) → left (p (front ++ t ∷ rest)) ≡ g ++ t ∷ rest → p (front ++ t ∷ other) ≡ with_left (g ++ t ∷ other) (p (front ++ t ∷ rest))
+abbrev pub Local : {A : Type 0} → Parse A → Type 0
+Local p = (front : List Token) (t : Token) (rest other g : List Token) → left (p (front ++ t ∷ rest)) ≡ g ++ t ∷ rest → p (front ++ t ∷ other) ≡ with_left (g ++ t ∷ other) (p (front ++ t ∷ rest))
 
--- A word is read where what follows it is in F.
-pub record Complete {T A : Type 0} (L : A → List T → Type 0) (F : List T → Type 0) (p : Parse T A) : Type 0 where
-  pub reads : (a : A) (w rest : List T) → L a w → F rest → p (w ++ rest) ≡ Ok (a, rest)
+abbrev pub Complete : {A : Type 0} → (Standing → Type 0) → (A → List Token → Type 0) → (List Token → Type 0) → Parse A → Type 0
+Complete {A = A} P K F p = (s : Standing) → P s → (a : A) (w rest : List Token) → K a w → F rest → ReadsAs s a w rest (p (w ++ rest))
 
--- done
-same-rest : {T : Type 0} (front g : List T) (t : T) (rest other : List T) → front ++ t ∷ rest ≡ g ++ t ∷ rest → front ++ t ∷ other ≡ g ++ t ∷ other
+-- ---- Standings.
+pub behind-both : (w v : List Token) (s : Standing) → behind_all (w ++ v) s ≡ behind_all v (behind_all w s)
+behind-both [] v s = refl
+behind-both (t ∷ w) v s = behind-both w v (behind t s)
+
+pub shallow-both : (w v : List Token) (s : Standing) → IsShallowText s w → IsShallowText (behind_all w s) v → IsShallowText s (w ++ v)
+shallow-both [] v s h k = k
+shallow-both (t ∷ w) v s h k = (h.0, shallow-both w v (behind t s) h.1 k)
+
+pub shallow-first : (w v : List Token) (s : Standing) → IsShallowText s (w ++ v) → IsShallowText s w
+shallow-first [] v s h = tt
+shallow-first (t ∷ w) v s h = (h.0, shallow-first w v (behind t s) h.1)
+
+pub shallow-second : (w v : List Token) (s : Standing) → IsShallowText s (w ++ v) → IsShallowText (behind_all w s) v
+shallow-second [] v s h = h
+shallow-second (t ∷ w) v s h = shallow-second w v (behind t s) h.1
+
+abbrev pub IsDeep : List Token → Standing → Type 0
+IsDeep w s = limit < depth (behind_all w s)
+
+deep-later : (w v : List Token) (t : Token) (s : Standing) → IsDeep (v ++ t ∷ []) (behind_all w s) → IsDeep ((w ++ v) ++ t ∷ []) s
+deep-later w v t s h = subst (λ z. limit < depth z) (sym (ap (λ l. behind_all l s) (append_assoc w v (t ∷ [])) ∙ behind-both w (v ++ t ∷ []) s)) h
+
+-- ---- done
+same-rest : (front g : List Token) (t : Token) (rest other : List Token) → front ++ t ∷ rest ≡ g ++ t ∷ rest → front ++ t ∷ other ≡ g ++ t ∷ other
 same-rest front g t rest other h = ap (λ l. l ++ t ∷ other) (append_cancel_right front g (t ∷ rest) h)
 
-pub Local-done : {T A : Type 0} (a : A) → Local {T = T} (done a)
-Local-done a = record { local = λ front t rest other g h. ap (λ l. Ok (a, l)) (same-rest front g t rest other h) }
+local-done : {A : Type 0} (a : A) → Local (done a)
+local-done a front t rest other g h = ap (λ l. Ok (a, l)) (same-rest front g t rest other h)
 
-pub Local-stop : {T A : Type 0} → Local {T = T} {A = A} stop
-Local-stop = record { local = λ front t rest other g h. ap Err (same-rest front g t rest other h) }
+local-stop : {A : Type 0} → Local (stop {A = A})
+local-stop front t rest other g h = ap (λ l. Err (Offends, l)) (same-rest front g t rest other h)
 
--- one token
-abbrev pub IsOne : {T A : Type 0} → (T → Option A) → A → List T → Type 0
-IsOne {T = T} f a w = (t : T) × (w ≡ t ∷ []) × (f t ≡ Some a)
+pub exact-done : {B : Type 0} (P : Standing → Type 0) (b : B) (G : List Token → Type 0) → Exact P P (Gives b) G (done b)
+exact-done P b G = record {
+  some = (b, [], (refl, refl));
+  passes = λ s h a w k. subst (λ z. P (behind_all z s)) (sym k.0) h;
+  answers = λ s h ts. ([], refl, (refl, refl), tt);
+  local = local-done b;
+  reads = λ s h a w rest k g. inl (ap (λ x. Ok (b, x ++ rest)) k.0 ∙ ap (λ x. Ok (x, rest)) (sym k.1));
+}
 
-sound-one_of : {T A : Type 0} (f : T → Option A) (u : T) (b : A) → f u ≡ Some b → (t : T) (ts : List T) (o : Option A) → f t ≡ o → Answers (IsOne f) (t ∷ ts) (one_of o t ts)
-sound-one_of f u b e t ts (Some a) h = (t ∷ [], refl, (t, refl, h))
-sound-one_of f u b e t ts None h = ([], refl, (u ∷ [], b, (u, refl, e)))
+-- ---- one token
+abbrev pub IsOne : {A : Type 0} → (Token → Option A) → A → List Token → Type 0
+IsOne f a w = (t : Token) × (w ≡ t ∷ []) × (f t ≡ Some a)
 
-sound-one-at : {T A : Type 0} (f : T → Option A) (u : T) (b : A) → f u ≡ Some b → (ts : List T) → Answers (IsOne f) ts (one f ts)
-sound-one-at f u b e [] = ([], refl, (u ∷ [], b, (u, refl, e)))
-sound-one-at f u b e (t ∷ ts) = sound-one_of f u b e t ts (f t) refl
+-- Behind such a token the standing is in Q, and no token is too deep.
+abbrev pub Steps : {A : Type 0} → (Token → Option A) → (Standing → Type 0) → (Standing → Type 0) → Type 0
+Steps {A = A} f P Q = (s : Standing) → P s → (t : Token) (a : A) → f t ≡ Some a → Q (behind t s) × (depth (behind t s) ≤ limit)
 
--- Some token is to be the one.
-pub Sound-one : {T A : Type 0} (f : T → Option A) (u : T) (b : A) → f u ≡ Some b → Sound (IsOne f) (one f)
-Sound-one f u b e = record { answers = sound-one-at f u b e }
+answers-one_of : {A : Type 0} (f : Token → Option A) (u : Token) (b : A) → f u ≡ Some b → (s : Standing) (t : Token) (ts : List Token) → ((a : A) → f t ≡ Some a → depth (behind t s) ≤ limit) → (o : Option A) → f t ≡ o → Answers (IsOne f) s (t ∷ ts) (one_of o t ts)
+answers-one_of f u b e s t ts low (Some a) h = (t ∷ [], refl, (t, refl, h), (low a h, tt))
+answers-one_of f u b e s t ts low None h = ([], refl, (u ∷ [], b, (u, refl, e)), tt)
 
-pub Complete-one : {T A : Type 0} (f : T → Option A) → Complete (IsOne f) (λ rest. Unit {0}) (one f)
-Complete-one f = record { reads = λ a w rest l n. ap (λ v. one f (v ++ rest)) l.1 ∙ ap (λ o. one_of o l.0 rest) l.2 }
+answers-one : {A : Type 0} (f : Token → Option A) (u : Token) (b : A) → f u ≡ Some b → (P Q : Standing → Type 0) → Steps f P Q → Sound P (IsOne f) (one f)
+answers-one f u b e P Q step s h [] = ([], refl, (u ∷ [], b, (u, refl, e)), tt)
+answers-one f u b e P Q step s h (t ∷ ts) = answers-one_of f u b e s t ts (λ a k. (step s h t a k).1) (f t) refl
 
-local-one-here : {T A : Type 0} (o : Option A) (t : T) (rest other g : List T) → left (one_of o t rest) ≡ g ++ t ∷ rest → one_of o t other ≡ with_left (g ++ t ∷ other) (one_of o t rest)
+local-one-here : {A : Type 0} (o : Option A) (t : Token) (rest other g : List Token) → left (one_of o t rest) ≡ g ++ t ∷ rest → one_of o t other ≡ with_left (g ++ t ∷ other) (one_of o t rest)
 local-one-here (Some a) t rest other g h = absurd (omega (arith, ap length h, length-append g (t ∷ rest)))
-local-one-here None t rest other g h = ap Err (same-rest [] g t rest other h)
+local-one-here None t rest other g h = ap (λ l. Err (Offends, l)) (same-rest [] g t rest other h)
 
-local-one-later : {T A : Type 0} (o : Option A) (x : T) (front : List T) (t : T) (rest other g : List T) → left (one_of o x (front ++ t ∷ rest)) ≡ g ++ t ∷ rest → one_of o x (front ++ t ∷ other) ≡ with_left (g ++ t ∷ other) (one_of o x (front ++ t ∷ rest))
+local-one-later : {A : Type 0} (o : Option A) (x : Token) (front : List Token) (t : Token) (rest other g : List Token) → left (one_of o x (front ++ t ∷ rest)) ≡ g ++ t ∷ rest → one_of o x (front ++ t ∷ other) ≡ with_left (g ++ t ∷ other) (one_of o x (front ++ t ∷ rest))
 local-one-later (Some a) x front t rest other g h = ap (λ l. Ok (a, l)) (same-rest front g t rest other h)
-local-one-later None x front t rest other g h = ap Err (same-rest (x ∷ front) g t rest other h)
+local-one-later None x front t rest other g h = ap (λ l. Err (Offends, l)) (same-rest (x ∷ front) g t rest other h)
 
-local-one : {T A : Type 0} (f : T → Option A) (front : List T) (t : T) (rest other g : List T) → left (one f (front ++ t ∷ rest)) ≡ g ++ t ∷ rest → one f (front ++ t ∷ other) ≡ with_left (g ++ t ∷ other) (one f (front ++ t ∷ rest))
+local-one : {A : Type 0} (f : Token → Option A) → Local (one f)
 local-one f [] t rest other g h = local-one-here (f t) t rest other g h
 local-one f (x ∷ front) t rest other g h = local-one-later (f x) x front t rest other g h
 
-pub Local-one : {T A : Type 0} (f : T → Option A) → Local (one f)
-Local-one f = record { local = local-one f }
+-- Some token is to be the one.
+pub exact-one : {A : Type 0} (P Q : Standing → Type 0) (f : Token → Option A) (u : Token) (b : A) → f u ≡ Some b → Steps f P Q → (F : List Token → Type 0) → Exact P Q (IsOne f) F (one f)
+exact-one P Q f u b e step F = record {
+  some = (b, u ∷ [], (u, refl, e));
+  passes = λ s h a w k. subst (λ z. Q (behind_all z s)) (sym k.1) (step s h k.0 a k.2).0;
+  answers = answers-one f u b e P Q step;
+  local = local-one f;
+  reads = λ s h a w rest k g. inl (ap (λ v. one f (v ++ rest)) k.1 ∙ ap (λ o. one_of o k.0 rest) k.2);
+}
 
--- one after the other
+-- ---- one after the other
 -- What begins a first part begins both, where each first part has some second part.
-begins-both : {T A B : Type 0} (L : A → List T → Type 0) (M : A → B → List T → Type 0) → ((a : A) → (b : B) × (v : List T) × M a b v) → (front : List T) → Begins L front → Begins (Part L M) front
-begins-both L M some front b =
+begins-both : {A B : Type 0} (K : A → List Token → Type 0) (N : A → B → List Token → Type 0) → ((a : A) → Has (N a)) → (front : List Token) → Begins K front → Begins (Part K N) front
+begins-both K N some front b =
     let s = some b.1 in
     (b.0 ++ s.1, s.0, (b.1, front ++ b.0, s.1, sym (append_assoc front b.0 s.1), b.2, s.2))
 
-begins-second : {T A B : Type 0} (L : A → List T → Type 0) (M : A → B → List T → Type 0) (a : A) (u : List T) → L a u → (front : List T) → Begins (M a) front → Begins (Part L M) (u ++ front)
-begins-second L M a u l front b = (b.0, b.1, (a, u, front ++ b.0, append_assoc u front b.0, l, b.2))
+begins-second : {A B : Type 0} (K : A → List Token → Type 0) (N : A → B → List Token → Type 0) (a : A) (u : List Token) → K a u → (front : List Token) → Begins (N a) front → Begins (Part K N) (u ++ front)
+begins-second K N a u k front b = (b.0, b.1, (a, u, front ++ b.0, append_assoc u front b.0, k, b.2))
 
-sound-second : {T A B : Type 0} (L : A → List T → Type 0) (M : A → B → List T → Type 0) (ts : List T) (a : A) (u rest : List T) → ts ≡ u ++ rest → L a u → (r : Reading T B) → Answers (M a) rest r → Answers (Part L M) ts r
-sound-second L M ts a u rest e l (Ok x) c = (u ++ c.0, e ∙ ap (λ z. u ++ z) c.1 ∙ sym (append_assoc u c.0 x.1), (a, u, c.0, refl, l, c.2))
-sound-second L M ts a u rest e l (Err r) c = (u ++ c.0, e ∙ ap (λ z. u ++ z) c.1 ∙ sym (append_assoc u c.0 r), begins-second L M a u l c.0 c.2)
+answers-second : {A B : Type 0} (K : A → List Token → Type 0) (N : A → B → List Token → Type 0) (s : Standing) (ts : List Token) (a : A) (u rest : List Token) → ts ≡ u ++ rest → K a u → IsShallowText s u
+    → (r : Reading B) → Answers (N a) (behind_all u s) rest r → Answers (Part K N) s ts r
+answers-second K N s ts a u rest e k h (Ok x) c =
+    (u ++ c.0, e ∙ ap (λ z. u ++ z) c.1 ∙ sym (append_assoc u c.0 x.1), (a, u, c.0, refl, k, c.2), shallow-both u c.0 s h c.3)
+answers-second K N s ts a u rest e k h (Err (Offends, r)) c =
+    (u ++ c.0, e ∙ ap (λ z. u ++ z) c.1 ∙ sym (append_assoc u c.0 r), begins-second K N a u k c.0 c.2, shallow-both u c.0 s h c.3)
+answers-second K N s ts a u rest e k h (Err (TooDeep, r)) c = (
+  u ++ c.0,
+  c.1,
+  c.2,
+  c.3,
+  e ∙ ap (λ z. u ++ z) c.4 ∙ sym (append_assoc u c.0 r),
+  subst (Begins (Part K N)) (sym (append_assoc u c.0 (c.1 ∷ []))) (begins-second K N a u k (c.0 ++ c.1 ∷ []) c.5),
+  shallow-both u c.0 s h c.6,
+  deep-later u c.0 c.1 s c.7,
+)
 
-sound-then : {T A B : Type 0} (L : A → List T → Type 0) (M : A → B → List T → Type 0) (some : (a : A) → (b : B) × (v : List T) × M a b v) (f : A → Parse T B) → ((a : A) → Sound (M a) (f a)) → (ts : List T) (r : Reading T A) → Answers L ts r → Answers (Part L M) ts (bind r f)
-sound-then L M some f g ts (Ok x) c = sound-second L M ts x.0 c.0 x.1 c.1 c.2 (f x.0 x.1) ((g x.0).answers x.1)
-sound-then L M some f g ts (Err rest) c = (c.0, c.1, begins-both L M some c.0 c.2)
+answers-bind : {A B : Type 0} (P Q : Standing → Type 0) (K : A → List Token → Type 0) (N : A → B → List Token → Type 0) → Passes P Q K → ((a : A) → Has (N a)) → (f : A → Parse B) → ((a : A) → Sound Q (N a) (f a))
+    → (s : Standing) → P s → (ts : List Token) (r : Reading A) → Answers K s ts r → Answers (Part K N) s ts (bind r f)
+answers-bind P Q K N pass some f g s h ts (Ok x) c = answers-second K N s ts x.0 c.0 x.1 c.1 c.2 c.3 (f x.0 x.1) (g x.0 (behind_all c.0 s) (pass s h x.0 c.0 c.2) x.1)
+answers-bind P Q K N pass some f g s h ts (Err (Offends, rest)) c = (c.0, c.1, begins-both K N some c.0 c.2, c.3)
+answers-bind P Q K N pass some f g s h ts (Err (TooDeep, rest)) c = (c.0, c.1, c.2, c.3, c.4, begins-both K N some (c.0 ++ c.1 ∷ []) c.5, c.6, c.7)
 
-pub Sound-then : {T A B : Type 0} (L : A → List T → Type 0) (M : A → B → List T → Type 0) → ((a : A) → (b : B) × (v : List T) × M a b v) → (p : Parse T A) (f : A → Parse T B) → Sound L p → ((a : A) → Sound (M a) (f a)) → Sound (Part L M) (then p f)
-Sound-then L M some p f s g = record { answers = λ ts. sound-then L M some f g ts (p ts) (s.answers ts) }
+sound-then : {A B : Type 0} (P Q : Standing → Type 0) (K : A → List Token → Type 0) (N : A → B → List Token → Type 0) → Passes P Q K → ((a : A) → Has (N a)) → (p : Parse A) (f : A → Parse B) → Sound P K p → ((a : A) → Sound Q (N a) (f a)) → Sound P (Part K N) (then p f)
+sound-then P Q K N pass some p f sp g s h ts = answers-bind P Q K N pass some f g s h ts (p ts) (sp s h ts)
 
--- What follows the first part is a second part and what follows that.
-pub Complete-then : {T A B : Type 0} (L : A → List T → Type 0) (M : A → B → List T → Type 0) (F G : List T → Type 0) (p : Parse T A) (f : A → Parse T B)
-    → ((a : A) (b : B) (v rest : List T) → M a b v → G rest → F (v ++ rest)) → Complete L F p → ((a : A) → Complete (M a) G (f a)) → Complete (Part L M) G (then p f)
-Complete-then L M F G p f follow c d = record {
-  reads = λ b w rest l g.
-      ap (λ z. bind (p (z ++ rest)) f) l.3
-      ∙ ap (λ z. bind (p z) f) (append_assoc l.1 l.2 rest)
-      ∙ ap (λ r. bind r f) (c.reads l.0 l.1 (l.2 ++ rest) l.4 (follow l.0 b l.2 rest l.5 g))
-      ∙ (d l.0).reads b l.2 rest l.5 g;
-}
+abbrev Suffix : {A : Type 0} → List Token → Reading A → Type 0
+Suffix ts r = (u : List Token) × (ts ≡ u ++ left r)
 
-abbrev Suffix : {T A : Type 0} → List T → Reading T A → Type 0
-Suffix {T = T} ts r = (u : List T) × (ts ≡ u ++ left r)
+suffix : {A : Type 0} (K : A → List Token → Type 0) (s : Standing) (ts : List Token) (r : Reading A) → Answers K s ts r → Suffix ts r
+suffix K s ts (Ok x) c = (c.0, c.1)
+suffix K s ts (Err (Offends, rest)) c = (c.0, c.1)
+suffix K s ts (Err (TooDeep, rest)) c = (c.0, c.4)
 
-suffix : {T A : Type 0} (L : A → List T → Type 0) (ts : List T) (r : Reading T A) → Answers L ts r → Suffix ts r
-suffix L ts (Ok x) c = (c.0, c.1)
-suffix L ts (Err rest) c = (c.0, c.1)
-
-left-with : {T A : Type 0} (ts : List T) (r : Reading T A) → left (with_left ts r) ≡ ts
+left-with : {A : Type 0} (ts : List Token) (r : Reading A) → left (with_left ts r) ≡ ts
 left-with ts (Ok x) = refl
-left-with ts (Err rest) = refl
+left-with ts (Err e) = refl
 
 -- p on other tokens, where the second part goes on from what p leaves
-local-then : {T A B : Type 0} (p : Parse T A) → Local p → (f : A → Parse T B) → ((a : A) → Local (f a)) → ((a : A) (ts : List T) → Suffix ts (f a ts))
-    → (front : List T) (t : T) (rest other g : List T) (r : Reading T A) → p (front ++ t ∷ rest) ≡ r → left (bind r f) ≡ g ++ t ∷ rest → bind (p (front ++ t ∷ other)) f ≡ with_left (g ++ t ∷ other) (bind r f)
-local-then p lp f lf sf front t rest other g (Err e) is h =
-    ap (λ z. bind z f) (lp.local front t rest other g (ap left is ∙ h) ∙ ap (with_left (g ++ t ∷ other)) is)
-local-then p lp f lf sf front t rest other g (Ok x) is h =
+local-bind : {A B : Type 0} (p : Parse A) → Local p → (f : A → Parse B) → ((a : A) → Local (f a)) → ((a : A) (ts : List Token) → Suffix ts (f a ts))
+    → (front : List Token) (t : Token) (rest other g : List Token) (r : Reading A) → p (front ++ t ∷ rest) ≡ r → left (bind r f) ≡ g ++ t ∷ rest → bind (p (front ++ t ∷ other)) f ≡ with_left (g ++ t ∷ other) (bind r f)
+local-bind p lp f lf sf front t rest other g (Err e) is h =
+    ap (λ z. bind z f) (lp front t rest other g (ap left is ∙ h) ∙ ap (with_left (g ++ t ∷ other)) is)
+local-bind p lp f lf sf front t rest other g (Ok x) is h =
     let s = sf x.0 x.1 in
     let e : x.1 ≡ (s.0 ++ g) ++ t ∷ rest = s.1 ∙ ap (λ z. s.0 ++ z) h ∙ sym (append_assoc s.0 g (t ∷ rest)) in
-    let first = lp.local front t rest other (s.0 ++ g) (ap left is ∙ e) ∙ ap (with_left ((s.0 ++ g) ++ t ∷ other)) is in
+    let first = lp front t rest other (s.0 ++ g) (ap left is ∙ e) ∙ ap (with_left ((s.0 ++ g) ++ t ∷ other)) is in
     ap (λ z. bind z f) first
-    ∙ (lf x.0).local (s.0 ++ g) t rest other g (ap (λ z. left (f x.0 z)) (sym e) ∙ h)
+    ∙ lf x.0 (s.0 ++ g) t rest other g (ap (λ z. left (f x.0 z)) (sym e) ∙ h)
     ∙ ap (λ z. with_left (g ++ t ∷ other) (f x.0 z)) (sym e)
 
-pub Local-then : {T A B : Type 0} (p : Parse T A) (f : A → Parse T B) → Local p → ((a : A) → Local (f a)) → ((a : A) (ts : List T) → Suffix ts (f a ts)) → Local (then p f)
-Local-then p f lp lf sf = record { local = λ front t rest other g h. local-then p lp f lf sf front t rest other g (p (front ++ t ∷ rest)) refl h }
+local-then : {A B : Type 0} (p : Parse A) (f : A → Parse B) → Local p → ((a : A) → Local (f a)) → ((a : A) (ts : List Token) → Suffix ts (f a ts)) → Local (then p f)
+local-then p f lp lf sf front t rest other g h = local-bind p lp f lf sf front t rest other g (p (front ++ t ∷ rest)) refl h
 
-pub suffix-of : {T A : Type 0} (L : A → List T → Type 0) (p : Parse T A) → Sound L p → (ts : List T) → Suffix ts (p ts)
-suffix-of L p s ts = suffix L ts (p ts) (s.answers ts)
+suffix-bind : {A B : Type 0} (f : A → Parse B) → ((a : A) (ts : List Token) → Suffix ts (f a ts)) → (ts : List Token) (r : Reading A) → Suffix ts r → Suffix ts (bind r f)
+suffix-bind f sf ts (Ok x) s = let v = sf x.0 x.1 in (s.0 ++ v.0, s.1 ∙ ap (λ z. s.0 ++ z) v.1 ∙ sym (append_assoc s.0 v.0 (left (f x.0 x.1))))
+suffix-bind f sf ts (Err e) s = s
 
--- a choice by the next token
-starts-same : {T : Type 0} (test : T → Bool) (front : List T) (t : T) (rest other : List T) → starts test (front ++ t ∷ rest) ≡ starts test (front ++ t ∷ other)
+-- What is answered for a word, from what is answered for its first part.
+reads-bind : {A B : Type 0} (f : A → Parse B) (s : Standing) (a : A) (b : B) (u v rest : List Token) → ReadsAs (behind_all u s) b v rest (f a (v ++ rest))
+    → (r : Reading A) → ReadsAs s a u (v ++ rest) r → ReadsAs s b (u ++ v) rest (bind r f)
+reads-bind f s a b u v rest (inl e) r (inl h) = inl (ap (λ z. bind z f) h ∙ e)
+reads-bind f s a b u v rest (inr e) r (inl h) = inr (e.0, ap (λ z. bind z f) h ∙ e.1, λ k. e.2 (shallow-second u v s k))
+reads-bind f s a b u v rest e r (inr h) = inr (h.0, ap (λ z. bind z f) h.1, λ k. h.2 (shallow-first u v s k))
+
+reads-then : {A B : Type 0} (P Q : Standing → Type 0) (K : A → List Token → Type 0) (N : A → B → List Token → Type 0) (F G : List Token → Type 0) → Passes P Q K → (p : Parse A) (f : A → Parse B)
+    → ((a : A) (b : B) (v rest : List Token) → N a b v → G rest → F (v ++ rest)) → Complete P K F p → ((a : A) → Complete Q (N a) G (f a)) → Complete P (Part K N) G (then p f)
+reads-then P Q K N F G pass p f follow c d s h b w rest l g =
+    let whole = reads-bind f s l.0 b l.1 l.2 rest (d l.0 (behind_all l.1 s) (pass s h l.0 l.1 l.4) b l.2 rest l.5 g) (p (l.1 ++ (l.2 ++ rest))) (c s h l.0 l.1 (l.2 ++ rest) l.4 (follow l.0 b l.2 rest l.5 g)) in
+    let here = subst (λ z. ReadsAs s b (l.1 ++ l.2) rest (then p f z)) (sym (append_assoc l.1 l.2 rest)) whole in
+    subst (λ z. ReadsAs s b z rest (then p f (z ++ rest))) (sym l.3) here
+
+passes-then : {A B : Type 0} (P Q R : Standing → Type 0) (K : A → List Token → Type 0) (N : A → B → List Token → Type 0) → Passes P Q K → ((a : A) → Passes Q R (N a)) → Passes P R (Part K N)
+passes-then P Q R K N pass later s h b w l =
+    subst (λ z. R (behind_all z s)) (sym l.3) (subst R (sym (behind-both l.1 l.2 s)) (later l.0 (behind_all l.1 s) (pass s h l.0 l.1 l.4) b l.2 l.5))
+
+-- The first reader at some standing says that what it leaves is an end of what it was given.
+pub exact-then : {A B : Type 0} (P Q R : Standing → Type 0) (q : Standing) → Q q → (K : A → List Token → Type 0) (N : A → B → List Token → Type 0) (F G : List Token → Type 0) (p : Parse A) (f : A → Parse B)
+    → ((a : A) (b : B) (v rest : List Token) → N a b v → G rest → F (v ++ rest)) → Exact P Q K F p → ((a : A) → Exact Q R (N a) G (f a)) → Exact P R (Part K N) G (then p f)
+exact-then P Q R q hq K N F G p f follow x y =
+    let z = (y x.some.0).some in
+    record {
+      some = (z.0, x.some.1 ++ z.1, (x.some.0, x.some.1, z.1, refl, x.some.2, z.2));
+      passes = passes-then P Q R K N x.passes (λ a. (y a).passes);
+      answers = sound-then P Q K N x.passes (λ a. (y a).some) p f x.answers (λ a. (y a).answers);
+      local = local-then p f x.local (λ a. (y a).local) (λ a ts. suffix (N a) q ts (f a ts) ((y a).answers q hq ts));
+      reads = reads-then P Q K N F G x.passes p f follow x.reads (λ a. (y a).reads);
+    }
+
+-- ---- a language in other words
+answers-to : {A : Type 0} (K N : A → List Token → Type 0) (s : Standing) (ts : List Token) → ((a : A) (w : List Token) → K a w → N a w) → (r : Reading A) → Answers K s ts r → Answers N s ts r
+answers-to K N s ts to (Ok x) c = (c.0, c.1, to x.0 c.0 c.2, c.3)
+answers-to K N s ts to (Err (Offends, rest)) c = (c.0, c.1, (c.2.0, c.2.1, to c.2.1 (c.0 ++ c.2.0) c.2.2), c.3)
+answers-to K N s ts to (Err (TooDeep, rest)) c = (c.0, c.1, c.2, c.3, c.4, (c.5.0, c.5.1, to c.5.1 ((c.0 ++ c.1 ∷ []) ++ c.5.0) c.5.2), c.6, c.7)
+
+pub exact-to : {A : Type 0} (P Q : Standing → Type 0) (K N : A → List Token → Type 0) (F : List Token → Type 0) (p : Parse A) → ((a : A) (w : List Token) → K a w → N a w) → ((a : A) (w : List Token) → N a w → K a w) → Exact P Q K F p → Exact P Q N F p
+exact-to P Q K N F p to from x = record {
+  some = (x.some.0, x.some.1, to x.some.0 x.some.1 x.some.2);
+  passes = λ s h a w n. x.passes s h a w (from a w n);
+  answers = λ s h ts. answers-to K N s ts to (p ts) (x.answers s h ts);
+  local = x.local;
+  reads = λ s h a w rest n f. x.reads s h a w rest (from a w n) f;
+}
+
+-- where less may follow
+pub exact-before : {A : Type 0} (P Q : Standing → Type 0) (K : A → List Token → Type 0) (F G : List Token → Type 0) (p : Parse A) → ((ts : List Token) → G ts → F ts) → Exact P Q K F p → Exact P Q K G p
+exact-before P Q K F G p less x = record {
+  some = x.some;
+  passes = x.passes;
+  answers = x.answers;
+  local = x.local;
+  reads = λ s h a w rest k g. x.reads s h a w rest k (less rest g);
+}
+
+-- ---- one of two, told apart by the next token
+starts-same : (test : Token → Bool) (front : List Token) (t : Token) (rest other : List Token) → starts test (front ++ t ∷ rest) ≡ starts test (front ++ t ∷ other)
 starts-same test [] t rest other = refl
 starts-same test (x ∷ front) t rest other = refl
 
-local-choose : {T A : Type 0} (p q : Parse T A) → Local p → Local q → (b c : Bool) → b ≡ c → (front : List T) (t : T) (rest other g : List T)
+local-cond : {A : Type 0} (p q : Parse A) → Local p → Local q → (b c : Bool) → b ≡ c → (front : List Token) (t : Token) (rest other g : List Token)
     → left (cond b (p (front ++ t ∷ rest)) (q (front ++ t ∷ rest))) ≡ g ++ t ∷ rest
     → cond c (p (front ++ t ∷ other)) (q (front ++ t ∷ other)) ≡ with_left (g ++ t ∷ other) (cond b (p (front ++ t ∷ rest)) (q (front ++ t ∷ rest)))
-local-choose p q lp lq true true e front t rest other g h = lp.local front t rest other g h
-local-choose p q lp lq true false e front t rest other g h = cc
-local-choose p q lp lq false true e front t rest other g h = cc
-local-choose p q lp lq false false e front t rest other g h = lq.local front t rest other g h
+local-cond p q lp lq true true e front t rest other g h = lp front t rest other g h
+local-cond p q lp lq true false e front t rest other g h = cc
+local-cond p q lp lq false true e front t rest other g h = cc
+local-cond p q lp lq false false e front t rest other g h = lq front t rest other g h
 
-pub Local-choose : {T A : Type 0} (test : T → Bool) (p q : Parse T A) → Local p → Local q → Local (choose test p q)
-Local-choose test p q lp lq = record { local = λ front t rest other g h. local-choose p q lp lq (starts test (front ++ t ∷ rest)) (starts test (front ++ t ∷ other)) (starts-same test front t rest other) front t rest other g h }
+local-choose : {A : Type 0} (test : Token → Bool) (p q : Parse A) → Local p → Local q → Local (choose test p q)
+local-choose test p q lp lq front t rest other g h = local-cond p q lp lq (starts test (front ++ t ∷ rest)) (starts test (front ++ t ∷ other)) (starts-same test front t rest other) front t rest other g h
 
-shorter : {T : Type 0} (test : T → Bool) (ts w rest : List T) → ts ≡ w ++ rest → starts test w ≡ true → length rest < length ts
-shorter test ts [] rest e h = cc
-shorter test ts (t ∷ w) rest e h = omega (arith, ap length e, length-append (t ∷ w) rest)
+answers-cond : {A : Type 0} (K N : A → List Token → Type 0) (s : Standing) (ts : List Token) (x y : Reading A) → Answers K s ts x → Answers N s ts y → (b : Bool) → Answers (OneOf K N) s ts (cond b x y)
+answers-cond K N s ts x y h k true = answers-to K (OneOf K N) s ts (λ a w l. inl l) x h
+answers-cond K N s ts x y h k false = answers-to N (OneOf K N) s ts (λ a w l. inr l) y k
 
--- many, of a part whose words begin with a token of the test
-module _ {T A : Type 0} (L : A → List T → Type 0) (test : T → Bool) (p : Parse T A) (sp : Sound L p) where
-  words-more : (ts : List T) (a : A) (u rest : List T) → ts ≡ u ++ rest → L a u → (r : Reading T (List A)) → Answers (Each L) rest r → Answers (Each L) ts (bind r (λ more. done (a ∷ more)))
-  words-more ts a u rest e l (Ok x) c = (u ++ c.0, e ∙ ap (λ z. u ++ z) c.1 ∙ sym (append_assoc u c.0 x.1), (u, c.0, refl, l, c.2))
-  words-more ts a u rest e l (Err r) c =
-      (u ++ c.0, e ∙ ap (λ z. u ++ z) c.1 ∙ sym (append_assoc u c.0 r), (c.2.0, a ∷ c.2.1, (u, c.0 ++ c.2.0, append_assoc u c.0 c.2.0, l, c.2.2)))
-
-  words-turn : (ts : List T) (q : Parse T (List A)) → ((rest : List T) → Answers (Each L) rest (q rest)) → (r : Reading T A) → Answers L ts r → Answers (Each L) ts (bind r (λ a. then q (λ more. done (a ∷ more))))
-  words-turn ts q again (Ok x) c = words-more ts x.0 c.0 x.1 c.1 c.2 (q x.1) (again x.1)
-  words-turn ts q again (Err rest) c = (c.0, c.1, (c.2.0, c.2.1 ∷ [], (c.0 ++ c.2.0, [], sym (append-nil (c.0 ++ c.2.0)), c.2.2, refl)))
-
-  words-choice : (b : Bool) (ts : List T) (x : Reading T (List A)) → Answers (Each L) ts x → Answers (Each L) ts (cond b x (Ok ([], ts)))
-  words-choice true ts x c = c
-  words-choice false ts x c = ([], refl, refl)
-
-  sound-turns : (n : ℕ) (ts : List T) → Answers (Each L) ts (turns test p n ts)
-  unfolding turns
-  sound-turns zero ts = ([], refl, ([], [], refl))
-  sound-turns (suc n) ts = words-choice (starts test ts) ts _ (words-turn ts (turns test p n) (sound-turns n) (p ts) (sp.answers ts))
-
-  suffix-done : (a : A) (q : Parse T (List A)) (ts : List T) → Suffix ts (q ts) → (r : Reading T (List A)) → q ts ≡ r → Suffix ts (bind r (λ more. done (a ∷ more)))
-  suffix-done a q ts s (Ok x) e = (s.0, s.1 ∙ ap (λ z. s.0 ++ left z) e)
-  suffix-done a q ts s (Err rest) e = (s.0, s.1 ∙ ap (λ z. s.0 ++ left z) e)
-
-  suffix-turns : (n : ℕ) (a : A) (ts : List T) → Suffix ts (then (turns test p n) (λ more. done (a ∷ more)) ts)
-  suffix-turns n a ts = suffix-done a (turns test p n) ts (suffix (Each L) ts (turns test p n ts) (sound-turns n ts)) (turns test p n ts) refl
-
-  local-turns : Local p → (n : ℕ) → Local (turns test p n)
-  unfolding turns
-  local-turns lp zero = Local-stop
-  local-turns lp (suc n) =
-      Local-choose test _ _
-      (Local-then p (λ a. then (turns test p n) (λ more. done (a ∷ more))) lp
-      (λ a. Local-then (turns test p n) (λ more. done (a ∷ more)) (local-turns lp n) (λ more. Local-done (a ∷ more)) (λ more ts. ([], refl)))
-      (suffix-turns n))
-      (Local-done [])
-
-  -- a part is never empty
-  module _ (first : (a : A) (w : List T) → L a w → starts test w ≡ true) where
-    pub shrinks : (ts : List T) (r : Reading T A) → Answers L ts r → (x : A × List T) → r ≡ Ok x → length x.1 < length ts
-    shrinks ts (Ok y) c x e = shorter test ts c.0 x.1 (c.1 ∙ ap (λ z. c.0 ++ left z) e) (first y.0 c.0 c.2)
-    shrinks ts (Err rest) c x e = cc
-
-    turn-same : (n m : ℕ) (ts : List T) → ((rest : List T) → length rest < length ts → turns test p n rest ≡ turns test p m rest) → (r : Reading T A) → Answers L ts r
-        → bind r (λ a. then (turns test p n) (λ more. done (a ∷ more))) ≡ bind r (λ a. then (turns test p m) (λ more. done (a ∷ more)))
-    turn-same n m ts again (Ok x) c = ap (λ r. bind r (λ more. done (x.0 ∷ more))) (again x.1 (shrinks ts (Ok x) c x refl))
-    turn-same n m ts again (Err rest) c = refl
-
-    turns-enough : (n m : ℕ) (ts : List T) → length ts < n → length ts < m → turns test p n ts ≡ turns test p m ts
-    unfolding turns
-    turns-enough zero m ts h k = absurd (omega arith)
-    turns-enough (suc n) zero ts h k = absurd (omega arith)
-    turns-enough (suc n) (suc m) ts h k =
-        ap (λ r. cond (starts test ts) r (Ok ([], ts))) (turn-same n m ts (λ rest lt. turns-enough n m rest (omega arith) (omega arith)) (p ts) (sp.answers ts))
-
-    pub Sound-many : Sound (Each L) (many test p)
-    Sound-many = record { answers = λ ts. sound-turns (suc (length ts)) ts }
-
-    local-many : Local p → (front : List T) (t : T) (rest other g : List T) → left (many test p (front ++ t ∷ rest)) ≡ g ++ t ∷ rest → many test p (front ++ t ∷ other) ≡ with_left (g ++ t ∷ other) (many test p (front ++ t ∷ rest))
-    local-many lp front t rest other g h =
-        let n = suc (length (front ++ t ∷ rest) + length (front ++ t ∷ other)) in
-        let a = turns-enough (suc (length (front ++ t ∷ rest))) n (front ++ t ∷ rest) (omega arith) (omega arith) in
-        let b = turns-enough (suc (length (front ++ t ∷ other))) n (front ++ t ∷ other) (omega arith) (omega arith) in
-        b ∙ (local-turns lp n).local front t rest other g (ap left (sym a) ∙ h) ∙ ap (with_left (g ++ t ∷ other)) (sym a)
-
-    pub Local-many : Local p → Local (many test p)
-    Local-many lp = record { local = local-many lp }
-
-    -- a turn, and then xs many xs there are
-    pub many-more : (ts : List T) → starts test ts ≡ true → (x : A × List T) → p ts ≡ Ok x → many test p ts ≡ bind (many test p x.1) (λ more. done (x.0 ∷ more))
-    unfolding turns
-    many-more ts h x e =
-        ap (λ b. cond b (bind (p ts) (λ a. then (turns test p (length ts)) (λ more. done (a ∷ more)))) (Ok ([], ts))) h
-        ∙ ap (λ r. bind r (λ a. then (turns test p (length ts)) (λ more. done (a ∷ more)))) e
-        ∙ ap (λ r. bind r (λ more. done (x.0 ∷ more))) (turns-enough (length ts) (suc (length x.1)) x.1 (shrinks ts (p ts) (sp.answers ts) x e) (omega arith))
-
-    pub many-none : (ts : List T) → starts test ts ≡ false → many test p ts ≡ Ok ([], ts)
-    unfolding turns
-    many-none ts h = ap (λ b. cond b (bind (p ts) (λ a. then (turns test p (length ts)) (λ more. done (a ∷ more)))) (Ok ([], ts))) h
-
-    pub many-fault : (ts : List T) → starts test ts ≡ true → (rest : List T) → p ts ≡ Err rest → many test p ts ≡ Err rest
-    unfolding turns
-    many-fault ts h rest e =
-        ap (λ b. cond b (bind (p ts) (λ a. then (turns test p (length ts)) (λ more. done (a ∷ more)))) (Ok ([], ts))) h
-        ∙ ap (λ r. bind r (λ a. then (turns test p (length ts)) (λ more. done (a ∷ more)))) e
-
-    -- What follows each part is another part, or what follows them all.
-    module _ (F G : List T → Type 0) (cp : Complete L F p) (after : (ts : List T) → starts test ts ≡ true → F ts) (last : (ts : List T) → G ts → F ts × (starts test ts ≡ false)) where
-      starts-front : (w rest : List T) → starts test w ≡ true → starts test (w ++ rest) ≡ true
-      starts-front [] rest h = cc
-      starts-front (t ∷ w) rest h = h
-
-      follows : (xs : List A) (w rest : List T) → Each L xs w → G rest → F (w ++ rest)
-      follows [] w rest l g = subst (λ z. F (z ++ rest)) (sym l) (last rest g).0
-      follows (a ∷ xs) w rest l g = after (w ++ rest) (starts-front w rest (ap (starts test) l.2 ∙ starts-front l.0 l.1 (first a l.0 l.3)))
-
-      reads-many : (xs : List A) (w rest : List T) → Each L xs w → G rest → many test p (w ++ rest) ≡ Ok (xs, rest)
-      reads-many [] w rest l g = ap (λ z. many test p (z ++ rest)) l ∙ many-none rest (last rest g).1
-      reads-many (a ∷ xs) w rest l g =
-          ap (λ z. many test p (z ++ rest)) l.2
-          ∙ ap (many test p) (append_assoc l.0 l.1 rest)
-          ∙ many-more (l.0 ++ (l.1 ++ rest)) (starts-front l.0 (l.1 ++ rest) (first a l.0 l.3)) (a, l.1 ++ rest) (cp.reads a l.0 (l.1 ++ rest) l.3 (follows xs l.1 rest l.4 g))
-          ∙ ap (λ r. bind r (λ more. done (a ∷ more))) (reads-many xs l.1 rest l.4 g)
-
-      pub Complete-many : Complete (Each L) G (many test p)
-      Complete-many = record { reads = reads-many }
-
-pub Sound-done : {T B : Type 0} (b : B) → Sound {T = T} (Gives b) (done b)
-Sound-done b = record { answers = λ ts. ([], refl, (refl, refl)) }
-
-pub Complete-done : {T B : Type 0} (b : B) (G : List T → Type 0) → Complete {T = T} (Gives b) G (done b)
-Complete-done b G = record { reads = λ c w rest l g. ap (λ x. Ok (b, x ++ rest)) l.0 ∙ ap (λ x. Ok (x, rest)) (sym l.1) }
-
-answers-to : {T A : Type 0} (L M : A → List T → Type 0) (ts : List T) (r : Reading T A) → ((a : A) (w : List T) → L a w → M a w) → Answers L ts r → Answers M ts r
-answers-to L M ts (Ok x) to c = (c.0, c.1, to x.0 c.0 c.2)
-answers-to L M ts (Err rest) to c = (c.0, c.1, (c.2.0, c.2.1, to c.2.1 (c.0 ++ c.2.0) c.2.2))
-
--- a language in other words
-pub Sound-to : {T A : Type 0} (L M : A → List T → Type 0) (p : Parse T A) → ((a : A) (w : List T) → L a w → M a w) → Sound L p → Sound M p
-Sound-to L M p to s = record { answers = λ ts. answers-to L M ts (p ts) to (s.answers ts) }
-
-pub Complete-to : {T A : Type 0} (L M : A → List T → Type 0) (F : List T → Type 0) (p : Parse T A) → ((a : A) (w : List T) → M a w → L a w) → Complete L F p → Complete M F p
-Complete-to L M F p to c = record { reads = λ a w rest m f. c.reads a w rest (to a w m) f }
-
-local-from : {T A : Type 0} (L : A → List T → Type 0) (p : Parse T A) → Sound L p
-    → ((front : List T) (t : T) (rest other : List T) → left (p (front ++ t ∷ rest)) ≡ t ∷ rest → p (front ++ t ∷ other) ≡ with_left (t ∷ other) (p (front ++ t ∷ rest)))
-    → (front : List T) (t : T) (rest other g : List T) → left (p (front ++ t ∷ rest)) ≡ g ++ t ∷ rest → p (front ++ t ∷ other) ≡ with_left (g ++ t ∷ other) (p (front ++ t ∷ rest))
-local-from L p s near front t rest other [] h = near front t rest other h
-local-from L p s near front t rest other (y ∷ g) h =
-    let u = suffix L (front ++ t ∷ rest) (p (front ++ t ∷ rest)) (s.answers (front ++ t ∷ rest)) in
-    let whole : front ++ t ∷ rest ≡ (u.0 ++ y ∷ g) ++ t ∷ rest = u.1 ∙ ap (λ z. u.0 ++ z) h ∙ sym (append_assoc u.0 (y ∷ g) (t ∷ rest)) in
-    let cut : front ≡ u.0 ++ y ∷ g = append_cancel_right front (u.0 ++ y ∷ g) (t ∷ rest) whole in
-    let there : front ++ t ∷ rest ≡ u.0 ++ y ∷ (g ++ t ∷ rest) = u.1 ∙ ap (λ z. u.0 ++ z) h in
-    let new : front ++ t ∷ other ≡ u.0 ++ y ∷ (g ++ t ∷ other) = ap (λ z. z ++ t ∷ other) cut ∙ append_assoc u.0 (y ∷ g) (t ∷ other) in
-    ap p new
-    ∙ near u.0 y (g ++ t ∷ rest) (g ++ t ∷ other) (ap (λ z. left (p z)) (sym there) ∙ h)
-    ∙ ap (λ z. with_left ((y ∷ g) ++ t ∷ other) (p z)) (sym there)
-
--- where it is local at the token that is left
-pub Local-from : {T A : Type 0} (L : A → List T → Type 0) (p : Parse T A) → Sound L p
-    → ((front : List T) (t : T) (rest other : List T) → left (p (front ++ t ∷ rest)) ≡ t ∷ rest → p (front ++ t ∷ other) ≡ with_left (t ∷ other) (p (front ++ t ∷ rest))) → Local p
-Local-from L p s near = record { local = λ front t rest other g h. local-from L p s near front t rest other g h }
-
--- some word
-abbrev pub Has : {T A : Type 0} → (A → List T → Type 0) → Type 0
-Has {T = T} {A = A} L = (a : A) × (w : List T) × L a w
-
-pub has-both : {T A B : Type 0} (L : A → List T → Type 0) (M : A → B → List T → Type 0) → Has L → ((a : A) → Has (M a)) → Has (Part L M)
-has-both L M x y = let z = y x.0 in (z.0, x.1 ++ z.1, (x.0, x.1, z.1, refl, x.2, z.2))
-
-pub has-one : {T A : Type 0} (f : T → Option A) (t : T) (a : A) → f t ≡ Some a → Has (IsOne f)
-has-one f t a e = (a, t ∷ [], (t, refl, e))
-
-pub has-done : {T B : Type 0} (b : B) → Has {T = T} (Gives b)
-has-done b = (b, [], (refl, refl))
-
-abbrev pub Any : {T : Type 0} → List T → Type 0
-Any ts = Unit {0}
-
--- The reader reads the language, where what follows a word is in F, and the language has a word.
-pub record Exact {T A : Type 0} (L : A → List T → Type 0) (F : List T → Type 0) (p : Parse T A) : Type 0 where
-  pub some : Has L
-  pub sound : Sound L p
-  pub local : Local p
-  pub complete : Complete L F p
-
-pub exact-one : {T A : Type 0} (f : T → Option A) (t : T) (a : A) → f t ≡ Some a → Exact (IsOne f) Any (one f)
-exact-one f t a e = record { some = has-one f t a e; sound = Sound-one f t a e; local = Local-one f; complete = Complete-one f }
-
-pub exact-done : {T B : Type 0} (b : B) (G : List T → Type 0) → Exact (Gives b) G (done b)
-exact-done b G = record { some = has-done b; sound = Sound-done b; local = Local-done b; complete = Complete-done b G }
-
-pub exact-then : {T A B : Type 0} (L : A → List T → Type 0) (M : A → B → List T → Type 0) (F G : List T → Type 0) (p : Parse T A) (f : A → Parse T B)
-    → ((a : A) (b : B) (v rest : List T) → M a b v → G rest → F (v ++ rest)) → Exact L F p → ((a : A) → Exact (M a) G (f a)) → Exact (Part L M) G (then p f)
-exact-then L M F G p f follow x y = record {
-  some = has-both L M x.some (λ a. (y a).some);
-  sound = Sound-then L M (λ a. (y a).some) p f x.sound (λ a. (y a).sound);
-  local = Local-then p f x.local (λ a. (y a).local) (λ a. suffix-of (M a) (f a) (y a).sound);
-  complete = Complete-then L M F G p f follow x.complete (λ a. (y a).complete);
-}
-
--- a language in other words
-pub exact-to : {T A : Type 0} (L M : A → List T → Type 0) (F : List T → Type 0) (p : Parse T A) → ((a : A) (w : List T) → L a w → M a w) → ((a : A) (w : List T) → M a w → L a w) → Exact L F p → Exact M F p
-exact-to L M F p to from x = record { some = (x.some.0, x.some.1, to x.some.0 x.some.1 x.some.2); sound = Sound-to L M p to x.sound; local = x.local; complete = Complete-to L M F p from x.complete }
-
-pub exact-many : {T A : Type 0} (L : A → List T → Type 0) (test : T → Bool) (F G : List T → Type 0) (p : Parse T A)
-    → ((a : A) (w : List T) → L a w → starts test w ≡ true) → ((ts : List T) → starts test ts ≡ true → F ts) → ((ts : List T) → G ts → F ts × (starts test ts ≡ false))
-    → Exact L F p → Exact (Each L) G (many test p)
-exact-many L test F G p first after last x = record {
-  some = ([], [], refl);
-  sound = Sound-many L test p x.sound first;
-  local = Local-many L test p x.sound first x.local;
-  complete = Complete-many L test p x.sound first F G x.complete after last;
-}
-
--- one of two, told apart by the next token
-sound-choose : {T A : Type 0} (L M : A → List T → Type 0) (p q : Parse T A) → Sound L p → Sound M q → (b : Bool) (ts : List T) → Answers (OneOf L M) ts (cond b (p ts) (q ts))
-sound-choose L M p q s t true ts = answers-to L (OneOf L M) ts (p ts) (λ a w l. inl l) (s.answers ts)
-sound-choose L M p q s t false ts = answers-to M (OneOf L M) ts (q ts) (λ a w m. inr m) (t.answers ts)
-
-starts-more : {T : Type 0} (test : T → Bool) (w rest : List T) → starts test w ≡ true → starts test (w ++ rest) ≡ true
+pub starts-more : (test : Token → Bool) (w rest : List Token) → starts test w ≡ true → starts test (w ++ rest) ≡ true
 starts-more test [] rest h = cc
 starts-more test (t ∷ w) rest h = h
 
-reads-choose : {T A : Type 0} (L M : A → List T → Type 0) (test : T → Bool) (G : List T → Type 0) (p q : Parse T A)
-    → ((a : A) (w : List T) → L a w → starts test w ≡ true) → ((a : A) (w rest : List T) → M a w → G rest → starts test (w ++ rest) ≡ false)
-    → Complete L G p → Complete M G q → (a : A) (w rest : List T) → OneOf L M a w → G rest → choose test p q (w ++ rest) ≡ Ok (a, rest)
-reads-choose L M test G p q first other c d a w rest (inl l) g =
-    ap (λ b. cond b (p (w ++ rest)) (q (w ++ rest))) (starts-more test w rest (first a w l)) ∙ c.reads a w rest l g
-reads-choose L M test G p q first other c d a w rest (inr m) g =
-    ap (λ b. cond b (p (w ++ rest)) (q (w ++ rest))) (other a w rest m g) ∙ d.reads a w rest m g
+reads-choose : {A : Type 0} (P : Standing → Type 0) (K N : A → List Token → Type 0) (test : Token → Bool) (G : List Token → Type 0) (p q : Parse A)
+    → ((a : A) (w : List Token) → K a w → starts test w ≡ true) → ((a : A) (w rest : List Token) → N a w → G rest → starts test (w ++ rest) ≡ false)
+    → Complete P K G p → Complete P N G q → Complete P (OneOf K N) G (choose test p q)
+reads-choose P K N test G p q first other c d s h a w rest (inl l) g =
+    subst (λ b. ReadsAs s a w rest (cond b (p (w ++ rest)) (q (w ++ rest)))) (sym (starts-more test w rest (first a w l))) (c s h a w rest l g)
+reads-choose P K N test G p q first other c d s h a w rest (inr m) g =
+    subst (λ b. ReadsAs s a w rest (cond b (p (w ++ rest)) (q (w ++ rest)))) (sym (other a w rest m g)) (d s h a w rest m g)
 
-pub exact-choose : {T A : Type 0} (L M : A → List T → Type 0) (test : T → Bool) (G : List T → Type 0) (p q : Parse T A)
-    → ((a : A) (w : List T) → L a w → starts test w ≡ true) → ((a : A) (w rest : List T) → M a w → G rest → starts test (w ++ rest) ≡ false)
-    → Exact L G p → Exact M G q → Exact (OneOf L M) G (choose test p q)
-exact-choose L M test G p q first other x y = record {
+passes-choose : {A : Type 0} (P Q : Standing → Type 0) (K N : A → List Token → Type 0) → Passes P Q K → Passes P Q N → Passes P Q (OneOf K N)
+passes-choose P Q K N f g s h a w (inl l) = f s h a w l
+passes-choose P Q K N f g s h a w (inr m) = g s h a w m
+
+pub exact-choose : {A : Type 0} (P Q : Standing → Type 0) (K N : A → List Token → Type 0) (test : Token → Bool) (G : List Token → Type 0) (p q : Parse A)
+    → ((a : A) (w : List Token) → K a w → starts test w ≡ true) → ((a : A) (w rest : List Token) → N a w → G rest → starts test (w ++ rest) ≡ false)
+    → Exact P Q K G p → Exact P Q N G q → Exact P Q (OneOf K N) G (choose test p q)
+exact-choose P Q K N test G p q first other x y = record {
   some = (x.some.0, x.some.1, inl x.some.2);
-  sound = record { answers = λ ts. sound-choose L M p q x.sound y.sound (starts test ts) ts };
-  local = Local-choose test p q x.local y.local;
-  complete = record { reads = reads-choose L M test G p q first other x.complete y.complete };
+  passes = passes-choose P Q K N x.passes y.passes;
+  answers = λ s h ts. answers-cond K N s ts (p ts) (q ts) (x.answers s h ts) (y.answers s h ts) (starts test ts);
+  local = local-choose test p q x.local y.local;
+  reads = reads-choose P K N test G p q first other x.reads y.reads;
 }
 
--- this word or symbol, and then the rest
-to-word : {B : Type 0} (m : Mark) (L : B → List Token → Type 0) (b : B) (w : List Token) → Part (IsOne (has_mark m)) (λ (u : ⊤). L) b w → Word m L b w
-to-word m L b w p = (p.4.0.at, p.2, p.3 ∙ ap (λ z. z ++ p.2) (p.4.1 ∙ ap (λ t. t ∷ []) (from-has m p.4.0 p.0 p.4.2)), p.5)
+-- ---- this word or symbol, and then the rest
+abbrev pub StepsOver : Mark → (Standing → Type 0) → (Standing → Type 0) → Type 0
+StepsOver m P Q = (at : ℕ) (s : Standing) → P s → Q (behind (fixed m at) s) × (depth (behind (fixed m at) s) ≤ limit)
 
-from-word : {B : Type 0} (m : Mark) (L : B → List Token → Type 0) (b : B) (w : List Token) → Word m L b w → Part (IsOne (has_mark m)) (λ (u : ⊤). L) b w
-from-word m L b w r = (tt, fixed m r.0 ∷ [], r.1, r.2, (fixed m r.0, refl, has-mark m r.0), r.3)
+steps-mark : (m : Mark) (P Q : Standing → Type 0) → StepsOver m P Q → Steps (has_mark m) P Q
+steps-mark m P Q step s h t u e = subst (λ z. Q (behind z s) × (depth (behind z s) ≤ limit)) (sym (from-has m t u e)) (step t.at s h)
 
-pub exact-word : {B : Type 0} (m : Mark) (L : B → List Token → Type 0) (G : List Token → Type 0) (p : Parse Token B) → Exact L G p → Exact (Word m L) G (word m p)
-exact-word m L G p x =
-    exact-to (Part (IsOne (has_mark m)) (λ (u : ⊤). L)) (Word m L) G (word m p) (to-word m L) (from-word m L)
-    (exact-then (IsOne (has_mark m)) (λ (u : ⊤). L) Any G (one (has_mark m)) (λ (u : ⊤). p) (λ u b v rest l g. tt) (exact-one (has_mark m) (fixed m 0) tt (has-mark m 0)) (λ u. x))
+to-word : {B : Type 0} (m : Mark) (K : B → List Token → Type 0) (b : B) (w : List Token) → Part (IsOne (has_mark m)) (λ (u : ⊤). K) b w → Word m K b w
+to-word m K b w p = (p.4.0.at, p.2, p.3 ∙ ap (λ z. z ++ p.2) (p.4.1 ∙ ap (λ t. t ∷ []) (from-has m p.4.0 p.0 p.4.2)), p.5)
+
+from-word : {B : Type 0} (m : Mark) (K : B → List Token → Type 0) (b : B) (w : List Token) → Word m K b w → Part (IsOne (has_mark m)) (λ (u : ⊤). K) b w
+from-word m K b w r = (tt, fixed m r.0 ∷ [], r.1, r.2, (fixed m r.0, refl, has-mark m r.0), r.3)
+
+abbrev pub Any : List Token → Type 0
+Any ts = Unit {0}
+
+pub exact-word : {B : Type 0} (m : Mark) (P Q R : Standing → Type 0) (q : Standing) → Q q → (K : B → List Token → Type 0) (G : List Token → Type 0) (p : Parse B) → StepsOver m P Q → Exact Q R K G p → Exact P R (Word m K) G (word m p)
+exact-word m P Q R q hq K G p step x =
+    exact-to P R (Part (IsOne (has_mark m)) (λ (u : ⊤). K)) (Word m K) G (word m p) (to-word m K) (from-word m K)
+    (exact-then P Q R q hq (IsOne (has_mark m)) (λ (u : ⊤). K) Any G (one (has_mark m)) (λ (u : ⊤). p) (λ u b v rest l g. tt)
+    (exact-one P Q (has_mark m) (fixed m 0) tt (has-mark m 0) (steps-mark m P Q step) Any) (λ u. x))
+
+-- ---- one or nothing
+abbrev pub Found : {A : Type 0} → (A → List Token → Type 0) → Option A → List Token → Type 0
+Found {A = A} K = Part K (λ a. Gives (Some a))
+
+pub exact-found : {A : Type 0} (P Q : Standing → Type 0) (q : Standing) → Q q → (K : A → List Token → Type 0) (F : List Token → Type 0) (p : Parse A) → Exact P Q K F p → Exact P Q (Found K) F (found p)
+exact-found P Q q hq K F p x = exact-then P Q Q q hq K (λ a. Gives (Some a)) F F p (λ a. done (Some a)) (λ a b v rest m g. subst (λ z. F (z ++ rest)) (sym m.0) g) x (λ a. exact-done Q (Some a) F)
+
+to-maybe : {A : Type 0} (K : A → List Token → Type 0) (o : Option A) (w : List Token) → OneOf (Found K) (Gives None) o w → Maybe K o w
+to-maybe K None w (inl p) = cc
+to-maybe K (Some a) w (inl p) =
+    let e : w ≡ p.1 = p.3 ∙ ap (λ z. p.1 ++ z) p.5.0 ∙ append-nil p.1 in
+    let same : p.0 ≡ a = cc in
+    subst (λ z. K z w) same (subst (K p.0) (sym e) p.4)
+to-maybe K None w (inr h) = h.0
+to-maybe K (Some a) w (inr h) = cc
+
+from-maybe : {A : Type 0} (K : A → List Token → Type 0) (o : Option A) (w : List Token) → Maybe K o w → OneOf (Found K) (Gives None) o w
+from-maybe K None w h = inr (h, refl)
+from-maybe K (Some a) w h = inl (a, w, [], sym (append-nil w), h, (refl, refl))
+
+pub exact-maybe : {A : Type 0} (P : Standing → Type 0) (q : Standing) → P q → (K : A → List Token → Type 0) (test : Token → Bool) (F : List Token → Type 0) (p : Parse A)
+    → ((a : A) (w : List Token) → K a w → starts test w ≡ true) → ((ts : List Token) → F ts → starts test ts ≡ false) → Exact P P K F p → Exact P P (Maybe K) F (maybe test p)
+exact-maybe P q hq K test F p first last x =
+    exact-to P P (OneOf (Found K) (Gives None)) (Maybe K) F (maybe test p) (to-maybe K) (from-maybe K)
+    (exact-choose P P (Found K) (Gives None) test F (found p) (done None)
+    (λ o w k. ap (starts test) k.3 ∙ starts-more test k.1 k.2 (first k.0 k.1 k.4))
+    (λ o w rest k g. ap (λ z. starts test (z ++ rest)) k.0 ∙ last rest g)
+    (exact-found P P q hq K F p x) (exact-done P None F))
+
+-- ---- turns of a loop
+-- Values that turns give, each in turn; the last turn may give nothing.
+abbrev pub Turns : {A : Type 0} → (Option A → List Token → Type 0) → List A → List Token → Type 0
+Turns K [] ts = (ts ≡ []) ⊎ K None ts
+Turns K (a ∷ more) ts = (part : List Token) × (rest : List Token) × (ts ≡ part ++ rest) × K (Some a) part × Turns K more rest
+
+shorter : (test : Token → Bool) (ts w rest : List Token) → ts ≡ w ++ rest → starts test w ≡ true → length rest < length ts
+shorter test ts [] rest e h = cc
+shorter test ts (t ∷ w) rest e h = omega (arith, ap length e, length-append (t ∷ w) rest)
+
+module _ {A : Type 0} (P : Standing → Type 0) (q : Standing) (hq : P q) (K : Option A → List Token → Type 0) (F : List Token → Type 0) (test : Token → Bool) (p : Parse (Option A)) (x : Exact P P K F p) (first : (o : Option A) (w : List Token) → K o w → starts test w ≡ true) where
+  -- what comes after a turn
+  After : Option A → List A → List Token → Type 0
+  After None xs ts = Gives [] xs ts
+  After (Some a) xs ts = Part (Turns K) (λ more. Gives (a ∷ more)) xs ts
+
+  has-after : (o : Option A) → Has (After o)
+  unfolding After
+  has-after None = ([], [], (refl, refl))
+  has-after (Some a) = (a ∷ [], [], ([], [], [], refl, inl refl, (refl, refl)))
+
+  turn-of : (o : Option A) (xs : List A) (w part rest : List Token) → w ≡ part ++ rest → K o part → After o xs rest → Turns K xs w
+  unfolding After
+  turn-of None xs w part rest e k a = subst (λ z. Turns K z w) (sym a.1) (inr (subst (K None) (sym (e ∙ ap (λ z. part ++ z) a.0 ∙ append-nil part)) k))
+  turn-of (Some b) xs w part rest e k a =
+      subst (λ z. Turns K z w) (sym a.5.1) (part, rest, e, k, subst (Turns K a.0) (sym (a.3 ∙ ap (λ z. a.1 ++ z) a.5.0 ∙ append-nil a.1)) a.4)
+
+  to-turns : (xs : List A) (w : List Token) → OneOf (Part K After) (Gives []) xs w → Turns K xs w
+  unfolding After
+  to-turns xs w (inl l) = turn-of l.0 xs w l.1 l.2 l.3 l.4 l.5
+  to-turns xs w (inr h) = subst (λ z. Turns K z w) (sym h.1) (inl h.0)
+
+  passes-loop : Passes P P (Turns K)
+  passes-loop s h [] w (inl e) = subst (λ z. P (behind_all z s)) (sym e) h
+  passes-loop s h [] w (inr k) = x.passes s h None w k
+  passes-loop s h (a ∷ xs) w l =
+      subst (λ z. P (behind_all z s)) (sym l.2) (subst P (sym (behind-both l.0 l.1 s)) (passes-loop (behind_all l.0 s) (x.passes s h (Some a) l.0 l.3) xs l.1 l.4))
+
+  sound-after : (r : Parse (List A)) → Sound P (Turns K) r → (o : Option A) → Sound P (After o) (after_turn r o)
+  unfolding After
+  sound-after r sr None s h ts = ([], refl, (refl, refl), tt)
+  sound-after r sr (Some a) s h ts =
+      sound-then P P (Turns K) (λ more. Gives (a ∷ more)) passes-loop (λ more. (a ∷ more, [], (refl, refl))) r (λ more. done (a ∷ more)) sr (λ more l k us. ([], refl, (refl, refl), tt)) s h ts
+
+  sound-turns : (n : ℕ) → Sound P (Turns K) (turns test p n)
+  unfolding turns
+  sound-turns zero s h ts = ([], refl, ([], [], inl refl), tt)
+  sound-turns (suc n) s h ts =
+      answers-to (OneOf (Part K After) (Gives [])) (Turns K) s ts to-turns (cond (starts test ts) (bind (p ts) (after_turn (turns test p n))) (Ok ([], ts)))
+      (answers-cond (Part K After) (Gives []) s ts (bind (p ts) (after_turn (turns test p n))) (Ok ([], ts))
+      (sound-then P P K After x.passes has-after p (after_turn (turns test p n)) x.answers (sound-after (turns test p n) (sound-turns n)) s h ts)
+      ([], refl, (refl, refl), tt) (starts test ts))
+
+  suffix-after : (r : Parse (List A)) → ((ts : List Token) → Suffix ts (r ts)) → (o : Option A) (ts : List Token) → Suffix ts (after_turn r o ts)
+  suffix-after r sr None ts = ([], refl)
+  suffix-after r sr (Some a) ts = suffix-bind (λ more. done (a ∷ more)) (λ more l. ([], refl)) ts (r ts) (sr ts)
+
+  local-after : (r : Parse (List A)) → Local r → (o : Option A) → Local (after_turn r o)
+  local-after r lr None front t rest other g h = local-done [] front t rest other g h
+  local-after r lr (Some a) front t rest other g h = local-then r (λ more. done (a ∷ more)) lr (λ more. local-done (a ∷ more)) (λ more l. ([], refl)) front t rest other g h
+
+  local-turns : (n : ℕ) → Local (turns test p n)
+  unfolding turns
+  local-turns zero front t rest other g h = local-stop front t rest other g h
+  local-turns (suc n) front t rest other g h =
+      local-choose test (then p (after_turn (turns test p n))) (done [])
+      (local-then p (after_turn (turns test p n)) x.local (local-after (turns test p n) (local-turns n))
+      (suffix-after (turns test p n) (λ ts. suffix (Turns K) q ts (turns test p n ts) (sound-turns n q hq ts))))
+      (local-done []) front t rest other g h
+
+  -- a turn is never empty
+  pub shrinks : (ts : List Token) (y : Option A × List Token) → p ts ≡ Ok y → length y.1 < length ts
+  shrinks ts y e =
+      let c = subst (Answers K q ts) e (x.answers q hq ts) in
+      shorter test ts c.0 y.1 c.1 (first y.0 c.0 c.2)
+
+  turn-same : (n m : ℕ) (ts : List Token) → ((rest : List Token) → length rest < length ts → turns test p n rest ≡ turns test p m rest) → (r : Reading (Option A)) → p ts ≡ r
+      → bind r (after_turn (turns test p n)) ≡ bind r (after_turn (turns test p m))
+  turn-same n m ts again (Ok (None, rest)) e = refl
+  turn-same n m ts again (Ok (Some a, rest)) e = ap (λ r. bind r (λ more. done (a ∷ more))) (again rest (shrinks ts (Some a, rest) e))
+  turn-same n m ts again (Err e) is = refl
+
+  turns-enough : (n m : ℕ) (ts : List Token) → length ts < n → length ts < m → turns test p n ts ≡ turns test p m ts
+  unfolding turns
+  turns-enough zero m ts h k = absurd (omega arith)
+  turns-enough (suc n) zero ts h k = absurd (omega arith)
+  turns-enough (suc n) (suc m) ts h k =
+      ap (λ r. cond (starts test ts) r (Ok ([], ts))) (turn-same n m ts (λ rest lt. turns-enough n m rest (omega arith) (omega arith)) (p ts) refl)
+
+  local-loop : Local (loop test p)
+  local-loop front t rest other g h =
+      let n = suc (length (front ++ t ∷ rest) + length (front ++ t ∷ other)) in
+      let a = turns-enough (suc (length (front ++ t ∷ rest))) n (front ++ t ∷ rest) (omega arith) (omega arith) in
+      let b = turns-enough (suc (length (front ++ t ∷ other))) n (front ++ t ∷ other) (omega arith) (omega arith) in
+      b ∙ local-turns n front t rest other g (ap left (sym a) ∙ h) ∙ ap (with_left (g ++ t ∷ other)) (sym a)
+
+  -- a turn, by what it gives
+  turn-is : (ts : List Token) → starts test ts ≡ true → loop test p ts ≡ bind (p ts) (after_turn (turns test p (length ts)))
+  unfolding turns
+  turn-is ts h = ap (λ b. cond b (bind (p ts) (after_turn (turns test p (length ts)))) (Ok ([], ts))) h
+
+  pub loop-more : (ts : List Token) → starts test ts ≡ true → (a : A) (rest : List Token) → p ts ≡ Ok (Some a, rest) → loop test p ts ≡ bind (loop test p rest) (λ more. done (a ∷ more))
+  loop-more ts h a rest e =
+      turn-is ts h ∙ ap (λ r. bind r (after_turn (turns test p (length ts)))) e
+      ∙ ap (λ r. bind r (λ more. done (a ∷ more))) (turns-enough (length ts) (suc (length rest)) rest (shrinks ts (Some a, rest) e) (omega arith))
+
+  pub loop-last : (ts : List Token) → starts test ts ≡ true → (rest : List Token) → p ts ≡ Ok (None, rest) → loop test p ts ≡ Ok ([], rest)
+  loop-last ts h rest e = turn-is ts h ∙ ap (λ r. bind r (after_turn (turns test p (length ts)))) e
+
+  pub loop-none : (ts : List Token) → starts test ts ≡ false → loop test p ts ≡ Ok ([], ts)
+  unfolding turns
+  loop-none ts h = ap (λ b. cond b (bind (p ts) (after_turn (turns test p (length ts)))) (Ok ([], ts))) h
+
+  pub loop-stops : (ts : List Token) → starts test ts ≡ true → (e : Why × List Token) → p ts ≡ Err e → loop test p ts ≡ Err e
+  loop-stops ts h e is = turn-is ts h ∙ ap (λ r. bind r (after_turn (turns test p (length ts)))) is
+
+  -- What follows each turn is another turn, or what follows them all.
+  module _ (G : List Token → Type 0) (after : (o : Option A) (w rest : List Token) → K o w → F (w ++ rest)) (last : (ts : List Token) → G ts → F ts × (starts test ts ≡ false)) where
+    follows : (xs : List A) (w rest : List Token) → Turns K xs w → G rest → F (w ++ rest)
+    follows [] w rest (inl e) g = subst (λ z. F (z ++ rest)) (sym e) (last rest g).0
+    follows [] w rest (inr k) g = after None w rest k
+    follows (a ∷ xs) w rest l g = subst (λ z. F (z ++ rest)) (sym l.2) (subst F (sym (append_assoc l.0 l.1 rest)) (after (Some a) l.0 (l.1 ++ rest) l.3))
+
+    reads-last : (s : Standing) (w rest : List Token) → starts test (w ++ rest) ≡ true → ReadsAs s None w rest (p (w ++ rest)) → ReadsAs s [] w rest (loop test p (w ++ rest))
+    reads-last s w rest h (inl e) = inl (loop-last (w ++ rest) h rest e)
+    reads-last s w rest h (inr e) = inr (e.0, loop-stops (w ++ rest) h (TooDeep, e.0) e.1, e.2)
+
+    reads-more : (s : Standing) (a : A) (xs : List A) (u v rest : List Token) → starts test (u ++ (v ++ rest)) ≡ true → ReadsAs s (Some a) u (v ++ rest) (p (u ++ (v ++ rest)))
+        → ReadsAs (behind_all u s) xs v rest (loop test p (v ++ rest)) → ReadsAs s (a ∷ xs) (u ++ v) rest (loop test p (u ++ (v ++ rest)))
+    reads-more s a xs u v rest h (inl e) (inl f) = inl (loop-more (u ++ (v ++ rest)) h a (v ++ rest) e ∙ ap (λ r. bind r (λ more. done (a ∷ more))) f)
+    reads-more s a xs u v rest h (inl e) (inr f) =
+        inr (f.0, loop-more (u ++ (v ++ rest)) h a (v ++ rest) e ∙ ap (λ r. bind r (λ more. done (a ∷ more))) f.1, λ k. f.2 (shallow-second u v s k))
+    reads-more s a xs u v rest h (inr e) f = inr (e.0, loop-stops (u ++ (v ++ rest)) h (TooDeep, e.0) e.1, λ k. e.2 (shallow-first u v s k))
+
+    reads-loop : (s : Standing) → P s → (xs : List A) (w rest : List Token) → Turns K xs w → G rest → ReadsAs s xs w rest (loop test p (w ++ rest))
+    reads-loop s h [] w rest (inl e) g = inl (ap (λ z. loop test p (z ++ rest)) e ∙ loop-none rest (last rest g).1)
+    reads-loop s h [] w rest (inr k) g = reads-last s w rest (starts-more test w rest (first None w k)) (x.reads s h None w rest k (last rest g).0)
+    reads-loop s h (a ∷ xs) w rest l g =
+        let there : starts test (l.0 ++ (l.1 ++ rest)) ≡ true = starts-more test l.0 (l.1 ++ rest) (first (Some a) l.0 l.3) in
+        let again = reads-loop (behind_all l.0 s) (x.passes s h (Some a) l.0 l.3) xs l.1 rest l.4 g in
+        let whole = reads-more s a xs l.0 l.1 rest there (x.reads s h (Some a) l.0 (l.1 ++ rest) l.3 (follows xs l.1 rest l.4 g)) again in
+        let here = subst (λ z. ReadsAs s (a ∷ xs) (l.0 ++ l.1) rest (loop test p z)) (sym (append_assoc l.0 l.1 rest)) whole in
+        subst (λ z. ReadsAs s (a ∷ xs) z rest (loop test p (z ++ rest))) (sym l.2) here
+
+    pub exact-loop : Exact P P (Turns K) G (loop test p)
+    exact-loop = record {
+      some = ([], [], inl refl);
+      passes = passes-loop;
+      answers = λ s h ts. sound-turns (suc (length ts)) s h ts;
+      local = local-loop;
+      reads = reads-loop;
+    }
+
+-- ---- any number of parts
+each-turns : {A : Type 0} (K : A → List Token → Type 0) (xs : List A) (w : List Token) → Each K xs w → Turns (Found K) xs w
+each-turns K [] w l = inl l
+each-turns K (a ∷ xs) w l = (l.0, l.1, l.2, (a, l.0, [], sym (append-nil l.0), l.3, (refl, refl)), each-turns K xs l.1 l.4)
+
+turns-each : {A : Type 0} (K : A → List Token → Type 0) (xs : List A) (w : List Token) → Turns (Found K) xs w → Each K xs w
+turns-each K [] w (inl e) = e
+turns-each K [] w (inr p) = cc
+turns-each K (a ∷ xs) w l = (l.0, l.1, l.2, to-maybe K (Some a) l.0 (inl l.3), turns-each K xs l.1 l.4)
+
+pub starts-found : {A : Type 0} (K : A → List Token → Type 0) (test : Token → Bool) → ((a : A) (w : List Token) → K a w → starts test w ≡ true) → (o : Option A) (w : List Token) → Found K o w → starts test w ≡ true
+starts-found K test first o w k = ap (starts test) k.3 ∙ starts-more test k.1 k.2 (first k.0 k.1 k.4)
+
+after-found : {A : Type 0} (K : A → List Token → Type 0) (F : List Token → Type 0) → ((a : A) (w rest : List Token) → K a w → F (w ++ rest)) → (o : Option A) (w rest : List Token) → Found K o w → F (w ++ rest)
+after-found K F after o w rest k = subst (λ z. F (z ++ rest)) (sym k.3) (subst F (sym (append_assoc k.1 k.2 rest)) (after k.0 k.1 (k.2 ++ rest) k.4))
+
+pub exact-many : {A : Type 0} (P : Standing → Type 0) (q : Standing) → P q → (K : A → List Token → Type 0) (test : Token → Bool) (F G : List Token → Type 0) (p : Parse A)
+    → ((a : A) (w : List Token) → K a w → starts test w ≡ true) → ((a : A) (w rest : List Token) → K a w → F (w ++ rest)) → ((ts : List Token) → G ts → F ts × (starts test ts ≡ false))
+    → Exact P P K F p → Exact P P (Each K) G (many test p)
+exact-many P q hq K test F G p first after last x =
+    exact-to P P (Turns (Found K)) (Each K) G (many test p) (turns-each K) (each-turns K)
+    (exact-loop P q hq (Found K) F test (found p) (exact-found P P q hq K F p x) (starts-found K test first) G (after-found K F after) last)
+
+-- ---- the other order of two
+swap : {A B : Type 0} → A ⊎ B → B ⊎ A
+swap (inl a) = inr a
+swap (inr b) = inl b
+
+pub exact-or : {A : Type 0} (P Q : Standing → Type 0) (K N : A → List Token → Type 0) (F : List Token → Type 0) (p : Parse A) → Exact P Q (OneOf K N) F p → Exact P Q (OneOf N K) F p
+exact-or P Q K N F p x = exact-to P Q (OneOf K N) (OneOf N K) F p (λ a w. swap) (λ a w. swap) x
 
 -- ---- A whole text.
-module _ {T A : Type 0} (L : A → List T → Type 0) (F : List T → Type 0) (p : Parse T A) (x : Exact L F p) (end : F []) where
-  -- what the language spells is read whole
-  pub reads-whole : (ts : List T) (a : A) → L a ts → p ts ≡ Ok (a, [])
-  reads-whole ts a l = ap p (sym (append-nil ts)) ∙ x.complete.reads a ts [] l end
+module _ {A : Type 0} (P Q : Standing → Type 0) (s : Standing) (hs : P s) (K : A → List Token → Type 0) (F : List Token → Type 0) (p : Parse A) (x : Exact P Q K F p) (end : F []) where
+  -- what the language spells is read whole, or it is too deep
+  pub reads-whole : (ts : List Token) (a : A) → K a ts → ReadsAs s a ts [] (p ts)
+  reads-whole ts a k = subst (λ z. ReadsAs s a ts [] (p z)) (append-nil ts) (x.reads s hs a ts [] k end)
 
-  spelled-by : (ts : List T) (a : A) → Answers L ts (Ok (a, [])) → L a ts
-  spelled-by ts a c = subst (L a) (sym (c.1 ∙ append-nil c.0)) c.2
-
-  -- what is read whole is spelled
-  pub whole-spells : (ts : List T) (a : A) → p ts ≡ Ok (a, []) → L a ts
-  whole-spells ts a e = spelled-by ts a (subst (Answers L ts) e (x.sound.answers ts))
-
-  abbrev value-or : A → Reading T A → A
-  value-or a (Ok y) = y.0
-  value-or a (Err rest) = a
-
-  -- tokens spell at most one value
-  pub one-value : (ts : List T) (a b : A) → L a ts → L b ts → a ≡ b
-  one-value ts a b l m = ap (value-or a) (sym (reads-whole ts a l) ∙ reads-whole ts b m)
+  -- what is read whole is spelled, and shallow
+  pub whole-spells : (ts : List Token) (a : A) → p ts ≡ Ok (a, []) → K a ts × IsShallowText s ts
+  whole-spells ts a e =
+      let c = subst (Answers K s ts) e (x.answers s hs ts) in
+      let same : c.0 ≡ ts = sym (c.1 ∙ append-nil c.0) in
+      (subst (K a) same c.2, subst (IsShallowText s) same c.3)

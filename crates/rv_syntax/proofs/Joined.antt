@@ -1,10 +1,27 @@
--- Expressions that are numbered one by one.
-use Rattle.std.proofs.Common.{◌≡◌, ℕ, suc, ◌+◌, ◌<◌, ◌≤◌, ◌∷◌, [], ◌++◌, List, map, length, get_or, drop, refl, sym, ap, ◌∙◌, arith, length-append, drop-cons, add-one}
-use Rattle.std.proofs.lemmas.List.{map_push, drop_all}
+-- Offsets that are collected one element after the other, and expressions that get their sites so.
+use Rattle.std.proofs.Common.{◌≡◌, ℕ, suc, ◌+◌, ◌<◌, ◌≤◌, ◌∷◌, [], ◌++◌, List, map, length, get_or, drop, refl, sym, ap, ◌∙◌, append_assoc, drop-cons, add-one}
+use Rattle.std.proofs.lemmas.List.{append-nil, map_push, drop_all}
 use Rattle.rv_syntax.specs.declared.tree.Expr.{Expr}
 use Rattle.rv_syntax.specs.Tree.{Tree, Trees, None, More, trees, tree_of}
-use Rattle.rv_syntax.specs.Sites.{delayed, trees_delayed}
-use Rattle.rv_syntax.specs.Counted.{counted, counted_trees}
+use Rattle.rv_syntax.specs.Sites.{sited, sited_trees}
+
+-- the next element of a list that is gone through
+next-of : {X : Type 0} (xs : List X) (i : ℕ) (x : X) → i < length xs → x ≡ get_or xs i x → drop i xs ≡ x ∷ drop (i + 1) xs
+next-of xs i x lt is = drop-cons xs i x lt ∙ ap (λ y. y ∷ drop (suc i) xs) (sym is) ∙ ap (λ n. x ∷ drop n xs) (sym (add-one i))
+
+-- one more element, where a list's offsets are those of its first element and then those of the others
+pub collected-more : {X : Type 0} (own : X → List ℕ) (all : List X → List ℕ) → ((x : X) (xs : List X) → all (x ∷ xs) ≡ own x ++ all xs)
+    → (xs : List X) (i : ℕ) (x : X) (had now whole : List ℕ) → i < length xs → x ≡ get_or xs i x → now ≡ had ++ own x → had ++ all (drop i xs) ≡ whole → now ++ all (drop (i + 1) xs) ≡ whole
+collected-more own all step xs i x had now whole lt is pushed inv =
+    ap (λ l. l ++ all (drop (i + 1) xs)) pushed
+    ∙ append_assoc had (own x) (all (drop (i + 1) xs))
+    ∙ ap (λ l. had ++ l) (sym (step x (drop (i + 1) xs)))
+    ∙ ap (λ l. had ++ all l) (sym (next-of xs i x lt is))
+    ∙ inv
+
+pub collected-all : {X : Type 0} (all : List X → List ℕ) → all [] ≡ [] → (xs : List X) (i : ℕ) (had whole : List ℕ) → length xs ≤ i → had ++ all (drop i xs) ≡ whole → had ≡ whole
+collected-all all none xs i had whole le inv =
+    sym (append-nil had) ∙ ap (λ l. had ++ l) (sym none) ∙ ap (λ l. had ++ all l) (sym (drop_all i xs le)) ∙ inv
 
 -- these trees, and then those
 abbrev pub joined : List Tree → Trees → Trees
@@ -23,31 +40,30 @@ joined-none (x ∷ ts) = ap (More x) (joined-none ts)
 abbrev pub left : List Expr → ℕ → Trees
 left all i = trees (map tree_of (drop i all))
 
-left-more : (all : List Expr) (i : ℕ) (e : Expr) → i < length all → e ≡ get_or all i e → left all i ≡ More (tree_of e) (left all (i + 1))
-left-more all i e h is =
-    ap (λ l. trees (map tree_of l)) (drop-cons all i e h)
-    ∙ ap (λ x. More (tree_of x) (trees (map tree_of (drop (suc i) all)))) (sym is)
-    ∙ ap (λ n. More (tree_of e) (left all n)) (sym (add-one i))
-
-pub one-more : (all : List Expr) (i : ℕ) (e : Expr) (made now : List Expr) (new : Expr) (k next : ℕ) (whole : Trees) → i < length all → e ≡ get_or all i e
-    → tree_of new ≡ counted k (tree_of e) → now ≡ made ++ new ∷ [] → next ≡ k + length (delayed (tree_of e))
-    → joined (map tree_of made) (counted_trees k (left all i)) ≡ whole → joined (map tree_of now) (counted_trees next (left all (i + 1))) ≡ whole
-one-more all i e made now new k next whole h is sited pushed after inv =
-    let rest = left all (i + 1) in
-    ap (λ l. joined (map tree_of l) (counted_trees next rest)) pushed
-    ∙ ap (λ l. joined l (counted_trees next rest)) (map_push tree_of made new)
-    ∙ joined-push (map tree_of made) (tree_of new) (counted_trees next rest)
-    ∙ ap (λ t. joined (map tree_of made) (More t (counted_trees next rest))) sited
-    ∙ ap (λ n. joined (map tree_of made) (More (counted k (tree_of e)) (counted_trees n rest))) after
-    ∙ ap (λ us. joined (map tree_of made) (counted_trees k us)) (sym (left-more all i e h is))
+pub one-more : (f : ℕ → ℕ) (all : List Expr) (i : ℕ) (e : Expr) (made now : List Expr) (new : Expr) (whole : Trees) → i < length all → e ≡ get_or all i e
+    → tree_of new ≡ sited f (tree_of e) → now ≡ made ++ new ∷ []
+    → joined (map tree_of made) (sited_trees f (left all i)) ≡ whole → joined (map tree_of now) (sited_trees f (left all (i + 1))) ≡ whole
+one-more f all i e made now new whole lt is with_site pushed inv =
+    let rest = sited_trees f (left all (i + 1)) in
+    ap (λ l. joined (map tree_of l) rest) pushed
+    ∙ ap (λ l. joined l rest) (map_push tree_of made new)
+    ∙ joined-push (map tree_of made) (tree_of new) rest
+    ∙ ap (λ t. joined (map tree_of made) (More t rest)) with_site
+    ∙ ap (λ l. joined (map tree_of made) (sited_trees f (trees (map tree_of l)))) (sym (next-of all i e lt is))
     ∙ inv
 
-pub fewer-left : (all : List Expr) (i : ℕ) (e : Expr) (k next whole : ℕ) → i < length all → e ≡ get_or all i e → next ≡ k + length (delayed (tree_of e))
-    → k + length (trees_delayed (left all i)) ≡ whole → next + length (trees_delayed (left all (i + 1))) ≡ whole
-fewer-left all i e k next whole h is after inv =
-    let n : length (trees_delayed (left all i)) ≡ length (delayed (tree_of e) ++ trees_delayed (left all (i + 1))) = ap (λ us. length (trees_delayed us)) (left-more all i e h is) in
-    omega (arith, n, length-append (delayed (tree_of e)) (trees_delayed (left all (i + 1))))
+pub all-made : (f : ℕ → ℕ) (all made : List Expr) (i : ℕ) (whole : Trees) → length all ≤ i → joined (map tree_of made) (sited_trees f (left all i)) ≡ whole → trees (map tree_of made) ≡ whole
+all-made f all made i whole le inv =
+    sym (joined-none (map tree_of made)) ∙ ap (λ l. joined (map tree_of made) (sited_trees f (trees (map tree_of l)))) (sym (drop_all i all le)) ∙ inv
 
-pub all-made : (all made : List Expr) (i k : ℕ) (whole : Trees) → length all ≤ i → joined (map tree_of made) (counted_trees k (left all i)) ≡ whole → trees (map tree_of made) ≡ whole
-all-made all made i k whole h inv =
-    sym (joined-none (map tree_of made)) ∙ ap (λ l. joined (map tree_of made) (counted_trees k (trees (map tree_of l)))) (sym (drop_all i all h)) ∙ inv
+-- one more element, where each is turned into another
+pub turned-more : {X Y : Type 0} (view : X → Y) (turned : Y → Y) (made now : List X) (new x : X) (ahead rest : List X) (whole : List Y) → now ≡ made ++ new ∷ [] → view new ≡ turned (view x) → ahead ≡ x ∷ rest
+    → map view made ++ map turned (map view ahead) ≡ whole → map view now ++ map turned (map view rest) ≡ whole
+turned-more view turned made now new x ahead rest whole pushed is next inv =
+    let more = map turned (map view rest) in
+    ap (λ l. map view l ++ more) pushed
+    ∙ ap (λ l. l ++ more) (map_push view made new)
+    ∙ append_assoc (map view made) (view new ∷ []) more
+    ∙ ap (λ y. map view made ++ y ∷ more) is
+    ∙ ap (λ l. map view made ++ map turned (map view l)) (sym next)
+    ∙ inv

@@ -1,24 +1,24 @@
 -- The limited machine is the free one, up to the first token that is nested too deep.
-use Rattle.std.proofs.Common.{◌≡◌, ◌≤◌, Bool, true, false, cond, List, [], ◌∷◌, ◌++◌, length, refl, sym, ap, ◌∙◌, subst, arith, length-append}
-use Rattle.std.specs.Prelude.{nat_le, Ok, Err, ◌<◌}
+use Rattle.std.proofs.Common.{inl, inr, ◌≡◌, ◌≤◌, Bool, true, false, cond, List, [], ◌∷◌, ◌++◌, length, refl, sym, ap, ◌∙◌, subst, arith, length-append}
+use Rattle.std.specs.Prelude.{◌⊎◌, nat_le, Ok, Err, ◌<◌}
 use Rattle.std.proofs.lemmas.Bool.{leb-true, leb-false}
 use Rattle.rv_syntax.specs.declared.token.Token.{Token}
 use Rattle.rv_syntax.specs.declared.fault.Why.TheVariants.{Offends, TooDeep}
 use Rattle.rv_syntax.specs.Tree.{Tree}
-use Rattle.rv_syntax.specs.Nesting.{limit}
-use Rattle.rv_syntax.specs.Machine.{role, State, Move, To, Ends, Fails, step, finish, Reading, run}
+use Rattle.rv_syntax.specs.Nesting.{weight, limit}
+use Rattle.rv_syntax.specs.Machine.{State, Move, To, Ends, Fails, step, finish, Reading, run}
 use Rattle.rv_syntax.specs.Machine as free
 use Rattle.rv_syntax.specs.Limited.{Counts, count, Limited, at_end, going, limited}
 
 -- The nesting is within the limit at each of the tokens.
 abbrev pub IsWithin : Counts → List Token → Type 0
 IsWithin c [] = Unit {0}
-IsWithin c (t ∷ ts) = ((count (role t) c).now ≤ limit) × IsWithin (count (role t) c) ts
+IsWithin c (t ∷ ts) = ((count (weight t) c).now ≤ limit) × IsWithin (count (weight t) c) ts
 
 -- It is so before the last of the tokens, and there no more.
 abbrev pub IsTooDeep : Counts → List Token → Token → Type 0
-IsTooDeep c [] t = limit < (count (role t) c).now
-IsTooDeep c (x ∷ ts) t = ((count (role x) c).now ≤ limit) × IsTooDeep (count (role x) c) ts t
+IsTooDeep c [] t = limit < (count (weight t) c).now
+IsTooDeep c (x ∷ ts) t = ((count (weight x) c).now ≤ limit) × IsTooDeep (count (weight x) c) ts t
 
 abbrev pub left : Reading → List Token
 left (Ok x) = x.1
@@ -29,7 +29,7 @@ short-end (To st) = omega arith
 short-end (Ends e) = omega arith
 short-end Fails = omega arith
 
-short-going : (m : Move) (t : Token) (ts : List Token) → ((st : State) → length (left (run st ts)) ≤ length ts) → length (left (free.going m (λ next. run next ts) (t ∷ ts))) ≤ length (t ∷ ts)
+short-going : (m : Move) (t : Token) (ts : List Token) → ((st : State) → length (left (run st ts)) ≤ length ts) → length (left (free.going m (λ q. run q ts) (t ∷ ts))) ≤ length (t ∷ ts)
 short-going (To st) t ts again = let h = again st in omega arith
 short-going (Ends e) t ts again = omega arith
 short-going Fails t ts again = omega arith
@@ -51,36 +51,36 @@ agrees-end c (To st) = (refl, ([], refl, tt))
 agrees-end c (Ends t) = (refl, ([], refl, tt))
 agrees-end c Fails = (refl, ([], refl, tt))
 
-agrees-later : (c : Counts) (t : Token) (ts : List Token) (r : Reading) → (count (role t) c).now ≤ limit → (l : Limited) → Agrees (count (role t) c) ts r l → Agrees c (t ∷ ts) r l
+agrees-later : (c : Counts) (t : Token) (ts : List Token) (r : Reading) → (count (weight t) c).now ≤ limit → (l : Limited) → Agrees (count (weight t) c) ts r l → Agrees c (t ∷ ts) r l
 agrees-later c t ts r h (Ok x) a = (a.0, (t ∷ a.1.0, ap (λ l. t ∷ l) a.1.1, (h, a.1.2)))
 agrees-later c t ts r h (Err (Offends, rest)) a = (a.0, (t ∷ a.1.0, ap (λ l. t ∷ l) a.1.1, (h, a.1.2)))
 agrees-later c t ts r h (Err (TooDeep, rest)) a = (t ∷ a.0, a.1, a.2, a.3, ap (λ l. t ∷ l) a.4, (h, a.5), a.6)
 
-agrees-choice : (c : Counts) (t : Token) (ts : List Token) (r : Reading) (l : Limited) → length (left r) ≤ length ts → (b : Bool) → nat_le (count (role t) c).now limit ≡ b → Agrees (count (role t) c) ts r l → Agrees c (t ∷ ts) r (cond b l (Err (TooDeep, t ∷ ts)))
+agrees-choice : (c : Counts) (t : Token) (ts : List Token) (r : Reading) (l : Limited) → length (left r) ≤ length ts → (b : Bool) → nat_le (count (weight t) c).now limit ≡ b → Agrees (count (weight t) c) ts r l → Agrees c (t ∷ ts) r (cond b l (Err (TooDeep, t ∷ ts)))
 agrees-choice c t ts r l s true e a = agrees-later c t ts r (leb-true _ _ e) l a
 agrees-choice c t ts r l s false e a = ([], t, ts, refl, refl, leb-false _ _ e, s)
 
-agrees-going : (c : Counts) (t : Token) (ts : List Token) → ((st : State) → Agrees (count (role t) c) ts (run st ts) (limited (count (role t) c) st ts)) → (m : Move)
-    → Agrees c (t ∷ ts) (free.going m (λ next. run next ts) (t ∷ ts)) (going m (count (role t) c) (λ next. limited (count (role t) c) next ts) (t ∷ ts))
-agrees-going c t ts again (To st) = agrees-choice c t ts (run st ts) (limited (count (role t) c) st ts) (left-short ts st) (nat_le (count (role t) c).now limit) refl (again st)
+agrees-going : (c : Counts) (t : Token) (ts : List Token) → ((st : State) → Agrees (count (weight t) c) ts (run st ts) (limited (count (weight t) c) st ts)) → (m : Move)
+    → Agrees c (t ∷ ts) (free.going m (λ q. run q ts) (t ∷ ts)) (going m (count (weight t) c) (λ q. limited (count (weight t) c) q ts) (t ∷ ts))
+agrees-going c t ts again (To st) = agrees-choice c t ts (run st ts) (limited (count (weight t) c) st ts) (left-short ts st) (nat_le (count (weight t) c).now limit) refl (again st)
 agrees-going c t ts again (Ends e) = (refl, ([], refl, tt))
 agrees-going c t ts again Fails = (refl, ([], refl, tt))
 
 pub agrees : (ts : List Token) (c : Counts) (st : State) → Agrees c ts (run st ts) (limited c st ts)
 unfolding run limited
 agrees [] c st = agrees-end c (finish st)
-agrees (t ∷ ts) c st = agrees-going c t ts (agrees ts (count (role t) c)) (step st t)
+agrees (t ∷ ts) c st = agrees-going c t ts (agrees ts (count (weight t) c)) (step st t)
 
 -- What is too deep is not within the limit.
 deep-front : (c : Counts) (front : List Token) (t : Token) (more : List Token) → IsTooDeep c front t → IsWithin c (front ++ t ∷ more) → ⊥
 deep-front c [] t more d s = omega (arith, s.0)
-deep-front c (x ∷ front) t more d s = deep-front (count (role x) c) front t more d.1 s.1
+deep-front c (x ∷ front) t more d s = deep-front (count (weight x) c) front t more d.1 s.1
 
 pub within-before : (c : Counts) (front : List Token) (t : Token) → IsTooDeep c front t → IsWithin c front
 within-before c [] t d = tt
-within-before c (x ∷ front) t d = (d.0, within-before (count (role x) c) front t d.1)
+within-before c (x ∷ front) t d = (d.0, within-before (count (weight x) c) front t d.1)
 
-first-same : (y x : Token) (ys xs : List Token) → y ∷ ys ≡ x ∷ xs → y ≡ x
+pub first-same : (y x : Token) (ys xs : List Token) → y ∷ ys ≡ x ∷ xs → y ≡ x
 first-same y x ys xs e = cc
 
 rest-same : (y x : Token) (ys xs : List Token) → y ∷ ys ≡ x ∷ xs → ys ≡ xs
@@ -101,13 +101,17 @@ further (y ∷ w) rest (x ∷ front) t after e h =
 ok-no-err : (x : Tree × List Token) (gone : List Token) → Ok x ≡ Err gone → ⊥
 ok-no-err x gone h = cc
 
-limited-from : (c : Counts) (w rest : List Token) (x : Tree) (r : Reading) → IsWithin c w → r ≡ Ok (x, rest) → (l : Limited) → Agrees c (w ++ rest) r l → l ≡ Ok (x, rest)
-limited-from c w rest x r s e (Ok y) a = ap to-limited (sym a.0 ∙ e)
-limited-from c w rest x r s e (Err (Offends, gone)) a = absurd (ok-no-err (x, rest) gone (sym e ∙ a.0))
-limited-from c w rest x r s e (Err (TooDeep, gone)) a =
-    let more = further w rest a.0 a.1 a.2 a.4 (subst (λ z. length z ≤ length a.2) (ap left e) a.6) in
-    absurd (deep-front c a.0 a.1 more.0 a.5 (subst (IsWithin c) more.1 s))
+-- The limited machine comes to this; or to a token that is nested too deep, and then the tokens are not within the limit.
+abbrev pub OrDeep : Counts → List Token → Tree × List Token → Limited → Type 0
+OrDeep c w x l = (l ≡ Ok x) ⊎ ((gone : List Token) × (l ≡ Err (TooDeep, gone)) × (IsWithin c w → ⊥))
 
--- What the free machine reads and is within the limit, the limited machine reads.
-pub limited-reads : (c : Counts) (st : State) (w rest : List Token) (x : Tree) → IsWithin c w → run st (w ++ rest) ≡ Ok (x, rest) → limited c st (w ++ rest) ≡ Ok (x, rest)
-limited-reads c st w rest x s e = limited-from c w rest x (run st (w ++ rest)) s e (limited c st (w ++ rest)) (agrees (w ++ rest) c st)
+or-deep : (c : Counts) (w rest : List Token) (x : Tree) (r : Reading) → r ≡ Ok (x, rest) → (l : Limited) → Agrees c (w ++ rest) r l → OrDeep c w (x, rest) l
+or-deep c w rest x r e (Ok y) a = inl (ap to-limited (sym a.0 ∙ e))
+or-deep c w rest x r e (Err (Offends, gone)) a = absurd (ok-no-err (x, rest) gone (sym e ∙ a.0))
+or-deep c w rest x r e (Err (TooDeep, gone)) a =
+    let more = further w rest a.0 a.1 a.2 a.4 (subst (λ z. length z ≤ length a.2) (ap left e) a.6) in
+    inr (gone, refl, λ s. deep-front c a.0 a.1 more.0 a.5 (subst (IsWithin c) more.1 s))
+
+-- What the free machine reads, the limited machine reads or finds too deep.
+pub reads-or-deep : (c : Counts) (st : State) (w rest : List Token) (x : Tree) → run st (w ++ rest) ≡ Ok (x, rest) → OrDeep c w (x, rest) (limited c st (w ++ rest))
+reads-or-deep c st w rest x e = or-deep c w rest x (run st (w ++ rest)) e (limited c st (w ++ rest)) (agrees (w ++ rest) c st)

@@ -1,141 +1,162 @@
 -- What the limited machine reads is derived by the grammar, and what was read before it stops begins an
--- expression.
+-- expression, whatever its nesting.
 use Rattle.std.proofs.Common.{◌≡◌, ℕ, ◌≤◌, Bool, true, false, cond, List, [], ◌∷◌, ◌++◌, length, refl, sym, ap, ◌∙◌, subst, arith, append_assoc, length-append}
 use Rattle.std.specs.Prelude.{Ok, Err, nat_le}
-use Rattle.std.proofs.lemmas.Bool.{leb-true, and_parts}
+use Rattle.std.proofs.lemmas.Bool.{leb-true, and_parts, eqb-true, not-true}
 use Rattle.std.proofs.lemmas.List.{append-nil}
 use Rattle.rv_syntax.specs.declared.token.Mark.{Mark}
 use Rattle.rv_syntax.specs.declared.token.Mark.TheVariants as mark
 use Rattle.rv_syntax.specs.declared.token.Kind.{Kind}
 use Rattle.rv_syntax.specs.declared.token.Kind.TheVariants as kind
 use Rattle.rv_syntax.specs.declared.token.Token.{Token}
-use Rattle.rv_syntax.specs.declared.operator.Infix.{Infix}
-use Rattle.rv_syntax.specs.declared.operator.Infix.TheVariants as infixed
+use Rattle.rv_syntax.specs.declared.tree.Op.{Op}
+use Rattle.rv_syntax.specs.declared.tree.Op.TheVariants as op
 use Rattle.rv_syntax.specs.declared.operator.Prefix.{Prefix}
-use Rattle.rv_syntax.specs.declared.parser.Role.{Role}
-use Rattle.rv_syntax.specs.declared.parser.Role.TheVariants as part
-use Rattle.rv_syntax.specs.declared.fault.Why.TheVariants.{TooDeep}
-use Rattle.rv_syntax.specs.Grammar.{Leaf, Yes, No, Called, Written, Atom, InBrackets, Before, Between, fixed, leaf_token, prefix_mark, infix_mark, spelling, Just, Applied, Joined, syntax_of, level_of, left_level, right_level, level, IsGrammatical}
-use Rattle.rv_syntax.specs.Nesting.{limit}
-use Rattle.rv_syntax.specs.Machine.{role, leaf_tree, Frame, Brackets, Under, After, need, State, Want, Have, Move, To, Ends, Fails, accepts, taken, closed, settle, begin, step, finish}
+use Rattle.rv_syntax.specs.declared.parser.Start.{Start}
+use Rattle.rv_syntax.specs.declared.parser.Start.TheVariants as start
+use Rattle.rv_syntax.specs.declared.parser.Next.{Next}
+use Rattle.rv_syntax.specs.declared.parser.Next.TheVariants as next
+use Rattle.rv_syntax.specs.declared.fault.Why.TheVariants.{Offends, TooDeep}
+use Rattle.rv_syntax.specs.Grammar.{Leaf, Yes, No, Count, Called, Callee, Hash, Written, Atom, InBrackets, Before, Between, Gated, If, Given, Front, NoneBefore, Then, fixed, leaf_token, callee_token, prefix_mark, op_mark, spelling, front_spelling, syntax_of, front_trees, level_of, left_level, right_level, leaf_level, level, is_open, IsGrammatical, AreGrammatical}
+use Rattle.rv_syntax.specs.Nesting.{weight, limit}
+use Rattle.rv_syntax.specs.Marks.{kind_name}
+use Rattle.rv_syntax.specs.Machine.{start_of, next_of, Frame, Brackets, Under, After, Asked, Answered, Else, Within, need, leaf_held, State, Want, Have, Clock, Hashed, Move, To, Ends, Fails, callee_of, accepts, taken, closed, answered, otherwise, argued, settle, begin, clocked, opened, step, finish}
 use Rattle.rv_syntax.specs.Limited.{Counts, count, Limited, at_end, going, limited}
+use Rattle.rv_syntax.proofs.Complete.{operand, below-eight}
+use Rattle.rv_syntax.proofs.Exactly.{left, with_left}
 
 -- a frame, with what is written in it
-pub data Held : Type 0 where
-  Open : (at : ℕ) → Held
-  Over : Prefix → (at : ℕ) → Held
-  Left : Infix → (at : ℕ) → Written → Held
+pub data Item : Type 0 where
+  Open : (at : ℕ) → Item
+  Over : Prefix → (at : ℕ) → Item
+  Left : Op → (at : ℕ) → Written → Item
+  Cond : (if_at : ℕ) → Item
+  Chose : (if_at : ℕ) → Written → (then_at : ℕ) → Item
+  Other : (if_at : ℕ) → Written → (then_at : ℕ) → Written → (else_at : ℕ) → Item
+  Args : Callee → (open_at : ℕ) → Front → Item
 
-abbrev pub frames : List Held → List Frame
+abbrev pub frames : List Item → List Frame
 frames [] = []
 frames (Open at ∷ h) = Brackets ∷ frames h
 frames (Over p at ∷ h) = Under p at ∷ frames h
 frames (Left o at w ∷ h) = After o at (syntax_of w) ∷ frames h
+frames (Cond i ∷ h) = Asked i ∷ frames h
+frames (Chose i a t ∷ h) = Answered i (syntax_of a) ∷ frames h
+frames (Other i a t b e ∷ h) = Else i (syntax_of a) (syntax_of b) ∷ frames h
+frames (Args f o front ∷ h) = Within f (front_trees front) ∷ frames h
 
--- the tokens before the place that is open, and after it
-abbrev pub before : List Held → List Token
+-- the tokens before the place that is open
+abbrev pub before : List Item → List Token
 before [] = []
 before (Open at ∷ h) = before h ++ fixed mark.Open at ∷ []
 before (Over p at ∷ h) = before h ++ fixed (prefix_mark p) at ∷ []
-before (Left o at w ∷ h) = before h ++ (spelling w ++ fixed (infix_mark o) at ∷ [])
+before (Left o at w ∷ h) = before h ++ (spelling w ++ fixed (op_mark o) at ∷ [])
+before (Cond i ∷ h) = before h ++ fixed mark.If i ∷ []
+before (Chose i a t ∷ h) = before h ++ fixed mark.If i ∷ (spelling a ++ fixed mark.Then t ∷ [])
+before (Other i a t b e ∷ h) = before h ++ fixed mark.If i ∷ (spelling a ++ fixed mark.Then t ∷ (spelling b ++ fixed mark.Else e ∷ []))
+before (Args f o front ∷ h) = before h ++ callee_token f ∷ fixed mark.Open o ∷ front_spelling front
 
-abbrev pub behind : List Held → List Token
-behind [] = []
-behind (Open at ∷ h) = fixed mark.Close 0 ∷ behind h
-behind (Over p at ∷ h) = behind h
-behind (Left o at w ∷ h) = behind h
-
-abbrev pub plug : List Held → Written → Written
-plug [] w = w
-plug (Open at ∷ h) w = plug h (InBrackets at w 0)
-plug (Over p at ∷ h) w = plug h (Before p at w)
-plug (Left o at l ∷ h) w = plug h (Between o at l w)
-
-abbrev pub AreFine : List Held → Type 0
+abbrev pub AreFine : List Item → Type 0
 AreFine [] = Unit {0}
 AreFine (Open at ∷ h) = AreFine h
 AreFine (Over p at ∷ h) = AreFine h
-AreFine (Left o at w ∷ h) = IsGrammatical w × (left_level o ≤ level w) × (need (frames h) ≤ level_of o) × AreFine h
+AreFine (Left o at w ∷ h) = IsGrammatical w × (left_level o ≤ level w) × (is_open w ≡ false) × (need (frames h) ≤ level_of o) × AreFine h
+AreFine (Cond i ∷ h) = AreFine h
+AreFine (Chose i a t ∷ h) = IsGrammatical a × AreFine h
+AreFine (Other i a t b e ∷ h) = IsGrammatical a × IsGrammatical b × AreFine h
+AreFine (Args f o front ∷ h) = AreGrammatical front × AreFine h
 
-right-low : (o : Infix) → right_level o ≤ 9
-right-low infixed.Arrow = omega arith
-right-low infixed.Or = omega arith
-right-low infixed.And = omega arith
+right-low : (o : Op) → right_level o ≤ 9
+right-low op.Arrow = omega arith
+right-low op.Implies = omega arith
+right-low op.Or = omega arith
+right-low op.Xor = omega arith
+right-low op.And = omega arith
+right-low op.Equal = omega arith
+right-low op.Differs = omega arith
+right-low op.Less = omega arith
+right-low op.AtMost = omega arith
+right-low op.Greater = omega arith
+right-low op.AtLeast = omega arith
+right-low op.Plus = omega arith
+right-low op.Minus = omega arith
+right-low op.Times = omega arith
+right-low op.Slash = omega arith
+right-low op.Div = omega arith
+right-low op.Mod = omega arith
 
-need-low : (h : List Held) → need (frames h) ≤ 9
+need-low : (h : List Item) → need (frames h) ≤ 9
 need-low [] = omega arith
 need-low (Open at ∷ h) = omega arith
 need-low (Over p at ∷ h) = omega arith
 need-low (Left o at w ∷ h) = right-low o
+need-low (Cond i ∷ h) = omega arith
+need-low (Chose i a t ∷ h) = omega arith
+need-low (Other i a t b e ∷ h) = omega arith
+need-low (Args f o front ∷ h) = omega arith
 
-spelling-plug : (h : List Held) (w : Written) → spelling (plug h w) ≡ before h ++ (spelling w ++ behind h)
-spelling-plug [] w = sym (append-nil (spelling w))
-spelling-plug (Open at ∷ h) w = spelling-plug h (InBrackets at w 0) ∙ simp append_assoc
-spelling-plug (Over p at ∷ h) w = spelling-plug h (Before p at w) ∙ simp append_assoc
-spelling-plug (Left o at l ∷ h) w = spelling-plug h (Between o at l w) ∙ simp append_assoc
-
-plug-fine : (h : List Held) (w : Written) → AreFine h → IsGrammatical w → need (frames h) ≤ level w → IsGrammatical (plug h w)
-plug-fine [] w f g n = g
-plug-fine (Open at ∷ h) w f g n = plug-fine h (InBrackets at w 0) f g (omega (arith, need-low h))
-plug-fine (Over p at ∷ h) w f g n = plug-fine h (Before p at w) f (n, g) (need-low h)
-plug-fine (Left o at l ∷ h) w f g n = plug-fine h (Between o at l w) f.3 (f.1, n, f.0, g) f.2
-
--- a state, with what has been read
-pub data Place : Type 0 where
-  Wants : List Held → Place
-  Has : Written → List Held → Place
-
-abbrev pub state_of : Place → State
-state_of (Wants h) = Want (frames h)
-state_of (Has w h) = Have (level w) (syntax_of w) (frames h)
-
-abbrev pub read : Place → List Token
-read (Wants h) = before h
-read (Has w h) = before h ++ spelling w
-
-abbrev pub IsFine : Place → Type 0
-IsFine (Wants h) = AreFine h
-IsFine (Has w h) = AreFine h × IsGrammatical w × (need (frames h) ≤ level w)
-
--- Operands and closing brackets, which nest no deeper.
-abbrev pub IsQuietPart : Role → Type 0
-IsQuietPart part.Operand = Unit {0}
-IsQuietPart part.Closes = Unit {0}
-IsQuietPart _ = ⊥
-
-abbrev pub AreQuiet : List Token → Type 0
-AreQuiet [] = Unit {0}
-AreQuiet (t ∷ ts) = IsQuietPart (role t) × AreQuiet ts
-
-quiet-behind : (h : List Held) → AreQuiet (behind h)
-quiet-behind [] = tt
-quiet-behind (Open at ∷ h) = (tt, quiet-behind h)
-quiet-behind (Over p at ∷ h) = quiet-behind h
-quiet-behind (Left o at w ∷ h) = quiet-behind h
-
--- the tokens begin an expression, and what completes it nests no deeper
+-- The tokens begin an expression.
 pub record Begins (ts : List Token) : Type 0 where
   pub more : List Token
   pub whole : Written
   pub fine : IsGrammatical whole
   pub spelled : spelling whole ≡ ts ++ more
-  pub quiet : AreQuiet more
+
+shorten : (ts us after : List Token) → Begins us → us ≡ ts ++ after → Begins ts
+shorten ts us after b e = record { more = after ++ b.more; whole = b.whole; fine = b.fine; spelled = b.spelled ∙ ap (λ l. l ++ b.more) e ∙ append_assoc ts after b.more }
+
+atom-high : (l : Leaf) (h : List Item) → need (frames h) ≤ leaf_level l
+atom-high Yes h = omega (arith, need-low h)
+atom-high No h = omega (arith, need-low h)
+atom-high (Count n) h = omega (arith, need-low h)
+atom-high (Called x) h = omega (arith, need-low h)
+
+-- An operand in its place begins an expression.
+begins-has : (h : List Item) (w : Written) → AreFine h → IsGrammatical w → need (frames h) ≤ level w → Begins (before h ++ spelling w)
+begins-has [] w f g n = record { more = []; whole = w; fine = g; spelled = sym (append-nil (spelling w)) }
+begins-has (Open at ∷ h) w f g n = shorten _ _ (fixed mark.Close 0 ∷ []) (begins-has h (InBrackets at w 0) f g (omega (arith, need-low h))) (simp append_assoc)
+begins-has (Over p at ∷ h) w f g n = shorten _ _ [] (begins-has h (Before p at w) f (n, g) (need-low h)) (simp (append_assoc, append-nil))
+begins-has (Left o at l ∷ h) w f g n = shorten _ _ [] (begins-has h (Between o at l w) f.4 (f.1, f.2, n, f.0, g) f.3) (simp (append_assoc, append-nil))
+begins-has (Cond i ∷ h) w f g n =
+    shorten _ _ (fixed mark.Then 0 ∷ leaf_token Yes 0 ∷ fixed mark.Else 0 ∷ leaf_token Yes 0 ∷ [])
+    (begins-has h (If i w 0 (Atom Yes 0) 0 (Atom Yes 0)) f (g, tt, tt) (omega (arith, need-low h))) (simp append_assoc)
+begins-has (Chose i a t ∷ h) w f g n =
+    shorten _ _ (fixed mark.Else 0 ∷ leaf_token Yes 0 ∷ []) (begins-has h (If i a t w 0 (Atom Yes 0)) f.1 (f.0, g, tt) (omega (arith, need-low h))) (simp append_assoc)
+begins-has (Other i a t b e ∷ h) w f g n = shorten _ _ [] (begins-has h (If i a t b e w) f.2 (f.0, f.1, g) (omega (arith, need-low h))) (simp (append_assoc, append-nil))
+begins-has (Args c o front ∷ h) w f g n = shorten _ _ (fixed mark.Close 0 ∷ []) (begins-has h (Given c o front w 0) f.1 (f.0, g) (omega (arith, need-low h))) (simp append_assoc)
+
+-- a state, with what has been read
+pub data Place : Type 0 where
+  Wants : List Item → Place
+  Has : Written → List Item → Place
+  Clocks : (at : ℕ) → Written → List Item → Place
+  Hashes : (at : ℕ) → List Item → Place
+
+abbrev pub state_of : Place → State
+state_of (Wants h) = Want (frames h)
+state_of (Has w h) = Have (operand w) (frames h)
+state_of (Clocks at w h) = Clock at (syntax_of w) (frames h)
+state_of (Hashes at h) = Hashed at (frames h)
+
+abbrev pub read : Place → List Token
+read (Wants h) = before h
+read (Has w h) = before h ++ spelling w
+read (Clocks at w h) = before h ++ (spelling w ++ fixed mark.When at ∷ [])
+read (Hashes at h) = before h ++ fixed mark.Hash at ∷ []
+
+abbrev pub IsFine : Place → Type 0
+IsFine (Wants h) = AreFine h
+IsFine (Has w h) = AreFine h × IsGrammatical w × (need (frames h) ≤ level w)
+IsFine (Clocks at w h) = AreFine h × IsGrammatical w × (need (frames h) ≤ 8) × (8 ≤ level w) × (is_open w ≡ false)
+IsFine (Hashes at h) = AreFine h
 
 pub begins : (x : Place) → IsFine x → Begins (read x)
-begins (Wants h) f = record {
-  more = fixed mark.True 0 ∷ behind h;
-  whole = plug h (Atom Yes 0);
-  fine = plug-fine h (Atom Yes 0) f tt (omega (arith, need-low h));
-  spelled = spelling-plug h (Atom Yes 0);
-  quiet = (tt, quiet-behind h);
-}
-begins (Has w h) f = record {
-  more = behind h;
-  whole = plug h w;
-  fine = plug-fine h w f.0 f.1 f.2;
-  spelled = spelling-plug h w ∙ sym (append_assoc (before h) (spelling w) (behind h));
-  quiet = quiet-behind h;
-}
+begins (Wants h) f = shorten _ _ (leaf_token Yes 0 ∷ []) (begins-has h (Atom Yes 0) f tt (omega (arith, need-low h))) refl
+begins (Has w h) f = begins-has h w f.0 f.1 f.2
+begins (Clocks at w h) f =
+    shorten _ _ (leaf_token (Called []) 0 ∷ []) (begins-has h (Gated w at (record { text = []; at = 0 })) f.0 (f.3, f.4, f.1) f.2) (simp append_assoc)
+begins (Hashes at h) f =
+    shorten _ _ (fixed mark.Open 0 ∷ leaf_token Yes 0 ∷ fixed mark.Close 0 ∷ []) (begins-has h (Given (Hash at) 0 NoneBefore (Atom Yes 0) 0) f (tt, tt) (omega (arith, need-low h))) (simp append_assoc)
 
 -- what a move does with a token after those that were read
 abbrev Leads : List Token → Token → Move → Type 0
@@ -143,111 +164,219 @@ Leads ts t (To st) = (x : Place) × IsFine x × (state_of x ≡ st) × (read x �
 Leads ts t (Ends e) = (w : Written) × IsGrammatical w × (syntax_of w ≡ e) × (spelling w ≡ ts)
 Leads ts t Fails = Unit {0}
 
--- the token of a role
-abbrev Spells : Role → Token → Type 0
-Spells part.Operand t = (l : Leaf) × (t ≡ leaf_token l t.at) × (leaf_tree t ≡ Just l t.at)
-Spells (part.Before p at) t = t ≡ fixed (prefix_mark p) at
-Spells (part.Between o at) t = t ≡ fixed (infix_mark o) at
-Spells part.Opens t = t ≡ fixed mark.Open t.at
-Spells part.Closes t = t ≡ fixed mark.Close t.at
-Spells part.Other t = Unit {0}
+-- the token where an operand is wanted
+abbrev Starts : Start → Token → Type 0
+Starts start.Operand t = (l : Leaf) × (t ≡ leaf_token l t.at) × (leaf_held t ≡ operand (Atom l t.at))
+Starts (start.Before p at) t = t ≡ fixed (prefix_mark p) at
+Starts start.Opens t = t ≡ fixed mark.Open t.at
+Starts (start.Asks at) t = t ≡ fixed mark.If at
+Starts (start.Counts at) t = t ≡ fixed mark.Hash at
+Starts start.Other t = Unit {0}
 
-spells-mark : (m : Mark) (at : ℕ) → Spells (role (fixed m at)) (fixed m at)
-spells-mark mark.True at = (Yes, refl, refl)
-spells-mark mark.False at = (No, refl, refl)
-spells-mark mark.Not at = refl
-spells-mark mark.Pre at = refl
-spells-mark mark.Arrow at = refl
-spells-mark mark.Or at = refl
-spells-mark mark.And at = refl
-spells-mark mark.Open at = refl
-spells-mark mark.Close at = refl
-spells-mark mark.Node at = tt
-spells-mark mark.Returns at = tt
-spells-mark mark.Var at = tt
-spells-mark mark.Let at = tt
-spells-mark mark.Tel at = tt
-spells-mark mark.Bool at = tt
-spells-mark mark.Comma at = tt
-spells-mark mark.Semi at = tt
-spells-mark mark.Colon at = tt
-spells-mark mark.Equal at = tt
+starts-mark : (m : Mark) (at : ℕ) → Starts (start_of (fixed m at)) (fixed m at)
+starts-mark mark.True at = (Yes, refl, refl)
+starts-mark mark.False at = (No, refl, refl)
+starts-mark mark.Not at = refl
+starts-mark mark.Minus at = refl
+starts-mark mark.Pre at = refl
+starts-mark mark.Current at = refl
+starts-mark mark.Open at = refl
+starts-mark mark.If at = refl
+starts-mark mark.Hash at = refl
+starts-mark _ at = tt
 
-spells-kind : (k : Kind) (at : ℕ) → Spells (role (record { kind = k; at = at })) (record { kind = k; at = at })
-spells-kind (kind.Name x) at = (Called x, refl, refl)
-spells-kind (kind.Fixed m) at = spells-mark m at
-spells-kind kind.Other at = tt
+starts-kind : (k : Kind) (at : ℕ) → Starts (start_of (record { kind = k; at = at })) (record { kind = k; at = at })
+starts-kind (kind.Name x) at = (Called x, refl, refl)
+starts-kind (kind.Number n) at = (Count n, refl, refl)
+starts-kind (kind.Fixed m) at = starts-mark m at
+starts-kind kind.LeftOut at = tt
+starts-kind kind.Bad at = tt
 
-spelled_as : (t : Token) (r : Role) → role t ≡ r → Spells r t
-spelled_as t r h = subst (λ q. Spells q t) h (spells-kind t.kind t.at)
+-- the token after an operand
+abbrev Follows : Next → Token → Type 0
+Follows (next.Between o at) t = t ≡ fixed (op_mark o) at
+Follows (next.Gates at) t = t ≡ fixed mark.When at
+Follows next.Opens t = t ≡ fixed mark.Open t.at
+Follows next.Closes t = t ≡ fixed mark.Close t.at
+Follows next.Separates t = t ≡ fixed mark.Comma t.at
+Follows next.Answers t = t ≡ fixed mark.Then t.at
+Follows next.Otherwise t = t ≡ fixed mark.Else t.at
+Follows next.Other t = Unit {0}
+
+follows-mark : (m : Mark) (at : ℕ) → Follows (next_of (fixed m at)) (fixed m at)
+follows-mark mark.Arrow at = refl
+follows-mark mark.Implies at = refl
+follows-mark mark.Or at = refl
+follows-mark mark.Xor at = refl
+follows-mark mark.And at = refl
+follows-mark mark.Equal at = refl
+follows-mark mark.Differs at = refl
+follows-mark mark.Less at = refl
+follows-mark mark.AtMost at = refl
+follows-mark mark.Greater at = refl
+follows-mark mark.AtLeast at = refl
+follows-mark mark.Plus at = refl
+follows-mark mark.Minus at = refl
+follows-mark mark.Times at = refl
+follows-mark mark.Slash at = refl
+follows-mark mark.Div at = refl
+follows-mark mark.Mod at = refl
+follows-mark mark.When at = refl
+follows-mark mark.Open at = refl
+follows-mark mark.Close at = refl
+follows-mark mark.Comma at = refl
+follows-mark mark.Then at = refl
+follows-mark mark.Else at = refl
+follows-mark _ at = tt
+
+follows-kind : (k : Kind) (at : ℕ) → Follows (next_of (record { kind = k; at = at })) (record { kind = k; at = at })
+follows-kind (kind.Fixed m) at = follows-mark m at
+follows-kind (kind.Name x) at = tt
+follows-kind (kind.Number n) at = tt
+follows-kind kind.LeftOut at = tt
+follows-kind kind.Bad at = tt
 
 pick : {A : Type 0} (P : A → Type 0) (b : Bool) (x y : A) → (b ≡ true → P x) → (b ≡ false → P y) → P (cond b x y)
 pick P true x y f g = f refl
 pick P false x y f g = g refl
 
-leads-taken : (t : Token) (r : Role) → Spells r t → (w : Written) (h : List Held) → IsFine (Has w h) → accepts r (need (frames h)) (level w) ≡ true → Leads (read (Has w h)) t (taken r (syntax_of w) (frames h))
-leads-taken t part.Operand e w h f a = tt
-leads-taken t (part.Before p at) e w h f a = tt
-leads-taken t (part.Between o at) e w h f a =
-    let parts = and_parts _ _ a in (
-      Wants (Left o at w ∷ h),
-      (f.1, leb-true (left_level o) (level w) parts.1, leb-true (need (frames h)) (level_of o) parts.0, f.0),
+-- only a name is of level 11
+named : (w : Written) → level w ≡ 11 → spelling w ≡ callee_token (callee_of (syntax_of w)) ∷ []
+named (Atom Yes at) e = absurd (omega arith)
+named (Atom No at) e = absurd (omega arith)
+named (Atom (Count n) at) e = absurd (omega arith)
+named (Atom (Called x) at) e = refl
+named (InBrackets a w b) e = absurd (omega arith)
+named (Before p at w) e = absurd (omega arith)
+named (Between o at a b) e = absurd (omega (arith, below-eight o))
+named (Gated w at x) e = absurd (omega arith)
+named (If i a t b x c) e = absurd (omega arith)
+named (Given f a front w b) e = absurd (omega arith)
+
+leads-call : (at : ℕ) (w : Written) (h : List Item) → IsFine (Has w h) → level w ≡ 11 → Leads (read (Has w h)) (fixed mark.Open at) (To (Want (Within (callee_of (syntax_of w)) [] ∷ frames h)))
+leads-call at w h f e =
+    let c = callee_of (syntax_of w) in (
+      Wants (Args c at NoneBefore ∷ h),
+      (tt, f.0),
       refl,
-      sym (append_assoc (before h) (spelling w) (fixed (infix_mark o) at ∷ [])) ∙ ap (λ x. (before h ++ spelling w) ++ x ∷ []) (sym e),
+      sym (append_assoc (before h) (callee_token c ∷ []) (fixed mark.Open at ∷ [])) ∙ ap (λ x. (before h ++ x) ++ fixed mark.Open at ∷ []) (sym (named w e)),
     )
-leads-taken t part.Opens e w h f a = tt
-leads-taken t part.Closes e w h f a = tt
-leads-taken t part.Other e w h f a = tt
 
-leads-closed : (t : Token) (r : Role) → Spells r t → (at : ℕ) (w : Written) (h : List Held) → AreFine h → IsGrammatical w → Leads (read (Has w (Open at ∷ h))) t (closed r (syntax_of w) (frames h))
-leads-closed t part.Operand e at w h f g = tt
-leads-closed t (part.Before p up) e at w h f g = tt
-leads-closed t (part.Between o up) e at w h f g = tt
-leads-closed t part.Opens e at w h f g = tt
-leads-closed t part.Closes e at w h f g =
-    let same : before h ++ (fixed mark.Open at ∷ (spelling w ++ fixed mark.Close t.at ∷ [])) ≡ ((before h ++ fixed mark.Open at ∷ []) ++ spelling w) ++ fixed mark.Close t.at ∷ [] = simp append_assoc in
-    (Has (InBrackets at w t.at) h, (f, g, omega (arith, need-low h)), refl, same ∙ ap (λ x. ((before h ++ fixed mark.Open at ∷ []) ++ spelling w) ++ x ∷ []) (sym e))
-leads-closed t part.Other e at w h f g = tt
+leads-taken : (t : Token) (r : Next) → Follows r t → (w : Written) (h : List Item) → IsFine (Has w h) → accepts r (need (frames h)) (operand w) ≡ true → Leads (read (Has w h)) t (taken r (operand w) (frames h))
+leads-taken t (next.Between o at) e w h f a =
+    let both = and_parts _ _ a in
+    let parts = and_parts _ _ both.1 in (
+      Wants (Left o at w ∷ h),
+      (f.1, leb-true (left_level o) (level w) parts.1, not-true (is_open w) both.0, leb-true (need (frames h)) (level_of o) parts.0, f.0),
+      refl,
+      sym (append_assoc (before h) (spelling w) (fixed (op_mark o) at ∷ [])) ∙ ap (λ x. (before h ++ spelling w) ++ x ∷ []) (sym e),
+    )
+leads-taken t (next.Gates at) e w h f a =
+    let both = and_parts _ _ a in
+    let parts = and_parts _ _ both.1 in (
+      Clocks at w h,
+      (f.0, f.1, leb-true (need (frames h)) 8 parts.0, leb-true 8 (level w) parts.1, not-true (is_open w) both.0),
+      refl,
+      sym (append_assoc (before h) (spelling w) (fixed mark.When at ∷ [])) ∙ ap (λ x. (before h ++ spelling w) ++ x ∷ []) (sym e),
+    )
+leads-taken t next.Opens e w h f a =
+    subst (λ x. Leads (read (Has w h)) x (To (Want (Within (callee_of (syntax_of w)) [] ∷ frames h)))) (sym e) (leads-call t.at w h f (eqb-true (level w) 11 a))
+leads-taken t next.Closes e w h f a = tt
+leads-taken t next.Separates e w h f a = tt
+leads-taken t next.Answers e w h f a = tt
+leads-taken t next.Otherwise e w h f a = tt
+leads-taken t next.Other e w h f a = tt
 
-leads-settle : (t : Token) (r : Role) → Spells r t → (h : List Held) (w : Written) → IsFine (Has w h) → Leads (read (Has w h)) t (settle r (level w) (syntax_of w) (frames h))
+-- the token at the end of what was read
+one-more : (ts us : List Token) (x t : Token) → t ≡ x → ts ≡ us ++ x ∷ [] → ts ≡ us ++ t ∷ []
+one-more ts us x t e h = h ∙ ap (λ y. us ++ y ∷ []) (sym e)
+
+leads-closed : (t : Token) (r : Next) → Follows r t → (at : ℕ) (w : Written) (h : List Item) → AreFine h → IsGrammatical w → Leads (read (Has w (Open at ∷ h))) t (closed r (syntax_of w) (frames h))
+leads-closed t next.Closes e at w h f g = (Has (InBrackets at w t.at) h, (f, g, omega (arith, need-low h)), refl, one-more _ _ _ t e (simp append_assoc))
+leads-closed t _ e at w h f g = tt
+
+leads-answered : (t : Token) (r : Next) → Follows r t → (i : ℕ) (w : Written) (h : List Item) → AreFine h → IsGrammatical w → Leads (read (Has w (Cond i ∷ h))) t (answered r i (syntax_of w) (frames h))
+leads-answered t next.Answers e i w h f g = (Wants (Chose i w t.at ∷ h), (g, f), refl, one-more _ _ _ t e (simp append_assoc))
+leads-answered t _ e i w h f g = tt
+
+leads-otherwise : (t : Token) (r : Next) → Follows r t → (i : ℕ) (a : Written) (n : ℕ) (w : Written) (h : List Item) → AreFine (Chose i a n ∷ h) → IsGrammatical w
+    → Leads (read (Has w (Chose i a n ∷ h))) t (otherwise r i (syntax_of a) (syntax_of w) (frames h))
+leads-otherwise t next.Otherwise e i a n w h f g = (Wants (Other i a n w t.at ∷ h), (f.0, g, f.1), refl, one-more _ _ _ t e (simp append_assoc))
+leads-otherwise t _ e i a n w h f g = tt
+
+leads-argued : (t : Token) (r : Next) → Follows r t → (c : Callee) (o : ℕ) (front : Front) (w : Written) (h : List Item) → AreFine (Args c o front ∷ h) → IsGrammatical w
+    → Leads (read (Has w (Args c o front ∷ h))) t (argued r c (front_trees front) (syntax_of w) (frames h))
+leads-argued t next.Separates e c o front w h f g = (Wants (Args c o (Then front w t.at) ∷ h), ((f.0, g), f.1), refl, one-more _ _ _ t e (simp append_assoc))
+leads-argued t next.Closes e c o front w h f g = (Has (Given c o front w t.at) h, (f.1, (f.0, g), omega (arith, need-low h)), refl, one-more _ _ _ t e (simp append_assoc))
+leads-argued t _ e c o front w h f g = tt
+
+leads-settle : (t : Token) (r : Next) → Follows r t → (h : List Item) (w : Written) → IsFine (Has w h) → Leads (read (Has w h)) t (settle r (operand w) (frames h))
 leads-settle t r e [] w f =
-    pick (Leads (read (Has w [])) t) (accepts r 0 (level w)) _ _ (leads-taken t r e w [] f) (λ _. (w, f.1, refl, refl))
+    pick (Leads (read (Has w [])) t) (accepts r 0 (operand w)) _ _ (leads-taken t r e w [] f) (λ _. (w, f.1, refl, refl))
 leads-settle t r e (Open at ∷ h) w f =
-    pick (Leads (read (Has w (Open at ∷ h))) t) (accepts r 0 (level w)) _ _ (leads-taken t r e w (Open at ∷ h) f) (λ _. leads-closed t r e at w h f.0 f.1)
+    pick (Leads (read (Has w (Open at ∷ h))) t) (accepts r 0 (operand w)) _ _ (leads-taken t r e w (Open at ∷ h) f) (λ _. leads-closed t r e at w h f.0 f.1)
 leads-settle t r e (Over p at ∷ h) w f =
     let same : read (Has (Before p at w) h) ≡ read (Has w (Over p at ∷ h)) = simp append_assoc in
-    pick (Leads (read (Has w (Over p at ∷ h))) t) (accepts r 9 (level w)) _ _ (leads-taken t r e w (Over p at ∷ h) f)
-    (λ _. subst (λ ts. Leads ts t (settle r 9 (Applied p at (syntax_of w)) (frames h))) same (leads-settle t r e h (Before p at w) (f.0, (f.2, f.1), need-low h)))
+    pick (Leads (read (Has w (Over p at ∷ h))) t) (accepts r 9 (operand w)) _ _ (leads-taken t r e w (Over p at ∷ h) f)
+    (λ _. subst (λ ts. Leads ts t (settle r (operand (Before p at w)) (frames h))) same (leads-settle t r e h (Before p at w) (f.0, (f.2, f.1), need-low h)))
 leads-settle t r e (Left o at l ∷ h) w f =
     let same : read (Has (Between o at l w) h) ≡ read (Has w (Left o at l ∷ h)) = simp append_assoc in
-    pick (Leads (read (Has w (Left o at l ∷ h))) t) (accepts r (right_level o) (level w)) _ _ (leads-taken t r e w (Left o at l ∷ h) f)
-    (λ _. subst (λ ts. Leads ts t (settle r (level_of o) (Joined o at (syntax_of l) (syntax_of w)) (frames h))) same (leads-settle t r e h (Between o at l w) (f.0.3, (f.0.1, f.2, f.0.0, f.1), f.0.2)))
+    pick (Leads (read (Has w (Left o at l ∷ h))) t) (accepts r (right_level o) (operand w)) _ _ (leads-taken t r e w (Left o at l ∷ h) f)
+    (λ _. subst (λ ts. Leads ts t (settle r (operand (Between o at l w)) (frames h))) same (leads-settle t r e h (Between o at l w) (f.0.4, (f.0.1, f.0.2, f.2, f.0.0, f.1), f.0.3)))
+leads-settle t r e (Cond i ∷ h) w f =
+    pick (Leads (read (Has w (Cond i ∷ h))) t) (accepts r 0 (operand w)) _ _ (leads-taken t r e w (Cond i ∷ h) f) (λ _. leads-answered t r e i w h f.0 f.1)
+leads-settle t r e (Chose i a n ∷ h) w f =
+    pick (Leads (read (Has w (Chose i a n ∷ h))) t) (accepts r 0 (operand w)) _ _ (leads-taken t r e w (Chose i a n ∷ h) f) (λ _. leads-otherwise t r e i a n w h f.0 f.1)
+leads-settle t r e (Other i a n b m ∷ h) w f =
+    let same : read (Has (If i a n b m w) h) ≡ read (Has w (Other i a n b m ∷ h)) = simp append_assoc in
+    pick (Leads (read (Has w (Other i a n b m ∷ h))) t) (accepts r 0 (operand w)) _ _ (leads-taken t r e w (Other i a n b m ∷ h) f)
+    (λ _. subst (λ ts. Leads ts t (settle r (operand (If i a n b m w)) (frames h))) same (leads-settle t r e h (If i a n b m w) (f.0.2, (f.0.0, f.0.1, f.1), omega (arith, need-low h))))
+leads-settle t r e (Args c o front ∷ h) w f =
+    pick (Leads (read (Has w (Args c o front ∷ h))) t) (accepts r 0 (operand w)) _ _ (leads-taken t r e w (Args c o front ∷ h) f) (λ _. leads-argued t r e c o front w h f.0 f.1)
 
-leads-begin : (t : Token) (r : Role) → Spells r t → (h : List Held) → AreFine h → Leads (before h) t (begin r (leaf_tree t) (frames h))
-leads-begin t part.Operand e h f =
-    (Has (Atom e.0 t.at) h, (f, tt, omega (arith, need-low h)), ap (λ x. Have 10 x (frames h)) (sym e.2), ap (λ x. before h ++ x ∷ []) (sym e.1))
-leads-begin t (part.Before p at) e h f = (Wants (Over p at ∷ h), f, refl, ap (λ x. before h ++ x ∷ []) (sym e))
-leads-begin t (part.Between o at) e h f = tt
-leads-begin t part.Opens e h f = (Wants (Open t.at ∷ h), f, refl, ap (λ x. before h ++ x ∷ []) (sym e))
-leads-begin t part.Closes e h f = tt
-leads-begin t part.Other e h f = tt
+leads-begin : (t : Token) (r : Start) → Starts r t → (h : List Item) → AreFine h → Leads (before h) t (begin r (leaf_held t) (frames h))
+leads-begin t start.Operand e h f =
+    (Has (Atom e.0 t.at) h, (f, tt, atom-high e.0 h), ap (λ x. Have x (frames h)) (sym e.2), ap (λ x. before h ++ x ∷ []) (sym e.1))
+leads-begin t (start.Before p at) e h f = (Wants (Over p at ∷ h), f, refl, ap (λ x. before h ++ x ∷ []) (sym e))
+leads-begin t start.Opens e h f = (Wants (Open t.at ∷ h), f, refl, ap (λ x. before h ++ x ∷ []) (sym e))
+leads-begin t (start.Asks at) e h f = (Wants (Cond at ∷ h), f, refl, ap (λ x. before h ++ x ∷ []) (sym e))
+leads-begin t (start.Counts at) e h f = (Hashes at h, f, refl, ap (λ x. before h ++ x ∷ []) (sym e))
+leads-begin t start.Other e h f = tt
+
+leads-clocked : (k : Kind) (up at : ℕ) (w : Written) (h : List Item) → IsFine (Clocks at w h) → Leads (read (Clocks at w h)) (record { kind = k; at = up }) (clocked (kind_name k up) at (syntax_of w) (frames h))
+leads-clocked (kind.Name x) up at w h f = (Has (Gated w at (record { text = x; at = up })) h, (f.0, (f.3, f.4, f.1), f.2), refl, simp append_assoc)
+leads-clocked (kind.Fixed m) up at w h f = tt
+leads-clocked (kind.Number n) up at w h f = tt
+leads-clocked kind.LeftOut up at w h f = tt
+leads-clocked kind.Bad up at w h f = tt
+
+leads-opened : (t : Token) (r : Start) → Starts r t → (at : ℕ) (h : List Item) → AreFine h → Leads (read (Hashes at h)) t (opened r at (frames h))
+leads-opened t start.Opens e at h f = (Wants (Args (Hash at) t.at NoneBefore ∷ h), (tt, f), refl, one-more _ _ _ t e (simp append_assoc))
+leads-opened t _ e at h f = tt
 
 pub leads : (t : Token) (x : Place) → IsFine x → Leads (read x) t (step (state_of x) t)
-leads t (Wants h) f = leads-begin t (role t) (spelled_as t (role t) refl) h f
-leads t (Has w h) f = leads-settle t (role t) (spelled_as t (role t) refl) h w f
+leads t (Wants h) f = leads-begin t (start_of t) (starts-kind t.kind t.at) h f
+leads t (Has w h) f = leads-settle t (next_of t) (follows-kind t.kind t.at) h w f
+leads t (Clocks at w h) f = leads-clocked t.kind t.at at w h f
+leads t (Hashes at h) f = leads-opened t (start_of t) (starts-kind t.kind t.at) at h f
 
 leads-finish : (x : Place) → IsFine x → Leads (read x) (fixed mark.Semi 0) (finish (state_of x))
 leads-finish (Wants h) f = tt
-leads-finish (Has w h) f = leads-settle (fixed mark.Semi 0) part.Other tt h w f
+leads-finish (Has w h) f = leads-settle (fixed mark.Semi 0) next.Other tt h w f
+leads-finish (Clocks at w h) f = tt
+leads-finish (Hashes at h) f = tt
 
--- what reading comes to, after the tokens that were read
+-- What reading comes to, after the tokens that were read. The token that is nested too deep goes on with an expression.
 abbrev pub Comes : List Token → List Token → Limited → Type 0
 Comes pre ts (Ok x) = (w : Written) × IsGrammatical w × (syntax_of w ≡ x.0) × (pre ++ ts ≡ spelling w ++ x.1)
-Comes pre ts (Err e) = (front : List Token) × (ts ≡ front ++ e.1) × Begins (pre ++ front)
+Comes pre ts (Err (Offends, rest)) = (front : List Token) × (ts ≡ front ++ rest) × Begins (pre ++ front)
+Comes pre ts (Err (TooDeep, rest)) = (front : List Token) × (t : Token) × (after : List Token) × (rest ≡ t ∷ after) × (ts ≡ front ++ rest) × Begins (pre ++ (front ++ t ∷ []))
 
 comes-later : (pre : List Token) (t : Token) (ts : List Token) (r : Limited) → Comes (pre ++ t ∷ []) ts r → Comes pre (t ∷ ts) r
 comes-later pre t ts (Ok x) c = (c.0, c.1, c.2, sym (append_assoc pre (t ∷ []) ts) ∙ c.3)
-comes-later pre t ts (Err e) c = (t ∷ c.0, ap (λ l. t ∷ l) c.1, subst Begins (append_assoc pre (t ∷ []) c.0) c.2)
+comes-later pre t ts (Err (Offends, rest)) c = (t ∷ c.0, ap (λ l. t ∷ l) c.1, subst Begins (append_assoc pre (t ∷ []) c.0) c.2)
+comes-later pre t ts (Err (TooDeep, rest)) c =
+    (t ∷ c.0, c.1, c.2, c.3, ap (λ l. t ∷ l) c.4, subst Begins (append_assoc pre (t ∷ []) (c.0 ++ c.1 ∷ [])) c.5)
 
 begins-here : (x : Place) → IsFine x → Begins (read x ++ [])
 begins-here x f = subst Begins (sym (append-nil (read x))) (begins x f)
@@ -262,25 +391,16 @@ comes-going : (x : Place) → IsFine x → (c : Counts) (t : Token) (ts : List T
 comes-going x f c t ts again (To st) l =
     pick (Comes (read x) (t ∷ ts)) (nat_le c.now limit) (limited c st ts) (Err (TooDeep, t ∷ ts))
     (λ _. comes-later (read x) t ts (limited c st ts) (subst (λ s. Comes (read x ++ t ∷ []) ts (limited c s ts)) l.2 (subst (λ pre. Comes pre ts (limited c (state_of l.0) ts)) l.3 (again l.0 l.1))))
-    (λ _. ([], refl, begins-here x f))
+    (λ _. ([], t, ts, refl, refl, subst Begins l.3 (begins l.0 l.1)))
 comes-going x f c t ts again (Ends e) l = (l.0, l.1, l.2, ap (λ pre. pre ++ t ∷ ts) (sym l.3))
 comes-going x f c t ts again Fails l = ([], refl, begins-here x f)
 
 pub comes : (ts : List Token) (c : Counts) (x : Place) → IsFine x → Comes (read x) ts (limited c (state_of x) ts)
 unfolding limited
 comes [] c x f = comes-end x f (finish (state_of x)) (leads-finish x f)
-comes (t ∷ ts) c x f = comes-going x f (count (role t) c) t ts (comes ts (count (role t) c)) (step (state_of x) t) (leads t x f)
+comes (t ∷ ts) c x f = comes-going x f (count (weight t) c) t ts (comes ts (count (weight t) c)) (step (state_of x) t) (leads t x f)
 
 -- One token decides: what is read up to a token does not depend on what follows that token.
-abbrev pub left : Limited → List Token
-left (Ok x) = x.1
-left (Err e) = e.1
-
--- the same answer, with other tokens left
-abbrev pub with_left : List Token → Limited → Limited
-with_left ts (Ok x) = Ok (x.0, ts)
-with_left ts (Err e) = Err (e.0, ts)
-
 short-end : (m : Move) → length (left (at_end m)) ≤ 0
 short-end (To st) = omega arith
 short-end (Ends e) = omega arith
@@ -298,7 +418,7 @@ short-going Fails c t ts again = omega arith
 pub left-short : (ts : List Token) (c : Counts) (st : State) → length (left (limited c st ts)) ≤ length ts
 unfolding limited
 left-short [] c st = short-end (finish st)
-left-short (t ∷ ts) c st = short-going (step st t) (count (role t) c) t ts (left-short ts (count (role t) c))
+left-short (t ∷ ts) c st = short-going (step st t) (count (weight t) c) t ts (left-short ts (count (weight t) c))
 
 choice-here : (b : Bool) (t : Token) (rest other : List Token) (r q : Limited) → length (left r) ≤ length rest → left (cond b r (Err (TooDeep, t ∷ rest))) ≡ t ∷ rest
     → cond b q (Err (TooDeep, t ∷ other)) ≡ with_left (t ∷ other) (cond b r (Err (TooDeep, t ∷ rest)))
@@ -332,6 +452,6 @@ one-later Fails c x front t rest other again h = absurd (too-long front x t rest
 pub one-token : (front : List Token) (c : Counts) (st : State) (t : Token) (rest other : List Token) → left (limited c st (front ++ t ∷ rest)) ≡ t ∷ rest
     → limited c st (front ++ t ∷ other) ≡ with_left (t ∷ other) (limited c st (front ++ t ∷ rest))
 unfolding limited
-one-token [] c st t rest other h = one-here (step st t) (count (role t) c) t rest other h
+one-token [] c st t rest other h = one-here (step st t) (count (weight t) c) t rest other h
 one-token (x ∷ front) c st t rest other h =
-    one-later (step st x) (count (role x) c) x front t rest other (λ next. one-token front (count (role x) c) next t rest other) h
+    one-later (step st x) (count (weight x) c) x front t rest other (λ next. one-token front (count (weight x) c) next t rest other) h

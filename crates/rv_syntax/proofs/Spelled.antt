@@ -1,301 +1,406 @@
--- The offsets of the `pre` of a node rise, and with its flows they are no more than the bytes of the text.
-use Rattle.std.proofs.Common.{◌≡◌, ℕ, zero, suc, ◌+◌, ◌-◌, ◌≤◌, Bool, true, false, cond, List, [], ◌∷◌, ◌++◌, map, length, refl, sym, ap, ◌∙◌, subst, inl, inr, arith, append_assoc, length-append}
-use Rattle.std.proofs.lemmas.List.{append-nil, length-map}
+-- What a text declares and what has a site in it stand at offsets of its tokens, no two at one token: whatever each
+-- offset weighs, those of a program weigh no more than those of its tokens.
+use Rattle.std.proofs.Common.{◌≡◌, ℕ, ◌+◌, ◌≤◌, List, [], ◌∷◌, ◌++◌, map, refl, ap, inl, inr, arith}
+use Rattle.std.specs.Prelude.{Option, Some, None}
 use Rattle.rv_syntax.specs.declared.token.Mark.{Mark}
 use Rattle.rv_syntax.specs.declared.token.Mark.TheVariants as mark
-use Rattle.rv_syntax.specs.declared.token.Kind.{Kind}
-use Rattle.rv_syntax.specs.declared.token.Kind.TheVariants as kind
 use Rattle.rv_syntax.specs.declared.token.Token.{Token}
 use Rattle.rv_syntax.specs.declared.tree.Name.{Name}
 use Rattle.rv_syntax.specs.declared.tree.Decl.{Decl}
-use Rattle.rv_syntax.specs.declared.operator.Infix.{Infix}
-use Rattle.rv_syntax.specs.declared.operator.Infix.TheVariants as infixed
+use Rattle.rv_syntax.specs.declared.tree.Op.{Op}
+use Rattle.rv_syntax.specs.declared.tree.Op.TheVariants as op
 use Rattle.rv_syntax.specs.declared.operator.Prefix.TheVariants as prefixed
-use Rattle.rv_syntax.specs.Tree.{EquationTree, NodeTree}
-use Rattle.rv_syntax.specs.Places.{flows}
-use Rattle.rv_syntax.specs.Sites.{delayed, all_delayed}
-use Rattle.rv_syntax.specs.Lexing.{is_space, cut, first_token, kind_of, lex}
-use Rattle.rv_syntax.specs.Grammar.{Written, Atom, InBrackets, Before, Between, Leaf, Yes, No, Called, fixed, infix_mark, spelling, syntax_of}
-use Rattle.rv_syntax.specs.Nesting.{IsExpr}
-use Rattle.rv_syntax.specs.Rules.{Gives, Word, Part, Each}
-use Rattle.rv_syntax.specs.ProgramText.{IsName, IsNextName, IsNames, flow, IsGroup, IsOutput, equation_of, IsEquation, IsTitle, IsInputs, IsReturns, IsVar, IsLocals, IsEquations, IsBody, node_of, IsNode}
-use Rattle.rv_syntax.proofs.Counting.{Rises, rises-from}
+use Rattle.rv_syntax.specs.declared.tree.TypeBody.{TypeBody}
+use Rattle.rv_syntax.specs.declared.tree.TypeBody.TheVariants as type_body
+use Rattle.rv_syntax.specs.declared.tree.TypeDecl.{TypeDecl}
+use Rattle.rv_syntax.specs.Tree.{Tree, trees, EquationTree, AssertionTree, ConstantTree, NodeTree, ProgramTree}
+use Rattle.rv_syntax.specs.Sites.{compared, offsets, trees_offsets, equation_offsets, assertion_offsets}
+use Rattle.rv_syntax.specs.Grammar.{Leaf, Yes, No, Count, Called, Callee, Function, Hash, Written, Atom, InBrackets, Before, Between, Gated, If, Given, Front, NoneBefore, Then, fixed, spelling, front_spelling, Invoked, syntax_of, front_trees, callee_token, name_token, op_mark}
+use Rattle.rv_syntax.specs.Nesting.{IsExprOf}
+use Rattle.rv_syntax.specs.Rules.{Gives, Word, Only, Marked, Maybe, Part, OneOf, Each}
+use Rattle.rv_syntax.specs.ProgramText.{IsName, IsNames, IsKind, IsEnumeration, IsTypeBody, type_of, IsType, IsTypes, IsRight, constant_of, IsConstant, IsConstants, flow, Group, IsGroup, flows_of, all_flows, IsDecls, IsClock, IsLocal, joined, IsVar, IsLefts, Item, Equates, Assumes, equation_of, assertion_of, IsItem, equations_of, assertions_of, IsTitle, IsInputs, IsOutputs, IsBody, node_of, IsNode, Section, Types, Constants, OneNode, IsSection, types_of, constants_of, program_of, IsProgram}
 
--- the offsets of the words `pre`
-abbrev mark_kept : Mark → ℕ → List ℕ → List ℕ
-mark_kept mark.Pre at xs = at ∷ xs
-mark_kept _ at xs = xs
+-- what all of them weigh
+abbrev pub all_of : {A : Type 0} → (A → ℕ) → List A → ℕ
+all_of f [] = 0
+all_of f (x ∷ xs) = f x + all_of f xs
 
-abbrev kept : Kind → ℕ → List ℕ → List ℕ
-kept (kind.Fixed m) at xs = mark_kept m at xs
-kept (kind.Name x) at xs = xs
-kept kind.Other at xs = xs
+pub all_of-append : {A : Type 0} (f : A → ℕ) (xs ys : List A) → all_of f (xs ++ ys) ≡ all_of f xs + all_of f ys
+all_of-append f [] ys = omega arith
+all_of-append f (x ∷ xs) ys = omega (arith, all_of-append f xs ys)
 
-abbrev pub pre_ats : List Token → List ℕ
-pre_ats [] = []
-pre_ats (t ∷ ts) = kept t.kind t.at (pre_ats ts)
+all_of-map : {A B : Type 0} (f : B → ℕ) (g : A → B) (xs : List A) → all_of f (map g xs) ≡ all_of (λ a. f (g a)) xs
+all_of-map f g [] = refl
+all_of-map f g (x ∷ xs) = ap (λ n. f (g x) + n) (all_of-map f g xs)
 
-mark-append : (m : Mark) (at : ℕ) (xs ys : List ℕ) → mark_kept m at (xs ++ ys) ≡ mark_kept m at xs ++ ys
-mark-append mark.Pre at xs ys = refl
-mark-append _ at xs ys = refl
+-- where each offset weighs this
+module _ (f : ℕ → ℕ) where
+  -- names, flows, types, constants, nodes and programs, by where they are declared and by what has a site in them
+  abbrev pub of_name : Name → ℕ
+  of_name x = f x.at
 
-kept-append : (k : Kind) (at : ℕ) (xs ys : List ℕ) → kept k at (xs ++ ys) ≡ kept k at xs ++ ys
-kept-append (kind.Fixed m) at xs ys = mark-append m at xs ys
-kept-append (kind.Name x) at xs ys = refl
-kept-append kind.Other at xs ys = refl
+  abbrev pub of_flow : Decl → ℕ
+  of_flow d = of_name d.name
 
-pre_ats-append : (ts us : List Token) → pre_ats (ts ++ us) ≡ pre_ats ts ++ pre_ats us
-pre_ats-append [] us = refl
-pre_ats-append (t ∷ ts) us = ap (kept t.kind t.at) (pre_ats-append ts us) ∙ kept-append t.kind t.at (pre_ats ts) (pre_ats us)
+  abbrev pub of_body : TypeBody → ℕ
+  of_body (type_body.Alias k) = 0
+  of_body (type_body.Labels xs) = all_of of_name xs
 
--- Those of a text rise.
-mark-rises : (m : Mark) (at : ℕ) (xs : List ℕ) → Rises (at + 1) xs → Rises at (mark_kept m at xs)
-mark-rises mark.Pre at xs h = (omega arith, h)
-mark-rises _ at xs h = rises-from (at + 1) at xs (omega arith) h
+  abbrev pub of_type : TypeDecl → ℕ
+  of_type d = of_name d.name + of_body d.body
 
-kept-rises : (k : Kind) (at : ℕ) (xs : List ℕ) → Rises (at + 1) xs → Rises at (kept k at xs)
-kept-rises (kind.Fixed m) at xs h = mark-rises m at xs h
-kept-rises (kind.Name x) at xs h = rises-from (at + 1) at xs (omega arith) h
-kept-rises kind.Other at xs h = rises-from (at + 1) at xs (omega arith) h
+  abbrev pub of_constant : ConstantTree → ℕ
+  of_constant c = of_name c.name
 
-rises-either : (b : Bool) (at : ℕ) (ts us : List Token) → Rises at (pre_ats ts) → Rises at (pre_ats us) → Rises at (pre_ats (cond b ts us))
-rises-either true at ts us g h = g
-rises-either false at ts us g h = h
+  abbrev pub of_tree : Tree → ℕ
+  of_tree t = all_of f (offsets t)
 
-pub lex-rises : (skip at : ℕ) (bs : List ℕ) → Rises at (pre_ats (lex skip at bs))
-unfolding lex
-lex-rises skip at [] = tt
-lex-rises (suc skip) at (b ∷ bs) = rises-from (at + 1) at (pre_ats (lex skip (at + 1) bs)) (omega arith) (lex-rises skip (at + 1) bs)
-lex-rises zero at (b ∷ bs) =
-    rises-either (is_space b) at (lex zero (at + 1) bs) (first_token at (b ∷ bs) ∷ lex ((cut (b ∷ bs)).1 - 1) (at + 1) bs)
-    (rises-from (at + 1) at (pre_ats (lex zero (at + 1) bs)) (omega arith) (lex-rises zero (at + 1) bs))
-    (kept-rises (kind_of (cut (b ∷ bs)).0 _) at (pre_ats (lex ((cut (b ∷ bs)).1 - 1) (at + 1) bs)) (lex-rises ((cut (b ∷ bs)).1 - 1) (at + 1) bs))
+  abbrev pub of_equations : List EquationTree → ℕ
+  of_equations qs = all_of f (equation_offsets qs)
 
--- A text has no more tokens than bytes.
-short-either : (b : Bool) (n : ℕ) (ts us : List Token) → length ts ≤ n → length us ≤ n → length (cond b ts us) ≤ n
-short-either true n ts us g h = g
-short-either false n ts us g h = h
+  abbrev pub of_assertions : List AssertionTree → ℕ
+  of_assertions more = all_of f (assertion_offsets more)
 
-pub lex-short : (skip at : ℕ) (bs : List ℕ) → length (lex skip at bs) ≤ length bs
-unfolding lex
-lex-short skip at [] = omega arith
-lex-short (suc skip) at (b ∷ bs) = omega (arith, lex-short skip (at + 1) bs)
-lex-short zero at (b ∷ bs) =
-    short-either (is_space b) (length (b ∷ bs)) (lex zero (at + 1) bs) (first_token at (b ∷ bs) ∷ lex ((cut (b ∷ bs)).1 - 1) (at + 1) bs)
-    (omega (arith, lex-short zero (at + 1) bs)) (omega (arith, lex-short ((cut (b ∷ bs)).1 - 1) (at + 1) bs))
+  abbrev pub of_node : NodeTree → ℕ
+  of_node n = of_name n.name + (all_of of_flow n.inputs + (all_of of_flow n.outputs + (all_of of_flow n.locals + (of_equations n.equations + of_assertions n.assertions))))
 
-mark-short : (m : Mark) (at : ℕ) (xs : List ℕ) (n : ℕ) → length xs ≤ n → length (mark_kept m at xs) ≤ n + 1
-mark-short mark.Pre at xs n h = omega arith
-mark-short _ at xs n h = omega arith
+  abbrev pub of_program : ProgramTree → ℕ
+  of_program p = all_of of_type p.types + (all_of of_constant p.constants + all_of of_node p.nodes)
 
-kept-short : (k : Kind) (at : ℕ) (xs : List ℕ) (n : ℕ) → length xs ≤ n → length (kept k at xs) ≤ n + 1
-kept-short (kind.Fixed m) at xs n h = mark-short m at xs n h
-kept-short (kind.Name x) at xs n h = omega arith
-kept-short kind.Other at xs n h = omega arith
+  -- tokens
+  abbrev pub of_token : Token → ℕ
+  of_token t = f t.at
 
-pre_ats-short : (ts : List Token) → length (pre_ats ts) ≤ length ts
-pre_ats-short [] = omega arith
-pre_ats-short (t ∷ ts) = let h = kept-short t.kind t.at (pre_ats ts) (length ts) (pre_ats-short ts) in omega (arith, h)
+  abbrev pub of_tokens : List Token → ℕ
+  of_tokens ts = all_of of_token ts
 
--- An expression's delays are spelled in order.
-spelled-leaf : (l : Leaf) (at : ℕ) → pre_ats (spelling (Atom l at)) ≡ delayed (syntax_of (Atom l at))
-spelled-leaf Yes at = refl
-spelled-leaf No at = refl
-spelled-leaf (Called x) at = refl
+  -- ---- Expressions.
+  compared-some : (o : Op) (at : ℕ) → all_of f (compared o at) ≤ f at
+  compared-some op.Equal at = omega arith
+  compared-some op.Differs at = omega arith
+  compared-some op.Less at = omega arith
+  compared-some op.AtMost at = omega arith
+  compared-some op.Greater at = omega arith
+  compared-some op.AtLeast at = omega arith
+  compared-some _ at = omega arith
 
-infix-none : (o : Infix) (at : ℕ) (xs : List ℕ) → mark_kept (infix_mark o) at xs ≡ xs
-infix-none infixed.Arrow at xs = refl
-infix-none infixed.Or at xs = refl
-infix-none infixed.And at xs = refl
+  leaf-none : (l : Leaf) (at : ℕ) → all_of f (offsets (syntax_of (Atom l at))) ≡ 0
+  leaf-none Yes at = refl
+  leaf-none No at = refl
+  leaf-none (Count n) at = refl
+  leaf-none (Called x) at = refl
 
-spelled : (w : Written) → pre_ats (spelling w) ≡ delayed (syntax_of w)
-spelled (Atom l at) = spelled-leaf l at
-spelled (InBrackets a w b) = pre_ats-append (spelling w) (fixed mark.Close b ∷ []) ∙ append-nil (pre_ats (spelling w)) ∙ spelled w
-spelled (Before prefixed.Not at w) = spelled w
-spelled (Before prefixed.Pre at w) = ap (λ xs. at ∷ xs) (spelled w)
-spelled (Between o at a b) =
-    pre_ats-append (spelling a) (fixed (infix_mark o) at ∷ spelling b)
-    ∙ ap (λ xs. pre_ats (spelling a) ++ xs) (infix-none o at (pre_ats (spelling b)))
-    ∙ ap (λ xs. xs ++ pre_ats (spelling b)) (spelled a)
-    ∙ ap (λ xs. delayed (syntax_of a) ++ xs) (spelled b)
+  invoked-some : (g : Callee) (ts : List Tree) → of_tree (Invoked g ts) ≤ of_token (callee_token g) + all_of f (trees_offsets (trees ts))
+  invoked-some (Function x) ts = omega arith
+  invoked-some (Hash at) ts = omega arith
 
--- ---- What a rule says of its value and its tokens: the delays after those so far, and a count of its flows and its
--- delays, of which so many stand before.
-abbrev Tells : {A : Type 0} → (A → List Token → Type 0) → (A → List ℕ) → (A → ℕ) → List ℕ → ℕ → Type 0
-Tells {A = A} L own count before so_far = (a : A) (ts : List Token) → L a ts → (own a ≡ before ++ pre_ats ts) × (count a ≤ so_far + length ts)
+  one-last : (ts : List Tree) (t : Tree) → all_of f (trees_offsets (trees (ts ++ t ∷ []))) ≡ all_of f (trees_offsets (trees ts)) + of_tree t
+  one-last [] t = omega (arith, all_of-append f (offsets t) [])
+  one-last (x ∷ ts) t = omega (arith, one-last ts t, all_of-append f (offsets x) (trees_offsets (trees (ts ++ t ∷ []))), all_of-append f (offsets x) (trees_offsets (trees ts)))
 
-tells-gives : {A : Type 0} (a : A) (own : A → List ℕ) (count : A → ℕ) (before : List ℕ) (so_far : ℕ) → own a ≡ before → count a ≤ so_far → Tells (Gives a) own count before so_far
-tells-gives a own count before so_far e l b ts h =
-    let n : count b ≡ count a = ap count h.1 in
-    (ap own h.1 ∙ e ∙ sym (append-nil before) ∙ ap (λ us. before ++ pre_ats us) (sym h.0), omega (arith, n, l))
+  -- what is written
+  mutual
+    pub spelled : (w : Written) → of_tree (syntax_of w) ≤ of_tokens (spelling w)
+    spelled (Atom l at) = omega (arith, leaf-none l at)
+    spelled (InBrackets a w b) = omega (arith, spelled w, all_of-append of_token (spelling w) (fixed mark.Close b ∷ []))
+    spelled (Before prefixed.Not at w) = omega (arith, spelled w)
+    spelled (Before prefixed.Minus at w) = omega (arith, spelled w)
+    spelled (Before prefixed.Pre at w) = omega (arith, spelled w)
+    spelled (Before prefixed.Current at w) = omega (arith, spelled w)
+    spelled (Between o at a b) =
+        let after : List ℕ = offsets (syntax_of b) in
+        omega (arith, spelled a, spelled b, compared-some o at, all_of-append f (offsets (syntax_of a)) (compared o at ++ after), all_of-append f (compared o at) after, all_of-append of_token (spelling a) (fixed (op_mark o) at ∷ spelling b))
+    spelled (Gated w at x) = omega (arith, spelled w, all_of-append of_token (spelling w) (fixed mark.When at ∷ name_token x ∷ []))
+    spelled (If i a t b e c) =
+        let second : List ℕ = offsets (syntax_of b) in
+        let third : List ℕ = offsets (syntax_of c) in
+        omega (
+          arith,
+          spelled a,
+          spelled b,
+          spelled c,
+          all_of-append f (offsets (syntax_of a)) (second ++ third),
+          all_of-append f second third,
+          all_of-append of_token (spelling a) (fixed mark.Then t ∷ (spelling b ++ fixed mark.Else e ∷ spelling c)),
+          all_of-append of_token (spelling b) (fixed mark.Else e ∷ spelling c),
+        )
+    spelled (Given g a front w b) =
+        omega (
+          arith,
+          spelled-front front,
+          spelled w,
+          invoked-some g (front_trees front ++ syntax_of w ∷ []),
+          one-last (front_trees front) (syntax_of w),
+          all_of-append of_token (front_spelling front) (spelling w ++ fixed mark.Close b ∷ []),
+          all_of-append of_token (spelling w) (fixed mark.Close b ∷ []),
+        )
 
-tells-word : {A : Type 0} (m : Mark) → ((at : ℕ) (xs : List ℕ) → mark_kept m at xs ≡ xs) → (L : A → List Token → Type 0) (own : A → List ℕ) (count : A → ℕ) (before : List ℕ) (so_far : ℕ)
-    → Tells L own count before so_far → Tells (Word m L) own count before so_far
-tells-word m none L own count before so_far x b ts h =
-    let rest = x b h.1 h.3 in
-    let n : length ts ≡ length (fixed m h.0 ∷ h.1) = ap length h.2 in (
-      rest.0 ∙ ap (λ xs. before ++ xs) (sym (none h.0 (pre_ats h.1))) ∙ ap (λ us. before ++ pre_ats us) (sym h.2),
-      omega (arith, n, rest.1),
-    )
+    spelled-front : (front : Front) → all_of f (trees_offsets (trees (front_trees front))) ≤ of_tokens (front_spelling front)
+    spelled-front NoneBefore = omega arith
+    spelled-front (Then front w at) =
+        omega (
+          arith,
+          spelled-front front,
+          spelled w,
+          one-last (front_trees front) (syntax_of w),
+          all_of-append of_token (front_spelling front) (spelling w ++ fixed mark.Comma at ∷ []),
+          all_of-append of_token (spelling w) (fixed mark.Comma at ∷ []),
+        )
 
-tells-part : {A B : Type 0} (L : A → List Token → Type 0) (M : A → B → List Token → Type 0) (part : A → List ℕ) (parts : A → ℕ) (own : B → List ℕ) (count : B → ℕ) (before : List ℕ) (so_far : ℕ)
-    → Tells L part parts [] 0 → ((a : A) → Tells (M a) own count (before ++ part a) (so_far + parts a)) → Tells (Part L M) own count before so_far
-tells-part L M part parts own count before so_far x y b ts h =
-    let first = x h.0 h.1 h.4 in
-    let second = y h.0 b h.2 h.5 in
-    let n : length ts ≡ length (h.1 ++ h.2) = ap length h.3 in (
-      second.0 ∙ append_assoc before (part h.0) (pre_ats h.2)
-          ∙ ap (λ xs. before ++ (xs ++ pre_ats h.2)) first.0
-          ∙ ap (λ xs. before ++ xs) (sym (pre_ats-append h.1 h.2) ∙ ap pre_ats (sym h.3)),
-      omega (arith, n, length-append h.1 h.2, first.1, second.1),
-    )
+  -- ---- What a rule says of its value and its tokens: the value weighs no more than these, where so much stands before.
+  abbrev Tells : {A : Type 0} → (A → List Token → Type 0) → (A → ℕ) → ℕ → Type 0
+  Tells {A = A} L own before = (a : A) (ts : List Token) → L a ts → own a ≤ before + of_tokens ts
 
-abbrev none : {A : Type 0} → A → List ℕ
-none a = []
+  tells-nothing : {A : Type 0} (L : A → List Token → Type 0) (before : ℕ) → Tells L (λ a. 0) before
+  tells-nothing L before a ts h = omega arith
 
-tells-name : Tells IsName none (λ x. 1) [] 0
-tells-name x ts h =
-    let one : List Token = record { kind = kind.Name x.text; at = x.at } ∷ [] in
-    let n : length ts ≡ length one = ap length h in
-    (ap pre_ats (sym h), omega (arith, n))
+  tells-gives : {A : Type 0} (a : A) (own : A → ℕ) (before : ℕ) → own a ≤ before → Tells (Gives a) own before
+  tells-gives a own before le b ts h = let is : own b ≡ own a = ap own h.1 in omega (arith, is, le)
 
-tells-next : Tells IsNextName none (λ x. 1) [] 0
-tells-next = tells-word mark.Comma (λ at xs. refl) IsName none (λ x. 1) [] 0 tells-name
+  tells-word : {A : Type 0} (m : Mark) (L : A → List Token → Type 0) (own : A → ℕ) (before : ℕ) → Tells L own before → Tells (Word m L) own before
+  tells-word m L own before rest b ts h =
+      let more : own b ≤ before + of_tokens h.1 = rest b h.1 h.3 in
+      let all : of_tokens ts ≡ of_tokens (fixed m h.0 ∷ h.1) = ap of_tokens h.2 in
+      omega (arith, more, all)
 
-tells-nexts : Tells (Each IsNextName) none length [] 0
-tells-nexts [] ts h = (ap pre_ats (sym h), omega arith)
-tells-nexts (x ∷ xs) ts h =
-    let first = tells-next x h.0 h.3 in
-    let more = tells-nexts xs h.1 h.4 in
-    let n : length ts ≡ length (h.0 ++ h.1) = ap length h.2 in (
-      more.0 ∙ ap (λ us. us ++ pre_ats h.1) first.0 ∙ sym (pre_ats-append h.0 h.1) ∙ ap pre_ats (sym h.2),
-      omega (arith, n, length-append h.0 h.1, first.1, more.1),
-    )
+  tells-marked : (m : Mark) → Tells (Marked m) f 0
+  tells-marked m at ts h = let all : of_tokens ts ≡ of_tokens (fixed m at ∷ []) = ap of_tokens h in omega (arith, all)
 
-tells-names : Tells IsNames none length [] 0
-tells-names =
-    tells-part IsName (λ x. Part (Each IsNextName) (λ more. Gives (x ∷ more))) none (λ x. 1) none length [] 0 tells-name (λ x.
-    tells-part (Each IsNextName) (λ more. Gives (x ∷ more)) none length none length [] 1 tells-nexts (λ more.
-    tells-gives (x ∷ more) none length [] (1 + length more) refl (omega arith)))
+  tells-part : {A B : Type 0} (L : A → List Token → Type 0) (M : A → B → List Token → Type 0) (part : A → ℕ) (own : B → ℕ) (before : ℕ)
+      → Tells L part 0 → ((a : A) → Tells (M a) own (before + part a)) → Tells (Part L M) own before
+  tells-part L M part own before first second b ts h =
+      let one : part h.0 ≤ 0 + of_tokens h.1 = first h.0 h.1 h.4 in
+      let more : own b ≤ before + part h.0 + of_tokens h.2 = second h.0 b h.2 h.5 in
+      let all : of_tokens ts ≡ of_tokens (h.1 ++ h.2) = ap of_tokens h.3 in
+      omega (arith, one, more, all, all_of-append of_token h.1 h.2)
 
-tells-group : Tells IsGroup none length [] 0
-tells-group =
-    tells-part IsNames (λ xs. Word mark.Colon (Word mark.Bool (Gives (map flow xs)))) none length none length [] 0 tells-names (λ xs.
-    tells-word mark.Colon (λ at us. refl) (Word mark.Bool (Gives (map flow xs))) none length [] (0 + length xs)
-    (tells-word mark.Bool (λ at us. refl) (Gives (map flow xs)) none length [] (0 + length xs)
-    (tells-gives (map flow xs) none length [] (0 + length xs) refl (omega (arith, length-map xs flow)))))
+  tells-choice : {A : Type 0} (L M : A → List Token → Type 0) (own : A → ℕ) (before : ℕ) → Tells L own before → Tells M own before → Tells (OneOf L M) own before
+  tells-choice L M own before first second a ts (inl h) = first a ts h
+  tells-choice L M own before first second a ts (inr h) = second a ts h
 
-tells-output : Tells IsOutput none (λ d. 1) [] 0
-tells-output =
-    tells-part IsName (λ x. Word mark.Colon (Word mark.Bool (Gives (flow x)))) none (λ x. 1) none (λ d. 1) [] 0 tells-name (λ x.
-    tells-word mark.Colon (λ at us. refl) (Word mark.Bool (Gives (flow x))) none (λ d. 1) [] 1
-    (tells-word mark.Bool (λ at us. refl) (Gives (flow x)) none (λ d. 1) [] 1
-    (tells-gives (flow x) none (λ d. 1) [] 1 refl (omega arith))))
+  tells-each : {A : Type 0} (L : A → List Token → Type 0) (own : A → ℕ) → Tells L own 0 → Tells (Each L) (all_of own) 0
+  tells-each L own one [] ts h = omega arith
+  tells-each L own one (a ∷ more) ts h =
+      let first : own a ≤ 0 + of_tokens h.0 = one a h.0 h.3 in
+      let others : all_of own more ≤ 0 + of_tokens h.1 = tells-each L own one more h.1 h.4 in
+      let all : of_tokens ts ≡ of_tokens (h.0 ++ h.1) = ap of_tokens h.2 in
+      omega (arith, first, others, all, all_of-append of_token h.0 h.1)
 
-tells-expr : Tells IsExpr delayed (λ t. length (delayed t)) [] 0
-tells-expr t ts h =
-    let e : delayed t ≡ pre_ats ts = ap delayed (sym h.3) ∙ sym (spelled h.0) ∙ ap pre_ats h.2 in
-    (e, omega (arith, ap length e, pre_ats-short ts))
+  -- a value that weighs no more than another
+  tells-less : {A : Type 0} (L : A → List Token → Type 0) (own less : A → ℕ) (before : ℕ) → ((a : A) → less a ≤ own a) → Tells L own before → Tells L less before
+  tells-less L own less before le h a ts x = let known : own a ≤ before + of_tokens ts = h a ts x in omega (arith, known, le a)
 
-abbrev own_of : EquationTree → List ℕ
-own_of q = delayed q.right
+  tells-name : Tells IsName of_name 0
+  tells-name x ts h = let all : of_tokens ts ≡ of_tokens (name_token x ∷ []) = ap of_tokens h in omega (arith, all)
 
-tells-equation : Tells IsEquation own_of (λ q. length (own_of q)) [] 0
-tells-equation =
-    tells-part IsName (λ x. Word mark.Equal (Part IsExpr (λ t. Word mark.Semi (Gives (equation_of x t))))) none (λ x. 1) own_of (λ q. length (own_of q)) [] 0 tells-name (λ x.
-    tells-word mark.Equal (λ at us. refl) (Part IsExpr (λ t. Word mark.Semi (Gives (equation_of x t)))) own_of (λ q. length (own_of q)) [] 1
-    (tells-part IsExpr (λ t. Word mark.Semi (Gives (equation_of x t))) delayed (λ t. length (delayed t)) own_of (λ q. length (own_of q)) [] 1 tells-expr (λ t.
-    tells-word mark.Semi (λ at us. refl) (Gives (equation_of x t)) own_of (λ q. length (own_of q)) (delayed t) (1 + length (delayed t))
-    (tells-gives (equation_of x t) own_of (λ q. length (own_of q)) (delayed t) (1 + length (delayed t)) refl (omega arith)))))
+  -- one such part, and any number of them
+  tells-more : {A : Type 0} (a : A) (L : A → List Token → Type 0) (own : A → ℕ) → Tells L own 0 → Tells (Part (Each L) (λ more. Gives (a ∷ more))) (all_of own) (0 + own a)
+  tells-more a L own one =
+      tells-part (Each L) (λ more. Gives (a ∷ more)) (all_of own) (all_of own) (0 + own a) (tells-each L own one) (λ more.
+      tells-gives (a ∷ more) (all_of own) (0 + own a + all_of own more) (omega arith))
 
-abbrev how_many : List EquationTree → ℕ
-how_many qs = length (all_delayed qs)
+  tells-names : Tells IsNames (all_of of_name) 0
+  tells-names =
+      tells-part IsName (λ x. Part (Each (Word mark.Comma IsName)) (λ more. Gives (x ∷ more))) of_name (all_of of_name) 0 tells-name (λ x.
+      tells-more x (Word mark.Comma IsName) of_name (tells-word mark.Comma IsName of_name 0 tells-name))
 
-tells-each : Tells (Each IsEquation) all_delayed how_many [] 0
-tells-each [] ts h = (ap pre_ats (sym h), omega arith)
-tells-each (q ∷ qs) ts h =
-    let first = tells-equation q h.0 h.3 in
-    let more = tells-each qs h.1 h.4 in
-    let n : length ts ≡ length (h.0 ++ h.1) = ap length h.2 in (
-      ap (λ us. us ++ all_delayed qs) first.0 ∙ ap (λ us. pre_ats h.0 ++ us) more.0 ∙ sym (pre_ats-append h.0 h.1) ∙ ap pre_ats (sym h.2),
-      omega (arith, n, length-append h.0 h.1, length-append (delayed q.right) (all_delayed qs), first.1, more.1),
-    )
+  tells-expr : Tells IsExprOf of_tree 0
+  tells-expr t ts h =
+      let one : of_tree (syntax_of h.0) ≤ of_tokens (spelling h.0) = spelled h.0 in
+      let is : of_tree (syntax_of h.0) ≡ of_tree t = ap of_tree h.3 in
+      let all : of_tokens (spelling h.0) ≡ of_tokens ts = ap of_tokens h.2 in
+      omega (arith, one, is, all)
 
-tells-equations : Tells IsEquations all_delayed how_many [] 0
-tells-equations =
-    tells-part IsEquation (λ q. Part (Each IsEquation) (λ more. Gives (q ∷ more))) own_of (λ q. length (own_of q)) all_delayed how_many [] 0 tells-equation (λ q.
-    tells-part (Each IsEquation) (λ more. Gives (q ∷ more)) all_delayed how_many all_delayed how_many (delayed q.right) (0 + length (delayed q.right)) tells-each (λ more.
-    tells-gives (q ∷ more) all_delayed how_many (delayed q.right ++ all_delayed more) (0 + length (delayed q.right) + length (all_delayed more)) refl (omega (arith, length-append (delayed q.right) (all_delayed more)))))
+  -- ---- Types and constants.
+  tells-enumeration : Tells IsEnumeration of_body 0
+  tells-enumeration =
+      tells-word mark.Enum (Word mark.OpenBrace (Part IsNames (λ xs. Word mark.CloseBrace (Gives (type_body.Labels xs))))) of_body 0
+      (tells-word mark.OpenBrace (Part IsNames (λ xs. Word mark.CloseBrace (Gives (type_body.Labels xs)))) of_body 0
+      (tells-part IsNames (λ xs. Word mark.CloseBrace (Gives (type_body.Labels xs))) (all_of of_name) of_body 0 tells-names (λ xs.
+      tells-word mark.CloseBrace (Gives (type_body.Labels xs)) of_body (0 + all_of of_name xs)
+      (tells-gives (type_body.Labels xs) of_body (0 + all_of of_name xs) (omega arith)))))
 
-tells-title : Tells IsTitle none (λ x. 1) [] 0
-tells-title = tells-word mark.Node (λ at us. refl) IsName none (λ x. 1) [] 0 tells-name
+  tells-body : Tells IsTypeBody of_body 0
+  tells-body =
+      tells-choice IsEnumeration (Part IsKind (λ k. Gives (type_body.Alias k))) of_body 0 tells-enumeration
+      (tells-part IsKind (λ k. Gives (type_body.Alias k)) (λ k. 0) of_body 0 (tells-nothing IsKind 0) (λ k.
+      tells-gives (type_body.Alias k) of_body 0 (omega arith)))
 
-tells-inputs : Tells IsInputs none length [] 0
-tells-inputs =
-    tells-word mark.Open (λ at us. refl) (Part IsGroup (λ ds. Word mark.Close (Gives ds))) none length [] 0
-    (tells-part IsGroup (λ ds. Word mark.Close (Gives ds)) none length none length [] 0 tells-group (λ ds.
-    tells-word mark.Close (λ at us. refl) (Gives ds) none length [] (0 + length ds)
-    (tells-gives ds none length [] (0 + length ds) refl (omega arith))))
+  tells-type : Tells IsType of_type 0
+  tells-type =
+      tells-part IsName (λ x. Word mark.Equal (Part IsTypeBody (λ body. Word mark.Semi (Gives (type_of x body))))) of_name of_type 0 tells-name (λ x.
+      tells-word mark.Equal (Part IsTypeBody (λ body. Word mark.Semi (Gives (type_of x body)))) of_type (0 + of_name x)
+      (tells-part IsTypeBody (λ body. Word mark.Semi (Gives (type_of x body))) of_body of_type (0 + of_name x) tells-body (λ body.
+      tells-word mark.Semi (Gives (type_of x body)) of_type (0 + of_name x + of_body body)
+      (tells-gives (type_of x body) of_type (0 + of_name x + of_body body) (omega arith)))))
 
-tells-returns : Tells IsReturns none (λ d. 1) [] 0
-tells-returns =
-    tells-word mark.Returns (λ at us. refl) (Word mark.Open (Part IsOutput (λ d. Word mark.Close (Word mark.Semi (Gives d))))) none (λ d. 1) [] 0
-    (tells-word mark.Open (λ at us. refl) (Part IsOutput (λ d. Word mark.Close (Word mark.Semi (Gives d)))) none (λ d. 1) [] 0
-    (tells-part IsOutput (λ d. Word mark.Close (Word mark.Semi (Gives d))) none (λ d. 1) none (λ d. 1) [] 0 tells-output (λ d.
-    tells-word mark.Close (λ at us. refl) (Word mark.Semi (Gives d)) none (λ e. 1) [] 1
-    (tells-word mark.Semi (λ at us. refl) (Gives d) none (λ e. 1) [] 1
-    (tells-gives d none (λ e. 1) [] 1 refl (omega arith))))))
+  tells-types : Tells IsTypes (all_of of_type) 0
+  tells-types =
+      tells-word mark.Type (Part IsType (λ d. Part (Each IsType) (λ more. Gives (d ∷ more)))) (all_of of_type) 0
+      (tells-part IsType (λ d. Part (Each IsType) (λ more. Gives (d ∷ more))) of_type (all_of of_type) 0 tells-type (λ d.
+      tells-more d IsType of_type tells-type))
 
-tells-var : Tells IsVar none length [] 0
-tells-var =
-    tells-word mark.Var (λ at us. refl) (Part IsGroup (λ ds. Word mark.Semi (Gives ds))) none length [] 0
-    (tells-part IsGroup (λ ds. Word mark.Semi (Gives ds)) none length none length [] 0 tells-group (λ ds.
-    tells-word mark.Semi (λ at us. refl) (Gives ds) none length [] (0 + length ds)
-    (tells-gives ds none length [] (0 + length ds) refl (omega arith))))
+  tells-right : Tells IsRight of_tree 0
+  tells-right =
+      tells-word mark.Equal (Part IsExprOf (λ e. Word mark.Semi (Gives e))) of_tree 0
+      (tells-part IsExprOf (λ e. Word mark.Semi (Gives e)) of_tree of_tree 0 tells-expr (λ e.
+      tells-word mark.Semi (Gives e) of_tree (0 + of_tree e) (tells-gives e of_tree (0 + of_tree e) (omega arith))))
 
-tells-locals : Tells IsLocals none length [] 0
-tells-locals ds ts (inl h) = tells-var ds ts h
-tells-locals ds ts (inr h) = tells-gives {A = List Decl} [] none length [] 0 refl (omega arith) ds ts h
+  tells-constant : Tells IsConstant of_constant 0
+  tells-constant =
+      tells-part IsName (λ x. Part (Maybe (Word mark.Colon IsKind)) (λ k. Part IsRight (λ e. Gives (constant_of x k e)))) of_name of_constant 0 tells-name (λ x.
+      tells-part (Maybe (Word mark.Colon IsKind)) (λ k. Part IsRight (λ e. Gives (constant_of x k e))) (λ k. 0) of_constant (0 + of_name x) (tells-nothing (Maybe (Word mark.Colon IsKind)) 0) (λ k.
+      tells-part IsRight (λ e. Gives (constant_of x k e)) (λ e. 0) of_constant (0 + of_name x + 0) (tells-nothing IsRight 0) (λ e.
+      tells-gives (constant_of x k e) of_constant (0 + of_name x + 0 + 0) (omega arith))))
 
-tells-body : Tells IsBody all_delayed how_many [] 0
-tells-body =
-    tells-word mark.Let (λ at us. refl) (Part IsEquations (λ qs. Word mark.Tel (Gives qs))) all_delayed how_many [] 0
-    (tells-part IsEquations (λ qs. Word mark.Tel (Gives qs)) all_delayed how_many all_delayed how_many [] 0 tells-equations (λ qs.
-    tells-word mark.Tel (λ at us. refl) (Gives qs) all_delayed how_many (all_delayed qs) (0 + length (all_delayed qs))
-    (tells-gives qs all_delayed how_many (all_delayed qs) (0 + length (all_delayed qs)) refl (omega arith))))
+  tells-constants : Tells IsConstants (all_of of_constant) 0
+  tells-constants =
+      tells-word mark.Const (Part IsConstant (λ c. Part (Each IsConstant) (λ more. Gives (c ∷ more)))) (all_of of_constant) 0
+      (tells-part IsConstant (λ c. Part (Each IsConstant) (λ more. Gives (c ∷ more))) of_constant (all_of of_constant) 0 tells-constant (λ c.
+      tells-more c IsConstant of_constant tells-constant))
 
-abbrev node_own : NodeTree → List ℕ
-node_own n = all_delayed n.equations
+  -- ---- Flows.
+  abbrev of_group : Group → ℕ
+  of_group group = all_of of_name group.0
 
--- how many sites a node has
-abbrev pub sites_in : NodeTree → ℕ
-sites_in n = length (flows n) + length (all_delayed n.equations)
+  tells-group : Tells IsGroup of_group 0
+  tells-group =
+      tells-part IsNames (λ xs. Word mark.Colon (Part IsKind (λ k. Gives (xs, k)))) (all_of of_name) of_group 0 tells-names (λ xs.
+      tells-word mark.Colon (Part IsKind (λ k. Gives (xs, k))) of_group (0 + all_of of_name xs)
+      (tells-part IsKind (λ k. Gives (xs, k)) (λ k. 0) of_group (0 + all_of of_name xs) (tells-nothing IsKind 0) (λ k.
+      tells-gives (xs, k) of_group (0 + all_of of_name xs + 0) (omega arith))))
 
-few-sites : (x : Name) (ds : List Decl) (d : Decl) (ls : List Decl) (qs : List EquationTree) → sites_in (node_of x ds d ls qs) ≤ length ds + 1 + length ls + length (all_delayed qs)
-few-sites x ds d ls qs =
-    let name : Decl → List ℕ = λ e. e.name.text in
-    let all : length (flows (node_of x ds d ls qs)) ≡ length ((map name ds ++ map name (d ∷ [])) ++ map name ls) = refl in
-    let own : length (all_delayed (node_of x ds d ls qs).equations) ≡ length (all_delayed qs) = refl in
-    omega (arith, length-append (map name ds ++ map name (d ∷ [])) (map name ls), length-append (map name ds) (map name (d ∷ [])), length-map ds name, length-map ls name)
+  of-flows : (group : Group) (clock : Option Name) → all_of of_flow (flows_of group clock) ≡ of_group group
+  of-flows group clock = all_of-map of_flow (flow group.1 clock) group.0
 
-tells-node : Tells IsNode node_own sites_in [] 0
-tells-node =
-    tells-part IsTitle (λ x. Part IsInputs (λ ds. Part IsReturns (λ d. Part IsLocals (λ ls. Part IsBody (λ qs. Gives (node_of x ds d ls qs)))))) none (λ x. 1) node_own sites_in [] 0 tells-title (λ x.
-    tells-part IsInputs (λ ds. Part IsReturns (λ d. Part IsLocals (λ ls. Part IsBody (λ qs. Gives (node_of x ds d ls qs))))) none length node_own sites_in [] 1 tells-inputs (λ ds.
-    tells-part IsReturns (λ d. Part IsLocals (λ ls. Part IsBody (λ qs. Gives (node_of x ds d ls qs)))) none (λ d. 1) node_own sites_in [] (1 + length ds) tells-returns (λ d.
-    tells-part IsLocals (λ ls. Part IsBody (λ qs. Gives (node_of x ds d ls qs))) none length node_own sites_in [] (1 + length ds + 1) tells-locals (λ ls.
-    tells-part IsBody (λ qs. Gives (node_of x ds d ls qs)) all_delayed how_many node_own sites_in [] (1 + length ds + 1 + length ls) tells-body (λ qs.
-    tells-gives (node_of x ds d ls qs) node_own sites_in (all_delayed qs) (1 + length ds + 1 + length ls + length (all_delayed qs)) refl (omega (arith, few-sites x ds d ls qs)))))))
+  of-all_flows : (groups : List Group) → all_of of_flow (all_flows groups) ≡ all_of of_group groups
+  of-all_flows [] = refl
+  of-all_flows (group ∷ more) = omega (arith, all_of-append of_flow (flows_of group None) (all_flows more), of-flows group None, of-all_flows more)
 
--- the node of a text
-pub node-rises : (bytes : List ℕ) (n : NodeTree) → IsNode n (lex 0 0 bytes) → Rises 0 (all_delayed n.equations)
-node-rises bytes n h = subst (Rises 0) (sym (tells-node n (lex 0 0 bytes) h).0) (lex-rises 0 0 bytes)
+  tells-decls : Tells IsDecls (all_of of_flow) 0
+  tells-decls =
+      tells-part IsGroup (λ group. Part (Each (Word mark.Semi IsGroup)) (λ more. Part (Maybe (Only mark.Semi)) (λ end. Gives (all_flows (group ∷ more))))) of_group (all_of of_flow) 0 tells-group (λ group.
+      tells-part (Each (Word mark.Semi IsGroup)) (λ more. Part (Maybe (Only mark.Semi)) (λ end. Gives (all_flows (group ∷ more)))) (all_of of_group) (all_of of_flow) (0 + of_group group)
+      (tells-each (Word mark.Semi IsGroup) of_group (tells-word mark.Semi IsGroup of_group 0 tells-group)) (λ more.
+      tells-part (Maybe (Only mark.Semi)) (λ end. Gives (all_flows (group ∷ more))) (λ end. 0) (all_of of_flow) (0 + of_group group + all_of of_group more) (tells-nothing (Maybe (Only mark.Semi)) 0) (λ end.
+      tells-gives (all_flows (group ∷ more)) (all_of of_flow) (0 + of_group group + all_of of_group more + 0) (omega (arith, of-all_flows (group ∷ more))))))
 
-pub node-fits : (bytes : List ℕ) (n : NodeTree) → IsNode n (lex 0 0 bytes) → sites_in n ≤ length bytes
-node-fits bytes n h =
-    let told = tells-node n (lex 0 0 bytes) h in
-    omega (arith, told.1, lex-short 0 0 bytes)
+  tells-plain : Tells (Part IsGroup (λ group. Part (Maybe IsClock) (λ clock. Word mark.Semi (Gives (flows_of group clock))))) (all_of of_flow) 0
+  tells-plain =
+      tells-part IsGroup (λ group. Part (Maybe IsClock) (λ clock. Word mark.Semi (Gives (flows_of group clock)))) of_group (all_of of_flow) 0 tells-group (λ group.
+      tells-part (Maybe IsClock) (λ clock. Word mark.Semi (Gives (flows_of group clock))) (λ clock. 0) (all_of of_flow) (0 + of_group group) (tells-nothing (Maybe IsClock) 0) (λ clock.
+      tells-word mark.Semi (Gives (flows_of group clock)) (all_of of_flow) (0 + of_group group + 0)
+      (tells-gives (flows_of group clock) (all_of of_flow) (0 + of_group group + 0) (omega (arith, of-flows group clock)))))
 
--- a node of the accepted language has no assertions
-pub no-assertions : (ts : List Token) (n : NodeTree) → IsNode n ts → n.assertions ≡ []
-no-assertions ts n h = ap (λ (m : NodeTree). m.assertions) h.5.5.5.5.5.1
+  tells-clocked : Tells (Word mark.Open (Part IsGroup (λ group. Word mark.Close (Part IsClock (λ clock. Word mark.Semi (Gives (flows_of group (Some clock)))))))) (all_of of_flow) 0
+  tells-clocked =
+      tells-word mark.Open (Part IsGroup (λ group. Word mark.Close (Part IsClock (λ clock. Word mark.Semi (Gives (flows_of group (Some clock))))))) (all_of of_flow) 0
+      (tells-part IsGroup (λ group. Word mark.Close (Part IsClock (λ clock. Word mark.Semi (Gives (flows_of group (Some clock)))))) of_group (all_of of_flow) 0 tells-group (λ group.
+      tells-word mark.Close (Part IsClock (λ clock. Word mark.Semi (Gives (flows_of group (Some clock))))) (all_of of_flow) (0 + of_group group)
+      (tells-part IsClock (λ clock. Word mark.Semi (Gives (flows_of group (Some clock)))) (λ clock. 0) (all_of of_flow) (0 + of_group group) (tells-nothing IsClock 0) (λ clock.
+      tells-word mark.Semi (Gives (flows_of group (Some clock))) (all_of of_flow) (0 + of_group group + 0)
+      (tells-gives (flows_of group (Some clock)) (all_of of_flow) (0 + of_group group + 0) (omega (arith, of-flows group (Some clock))))))))
+
+  tells-local : Tells IsLocal (all_of of_flow) 0
+  tells-local =
+      tells-choice (Part IsGroup (λ group. Part (Maybe IsClock) (λ clock. Word mark.Semi (Gives (flows_of group clock)))))
+      (Word mark.Open (Part IsGroup (λ group. Word mark.Close (Part IsClock (λ clock. Word mark.Semi (Gives (flows_of group (Some clock)))))))) (all_of of_flow) 0 tells-plain tells-clocked
+
+  of-joined : (dss : List (List Decl)) → all_of of_flow (joined dss) ≡ all_of (all_of of_flow) dss
+  of-joined [] = refl
+  of-joined (ds ∷ more) = omega (arith, all_of-append of_flow ds (joined more), of-joined more)
+
+  tells-var : Tells IsVar (all_of of_flow) 0
+  tells-var =
+      tells-word mark.Var (Part IsLocal (λ ds. Part (Each IsLocal) (λ more. Gives (joined (ds ∷ more))))) (all_of of_flow) 0
+      (tells-part IsLocal (λ ds. Part (Each IsLocal) (λ more. Gives (joined (ds ∷ more)))) (all_of of_flow) (all_of of_flow) 0 tells-local (λ ds.
+      tells-part (Each IsLocal) (λ more. Gives (joined (ds ∷ more))) (all_of (all_of of_flow)) (all_of of_flow) (0 + all_of of_flow ds) (tells-each IsLocal (all_of of_flow) tells-local) (λ more.
+      tells-gives (joined (ds ∷ more)) (all_of of_flow) (0 + all_of of_flow ds + all_of (all_of of_flow) more) (omega (arith, of-joined (ds ∷ more))))))
+
+  tells-inputs : Tells IsInputs (all_of of_flow) 0
+  tells-inputs =
+      tells-word mark.Open (Part IsDecls (λ ds. Word mark.Close (Gives ds))) (all_of of_flow) 0
+      (tells-part IsDecls (λ ds. Word mark.Close (Gives ds)) (all_of of_flow) (all_of of_flow) 0 tells-decls (λ ds.
+      tells-word mark.Close (Gives ds) (all_of of_flow) (0 + all_of of_flow ds) (tells-gives ds (all_of of_flow) (0 + all_of of_flow ds) (omega arith))))
+
+  tells-outputs : Tells IsOutputs (all_of of_flow) 0
+  tells-outputs =
+      tells-word mark.Returns (Part IsInputs (λ ds. Part (Maybe (Only mark.Semi)) (λ end. Gives ds))) (all_of of_flow) 0
+      (tells-part IsInputs (λ ds. Part (Maybe (Only mark.Semi)) (λ end. Gives ds)) (all_of of_flow) (all_of of_flow) 0 tells-inputs (λ ds.
+      tells-part (Maybe (Only mark.Semi)) (λ end. Gives ds) (λ end. 0) (all_of of_flow) (0 + all_of of_flow ds) (tells-nothing (Maybe (Only mark.Semi)) 0) (λ end.
+      tells-gives ds (all_of of_flow) (0 + all_of of_flow ds + 0) (omega arith))))
+
+  -- ---- Equations and assertions.
+  abbrev of_item : Item → ℕ
+  of_item (Equates q) = of_tree q.right
+  of_item (Assumes a) = f a.at + of_tree a.body
+
+  tells-equation : Tells (Part IsLefts (λ xs. Part IsRight (λ e. Gives (Equates (equation_of xs e))))) of_item 0
+  tells-equation =
+      tells-part IsLefts (λ xs. Part IsRight (λ e. Gives (Equates (equation_of xs e)))) (λ xs. 0) of_item 0 (tells-nothing IsLefts 0) (λ xs.
+      tells-part IsRight (λ e. Gives (Equates (equation_of xs e))) of_tree of_item (0 + 0) tells-right (λ e.
+      tells-gives (Equates (equation_of xs e)) of_item (0 + 0 + of_tree e) (omega arith)))
+
+  tells-assertion : Tells (Part (Marked mark.Assert) (λ at. Part IsExprOf (λ e. Word mark.Semi (Gives (Assumes (assertion_of at e)))))) of_item 0
+  tells-assertion =
+      tells-part (Marked mark.Assert) (λ at. Part IsExprOf (λ e. Word mark.Semi (Gives (Assumes (assertion_of at e))))) f of_item 0 (tells-marked mark.Assert) (λ at.
+      tells-part IsExprOf (λ e. Word mark.Semi (Gives (Assumes (assertion_of at e)))) of_tree of_item (0 + f at) tells-expr (λ e.
+      tells-word mark.Semi (Gives (Assumes (assertion_of at e))) of_item (0 + f at + of_tree e)
+      (tells-gives (Assumes (assertion_of at e)) of_item (0 + f at + of_tree e) (omega arith))))
+
+  tells-item : Tells IsItem of_item 0
+  tells-item =
+      tells-choice (Part IsLefts (λ xs. Part IsRight (λ e. Gives (Equates (equation_of xs e)))))
+      (Part (Marked mark.Assert) (λ at. Part IsExprOf (λ e. Word mark.Semi (Gives (Assumes (assertion_of at e)))))) of_item 0 tells-equation tells-assertion
+
+  of-items : (items : List Item) → of_equations (equations_of items) + of_assertions (assertions_of items) ≡ all_of of_item items
+  of-items [] = omega arith
+  of-items (Equates q ∷ more) = omega (arith, of-items more, all_of-append f (offsets q.right) (equation_offsets (equations_of more)))
+  of-items (Assumes a ∷ more) = omega (arith, of-items more, all_of-append f (offsets a.body) (assertion_offsets (assertions_of more)))
+
+  tells-items : Tells IsBody (all_of of_item) 0
+  tells-items =
+      tells-word mark.Let (Part (Each IsItem) (λ items. Word mark.Tel (Part (Maybe (OneOf (Only mark.Semi) (Only mark.Dot))) (λ end. Gives items)))) (all_of of_item) 0
+      (tells-part (Each IsItem) (λ items. Word mark.Tel (Part (Maybe (OneOf (Only mark.Semi) (Only mark.Dot))) (λ end. Gives items))) (all_of of_item) (all_of of_item) 0 (tells-each IsItem of_item tells-item) (λ items.
+      tells-word mark.Tel (Part (Maybe (OneOf (Only mark.Semi) (Only mark.Dot))) (λ end. Gives items)) (all_of of_item) (0 + all_of of_item items)
+      (tells-part (Maybe (OneOf (Only mark.Semi) (Only mark.Dot))) (λ end. Gives items) (λ end. 0) (all_of of_item) (0 + all_of of_item items) (tells-nothing (Maybe (OneOf (Only mark.Semi) (Only mark.Dot))) 0) (λ end.
+      tells-gives items (all_of of_item) (0 + all_of of_item items + 0) (omega arith)))))
+
+  -- ---- Nodes and programs.
+  tells-node : Tells IsNode of_node 0
+  tells-node =
+      tells-part IsTitle (λ x. Part IsInputs (λ ins. Part IsOutputs (λ outs. Part (Each IsVar) (λ vars. Part IsBody (λ items. Gives (node_of x ins outs vars items)))))) of_name of_node 0
+      (tells-word mark.Node IsName of_name 0 tells-name) (λ x.
+      tells-part IsInputs (λ ins. Part IsOutputs (λ outs. Part (Each IsVar) (λ vars. Part IsBody (λ items. Gives (node_of x ins outs vars items))))) (all_of of_flow) of_node (0 + of_name x) tells-inputs (λ ins.
+      tells-part IsOutputs (λ outs. Part (Each IsVar) (λ vars. Part IsBody (λ items. Gives (node_of x ins outs vars items)))) (all_of of_flow) of_node (0 + of_name x + all_of of_flow ins) tells-outputs (λ outs.
+      tells-part (Each IsVar) (λ vars. Part IsBody (λ items. Gives (node_of x ins outs vars items))) (all_of (all_of of_flow)) of_node (0 + of_name x + all_of of_flow ins + all_of of_flow outs)
+      (tells-each IsVar (all_of of_flow) tells-var) (λ vars.
+      tells-part IsBody (λ items. Gives (node_of x ins outs vars items)) (all_of of_item) of_node (0 + of_name x + all_of of_flow ins + all_of of_flow outs + all_of (all_of of_flow) vars) tells-items (λ items.
+      tells-gives (node_of x ins outs vars items) of_node (0 + of_name x + all_of of_flow ins + all_of of_flow outs + all_of (all_of of_flow) vars + all_of of_item items)
+      (omega (arith, of-joined vars, of-items items)))))))
+
+  abbrev of_section : Section → ℕ
+  of_section (Types ds) = all_of of_type ds
+  of_section (Constants cs) = all_of of_constant cs
+  of_section (OneNode n) = of_node n
+
+  tells-section : Tells IsSection of_section 0
+  tells-section =
+      tells-choice (Part IsTypes (λ ds. Gives (Types ds))) (OneOf (Part IsConstants (λ cs. Gives (Constants cs))) (Part IsNode (λ n. Gives (OneNode n)))) of_section 0
+      (tells-part IsTypes (λ ds. Gives (Types ds)) (all_of of_type) of_section 0 tells-types (λ ds. tells-gives (Types ds) of_section (0 + all_of of_type ds) (omega arith)))
+      (tells-choice (Part IsConstants (λ cs. Gives (Constants cs))) (Part IsNode (λ n. Gives (OneNode n))) of_section 0
+      (tells-part IsConstants (λ cs. Gives (Constants cs)) (all_of of_constant) of_section 0 tells-constants (λ cs. tells-gives (Constants cs) of_section (0 + all_of of_constant cs) (omega arith)))
+      (tells-part IsNode (λ n. Gives (OneNode n)) of_node of_section 0 tells-node (λ n. tells-gives (OneNode n) of_section (0 + of_node n) (omega arith))))
+
+  of-sections : (sections : List Section) → of_program (program_of sections) ≡ all_of of_section sections
+  of-sections [] = omega arith
+  of-sections (Types ds ∷ more) = omega (arith, of-sections more, all_of-append of_type ds (types_of more))
+  of-sections (Constants cs ∷ more) = omega (arith, of-sections more, all_of-append of_constant cs (constants_of more))
+  of-sections (OneNode n ∷ more) = omega (arith, of-sections more)
+
+  pub tells-program : (p : ProgramTree) (ts : List Token) → IsProgram p ts → of_program p ≤ of_tokens ts
+  tells-program p ts h =
+      let known : of_program p ≤ 0 + of_tokens ts =
+      tells-part (Each IsSection) (λ sections. Gives (program_of sections)) (all_of of_section) of_program 0 (tells-each IsSection of_section tells-section) (λ sections.
+      tells-gives (program_of sections) of_program (0 + all_of of_section sections) (omega (arith, of-sections sections))) p ts h in
+      omega (arith, known)

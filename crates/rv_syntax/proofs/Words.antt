@@ -2,11 +2,11 @@
 use Rattle.std.proofs.Common.{◌≡◌, ℕ, zero, suc, ◌+◌, ◌<◌, ◌≤◌, true, false, cond, ◌||◌, List, [], ◌∷◌, take, refl, sym, ap, ◌∙◌, subst, inl, inr, arith, one-add, lit<}
 use Rattle.std.specs.List.{prefix_len}
 use Rattle.std.specs.Str.{IsAscii}
-use Rattle.std.specs.Char.{is_ascii_alphanumeric}
+use Rattle.std.specs.Char.{is_ascii_alphanumeric, is_ascii_digit}
 use Rattle.std.specs.Int.{is_in_range}
 use Rattle.std.specs.Prelude.{◌==◌, nat_le, Result, Ok, Err, MatchResult, is_ok}
 use Rattle.std.proofs.lemmas.Bool.{cases_Bool, or_cases, and_parts, leb-true, eqb-true}
-use Rattle.rv_syntax.specs.Lexing.{is_word_byte}
+use Rattle.rv_syntax.specs.Lexing.{is_word_byte, AreDigits}
 
 in-range : (lo hi b : ℕ) → is_in_range lo hi b ≡ true → hi < 128 → b < 128
 in-range lo hi b h l =
@@ -54,4 +54,26 @@ ascii_word (b ∷ bs) =
     elim (cases_Bool (is_word_byte b)) [
       | inl e ↦ subst (λ n. IsAscii (take n (b ∷ bs))) (sym (word-more b bs e)) (ascii-more b (take (prefix_len is_word_byte bs) bs) (below b e) (ascii_word bs))
       | inr e ↦ subst (λ n. IsAscii (take n (b ∷ bs))) (sym (word-none b bs e)) ascii-none
+    ]
+
+digits-none : AreDigits []
+digits-none i h = absurd (omega arith)
+
+digits-more : (b : ℕ) (bs : List ℕ) → is_ascii_digit b ≡ true → AreDigits bs → AreDigits (b ∷ bs)
+digits-more b bs h f zero l = h
+digits-more b bs h f (suc i) l = f i (omega arith)
+
+digit-more : (b : ℕ) (bs : List ℕ) → is_ascii_digit b ≡ true → prefix_len is_ascii_digit (b ∷ bs) ≡ suc (prefix_len is_ascii_digit bs)
+digit-more b bs e = ap (λ c. cond c (1 + prefix_len is_ascii_digit bs) 0) e ∙ one-add (prefix_len is_ascii_digit bs)
+
+digit-none : (b : ℕ) (bs : List ℕ) → is_ascii_digit b ≡ false → prefix_len is_ascii_digit (b ∷ bs) ≡ 0
+digit-none b bs e = ap (λ c. cond c (1 + prefix_len is_ascii_digit bs) 0) e
+
+-- the digits of a number
+pub digits_number : (bs : List ℕ) → AreDigits (take (prefix_len is_ascii_digit bs) bs)
+digits_number [] = digits-none
+digits_number (b ∷ bs) =
+    elim (cases_Bool (is_ascii_digit b)) [
+      | inl e ↦ subst (λ n. AreDigits (take n (b ∷ bs))) (sym (digit-more b bs e)) (digits-more b (take (prefix_len is_ascii_digit bs) bs) e (digits_number bs))
+      | inr e ↦ subst (λ n. AreDigits (take n (b ∷ bs))) (sym (digit-none b bs e)) digits-none
     ]

@@ -1,8 +1,9 @@
 -- Every `pre` and `current` of a node, with its operand, and the memories that they read.
-use Rattle.std.specs.Prelude.{◌≡◌, ℕ, ◌≤◌, cond, nat_lt, nat_eq, List, [], ◌∷◌, ◌++◌, map, length, Option, Some}
+use Rattle.std.specs.Prelude.{◌≡◌, ℕ, ◌+◌, ◌<◌, ◌≤◌, cond, nat_lt, nat_eq, List, [], ◌∷◌, ◌++◌, map, length, slice_index_or, Option, Some}
 use Rattle.std.specs.List.{Contains}
 use Rattle.rv_syntax.specs.Tree.{Tree, Node, Form, True, False, Number, Named, Not, Minus, Pre, Current, When, Binary, If, AtMostOne, Call, Trees, None, More, EquationTree, AssertionTree, NodeTree}
 use Rattle.rv_syntax.specs.Places.{flows, memory_site}
+use Rattle.rv_syntax.specs.SitedParts.{SitedPart, node_parts}
 
 -- a `pre` or `current`, by its site and its operand
 pub record Delay : Type 0 where
@@ -65,9 +66,13 @@ delay_sites n ds = map (λ d. memory_site n d.site d.operand) ds
 abbrev pub memory_sites : NodeTree → List ℕ
 memory_sites n = gathered [] (delay_sites n (node_delays n))
 
--- How the sites of a node are numbered: its flows come first, they are no more than a source has bytes, and each
--- `pre` and `current` has a later site of its own.
+-- How the sites of a node are numbered. Its flows come first, and are no more than a source has bytes. Each `pre` and
+-- `current` has a later site of its own. So has all that has a site beside the flows: their sites are the next numbers,
+-- in the order of the offsets, and no two are the same.
 pub record IsNumbered (n : NodeTree) : Type 0 where
   pub few : length (flows n) ≤ 1048576
   pub beyond : (d : Delay) → Contains (node_delays n) d → (s : ℕ) × (d.site ≡ Some s) × (length (flows n) ≤ s)
   pub own : (d e : Delay) → Contains (node_delays n) d → Contains (node_delays n) e → d.site ≡ e.site → d ≡ e
+  pub next : (p : SitedPart) → Contains (node_parts n) p → (s : ℕ) × (p.site ≡ Some s) × (length (flows n) ≤ s) × (s < length (flows n) + length (node_parts n))
+  pub in_order : (p q : SitedPart) (s t : ℕ) → Contains (node_parts n) p → Contains (node_parts n) q → p.at < q.at → p.site ≡ Some s → q.site ≡ Some t → s < t
+  pub apart : (i j : ℕ) (p : SitedPart) → i < j → j < length (node_parts n) → (slice_index_or (node_parts n) i p).site ≡ (slice_index_or (node_parts n) j p).site → ⊥

@@ -2,7 +2,7 @@ pub mod Tree
 pub mod Places
 pub mod Delays
 pub mod Sites
-pub mod Counted
+pub mod SitedParts
 pub mod Lexing
 pub mod Grammar
 pub mod Nesting
@@ -16,3 +16,6 @@ pub mod Reads
 pub mod Reading
 pub mod Correct
 pub mod Longest
+pub mod Faults
+pub mod Stopped
+pub mod Bounded

@@ -1,14 +1,11 @@
 -- Reading an expression beside a counter of its nesting.
-use Rattle.std.specs.Prelude.{ℕ, ◌+◌, cond, nat_le, List, [], ◌∷◌, Result, Ok, Err}
+use Rattle.std.specs.Prelude.{ℕ, ◌+◌, cond, nat_le, List, [], ◌∷◌, Option, Some, None, Result, Ok, Err}
 use Rattle.rv_syntax.specs.declared.token.Token.{Token}
-use Rattle.rv_syntax.specs.declared.parser.Role.{Role}
-use Rattle.rv_syntax.specs.declared.parser.Role.TheVariants.{Operand, Before, Between, Opens, Closes, Other}
 use Rattle.rv_syntax.specs.declared.fault.Why.{Why}
 use Rattle.rv_syntax.specs.declared.fault.Why.TheVariants.{Offends, TooDeep}
 use Rattle.rv_syntax.specs.Tree.{Tree}
-use Rattle.rv_syntax.specs.Grammar.{Applied, Joined, level_of}
-use Rattle.rv_syntax.specs.Nesting.{limit}
-use Rattle.rv_syntax.specs.Machine.{role, Frame, Brackets, Under, After, State, Have, Move, To, Ends, Fails, step, finish, closed}
+use Rattle.rv_syntax.specs.Nesting.{Weight, Operator, Opening, Closing, Parting, Plain, weight, limit}
+use Rattle.rv_syntax.specs.Machine.{next_of, Frame, Held, State, Have, Move, To, Ends, Fails, wrapped, awaited, step, finish}
 
 -- the nesting now, and what it was before each open bracket
 pub record Counts : Type 0 where
@@ -22,13 +19,17 @@ abbrev pub closing : ℕ → List ℕ → Counts
 closing n [] = counts n []
 closing n (s ∷ ss) = counts s ss
 
-abbrev pub count : Role → Counts → Counts
-count Operand c = c
-count (Before p at) c = counts (c.now + 1) c.saved
-count (Between o at) c = counts (c.now + 1) c.saved
-count Opens c = counts (c.now + 1) (c.now ∷ c.saved)
-count Closes c = closing c.now c.saved
-count Other c = c
+-- After a comma the bracket around it is all that its part counts.
+abbrev pub parting : ℕ → List ℕ → Counts
+parting n [] = counts n []
+parting n (s ∷ ss) = counts (s + 1) (s ∷ ss)
+
+abbrev pub count : Weight → Counts → Counts
+count Operator c = counts (c.now + 1) c.saved
+count Opening c = counts (c.now + 1) (c.now ∷ c.saved)
+count Closing c = closing c.now c.saved
+count Parting c = parting c.now c.saved
+count Plain c = c
 
 abbrev pub Limited : Type 0
 Limited = Result (Tree × List Token) (Why × List Token)
@@ -47,12 +48,18 @@ going Fails c go ts = Err (Offends, ts)
 -- is nested too deep, and which of the two it is.
 unfoldable pub limited : Counts → State → List Token → Limited
 limited c st [] = at_end (finish st)
-limited c st (t ∷ ts) = going (step st t) (count (role t) c) (λ next. limited (count (role t) c) next ts) (t ∷ ts)
+limited c st (t ∷ ts) = going (step st t) (count (weight t) c) (λ q. limited (count (weight t) c) q ts) (t ∷ ts)
+
+-- the token that a frame waits for after its operand
+abbrev pub meets : Counts → Frame → Tree → List Frame → List Token → Limited
+meets c f t s [] = Err (Offends, [])
+meets c f t s (x ∷ ts) = going (awaited (next_of x) f t s) (count (weight x) c) (λ q. limited (count (weight x) c) q ts) (x ∷ ts)
+
+abbrev pub left_to : Option Held → Counts → Frame → Tree → List Frame → List Token → Limited
+left_to (Some h) c f t s ts = limited c (Have h s) ts
+left_to None c f t s ts = meets c f t s ts
 
 -- an operand is left to the frames, with these tokens after it
-abbrev pub leave : Counts → Tree → List Frame → List Token → Limited
-leave c t [] ts = Ok (t, ts)
-leave c t (Brackets ∷ s) [] = Err (Offends, [])
-leave c t (Brackets ∷ s) (x ∷ ts) = going (closed (role x) t s) (count (role x) c) (λ next. limited (count (role x) c) next ts) (x ∷ ts)
-leave c t (Under p at ∷ s) ts = limited c (Have 9 (Applied p at t) s) ts
-leave c t (After o at l ∷ s) ts = limited c (Have (level_of o) (Joined o at l t) s) ts
+abbrev pub leave : Counts → Held → List Frame → List Token → Limited
+leave c h [] ts = Ok (h.body, ts)
+leave c h (f ∷ s) ts = left_to (wrapped f h) c f h.body s ts

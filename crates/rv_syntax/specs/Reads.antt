@@ -1,19 +1,26 @@
 -- What the parser's methods do, in the words of the readers and of the limited machine.
-use Rattle.std.specs.Prelude.{◌≡◌, ◌≤◌, ◌<◌, ◌+◌, ℕ, Bool, true, false, List, [], ◌∷◌, length, Option, Some, None, Result, Ok, Err, ⊤}
+use Rattle.std.specs.Prelude.{◌≡◌, ◌≤◌, ◌<◌, ◌+◌, ℕ, Bool, true, false, ◌&&◌, List, [], ◌∷◌, map, length, Option, Some, None, Result, Ok, Err, ⊤}
+use Rattle.rv_syntax.specs.declared.token.Mark.{Mark}
 use Rattle.rv_syntax.specs.declared.token.Mark.TheVariants as mark
 use Rattle.rv_syntax.specs.declared.token.Token.{Token}
-use Rattle.rv_syntax.specs.declared.operator.Infix.{Infix}
-use Rattle.rv_syntax.specs.declared.parser.Role.TheVariants.{Operand, Between}
+use Rattle.rv_syntax.specs.declared.tree.Name.{Name}
 use Rattle.rv_syntax.specs.declared.tree.Expr.{Expr}
+use Rattle.rv_syntax.specs.declared.parser.Start.TheVariants as start
+use Rattle.rv_syntax.specs.declared.parser.Next.{Next}
+use Rattle.rv_syntax.specs.declared.parser.Next.TheVariants as next
+use Rattle.rv_syntax.specs.declared.parser.Link.{Link}
+use Rattle.rv_syntax.specs.declared.parser.Link.TheVariants as link
+use Rattle.rv_syntax.specs.declared.parser.Operand.{Operand}
 use Rattle.rv_syntax.specs.declared.fault.Stop.{Stop}
 use Rattle.rv_syntax.specs.declared.fault.Stop.TheVariants as stop
 use Rattle.rv_syntax.specs.declared.fault.Why.TheVariants.{Offends, TooDeep}
 use Rattle.rv_syntax.specs.Tree.{Tree, tree_of}
-use Rattle.rv_syntax.specs.Grammar.{fixed}
+use Rattle.rv_syntax.specs.Grammar.{name_token, Callee, Invoked}
 use Rattle.rv_syntax.specs.Nesting.{limit}
-use Rattle.rv_syntax.specs.Machine.{Frame, Brackets, need, Want, Have, accepts, head, leaf_tree}
+use Rattle.rv_syntax.specs.Marks.{is_mark, is_name}
+use Rattle.rv_syntax.specs.Machine.{Frame, After, Within, need, Held, held, whole, State, Want, Have, Clock, accepts, starting, following, leaf_tree}
 use Rattle.rv_syntax.specs.Limited.{counts, limited, Limited, leave}
-use Rattle.rv_syntax.specs.Parse.{Reading, Parse}
+use Rattle.rv_syntax.specs.Parse.{Reading, Parse, starts}
 
 -- the tokens that are left, and the nesting at the last one that was read
 pub record Ahead : Type 0 where
@@ -24,52 +31,107 @@ abbrev pub tail : List Token → List Token
 tail [] = []
 tail (t ∷ ts) = ts
 
-abbrev pub without_why : Limited → Reading Token Tree
-without_why (Ok x) = Ok x
-without_why (Err e) = Err e.1
-
 -- an expression
-abbrev pub expression : Parse Token Tree
-expression ts = without_why (limited (counts 0 []) (Want []) ts)
+abbrev pub expression : Parse Tree
+expression ts = limited (counts 0 []) (Want []) ts
 
 -- What a method returned, seen by view, and what it left are what reading gives, unless memory ran out.
-abbrev pub Reads : {X A : Type 0} → (X → A) → Reading Token A → Result X Stop → List Token → Type 0
+abbrev pub Reads : {X A : Type 0} → (X → A) → Reading A → Result X Stop → List Token → Type 0
 Reads view r (Ok x) new = r ≡ Ok (view x, new)
 Reads view r (Err stop.Memory) new = Unit {0}
-Reads view r (Err (stop.Token why left)) new = (left ≡ length new) × (r ≡ Err new)
+Reads view r (Err (stop.Token why left)) new = (left ≡ length new) × (r ≡ Err (why, new))
 
 abbrev pub same : {A : Type 0} → A → A
 same a = a
 
--- a stop at these tokens, whatever frames and brackets there are around
-abbrev pub Stops : (List Frame → Type 0) → Ahead → Stop → Ahead → Type 0
-Stops At old stop.Memory new = Unit {0}
-Stops At old (stop.Token why left) new =
-    (left ≡ length new.rest) × ((s : List Frame) (ss : List ℕ) → At s → limited (counts old.depth ss) (Want s) old.rest ≡ Err (why, new.rest))
+-- the operand that has been read
+abbrev pub held_of : Operand → Held
+held_of o = held o.level o.is_open (tree_of o.tree)
 
--- an operand, with its level
-abbrev pub ReadsOperand : Ahead → Result (Expr × ℕ) Stop → Ahead → Type 0
-ReadsOperand old (Ok x) new =
-    (s : List Frame) (ss : List ℕ) → limited (counts old.depth ss) (Want s) old.rest ≡ limited (counts new.depth ss) (Have x.1 (tree_of x.0) s) new.rest
-ReadsOperand old (Err e) new = Stops (λ s. Unit {0}) old e new
+-- A stop at these tokens: reading comes to it from each of these.
+abbrev pub Stops : (X : Type 0) → (X → Limited) → Stop → Ahead → Type 0
+Stops X from stop.Memory new = Unit {0}
+Stops X from (stop.Token why left) new = (left ≡ length new.rest) × ((x : X) → from x ≡ Err (why, new.rest))
+
+-- the frames around, and the nesting outside their brackets
+pub record Around : Type 0 where
+  pub frames : List Frame
+  pub outside : List ℕ
+
+-- reading from a state with these tokens ahead
+abbrev pub from : Ahead → (List Frame → State) → Around → Limited
+from a state x = limited (counts a.depth x.outside) (state x.frames) a.rest
+
+-- What is read gives this operand, whatever there is around.
+abbrev pub ReadsAs : Ahead → (List Frame → State) → Result Operand Stop → Ahead → Type 0
+ReadsAs old state (Ok o) new = (o.level ≤ 10) × ((x : Around) → from old state x ≡ from new (Have (held_of o)) x)
+ReadsAs old state (Err e) new = Stops Around (from old state) e new
+
+-- an operand
+abbrev pub ReadsOperand : Ahead → Result Operand Stop → Ahead → Type 0
+ReadsOperand old r new = ReadsAs old Want r new
+
+-- the frames around, where they want an operand of this level
+pub record Wanting (k : ℕ) : Type 0 where
+  pub around : Around
+  pub wants : need around.frames ≡ k
 
 -- an expression that binds at least as tightly as this level
-abbrev pub ReadsExpr : ℕ → Ahead → Result Expr Stop → Ahead → Type 0
-ReadsExpr k old (Ok e) new =
-    (s : List Frame) (ss : List ℕ) → need s ≡ k → limited (counts old.depth ss) (Want s) old.rest ≡ leave (counts new.depth ss) (tree_of e) s new.rest
-ReadsExpr k old (Err e) new = Stops (λ s. need s ≡ k) old e new
+abbrev pub ReadsExpr : ℕ → Ahead → Result Operand Stop → Ahead → Type 0
+ReadsExpr k old (Ok o) new = (x : Wanting k) → from old Want x.around ≡ leave (counts new.depth x.around.outside) (held_of o) x.around.frames new.rest
+ReadsExpr k old (Err e) new = Stops (Wanting k) (λ x. from old Want x.around) e new
 
--- a token that is an operand
+-- what is called, and what is around
+pub record Calling : Type 0 where
+  pub callee : Callee
+  pub around : Around
+
+-- reading the arguments of a call from these on, with the nesting outside its bracket
+abbrev pub argued_from : ℕ → List Tree → Ahead → Calling → Limited
+argued_from n ts a x = limited (counts a.depth (n ∷ x.around.outside)) (Want (Within x.callee ts ∷ x.around.frames)) a.rest
+
+-- all arguments and the closing bracket
+abbrev pub ReadsArguments : ℕ → Ahead → Result (List Expr) Stop → Ahead → Type 0
+ReadsArguments n old (Ok es) new = (x : Calling) → argued_from n [] old x ≡ from new (Have (whole (Invoked x.callee (map tree_of es)))) x.around
+ReadsArguments n old (Err e) new = Stops Calling (argued_from n [] old) e new
+
+-- a token that is a literal or a name
 abbrev pub TakesLeaf : Ahead → Result Expr Stop → Ahead → Type 0
 TakesLeaf old (Ok e) new =
     (t : Token) × (old.rest ≡ t ∷ new.rest) × (new.depth ≡ old.depth) × (old.depth ≤ limit) × (tree_of e ≡ leaf_tree t)
 TakesLeaf old (Err stop.Memory) new = Unit {0}
-TakesLeaf old (Err (stop.Token why left)) new = head old.rest ≡ Operand → ⊥
+TakesLeaf old (Err (stop.Token why left)) new = starting old.rest ≡ start.Operand → ⊥
 
--- an operator that goes on
-abbrev pub SeesOperator : ℕ → ℕ → Ahead → Option (Infix × ℕ) → Type 0
-SeesOperator k n old None = accepts (head old.rest) k n ≡ false
-SeesOperator k n old (Some x) = (accepts (Between x.0 x.1) k n ≡ true) × (head old.rest ≡ Between x.0 x.1)
+-- a name, or a stop here
+abbrev pub TakesName : Ahead → Result Name Stop → Ahead → Type 0
+TakesName old (Ok x) new = (old.rest ≡ name_token x ∷ new.rest) × (new.depth ≡ old.depth) × (old.depth ≤ limit)
+TakesName old (Err stop.Memory) new = Unit {0}
+TakesName old (Err (stop.Token why left)) new = (left ≡ length old.rest) × (why ≡ Offends) × (new ≡ old) × (starts is_name old.rest ≡ false)
+
+-- this word or symbol, which leaves the nesting as it is, or a stop here
+abbrev pub Passes : Mark → Ahead → Result ⊤ Stop → Ahead → Type 0
+Passes m old (Ok u) new = (starts (is_mark m) old.rest ≡ true) × (new.rest ≡ tail old.rest) × (new.depth ≡ old.depth) × (old.depth ≤ limit)
+Passes m old (Err stop.Memory) new = ⊥
+Passes m old (Err (stop.Token why left)) new = (left ≡ length old.rest) × (why ≡ Offends) × (new ≡ old) × (starts (is_mark m) old.rest ≡ false)
+
+-- a name and an opening bracket
+abbrev pub starts_call : List Token → Bool
+starts_call [] = false
+starts_call (t ∷ ts) = is_name t && starts (is_mark mark.Open) ts
+
+-- what goes on with an operand, and the state behind it
+abbrev pub link_next : Link → Next
+link_next (link.Between o at) = next.Between o at
+link_next (link.When at) = next.Gates at
+
+abbrev pub linked : Link → Held → List Frame → State
+linked (link.Between o at) h s = Want (After o at h.body ∷ s)
+linked (link.When at) h s = Clock at h.body s
+
+-- what goes on with an operand that is no name before a bracket
+abbrev pub SeesLink : ℕ → Held → Ahead → Option Link → Type 0
+SeesLink k h old None = h.grade ≤ 10 → accepts (following old.rest) k h ≡ false
+SeesLink k h old (Some l) = (accepts (link_next l) k h ≡ true) × (following old.rest ≡ link_next l)
 
 -- a token that is counted, unless it is too deep
 abbrev pub Enters : Ahead → Result ⊤ Stop → Ahead → Type 0
@@ -77,8 +139,7 @@ Enters old (Ok u) new = (old.depth < limit) × (new.rest ≡ tail old.rest) × (
 Enters old (Err stop.Memory) new = ⊥
 Enters old (Err (stop.Token why left)) new = (limit ≤ old.depth) × (why ≡ TooDeep) × (new ≡ old) × (left ≡ length old.rest)
 
--- a closing bracket and the nesting outside it, or a stop here
-abbrev pub TakesClose : ℕ → Ahead → Bool → Ahead → Type 0
-TakesClose outside old true new = (at : ℕ) × (old.rest ≡ fixed mark.Close at ∷ new.rest) × (new.depth ≡ outside)
-TakesClose outside old false new =
-    (new ≡ old) × ((c : ℕ) (ss : List ℕ) (t : Tree) (s : List Frame) → leave (counts c ss) t (Brackets ∷ s) old.rest ≡ Err (Offends, old.rest))
+-- this symbol, behind which the nesting is this, or nothing
+abbrev pub TakesMark : Mark → ℕ → Ahead → Bool → Ahead → Type 0
+TakesMark m n old true new = (starts (is_mark m) old.rest ≡ true) × (new.rest ≡ tail old.rest) × (new.depth ≡ n)
+TakesMark m n old false new = (starts (is_mark m) old.rest ≡ false) × (new ≡ old)

@@ -1,5 +1,5 @@
 -- What the rules of a grammar are made of. A rule says of a value and tokens that these spell that.
-use Rattle.std.specs.Prelude.{◌≡◌, ℕ, List, [], ◌∷◌, ◌++◌, ◌⊎◌}
+use Rattle.std.specs.Prelude.{◌≡◌, ⊤, ℕ, List, [], ◌∷◌, ◌++◌, ◌⊎◌, Option, Some, None}
 use Rattle.rv_syntax.specs.declared.token.Mark.{Mark}
 use Rattle.rv_syntax.specs.declared.token.Token.{Token}
 use Rattle.rv_syntax.specs.Grammar.{fixed}
@@ -24,3 +24,16 @@ OneOf L M a ts = L a ts ⊎ M a ts
 abbrev pub Each : {T A : Type 0} → (A → List T → Type 0) → List A → List T → Type 0
 Each L [] ts = ts ≡ []
 Each {T = T} L (a ∷ more) ts = (part : List T) × (rest : List T) × (ts ≡ part ++ rest) × L a part × Each L more rest
+
+-- this word or symbol alone
+abbrev pub Only : Mark → ⊤ → List Token → Type 0
+Only m u ts = (at : ℕ) × (ts ≡ fixed m at ∷ [])
+
+-- the same, by its offset
+abbrev pub Marked : Mark → ℕ → List Token → Type 0
+Marked m at ts = ts ≡ fixed m at ∷ []
+
+-- such a part, or nothing
+abbrev pub Maybe : {T A : Type 0} → (A → List T → Type 0) → Option A → List T → Type 0
+Maybe L None ts = ts ≡ []
+Maybe L (Some a) ts = L a ts

@@ -4,18 +4,17 @@ use rv_base::Memory;
 use std::alloc::{AllocError, AllocFailed};
 use thiserror::Error;
 
-/// The first offending token of a text, by its offset: `LeftOut` where a word or symbol that is left out of
-/// the language offends, `BadText` where no program goes on so, `TooDeep` where the nesting passes 200.
-/// `Memory` is want of memory. Texts are not told apart yet: all are refused as `LeftOut(0)`.
+/// The first offending token of a text, by its offset, or want of memory. Where the text ends too early, it is
+/// `BadText` at its length.
 #[derive(Clone, Copy, Debug, PartialEq, Eq, Error)]
 pub enum TextFault {
-    /// No program goes on with the token at this offset.
+    /// No program goes on with the token at this offset, or with the end of the text.
     #[error("no program goes on so at byte {0}")]
     BadText(u32),
     /// The nesting at the token at this offset is above 200.
     #[error("nested too deep at byte {0}")]
     TooDeep(u32),
-    /// The token at this offset is left out of the language.
+    /// The word or symbol at this offset is left out of the language, or is so in its place.
     #[error("left out of the language at byte {0}")]
     LeftOut(u32),
     /// There was no memory.

@@ -1,19 +1,32 @@
 //! From bytes to tokens.
 
-ghost use Rattle.std.specs.Prelude.{◌≡◌, ◌≤◌, ◌<◌, ℕ, List, length, IfOk, slice_index, take};
+ghost use Rattle.std.specs.Prelude.{◌≡◌, ◌≤◌, ◌<◌, ◌++◌, ℕ, List, length, IfOk, IfSome, take};
 ghost use Rattle.std.specs.Str.{bytes_eq, IsAscii};
+ghost use Rattle.std.specs.Str.Parse.{digits_value};
 ghost use Rattle.rv_syntax.specs.Lexing as spec;
 
 use crate::token::{Kind, Mark, Token};
 use rv_base::{Memory, Text};
 use std::alloc::{AllocError, Global};
 
-/// What the bytes of a token say of it.
+/// What the bytes at the front of a text are: a byte of white space or a comment, a name, a number, a word or
+/// symbol of the language, a `.`, a word or symbol that is left out, or no token.
 #[derive(Clone, Copy, Debug)]
 pub enum Shape {
+    Blank,
     Name,
+    Number,
     Fixed(Mark),
-    Other,
+    Point,
+    LeftOut,
+    Bad,
+}
+
+/// Where a comment ends: with the line, or with the next `*` that is followed by this byte.
+#[derive(Clone, Copy, Debug)]
+pub enum Comment {
+    Line,
+    Until(u8),
 }
 
 fn is_space(b: u8) -> bool
@@ -45,11 +58,36 @@ fn word_len(bytes: &[u8]) -> usize
 }
 
 /// How many bytes at the front are digits.
+#[tactic(auto, using(crate::proofs::Words::digits_number))]
 fn number_len(bytes: &[u8]) -> usize
     ensures value { result ≡ spec.number_len bytes.now }
     ensures within { result ≤ length bytes.now }
+    ensures digits { spec.AreDigits (take result bytes.now) }
 {
     bytes.iter().take_while(|b| b.is_ascii_digit()).count()
+}
+
+/// How many bytes at the front stand before the end of the line.
+fn line_len(bytes: &[u8]) -> usize
+    ensures value { result ≡ spec.line_len bytes.now }
+    ensures within { result ≤ length bytes.now }
+{
+    bytes.iter().take_while(|b| **b != b'\n').count()
+}
+
+/// How many bytes there are up to the first `*` that is followed by `last`, both included.
+fn close_len(bytes: &[u8], last: u8) -> Option<usize>
+    ensures value { result ≡ spec.close_len last bytes.now }
+    ensures within { IfSome result (λ n. n ≤ length bytes.now) }
+{
+    let mut at = 0;
+    'more: while at + 1 < bytes.len() {
+        if bytes[at] == b'*' && bytes[at + 1] == last {
+            return Some(at + 2);
+        }
+        at += 1;
+    }
+    None
 }
 
 fn is(a: &[u8], b: &[u8]) -> bool
@@ -58,10 +96,10 @@ fn is(a: &[u8], b: &[u8]) -> bool
     a == b
 }
 
-/// The reserved word of the accepted language that this is.
-#[tactic(auto, unfolding(crate::specs::Lexing::fixed_word))]
-fn fixed_word(text: &[u8]) -> Option<Mark>
-    ensures { result ≡ spec.fixed_word text.now }
+/// The reserved word of declarations that this is.
+#[tactic(auto, unfolding(crate::specs::Lexing::declaration_word))]
+fn declaration_word(text: &[u8]) -> Option<Mark>
+    ensures { result ≡ spec.declaration_word text.now }
 {
     if is(text, b"node") {
         Some(Mark::Node)
@@ -73,50 +111,59 @@ fn fixed_word(text: &[u8]) -> Option<Mark>
         Some(Mark::Let)
     } else if is(text, b"tel") {
         Some(Mark::Tel)
+    } else if is(text, b"const") {
+        Some(Mark::Const)
+    } else if is(text, b"type") {
+        Some(Mark::Type)
+    } else if is(text, b"enum") {
+        Some(Mark::Enum)
     } else if is(text, b"bool") {
         Some(Mark::Bool)
+    } else if is(text, b"int") {
+        Some(Mark::Int)
+    } else if is(text, b"assert") {
+        Some(Mark::Assert)
+    } else {
+        None
+    }
+}
+
+/// The reserved word of expressions that this is.
+#[tactic(auto, unfolding(crate::specs::Lexing::expression_word))]
+fn expression_word(text: &[u8]) -> Option<Mark>
+    ensures { result ≡ spec.expression_word text.now }
+{
+    if is(text, b"if") {
+        Some(Mark::If)
+    } else if is(text, b"then") {
+        Some(Mark::Then)
+    } else if is(text, b"else") {
+        Some(Mark::Else)
     } else if is(text, b"true") {
         Some(Mark::True)
     } else if is(text, b"false") {
         Some(Mark::False)
     } else if is(text, b"not") {
         Some(Mark::Not)
-    } else if is(text, b"pre") {
-        Some(Mark::Pre)
-    } else if is(text, b"or") {
-        Some(Mark::Or)
     } else if is(text, b"and") {
         Some(Mark::And)
+    } else if is(text, b"or") {
+        Some(Mark::Or)
+    } else if is(text, b"xor") {
+        Some(Mark::Xor)
+    } else if is(text, b"pre") {
+        Some(Mark::Pre)
+    } else if is(text, b"when") {
+        Some(Mark::When)
+    } else if is(text, b"current") {
+        Some(Mark::Current)
+    } else if is(text, b"div") {
+        Some(Mark::Div)
+    } else if is(text, b"mod") {
+        Some(Mark::Mod)
     } else {
         None
     }
-}
-
-/// Whether this is another reserved word that is no operator.
-#[tactic(auto, unfolding(crate::specs::Lexing::is_reserved))]
-fn is_reserved(text: &[u8]) -> bool
-    ensures { result ≡ spec.is_reserved text.now }
-{
-    is(text, b"const")
-        || is(text, b"type")
-        || is(text, b"enum")
-        || is(text, b"int")
-        || is(text, b"if")
-        || is(text, b"then")
-        || is(text, b"else")
-}
-
-/// Whether this is a reserved word for an operator that is not accepted yet.
-#[tactic(auto, unfolding(crate::specs::Lexing::is_reserved_operator))]
-fn is_reserved_operator(text: &[u8]) -> bool
-    ensures { result ≡ spec.is_reserved_operator text.now }
-{
-    is(text, b"xor")
-        || is(text, b"when")
-        || is(text, b"current")
-        || is(text, b"assert")
-        || is(text, b"div")
-        || is(text, b"mod")
 }
 
 /// Whether this is one of the first words that are left out of the language.
@@ -149,17 +196,70 @@ fn is_left_out_too(text: &[u8]) -> bool
         || is(text, b"subrange")
 }
 
+/// The reserved word that this is.
+fn fixed_word(text: &[u8]) -> Option<Mark>
+    ensures { result ≡ spec.fixed_word text.now }
+{
+    match declaration_word(text) {
+        Some(mark) => Some(mark),
+        None => expression_word(text),
+    }
+}
+
 /// What a whole word is.
 fn word(text: &[u8]) -> Shape
     ensures { result ≡ spec.word text.now }
 {
     match fixed_word(text) {
         Some(mark) => Shape::Fixed(mark),
-        None if is_reserved(text) => Shape::Other,
-        None if is_reserved_operator(text) => Shape::Other,
-        None if is_left_out(text) => Shape::Other,
-        None if is_left_out_too(text) => Shape::Other,
+        None if is_left_out(text) => Shape::LeftOut,
+        None if is_left_out_too(text) => Shape::LeftOut,
         None => Shape::Name,
+    }
+}
+
+/// The operator that one byte is.
+fn operator(b: u8) -> Option<Mark>
+    ensures { result ≡ spec.operator b }
+{
+    match b {
+        b'<' => Some(Mark::Less),
+        b'>' => Some(Mark::Greater),
+        b'=' => Some(Mark::Equal),
+        b'+' => Some(Mark::Plus),
+        b'-' => Some(Mark::Minus),
+        b'*' => Some(Mark::Times),
+        b'/' => Some(Mark::Slash),
+        b'#' => Some(Mark::Hash),
+        _ => None,
+    }
+}
+
+/// The bracket, or what separates, that one byte is.
+fn bracket(b: u8) -> Option<Mark>
+    ensures { result ≡ spec.bracket b }
+{
+    match b {
+        b'(' => Some(Mark::Open),
+        b')' => Some(Mark::Close),
+        b',' => Some(Mark::Comma),
+        b';' => Some(Mark::Semi),
+        b':' => Some(Mark::Colon),
+        b'{' => Some(Mark::OpenBrace),
+        b'}' => Some(Mark::CloseBrace),
+        _ => None,
+    }
+}
+
+/// What one byte is that is no other symbol.
+fn rare(b: u8) -> Shape
+    ensures value { result ≡ spec.rare b }
+    ensures plain { (w : List ℕ) → spec.IsPlain result w }
+{
+    match b {
+        b'.' => Shape::Point,
+        b'[' | b']' | b'^' | b'|' => Shape::LeftOut,
+        _ => Shape::Bad,
     }
 }
 
@@ -168,44 +268,82 @@ fn single(b: u8) -> Shape
     ensures value { result ≡ spec.single b }
     ensures plain { (w : List ℕ) → spec.IsPlain result w }
 {
-    match b {
-        b'(' => Shape::Fixed(Mark::Open),
-        b')' => Shape::Fixed(Mark::Close),
-        b',' => Shape::Fixed(Mark::Comma),
-        b';' => Shape::Fixed(Mark::Semi),
-        b':' => Shape::Fixed(Mark::Colon),
-        b'=' => Shape::Fixed(Mark::Equal),
-        _ => Shape::Other,
+    match operator(b) {
+        Some(mark) => Shape::Fixed(mark),
+        None => match bracket(b) {
+            Some(mark) => Shape::Fixed(mark),
+            None => rare(b),
+        },
     }
 }
 
-/// Whether two bytes are a symbol that is not accepted, or begin a comment.
-fn is_pair(a: u8, b: u8) -> bool
-    ensures { result ≡ spec.is_pair a b }
+/// The symbol that two bytes are.
+fn pair(first: u8, second: u8) -> Option<Shape>
+    ensures value { result ≡ spec.pair first second }
+    ensures plain { IfSome result (λ shape. (w : List ℕ) → spec.IsPlain shape w) }
 {
-    (a == b'-' && b == b'-')
-        || (a == b'=' && b == b'>')
-        || (a == b'<' && (b == b'>' || b == b'=' || b == b'<'))
-        || (a == b'>' && (b == b'=' || b == b'>'))
-        || ((a == b'(' || a == b'/') && b == b'*')
-        || (a == b':' && b == b':')
+    match (first, second) {
+        (b'-', b'>') => Some(Shape::Fixed(Mark::Arrow)),
+        (b'=', b'>') => Some(Shape::Fixed(Mark::Implies)),
+        (b'<', b'>') => Some(Shape::Fixed(Mark::Differs)),
+        (b'<', b'=') => Some(Shape::Fixed(Mark::AtMost)),
+        (b'>', b'=') => Some(Shape::Fixed(Mark::AtLeast)),
+        (b'<', b'<') | (b'>', b'>') | (b':', b':') => Some(Shape::LeftOut),
+        _ => None,
+    }
 }
 
-/// A symbol, by the byte that it begins with and the next one.
-fn symbol(first: u8, second: Option<u8>) -> (Shape, usize)
-    ensures value { result ≡ spec.symbol first second }
-    ensures some { 0 < result.1 }
-    ensures within { result.1 ≤ spec.at_most_two second }
+/// The comment that two bytes open.
+fn opens(first: u8, second: u8) -> Option<Comment>
+    ensures { result ≡ spec.opens first second }
+{
+    match (first, second) {
+        (b'-', b'-') => Some(Comment::Line),
+        (b'(', b'*') => Some(Comment::Until(b')')),
+        (b'/', b'*') => Some(Comment::Until(b'/')),
+        _ => None,
+    }
+}
+
+/// The length of a comment, from the bytes after the two that open it. One that is never closed takes all.
+fn comment_len(comment: Comment, bytes: &[u8]) -> (Shape, usize)
+    ensures value { result ≡ spec.comment_len comment bytes.now }
+    ensures within { result.1 ≤ length bytes.now }
     ensures plain { (w : List ℕ) → spec.IsPlain result.0 w }
 {
-    match second {
-        Some(b'>') if first == b'-' => (Shape::Fixed(Mark::Arrow), 2),
-        Some(next) if is_pair(first, next) => (Shape::Other, 2),
-        _ => (single(first), 1),
+    match comment {
+        Comment::Line => (Shape::Blank, line_len(bytes)),
+        Comment::Until(last) => match close_len(bytes, last) {
+            Some(len) => (Shape::Blank, len),
+            None => (Shape::Bad, bytes.len()),
+        },
     }
 }
 
-/// The shape and the length of the token that begins a text, which is not empty.
+/// What begins a text, which is not empty, with neither white space nor a letter nor a digit.
+fn other(text: &[u8]) -> (Shape, usize)
+    requires { 0 < length text.now }
+    ensures value { result ≡ spec.other text.now }
+    ensures some { 0 < result.1 }
+    ensures within { result.1 ≤ length text.now }
+    ensures plain { (w : List ℕ) → spec.IsPlain result.0 w }
+{
+    match text {
+        [first, second, rest @ ..] => match opens(*first, *second) {
+            Some(comment) => {
+                let (shape, len) = comment_len(comment, rest);
+                (shape, 2 + len)
+            }
+            None => match pair(*first, *second) {
+                Some(shape) => (shape, 2),
+                None => (single(*first), 1),
+            },
+        },
+        _ => (single(text[0]), 1),
+    }
+}
+
+/// The shape and the length of what begins a text, which is not empty.
 #[tactic(auto, unfolding(crate::specs::Lexing::cut))]
 fn cut(text: &[u8]) -> (Shape, usize)
     requires { 0 < length text.now }
@@ -214,25 +352,53 @@ fn cut(text: &[u8]) -> (Shape, usize)
     ensures within { result.1 ≤ length text.now }
     ensures plain { spec.IsPlain result.0 (take result.1 text.now) }
 {
-    if is_letter(text[0]) {
+    let first = text[0];
+    if is_space(first) {
+        (Shape::Blank, 1)
+    } else if is_letter(first) {
         let len = word_len(text);
         (word(&text[..len]), len)
-    } else if text[0].is_ascii_digit() {
-        (Shape::Other, number_len(text))
+    } else if first.is_ascii_digit() {
+        (Shape::Number, number_len(text))
     } else {
-        symbol(text[0], text.get(1).copied())
+        other(text)
     }
 }
 
-/// The kind of a token, from its shape and its bytes.
-fn kind_of(alloc: Global, shape: Shape, text: &[u8]) -> Result<Kind, Memory>
+/// A number above the greatest that is told apart.
+const ABOVE: u64 = (1 << 40) + 1;
+
+/// The number that these digits are, or 2^40 + 1 where it is above 2^40.
+fn number(digits: &[u8]) -> u64
+    requires { spec.AreDigits digits.now }
+    ensures { result ≡ spec.kept (digits_value 10 digits.now) }
+{
+    let mut number = 0;
+    for digit in digits {
+        number = (number * 10 + u64::from(*digit - b'0')).min(ABOVE);
+    }
+    number
+}
+
+/// The kind of the token that these bytes are, if they are one.
+fn kind_of(
+    alloc: Global,
+    after_tel: bool,
+    shape: Shape,
+    text: &[u8],
+) -> Result<Option<Kind>, Memory>
     requires { spec.IsPlain shape text.now }
-    ensures { IfOk result (λ kind. kind ≡ spec.kind_of shape text.now) }
+    ensures { IfOk result (λ kind. kind ≡ spec.kind_of after_tel shape text.now) }
 {
     match shape {
-        Shape::Name => Ok(Kind::Name(name_text(alloc, text)?)),
-        Shape::Fixed(mark) => Ok(Kind::Fixed(mark)),
-        Shape::Other => Ok(Kind::Other),
+        Shape::Blank => Ok(None),
+        Shape::Name => Ok(Some(Kind::Name(name_text(alloc, text)?))),
+        Shape::Number => Ok(Some(Kind::Number(number(text)))),
+        Shape::Fixed(mark) => Ok(Some(Kind::Fixed(mark))),
+        Shape::Point if after_tel => Ok(Some(Kind::Fixed(Mark::Dot))),
+        Shape::Point => Ok(Some(Kind::LeftOut)),
+        Shape::LeftOut => Ok(Some(Kind::LeftOut)),
+        Shape::Bad => Ok(Some(Kind::Bad)),
     }
 }
 
@@ -244,25 +410,41 @@ fn name_text(alloc: Global, text: &[u8]) -> Result<Text, AllocError>
     Text::from_str(alloc, text)
 }
 
+/// Whether the last token is `tel`, behind bytes of this shape.
+fn ends_in_tel(before: bool, shape: Shape) -> bool
+    ensures { result ≡ spec.ends_in_tel before shape }
+{
+    match shape {
+        Shape::Blank => before,
+        Shape::Fixed(Mark::Tel) => true,
+        _ => false,
+    }
+}
+
+/// Adds a token of this kind, if there is one.
+fn push_token(tokens: &mut Vec<Token>, kind: Option<Kind>, at: u32) -> Result<(), Memory>
+    ensures { IfOk result (λ _. tokens.new.items ≡ tokens.old.items ++ spec.emitted kind at) }
+{
+    if let Some(kind) = kind {
+        tokens.push(Token { kind, at })?;
+    }
+    Ok(())
+}
+
 /// The tokens of a text, first to last.
 pub fn tokens_of(alloc: Global, bytes: &[u8]) -> Result<Vec<Token>, Memory>
     requires { length bytes.now ≤ 1048576 }
-    ensures { IfOk result (λ tokens. tokens.items ≡ spec.lex 0 0 bytes.now) }
+    ensures { IfOk result (λ tokens. tokens.items ≡ spec.tokens bytes.now) }
 {
     let mut tokens = Vec::new(alloc);
+    let mut after_tel = false;
     let mut at = 0;
     'more: while at < bytes.len() {
-        if is_space(bytes[at]) {
-            at += 1;
-        } else {
-            let (shape, len) = cut(&bytes[at..]);
-            let kind = kind_of(alloc, shape, &bytes[at..at + len])?;
-            tokens.push(Token {
-                kind,
-                at: at as u32,
-            })?;
-            at += len;
-        }
+        let (shape, len) = cut(&bytes[at..]);
+        let kind = kind_of(alloc, after_tel, shape, &bytes[at..at + len])?;
+        push_token(&mut tokens, kind, at as u32)?;
+        after_tel = ends_in_tel(after_tel, shape);
+        at += len;
     }
     Ok(tokens)
 }

@@ -1,18 +1,29 @@
 //! From the bytes of a Lustre source to its syntax tree.
 #![tactic(auto)]
 
-ghost use Rattle.std.specs.Prelude.{◌≡◌, ◌<◌, ◌≤◌, ℕ, List, length, slice_index_or, IfOk, IfErr};
+ghost use Rattle.std.specs.Prelude.{true, ◌≡◌, ◌<◌, ◌≤◌, [], ◌∷◌, ◌++◌, ℕ, List, length, slice_index_or, IfOk, IfErr};
 ghost use Rattle.std.specs.List.{Contains};
-ghost use Rattle.rv_syntax.specs.Correct.{Finds, IsRefusal};
+ghost use Rattle.rv_syntax.specs.Correct.{Finds, Explains, Refuses};
 ghost use Rattle.rv_syntax.specs.Delays.{Delay, node_delays, memory_sites, IsNumbered};
-ghost use Rattle.rv_syntax.specs.Lexing.{cut};
-ghost use Rattle.rv_syntax.specs.Longest.{IsLongest};
+ghost use Rattle.rv_syntax.specs.Lexing.{cut, tokens};
+ghost use Rattle.rv_syntax.specs.Faults.{IsDead, IsFault, is_left_out};
+ghost use Rattle.rv_syntax.specs.Reading as reading;
+ghost use Rattle.rv_syntax.specs.Stopped.{Tells};
+ghost use Rattle.rv_syntax.specs.Bounded.{IsBounded, IsTreeOfText};
+ghost use Rattle.rv_syntax.specs.declared.fault.TextFault.{TextFault as FaultModel};
+ghost use Rattle.rv_syntax.specs.Longest.{AreTokens, IsLongest};
 ghost use Rattle.rv_syntax.specs.Places.{memory_site};
-ghost use Rattle.rv_syntax.specs.ProgramText.{IsNode, IsTextOf};
-ghost use Rattle.rv_syntax.specs.Tree.{NodeTree, ProgramTree, node_tree, program_tree};
+ghost use Rattle.rv_syntax.specs.ProgramText.{IsTextOf};
+ghost use Rattle.rv_syntax.specs.Grammar.{fixed, name_token};
+ghost use Rattle.rv_syntax.specs.Nesting.{IsExprOf};
+ghost use Rattle.rv_syntax.specs.Tree.{NodeTree, ProgramTree, Tree, program_tree};
+ghost use Rattle.rv_syntax.specs.declared.token.Mark.TheVariants as mark;
+ghost use Rattle.rv_syntax.specs.declared.token.Token.{Token as TokenModel};
+ghost use Rattle.rv_syntax.specs.declared.tree.Name.{Name as NameAt};
 
 mod fault;
 mod lexer;
+mod offending;
 mod operator;
 mod parser;
 mod rules;
@@ -25,10 +36,10 @@ mod tree;
 use fault::Stop;
 pub use fault::TextFault;
 use lexer::tokens_of;
+use offending::fault_of;
 use parser::Parser;
-use rules::{only, read_node};
-use rv_base::Many;
-use sites::with_sites;
+use rules::read_program;
+use sites::with_program_sites;
 use std::alloc::Global;
 use token::Token;
 pub use tree::{
@@ -36,10 +47,11 @@ pub use tree::{
     TypeDecl, TypeName,
 };
 
-/// Reads the bytes of a source of at most 1,048,576 bytes. It answers the tree of the text where the text is
-/// one node with one output, at most one `var` and one or more equations, which are built from `true`, `false`,
-/// names, brackets, `->`, `or`, `and`, `not` and `pre`, nested at most 200 deep, and otherwise `LeftOut(0)`.
-/// `Memory` comes where memory runs out.
+/// Reads the bytes of a source of at most 1,048,576 bytes. It answers the tree of the text where the text is a
+/// program whose expressions are nested at most 200 deep. Otherwise it answers the fault of the first offending
+/// token, with the token's offset: `LeftOut` where the token is left out of the language, or is so in its place;
+/// `BadText` where no program goes on with it, and where the text ends too early, with its length; `TooDeep` where
+/// the nesting including it is above 200. `Memory` comes where memory runs out.
 /// Time and memory grow with the length of the source alone.
 pub fn parse(alloc: Global, bytes: &[u8]) -> Result<Program, TextFault>
     requires { length bytes.now ≤ 1048576 }
@@ -47,17 +59,15 @@ pub fn parse(alloc: Global, bytes: &[u8]) -> Result<Program, TextFault>
     ensures found { IfOk result (λ p. IsTextOf bytes.now (program_tree p)) }
     // The tree of the text is answered, unless memory runs out.
     ensures only { (t : ProgramTree) → IsTextOf bytes.now t → Finds program_tree t result }
-    // Any other text is refused as left out, with the number 0.
-    ensures refused { IfErr result IsRefusal }
+    // A fault that is answered is that of the first offending token.
+    ensures offending { IfErr result (Explains bytes.now) }
+    // The fault of the first offending token is answered, unless memory runs out.
+    ensures only_offending { (f : FaultModel) → IsFault bytes.now f → Refuses f result }
 {
     let tokens = tokens_of(alloc, bytes)?;
-    let node = whole_node(alloc, &tokens)?;
-    let sited = with_sites(alloc, node)?;
-    Ok(Program {
-        types: Many::new(alloc),
-        constants: Many::new(alloc),
-        nodes: only(alloc, sited)?,
-    })
+    let program = whole_program(alloc, &tokens, bytes.len() as u32)?;
+    let sited = with_program_sites(alloc, program)?;
+    Ok(sited)
 }
 
 /// A text has at most one tree.
@@ -65,13 +75,47 @@ pub fn one_tree()
     ensures { (bytes : List ℕ) (t u : ProgramTree) → IsTextOf bytes t → IsTextOf bytes u → t ≡ u }
 {}
 
-/// Tokens are cut by longest match: what begins a text is one token, and no longer front is one.
+/// A text has a tree or one fault, and never both.
+pub fn one_fault()
+    ensures one { (bytes : List ℕ) (f g : FaultModel) → IsFault bytes f → IsFault bytes g → f ≡ g }
+    ensures no_tree { (bytes : List ℕ) (f : FaultModel) (t : ProgramTree) → IsFault bytes f → IsTextOf bytes t → ⊥ }
+{}
+
+/// Each token that is left out, as a word or symbol or in its place, is one at which no program goes on.
+pub fn left_out_is_dead()
+    ensures { (front : List TokenModel) (t : TokenModel) → is_left_out front t ≡ true → IsDead (front ++ t ∷ []) }
+{}
+
+/// In the tree of a text within the limit no list is longer than the text may be.
+pub fn bounded_tree()
+    ensures { (t : ProgramTree) → IsTreeOfText t → IsBounded t }
+{}
+
+/// Tokens are at most one expression.
+pub fn one_expression()
+    ensures { (ts : List TokenModel) (t u : Tree) → IsExprOf t ts → IsExprOf u ts → t ≡ u }
+{}
+
+/// The name of a clock is no call: no expression begins with two names that `when` joins and a bracket.
+pub fn clock_is_no_call()
+    ensures { (a b : NameAt) (at up : ℕ) (more : List TokenModel) (t : Tree) → IsExprOf t (name_token a ∷ fixed mark.When at ∷ name_token b ∷ fixed mark.Open up ∷ more) → ⊥ }
+{}
+
+/// Text is cut by longest match: what begins it is one byte of white space, one comment or one token, and no
+/// longer front is one.
 pub fn longest_match()
     ensures { (text : List ℕ) → 0 < length text → IsLongest text (cut text) }
 {}
 
-/// In the tree of a text within the limit the sites of each node are numbered: its flows come first, and each `pre` has
-/// a later site of its own.
+/// The tokens of a text are those of pieces that make it up, each of which is the longest at its place.
+pub fn whole_text()
+    ensures found { (text : List ℕ) → AreTokens text (tokens text) }
+    // Pieces that make up the text, each the longest, have no other tokens.
+    ensures only { (text : List ℕ) (ts : List TokenModel) → AreTokens text ts → ts ≡ tokens text }
+{}
+
+/// In the tree of a text within the limit the sites of each node are numbered: its flows come first; each `pre`, `current`,
+/// call, comparison and assertion has a later site of its own, in the order of their offsets.
 pub fn numbered_sites()
     ensures { (bytes : List ℕ) (t : ProgramTree) (n : NodeTree) → length bytes ≤ 1048576 → IsTextOf bytes t → Contains t.nodes n → IsNumbered n }
 {}
@@ -83,21 +127,15 @@ pub fn memories_in_order()
     ensures only { (n : NodeTree) (s : ℕ) → Contains (memory_sites n) s → (d : Delay) × Contains (node_delays n) d × (memory_site n d.site d.operand ≡ s) }
 {}
 
-/// The node that all the tokens are.
-fn whole_node(alloc: Global, tokens: &[Token]) -> Result<Node, TextFault>
-    ensures found { IfOk result (λ n. IsNode (node_tree n) tokens.now) }
-    ensures only { (n : NodeTree) → IsNode n tokens.now → Finds node_tree n result }
-    ensures refused { IfErr result IsRefusal }
+/// The program that all the tokens of a text of this length are. Its parts have no sites yet.
+fn whole_program(alloc: Global, tokens: &[Token], len: u32) -> Result<Program, TextFault>
+    ensures found { IfOk result (λ p. reading.program tokens.now ≡ Ok (program_tree p, [])) }
+    ensures refused { IfErr result (Tells tokens.now len (reading.program tokens.now)) }
 {
     let mut parser = Parser::new(tokens);
-    let node = match read_node(alloc, &mut parser) {
-        Ok(node) => node,
-        Err(Stop::Memory) => return Err(TextFault::Memory),
-        Err(Stop::Token(_, _)) => return Err(TextFault::LeftOut(0)),
-    };
-    if parser.is_at_end() {
-        Ok(node)
-    } else {
-        Err(TextFault::LeftOut(0))
+    match read_program(alloc, &mut parser) {
+        Ok(program) => Ok(program),
+        Err(Stop::Token(why, left)) => Err(fault_of(tokens, left, why, len)),
+        Err(Stop::Memory) => Err(TextFault::Memory),
     }
 }

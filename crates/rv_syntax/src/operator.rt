@@ -3,52 +3,57 @@
 ghost use Rattle.std.specs.Prelude.{◌≡◌};
 ghost use Rattle.rv_syntax.specs.Grammar as grammar;
 
+use crate::tree::Op;
+
 /// An operator before its operand.
 #[derive(Clone, Copy, Debug)]
 pub enum Prefix {
     Not,
+    Minus,
     Pre,
+    Current,
 }
 
-/// An operator between two operands.
-#[derive(Clone, Copy, Debug)]
-pub enum Infix {
-    Arrow,
-    Or,
-    And,
+/// The level of an operator between two operands: the higher, the tighter it binds.
+pub fn level(op: Op) -> u8
+    ensures { result ≡ grammar.level_of op }
+{
+    match op {
+        Op::Arrow => 1,
+        Op::Implies => 2,
+        Op::Or | Op::Xor => 3,
+        Op::And => 4,
+        Op::Equal | Op::Differs | Op::Less | Op::AtMost | Op::Greater | Op::AtLeast => 5,
+        Op::Plus | Op::Minus => 6,
+        Op::Times | Op::Slash | Op::Div | Op::Mod => 7,
+    }
 }
 
-impl Infix {
-    /// The level: the higher, the tighter it binds.
-    pub fn level(self) -> u8
-        ensures { result ≡ grammar.level_of self }
-    {
-        match self {
-            Infix::Arrow => 1,
-            Infix::Or => 3,
-            Infix::And => 4,
-        }
+/// The least level of an operand on the left.
+pub fn left_need(op: Op) -> u8
+    ensures { result ≡ grammar.left_level op }
+{
+    match op {
+        Op::Arrow => 2,
+        Op::Implies | Op::Or | Op::Xor => 3,
+        Op::And => 4,
+        Op::Equal | Op::Differs | Op::Less | Op::AtMost | Op::Greater | Op::AtLeast => 6,
+        Op::Plus | Op::Minus => 6,
+        Op::Times | Op::Slash | Op::Div | Op::Mod => 7,
     }
+}
 
-    /// The least level of an operand on the left.
-    pub fn left_need(self) -> u8
-        ensures { result ≡ grammar.left_level self }
-    {
-        match self {
-            Infix::Arrow => 2,
-            Infix::Or => 3,
-            Infix::And => 4,
-        }
-    }
-
-    /// The least level of an operand on the right.
-    pub fn right_need(self) -> u8
-        ensures { result ≡ grammar.right_level self }
-    {
-        match self {
-            Infix::Arrow => 1,
-            Infix::Or => 4,
-            Infix::And => 5,
-        }
+/// The least level of an operand on the right.
+pub fn right_need(op: Op) -> u8
+    ensures { result ≡ grammar.right_level op }
+{
+    match op {
+        Op::Arrow => 1,
+        Op::Implies => 2,
+        Op::Or | Op::Xor => 4,
+        Op::And => 5,
+        Op::Equal | Op::Differs | Op::Less | Op::AtMost | Op::Greater | Op::AtLeast => 6,
+        Op::Plus | Op::Minus => 7,
+        Op::Times | Op::Slash | Op::Div | Op::Mod => 8,
     }
 }

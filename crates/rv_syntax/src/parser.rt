@@ -1,9 +1,9 @@
 //! Reading tokens: single ones, and expressions.
 
-ghost use Rattle.std.specs.Prelude.{⊤, ◌≡◌, ◌≤◌, [], length, IfOk, IfErr, IsTrue, ◌↔◌};
-ghost use Rattle.rv_syntax.specs.Grammar.{Applied, Joined};
+ghost use Rattle.std.specs.Prelude.{⊤, ◌≡◌, ◌<◌, ◌≤◌, ℕ, [], map, length, IfOk, IfErr, IsTrue, ◌↔◌};
+ghost use Rattle.rv_syntax.specs.Grammar.{Applied, Chosen, Function, Hash, Invoked, Joined, Sampled};
 ghost use Rattle.rv_syntax.specs.Machine as machine;
-ghost use Rattle.rv_syntax.specs.Machine.{head, leaf_tree};
+ghost use Rattle.rv_syntax.specs.Machine.{leaf_tree};
 ghost use Rattle.rv_syntax.specs.Marks as marks;
 ghost use Rattle.rv_syntax.specs.Marks.{name_of};
 ghost use Rattle.rv_syntax.specs.Parse.{one, starts};
@@ -11,63 +11,138 @@ ghost use Rattle.rv_syntax.specs.Reads as spec;
 ghost use Rattle.rv_syntax.specs.Tree.{tree_of};
 
 use crate::fault::{Stop, Why};
-use crate::operator::{Infix, Prefix};
+use crate::operator::{Prefix, left_need, level, right_need};
 use crate::token::{Kind, Mark, Token};
 use crate::tree::{Expr, ExprForm, Name, Op};
-use rv_base::Box;
+use rv_base::{Box, Many};
 use std::alloc::Global;
 use std::marker::Model;
 
 /// How deep an expression may be nested.
 const LIMIT: u32 = 200;
 
-/// What a token can be in an expression, an operator with its offset.
+/// What a token is where an operand is wanted, an operator token with its offset.
 #[derive(Clone, Copy, Debug)]
-pub enum Role {
+pub enum Start {
     Operand,
     Before(Prefix, u32),
-    Between(Infix, u32),
     Opens,
-    Closes,
+    Asks(u32),
+    Counts(u32),
     Other,
 }
 
-fn mark_role(mark: Mark, at: u32) -> Role
-    ensures { result ≡ machine.mark_role mark at }
+/// What a token is after an operand, an operator token with its offset.
+#[derive(Clone, Copy, Debug)]
+pub enum Next {
+    Between(Op, u32),
+    Gates(u32),
+    Opens,
+    Closes,
+    Separates,
+    Answers,
+    Otherwise,
+    Other,
+}
+
+/// What goes on with an operand.
+#[derive(Clone, Copy, Debug)]
+pub enum Link {
+    Between(Op, u32),
+    When(u32),
+}
+
+/// An operand that has been read: its level, and whether it ends in an `if` without brackets.
+#[derive(Drop)]
+pub struct Operand {
+    pub tree: Expr,
+    pub level: u8,
+    pub is_open: bool,
+}
+
+fn mark_start(mark: Mark, at: u32) -> Start
+    ensures { result ≡ machine.mark_start mark at }
 {
     match mark {
-        Mark::True | Mark::False => Role::Operand,
-        Mark::Not => Role::Before(Prefix::Not, at),
-        Mark::Pre => Role::Before(Prefix::Pre, at),
-        Mark::Arrow => Role::Between(Infix::Arrow, at),
-        Mark::Or => Role::Between(Infix::Or, at),
-        Mark::And => Role::Between(Infix::And, at),
-        Mark::Open => Role::Opens,
-        Mark::Close => Role::Closes,
-        _ => Role::Other,
+        Mark::True | Mark::False => Start::Operand,
+        Mark::Not => Start::Before(Prefix::Not, at),
+        Mark::Minus => Start::Before(Prefix::Minus, at),
+        Mark::Pre => Start::Before(Prefix::Pre, at),
+        Mark::Current => Start::Before(Prefix::Current, at),
+        Mark::Open => Start::Opens,
+        Mark::If => Start::Asks(at),
+        Mark::Hash => Start::Counts(at),
+        _ => Start::Other,
     }
 }
 
-fn role_of(token: &Token) -> Role
-    ensures { result ≡ machine.role token.now }
+fn start_of(token: &Token) -> Start
+    ensures { result ≡ machine.start_of token.now }
 {
     match &token.kind {
-        Kind::Name(_) => Role::Operand,
-        Kind::Fixed(mark) => mark_role(*mark, token.at),
-        Kind::Other => Role::Other,
+        Kind::Name(_) | Kind::Number(_) => Start::Operand,
+        Kind::Fixed(mark) => mark_start(*mark, token.at),
+        Kind::LeftOut | Kind::Bad => Start::Other,
     }
 }
 
-fn joined(alloc: Global, op: Infix, at: u32, left: Expr, right: Expr) -> Result<Expr, Stop>
+fn mark_next(mark: Mark, at: u32) -> Next
+    ensures { result ≡ machine.mark_next mark at }
+{
+    match mark {
+        Mark::Arrow => Next::Between(Op::Arrow, at),
+        Mark::Implies => Next::Between(Op::Implies, at),
+        Mark::Or => Next::Between(Op::Or, at),
+        Mark::Xor => Next::Between(Op::Xor, at),
+        Mark::And => Next::Between(Op::And, at),
+        Mark::Equal => Next::Between(Op::Equal, at),
+        Mark::Differs => Next::Between(Op::Differs, at),
+        Mark::Less => Next::Between(Op::Less, at),
+        Mark::AtMost => Next::Between(Op::AtMost, at),
+        Mark::Greater => Next::Between(Op::Greater, at),
+        Mark::AtLeast => Next::Between(Op::AtLeast, at),
+        Mark::Plus => Next::Between(Op::Plus, at),
+        Mark::Minus => Next::Between(Op::Minus, at),
+        Mark::Times => Next::Between(Op::Times, at),
+        Mark::Slash => Next::Between(Op::Slash, at),
+        Mark::Div => Next::Between(Op::Div, at),
+        Mark::Mod => Next::Between(Op::Mod, at),
+        Mark::When => Next::Gates(at),
+        Mark::Open => Next::Opens,
+        Mark::Close => Next::Closes,
+        Mark::Comma => Next::Separates,
+        Mark::Then => Next::Answers,
+        Mark::Else => Next::Otherwise,
+        _ => Next::Other,
+    }
+}
+
+fn next_of(token: &Token) -> Next
+    ensures { result ≡ machine.next_of token.now }
+{
+    match &token.kind {
+        Kind::Fixed(mark) => mark_next(*mark, token.at),
+        Kind::Name(_) | Kind::Number(_) | Kind::LeftOut | Kind::Bad => Next::Other,
+    }
+}
+
+fn joined(alloc: Global, op: Op, at: u32, left: Expr, right: Expr) -> Result<Expr, Stop>
     ensures value { IfOk result (λ e. tree_of e ≡ Joined op at (tree_of left) (tree_of right)) }
     ensures memory { IfErr result (λ e. e ≡ Stop.Memory) }
 {
-    let op = match op {
-        Infix::Arrow => Op::Arrow,
-        Infix::Or => Op::Or,
-        Infix::And => Op::And,
-    };
     let form = ExprForm::Binary(op, Box::new(alloc, left)?, Box::new(alloc, right)?);
+    Ok(Expr {
+        at,
+        site: None,
+        form,
+    })
+}
+
+fn sampled(alloc: Global, at: u32, operand: Expr, clock: Name) -> Result<Expr, Stop>
+    ensures value { IfOk result (λ e. tree_of e ≡ Sampled at (tree_of operand) clock) }
+    ensures memory { IfErr result (λ e. e ≡ Stop.Memory) }
+{
+    let form = ExprForm::When(Box::new(alloc, operand)?, clock);
     Ok(Expr {
         at,
         site: None,
@@ -82,13 +157,48 @@ fn applied(alloc: Global, op: Prefix, at: u32, operand: Expr) -> Result<Expr, St
     let operand = Box::new(alloc, operand)?;
     let form = match op {
         Prefix::Not => ExprForm::Not(operand),
+        Prefix::Minus => ExprForm::Minus(operand),
         Prefix::Pre => ExprForm::Pre(operand),
+        Prefix::Current => ExprForm::Current(operand),
     };
     Ok(Expr {
         at,
         site: None,
         form,
     })
+}
+
+fn chosen(alloc: Global, at: u32, test: Expr, yes: Expr, no: Expr) -> Result<Expr, Stop>
+    ensures value { IfOk result (λ e. tree_of e ≡ Chosen at (tree_of test) (tree_of yes) (tree_of no)) }
+    ensures memory { IfErr result (λ e. e ≡ Stop.Memory) }
+{
+    let test = Box::new(alloc, test)?;
+    let form = ExprForm::If(test, Box::new(alloc, yes)?, Box::new(alloc, no)?);
+    Ok(Expr {
+        at,
+        site: None,
+        form,
+    })
+}
+
+fn called(name: Name, arguments: Many<Expr>) -> Expr
+    ensures { tree_of result ≡ Invoked (Function name) (map tree_of arguments) }
+{
+    Expr {
+        at: name.at,
+        site: None,
+        form: ExprForm::Call(name.text, arguments),
+    }
+}
+
+fn counted(at: u32, arguments: Many<Expr>) -> Expr
+    ensures { tree_of result ≡ Invoked (Hash at) (map tree_of arguments) }
+{
+    Expr {
+        at,
+        site: None,
+        form: ExprForm::AtMostOne(arguments),
+    }
 }
 
 /// The expression of a token that is a literal or a name.
@@ -98,6 +208,7 @@ fn leaf_of(alloc: Global, token: &Token) -> Result<Expr, Stop>
 {
     let form = match &token.kind {
         Kind::Name(text) => ExprForm::Named(text.clone()?),
+        Kind::Number(number) => ExprForm::Number(*number),
         Kind::Fixed(Mark::True) => ExprForm::True,
         _ => ExprForm::False,
     };
@@ -115,23 +226,50 @@ fn number_of(mark: Mark) -> u8
     match mark {
         Mark::Node => 0,
         Mark::Returns => 1,
-        Mark::Let => 2,
-        Mark::Tel => 3,
-        Mark::Bool => 4,
-        Mark::True => 5,
-        Mark::False => 6,
-        Mark::Not => 7,
-        Mark::Or => 8,
-        Mark::And => 9,
-        Mark::Open => 10,
-        Mark::Close => 11,
-        Mark::Comma => 12,
-        Mark::Semi => 13,
-        Mark::Colon => 14,
-        Mark::Equal => 15,
-        Mark::Var => 16,
-        Mark::Pre => 17,
-        Mark::Arrow => 18,
+        Mark::Var => 2,
+        Mark::Let => 3,
+        Mark::Tel => 4,
+        Mark::Const => 5,
+        Mark::Type => 6,
+        Mark::Enum => 7,
+        Mark::Bool => 8,
+        Mark::Int => 9,
+        Mark::If => 10,
+        Mark::Then => 11,
+        Mark::Else => 12,
+        Mark::True => 13,
+        Mark::False => 14,
+        Mark::Not => 15,
+        Mark::And => 16,
+        Mark::Or => 17,
+        Mark::Xor => 18,
+        Mark::Pre => 19,
+        Mark::When => 20,
+        Mark::Current => 21,
+        Mark::Assert => 22,
+        Mark::Div => 23,
+        Mark::Mod => 24,
+        Mark::Arrow => 25,
+        Mark::Implies => 26,
+        Mark::Differs => 27,
+        Mark::AtMost => 28,
+        Mark::AtLeast => 29,
+        Mark::Less => 30,
+        Mark::Greater => 31,
+        Mark::Equal => 32,
+        Mark::Plus => 33,
+        Mark::Minus => 34,
+        Mark::Times => 35,
+        Mark::Slash => 36,
+        Mark::Open => 37,
+        Mark::Close => 38,
+        Mark::Comma => 39,
+        Mark::Semi => 40,
+        Mark::Colon => 41,
+        Mark::OpenBrace => 42,
+        Mark::CloseBrace => 43,
+        Mark::Hash => 44,
+        Mark::Dot => 45,
     }
 }
 
@@ -173,23 +311,7 @@ impl<'a> Parser<'a> {
     pub fn name(&mut self, alloc: Global) -> Result<Name, Stop>
         ensures { spec.Reads (spec.same {A = Name}) (one name_of self.old.rest) result self.new.rest }
     {
-        match self.tokens {
-            [
-                Token {
-                    kind: Kind::Name(text),
-                    at,
-                },
-                rest @ ..,
-            ] => {
-                let name = Name {
-                    text: text.clone()?,
-                    at: *at,
-                };
-                self.tokens = rest;
-                Ok(name)
-            }
-            _ => Err(self.fault()),
-        }
+        self.inner_name(alloc)
     }
 
     /// Whether the next token is this word or symbol.
@@ -216,10 +338,17 @@ impl<'a> Parser<'a> {
     pub fn expect(&mut self, mark: Mark) -> Result<(), Stop>
         ensures { spec.Reads (spec.same {A = ⊤}) (one (marks.has_mark mark) self.old.rest) result self.new.rest }
     {
+        self.pass(mark)
+    }
+
+    /// Takes this word or symbol, and answers its offset.
+    pub fn mark(&mut self, mark: Mark) -> Result<u32, Stop>
+        ensures { spec.Reads (spec.same {A = ℕ}) (one (marks.mark_at mark) self.old.rest) result self.new.rest }
+    {
         match self.tokens {
             [token, rest @ ..] if is_mark(mark, token) => {
                 self.tokens = rest;
-                Ok(())
+                Ok(token.at)
             }
             _ => Err(self.fault()),
         }
@@ -229,8 +358,9 @@ impl<'a> Parser<'a> {
     pub fn expression(&mut self, alloc: Global) -> Result<Expr, Stop>
         ensures { spec.Reads tree_of (spec.expression self.old.rest) result self.new.rest }
     {
-        self.nesting = 0;
-        self.expr(alloc, 0)
+        self.set_depth(0);
+        let read = self.expr(alloc, 0)?;
+        Ok(read.tree)
     }
 
     /// Whether no token is left.
@@ -240,13 +370,23 @@ impl<'a> Parser<'a> {
         self.tokens.is_empty()
     }
 
-    /// What the next token is.
-    fn peek(&self) -> Role
-        ensures { result ≡ head self.now.rest }
+    /// What the next token is where an operand is wanted.
+    fn starting(&self) -> Start
+        ensures { result ≡ machine.starting self.now.rest }
     {
         match self.tokens {
-            [] => Role::Other,
-            [token, ..] => role_of(token),
+            [] => Start::Other,
+            [token, ..] => start_of(token),
+        }
+    }
+
+    /// What the next token is after an operand.
+    fn following(&self) -> Next
+        ensures { result ≡ machine.following self.now.rest }
+    {
+        match self.tokens {
+            [] => Next::Other,
+            [token, ..] => next_of(token),
         }
     }
 
@@ -285,15 +425,54 @@ impl<'a> Parser<'a> {
         }
     }
 
-    /// The next token, if it is an operator that goes on with an operand of level `floor` where one of
-    /// level `least` is wanted.
-    fn sees_operator(&self, least: u8, floor: u8) -> Option<(Infix, u32)>
-        ensures { spec.SeesOperator least floor self.now result }
+    /// Takes a name within an expression.
+    fn inner_name(&mut self, alloc: Global) -> Result<Name, Stop>
+        ensures shorter { length self.new.rest ≤ length self.old.rest }
+        ensures takes { spec.TakesName self.old result self.new }
     {
-        match self.peek() {
-            Role::Between(op, at) if least <= op.level() && op.left_need() <= floor => Some((
-                op, at,
-            )),
+        match self.tokens {
+            [
+                Token {
+                    kind: Kind::Name(text),
+                    at,
+                },
+                rest @ ..,
+            ] => {
+                let name = Name {
+                    text: text.clone()?,
+                    at: *at,
+                };
+                self.tokens = rest;
+                Ok(name)
+            }
+            _ => Err(self.fault()),
+        }
+    }
+
+    /// Whether a name and an opening bracket are next.
+    fn sees_call(&self) -> bool
+        ensures { result ≡ spec.starts_call self.now.rest }
+    {
+        match self.tokens {
+            [name, bracket, ..] => {
+                matches!(name.kind, Kind::Name(_)) && is_mark(Mark::Open, bracket)
+            }
+            _ => false,
+        }
+    }
+
+    /// The next token, if it goes on with an operand where one of level `least` is wanted.
+    fn link(&self, least: u8, left: &Operand) -> Option<Link>
+        ensures { spec.SeesLink least (spec.held_of left.now) self.now result }
+    {
+        if left.is_open {
+            return None;
+        }
+        match self.following() {
+            Next::Between(op, at) if least <= level(op) && left_need(op) <= left.level => Some(
+                Link::Between(op, at),
+            ),
+            Next::Gates(at) if least <= 8 && 8 <= left.level => Some(Link::When(at)),
             _ => None,
         }
     }
@@ -324,60 +503,211 @@ impl<'a> Parser<'a> {
         self.nesting = depth;
     }
 
-    /// Takes a closing bracket, outside which the nesting is `outside`.
-    fn close(&mut self, outside: u32) -> bool
-        requires { outside ≤ 200 }
-        ensures { spec.TakesClose outside self.old result self.new }
+    /// Takes this word, which leaves the nesting as it is.
+    fn pass(&mut self, mark: Mark) -> Result<(), Stop>
+        ensures { spec.Passes mark self.old result self.new }
     {
-        if self.sees(Mark::Close) {
+        match self.tokens {
+            [token, rest @ ..] if is_mark(mark, token) => {
+                self.tokens = rest;
+                Ok(())
+            }
+            _ => Err(self.fault()),
+        }
+    }
+
+    /// Takes this symbol, if it is next, behind which the nesting is `depth`.
+    fn takes(&mut self, mark: Mark, depth: u32) -> bool
+        requires { depth ≤ 200 }
+        ensures { spec.TakesMark mark depth self.old result self.new }
+    {
+        if self.sees(mark) {
             self.skip();
-            self.set_depth(outside);
+            self.set_depth(depth);
             true
         } else {
             false
         }
     }
 
-    /// An operand, and its level.
+    /// An operand.
     #[cycle(parser)]
-    fn operand(&mut self, alloc: Global) -> Result<(Expr, u8), Stop>
+    fn operand(&mut self, alloc: Global) -> Result<Operand, Stop>
         ensures shorter { length self.new.rest ≤ length self.old.rest }
         ensures reads { spec.ReadsOperand self.old result self.new }
     {
-        match self.peek() {
-            Role::Operand => Ok((self.leaf(alloc)?, 10)),
-            Role::Before(op, at) => {
-                self.enter()?;
-                let inner = self.expr(alloc, 9)?;
-                Ok((applied(alloc, op, at, inner)?, 9))
+        match self.starting() {
+            Start::Operand => self.named(alloc),
+            Start::Before(op, at) => self.prefixed(alloc, op, at),
+            Start::Opens => self.bracketed(alloc),
+            Start::Asks(at) => self.choice(alloc, at),
+            Start::Counts(at) => self.hashed(alloc, at),
+            Start::Other => Err(self.fault()),
+        }
+    }
+
+    /// A literal, a name or a call.
+    #[cycle(parser)]
+    fn named(&mut self, alloc: Global) -> Result<Operand, Stop>
+        requires { machine.starting self.old.rest ≡ Start.Operand }
+        ensures shorter { length self.new.rest ≤ length self.old.rest }
+        ensures reads { spec.ReadsOperand self.old result self.new }
+    {
+        if self.sees_call() {
+            let name = self.inner_name(alloc)?;
+            let outside = self.depth();
+            self.enter()?;
+            let arguments = self.arguments(alloc, outside)?;
+            return Ok(Operand {
+                tree: called(name, arguments),
+                level: 10,
+                is_open: false,
+            });
+        }
+        let leaf = self.leaf(alloc)?;
+        Ok(Operand {
+            tree: leaf,
+            level: 10,
+            is_open: false,
+        })
+    }
+
+    /// A prefix and its operand.
+    #[cycle(parser)]
+    fn prefixed(&mut self, alloc: Global, op: Prefix, at: u32) -> Result<Operand, Stop>
+        requires { machine.starting self.old.rest ≡ Start.Before op at }
+        ensures shorter { length self.new.rest ≤ length self.old.rest }
+        ensures reads { spec.ReadsOperand self.old result self.new }
+    {
+        self.enter()?;
+        let inner = self.expr(alloc, 9)?;
+        Ok(Operand {
+            tree: applied(alloc, op, at, inner.tree)?,
+            level: 9,
+            is_open: inner.is_open,
+        })
+    }
+
+    /// An expression in brackets.
+    #[cycle(parser)]
+    fn bracketed(&mut self, alloc: Global) -> Result<Operand, Stop>
+        requires { machine.starting self.old.rest ≡ Start.Opens }
+        ensures shorter { length self.new.rest ≤ length self.old.rest }
+        ensures reads { spec.ReadsOperand self.old result self.new }
+    {
+        let outside = self.depth();
+        self.enter()?;
+        let inner = self.expr(alloc, 0)?;
+        if self.takes(Mark::Close, outside) {
+            Ok(Operand {
+                tree: inner.tree,
+                level: 10,
+                is_open: false,
+            })
+        } else {
+            Err(self.fault())
+        }
+    }
+
+    /// An `if` with its three parts.
+    #[cycle(parser)]
+    fn choice(&mut self, alloc: Global, at: u32) -> Result<Operand, Stop>
+        requires { machine.starting self.old.rest ≡ Start.Asks at }
+        ensures shorter { length self.new.rest ≤ length self.old.rest }
+        ensures reads { spec.ReadsOperand self.old result self.new }
+    {
+        self.enter()?;
+        let test = self.expr(alloc, 0)?;
+        self.pass(Mark::Then)?;
+        let yes = self.expr(alloc, 0)?;
+        self.pass(Mark::Else)?;
+        let no = self.expr(alloc, 0)?;
+        Ok(Operand {
+            tree: chosen(alloc, at, test.tree, yes.tree, no.tree)?,
+            level: 10,
+            is_open: true,
+        })
+    }
+
+    /// A `#` with its arguments.
+    #[cycle(parser)]
+    fn hashed(&mut self, alloc: Global, at: u32) -> Result<Operand, Stop>
+        requires { machine.starting self.old.rest ≡ Start.Counts at }
+        ensures shorter { length self.new.rest ≤ length self.old.rest }
+        ensures reads { spec.ReadsOperand self.old result self.new }
+    {
+        self.enter()?;
+        if !self.sees(Mark::Open) {
+            return Err(self.fault());
+        }
+        let outside = self.depth();
+        self.enter()?;
+        let arguments = self.arguments(alloc, outside)?;
+        Ok(Operand {
+            tree: counted(at, arguments),
+            level: 10,
+            is_open: false,
+        })
+    }
+
+    /// The arguments behind an opening bracket, and the closing one, outside which the nesting is `outside`.
+    #[cycle(parser)]
+    fn arguments(&mut self, alloc: Global, outside: u32) -> Result<Many<Expr>, Stop>
+        requires { outside < 200 }
+        ensures shorter { length self.new.rest ≤ length self.old.rest }
+        ensures reads { spec.ReadsArguments outside self.old result self.new }
+    {
+        let mut arguments = Many::new(alloc);
+        let mut last = self.expr(alloc, 0)?;
+        'more: while self.takes(Mark::Comma, outside + 1) {
+            arguments.push(last.tree)?;
+            last = self.expr(alloc, 0)?;
+        }
+        arguments.push(last.tree)?;
+        if self.takes(Mark::Close, outside) {
+            Ok(arguments)
+        } else {
+            Err(self.fault())
+        }
+    }
+
+    /// What stands behind an operator or a `when` that goes on with an operand.
+    #[cycle(parser)]
+    fn linked(&mut self, alloc: Global, link: Link, left: Operand) -> Result<Operand, Stop>
+        ensures shorter { length self.new.rest ≤ length self.old.rest }
+        ensures reads { spec.ReadsAs self.old (spec.linked link (spec.held_of left)) result self.new }
+    {
+        match link {
+            Link::Between(op, at) => {
+                let right = self.expr(alloc, right_need(op))?;
+                Ok(Operand {
+                    tree: joined(alloc, op, at, left.tree, right.tree)?,
+                    level: level(op),
+                    is_open: right.is_open,
+                })
             }
-            Role::Opens => {
-                let outside = self.depth();
-                self.enter()?;
-                let inner = self.expr(alloc, 0)?;
-                if self.close(outside) {
-                    Ok((inner, 10))
-                } else {
-                    Err(self.fault())
-                }
+            Link::When(at) => {
+                let clock = self.inner_name(alloc)?;
+                Ok(Operand {
+                    tree: sampled(alloc, at, left.tree, clock)?,
+                    level: 8,
+                    is_open: false,
+                })
             }
-            _ => Err(self.fault()),
         }
     }
 
     /// An expression in which no operator outside brackets is below the level `least`. Each call of itself
     /// stands behind a token that is counted, so no more than 201 are open at once.
     #[cycle(parser)]
-    fn expr(&mut self, alloc: Global, least: u8) -> Result<Expr, Stop>
+    fn expr(&mut self, alloc: Global, least: u8) -> Result<Operand, Stop>
         ensures shorter { length self.new.rest ≤ length self.old.rest }
         ensures reads { spec.ReadsExpr least self.old result self.new }
     {
-        let (mut left, mut floor) = self.operand(alloc)?;
-        'more: while let Some((op, at)) = self.sees_operator(least, floor) {
+        let mut left = self.operand(alloc)?;
+        'more: while let Some(link) = self.link(least, &left) {
             self.enter()?;
-            let right = self.expr(alloc, op.right_need())?;
-            left = joined(alloc, op, at, left, right)?;
-            floor = op.level();
+            left = self.linked(alloc, link, left)?;
         }
         Ok(left)
     }

@@ -1,47 +1,58 @@
 //! Reading the rules of a program's text.
 
-ghost use Rattle.std.specs.Prelude.{◌≡◌, [], ◌∷◌, List, IfOk, map};
-ghost use Rattle.rv_syntax.specs.ProgramText.{flow};
+ghost use Rattle.std.specs.Prelude.{⊤, ◌≡◌, ◌++◌, [], ◌∷◌, List, Option, None, IfOk, OnOk, map};
+ghost use Rattle.rv_syntax.specs.Parse.{maybe, starts};
+ghost use Rattle.rv_syntax.specs.Marks.{is_mark};
+ghost use Rattle.rv_syntax.specs.ProgramText.{all_flows, flow, flows_of, joined};
+ghost use Rattle.rv_syntax.specs.declared.tree.Decl.{Decl as DeclModel};
 ghost use Rattle.rv_syntax.specs.Reading as spec;
 ghost use Rattle.rv_syntax.specs.Reads.{Reads, same};
-ghost use Rattle.rv_syntax.specs.Tree.{equation_tree, node_tree};
+ghost use Rattle.rv_syntax.specs.Tree.{assertion_tree, constant_tree, equation_tree, node_tree, program_tree, tree_of};
 
 use crate::fault::Stop;
 use crate::parser::Parser;
 use crate::token::Mark;
-use crate::tree::{Decl, Equation, Name, Node, TypeName};
+use crate::tree::{
+    Assertion, ConstDecl, Decl, Equation, Expr, Name, Node, Program, TypeBody, TypeDecl, TypeName,
+};
 use rv_base::Many;
 use std::alloc::{AllocError, Global};
 
+/// Names of flows, and their type.
+#[derive(Drop)]
+pub struct Group {
+    pub names: Many<Name>,
+    pub kind: TypeName,
+}
+
+/// Names of local flows, their type, and their clock where it is written.
+#[derive(Drop)]
+pub struct Local {
+    pub group: Group,
+    pub clock: Option<Name>,
+}
+
+/// What the body of a node is made of.
+#[derive(Drop)]
+pub enum Statement {
+    Equation(Equation),
+    Assertion(Assertion),
+}
+
+/// The body of a node.
+#[derive(Drop)]
+pub struct Body {
+    pub equations: Many<Equation>,
+    pub assertions: Many<Assertion>,
+}
+
 /// The list of one element.
-pub fn only<T: Drop>(alloc: Global, element: T) -> Result<Many<T>, AllocError>
+fn only<T: Drop>(alloc: Global, element: T) -> Result<Many<T>, AllocError>
     ensures { IfOk result (λ many. many ≡ element ∷ []) }
 {
     let mut many = Many::new(alloc);
     many.push(element)?;
     Ok(many)
-}
-
-/// The declaration of a Boolean flow without a clock.
-fn flow_of(name: Name) -> Decl
-    ensures { result ≡ flow name }
-{
-    Decl {
-        name,
-        kind: TypeName::Bool,
-        clock: None,
-    }
-}
-
-/// The declarations of Boolean flows without a clock.
-fn flows_of(alloc: Global, names: Many<Name>) -> Result<Many<Decl>, AllocError>
-    ensures { IfOk result (λ flows. flows ≡ map flow names) }
-{
-    let mut flows = Many::new(alloc);
-    'each: for name in names.into_vec() {
-        flows.push(flow_of(name))?;
-    }
-    Ok(flows)
 }
 
 /// A comma and a name.
@@ -69,48 +80,453 @@ fn read_next_names(
 }
 
 /// Names with commas between them.
-#[tactic(auto, unfolding(crate::specs::Reading::all_names))]
+#[tactic(auto, unfolding(crate::specs::Reading::names))]
 fn read_names(alloc: Global, parser: &mut Parser<'_>) -> Result<Many<Name>, Stop>
-    ensures { Reads (same {A = List Name}) (spec.all_names parser.old.rest) result parser.new.rest }
+    ensures { Reads (same {A = List Name}) (spec.names parser.old.rest) result parser.new.rest }
 {
     let first = parser.name(alloc)?;
     let found = only(alloc, first)?;
     read_next_names(alloc, parser, found)
 }
 
-/// Names, a colon and `bool`.
-#[tactic(auto, unfolding(crate::specs::Reading::group))]
-fn read_group(alloc: Global, parser: &mut Parser<'_>) -> Result<Many<Decl>, Stop>
-    ensures { Reads (same {A = List Decl}) (spec.group parser.old.rest) result parser.new.rest }
+/// `bool`, `int` or the name of a type.
+#[tactic(auto, unfolding(crate::specs::Reading::kind))]
+fn read_kind(alloc: Global, parser: &mut Parser<'_>) -> Result<TypeName, Stop>
+    ensures { Reads (same {A = TypeName}) (spec.kind parser.old.rest) result parser.new.rest }
 {
-    let names = read_names(alloc, parser)?;
-    parser.expect(Mark::Colon)?;
-    parser.expect(Mark::Bool)?;
-    Ok(flows_of(alloc, names)?)
+    if parser.sees(Mark::Bool) {
+        parser.expect(Mark::Bool)?;
+        Ok(TypeName::Bool)
+    } else if parser.sees(Mark::Int) {
+        parser.expect(Mark::Int)?;
+        Ok(TypeName::Int)
+    } else {
+        Ok(TypeName::Named(parser.name(alloc)?))
+    }
 }
 
-/// A name, a colon and `bool`.
-#[tactic(auto, unfolding(crate::specs::Reading::output))]
-fn read_output(alloc: Global, parser: &mut Parser<'_>) -> Result<Decl, Stop>
-    ensures { Reads (same {A = Decl}) (spec.output parser.old.rest) result parser.new.rest }
+/// `enum` and the labels in braces.
+#[tactic(auto, unfolding(crate::specs::Reading::enumeration))]
+fn read_enumeration(alloc: Global, parser: &mut Parser<'_>) -> Result<TypeBody, Stop>
+    ensures { Reads (same {A = TypeBody}) (spec.enumeration parser.old.rest) result parser.new.rest }
+{
+    parser.expect(Mark::Enum)?;
+    parser.expect(Mark::OpenBrace)?;
+    let labels = read_names(alloc, parser)?;
+    parser.expect(Mark::CloseBrace)?;
+    Ok(TypeBody::Labels(labels))
+}
+
+/// An enumeration, or another name for a type.
+#[tactic(auto, unfolding(crate::specs::Reading::type_body))]
+fn read_type_body(alloc: Global, parser: &mut Parser<'_>) -> Result<TypeBody, Stop>
+    ensures { Reads (same {A = TypeBody}) (spec.type_body parser.old.rest) result parser.new.rest }
+{
+    if parser.sees(Mark::Enum) {
+        read_enumeration(alloc, parser)
+    } else {
+        Ok(TypeBody::Alias(read_kind(alloc, parser)?))
+    }
+}
+
+/// The declaration of one type.
+#[tactic(auto, unfolding(crate::specs::Reading::one_type))]
+fn read_type(alloc: Global, parser: &mut Parser<'_>) -> Result<TypeDecl, Stop>
+    ensures { Reads (same {A = TypeDecl}) (spec.one_type parser.old.rest) result parser.new.rest }
 {
     let name = parser.name(alloc)?;
-    parser.expect(Mark::Colon)?;
-    parser.expect(Mark::Bool)?;
-    Ok(flow_of(name))
+    parser.expect(Mark::Equal)?;
+    let body = read_type_body(alloc, parser)?;
+    parser.expect(Mark::Semi)?;
+    Ok(TypeDecl { name, body })
 }
 
-/// An equation with one left side.
-#[tactic(auto, unfolding(crate::specs::Reading::equation))]
-fn read_equation(alloc: Global, parser: &mut Parser<'_>) -> Result<Equation, Stop>
-    ensures { Reads equation_tree (spec.equation parser.old.rest) result parser.new.rest }
+/// Declarations of types, as long as there is a name, after those that were found before.
+fn read_next_types(
+    alloc: Global,
+    parser: &mut Parser<'_>,
+    found: Many<TypeDecl>,
+) -> Result<Many<TypeDecl>, Stop>
+    ensures { Reads (same {A = List TypeDecl}) (spec.with_front found (spec.next_types parser.old.rest)) result parser.new.rest }
 {
-    let left = parser.name(alloc)?;
+    let mut found = found;
+    'more: while parser.sees_name() {
+        found.push(read_type(alloc, parser)?)?;
+    }
+    Ok(found)
+}
+
+/// `type` and declarations of types, after those that were found before.
+#[tactic(auto, unfolding(crate::specs::Reading::types))]
+fn read_types(
+    alloc: Global,
+    parser: &mut Parser<'_>,
+    found: Many<TypeDecl>,
+) -> Result<Many<TypeDecl>, Stop>
+    ensures { Reads (same {A = List TypeDecl}) (spec.with_front found (spec.types parser.old.rest)) result parser.new.rest }
+{
+    parser.expect(Mark::Type)?;
+    let mut found = found;
+    found.push(read_type(alloc, parser)?)?;
+    read_next_types(alloc, parser, found)
+}
+
+/// `=`, an expression and a semicolon.
+#[tactic(auto, unfolding(crate::specs::Reading::right))]
+fn read_right(alloc: Global, parser: &mut Parser<'_>) -> Result<Expr, Stop>
+    ensures { Reads tree_of (spec.right parser.old.rest) result parser.new.rest }
+{
     parser.expect(Mark::Equal)?;
     let right = parser.expression(alloc)?;
     parser.expect(Mark::Semi)?;
-    let lefts = only(alloc, left)?;
-    Ok(Equation { lefts, right })
+    Ok(right)
+}
+
+/// A colon and a type, where there is a colon.
+#[tactic(auto, unfolding(crate::specs::Reading::written_kind))]
+fn read_written_kind(alloc: Global, parser: &mut Parser<'_>) -> Result<Option<TypeName>, Stop>
+    ensures { Reads (same {A = Option TypeName}) (spec.written_kind parser.old.rest) result parser.new.rest }
+{
+    if parser.sees(Mark::Colon) {
+        parser.expect(Mark::Colon)?;
+        Ok(Some(read_kind(alloc, parser)?))
+    } else {
+        Ok(None)
+    }
+}
+
+/// The declaration of one constant.
+#[tactic(auto, unfolding(crate::specs::Reading::constant))]
+fn read_constant(alloc: Global, parser: &mut Parser<'_>) -> Result<ConstDecl, Stop>
+    ensures { Reads constant_tree (spec.constant parser.old.rest) result parser.new.rest }
+{
+    let name = parser.name(alloc)?;
+    let kind = read_written_kind(alloc, parser)?;
+    let body = read_right(alloc, parser)?;
+    Ok(ConstDecl { name, kind, body })
+}
+
+/// Declarations of constants, as long as there is a name, after those that were found before.
+fn read_next_constants(
+    alloc: Global,
+    parser: &mut Parser<'_>,
+    found: Many<ConstDecl>,
+) -> Result<Many<ConstDecl>, Stop>
+    ensures { Reads (map constant_tree) (spec.with_front (map constant_tree found) (spec.next_constants parser.old.rest)) result parser.new.rest }
+{
+    let mut found = found;
+    'more: while parser.sees_name() {
+        found.push(read_constant(alloc, parser)?)?;
+    }
+    Ok(found)
+}
+
+/// `const` and declarations of constants, after those that were found before.
+#[tactic(auto, unfolding(crate::specs::Reading::constants))]
+fn read_constants(
+    alloc: Global,
+    parser: &mut Parser<'_>,
+    found: Many<ConstDecl>,
+) -> Result<Many<ConstDecl>, Stop>
+    ensures { Reads (map constant_tree) (spec.with_front (map constant_tree found) (spec.constants parser.old.rest)) result parser.new.rest }
+{
+    parser.expect(Mark::Const)?;
+    let mut found = found;
+    found.push(read_constant(alloc, parser)?)?;
+    read_next_constants(alloc, parser, found)
+}
+
+/// A name in memory of its own.
+fn copied_name(name: &Name) -> Result<Name, AllocError>
+    ensures { IfOk result (λ copy. copy ≡ name.now) }
+{
+    Ok(Name {
+        text: name.text.clone()?,
+        at: name.at,
+    })
+}
+
+/// A type in memory of its own.
+fn copied_kind(kind: &TypeName) -> Result<TypeName, AllocError>
+    ensures { IfOk result (λ copy. copy ≡ kind.now) }
+{
+    match kind {
+        TypeName::Bool => Ok(TypeName::Bool),
+        TypeName::Int => Ok(TypeName::Int),
+        TypeName::Named(name) => Ok(TypeName::Named(copied_name(name)?)),
+    }
+}
+
+/// A clock in memory of its own, where there is one.
+fn copied_clock(clock: &Option<Name>) -> Result<Option<Name>, AllocError>
+    ensures { IfOk result (λ copy. copy ≡ clock.now) }
+{
+    match clock {
+        Some(name) => Ok(Some(copied_name(name)?)),
+        None => Ok(None),
+    }
+}
+
+/// The declaration of a flow of this type, on this clock where it has one.
+fn flow_of(kind: &TypeName, clock: &Option<Name>, name: Name) -> Result<Decl, AllocError>
+    ensures { IfOk result (λ decl. decl ≡ flow kind.now clock.now name) }
+{
+    Ok(Decl {
+        name,
+        kind: copied_kind(kind)?,
+        clock: copied_clock(clock)?,
+    })
+}
+
+/// The flows of a group on this clock where it has one, behind those that were found before.
+fn with_flows(
+    found: Many<Decl>,
+    group: Group,
+    clock: Option<Name>,
+) -> Result<Many<Decl>, AllocError>
+    ensures { IfOk result (λ flows. flows ≡ found ++ flows_of (spec.group_of group) clock) }
+{
+    let Group { names, kind } = group;
+    let mut found = found;
+    'each: for name in names.into_vec() {
+        found.push(flow_of(&kind, &clock, name)?)?;
+    }
+    Ok(found)
+}
+
+/// Names, a colon and a type.
+#[tactic(auto, unfolding(crate::specs::Reading::group))]
+fn read_group(alloc: Global, parser: &mut Parser<'_>) -> Result<Group, Stop>
+    ensures { Reads spec.group_of (spec.group parser.old.rest) result parser.new.rest }
+{
+    let names = read_names(alloc, parser)?;
+    parser.expect(Mark::Colon)?;
+    let kind = read_kind(alloc, parser)?;
+    Ok(Group { names, kind })
+}
+
+/// A semicolon, and a group where there is a name.
+#[tactic(auto, unfolding(crate::specs::Reading::next_group))]
+fn read_next_group(alloc: Global, parser: &mut Parser<'_>) -> Result<Option<Group>, Stop>
+    ensures { Reads spec.some_group (spec.next_group parser.old.rest) result parser.new.rest }
+{
+    parser.expect(Mark::Semi)?;
+    if parser.sees_name() {
+        Ok(Some(read_group(alloc, parser)?))
+    } else {
+        Ok(None)
+    }
+}
+
+/// The flows of groups behind semicolons, after those that were found before. A semicolon may end them.
+fn read_next_groups(
+    alloc: Global,
+    parser: &mut Parser<'_>,
+    found: Many<Decl>,
+) -> Result<Many<Decl>, Stop>
+    ensures { Reads (same {A = List DeclModel}) (spec.mapped (λ more. found ++ all_flows more) (spec.next_groups parser.old.rest)) result parser.new.rest }
+{
+    let mut found = found;
+    'more: while parser.sees(Mark::Semi) {
+        match read_next_group(alloc, parser)? {
+            Some(group) => found = with_flows(found, group, None)?,
+            None => return Ok(found),
+        }
+    }
+    Ok(found)
+}
+
+/// The flows of groups with semicolons between them.
+#[tactic(auto, unfolding(crate::specs::Reading::decls))]
+fn read_decls(alloc: Global, parser: &mut Parser<'_>) -> Result<Many<Decl>, Stop>
+    ensures { Reads (same {A = List DeclModel}) (spec.decls parser.old.rest) result parser.new.rest }
+{
+    let group = read_group(alloc, parser)?;
+    let found = with_flows(Many::new(alloc), group, None)?;
+    read_next_groups(alloc, parser, found)
+}
+
+/// `when` and the name of a clock.
+#[tactic(auto, unfolding(crate::specs::Reading::clock))]
+fn read_clock(alloc: Global, parser: &mut Parser<'_>) -> Result<Name, Stop>
+    ensures { Reads (same {A = Name}) (spec.clock parser.old.rest) result parser.new.rest }
+{
+    parser.expect(Mark::When)?;
+    parser.name(alloc)
+}
+
+/// The clock of local flows, where there is a `when`.
+fn read_written_clock(alloc: Global, parser: &mut Parser<'_>) -> Result<Option<Name>, Stop>
+    ensures { Reads (same {A = Option Name}) (maybe (is_mark Mark.When) spec.clock parser.old.rest) result parser.new.rest }
+{
+    if parser.sees(Mark::When) {
+        Ok(Some(read_clock(alloc, parser)?))
+    } else {
+        Ok(None)
+    }
+}
+
+/// Local flows without brackets.
+#[tactic(auto, unfolding(crate::specs::Reading::plain_local))]
+fn read_plain_local(alloc: Global, parser: &mut Parser<'_>) -> Result<Local, Stop>
+    ensures { Reads spec.flows (spec.plain_local parser.old.rest) result parser.new.rest }
+{
+    let group = read_group(alloc, parser)?;
+    let clock = read_written_clock(alloc, parser)?;
+    parser.expect(Mark::Semi)?;
+    Ok(Local { group, clock })
+}
+
+/// Local flows in brackets, and their clock.
+#[tactic(auto, unfolding(crate::specs::Reading::bracketed_local))]
+fn read_bracketed_local(alloc: Global, parser: &mut Parser<'_>) -> Result<Local, Stop>
+    ensures { Reads spec.flows (spec.bracketed_local parser.old.rest) result parser.new.rest }
+{
+    parser.expect(Mark::Open)?;
+    let group = read_group(alloc, parser)?;
+    parser.expect(Mark::Close)?;
+    let clock = read_clock(alloc, parser)?;
+    parser.expect(Mark::Semi)?;
+    let clock = Some(clock);
+    Ok(Local { group, clock })
+}
+
+/// The declaration of local flows.
+#[tactic(auto, unfolding(crate::specs::Reading::local))]
+fn read_local(alloc: Global, parser: &mut Parser<'_>) -> Result<Local, Stop>
+    ensures { Reads spec.flows (spec.local parser.old.rest) result parser.new.rest }
+{
+    if parser.sees_name() {
+        read_plain_local(alloc, parser)
+    } else {
+        read_bracketed_local(alloc, parser)
+    }
+}
+
+/// Whether the next token begins a declaration of local flows.
+fn sees_local(parser: &Parser<'_>) -> bool
+    ensures { result ≡ starts spec.begins_local parser.now.rest }
+{
+    parser.sees_name() || parser.sees(Mark::Open)
+}
+
+/// Local flows, as long as a token begins some, after those that were found before.
+fn read_next_locals(
+    alloc: Global,
+    parser: &mut Parser<'_>,
+    found: Many<Decl>,
+) -> Result<Many<Decl>, Stop>
+    ensures { Reads (same {A = List DeclModel}) (spec.mapped (λ more. found ++ joined more) (spec.next_locals parser.old.rest)) result parser.new.rest }
+{
+    let mut found = found;
+    'more: while sees_local(parser) {
+        let local = read_local(alloc, parser)?;
+        found = with_flows(found, local.group, local.clock)?;
+    }
+    Ok(found)
+}
+
+/// `var` and local flows, after those that were found before.
+#[tactic(auto, unfolding(crate::specs::Reading::var))]
+fn read_var(alloc: Global, parser: &mut Parser<'_>, found: Many<Decl>) -> Result<Many<Decl>, Stop>
+    ensures { Reads (same {A = List DeclModel}) (spec.with_front found (spec.var parser.old.rest)) result parser.new.rest }
+{
+    parser.expect(Mark::Var)?;
+    let local = read_local(alloc, parser)?;
+    let found = with_flows(found, local.group, local.clock)?;
+    read_next_locals(alloc, parser, found)
+}
+
+/// The local flows of a node, as long as there is a `var`.
+fn read_vars(alloc: Global, parser: &mut Parser<'_>) -> Result<Many<Decl>, Stop>
+    ensures { Reads (same {A = List DeclModel}) (spec.mapped joined (spec.vars parser.old.rest)) result parser.new.rest }
+{
+    let mut found = Many::new(alloc);
+    'more: while parser.sees(Mark::Var) {
+        found = read_var(alloc, parser, found)?;
+    }
+    Ok(found)
+}
+
+/// The left sides of an equation, with or without brackets.
+#[tactic(auto, unfolding(crate::specs::Reading::lefts))]
+fn read_lefts(alloc: Global, parser: &mut Parser<'_>) -> Result<Many<Name>, Stop>
+    ensures { Reads (same {A = List Name}) (spec.lefts parser.old.rest) result parser.new.rest }
+{
+    if parser.sees_name() {
+        return read_names(alloc, parser);
+    }
+    parser.expect(Mark::Open)?;
+    let lefts = read_names(alloc, parser)?;
+    parser.expect(Mark::Close)?;
+    Ok(lefts)
+}
+
+/// An equation.
+#[tactic(auto, unfolding(crate::specs::Reading::equation))]
+fn read_equation(alloc: Global, parser: &mut Parser<'_>) -> Result<Statement, Stop>
+    ensures { Reads spec.item_of (spec.equation parser.old.rest) result parser.new.rest }
+{
+    let lefts = read_lefts(alloc, parser)?;
+    let right = read_right(alloc, parser)?;
+    Ok(Statement::Equation(Equation { lefts, right }))
+}
+
+/// An assertion, which has no site yet.
+#[tactic(auto, unfolding(crate::specs::Reading::assertion))]
+fn read_assertion(alloc: Global, parser: &mut Parser<'_>) -> Result<Statement, Stop>
+    ensures { Reads spec.item_of (spec.assertion parser.old.rest) result parser.new.rest }
+{
+    let at = parser.mark(Mark::Assert)?;
+    let body = parser.expression(alloc)?;
+    parser.expect(Mark::Semi)?;
+    Ok(Statement::Assertion(Assertion { at, site: 0, body }))
+}
+
+/// An equation or an assertion.
+#[tactic(auto, unfolding(crate::specs::Reading::item))]
+fn read_statement(alloc: Global, parser: &mut Parser<'_>) -> Result<Statement, Stop>
+    ensures { Reads spec.item_of (spec.item parser.old.rest) result parser.new.rest }
+{
+    if parser.sees(Mark::Assert) {
+        read_assertion(alloc, parser)
+    } else {
+        read_equation(alloc, parser)
+    }
+}
+
+/// Whether the next token begins an equation or an assertion.
+fn sees_statement(parser: &Parser<'_>) -> bool
+    ensures { result ≡ starts spec.begins_item parser.now.rest }
+{
+    sees_local(parser) || parser.sees(Mark::Assert)
+}
+
+/// The statements that were found before, and one more.
+fn with_statement(body: Body, statement: Statement) -> Result<Body, AllocError>
+    ensures { IfOk result (λ all. spec.statements all ≡ spec.with_item (spec.statements body) (spec.item_of statement)) }
+{
+    let mut body = body;
+    match statement {
+        Statement::Equation(equation) => body.equations.push(equation)?,
+        Statement::Assertion(assertion) => body.assertions.push(assertion)?,
+    }
+    Ok(body)
+}
+
+/// Equations and assertions, as long as a token begins one.
+fn read_statements(alloc: Global, parser: &mut Parser<'_>) -> Result<Body, Stop>
+    ensures { Reads spec.statements (spec.mapped spec.statements_of (spec.items parser.old.rest)) result parser.new.rest }
+{
+    let mut body = Body {
+        equations: Many::new(alloc),
+        assertions: Many::new(alloc),
+    };
+    'more: while sees_statement(parser) {
+        let statement = read_statement(alloc, parser)?;
+        body = with_statement(body, statement)?;
+    }
+    Ok(body)
 }
 
 /// `node` and a name.
@@ -123,104 +539,116 @@ fn read_title(alloc: Global, parser: &mut Parser<'_>) -> Result<Name, Stop>
 }
 
 /// The inputs in their brackets.
-#[tactic(auto, unfolding(crate::specs::Reading::given))]
+#[tactic(auto, unfolding(crate::specs::Reading::inputs))]
 fn read_inputs(alloc: Global, parser: &mut Parser<'_>) -> Result<Many<Decl>, Stop>
-    ensures { Reads (same {A = List Decl}) (spec.given parser.old.rest) result parser.new.rest }
+    ensures { Reads (same {A = List DeclModel}) (spec.inputs parser.old.rest) result parser.new.rest }
 {
     parser.expect(Mark::Open)?;
-    let inputs = read_group(alloc, parser)?;
+    let inputs = read_decls(alloc, parser)?;
     parser.expect(Mark::Close)?;
     Ok(inputs)
 }
 
-/// `returns`, the output in its brackets, and a semicolon.
-#[tactic(auto, unfolding(crate::specs::Reading::returned))]
-fn read_returns(alloc: Global, parser: &mut Parser<'_>) -> Result<Decl, Stop>
-    ensures { Reads (same {A = Decl}) (spec.returned parser.old.rest) result parser.new.rest }
+/// Takes a semicolon where there is one, and answers whether there was.
+fn take_semi(parser: &mut Parser<'_>) -> Result<bool, Stop>
+    ensures { Reads spec.taken (maybe (is_mark Mark.Semi) (spec.only Mark.Semi) parser.old.rest) result parser.new.rest }
+{
+    if parser.sees(Mark::Semi) {
+        parser.expect(Mark::Semi)?;
+        Ok(true)
+    } else {
+        Ok(false)
+    }
+}
+
+/// `returns`, the outputs in their brackets, and a semicolon where there is one.
+#[tactic(auto, unfolding(crate::specs::Reading::outputs))]
+fn read_outputs(alloc: Global, parser: &mut Parser<'_>) -> Result<Many<Decl>, Stop>
+    ensures { Reads (same {A = List DeclModel}) (spec.outputs parser.old.rest) result parser.new.rest }
 {
     parser.expect(Mark::Returns)?;
-    parser.expect(Mark::Open)?;
-    let output = read_output(alloc, parser)?;
-    parser.expect(Mark::Close)?;
-    parser.expect(Mark::Semi)?;
-    Ok(output)
+    let outputs = read_inputs(alloc, parser)?;
+    take_semi(parser)?;
+    Ok(outputs)
 }
 
-/// `var`, a group and a semicolon.
-#[tactic(auto, unfolding(crate::specs::Reading::var))]
-fn read_var(alloc: Global, parser: &mut Parser<'_>) -> Result<Many<Decl>, Stop>
-    ensures { Reads (same {A = List Decl}) (spec.var parser.old.rest) result parser.new.rest }
+/// Takes a semicolon or a point where there is one, and answers whether there was.
+#[tactic(auto, unfolding(crate::specs::Reading::node_end))]
+fn take_node_end(parser: &mut Parser<'_>) -> Result<bool, Stop>
+    ensures { Reads spec.taken (spec.node_end parser.old.rest) result parser.new.rest }
 {
-    parser.expect(Mark::Var)?;
-    let locals = read_group(alloc, parser)?;
-    parser.expect(Mark::Semi)?;
-    Ok(locals)
-}
-
-/// The locals, if there are any.
-#[tactic(auto, unfolding(crate::specs::Reading::local))]
-fn read_locals(alloc: Global, parser: &mut Parser<'_>) -> Result<Many<Decl>, Stop>
-    ensures { Reads (same {A = List Decl}) (spec.local parser.old.rest) result parser.new.rest }
-{
-    if parser.sees(Mark::Var) {
-        read_var(alloc, parser)
+    if parser.sees(Mark::Semi) {
+        parser.expect(Mark::Semi)?;
+        Ok(true)
+    } else if parser.sees(Mark::Dot) {
+        parser.expect(Mark::Dot)?;
+        Ok(true)
     } else {
-        Ok(Many::new(alloc))
+        Ok(false)
     }
 }
 
-/// Equations, as long as there is a name, after the equations that were found before.
-fn read_next_equations(
-    alloc: Global,
-    parser: &mut Parser<'_>,
-    found: Many<Equation>,
-) -> Result<Many<Equation>, Stop>
-    ensures { Reads (map equation_tree) (spec.with_front (map equation_tree found) (spec.next_equations parser.old.rest)) result parser.new.rest }
-{
-    let mut found = found;
-    'more: while parser.sees_name() {
-        found.push(read_equation(alloc, parser)?)?;
-    }
-    Ok(found)
-}
-
-/// One equation or more.
-#[tactic(auto, unfolding(crate::specs::Reading::all_equations))]
-fn read_equations(alloc: Global, parser: &mut Parser<'_>) -> Result<Many<Equation>, Stop>
-    ensures { Reads (map equation_tree) (spec.all_equations parser.old.rest) result parser.new.rest }
-{
-    let first = read_equation(alloc, parser)?;
-    let found = only(alloc, first)?;
-    read_next_equations(alloc, parser, found)
-}
-
-/// `let`, equations and `tel`.
+/// `let`, the statements, `tel`, and a semicolon or a point where there is one.
 #[tactic(auto, unfolding(crate::specs::Reading::body))]
-fn read_body(alloc: Global, parser: &mut Parser<'_>) -> Result<Many<Equation>, Stop>
-    ensures { Reads (map equation_tree) (spec.body parser.old.rest) result parser.new.rest }
+fn read_body(alloc: Global, parser: &mut Parser<'_>) -> Result<Body, Stop>
+    ensures { Reads spec.statements (spec.mapped spec.statements_of (spec.body parser.old.rest)) result parser.new.rest }
 {
     parser.expect(Mark::Let)?;
-    let equations = read_equations(alloc, parser)?;
+    let body = read_statements(alloc, parser)?;
     parser.expect(Mark::Tel)?;
-    Ok(equations)
+    take_node_end(parser)?;
+    Ok(body)
 }
 
 /// A node.
 #[tactic(auto, unfolding(crate::specs::Reading::node))]
-pub fn read_node(alloc: Global, parser: &mut Parser<'_>) -> Result<Node, Stop>
+fn read_node(alloc: Global, parser: &mut Parser<'_>) -> Result<Node, Stop>
     ensures { Reads node_tree (spec.node parser.old.rest) result parser.new.rest }
 {
     let name = read_title(alloc, parser)?;
     let inputs = read_inputs(alloc, parser)?;
-    let output = read_returns(alloc, parser)?;
-    let locals = read_locals(alloc, parser)?;
-    let equations = read_body(alloc, parser)?;
+    let outputs = read_outputs(alloc, parser)?;
+    let locals = read_vars(alloc, parser)?;
+    let body = read_body(alloc, parser)?;
     Ok(Node {
         name,
         inputs,
-        outputs: only(alloc, output)?,
+        outputs,
         locals,
-        equations,
-        assertions: Many::new(alloc),
+        equations: body.equations,
+        assertions: body.assertions,
     })
+}
+
+/// Types, constants or a node, after what was found before.
+#[tactic(auto, unfolding(crate::specs::Reading::section))]
+fn read_section(alloc: Global, parser: &mut Parser<'_>, found: Program) -> Result<Program, Stop>
+    ensures { Reads program_tree (spec.mapped (spec.with_section (program_tree found)) (spec.section parser.old.rest)) result parser.new.rest }
+{
+    let mut found = found;
+    if parser.sees(Mark::Type) {
+        found.types = read_types(alloc, parser, found.types)?;
+    } else if parser.sees(Mark::Const) {
+        found.constants = read_constants(alloc, parser, found.constants)?;
+    } else {
+        found.nodes.push(read_node(alloc, parser)?)?;
+    }
+    Ok(found)
+}
+
+/// Reads a program up to the end of the text. Its expressions and assertions have no sites yet.
+#[tactic(auto, unfolding(crate::specs::Reading::program))]
+pub fn read_program(alloc: Global, parser: &mut Parser<'_>) -> Result<Program, Stop>
+    ensures reads { Reads program_tree (spec.program parser.old.rest) result parser.new.rest }
+    ensures whole { OnOk result (parser.new.rest ≡ []) }
+{
+    let mut found = Program {
+        types: Many::new(alloc),
+        constants: Many::new(alloc),
+        nodes: Many::new(alloc),
+    };
+    'more: while !parser.is_at_end() {
+        found = read_section(alloc, parser, found)?;
+    }
+    Ok(found)
 }

@@ -1,33 +1,154 @@
-//! The sites of a node: first its flows, then each `pre` and `current` in the order of the text.
+//! The sites of a node: first its flows, then each `pre`, `current`, call, comparison and assertion, in the order of
+//! their offsets.
 
-ghost use Rattle.std.specs.Prelude.{◌≡◌, ◌+◌, ◌<◌, ◌≤◌, ℕ, length, map, IsTrue, IfOk, OnOk, Some, None};
-ghost use Rattle.rv_syntax.specs.Counted as spec;
-ghost use Rattle.rv_syntax.specs.Places.{flows};
-ghost use Rattle.rv_syntax.specs.Sites.{all_delayed, delayed, trees_delayed};
-ghost use Rattle.rv_syntax.specs.Tree.{equation_tree, node_tree, tree_of, trees};
+ghost use Rattle.std.specs.Prelude.{◌≡◌, ◌+◌, ◌≤◌, ◌++◌, ℕ, length, map, IsTrue, IfOk, OnOk, Some, None};
+ghost use Rattle.std.specs.List.{All};
+ghost use Rattle.std.specs.List.Sorted.{IsNonDecreasing};
+ghost use Rattle.rv_syntax.specs.ProgramText.{program_with_sites};
+ghost use Rattle.rv_syntax.specs.Sites as spec;
+ghost use Rattle.rv_syntax.specs.Tree.{assertion_tree, equation_tree, node_tree, program_tree, tree_of, trees};
 ghost use Rattle.rv_syntax.specs.Tree as tree;
 
-use crate::tree::{Equation, Expr, ExprForm, Name, Node, Op};
+use crate::tree::{Assertion, Equation, Expr, ExprForm, Name, Node, Op, Program};
 use rv_base::{Box, Many, Text};
 use std::alloc::{AllocError, Global};
 
-/// The next site, which is then taken.
-fn take_site(next: &mut u32) -> u32
-    requires { next.old < 1048576 }
-    ensures site { result ≡ next.old }
-    ensures next { next.new ≡ next.old + 1 }
+/// Whether an operator is a comparison, one of level 5.
+fn is_comparison(op: Op) -> bool
+    ensures { result ≡ spec.is_comparison op }
 {
-    let site = *next;
-    *next += 1;
-    site
+    match op {
+        Op::Equal | Op::Differs | Op::Less | Op::AtMost | Op::Greater | Op::AtLeast => true,
+        _ => false,
+    }
 }
 
-/// A literal or a name, in memory of its own. This and the functions up to `numbered` stay calls, so that `numbered`,
-/// which calls itself, has none of their values on the stack.
+/// The offsets of what has a site in a node beside its flows, in rising order, and the first site that one of them has.
+#[derive(Drop)]
+struct Sites {
+    first: u32,
+    offsets: Vec<u32>,
+    ghost rising: { IsNonDecreasing offsets.items },
+    ghost few: { first + length offsets.items ≤ 1048576 },
+}
+
+impl Sites {
+    /// The site of what has this offset. This and the next stay calls, as `leaf` below does.
+    #[inline(never)]
+    fn at(&self, at: u32) -> u32
+        ensures { result ≡ spec.numbered_from self.now.first self.now.offsets.items at }
+    {
+        self.first + self.offsets.partition_point(|offset| *offset < at) as u32
+    }
+
+    /// The site of an operator, where it is a comparison.
+    #[inline(never)]
+    fn of_operator(&self, op: Op, at: u32) -> Option<u32>
+        ensures { result ≡ spec.compared_site op (spec.numbered_from self.now.first self.now.offsets.items at) }
+    {
+        if is_comparison(op) {
+            Some(self.at(at))
+        } else {
+            None
+        }
+    }
+}
+
+/// Adds the offset of an operator, where it is a comparison.
+fn collect_operator(op: Op, at: u32, offsets: &mut Vec<u32>) -> Result<(), AllocError>
+    ensures { OnOk result (offsets.new.items ≡ offsets.old.items ++ spec.compared op at) }
+{
+    if is_comparison(op) {
+        offsets.push(at)?;
+    }
+    Ok(())
+}
+
+/// Adds the offset of each part of an expression that has a site. It calls itself for each operand, so as deep as the
+/// tree is: 20,101 levels at most, where each bracket begins a chain of left operands.
+#[cycle(collect)]
+fn collect(expr: &Expr, offsets: &mut Vec<u32>) -> Result<(), AllocError>
+    ensures { OnOk result (offsets.new.items ≡ offsets.old.items ++ spec.offsets (tree_of expr.now)) }
+{
+    match &expr.form {
+        ExprForm::True | ExprForm::False | ExprForm::Number(_) | ExprForm::Named(_) => Ok(()),
+        ExprForm::Not(a) | ExprForm::Minus(a) | ExprForm::When(a, _) => collect(a, offsets),
+        ExprForm::Pre(a) | ExprForm::Current(a) => {
+            offsets.push(expr.at)?;
+            collect(a, offsets)
+        }
+        ExprForm::Binary(op, a, b) => {
+            collect(a, offsets)?;
+            collect_operator(*op, expr.at, offsets)?;
+            collect(b, offsets)
+        }
+        ExprForm::If(a, b, c) => {
+            collect(a, offsets)?;
+            collect(b, offsets)?;
+            collect(c, offsets)
+        }
+        ExprForm::AtMostOne(all) => collect_all(all.as_slice(), offsets),
+        ExprForm::Call(_, all) => {
+            offsets.push(expr.at)?;
+            collect_all(all.as_slice(), offsets)
+        }
+    }
+}
+
+/// The same of some expressions.
+#[cycle(collect)]
+fn collect_all(all: &[Expr], offsets: &mut Vec<u32>) -> Result<(), AllocError>
+    ensures { OnOk result (offsets.new.items ≡ offsets.old.items ++ spec.trees_offsets (trees (map tree_of all.now))) }
+{
+    'each: for expr in all {
+        collect(expr, offsets)?;
+    }
+    Ok(())
+}
+
+/// The same of equations.
+fn collect_equations(equations: &[Equation], offsets: &mut Vec<u32>) -> Result<(), AllocError>
+    ensures { OnOk result (offsets.new.items ≡ offsets.old.items ++ spec.equation_offsets (map equation_tree equations.now)) }
+{
+    'each: for equation in equations {
+        collect(&equation.right, offsets)?;
+    }
+    Ok(())
+}
+
+/// Adds the offset of each assertion, and those in it.
+fn collect_assertions(assertions: &[Assertion], offsets: &mut Vec<u32>) -> Result<(), AllocError>
+    ensures { OnOk result (offsets.new.items ≡ offsets.old.items ++ spec.assertion_offsets (map assertion_tree assertions.now)) }
+{
+    'each: for assertion in assertions {
+        offsets.push(assertion.at)?;
+        collect(&assertion.body, offsets)?;
+    }
+    Ok(())
+}
+
+/// The sites of a node.
+fn sites_of(alloc: Global, node: &Node) -> Result<Sites, AllocError>
+    requires { spec.site_count (node_tree node.now) ≤ 1048576 }
+    ensures { IfOk result (λ s. spec.numbered_from s.first s.offsets.items ≡ spec.site_at (node_tree node.now)) }
+{
+    let flows = node.inputs.len() + node.outputs.len() + node.locals.len();
+    let mut offsets = Vec::new(alloc);
+    collect_equations(node.equations.as_slice(), &mut offsets)?;
+    collect_assertions(node.assertions.as_slice(), &mut offsets)?;
+    offsets.sort_unstable();
+    Ok(Sites {
+        first: flows as u32,
+        offsets,
+    })
+}
+
+/// A literal or a name, in memory of its own. This and the functions up to `sited` stay calls, so that `sited`, which
+/// calls itself, has none of their values on the stack.
 #[inline(never)]
 fn leaf(alloc: Global, expr: &Expr) -> Result<Box<Expr>, AllocError>
     requires { IsTrue (spec.is_leaf (tree_of expr.now)) }
-    ensures { IfOk result (λ e. (k : ℕ) → tree_of e ≡ spec.counted k (tree_of expr.now)) }
+    ensures { IfOk result (λ e. (f : ℕ → ℕ) → tree_of e ≡ spec.sited f (tree_of expr.now)) }
 {
     let form = match &expr.form {
         ExprForm::Named(name) => ExprForm::Named(name.clone()?),
@@ -88,13 +209,14 @@ fn made_when(alloc: Global, at: u32, a: Box<Expr>, clock: &Name) -> Result<Box<E
 fn made_binary(
     alloc: Global,
     at: u32,
+    site: Option<u32>,
     op: Op,
     a: Box<Expr>,
     b: Box<Expr>,
 ) -> Result<Box<Expr>, AllocError>
-    ensures { IfOk result (λ e. tree_of e ≡ tree.Node at None (tree.Binary op (tree_of a) (tree_of b))) }
+    ensures { IfOk result (λ e. tree_of e ≡ tree.Node at site (tree.Binary op (tree_of a) (tree_of b))) }
 {
-    made(alloc, at, None, ExprForm::Binary(op, a, b))
+    made(alloc, at, site, ExprForm::Binary(op, a, b))
 }
 
 #[inline(never)]
@@ -118,109 +240,108 @@ fn made_at_most_one(alloc: Global, at: u32, all: Many<Expr>) -> Result<Box<Expr>
 }
 
 #[inline(never)]
-fn made_call(alloc: Global, at: u32, name: &Text, all: Many<Expr>) -> Result<Box<Expr>, AllocError>
-    ensures { IfOk result (λ e. tree_of e ≡ tree.Node at None (tree.Call name.now (trees (map tree_of all)))) }
+fn made_call(
+    alloc: Global,
+    at: u32,
+    site: u32,
+    name: &Text,
+    all: Many<Expr>,
+) -> Result<Box<Expr>, AllocError>
+    ensures { IfOk result (λ e. tree_of e ≡ tree.Node at (Some site) (tree.Call name.now (trees (map tree_of all)))) }
 {
-    made(alloc, at, None, ExprForm::Call(name.clone()?, all))
+    made(alloc, at, Some(site), ExprForm::Call(name.clone()?, all))
 }
 
-/// The same expression with sites, those of its `pre` and `current` from `next` on, which is then the one after
-/// them. It calls itself for each operand, so as deep as the tree is, and hands on boxes, which are small on the
-/// stack. Within the limit on nesting no tree is deeper than 20,101, where each bracket begins a chain of left
-/// operands.
-#[cycle(number)]
-fn numbered(alloc: Global, expr: &Expr, next: &mut u32) -> Result<Box<Expr>, AllocError>
-    requires { next.old + length (delayed (tree_of expr.now)) ≤ 1048576 }
-    ensures tree { IfOk result (λ e. tree_of e ≡ spec.counted next.old (tree_of expr.now)) }
-    ensures next { OnOk result (next.new ≡ next.old + length (delayed (tree_of expr.now))) }
+/// The same expression with sites. It calls itself for each operand, so as deep as the tree is, and hands on boxes,
+/// which are small on the stack.
+#[cycle(sited)]
+fn sited(alloc: Global, expr: &Expr, sites: &Sites) -> Result<Box<Expr>, AllocError>
+    ensures { IfOk result (λ e. tree_of e ≡ spec.sited (spec.numbered_from sites.now.first sites.now.offsets.items) (tree_of expr.now)) }
 {
     let at = expr.at;
     match &expr.form {
         ExprForm::True | ExprForm::False | ExprForm::Number(_) | ExprForm::Named(_) => {
             leaf(alloc, expr)
         }
-        ExprForm::Not(a) => {
-            let a = numbered(alloc, a, next)?;
-            made_not(alloc, at, a)
-        }
-        ExprForm::Minus(a) => {
-            let a = numbered(alloc, a, next)?;
-            made_minus(alloc, at, a)
-        }
-        ExprForm::Pre(a) => {
-            let site = take_site(next);
-            let a = numbered(alloc, a, next)?;
-            made_pre(alloc, at, site, a)
-        }
-        ExprForm::Current(a) => {
-            let site = take_site(next);
-            let a = numbered(alloc, a, next)?;
-            made_current(alloc, at, site, a)
-        }
-        ExprForm::When(a, clock) => {
-            let a = numbered(alloc, a, next)?;
-            made_when(alloc, at, a, clock)
-        }
+        ExprForm::Not(a) => made_not(alloc, at, sited(alloc, a, sites)?),
+        ExprForm::Minus(a) => made_minus(alloc, at, sited(alloc, a, sites)?),
+        ExprForm::Pre(a) => made_pre(alloc, at, sites.at(at), sited(alloc, a, sites)?),
+        ExprForm::Current(a) => made_current(alloc, at, sites.at(at), sited(alloc, a, sites)?),
+        ExprForm::When(a, clock) => made_when(alloc, at, sited(alloc, a, sites)?, clock),
         ExprForm::Binary(op, a, b) => {
-            let a = numbered(alloc, a, next)?;
-            let b = numbered(alloc, b, next)?;
-            made_binary(alloc, at, *op, a, b)
+            let a = sited(alloc, a, sites)?;
+            let b = sited(alloc, b, sites)?;
+            made_binary(alloc, at, sites.of_operator(*op, at), *op, a, b)
         }
         ExprForm::If(a, b, c) => {
-            let a = numbered(alloc, a, next)?;
-            let b = numbered(alloc, b, next)?;
-            let c = numbered(alloc, c, next)?;
+            let a = sited(alloc, a, sites)?;
+            let b = sited(alloc, b, sites)?;
+            let c = sited(alloc, c, sites)?;
             made_if(alloc, at, a, b, c)
         }
         ExprForm::AtMostOne(all) => {
-            let all = numbered_all(alloc, all.as_slice(), next)?;
-            made_at_most_one(alloc, at, all)
+            made_at_most_one(alloc, at, sited_all(alloc, all.as_slice(), sites)?)
         }
         ExprForm::Call(name, all) => {
-            let all = numbered_all(alloc, all.as_slice(), next)?;
-            made_call(alloc, at, name, all)
+            let all = sited_all(alloc, all.as_slice(), sites)?;
+            made_call(alloc, at, sites.at(at), name, all)
         }
     }
 }
 
 /// The same of some expressions, in their order.
-#[cycle(number)]
-fn numbered_all(alloc: Global, all: &[Expr], next: &mut u32) -> Result<Many<Expr>, AllocError>
-    requires { next.old + length (trees_delayed (trees (map tree_of all.now))) ≤ 1048576 }
-    ensures tree { IfOk result (λ es. trees (map tree_of es) ≡ spec.counted_trees next.old (trees (map tree_of all.now))) }
-    ensures next { OnOk result (next.new ≡ next.old + length (trees_delayed (trees (map tree_of all.now)))) }
+#[cycle(sited)]
+fn sited_all(alloc: Global, all: &[Expr], sites: &Sites) -> Result<Many<Expr>, AllocError>
+    ensures { IfOk result (λ es. trees (map tree_of es) ≡ spec.sited_trees (spec.numbered_from sites.now.first sites.now.offsets.items) (trees (map tree_of all.now))) }
 {
     let mut made = Many::new(alloc);
     'each: for expr in all {
-        made.push(numbered(alloc, expr, next)?.into_inner())?;
+        made.push(sited(alloc, expr, sites)?.into_inner())?;
     }
     Ok(made)
 }
 
-/// The equations with the sites of their expressions, from `first` on.
-fn numbered_equations(
+/// The same of equations.
+fn sited_equations(
     alloc: Global,
     equations: Many<Equation>,
-    first: u32,
+    sites: &Sites,
 ) -> Result<Many<Equation>, AllocError>
-    requires { first + length (all_delayed (map equation_tree equations)) ≤ 1048576 }
-    ensures { IfOk result (λ qs. map equation_tree qs ≡ spec.counted_equations first (map equation_tree equations)) }
+    ensures { IfOk result (λ qs. map equation_tree qs ≡ map (spec.sited_equation (spec.numbered_from sites.now.first sites.now.offsets.items)) (map equation_tree equations)) }
 {
-    let mut next = first;
     let mut made = Many::new(alloc);
     'each: for equation in equations.into_vec() {
         let Equation { lefts, right } = equation;
-        let right = numbered(alloc, &right, &mut next)?.into_inner();
+        let right = sited(alloc, &right, sites)?.into_inner();
         made.push(Equation { lefts, right })?;
     }
     Ok(made)
 }
 
-/// The node with the sites of its expressions, which has at most 1,048,576 sites.
-pub fn with_sites(alloc: Global, node: Node) -> Result<Node, AllocError>
-    requires { length (flows (node_tree node)) + length (all_delayed (node_tree node).equations) ≤ 1048576 }
-    ensures { IfOk result (λ n. node_tree n ≡ spec.counted_sites (node_tree node)) }
+/// The same of assertions, which have sites themselves.
+fn sited_assertions(
+    alloc: Global,
+    assertions: Many<Assertion>,
+    sites: &Sites,
+) -> Result<Many<Assertion>, AllocError>
+    ensures { IfOk result (λ found. map assertion_tree found ≡ map (spec.sited_assertion (spec.numbered_from sites.now.first sites.now.offsets.items)) (map assertion_tree assertions)) }
 {
+    let mut made = Many::new(alloc);
+    'each: for assertion in assertions.into_vec() {
+        let at = assertion.at;
+        let body = sited(alloc, &assertion.body, sites)?.into_inner();
+        let site = sites.at(at);
+        made.push(Assertion { at, site, body })?;
+    }
+    Ok(made)
+}
+
+/// The node with the sites of its expressions and assertions.
+fn with_sites(alloc: Global, node: Node) -> Result<Node, AllocError>
+    requires { spec.site_count (node_tree node) ≤ 1048576 }
+    ensures { IfOk result (λ n. node_tree n ≡ spec.with_sites (node_tree node)) }
+{
+    let sites = sites_of(alloc, &node)?;
     let Node {
         name,
         inputs,
@@ -229,8 +350,8 @@ pub fn with_sites(alloc: Global, node: Node) -> Result<Node, AllocError>
         equations,
         assertions,
     } = node;
-    let flows = inputs.len() + outputs.len() + locals.len();
-    let equations = numbered_equations(alloc, equations, flows as u32)?;
+    let equations = sited_equations(alloc, equations, &sites)?;
+    let assertions = sited_assertions(alloc, assertions, &sites)?;
     Ok(Node {
         name,
         inputs,
@@ -238,5 +359,27 @@ pub fn with_sites(alloc: Global, node: Node) -> Result<Node, AllocError>
         locals,
         equations,
         assertions,
+    })
+}
+
+/// The program with the sites of its nodes, each of which has at most 1,048,576.
+/// Time is that of sorting the offsets of each node, and of finding each by bisection.
+pub fn with_program_sites(alloc: Global, program: Program) -> Result<Program, AllocError>
+    requires { All (λ n. spec.site_count n ≤ 1048576) (program_tree program).nodes }
+    ensures { IfOk result (λ p. program_tree p ≡ program_with_sites (program_tree program)) }
+{
+    let Program {
+        types,
+        constants,
+        nodes,
+    } = program;
+    let mut made = Many::new(alloc);
+    'each: for node in nodes.into_vec() {
+        made.push(with_sites(alloc, node)?)?;
+    }
+    Ok(Program {
+        types,
+        constants,
+        nodes: made,
     })
 }

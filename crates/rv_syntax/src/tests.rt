@@ -1,6 +1,13 @@
 //! What no clause says: outside rows, and that a call succeeds.
 
-use crate::{Expr, ExprForm, Program, TextFault, longest_match, numbered_sites, one_tree, parse};
+ghost use Rattle.std.specs.Prelude.{◌≤◌, length};
+
+use crate::lexer::tokens_of;
+use crate::token::Kind;
+use crate::{
+    Expr, ExprForm, TextFault, left_out_is_dead, longest_match, numbered_sites, one_fault,
+    one_tree, parse, whole_text,
+};
 use std::alloc::{AllocError, Global};
 use std::fmt::Write;
 use std::test::Fail;
@@ -57,10 +64,6 @@ fn write_expr(text: &mut String, expr: &Expr) -> Result<(), Fail> {
     Ok(())
 }
 
-fn is_refused(answer: Result<Program, TextFault>) -> bool {
-    matches!(answer, Err(TextFault::LeftOut(0)))
-}
-
 #[test]
 fn reads_a_tautology(rt: HostRuntime) -> Result<(), Fail> {
     let text = b"node m(a: bool) returns (ok: bool); let ok = a or not a; tel";
@@ -82,6 +85,7 @@ fn reads_a_tautology(rt: HostRuntime) -> Result<(), Fail> {
     );
     one_tree();
     longest_match();
+    whole_text();
     Ok(())
 }
 
@@ -132,36 +136,32 @@ fn sites_go_on_from_the_flows_over_all_equations(rt: HostRuntime) -> Result<(), 
     Ok(())
 }
 
-#[test]
-fn refuses_what_is_outside_the_form(rt: HostRuntime) -> Result<(), Fail> {
-    let texts = [
-        "",
-        "node m(a: bool) returns (ok: bool); let ok = a + 1; tel",
-        "node m(a: bool) returns (ok: bool); let tel",
-        "node m(a: bool) returns (ok: bool); let ok = a; tel;",
-        "node m(a: bool) returns (ok: bool); let ok = a; tel.",
-        "node m(a: bool) returns (ok: bool) let ok = a; tel",
-        "node m(a: bool) returns (ok: bool); var b: bool; var c: bool; let ok = a; tel",
-        "node m(a: bool) returns (ok: bool); let ok = a => a; tel",
-        "node m(a: bool) returns (ok: bool); let ok = current a; tel",
-        "node m(a: bool) returns (ok: bool); let ok = a - > a; tel",
-        "node m(a: bool) returns (ok: bool); let ok = a pre a; tel",
-        "node m(pre: bool) returns (ok: bool); let ok = true; tel",
-        "node m(if: bool) returns (ok: bool); let ok = true; tel",
-        "node m(merge: bool) returns (ok: bool); let ok = true; tel",
-        "node m(a: bool) returns (ok: bool); let ok = a; tel -- done",
-        "node m(a: bool) returns (ok: bool); let ok = (* yes *) a; tel",
-        "node m(a: int) returns (ok: bool); let ok = true; tel",
-        "node m(a, : bool) returns (ok: bool); let ok = true; tel",
+// Texts with their faults, one of each kind and one that ends too early.
+const FAULTS: [(&str, TextFault); 4] = [
+    (
+        "node m(merge: bool) returns (ok: bool); let tel",
+        TextFault::LeftOut(7),
+    ),
+    (
         "node m(a: bool) returns (ok: bool); let ok = (a; tel",
-        "node m(a: bool) returns (ok: bool); let ok = a b; tel",
-        "node m(é: bool) returns (ok: bool); let ok = true; tel",
-    ];
-    for text in texts {
+        TextFault::BadText(47),
+    ),
+    ("const c = ", TextFault::BadText(10)),
+    (
+        "node m() returns (ok: bool); let tel",
+        TextFault::LeftOut(7),
+    ),
+];
+
+#[test]
+fn tells_the_first_offending_token(rt: HostRuntime) -> Result<(), Fail> {
+    for (text, fault) in FAULTS {
         assert!(rt; text.len() <= 1048576);
-        assert!(rt; is_refused(parse(rt.alloc(), text.as_bytes())), "at {text}");
+        let found = parse(rt.alloc(), text.as_bytes()).err();
+        assert_eq!(rt; found, Some(fault), "at {text}");
     }
-    assert!(rt; is_refused(parse(rt.alloc(), [0, 255, 128].as_slice())));
+    one_fault();
+    left_out_is_dead();
     Ok(())
 }
 
@@ -171,6 +171,138 @@ fn names_may_begin_with_a_reserved_word(rt: HostRuntime) -> Result<(), Fail> {
         "node nodes(not_, _or, and1, tell: bool) returns (prefix: bool);\r\n\tlet\x0Cprefix=not(not_)and tell;tel\n";
     assert!(rt; text.len() <= 1048576);
     assert!(rt; parse(rt.alloc(), text.as_bytes()).is_ok());
+    Ok(())
+}
+
+/// Writes the tokens of a text, each with its offset.
+fn write_tokens(alloc: Global, text: &[u8]) -> Result<String, Fail>
+    requires { length text.now ≤ 1048576 }
+{
+    let mut found = String::new(alloc);
+    for token in tokens_of(alloc, text)?.as_slice() {
+        write!(found, "{}:", token.at)?;
+        match &token.kind {
+            Kind::Name(name) => write!(found, "{} ", name.as_str())?,
+            Kind::Number(number) => write!(found, "{number} ")?,
+            Kind::Fixed(mark) => write!(found, "{mark:?} ")?,
+            Kind::LeftOut => found.push_str("left-out ")?,
+            Kind::Bad => found.push_str("bad ")?,
+        }
+    }
+    Ok(found)
+}
+
+// Each text with its tokens: words, symbols, comments, numbers, points and bad bytes.
+const TOKENS: [(&str, &str); 38] = [
+    (
+        "node returns var let tel const type enum bool int",
+        "0:Node 5:Returns 13:Var 17:Let 21:Tel 25:Const 31:Type 36:Enum 41:Bool 46:Int ",
+    ),
+    (
+        "if then else true false not and or xor pre",
+        "0:If 3:Then 8:Else 13:True 18:False 24:Not 28:And 32:Or 35:Xor 39:Pre ",
+    ),
+    (
+        "when current assert div mod",
+        "0:When 5:Current 13:Assert 20:Div 24:Mod ",
+    ),
+    (
+        "real float function package model extern unsafe include",
+        "0:left-out 5:left-out 11:left-out 20:left-out 28:left-out 34:left-out 41:left-out 48:left-out ",
+    ),
+    (
+        "struct merge fby nor operator with automaton subrange",
+        "0:left-out 7:left-out 13:left-out 17:left-out 21:left-out 30:left-out 35:left-out 45:left-out ",
+    ),
+    (
+        "_ _1 nodes Node iff pre1 telx",
+        "0:_ 2:_1 5:nodes 11:Node 16:iff 20:pre1 25:telx ",
+    ),
+    (
+        "-> => <> <= >= < > = + - * /",
+        "0:Arrow 3:Implies 6:Differs 9:AtMost 12:AtLeast 15:Less 17:Greater 19:Equal 21:Plus 23:Minus 25:Times 27:Slash ",
+    ),
+    (
+        "( ) , ; : { } #",
+        "0:Open 2:Close 4:Comma 6:Semi 8:Colon 10:OpenBrace 12:CloseBrace 14:Hash ",
+    ),
+    (
+        "[ ] << >> ^ | :: .",
+        "0:left-out 2:left-out 4:left-out 7:left-out 10:left-out 12:left-out 14:left-out 17:left-out ",
+    ),
+    (
+        "<=<><<<>>>=>",
+        "0:AtMost 2:Differs 4:left-out 6:Differs 8:left-out 10:Implies ",
+    ),
+    (
+        ">=>->->=-<-",
+        "0:AtLeast 2:Greater 3:Arrow 5:Arrow 7:Equal 8:Minus 9:Less 10:Minus ",
+    ),
+    (":::=", "0:left-out 2:Colon 3:Equal "),
+    ("a->-1", "0:a 1:Arrow 3:Minus 4:1 "),
+    ("a--b\nc", "0:a 5:c "),
+    ("a -- b\r c\nd", "0:a 10:d "),
+    ("-- (*\n a", "7:a "),
+    ("--", ""),
+    ("a---", "0:a "),
+    ("", ""),
+    ("a(* b *)c/*d*/e", "0:a 8:c 14:e "),
+    ("(*)a*)b", "6:b "),
+    ("a(*)", "0:a 1:bad "),
+    ("/*/", "0:bad "),
+    ("/*/ */x", "6:x "),
+    ("(**)a", "4:a "),
+    ("(* * )", "0:bad "),
+    ("a (* */ b", "0:a 2:bad "),
+    ("(* (* *) *)", "9:Times 10:Close "),
+    ("(* -- *)a", "8:a "),
+    ("a/*é*/b", "0:a 7:b "),
+    (
+        "1099511627775 1099511627776",
+        "0:1099511627775 14:1099511627776 ",
+    ),
+    (
+        "1099511627777 1099511627778",
+        "0:1099511627777 14:1099511627777 ",
+    ),
+    (
+        "99999999999999999999999999 007 12ab",
+        "0:1099511627777 27:7 31:12 33:ab ",
+    ),
+    (
+        "tel. tel . tel (* . *) .",
+        "0:Tel 3:Dot 5:Tel 9:Dot 11:Tel 23:Dot ",
+    ),
+    (
+        "tel.. tel;. a. .",
+        "0:Tel 3:Dot 4:left-out 6:Tel 9:Semi 10:left-out 12:a 13:left-out 15:left-out ",
+    ),
+    ("a$b é \"", "0:a 1:bad 2:b 4:bad 5:bad 7:bad "),
+    ("a\x0Bb!@~", "0:a 1:bad 2:b 3:bad 4:bad 5:bad "),
+    (" \t\r\n\x0Ca", "5:a "),
+];
+
+#[test]
+fn cuts_tokens(rt: HostRuntime) -> Result<(), Fail> {
+    for (text, wanted) in TOKENS {
+        assert!(rt; text.len() <= 1048576);
+        let found = write_tokens(rt.alloc(), text.as_bytes())?;
+        assert_eq!(rt; found.as_str(), wanted, "at {text}");
+    }
+    Ok(())
+}
+
+#[test]
+fn comments_stand_between_tokens(rt: HostRuntime) -> Result<(), Fail> {
+    let texts = [
+        "node m(a: bool) returns (ok: bool); let ok = a; tel -- done",
+        "node m(a: bool) returns (ok: bool); let ok = (* yes *) a; tel",
+        "(**)node/**/m(a: bool) returns (ok: bool); --\n let ok = a; tel",
+    ];
+    for text in texts {
+        assert!(rt; text.len() <= 1048576);
+        assert!(rt; parse(rt.alloc(), text.as_bytes()).is_ok(), "at {text}");
+    }
     Ok(())
 }
 
@@ -194,16 +326,16 @@ fn reads_locals_and_equations(rt: HostRuntime) -> Result<(), Fail> {
 #[test]
 fn nesting_ends_at_200(rt: HostRuntime) -> Result<(), Fail> {
     let alloc = rt.alloc();
-    // The front, what is repeated, how often it may be, and the back.
+    // The front, what is repeated, how often it may be, the back, and where one more is too deep.
     let rows = [
-        ("", "not ", 200, "a"),
-        ("a", " or a", 200, ""),
-        ("", "pre a -> ", 100, "a"),
-        ("not (", "not ", 198, "a)"),
-        ("((not a))", " and (not a)", 198, ""),
-        ("not not not a and b", " or a", 196, ""),
+        ("", "not ", 200, "a", 854),
+        ("a", " or a", 200, "", 1056),
+        ("", "pre a -> ", 100, "a", 954),
+        ("not (", "not ", 198, "a)", 851),
+        ("((not a))", " and (not a)", 198, "", 2445),
+        ("not not not a and b", " or a", 196, "", 1054),
     ];
-    for (front, part, most, back) in rows {
+    for (front, part, most, back, at) in rows {
         let accepted = source(alloc, front, part, most, back)?;
         assert!(rt; accepted.len() <= 1048576);
         assert!(rt;
@@ -212,11 +344,53 @@ fn nesting_ends_at_200(rt: HostRuntime) -> Result<(), Fail> {
         );
         let refused = source(alloc, front, part, most + 1, back)?;
         assert!(rt; refused.len() <= 1048576);
-        assert!(rt;
-            is_refused(parse(alloc, refused.as_bytes())),
+        assert_eq!(rt;
+            parse(alloc, refused.as_bytes()).err(),
+            Some(TextFault::TooDeep(at)),
             "at {front} {part}"
         );
     }
+    Ok(())
+}
+
+// After 200 `not` any operator token or bracket is too deep, after 199 a bracket behind `#` is.
+#[test]
+fn brackets_and_operators_nest_alike(rt: HostRuntime) -> Result<(), Fail> {
+    let alloc = rt.alloc();
+    let rows = [
+        (200, "#(a)", 854),
+        (199, "#(a)", 851),
+        (200, "(a)", 854),
+        (199, "f(pre a)", 852),
+        (199, "f(a, not b)", 855),
+    ];
+    for (nots, back, at) in rows {
+        let text = source(alloc, "", "not ", nots, back)?;
+        assert!(rt; text.len() <= 1048576);
+        let found = parse(alloc, text.as_bytes()).err();
+        assert_eq!(rt; found, Some(TextFault::TooDeep(at)), "at {nots} {back}");
+    }
+    Ok(())
+}
+
+#[test]
+fn reads_the_whole_notation(rt: HostRuntime) -> Result<(), Fail> {
+    let text = b"type color = enum { red, green }; level = int; const top: level = 4; low = -top;\n\
+        node f(a: bool; x: level;) returns (y: int)\n\
+        var c: bool; u, v: int when c; (w: int) when a;\n\
+        let assert #(a, c) => x < top; (u, v) = g(x when c, 1) ; w = x when a; c = not a;\n\
+        y = if a then current w else x -> pre y mod 2; tel.\n\
+        const more = true; node g(x, y: int) returns (z, t: int) let z = x; t = y * 2; tel;";
+    let program = parse(rt.alloc(), text).expect(&rt, "a tree");
+    assert_eq!(rt; program.types.len(), 2);
+    assert_eq!(rt; program.constants.len(), 3);
+    assert_eq!(rt; program.nodes.len(), 2);
+    let node = program.nodes.get(0).expect(&rt, "a node");
+    assert_eq!(rt; node.inputs.len(), 2);
+    assert_eq!(rt; node.outputs.len(), 1);
+    assert_eq!(rt; node.locals.len(), 4);
+    assert_eq!(rt; node.equations.len(), 4);
+    assert_eq!(rt; node.assertions.len(), 1);
     Ok(())
 }
 

@@ -2,7 +2,7 @@
 
 use rv_base::Text;
 
-/// A word or a symbol that is always spelled alike.
+/// A word or a symbol that is always spelled alike. `Dot` is the one that ends a node, behind `tel`.
 #[derive(Clone, Copy, Debug)]
 pub enum Mark {
     Node,
@@ -10,28 +10,59 @@ pub enum Mark {
     Var,
     Let,
     Tel,
+    Const,
+    Type,
+    Enum,
     Bool,
+    Int,
+    If,
+    Then,
+    Else,
     True,
     False,
     Not,
-    Pre,
-    Or,
     And,
+    Or,
+    Xor,
+    Pre,
+    When,
+    Current,
+    Assert,
+    Div,
+    Mod,
+    Arrow,
+    Implies,
+    Differs,
+    AtMost,
+    AtLeast,
+    Less,
+    Greater,
+    Equal,
+    Plus,
+    Minus,
+    Times,
+    Slash,
     Open,
     Close,
     Comma,
     Semi,
     Colon,
-    Equal,
-    Arrow,
+    OpenBrace,
+    CloseBrace,
+    Hash,
+    Dot,
 }
 
-/// What a token is: a name, a word or a symbol of the accepted language, or anything else.
+/// What a token is: a name, a number, a word or a symbol of the language, a word or a symbol that is left out
+/// of it, or what is no token. A number above 2^40 is kept as 2^40 + 1. A byte that begins no token is `Bad`,
+/// and so is a comment that is never closed, with all that follows.
 #[derive(Debug, Drop)]
 pub enum Kind {
     Name(Text),
+    Number(u64),
     Fixed(Mark),
-    Other,
+    LeftOut,
+    Bad,
 }
 
 /// A token, with the offset of its first byte.

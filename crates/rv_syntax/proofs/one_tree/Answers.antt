@@ -1,5 +1,8 @@
-use Rattle.rv_syntax.proofs.Whole.{same_tree}
+use Rattle.std.proofs.Common.{refl}
+use Rattle.rv_syntax.specs.Reading.{program}
+use Rattle.rv_syntax.proofs.ExactRules.{IsEndOfText, Exact-program}
+use Rattle.rv_syntax.proofs.FirstFault.{one-tree}
 use Rattle.rv_syntax.proofs.one_tree.Goals as goal
 
 pub returns : goal.returns
-returns c = same_tree
+returns c = one-tree program IsEndOfText refl Exact-program

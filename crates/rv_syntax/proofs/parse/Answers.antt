@@ -1,40 +1,45 @@
-use Rattle.std.proofs.Common.{◌≤◌, length, sym, ap, ◌∙◌, subst, arith}
+use Rattle.std.proofs.Common.{refl, ap, ◌∙◌, subst}
+use Rattle.std.specs.Prelude.{Ok, Err}
 use Rattle.std.proofs.lemmas.Result.{err_from_is_err_and}
-use Rattle.rv_syntax.specs.ProgramText.{IsNode, program_of}
-use Rattle.rv_syntax.specs.Sites.{with_sites}
-use Rattle.rv_syntax.specs.Tree.{node_tree}
-use Rattle.rv_syntax.proofs.Spelled.{sites_in, node-fits}
-use Rattle.rv_syntax.proofs.Whole.{refuses, built, sited}
+use Rattle.rv_syntax.specs.ProgramText.{IsProgram}
+use Rattle.rv_syntax.specs.Reading.{program}
+use Rattle.rv_syntax.specs.Tree.{program_tree}
+use Rattle.rv_syntax.proofs.Bounds.{program-fits}
+use Rattle.rv_syntax.proofs.ExactRules.{IsEndOfText, Exact-program}
+use Rattle.rv_syntax.proofs.FirstFault.{Answered, whole, answers, refuses, only-tree, only-fault}
 use Rattle.rv_syntax.proofs.parse.Goals as goal
 
-pub returns-in_err-node-clause-only : goal.returns-in_err-node-clause-only
-returns-in_err-node-clause-only c = λ t x.
-    let p = err_from_is_err_and c.from_residual-in_err-node.result c.from_residual-in_err-node.ensures.1 in
-    let e = c.deref.ensures.value ∙ c.in_ok-tokens.ensures in
-    rw (p.1, p.2) (refuses c.args.bytes.now t c.in_err-node.field-0.0 (λ n h. c.in_err-node.ensures.only n (subst (IsNode n) (sym e) h)) x)
+refused : (c : goal.After-drop-tokens) → Answered c.args.bytes.now c.from_residual-in_err-program.result
+refused c =
+    let p = err_from_is_err_and c.from_residual-in_err-program.result c.from_residual-in_err-program.ensures.1 in
+    refuses program IsEndOfText refl Exact-program c.args.bytes.now c.deref.result.now c.in_err-program.field-0.0 c.from_residual-in_err-program.result
+    (c.deref.ensures.value ∙ c.in_ok-tokens.ensures) c.in_err-program.ensures.refused (p.1 ∙ ap Err p.2)
 
-pub with_sites-requires : goal.with_sites-requires
-with_sites-requires c =
-    let e = c.deref.ensures.value ∙ c.in_ok-tokens.ensures in
-    let n = node_tree c.in_ok-node.node in
-    let fits : sites_in n ≤ length c.args.bytes.now = node-fits c.args.bytes.now n (subst (IsNode n) e c.in_ok-node.ensures.found) in
-    omega arith
+pub returns-in_err-program-clause-offending : goal.returns-in_err-program-clause-offending
+returns-in_err-program-clause-offending c = (refused c).told
+
+pub returns-in_err-program-clause-only : goal.returns-in_err-program-clause-only
+returns-in_err-program-clause-only c = only-tree program IsEndOfText refl Exact-program c.args.bytes.now c.from_residual-in_err-program.result (refused c)
+
+pub returns-in_err-program-clause-only_offending : goal.returns-in_err-program-clause-only_offending
+returns-in_err-program-clause-only_offending c = only-fault program IsEndOfText refl Exact-program c.args.bytes.now c.from_residual-in_err-program.result (refused c)
+
+pub with_program_sites-requires : goal.with_program_sites-requires
+with_program_sites-requires c =
+    let p = program_tree c.in_ok-program.program in
+    let w = whole program IsEndOfText refl Exact-program c.deref.result.now p c.in_ok-program.ensures.found in
+    program-fits c.args.bytes.now p c.requires (subst (IsProgram p) (c.deref.ensures.value ∙ c.in_ok-tokens.ensures) w.program)
+
+answered : (c : goal.After-drop-tokens-2) → Answered c.args.bytes.now (Ok c.in_ok-sited.sited)
+answered c =
+    answers program IsEndOfText refl Exact-program c.args.bytes.now c.deref.result.now (program_tree c.in_ok-program.program) c.in_ok-sited.sited
+    (c.deref.ensures.value ∙ c.in_ok-tokens.ensures) c.in_ok-program.ensures.found c.in_ok-sited.ensures
 
 pub returns-clause-found : goal.returns-clause-found
-returns-clause-found c =
-    let e = c.deref.ensures.value ∙ c.in_ok-tokens.ensures in
-    let n = node_tree c.in_ok-node.node in
-    let h = subst (IsNode n) e c.in_ok-node.ensures.found in (
-      n,
-      built c.new.result c.new-2.result c.in_ok-only.field-0 c.in_ok-sited.sited c.new.ensures c.new-2.ensures c.in_ok-only.ensures ∙ ap program_of (sited c.args.bytes.now n (node_tree c.in_ok-sited.sited) h c.in_ok-sited.ensures),
-      h,
-    )
+returns-clause-found c = (answered c).tree
 
 pub returns-clause-only : goal.returns-clause-only
-returns-clause-only c = λ t x.
-    let e = c.deref.ensures.value ∙ c.in_ok-tokens.ensures in
-    let n = node_tree c.in_ok-node.node in
-    let h = subst (IsNode n) e c.in_ok-node.ensures.found in
-    built c.new.result c.new-2.result c.in_ok-only.field-0 c.in_ok-sited.sited c.new.ensures c.new-2.ensures c.in_ok-only.ensures
-    ∙ ap program_of (sited c.args.bytes.now n (node_tree c.in_ok-sited.sited) h c.in_ok-sited.ensures)
-    ∙ ap (λ m. program_of (with_sites m)) (c.in_ok-node.ensures.only x.0 (subst (IsNode x.0) (sym e) x.2)) ∙ sym x.1
+returns-clause-only c = only-tree program IsEndOfText refl Exact-program c.args.bytes.now (Ok c.in_ok-sited.sited) (answered c)
+
+pub returns-clause-only_offending : goal.returns-clause-only_offending
+returns-clause-only_offending c = only-fault program IsEndOfText refl Exact-program c.args.bytes.now (Ok c.in_ok-sited.sited) (answered c)

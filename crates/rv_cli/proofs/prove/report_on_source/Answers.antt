@@ -3,7 +3,7 @@ use Rattle.rv_syntax.specs.Tree.{program_tree}
 use Rattle.rv_meaning.specs.Boolean.{IsBooleanProgram}
 use Rattle.rv_meaning.specs.Valuations.{HoldsEverywhere}
 use Rattle.rv_cli.specs.Answers.{IsOnSource}
-use Rattle.rv_cli.proofs.Outside.{when_true, when_false, refusal-not_safe, refusal-not_unknown, refusal-on_source, refusal-outside, outside_from_no}
+use Rattle.rv_cli.proofs.Outside.{when_true, when_false, refusal-not_safe, refusal-not_unknown, refusal-on_source, refusal-refused, other-refused}
 use Rattle.rv_cli.proofs.prove.report_on_source.Goals as goal
 
 pub is_boolean_program-requires : goal.is_boolean_program-requires
@@ -40,14 +40,12 @@ returns-in-Err-clause-unknown c = λ h. absurd (refusal-not_unknown c.in-Err.fau
 
 pub returns-in-Err-clause-refused : goal.returns-in-Err-clause-refused
 returns-in-Err-clause-refused c = λ fault h.
-    refusal-outside c.args.source.now c.args.node.now c.in-Err.fault fault c.in-Err.ensures.only c.in-Err.ensures.refused (sym c.refusal.ensures ∙ h)
+    refusal-refused c.args.source.now c.args.node.now c.in-Err.fault fault c.in-Err.ensures.offending (sym c.refusal.ensures ∙ h)
 
 pub returns-in-Err-clause-only : goal.returns-in-Err-clause-only
 returns-in-Err-clause-only c = subst IsOnSource (sym c.refusal.ensures) (refusal-on_source c.in-Err.fault)
 
 pub returns-then-not-accepted-clause-refused : goal.returns-then-not-accepted-clause-refused
-returns-then-not-accepted-clause-refused c = λ fault h. (
-  cc,
-  outside_from_no c.args.source.now c.args.node.now (program_tree c.in-Ok.program) c.in-Ok.ensures.only
-      (when_false _ _ _ c.in-Ok-is_boolean_program.ensures c.if-not-accepted.true),
-)
+returns-then-not-accepted-clause-refused c = λ fault h.
+    other-refused c.args.source.now c.args.node.now (program_tree c.in-Ok.program) fault c.in-Ok.ensures.found
+    (when_false _ _ _ c.in-Ok-is_boolean_program.ensures c.if-not-accepted.true) h

@@ -2,7 +2,7 @@ use Rattle.std.proofs.Common.{sym, ◌≤◌, length, subst, refl}
 use Rattle.rv_meaning.specs.Runs.{IsSafe}
 use Rattle.rv_meaning.specs.Valuations.{HoldsEverywhere, FailsSomewhere}
 use Rattle.rv_cli.specs.Words.{texts}
-use Rattle.rv_cli.specs.Programs.{OnProgram, IsOutside}
+use Rattle.rv_cli.specs.Programs.{OnProgram, IsRefusedFor}
 use Rattle.rv_cli.proofs.Named.{on_file}
 use Rattle.rv_cli.proofs.Served.{served}
 use Rattle.rv_cli.proofs.run.report_on.Goals as goal
@@ -28,11 +28,8 @@ returns-in-Ok-clause-unknown g c = λ h.
 
 pub returns-in-Ok-clause-refused : goal.returns-in-Ok-clause-refused
 returns-in-Ok-clause-refused g c = λ fault h.
-    let refused = c.report_on_source.ensures.refused fault h in
-    let outside : IsOutside c.in-Ok.source.items c.in-Some.command.node.now =
-    subst (λ bytes. IsOutside bytes c.in-Some.command.node.now) c.deref.ensures.value refused.1 in (
-      refused.0,
-      on_file (g.F.Files.held c.args.files.now) (texts c.args.words.now) (c.in-Some.command.file.now, c.in-Some.command.node.now) c.in-Ok.source.items
-          c.in-Ok.source.items 1048576 (λ bytes node. (length bytes ≤ 1048576) × IsOutside bytes node) (sym c.in-Some.ensures) c.in-Ok.ensures.whole refl
-          (c.in-Ok.ensures.fits, outside),
-    )
+    let refused : IsRefusedFor fault c.in-Ok.source.items c.in-Some.command.node.now =
+    subst (λ bytes. IsRefusedFor fault bytes c.in-Some.command.node.now) c.deref.ensures.value (c.report_on_source.ensures.refused fault h) in
+    on_file (g.F.Files.held c.args.files.now) (texts c.args.words.now) (c.in-Some.command.file.now, c.in-Some.command.node.now) c.in-Ok.source.items
+    c.in-Ok.source.items 1048576 (λ bytes node. (length bytes ≤ 1048576) × IsRefusedFor fault bytes node) (sym c.in-Some.ensures) c.in-Ok.ensures.whole refl
+    (c.in-Ok.ensures.fits, refused)

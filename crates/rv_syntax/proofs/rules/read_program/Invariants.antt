@@ -1,0 +1,11 @@
+use Rattle.std.proofs.Common.{◌≡◌, length}
+use Rattle.rv_syntax.specs.ProgramText.{program_of}
+use Rattle.rv_syntax.specs.Tree.{program_tree}
+use Rattle.rv_syntax.specs.Reading.{mapped, sections, with_sections}
+use Rattle.rv_syntax.proofs.rules.read_program.Given as goal
+
+abbrev pub invariant-more : goal.invariant-more
+invariant-more l = mapped (with_sections (program_tree l.found)) (sections l.parser.rest) ≡ mapped program_of (sections l.fn.parser.rest)
+
+abbrev pub decreases-more : goal.decreases-more
+decreases-more l = length l.parser.rest

@@ -1,0 +1,25 @@
+-- How large the parts of a program's tree are at most.
+use Rattle.std.specs.Prelude.{◌≤◌, ◌≡◌, ℕ, List, length}
+use Rattle.std.specs.List.{Contains}
+use Rattle.rv_syntax.specs.declared.tree.Name.{Name}
+use Rattle.rv_syntax.specs.declared.tree.TypeDecl.{TypeDecl}
+use Rattle.rv_syntax.specs.declared.tree.TypeBody.TheVariants.{Labels}
+use Rattle.rv_syntax.specs.Tree.{NodeTree, ProgramTree}
+use Rattle.rv_syntax.specs.Places.{flows}
+use Rattle.rv_syntax.specs.ProgramText.{IsTextOf}
+
+-- the most bytes that a source has
+abbrev pub most : ℕ
+most = 1048576
+
+-- The declarations of each kind, the labels of a type and the flows of a node are no more than a source has bytes.
+pub record IsBounded (t : ProgramTree) : Type 0 where
+  pub types : length t.types ≤ most
+  pub constants : length t.constants ≤ most
+  pub nodes : length t.nodes ≤ most
+  pub labels : (d : TypeDecl) (xs : List Name) → Contains t.types d → d.body ≡ Labels xs → length xs ≤ most
+  pub node_flows : (n : NodeTree) → Contains t.nodes n → length (flows n) ≤ most
+
+-- the tree of some source within the limit
+abbrev pub IsTreeOfText : ProgramTree → Type 0
+IsTreeOfText t = (bytes : List ℕ) × (length bytes ≤ most) × IsTextOf bytes t
