@@ -3,9 +3,11 @@ use Rattle.std.specs.Prelude.{ℕ, List, [], ◌∷◌, ◌++◌, codes}
 use Rattle.std.specs.Fmt.{decimal}
 use Rattle.rv_syntax.specs.declared.fault.TextFault.{TextFault}
 use Rattle.rv_syntax.specs.declared.fault.TextFault.TheVariants.{BadText, TooDeep, LeftOut, Memory as TextMemory}
+use Rattle.rv_types.specs.declared.fault.NameFault.{NameFault}
+use Rattle.rv_types.specs.declared.fault.NameFault.TheVariants.{NoNode, UnknownName, DefinedTwice, Undefined, TypeClash, Nonlinear, ClockClash, NotObserver, Memory as NameMemory}
 use Rattle.rv_cli.specs.declared.report.Report.{Report}
 use Rattle.rv_cli.specs.declared.report.Report.TheVariants.{Safe, Unknown, Refused, TooLong, ReadFault, Usage, Memory}
-use Rattle.rv_cli.specs.declared.report.SourceFault.TheVariants.{Text}
+use Rattle.rv_cli.specs.declared.report.SourceFault.TheVariants.{Text, Names}
 use Rattle.rv_cli.specs.declared.report.Sent.{Sent}
 use Rattle.rv_cli.specs.declared.report.Sent.TheVariants.{Whole, Failed, Memory as SentMemory}
 
@@ -20,11 +22,24 @@ text_of_fault (TooDeep at) = record_of (codes "reaver,refused,2,toodeep," ++ dec
 text_of_fault (LeftOut at) = record_of (codes "reaver,refused,3,leftout," ++ decimal at)
 text_of_fault TextMemory = record_of (codes "reaver,memory")
 
+-- The record of a fault of names, types or clocks: its number, its name and its offset where it has one.
+abbrev pub text_of_name_fault : NameFault → List ℕ
+text_of_name_fault NoNode = record_of (codes "reaver,refused,4,nonode")
+text_of_name_fault (UnknownName at) = record_of (codes "reaver,refused,5,unknownname," ++ decimal at)
+text_of_name_fault (DefinedTwice at) = record_of (codes "reaver,refused,6,definedtwice," ++ decimal at)
+text_of_name_fault (Undefined at) = record_of (codes "reaver,refused,7,undefined," ++ decimal at)
+text_of_name_fault (TypeClash at) = record_of (codes "reaver,refused,8,typeclash," ++ decimal at)
+text_of_name_fault (Nonlinear at) = record_of (codes "reaver,refused,9,nonlinear," ++ decimal at)
+text_of_name_fault (ClockClash at) = record_of (codes "reaver,refused,10,clockclash," ++ decimal at)
+text_of_name_fault (NotObserver at) = record_of (codes "reaver,refused,11,notobserver," ++ decimal at)
+text_of_name_fault NameMemory = record_of (codes "reaver,memory")
+
 -- What is printed for a report.
 abbrev pub text_of : Report → List ℕ
 text_of Safe = record_of (codes "reaver,safe")
 text_of Unknown = record_of (codes "reaver,unknown")
 text_of (Refused (Text fault)) = text_of_fault fault
+text_of (Refused (Names fault)) = text_of_name_fault fault
 text_of (TooLong count) = record_of (codes "reaver,toolong," ++ decimal count)
 text_of ReadFault = record_of (codes "reaver,readfault")
 text_of Usage = record_of (codes "reaver,usage")

@@ -2,16 +2,19 @@
 
 ghost use Rattle.std.specs.Prelude.{◌≡◌, IfOk};
 ghost use Rattle.std.specs.String.{string_bytes};
-ghost use Rattle.rv_cli.specs.Printed.{text_of, text_of_fault, status_of, report_status};
+ghost use Rattle.rv_cli.specs.Printed.{text_of, text_of_fault, text_of_name_fault, status_of, report_status};
 
 use rv_syntax::TextFault;
+use rv_types::NameFault;
 use std::alloc::{AllocError, Global};
 
 /// Why a source is refused.
 #[derive(Clone, Copy, Debug, PartialEq, Eq)]
 pub enum SourceFault {
-    /// The text is not that of a program that is accepted.
+    /// The text is no program.
     Text(TextFault),
+    /// The program breaks a rule of names, types or clocks.
+    Names(NameFault),
 }
 
 /// What the program answers.
@@ -19,7 +22,7 @@ pub enum SourceFault {
 pub enum Report {
     /// In every run the observer is true at each instant.
     Safe,
-    /// At some valuation of the inputs the observer is false.
+    /// The program is not one that is judged, or its observer is false at some valuation.
     Unknown,
     /// The source is not one that is accepted.
     Refused(SourceFault),
@@ -63,6 +66,7 @@ pub fn text(alloc: Global, report: &Report) -> Result<String, AllocError>
         Report::Safe => String::from_str(alloc, "reaver,safe\n"),
         Report::Unknown => String::from_str(alloc, "reaver,unknown\n"),
         Report::Refused(SourceFault::Text(fault)) => fault_text(alloc, *fault),
+        Report::Refused(SourceFault::Names(fault)) => name_fault_text(alloc, *fault),
         Report::TooLong(count) => format!(in alloc; "reaver,toolong,{count}\n"),
         Report::ReadFault => String::from_str(alloc, "reaver,readfault\n"),
         Report::Usage => String::from_str(alloc, "reaver,usage\n"),
@@ -79,6 +83,24 @@ fn fault_text(alloc: Global, fault: TextFault) -> Result<String, AllocError>
         TextFault::TooDeep(at) => format!(in alloc; "reaver,refused,2,toodeep,{at}\n"),
         TextFault::LeftOut(at) => format!(in alloc; "reaver,refused,3,leftout,{at}\n"),
         TextFault::Memory => String::from_str(alloc, "reaver,memory\n"),
+    }
+}
+
+/// The text of a refusal for names, types or clocks: the number of the fault, its name in lower case letters, and its
+/// offset where it has one.
+fn name_fault_text(alloc: Global, fault: NameFault) -> Result<String, AllocError>
+    ensures { IfOk result (λ text. string_bytes text ≡ text_of_name_fault fault) }
+{
+    match fault {
+        NameFault::NoNode => String::from_str(alloc, "reaver,refused,4,nonode\n"),
+        NameFault::UnknownName(at) => format!(in alloc; "reaver,refused,5,unknownname,{at}\n"),
+        NameFault::DefinedTwice(at) => format!(in alloc; "reaver,refused,6,definedtwice,{at}\n"),
+        NameFault::Undefined(at) => format!(in alloc; "reaver,refused,7,undefined,{at}\n"),
+        NameFault::TypeClash(at) => format!(in alloc; "reaver,refused,8,typeclash,{at}\n"),
+        NameFault::Nonlinear(at) => format!(in alloc; "reaver,refused,9,nonlinear,{at}\n"),
+        NameFault::ClockClash(at) => format!(in alloc; "reaver,refused,10,clockclash,{at}\n"),
+        NameFault::NotObserver(at) => format!(in alloc; "reaver,refused,11,notobserver,{at}\n"),
+        NameFault::Memory => String::from_str(alloc, "reaver,memory\n"),
     }
 }
 

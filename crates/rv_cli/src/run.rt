@@ -6,10 +6,10 @@ ghost use Rattle.std.specs.Io.KnownBytes.{Appends, Keeps};
 ghost use Rattle.rv_base.specs.Causes.{Rose, raised};
 ghost use Rattle.rv_base.specs.Shown.{AppendsPrefix};
 ghost use Rattle.rv_meaning.specs.Runs.{IsSafe};
-ghost use Rattle.rv_meaning.specs.Valuations.{HoldsEverywhere, FailsSomewhere};
+ghost use Rattle.rv_meaning.specs.Valuations.{HoldsEverywhere};
 ghost use Rattle.rv_cli.specs.Words.{texts, command};
 ghost use Rattle.rv_cli.specs.Answers.{OnFile, IsTold, IsUnlessCutOff};
-ghost use Rattle.rv_cli.specs.Programs.{OnProgram, IsRefusedFor};
+ghost use Rattle.rv_cli.specs.Programs.{OnProgram, IsJudged, IsUndecided, IsRefusedFor};
 ghost use Rattle.rv_cli.specs.Printed.{text_of, status_of};
 ghost use Rattle.rv_cli.specs.declared.report.SourceFault.{SourceFault};
 
@@ -19,6 +19,7 @@ use crate::report::{Outcome, Report, Sent, status, text};
 use crate::words::read_words;
 use rv_base::{Files, PutFault, Sink};
 use rv_syntax::{one_fault, one_tree};
+use rv_types::settled_or_refused;
 use std::alloc::Global;
 
 /// The status where there is no memory.
@@ -31,8 +32,8 @@ pub const USAGE_STATUS: u8 = 4;
 fn report_on<F: Files>(alloc: Global, words: &[String], files: &mut F) -> Report
     requires { All (λ word. IsTrue (F.serves files.old (string_bytes word))) words.now }
     ensures safe { result ≡ Report.Safe → OnFile (F.held files.old) (texts words.now) (OnProgram IsSafe) }
-    ensures safe_everywhere { result ≡ Report.Safe → OnFile (F.held files.old) (texts words.now) (OnProgram HoldsEverywhere) }
-    ensures unknown { result ≡ Report.Unknown → OnFile (F.held files.old) (texts words.now) (OnProgram FailsSomewhere) }
+    ensures safe_everywhere { result ≡ Report.Safe → OnFile (F.held files.old) (texts words.now) (OnProgram (IsJudged HoldsEverywhere)) }
+    ensures unknown { result ≡ Report.Unknown → OnFile (F.held files.old) (texts words.now) (OnProgram IsUndecided) }
     ensures not_too_long { (result ≡ Report.Safe) ⊎ (result ≡ Report.Unknown)
         → OnFile (F.held files.old) (texts words.now) (λ bytes _. length bytes ≤ SOURCE_LIMIT) }
     ensures refused { (fault : SourceFault) → result ≡ Report.Refused fault
@@ -78,10 +79,11 @@ fn show<S: Sink>(alloc: Global, report: &Report, out: &mut S) -> Sent
 ///
 /// `prove FILE NODE` answers Safe or Unknown on the source under FILE and its node NODE. Usage comes exactly where
 /// the words are not four or the second is not `prove`, ReadFault only where the files count one more fault, and Memory
-/// where there is no memory. Beside these two, TooLong comes exactly where the file is longer than 1,048,576 bytes,
-/// Refused exactly where its bytes have no tree, with the fault of their first offending token, or have one that is not
-/// of the accepted form with this node, with `LeftOut` and the number 0; Safe exactly where the observer is true at every
-/// valuation, and Unknown exactly where it is false at some.
+/// where there is no memory. Beside these two, TooLong comes exactly where the file is longer than 1,048,576 bytes;
+/// Refused exactly where its bytes have no tree, with the fault of their first offending token, or where their program
+/// breaks a rule of names, types or clocks with this main node, with its first fault; Safe exactly where the program is
+/// one that is judged and its observer is true at every valuation; and Unknown exactly where it is accepted and not
+/// judged, or false at some valuation.
 pub fn run<F: Files, S: Sink>(
     alloc: Global,
     words: &Vec<String>,
@@ -90,8 +92,8 @@ pub fn run<F: Files, S: Sink>(
 ) -> Outcome
     requires { All (λ word. IsTrue (F.serves files.old (string_bytes word))) words.now.items }
     ensures safe { result.report ≡ Report.Safe → OnFile (F.held files.old) (texts words.now.items) (OnProgram IsSafe) }
-    ensures safe_everywhere { result.report ≡ Report.Safe → OnFile (F.held files.old) (texts words.now.items) (OnProgram HoldsEverywhere) }
-    ensures unknown { result.report ≡ Report.Unknown → OnFile (F.held files.old) (texts words.now.items) (OnProgram FailsSomewhere) }
+    ensures safe_everywhere { result.report ≡ Report.Safe → OnFile (F.held files.old) (texts words.now.items) (OnProgram (IsJudged HoldsEverywhere)) }
+    ensures unknown { result.report ≡ Report.Unknown → OnFile (F.held files.old) (texts words.now.items) (OnProgram IsUndecided) }
     ensures not_too_long { (result.report ≡ Report.Safe) ⊎ (result.report ≡ Report.Unknown)
         → OnFile (F.held files.old) (texts words.now.items) (λ bytes _. length bytes ≤ SOURCE_LIMIT) }
     ensures refused { (fault : SourceFault) → result.report ≡ Report.Refused fault
@@ -100,9 +102,9 @@ pub fn run<F: Files, S: Sink>(
         → (n ≡ SOURCE_LIMIT + 1) × OnFile (F.held files.old) (texts words.now.items) (λ bytes _. SOURCE_LIMIT < length bytes) }
     ensures read_fault { result.report ≡ Report.ReadFault → Rose (F.faults files.old) (F.faults files.new) }
     ensures usage { (result.report ≡ Report.Usage) ↔ (command (texts words.now.items) ≡ None) }
-    ensures only_safe { IsTold (F.held files.old) (texts words.now.items) (λ bytes node. (length bytes ≤ SOURCE_LIMIT) × OnProgram HoldsEverywhere bytes node)
+    ensures only_safe { IsTold (F.held files.old) (texts words.now.items) (λ bytes node. (length bytes ≤ SOURCE_LIMIT) × OnProgram (IsJudged HoldsEverywhere) bytes node)
         → IsUnlessCutOff Report.Safe result.report }
-    ensures only_unknown { IsTold (F.held files.old) (texts words.now.items) (λ bytes node. (length bytes ≤ SOURCE_LIMIT) × OnProgram FailsSomewhere bytes node)
+    ensures only_unknown { IsTold (F.held files.old) (texts words.now.items) (λ bytes node. (length bytes ≤ SOURCE_LIMIT) × OnProgram IsUndecided bytes node)
         → IsUnlessCutOff Report.Unknown result.report }
     ensures only_refused { (fault : SourceFault) → IsTold (F.held files.old) (texts words.now.items) (λ bytes node. (length bytes ≤ SOURCE_LIMIT) × IsRefusedFor fault bytes node)
         → IsUnlessCutOff (Report.Refused fault) result.report }
@@ -121,6 +123,8 @@ pub fn run<F: Files, S: Sink>(
     let report = report_on(alloc, words.as_slice(), files);
     one_tree();
     one_fault();
+    rv_types::one_fault();
+    settled_or_refused();
     let sent = show(alloc, &report, out);
     let status = status(&report, sent);
     Outcome {

@@ -16,13 +16,14 @@ use crate::report::{Outcome, Report, Sent, SourceFault, text};
 use crate::run::run;
 use rv_base::{Memory, MemoryFiles, MemorySink, SureFiles, SureSink};
 use rv_syntax::TextFault;
+use rv_types::NameFault;
 use std::alloc::{AllocError, Global};
 use std::process::Abort;
 use std::test::Fail;
 
 const TAUTOLOGY: &str = "node m(a: bool) returns (ok: bool); let ok = a or not a; tel";
 
-const REFUSED: Report = Report::Refused(SourceFault::Text(TextFault::LeftOut(0)));
+const NO_NODE: Report = Report::Refused(SourceFault::Names(NameFault::NoNode));
 
 #[derive(Drop)]
 struct Row<'a> {
@@ -74,6 +75,10 @@ fn files_of(alloc: Global) -> Result<MemoryFiles, Memory> {
     )?;
     files.add("empty", b"")?;
     files.add("cut", b"node m(a: bool) retur")?;
+    files.add(
+        "labels",
+        b"type t = enum { p, q, r }; node m(s: t) returns (ok: bool); let ok = s = p or s = q or s = r; tel",
+    )?;
     files.add("no_text", &[0, 255, 128, 10])?;
     Ok(files)
 }
@@ -95,7 +100,7 @@ fn check_row(rt: &impl Abort, alloc: Global, row: &Row) -> Result<(), Fail> {
 
 #[test]
 fn answers_on_sources(rt: HostRuntime) -> Result<(), Fail> {
-    let refused = "reaver,refused,3,leftout,0\n";
+    let no_node = "reaver,refused,4,nonode\n";
     for row in &[
         plain("reaver prove tautology m", Report::Safe, 0, "reaver,safe\n"),
         plain(
@@ -110,9 +115,20 @@ fn answers_on_sources(rt: HostRuntime) -> Result<(), Fail> {
             2,
             "reaver,unknown\n",
         ),
-        plain("reaver prove tautology main", REFUSED, 3, refused),
-        plain("reaver prove sum m", REFUSED, 3, refused),
-        plain("reaver prove empty m", REFUSED, 3, refused),
+        plain("reaver prove tautology main", NO_NODE, 3, no_node),
+        plain("reaver prove empty m", NO_NODE, 3, no_node),
+        plain(
+            "reaver prove sum m",
+            Report::Refused(SourceFault::Names(NameFault::TypeClash(47))),
+            3,
+            "reaver,refused,8,typeclash,47\n",
+        ),
+        plain(
+            "reaver prove labels m",
+            Report::Unknown,
+            2,
+            "reaver,unknown\n",
+        ),
         plain(
             "reaver prove no_text m",
             Report::Refused(SourceFault::Text(TextFault::BadText(0))),
@@ -193,11 +209,7 @@ fn answers_on_failures(rt: HostRuntime) -> Result<(), Fail> {
 fn answers_on_long_files(rt: HostRuntime) -> Result<(), Fail> {
     let too_long = "reaver,toolong,1048577\n";
     for (length, report, shown) in [
-        (
-            SOURCE_LIMIT as usize,
-            REFUSED,
-            "reaver,refused,3,leftout,0\n",
-        ),
+        (SOURCE_LIMIT as usize, NO_NODE, "reaver,refused,4,nonode\n"),
         (
             SOURCE_LIMIT as usize + 1,
             Report::TooLong(1_048_577),
@@ -229,6 +241,36 @@ fn prints_each_fault_of_text(rt: HostRuntime) -> Result<(), Fail> {
         (TextFault::LeftOut(64), "reaver,refused,3,leftout,64\n"),
     ] {
         let printed = text(rt.alloc(), &Report::Refused(SourceFault::Text(fault)))?;
+        assert_eq!(rt; printed.as_str(), shown);
+    }
+    Ok(())
+}
+
+#[test]
+fn prints_each_fault_of_names(rt: HostRuntime) -> Result<(), Fail> {
+    for (fault, shown) in [
+        (NameFault::NoNode, "reaver,refused,4,nonode\n"),
+        (
+            NameFault::UnknownName(1),
+            "reaver,refused,5,unknownname,1\n",
+        ),
+        (
+            NameFault::DefinedTwice(2),
+            "reaver,refused,6,definedtwice,2\n",
+        ),
+        (NameFault::Undefined(3), "reaver,refused,7,undefined,3\n"),
+        (NameFault::TypeClash(47), "reaver,refused,8,typeclash,47\n"),
+        (NameFault::Nonlinear(60), "reaver,refused,9,nonlinear,60\n"),
+        (
+            NameFault::ClockClash(50),
+            "reaver,refused,10,clockclash,50\n",
+        ),
+        (
+            NameFault::NotObserver(5),
+            "reaver,refused,11,notobserver,5\n",
+        ),
+    ] {
+        let printed = text(rt.alloc(), &Report::Refused(SourceFault::Names(fault)))?;
         assert_eq!(rt; printed.as_str(), shown);
     }
     Ok(())
@@ -292,22 +334,12 @@ const UNKNOWN: &[(&str, &str)] = &[
     ),
 ];
 
-// Texts that are outside the form: a name outside `pre` before its equation, a flow that is defined twice or never, an
-// equation for an input or for nothing, a name twice, and thirteen bits.
-const OUTSIDE: &[(&str, &str)] = &[
+// Programs that keep the rules and are not judged: a name outside `pre` before its equation, thirteen bits, an assertion,
+// another operator.
+const NOT_JUDGED: &[(&str, &str)] = &[
     ("a", "var x: bool; let ok = x or not x; x = a; tel"),
     ("a", "let ok = ok; tel"),
     ("a", "let ok = true -> ok; tel"),
-    ("a", "var x: bool; let x = a; x = a; ok = x or not x; tel"),
-    ("a", "let ok = true; ok = true; tel"),
-    ("a", "var x: bool; let ok = a or not a; tel"),
-    ("a", "var x: bool; let x = a; tel"),
-    ("a", "let a = true; ok = true; tel"),
-    ("a", "let ok = true; z = a; tel"),
-    ("a", "let ok = pre z or not pre z; tel"),
-    ("a", "var a: bool; let a = true; ok = true; tel"),
-    ("a", "var x, x: bool; let x = a; ok = true; tel"),
-    ("a", "var ok: bool; let ok = true; tel"),
     ("a", "var x, y: bool; let y = not x; x = not a; ok = x; tel"),
     (
         "a, b, c, d, e, f, g, h, i, j, k",
@@ -322,11 +354,32 @@ const OUTSIDE: &[(&str, &str)] = &[
         "a, b, c, d, e, f, g, h, i, j",
         "let ok = pre a or not pre b; tel",
     ),
+    ("a", "let assert a; ok = true; tel"),
+    ("a", "let ok = a => a; tel"),
+    ("a", "let ok = current (a when a); tel"),
+];
+
+// Programs that break a rule of names, with the fault.
+const REFUSED: &[(&str, NameFault)] = &[
     (
-        "a",
-        "var p, q, r, s, t, u, v, w, x, y: bool; let p = pre a; q = pre p; r = pre q; s = \
-         pre r; t = pre s; u = pre t; v = pre u; w = pre v; x = pre w; y = pre x; ok = \
-         pre y or not pre y; tel",
+        "var x: bool; let x = a; x = a; ok = x or not x; tel",
+        NameFault::DefinedTwice(60),
+    ),
+    ("let ok = true; ok = true; tel", NameFault::DefinedTwice(51)),
+    (
+        "var x: bool; let ok = a or not a; tel",
+        NameFault::Undefined(40),
+    ),
+    ("var x: bool; let x = a; tel", NameFault::Undefined(25)),
+    ("let a = true; ok = true; tel", NameFault::DefinedTwice(40)),
+    ("let ok = true; z = a; tel", NameFault::UnknownName(51)),
+    (
+        "let ok = pre z or not pre z; tel",
+        NameFault::UnknownName(49),
+    ),
+    (
+        "var x, x: bool; let x = a; ok = true; tel",
+        NameFault::DefinedTwice(43),
     ),
 ];
 
@@ -345,12 +398,20 @@ fn answers_on_boolean_nodes(rt: HostRuntime) -> Result<(), Fail> {
     for (rows, report) in [
         (SAFE, Report::Safe),
         (UNKNOWN, Report::Unknown),
-        (OUTSIDE, REFUSED),
+        (NOT_JUDGED, Report::Unknown),
     ] {
         for (inputs, rest) in rows {
             let found = report_on_node(rt.alloc(), inputs, rest)?;
             assert_eq!(rt; found, report, "at ({inputs}) {rest}");
         }
+    }
+    for (rest, fault) in REFUSED {
+        let found = report_on_node(rt.alloc(), "a", rest)?;
+        assert_eq!(rt;
+            found,
+            Report::Refused(SourceFault::Names(*fault)),
+            "at {rest}"
+        );
     }
     Ok(())
 }

@@ -1,5 +1,5 @@
-//! Reads a table of texts from standard input, a row a line, and prints each row with what the parser answers. What it
-//! is to print was computed by hand from the grammar.
+//! Reads a table of texts from standard input, a row a line, and prints each row with what is answered on it: by the
+//! parser, or by the rules of names, types and clocks. What it is to print was computed by hand from the rules.
 #![tactic(auto)]
 
 mod rows;

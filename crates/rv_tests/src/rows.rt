@@ -1,12 +1,23 @@
-//! A row of the table: what kind of text it is, the text, and what the parser answers on it.
+//! A row of the table: what kind of text it is, the text, and what is answered on it.
 
 use crate::shapes::write_shape;
-use rv_base::Memory;
+use rv_base::{Memory, Value};
 use rv_syntax::{Program, TextFault, parse};
+use rv_types::{NameFault, settle};
 use std::alloc::{AllocError, Global};
 
 /// The front of a text with one node up to its locals, of 36 bytes.
 const HEADER: &str = "node m(a: bool) returns (ok: bool); ";
+
+/// The front of a text with one node up to its locals, which has two inputs of each of two types.
+const TYPED: &str = "node m(a, b: bool; i, j: int) returns (ok: bool); ";
+
+/// The front of a text with a node of two outputs and one more node, up to its locals.
+const SEVERAL: &str =
+    "node d(u: bool; v: int) returns (x: bool; y: int); let x = u; y = v; tel node m(a: bool; i: int) returns (ok: bool); ";
+
+/// The front of a text with one node up to its locals, with inputs that may be clocks.
+const CLOCKED: &str = "node m(a, c, e: bool; i: int) returns (ok: bool); ";
 
 /// The longest text that the parser takes.
 const MOST: usize = 1_048_576;
@@ -17,7 +28,10 @@ const MOST: usize = 1_048_576;
 /// `body`: what stands behind `let`, from offset 40 on;
 /// `right`: the right side of an equation, from offset 45 on;
 /// `tree`: the same, of which the tree is told;
-/// `nested`: a right side by its front, a part, how often it is repeated, and the back.
+/// `nested`: a right side by its front, a part, how often it is repeated, and the back;
+/// `settle`: a whole program with the main node `m`, whose names, types and clocks are judged;
+/// `values`: whole declarations of types and constants, and what the constants are;
+/// `typed`, `several`, `clocked`: the same by what stands behind the header, up to `tel`, of nodes as above.
 pub fn answer(alloc: Global, row: &str) -> Result<String, Memory> {
     let Some((kind, text)) = row.split_once('~') else {
         return Ok(String::from_str(alloc, "no row")?);
@@ -29,6 +43,11 @@ pub fn answer(alloc: Global, row: &str) -> Result<String, Memory> {
         "right" => verdict(alloc, &framed(alloc, "let ok = ", text, "; tel")?),
         "tree" => shape(alloc, &framed(alloc, "let ok = ", text, "; tel")?),
         "nested" => nested(alloc, text),
+        "settle" => judged(alloc, &String::from_str(alloc, text)?),
+        "values" => values(alloc, &format!(in alloc; "{text}{HEADER}let ok = a; tel")?),
+        "typed" => judged(alloc, &format!(in alloc; "{TYPED}{text} tel")?),
+        "several" => judged(alloc, &format!(in alloc; "{SEVERAL}{text} tel")?),
+        "clocked" => judged(alloc, &format!(in alloc; "{CLOCKED}{text} tel")?),
         _ => Ok(String::from_str(alloc, "no kind")?),
     }
 }
@@ -101,4 +120,63 @@ fn nested(alloc: Global, fields: &str) -> Result<String, Memory> {
     }
     right.push_str(back)?;
     verdict(alloc, &framed(alloc, "let ok = ", right.as_str(), "; tel")?)
+}
+
+/// `accepted`, or the first fault of text, names, types or clocks, and its offset.
+fn judged(alloc: Global, text: &String) -> Result<String, Memory> {
+    if text.len() > MOST {
+        return Err(Memory::Memory);
+    }
+    match parse(alloc, text.as_bytes()) {
+        Ok(program) => match settle(alloc, &program, "m") {
+            Ok(_) => Ok(String::from_str(alloc, "accepted")?),
+            Err(fault) => name_fault_text(alloc, fault),
+        },
+        Err(fault) => fault_text(alloc, fault),
+    }
+}
+
+/// The values of the constants of a program, or its first fault.
+fn values(alloc: Global, text: &String) -> Result<String, Memory> {
+    if text.len() > MOST {
+        return Err(Memory::Memory);
+    }
+    match parse(alloc, text.as_bytes()) {
+        Ok(program) => match settle(alloc, &program, "m") {
+            Ok(typed) => listed(alloc, typed.constants.as_slice()),
+            Err(fault) => name_fault_text(alloc, fault),
+        },
+        Err(fault) => fault_text(alloc, fault),
+    }
+}
+
+/// Values with a space after each. A number is told where it has at most 64 bits.
+fn listed(alloc: Global, values: &[Value]) -> Result<String, Memory> {
+    let mut found = String::new(alloc);
+    for value in values {
+        let text = match value {
+            Value::Flag(flag) => format!(in alloc; "{flag} ")?,
+            Value::Label(number) => format!(in alloc; "label:{number} ")?,
+            Value::Whole(number) => match i64::try_from(*number) {
+                Ok(number) => format!(in alloc; "{number} ")?,
+                Err(_) => String::from_str(alloc, "large ")?,
+            },
+        };
+        found.push_str(text.as_str())?;
+    }
+    Ok(found)
+}
+
+fn name_fault_text(alloc: Global, fault: NameFault) -> Result<String, Memory> {
+    match fault {
+        NameFault::NoNode => Ok(String::from_str(alloc, "nonode")?),
+        NameFault::UnknownName(at) => Ok(format!(in alloc; "unknownname {at}")?),
+        NameFault::DefinedTwice(at) => Ok(format!(in alloc; "definedtwice {at}")?),
+        NameFault::Undefined(at) => Ok(format!(in alloc; "undefined {at}")?),
+        NameFault::TypeClash(at) => Ok(format!(in alloc; "typeclash {at}")?),
+        NameFault::Nonlinear(at) => Ok(format!(in alloc; "nonlinear {at}")?),
+        NameFault::ClockClash(at) => Ok(format!(in alloc; "clockclash {at}")?),
+        NameFault::NotObserver(at) => Ok(format!(in alloc; "notobserver {at}")?),
+        NameFault::Memory => Err(Memory::Memory),
+    }
 }

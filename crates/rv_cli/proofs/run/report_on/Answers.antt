@@ -1,8 +1,8 @@
 use Rattle.std.proofs.Common.{sym, ◌≤◌, length, subst, refl}
 use Rattle.rv_meaning.specs.Runs.{IsSafe}
-use Rattle.rv_meaning.specs.Valuations.{HoldsEverywhere, FailsSomewhere}
+use Rattle.rv_meaning.specs.Valuations.{HoldsEverywhere}
 use Rattle.rv_cli.specs.Words.{texts}
-use Rattle.rv_cli.specs.Programs.{OnProgram, IsRefusedFor}
+use Rattle.rv_cli.specs.Programs.{OnProgram, IsJudged, IsUndecided, IsRefusedFor}
 use Rattle.rv_cli.proofs.Named.{on_file}
 use Rattle.rv_cli.proofs.Served.{served}
 use Rattle.rv_cli.proofs.run.report_on.Goals as goal
@@ -18,13 +18,13 @@ returns-in-Ok-clause-safe g c = λ h.
 pub returns-in-Ok-clause-safe_everywhere : goal.returns-in-Ok-clause-safe_everywhere
 returns-in-Ok-clause-safe_everywhere g c = λ h.
     on_file (g.F.Files.held c.args.files.now) (texts c.args.words.now) (c.in-Some.command.file.now, c.in-Some.command.node.now) c.in-Ok.source.items
-    c.deref.result.now 1048576 (OnProgram HoldsEverywhere) (sym c.in-Some.ensures) c.in-Ok.ensures.whole c.deref.ensures.value
+    c.deref.result.now 1048576 (OnProgram (IsJudged HoldsEverywhere)) (sym c.in-Some.ensures) c.in-Ok.ensures.whole c.deref.ensures.value
     (c.report_on_source.ensures.safe_everywhere h)
 
 pub returns-in-Ok-clause-unknown : goal.returns-in-Ok-clause-unknown
 returns-in-Ok-clause-unknown g c = λ h.
     on_file (g.F.Files.held c.args.files.now) (texts c.args.words.now) (c.in-Some.command.file.now, c.in-Some.command.node.now) c.in-Ok.source.items
-    c.deref.result.now 1048576 (OnProgram FailsSomewhere) (sym c.in-Some.ensures) c.in-Ok.ensures.whole c.deref.ensures.value (c.report_on_source.ensures.unknown h)
+    c.deref.result.now 1048576 (OnProgram IsUndecided) (sym c.in-Some.ensures) c.in-Ok.ensures.whole c.deref.ensures.value (c.report_on_source.ensures.unknown h)
 
 pub returns-in-Ok-clause-refused : goal.returns-in-Ok-clause-refused
 returns-in-Ok-clause-refused g c = λ fault h.

@@ -1,0 +1,37 @@
+-- Operands and the types that are wanted of them, one after the other.
+use Rattle.std.proofs.Common.{◌≡◌, ℕ, ◌≤◌, zero, suc, ◌&&◌, nat_le, List, [], ◌∷◌, map, drop, length, Option, Some, is_some, refl, ◌∙◌, arith}
+use Rattle.std.proofs.Common.{None as Nothing}
+use Rattle.std.proofs.lemmas.Bool.Decides.{nat_tests}
+use Rattle.rv_syntax.specs.declared.tree.Expr.{Expr}
+use Rattle.rv_syntax.specs.Tree.{tree_of, trees}
+use Rattle.rv_types.specs.declared.typed.Kind.{Kind}
+use Rattle.rv_types.specs.Types.{all_typed, fit}
+use Rattle.rv_types.specs.Tables.{suits_at}
+
+pub typed_more : (k : Option Kind) (ks : List (Option Kind)) → all_typed (k ∷ ks) ≡ (is_some k && all_typed ks)
+typed_more Nothing ks = refl
+typed_more (Some k) ks = refl
+
+pub fit_more : (ws : List Kind) (n : ℕ) (k : Option Kind) (ks : List (Option Kind)) → fit (drop n ws) (k ∷ ks) ≡ (suits_at ws n k && fit (drop (suc n) ws) ks)
+fit_more [] zero k ks = refl
+fit_more [] (suc n) k ks = refl
+fit_more (w ∷ ws) zero k ks = refl
+fit_more (w ∷ ws) (suc n) k ks = fit_more ws n k ks
+
+pub fit_end : (ws : List Kind) (n : ℕ) → fit (drop n ws) [] ≡ nat_le (length ws) n
+fit_end [] zero = refl
+fit_end [] (suc n) = grind (arith, nat_tests)
+fit_end (w ∷ ws) zero = grind (arith, nat_tests)
+fit_end (w ∷ ws) (suc n) = let e = fit_end ws n in let f : nat_le (length ws) n ≡ nat_le (suc (length ws)) (suc n) = grind (arith, nat_tests) in e ∙ f
+
+pub nothing_left : (es : List Expr) (n : ℕ) → length es ≤ n → trees (map tree_of (drop n es)) ≡ trees []
+nothing_left [] zero h = refl
+nothing_left [] (suc n) h = refl
+nothing_left (e ∷ es) zero h = absurd (omega (arith, h))
+nothing_left (e ∷ es) (suc n) h = nothing_left es n (omega (arith, h))
+
+pub none_left : {A : Type 0} (xs : List A) (n : ℕ) → length xs ≤ n → drop n xs ≡ []
+none_left [] zero h = refl
+none_left [] (suc n) h = refl
+none_left (x ∷ xs) zero h = absurd (omega (arith, h))
+none_left (x ∷ xs) (suc n) h = none_left xs n (omega (arith, h))

@@ -1,0 +1,65 @@
+-- What is known where no rule of names is broken.
+use Rattle.std.proofs.Common.{ap, ◌∙◌, ◌≡◌, ◌≤◌, List, [], ◌∷◌, ◌++◌, flat_map, reverse, length, refl, arith}
+use Rattle.rv_syntax.specs.declared.tree.Name.{Name}
+use Rattle.rv_syntax.specs.declared.tree.TypeBody.{TypeBody}
+use Rattle.rv_syntax.specs.declared.tree.TypeBody.TheVariants.{Alias, Labels}
+use Rattle.rv_syntax.specs.declared.tree.TypeDecl.{TypeDecl}
+use Rattle.rv_syntax.specs.Tree.{NodeTree, ProgramTree}
+use Rattle.rv_syntax.specs.Bounded.{most}
+use Rattle.rv_types.specs.Names.{labels_of, type_names, constant_names, label_names, node_names, repeated, names_in_node, name_faults}
+use Rattle.rv_types.specs.Known.{first_spaces, flow_names}
+use Rattle.rv_types.specs.TypeTables.{declared_kinds, places_from}
+use Rattle.rv_types.specs.ConstantTables.{AreTablesOf}
+use Rattle.rv_types.specs.declared.spaces.Spaces.{Spaces}
+use Rattle.rv_types.specs.declared.typed.Kind.{Kind}
+use Rattle.rv_types.specs.declared.view.Label.{Label}
+use Rattle.rv_types.proofs.FirstNames.{all_first}
+
+pub both_empty : {A : Type 0} (xs ys : List A) → xs ++ ys ≡ [] → (xs ≡ []) × (ys ≡ [])
+both_empty [] ys e = (refl, e)
+both_empty (x ∷ xs) ys e = absurd (let b : ⊥ = cc in b)
+
+pub record AreDifferent (p : ProgramTree) : Type 0 where
+  pub nodes : repeated [] (node_names p) ≡ []
+  pub types : repeated [] (type_names p) ≡ []
+  pub constants : repeated [] (constant_names p) ≡ []
+  pub labels : repeated [] (label_names p) ≡ []
+  pub in_nodes : flat_map (names_in_node p) p.nodes ≡ []
+
+pub all_different : (p : ProgramTree) → name_faults p ≡ [] → AreDifferent p
+all_different p e =
+    let whole = both_empty _ _ e in
+    let spaces = both_empty _ _ whole.0 in
+    let others = both_empty _ _ spaces.1 in
+    let values = both_empty _ _ others.1 in
+    let own = both_empty _ _ values.0 in
+    let uses = both_empty _ _ whole.1 in
+    record { nodes = spaces.0; types = others.0; constants = own.0; labels = own.1; in_nodes = uses.1 }
+
+pub flows_different : (p : ProgramTree) (n : NodeTree) → names_in_node p n ≡ [] → repeated [] (flow_names n) ≡ []
+flows_different p n e = (both_empty _ _ (both_empty _ _ e).0).0
+
+pub few_labels : (d : TypeDecl) → ((xs : List Name) → d.body ≡ Labels xs → length xs ≤ most) → length (labels_of d) ≤ most
+few_labels d h = tested d.body h
+  where
+    tested : (b : TypeBody) → ((xs : List Name) → b ≡ Labels xs → length xs ≤ most) → length (elim b as (λ _. List Name) [ Alias t ↦ [] | Labels xs ↦ xs ]) ≤ most
+    tested (Alias t) h = omega arith
+    tested (Labels xs) h = h xs refl
+
+-- the tables of what a program declares, by its spaces
+pub tables_are : (p : ProgramTree) (s : Spaces) (kinds : List Kind) (places : List Label) → name_faults p ≡ [] → s ≡ first_spaces p → kinds ≡ declared_kinds (reverse p.types) → places ≡ places_from 0 p.types
+    → AreTablesOf p s.types kinds s.constants s.labels places
+tables_are p s kinds places names e k l =
+    let d = all_different p names in
+    record {
+      type_table = ap (λ (s : Spaces). s.types) e ∙ all_first (type_names p) d.types;
+      kind_table = k;
+      constant_table = ap (λ (s : Spaces). s.constants) e ∙ all_first (constant_names p) d.constants;
+      label_table = ap (λ (s : Spaces). s.labels) e ∙ all_first (label_names p) d.labels;
+      place_table = l;
+      different_types = d.types;
+      different_constants = d.constants;
+    }
+
+pub node_table_is : (p : ProgramTree) (s : Spaces) → name_faults p ≡ [] → s ≡ first_spaces p → s.nodes ≡ node_names p
+node_table_is p s names e = ap (λ (s : Spaces). s.nodes) e ∙ all_first (node_names p) (all_different p names).nodes

@@ -1,0 +1,7 @@
+use Rattle.std.proofs.Common.{◌≡◌, take, flat_map}
+use Rattle.rv_types.specs.Known.{clock_use_in}
+use Rattle.rv_types.specs.Earliest.{first}
+use Rattle.rv_types.proofs.names.unknown_clocks.Given as goal
+
+abbrev pub invariant-loop-decl : goal.invariant-loop-decl
+invariant-loop-decl l = l.fault ≡ first (flat_map (clock_use_in l.flows) (take l.decl-index l.decls))

@@ -1,0 +1,7 @@
+use Rattle.std.proofs.Common.{◌≡◌, take, flat_map}
+use Rattle.rv_types.specs.Known.{flow_use_in}
+use Rattle.rv_types.specs.Earliest.{first}
+use Rattle.rv_types.proofs.names.unknown_in_flows.Given as goal
+
+abbrev pub invariant-loop-decl : goal.invariant-loop-decl
+invariant-loop-decl l = l.fault ≡ first (flat_map (flow_use_in l.types) (take l.decl-index l.decls))

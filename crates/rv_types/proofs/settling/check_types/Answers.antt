@@ -1,0 +1,11 @@
+use Rattle.std.proofs.Common.{◌≡◌, rules, None}
+use Rattle.rv_syntax.specs.Tree.{program_tree}
+use Rattle.rv_types.specs.Earliest.{first}
+use Rattle.rv_types.specs.Scopes.{type_faults}
+use Rattle.rv_types.proofs.FirstLaws.{first_none}
+use Rattle.rv_types.proofs.settling.check_types.Goals as goal
+
+pub returns-in-None-clause-right : goal.returns-in-None-clause-right
+returns-in-None-clause-right c =
+    let none : first (type_faults (program_tree c.args.p.now)) ≡ None = search rules in
+    first_none (type_faults (program_tree c.args.p.now)) none

@@ -1,0 +1,11 @@
+use Rattle.std.proofs.Common.{◌≡◌, ◌&&◌, drop}
+use Rattle.rv_types.specs.NodeTypes.{lefts_by}
+use Rattle.rv_types.specs.Tables.{scope_of}
+use Rattle.rv_types.specs.Types.{fit}
+use Rattle.rv_types.proofs.sides.fit_lefts.Given as goal
+
+abbrev pub invariant-loop-x : goal.invariant-loop-x
+invariant-loop-x l = record {
+  counted : l.count ≡ l.x-index;
+  fits : (l.fit && fit (drop l.count l.wanted) (lefts_by (scope_of l.view) (drop l.x-index l.lefts))) ≡ fit l.wanted (lefts_by (scope_of l.view) l.lefts);
+}

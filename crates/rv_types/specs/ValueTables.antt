@@ -1,0 +1,35 @@
+-- What constants and labels stand for, by tables, and the weight that any larger one counts as.
+use Rattle.std.specs.Prelude.{ℕ, ◌+◌, ◌^◌, ◌≤◌, Bool, true, false, List, nat_abs, Option, Some}
+use Rattle.std.specs.Prelude.{None as Nothing}
+use Rattle.rv_base.specs.declared.value.Value.{Value}
+use Rattle.rv_base.specs.declared.value.Value.TheVariants as value
+use Rattle.rv_syntax.specs.declared.tree.Name.{Name}
+use Rattle.rv_syntax.specs.Places.{Identifier}
+use Rattle.rv_types.specs.declared.view.Label.{Label}
+use Rattle.rv_types.specs.Constants.{whole_in, none_true, at_most_one}
+use Rattle.rv_types.specs.Tables.{entry_in}
+
+-- the weight that any larger one counts as
+abbrev pub cap : ℕ
+cap = 2 ^ 40 + 1
+
+abbrev pub value_of_label : Option Label → Value
+value_of_label Nothing = value.Flag false
+value_of_label (Some l) = value.Label l.number
+
+-- the value of a constant where there is one of the name so far, otherwise that of a label
+abbrev pub value_or : Option Value → Value → Value
+value_or Nothing label = label
+value_or (Some v) label = v
+
+abbrev pub known_in : List Name → List Value → List Name → List Label → Identifier → Value
+known_in constants values labels places x = value_or (entry_in constants values x) (value_of_label (entry_in labels places x))
+
+-- integers count to 2^40 + 1 at most
+abbrev pub AreSmall : (Identifier → Value) → Type 0
+AreSmall known = (x : Identifier) → nat_abs (whole_in (known x)) ≤ cap
+
+-- whether at most one flag is true, where one before them is or none
+abbrev pub at_most_after : Bool → List Bool → Bool
+at_most_after true bs = none_true bs
+at_most_after false bs = at_most_one bs

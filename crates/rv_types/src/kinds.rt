@@ -1,0 +1,172 @@
+//! The types of declarations.
+
+ghost use Rattle.std.specs.Prelude.{◌≡◌, ◌+◌, ◌≤◌, ◌<◌, ◌^◌, ◌++◌, [], map, reverse, length, IfOk};
+ghost use Rattle.rv_syntax.specs.Tree.{node_tree};
+ghost use Rattle.rv_syntax.specs.Bounded.{most};
+ghost use Rattle.rv_syntax.specs.declared.tree.TypeDecl.{TypeDecl as AnyType};
+ghost use Rattle.rv_types.specs.Names.{repeated, labels_of};
+ghost use Rattle.rv_types.specs.Kinds.{written_kind, declared_kind};
+ghost use Rattle.rv_types.specs.Tables.{entry_in};
+ghost use Rattle.rv_types.specs.TypeTables.{declared_kinds, kinds_by, flow_kinds_by, signature_by, places_among, places_from};
+ghost use Rattle.std.specs.List.{Contains};
+
+use crate::space::Space;
+use crate::typed::Kind;
+use crate::view::{Label, Signature, entry};
+use rv_base::{Many, Memory};
+use rv_syntax::{Decl, Name, Node, TypeBody, TypeDecl, TypeName};
+use std::alloc::Global;
+
+/// What a written type is, where the names of types have these.
+pub fn written(names: &Space, kinds: &[Kind], t: &TypeName) -> Kind
+    ensures { result ≡ written_kind (entry_in names.now kinds.now) t.now }
+{
+    match t {
+        TypeName::Bool => Kind::Bool,
+        TypeName::Int => Kind::Int,
+        TypeName::Named(name) => match entry(names, kinds, &name.text) {
+            None => Kind::Bool,
+            Some(kind) => *kind,
+        },
+    }
+}
+
+fn declared(names: &Space, kinds: &[Kind], number: u32, body: &TypeBody) -> Kind
+    ensures { result ≡ declared_kind (entry_in names.now kinds.now) number body.now }
+{
+    match body {
+        TypeBody::Alias(t) => written(names, kinds, t),
+        TypeBody::Labels(_) => Kind::Labels(number),
+    }
+}
+
+/// What each declaration of a type means, in order. An alias names one that stands before it.
+pub fn type_kinds(alloc: Global, names: &Space, types: &[TypeDecl]) -> Result<Many<Kind>, Memory>
+    requires names { names.now ≡ map (λ d. d.name) types.now }
+    requires different { repeated [] names.now ≡ [] }
+    requires few { length types.now ≤ most }
+    ensures { IfOk result (λ ks. ks ≡ declared_kinds (reverse types.now)) }
+{
+    let mut kinds = Many::new(alloc);
+    for d in types {
+        let kind = declared(names, kinds.as_slice(), kinds.len() as u32, &d.body);
+        kinds.push(kind)?;
+    }
+    Ok(kinds)
+}
+
+/// Adds the types of flows.
+pub fn push_kinds(
+    kinds: &mut Many<Kind>,
+    names: &Space,
+    types: &[Kind],
+    decls: &[Decl],
+) -> Result<(), Memory>
+    ensures { IfOk result (λ done. kinds.new ≡ kinds.old ++ kinds_by (entry_in names.now types.now) decls.now) }
+{
+    for d in decls {
+        kinds.push(written(names, types, &d.kind))?;
+    }
+    Ok(())
+}
+
+/// The types of some flows, in order.
+pub fn decl_kinds(
+    alloc: Global,
+    names: &Space,
+    types: &[Kind],
+    decls: &[Decl],
+) -> Result<Many<Kind>, Memory>
+    ensures { IfOk result (λ ks. ks ≡ kinds_by (entry_in names.now types.now) decls.now) }
+{
+    let mut kinds = Many::new(alloc);
+    push_kinds(&mut kinds, names, types, decls)?;
+    Ok(kinds)
+}
+
+/// The types of the flows of a node, in the order of their sites.
+pub fn flow_kinds(
+    alloc: Global,
+    names: &Space,
+    types: &[Kind],
+    node: &Node,
+) -> Result<Many<Kind>, Memory>
+    ensures { IfOk result (λ ks. ks ≡ flow_kinds_by (entry_in names.now types.now) (node_tree node.now)) }
+{
+    let mut kinds = decl_kinds(alloc, names, types, node.inputs.as_slice())?;
+    push_kinds(&mut kinds, names, types, node.outputs.as_slice())?;
+    push_kinds(&mut kinds, names, types, node.locals.as_slice())?;
+    Ok(kinds)
+}
+
+/// What a node takes and gives.
+pub fn signature(
+    alloc: Global,
+    names: &Space,
+    types: &[Kind],
+    node: &Node,
+) -> Result<Signature, Memory>
+    ensures { IfOk result (λ g. g ≡ signature_by (entry_in names.now types.now) (node_tree node.now)) }
+{
+    let takes = decl_kinds(alloc, names, types, node.inputs.as_slice())?;
+    let gives = decl_kinds(alloc, names, types, node.outputs.as_slice())?;
+    Ok(Signature::new(takes, gives))
+}
+
+/// What each node takes and gives, in order.
+pub fn signatures(
+    alloc: Global,
+    names: &Space,
+    types: &[Kind],
+    nodes: &[Node],
+) -> Result<Many<Signature>, Memory>
+    ensures { IfOk result (λ gs. gs ≡ map (signature_by (entry_in names.now types.now)) (map node_tree nodes.now)) }
+{
+    let mut found = Many::new(alloc);
+    for n in nodes {
+        found.push(signature(alloc, names, types, n)?)?;
+    }
+    Ok(found)
+}
+
+/// Adds the labels of one declaration.
+fn push_labels(places: &mut Many<Label>, declaration: u32, labels: &[Name]) -> Result<(), Memory>
+    requires { length labels.now ≤ most }
+    ensures { IfOk result (λ done. places.new ≡ places.old ++ places_among declaration 0 labels.now) }
+{
+    let mut number = 0;
+    for _ in labels {
+        places.push(Label {
+            declaration,
+            number,
+        })?;
+        number += 1;
+    }
+    Ok(())
+}
+
+/// Adds the labels of one declaration, where it has any.
+fn push_labels_of(places: &mut Many<Label>, declaration: u32, d: &TypeDecl) -> Result<(), Memory>
+    requires { length (labels_of d.now) ≤ most }
+    ensures { IfOk result (λ done. places.new ≡ places.old ++ places_among declaration 0 (labels_of d.now)) }
+{
+    match &d.body {
+        TypeBody::Alias(_) => Ok(()),
+        TypeBody::Labels(labels) => push_labels(places, declaration, labels.as_slice()),
+    }
+}
+
+/// All labels, in the order of their declarations.
+pub fn label_places(alloc: Global, types: &[TypeDecl]) -> Result<Many<Label>, Memory>
+    requires few { length types.now ≤ most }
+    requires few_labels { (d : AnyType) → Contains types.now d → length (labels_of d) ≤ most }
+    ensures { IfOk result (λ ls. ls ≡ places_from 0 types.now) }
+{
+    let mut places = Many::new(alloc);
+    let mut declaration = 0;
+    for d in types {
+        push_labels_of(&mut places, declaration, d)?;
+        declaration += 1;
+    }
+    Ok(places)
+}

@@ -1,0 +1,165 @@
+//! The value of a constant expression, and its weight, in one walk.
+
+ghost use Rattle.std.specs.Prelude.{◌≡◌, ◌≤◌, ◌&&◌, ◌||◌, min, not, nat_abs, map};
+ghost use Rattle.rv_syntax.specs.Tree.{tree_of, trees, Named, Not, Minus};
+ghost use Rattle.rv_types.specs.Constants.{flag_in, whole_in, weight_of, form_weight, value_of, form_value, flags_of_all, at_most_one};
+ghost use Rattle.rv_types.specs.Tables.{entry_in};
+ghost use Rattle.rv_types.specs.ValueTables.{cap, value_of_label, value_or, known_in, AreSmall};
+
+use crate::space::Space;
+use crate::view::{Label, entry};
+use crate::weighing::{Weighed, flag, of_flag, of_if, of_known, of_minus, of_number, of_operator};
+use rv_base::{Text, Value};
+use rv_syntax::{Expr, ExprForm};
+
+/// The tables of the values of constants so far, and of labels.
+#[derive(Drop)]
+pub struct Known<'a> {
+    pub constants: &'a Space,
+    pub values: &'a [Value],
+    pub labels: &'a Space,
+    pub places: &'a [Label],
+}
+
+fn label_value(labels: &Space, places: &[Label], name: &Text) -> Value
+    ensures { result ≡ value_of_label (entry_in labels.now places.now name.now) }
+{
+    match entry(labels, places, name) {
+        None => Value::Flag(false),
+        Some(label) => Value::Label(label.number),
+    }
+}
+
+fn constant_value(constants: &Space, values: &[Value], name: &Text, label: Value) -> Value
+    ensures { result ≡ value_or (entry_in constants.now values.now name.now) label }
+{
+    match entry(constants, values, name) {
+        None => label,
+        Some(value) => *value,
+    }
+}
+
+/// The value of a constant or label.
+#[inline(never)]
+fn value_named(known: &Known, name: &Text) -> Value
+    ensures { result ≡ known_in known.now.constants.now known.now.values.now known.now.labels.now known.now.places.now name.now }
+{
+    let label = label_value(known.labels, known.places, name);
+    constant_value(known.constants, known.values, name, label)
+}
+
+#[inline(never)]
+fn of_name(known: &Known, name: &Text) -> Weighed
+    requires { AreSmall (known_in known.now.constants.now known.now.values.now known.now.labels.now known.now.places.now) }
+    ensures value { result.value ≡ form_value (known_in known.now.constants.now known.now.values.now known.now.labels.now known.now.places.now) (Named name.now) }
+    ensures weight { result.weight ≡ min (form_weight (known_in known.now.constants.now known.now.values.now known.now.labels.now known.now.places.now) (Named name.now)) cap }
+    ensures bound { nat_abs (whole_in result.value) ≤ result.weight }
+{
+    of_known(value_named(known, name))
+}
+
+/// Whether a constant expression is true.
+#[cycle(evaluate)]
+#[inline(never)]
+fn is_true(known: &Known, e: &Expr) -> bool
+    requires { AreSmall (known_in known.now.constants.now known.now.values.now known.now.labels.now known.now.places.now) }
+    ensures { result ≡ flag_in (value_of (known_in known.now.constants.now known.now.values.now known.now.labels.now known.now.places.now) (tree_of e.now)) }
+{
+    flag(evaluate(known, e).value)
+}
+
+#[cycle(evaluate)]
+#[inline(never)]
+fn evaluate_not(known: &Known, a: &Expr) -> Weighed
+    requires { AreSmall (known_in known.now.constants.now known.now.values.now known.now.labels.now known.now.places.now) }
+    ensures value { result.value ≡ form_value (known_in known.now.constants.now known.now.values.now known.now.labels.now known.now.places.now) (Not (tree_of a.now)) }
+    ensures weight { result.weight ≡ min (form_weight (known_in known.now.constants.now known.now.values.now known.now.labels.now known.now.places.now) (Not (tree_of a.now))) cap }
+    ensures bound { nat_abs (whole_in result.value) ≤ result.weight }
+{
+    of_flag(!is_true(known, a))
+}
+
+#[cycle(evaluate)]
+#[inline(never)]
+fn evaluate_minus(known: &Known, a: &Expr) -> Weighed
+    requires { AreSmall (known_in known.now.constants.now known.now.values.now known.now.labels.now known.now.places.now) }
+    ensures value { result.value ≡ form_value (known_in known.now.constants.now known.now.values.now known.now.labels.now known.now.places.now) (Minus (tree_of a.now)) }
+    ensures weight { result.weight ≡ min (form_weight (known_in known.now.constants.now known.now.values.now known.now.labels.now known.now.places.now) (Minus (tree_of a.now))) cap }
+    ensures bound { nat_abs (whole_in result.value) ≤ result.weight }
+{
+    let a = evaluate(known, a);
+    of_minus(&a)
+}
+
+/// The value of a constant expression, and its weight.
+///
+/// A text nested 200 deep may give a tree of 20,101 levels, almost all of them left operands. So little else stands in
+/// the frame of this function.
+#[cycle(evaluate)]
+pub fn evaluate(known: &Known, e: &Expr) -> Weighed
+    requires { AreSmall (known_in known.now.constants.now known.now.values.now known.now.labels.now known.now.places.now) }
+    ensures value { result.value ≡ value_of (known_in known.now.constants.now known.now.values.now known.now.labels.now known.now.places.now) (tree_of e.now) }
+    ensures weight { result.weight ≡ min (weight_of (known_in known.now.constants.now known.now.values.now known.now.labels.now known.now.places.now) (tree_of e.now)) cap }
+    ensures bound { nat_abs (whole_in result.value) ≤ result.weight }
+{
+    match &e.form {
+        ExprForm::Binary(op, a, b) => {
+            let a = evaluate(known, a);
+            let b = evaluate(known, b);
+            of_operator(*op, &a, &b)
+        }
+        ExprForm::If(a, b, c) => {
+            let condition = is_true(known, a);
+            let b = evaluate(known, b);
+            let c = evaluate(known, c);
+            of_if(condition, &b, &c)
+        }
+        ExprForm::True => of_flag(true),
+        ExprForm::Number(n) => of_number(*n),
+        ExprForm::Named(x) => of_name(known, x),
+        ExprForm::Not(a) => evaluate_not(known, a),
+        ExprForm::Minus(a) => evaluate_minus(known, a),
+        ExprForm::AtMostOne(es) => of_flag(is_at_most_one(known, es.as_slice())),
+        ExprForm::False
+        | ExprForm::Pre(_)
+        | ExprForm::Current(_)
+        | ExprForm::When(_, _)
+        | ExprForm::Call(_, _) => of_flag(false),
+    }
+}
+
+/// How many flags were true so far.
+#[derive(Clone, Copy, Debug)]
+struct Seen {
+    /// Whether one was.
+    some: bool,
+    /// Whether more than one was.
+    several: bool,
+}
+
+fn seen_after(seen: Seen, flag: bool) -> Seen
+    ensures some { result.some ≡ (seen.some || flag) }
+    ensures several { result.several ≡ (seen.several || (seen.some && flag)) }
+{
+    Seen {
+        some: seen.some || flag,
+        several: seen.several || (seen.some && flag),
+    }
+}
+
+/// Whether at most one of some constant expressions is true.
+#[cycle(evaluate)]
+fn is_at_most_one(known: &Known, es: &[Expr]) -> bool
+    requires { AreSmall (known_in known.now.constants.now known.now.values.now known.now.labels.now known.now.places.now) }
+    ensures { result ≡ at_most_one (flags_of_all (known_in known.now.constants.now known.now.values.now known.now.labels.now known.now.places.now) (trees (map tree_of es.now))) }
+{
+    let mut seen = Seen {
+        some: false,
+        several: false,
+    };
+    for e in es {
+        let one = evaluate(known, e);
+        seen = seen_after(seen, flag(one.value));
+    }
+    !seen.several
+}
