@@ -1,8 +1,8 @@
 //! The value of a constant expression, and its weight, in one walk.
 
-ghost use Rattle.std.specs.Prelude.{◌≡◌, ◌≤◌, ◌&&◌, ◌||◌, min, not, nat_abs, map};
+ghost use Rattle.std.specs.Prelude.{◌≡◌, ◌≤◌, ◌&&◌, ◌||◌, min, max, cond, ℕ, not, nat_abs, map};
 ghost use Rattle.rv_syntax.specs.Tree.{tree_of, trees, Named, Not, Minus};
-ghost use Rattle.rv_types.specs.Constants.{flag_in, whole_in, weight_of, form_weight, value_of, form_value, flags_of_all, at_most_one};
+ghost use Rattle.rv_types.specs.Constants.{flag_in, whole_in, weight_of, form_weight, value_of, form_value, value_under, weight_under, counted_part, flags_of_all, at_most_one};
 ghost use Rattle.rv_types.specs.Tables.{entry_in};
 ghost use Rattle.rv_types.specs.ValueTables.{cap, value_of_label, value_or, known_in, AreSmall};
 
@@ -10,7 +10,7 @@ use crate::space::Space;
 use crate::view::{Label, entry};
 use crate::weighing::{Weighed, flag, of_flag, of_if, of_known, of_minus, of_number, of_operator};
 use rv_base::{Text, Value};
-use rv_syntax::{Expr, ExprForm};
+use rv_syntax::{Expr, ExprForm, Op};
 
 /// The tables of the values of constants so far, and of labels.
 #[derive(Drop)]
@@ -91,6 +91,36 @@ fn evaluate_minus(known: &Known, a: &Expr) -> Weighed
     of_minus(&a)
 }
 
+/// An operator, of its left operand as it weighs and its right one.
+#[cycle(evaluate)]
+#[inline(never)]
+fn with_right(known: &Known, op: Op, left: &Weighed, right: &Expr) -> Weighed
+    requires small { AreSmall (known_in known.now.constants.now known.now.values.now known.now.labels.now known.now.places.now) }
+    requires left { nat_abs (whole_in left.now.value) ≤ left.now.weight }
+    requires left_small { left.now.weight ≤ cap }
+    ensures value { (v : ℕ) → left.now.weight ≡ min v cap → result.value ≡ value_under (weight_under op (nat_abs (whole_in left.now.value)) v (weight_of (known_in known.now.constants.now known.now.values.now known.now.labels.now known.now.places.now) (tree_of right.now))) op left.now.value (value_of (known_in known.now.constants.now known.now.values.now known.now.labels.now known.now.places.now) (tree_of right.now)) }
+    ensures weight { (v : ℕ) → left.now.weight ≡ min v cap → result.weight ≡ min (weight_under op (nat_abs (whole_in left.now.value)) v (weight_of (known_in known.now.constants.now known.now.values.now known.now.labels.now known.now.places.now) (tree_of right.now))) cap }
+    ensures bound { nat_abs (whole_in result.value) ≤ result.weight }
+{
+    let right = evaluate(known, right);
+    of_operator(op, left, &right)
+}
+
+/// An `if`, of its condition, its first part as it weighs and its second one.
+#[cycle(evaluate)]
+#[inline(never)]
+fn with_else(known: &Known, condition: bool, yes: &Weighed, no: &Expr) -> Weighed
+    requires small { AreSmall (known_in known.now.constants.now known.now.values.now known.now.labels.now known.now.places.now) }
+    requires yes { nat_abs (whole_in yes.now.value) ≤ yes.now.weight }
+    requires yes_small { yes.now.weight ≤ cap }
+    ensures value { (v : ℕ) → yes.now.weight ≡ min v cap → result.value ≡ counted_part (max v (weight_of (known_in known.now.constants.now known.now.values.now known.now.labels.now known.now.places.now) (tree_of no.now))) (cond condition yes.now.value (value_of (known_in known.now.constants.now known.now.values.now known.now.labels.now known.now.places.now) (tree_of no.now))) }
+    ensures weight { (v : ℕ) → yes.now.weight ≡ min v cap → result.weight ≡ min (max v (weight_of (known_in known.now.constants.now known.now.values.now known.now.labels.now known.now.places.now) (tree_of no.now))) cap }
+    ensures bound { nat_abs (whole_in result.value) ≤ result.weight }
+{
+    let no = evaluate(known, no);
+    of_if(condition, yes, &no)
+}
+
 /// The value of a constant expression, and its weight.
 ///
 /// A text nested 200 deep may give a tree of 20,101 levels, almost all of them left operands. So little else stands in
@@ -104,15 +134,13 @@ pub fn evaluate(known: &Known, e: &Expr) -> Weighed
 {
     match &e.form {
         ExprForm::Binary(op, a, b) => {
-            let a = evaluate(known, a);
-            let b = evaluate(known, b);
-            of_operator(*op, &a, &b)
+            let left = evaluate(known, a);
+            with_right(known, *op, &left, b)
         }
         ExprForm::If(a, b, c) => {
             let condition = is_true(known, a);
-            let b = evaluate(known, b);
-            let c = evaluate(known, c);
-            of_if(condition, &b, &c)
+            let yes = evaluate(known, b);
+            with_else(known, condition, &yes, c)
         }
         ExprForm::True => of_flag(true),
         ExprForm::Number(n) => of_number(*n),
