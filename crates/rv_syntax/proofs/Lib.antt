@@ -17,6 +17,7 @@ pub mod Loop
 pub mod LongestCut
 pub mod Spelled
 pub mod Bounds
+pub mod Ordered
 pub mod Joined
 pub mod Numbered
 pub mod Earlier

@@ -2,7 +2,7 @@
 #![tactic(auto)]
 
 ghost use Rattle.std.specs.Prelude.{true, ◌≡◌, ◌<◌, ◌≤◌, [], ◌∷◌, ◌++◌, ℕ, List, length, slice_index_or, IfOk, IfErr};
-ghost use Rattle.std.specs.List.{Contains};
+ghost use Rattle.std.specs.List.{All, Contains};
 ghost use Rattle.rv_syntax.specs.Correct.{Finds, Explains, Refuses};
 ghost use Rattle.rv_syntax.specs.Delays.{Delay, node_delays, memory_sites, IsNumbered};
 ghost use Rattle.rv_syntax.specs.Lexing.{cut, tokens};
@@ -16,7 +16,7 @@ ghost use Rattle.rv_syntax.specs.Places.{memory_site};
 ghost use Rattle.rv_syntax.specs.ProgramText.{IsTextOf};
 ghost use Rattle.rv_syntax.specs.Grammar.{fixed, name_token};
 ghost use Rattle.rv_syntax.specs.Nesting.{IsExprOf};
-ghost use Rattle.rv_syntax.specs.Tree.{NodeTree, ProgramTree, Tree, program_tree};
+ghost use Rattle.rv_syntax.specs.Tree.{ConstantTree, NodeTree, ProgramTree, Tree, program_tree};
 ghost use Rattle.rv_syntax.specs.declared.token.Mark.TheVariants as mark;
 ghost use Rattle.rv_syntax.specs.declared.token.Token.{Token as TokenModel};
 ghost use Rattle.rv_syntax.specs.declared.tree.Name.{Name as NameAt};
@@ -89,6 +89,13 @@ pub fn left_out_is_dead()
 /// In the tree of a text within the limit no list is longer than the text may be.
 pub fn bounded_tree()
     ensures { (t : ProgramTree) → IsTreeOfText t → IsBounded t }
+{}
+
+/// In the tree of a text within the limit the constants stand in the order of their offsets: each has a later one than
+/// all that come before it, and an earlier one than all that come after it.
+pub fn ordered_constants()
+    ensures before { (t : ProgramTree) (front back : List ConstantTree) (c : ConstantTree) → IsTreeOfText t → t.constants ≡ front ++ c ∷ back → All (λ d. d.name.at < c.name.at) front }
+    ensures after { (t : ProgramTree) (front back : List ConstantTree) (c : ConstantTree) → IsTreeOfText t → t.constants ≡ front ++ c ∷ back → All (λ d. c.name.at < d.name.at) back }
 {}
 
 /// Tokens are at most one expression.
