@@ -21,3 +21,16 @@ mod TimingLaws
 mod Answered
 mod NodeFlows
 mod Refusals
+mod Members
+mod ConstantContents
+mod CallSites
+mod PartFaults
+mod ExpressionKinds
+mod ConstantKinds
+mod Paces
+mod RightSides
+mod NodeKinds
+mod WellNodes
+pub mod RisingConstants
+mod ConstantValues
+mod WideParts

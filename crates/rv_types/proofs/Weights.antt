@@ -10,7 +10,7 @@ use Rattle.rv_syntax.specs.declared.tree.Op.TheVariants as op
 use Rattle.rv_types.specs.Constants.{whole_in, counted, value_under, weight_under}
 use Rattle.rv_types.specs.ValueTables.{cap}
 
-counted_small : (m : ℕ) (z : ℤ) → nat_abs z ≤ m → nat_abs (whole_in (counted m z)) ≤ min m cap
+pub counted_small : (m : ℕ) (z : ℤ) → nat_abs z ≤ m → nat_abs (whole_in (counted m z)) ≤ min m cap
 counted_small m z h = tested (nat_le m (2 ^ 40)) refl
   where
     tested : (b : Bool) → nat_le m (2 ^ 40) ≡ b → nat_abs (whole_in (cond b (Whole z) (Whole (pos (2 ^ 40 + 1))))) ≤ min m cap

@@ -18,3 +18,12 @@ pub mod TypeTables
 pub mod ValueTables
 pub mod ConstantTables
 pub mod NodeTypes
+pub mod Readings
+pub mod Values
+pub mod ConstantParts
+pub mod WideConstants
+pub mod Instances
+pub mod Needs
+pub mod WellFormed
+pub mod Variables
+pub mod Lists

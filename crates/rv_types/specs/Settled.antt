@@ -30,6 +30,10 @@ pub record IsSettled (p : ProgramTree) (main : Identifier) (t : Typed) : Type 0 
   pub flow_times : t.clocks ≡ map flow_clocks p.nodes
   pub values : t.constants ≡ constant_values p
 
+-- the answer of the rules of names, types and clocks, with some main node
+abbrev pub IsAnswer : ProgramTree → Typed → Type 0
+IsAnswer p t = (main : Identifier) × IsSettled p main t
+
 -- a program without a node of the name
 abbrev pub node_faults : ProgramTree → Identifier → List NameFault
 node_faults p main = cond (is_declared (node_names p) main) [] (NoNode ∷ [])

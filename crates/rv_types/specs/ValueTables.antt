@@ -25,6 +25,17 @@ value_or (Some v) label = v
 abbrev pub known_in : List Name → List Value → List Name → List Label → Identifier → Value
 known_in constants values labels places x = value_or (entry_in constants values x) (value_of_label (entry_in labels places x))
 
+-- The tables of constants with their values and of labels.
+pub record NamedTables : Type 0 where
+  pub constants : List Name
+  pub values : List Value
+  pub labels : List Name
+  pub places : List Label
+
+-- what a name stands for by them
+abbrev pub value_by : NamedTables → Identifier → Value
+value_by t = known_in t.constants t.values t.labels t.places
+
 -- integers count to 2^40 + 1 at most
 abbrev pub AreSmall : (Identifier → Value) → Type 0
 AreSmall known = (x : Identifier) → nat_abs (whole_in (known x)) ≤ cap

@@ -1,6 +1,7 @@
 //! What follows from the rules alone.
 
 ghost use Rattle.std.specs.Prelude.{◌≡◌, ◌↔◌, ◌⊎◌, ℕ, suc, List, length, IsTrue};
+ghost use Rattle.rv_syntax.specs.Bounded.{IsTreeOfText};
 ghost use Rattle.rv_syntax.specs.Places.{Identifier};
 ghost use Rattle.rv_syntax.specs.Tree.{NodeTree, ProgramTree};
 ghost use Rattle.rv_types.specs.declared.fault.NameFault.{NameFault};
@@ -8,6 +9,9 @@ ghost use Rattle.rv_types.specs.declared.typed.Clock.{Clock};
 ghost use Rattle.rv_types.specs.declared.typed.Typed.{Typed};
 ghost use Rattle.rv_types.specs.Clocks.{IsGrounded, ends, flow_clocks};
 ghost use Rattle.rv_types.specs.Settled.{IsSettled, IsFirstFault};
+ghost use Rattle.rv_types.specs.WellFormed.{AreSited, AreWell};
+
+use rv_syntax::{numbered_sites, ordered_constants};
 
 /// A program is settled in one way at most.
 pub fn one_settlement()
@@ -29,3 +33,19 @@ pub fn settled_or_refused()
 pub fn chains_end()
     ensures { (n : NodeTree) (c : Clock) → IsTrue (ends n (suc (length (flow_clocks n))) c) ↔ IsGrounded n c }
 {}
+
+/// The nodes of a program that keeps every rule are well formed and well typed, and its constants have values of their
+/// types.
+pub fn well_formed_programs()
+    ensures { (p : ProgramTree) (main : Identifier) (t : Typed) → IsTreeOfText p → IsSettled p main t → AreWell p }
+{
+    numbered_sites();
+    ordered_constants();
+}
+
+/// The calls of each node have sites of their own, beyond those of its flows.
+pub fn sited_programs()
+    ensures { (p : ProgramTree) → IsTreeOfText p → AreSited p }
+{
+    numbered_sites();
+}

@@ -10,7 +10,11 @@ mod kinds;
 mod laws;
 mod names;
 mod observer;
+mod pace_steps;
 mod pacing;
+mod reading;
+mod reading_clocks;
+mod reading_values;
 mod rules;
 mod settling;
 mod sides;
@@ -24,8 +28,24 @@ mod uses;
 mod values;
 mod view;
 mod weighing;
+mod wide_constants;
 
-pub use fault::NameFault;
-pub use laws::{chains_end, one_fault, one_settlement, settled_or_refused};
+pub use fault::{NameFault, Pace};
+pub use laws::{
+    chains_end, one_fault, one_settlement, settled_or_refused, sited_programs, well_formed_programs,
+};
+pub use pace_steps::{
+    called_pace, choice_pace, delayed_pace, joined_pace, kept_pace, operator_pace,
+};
+pub use reading::{
+    NodeTables, ProgramTables, flow_site, node_tables, operand_kind, program_tables,
+};
+pub use reading_clocks::{NodeClocks, node_clocks, program_clocks};
+pub use reading_values::{
+    NamedValues, Trues, constant_binary, constant_flag, constant_if, constant_minus,
+    constant_named, constant_not, constant_number, constant_size, named_values,
+};
 pub use settling::settle;
 pub use typed::{Clock, Kind, Typed};
+pub use weighing::Weighed;
+pub use wide_constants::{lesser_of, wide_constant};

@@ -46,7 +46,8 @@ pub fn as_seen(p: Pace) -> Pace
     }
 }
 
-fn on_ground(p: Pace) -> Pace
+/// What is free stands on the base clock.
+pub fn on_ground(p: Pace) -> Pace
     ensures { result ≡ grounded p }
 {
     match p {
@@ -101,7 +102,8 @@ pub fn pace_of_name(timing: &Timing, name: &Text) -> Pace
     }
 }
 
-fn of_when(timing: &Timing, p: Pace, clock: &Text) -> Pace
+/// The pace of `when` a flow.
+pub fn of_when(timing: &Timing, p: Pace, clock: &Text) -> Pace
     ensures { result ≡ clocking.when_pace (node_tree timing.now.node.now) p (site_of (node_tree timing.now.node.now) clock.now) }
 {
     let site = timing.site(clock);
@@ -112,7 +114,8 @@ fn of_when(timing: &Timing, p: Pace, clock: &Text) -> Pace
     }
 }
 
-fn of_current(timing: &Timing, p: Pace) -> Pace
+/// The pace of `current`.
+pub fn of_current(timing: &Timing, p: Pace) -> Pace
     ensures { result ≡ clocking.current_pace (node_tree timing.now.node.now) p }
 {
     match p {
@@ -122,7 +125,8 @@ fn of_current(timing: &Timing, p: Pace) -> Pace
     }
 }
 
-fn of_binary(op: Op, p: Pace, q: Pace) -> Pace
+/// The pace of an operator between two operands.
+pub fn of_binary(op: Op, p: Pace, q: Pace) -> Pace
     ensures { result ≡ clocking.binary_pace op p q }
 {
     match op {
@@ -271,7 +275,7 @@ fn one_more(so_far: Paced, one: Paced) -> Paced
 /// The pace of operands or arguments together.
 #[tactic(auto, using(crate::proofs::Joined::sooner_none, crate::proofs::Meeting::meet_free))]
 #[cycle(pace)]
-fn pace_of_all(timing: &Timing, es: &[Expr]) -> Paced
+pub fn pace_of_all(timing: &Timing, es: &[Expr]) -> Paced
     ensures pace { result.pace ≡ clocking.pace_of_all (node_tree timing.now.node.now) (trees (map tree_of es.now)) }
     ensures fault { result.fault ≡ first (faults_of_all (own_clash (node_tree timing.now.node.now)) (trees (map tree_of es.now))) }
 {

@@ -41,7 +41,7 @@ fn constant_value(constants: &Space, values: &[Value], name: &Text, label: Value
 
 /// The value of a constant or label.
 #[inline(never)]
-fn value_named(known: &Known, name: &Text) -> Value
+pub fn value_named(known: &Known, name: &Text) -> Value
     ensures { result ≡ known_in known.now.constants.now known.now.values.now known.now.labels.now known.now.places.now name.now }
 {
     let label = label_value(known.labels, known.places, name);
@@ -158,14 +158,15 @@ pub fn evaluate(known: &Known, e: &Expr) -> Weighed
 
 /// How many flags were true so far.
 #[derive(Clone, Copy, Debug)]
-struct Seen {
+pub struct Seen {
     /// Whether one was.
-    some: bool,
+    pub some: bool,
     /// Whether more than one was.
-    several: bool,
+    pub several: bool,
 }
 
-fn seen_after(seen: Seen, flag: bool) -> Seen
+/// The same with one flag more.
+pub fn seen_after(seen: Seen, flag: bool) -> Seen
     ensures some { result.some ≡ (seen.some || flag) }
     ensures several { result.several ≡ (seen.several || (seen.some && flag)) }
 {

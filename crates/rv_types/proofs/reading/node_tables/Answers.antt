@@ -1,0 +1,21 @@
+use Rattle.std.proofs.Common.{List, ap, ◌∙◌}
+use Rattle.rv_syntax.specs.Tree.{node_tree}
+use Rattle.rv_types.specs.declared.typed.Kind.{Kind}
+use Rattle.rv_types.specs.Names.{texts}
+use Rattle.rv_types.specs.Tables.{entry_in}
+use Rattle.rv_types.specs.TypeTables.{flow_kinds_by}
+use Rattle.rv_types.proofs.NodeFlows.{flow_space}
+use Rattle.rv_types.proofs.NodeScope.{scope_is}
+use Rattle.rv_types.proofs.reading.node_tables.Goals as goal
+
+pub returns-clause-scope : goal.returns-clause-scope
+returns-clause-scope c p t different =
+    let g = c.args.tables.now in
+    let n = node_tree c.args.node.now in
+    scope_is p n g.spaces.types g.types g.spaces.constants g.spaces.labels g.places g.constant_kinds g.spaces.nodes g.signatures c.in_ok-flows.field-0.space c.in_ok-kinds.kinds
+    t.globals t.nodes different c.in_ok-flows.ensures.space
+    (c.in_ok-kinds.ensures ∙ ap (λ (ks : List Kind). flow_kinds_by (entry_in g.spaces.types ks) n) c.as_slice.ensures)
+
+pub returns-clause-flows : goal.returns-clause-flows
+returns-clause-flows c different =
+    ap texts c.in_ok-flows.ensures.space ∙ flow_space (node_tree c.args.node.now) different

@@ -1,0 +1,18 @@
+use Rattle.std.proofs.Common.{◌≡◌, ◌≤◌, ◌<◌, ◌^◌, rules, arith, map, subst, sym, length}
+use Rattle.rv_syntax.specs.Tree.{program_tree, node_tree}
+use Rattle.rv_syntax.specs.Places.{flows}
+use Rattle.rv_types.specs.Timings.{HaveFlows}
+use Rattle.rv_types.proofs.NodeFlows.{node_right}
+use Rattle.rv_types.proofs.RightNames.{flows_different}
+use Rattle.rv_types.proofs.reading_clocks.program_clocks.Goals as goal
+
+pub clocks_of_nodes-requires : goal.clocks_of_nodes-requires
+clocks_of_nodes-requires c =
+    let p = program_tree c.args.p.now in
+    let kept : c.as_slice.result.now ≡ c.args.p.now.nodes = search rules in
+    let all : HaveFlows p.nodes = λ n there. (
+      flows_different p n (node_right p c.requires.names n there),
+      (let few : length (flows n) ≤ 1048576 = c.requires.bounded.node_flows n there in
+          let small : length (flows n) < 2 ^ 32 = omega arith in small),
+    ) in
+    subst (λ ns. HaveFlows (map node_tree ns)) (sym kept) all

@@ -1,0 +1,25 @@
+use Rattle.std.proofs.Common.{◌≡◌, reverse, take, drop, sym, ◌∙◌, subst}
+use Rattle.rv_syntax.specs.Tree.{program_tree}
+use Rattle.rv_types.specs.Scopes.{constant_value_after}
+use Rattle.rv_types.specs.ValueTables.{known_in, AreSmall}
+use Rattle.rv_types.proofs.ConstantMeanings.{values_known}
+use Rattle.rv_types.proofs.ConstantValues.{small_after}
+use Rattle.rv_types.proofs.Turned.{all_turned}
+use Rattle.rv_types.proofs.reading_values.values_before.Goals as goal
+
+pub invariant_of-result : goal.invariant_of-result
+invariant_of-result c =
+    let p = program_tree c.args.p.now in
+    let t = c.requires.tables.globals in
+    let before = reverse (take c.args.count p.constants) in
+    let is : known_in c.args.tables.now.spaces.constants c.args.constants.now c.args.tables.now.spaces.labels c.as_slice.result.now ≡ constant_value_after p before =
+    (λ i. known_in (t.constant_table i) (c.requires.values i) (t.label_table i) ((c.as_slice.ensures ∙ t.place_table) i))
+    ∙ values_known p before (drop c.args.count p.constants) (all_turned p.constants c.args.count) t.different_constants in
+    subst AreSmall (sym is) (small_after p before)
+
+pub returns : goal.returns
+returns c =
+    let p = program_tree c.args.p.now in
+    let t = c.requires.tables.globals in
+    (λ i. known_in (t.constant_table i) (c.requires.values i) (t.label_table i) ((c.as_slice.ensures ∙ t.place_table) i))
+    ∙ values_known p (reverse (take c.args.count p.constants)) (drop c.args.count p.constants) (all_turned p.constants c.args.count) t.different_constants

@@ -1,0 +1,81 @@
+//! The pace of an expression from those of its parts, for a walk that reads each expression once.
+
+ghost use Rattle.std.specs.Prelude.{◌≡◌};
+ghost use Rattle.rv_syntax.specs.Places.{site_of};
+ghost use Rattle.rv_syntax.specs.Tree.{node_tree};
+ghost use Rattle.rv_types.specs.Clocks as clocking;
+ghost use Rattle.rv_types.specs.Clocks.{seen, grounded, meet};
+ghost use Rattle.rv_types.specs.declared.fault.Pace.{Pace as PaceModel};
+
+use crate::fault::Pace;
+use crate::pacing::{as_seen, met, of_binary, of_current, of_when, on_ground, pace_of_name};
+use crate::reading_clocks::NodeClocks;
+use rv_base::Text;
+use rv_syntax::Op;
+
+/// The pace of `not` or `-`, from that of the operand.
+pub fn kept_pace(operand: Pace) -> Pace
+    ensures { result ≡ seen operand }
+{
+    as_seen(operand)
+}
+
+/// The pace of `pre`, from that of the operand.
+pub fn delayed_pace(operand: Pace) -> Pace
+    ensures { result ≡ grounded (seen operand) }
+{
+    on_ground(as_seen(operand))
+}
+
+/// The pace of an operator between two operands, from theirs.
+pub fn operator_pace(op: Op, left: Pace, right: Pace) -> Pace
+    ensures { result ≡ clocking.binary_pace op (seen left) (seen right) }
+{
+    of_binary(op, as_seen(left), as_seen(right))
+}
+
+/// The pace of `if`, from those of its parts.
+pub fn choice_pace(condition: Pace, first: Pace, second: Pace) -> Pace
+    ensures { result ≡ meet (seen condition) (meet (seen first) (seen second)) }
+{
+    met(as_seen(condition), met(as_seen(first), as_seen(second)))
+}
+
+/// The pace of operands or arguments so far and one more; before the first it is `Free`.
+#[tactic(auto, using(crate::proofs::Meeting::meet_assoc))]
+pub fn joined_pace(so_far: Pace, one: Pace) -> Pace
+    ensures pace { result ≡ meet so_far (seen one) }
+    ensures rest { (rest : PaceModel) → meet result rest ≡ meet so_far (meet (seen one) rest) }
+{
+    met(so_far, as_seen(one))
+}
+
+/// The pace of a call, from that of its arguments together.
+pub fn called_pace(arguments: Pace) -> Pace
+    ensures { result ≡ grounded arguments }
+{
+    on_ground(arguments)
+}
+
+impl<'a> NodeClocks<'a> {
+    /// The pace of a name.
+    pub fn name_pace(&self, name: &Text) -> Pace
+        ensures { result ≡ clocking.name_pace (node_tree self.now.node.now) name.now }
+    {
+        pace_of_name(&self.timing(), name)
+    }
+
+    /// The pace of `when` a flow, from that of the operand.
+    pub fn when_pace(&self, operand: Pace, clock: &Text) -> Pace
+        ensures { result ≡ clocking.when_pace (node_tree self.now.node.now) (seen operand) (site_of (node_tree self.now.node.now) clock.now) }
+    {
+        of_when(&self.timing(), as_seen(operand), clock)
+    }
+
+    /// The pace of `current`, from that of the operand.
+    pub fn current_pace(&self, operand: Pace) -> Pace
+        ensures { result ≡ clocking.current_pace (node_tree self.now.node.now) (seen operand) }
+    {
+        of_current(&self.timing(), as_seen(operand))
+    }
+}

@@ -1,0 +1,116 @@
+//! The types of the expressions of a program whose names are right.
+
+ghost use Rattle.std.specs.Prelude.{◌≡◌, [], unwrap_or, is_some, IfOk, IfSome};
+ghost use Rattle.rv_syntax.specs.Bounded.{IsBounded};
+ghost use Rattle.rv_syntax.specs.Places.{index_of, flows};
+ghost use Rattle.rv_syntax.specs.Tree.{ProgramTree, node_tree, program_tree, tree_of};
+ghost use Rattle.rv_types.specs.Known.{flow_names};
+ghost use Rattle.rv_types.specs.Names.{is_declared, name_faults, repeated, texts};
+ghost use Rattle.rv_types.specs.Readings.{AreTables, view_of};
+ghost use Rattle.rv_types.specs.Scopes.{node_scope};
+ghost use Rattle.rv_types.specs.Tables.{scope_of};
+ghost use Rattle.rv_types.specs.Types.{kind_of};
+ghost use Rattle.rv_types.specs.declared.typed.Kind.TheVariants as kind;
+
+use crate::constants::{Globals, constants_of};
+use crate::kinds::{flow_kinds, label_places, signatures, type_kinds};
+use crate::names::flows_of;
+use crate::space::Space;
+use crate::spaces::{Spaces, spaces_of};
+use crate::typed::Kind;
+use crate::typing::judge;
+use crate::view::{Label, Signature, Values, View};
+use rv_base::{Many, Memory, Text};
+use rv_syntax::{Expr, Node, Program};
+use std::alloc::Global;
+
+/// What the names of a program stand for: types, constants, labels and nodes.
+#[derive(Drop)]
+pub struct ProgramTables {
+    pub(crate) spaces: Spaces,
+    types: Many<Kind>,
+    pub(crate) places: Many<Label>,
+    constant_kinds: Many<Option<Kind>>,
+    signatures: Many<Signature>,
+}
+
+/// The flows of a node, and their types.
+#[derive(Drop)]
+pub struct NodeTables {
+    flows: Space,
+    kinds: Many<Kind>,
+}
+
+/// The tables of a program whose names are right.
+pub fn program_tables(alloc: Global, p: &Program) -> Result<ProgramTables, Memory>
+    requires bounded { IsBounded (program_tree p.now) }
+    requires names { name_faults (program_tree p.now) ≡ [] }
+    ensures { IfOk result (AreTables (program_tree p.now)) }
+{
+    let spaces = spaces_of(alloc, p)?.spaces;
+    let types = type_kinds(alloc, &spaces.types, p.types.as_slice())?;
+    let places = label_places(alloc, p.types.as_slice())?;
+    let globals = Globals {
+        types: &spaces.types,
+        type_kinds: types.as_slice(),
+        constants: &spaces.constants,
+        labels: &spaces.labels,
+        places: places.as_slice(),
+    };
+    let constant_kinds = constants_of(alloc, &globals, p)?.kinds;
+    let signatures = signatures(alloc, &spaces.types, types.as_slice(), p.nodes.as_slice())?;
+    Ok(ProgramTables {
+        spaces,
+        types,
+        places,
+        constant_kinds,
+        signatures,
+    })
+}
+
+/// The tables of a node, whose flows have different names.
+pub fn node_tables(alloc: Global, tables: &ProgramTables, node: &Node) -> Result<NodeTables, Memory>
+    ensures scope { (p : ProgramTree) → AreTables p tables.now → repeated [] (flow_names (node_tree node.now)) ≡ [] → IfOk result (λ n. scope_of (view_of tables.now n) ≡ node_scope p (node_tree node.now)) }
+    ensures flows { repeated [] (flow_names (node_tree node.now)) ≡ [] → IfOk result (λ n. texts n.flows ≡ flows (node_tree node.now)) }
+{
+    let flows = flows_of(alloc, node)?.space;
+    let kinds = flow_kinds(alloc, &tables.spaces.types, tables.types.as_slice(), node)?;
+    Ok(NodeTables { flows, kinds })
+}
+
+fn view<'a>(tables: &'a ProgramTables, node: &'a NodeTables) -> View<'a>
+    ensures { result ≡ view_of tables.now node.now }
+{
+    View {
+        flows: &node.flows,
+        flow_kinds: node.kinds.as_slice(),
+        values: Values {
+            constants: &tables.spaces.constants,
+            kinds: tables.constant_kinds.as_slice(),
+            labels: &tables.spaces.labels,
+            places: tables.places.as_slice(),
+        },
+        nodes: &tables.spaces.nodes,
+        signatures: tables.signatures.as_slice(),
+        moves: true,
+    }
+}
+
+/// The type of an expression of a node; `Bool` where it has none, as nowhere in a program whose types are right.
+pub fn operand_kind(tables: &ProgramTables, node: &NodeTables, e: &Expr) -> Kind
+    ensures { result ≡ unwrap_or (kind_of (scope_of (view_of tables.now node.now)) (tree_of e.now)) kind.Bool }
+{
+    let view = view(tables, node);
+    match judge(&view, e).kind() {
+        Some(kind) => kind,
+        None => Kind::Bool,
+    }
+}
+
+/// The site of a flow of a node, none for another name.
+pub fn flow_site(node: &NodeTables, name: &Text) -> Option<usize>
+    ensures found { is_some result ≡ is_declared node.now.flows name.now }
+    ensures site { IfSome result (λ k. k ≡ index_of (texts node.now.flows) name.now) }
+{
+    node.flows.number(name)
+}
