@@ -1,0 +1,17 @@
+-- What the answer of the rules of names, types and clocks gives.
+use Rattle.std.proofs.Common.{◌≡◌, [], ◌<◌, length, map, sym, subst}
+use Rattle.rv_syntax.specs.Tree.{ProgramTree}
+use Rattle.rv_types.specs.declared.typed.Typed.{Typed}
+use Rattle.rv_types.specs.Kinds.{flow_kinds}
+use Rattle.rv_types.specs.Names.{name_faults}
+use Rattle.rv_types.specs.Settled.{IsAnswer}
+use Rattle.rv_causality.proofs.Known.{called}
+
+pub answer_named : (p : ProgramTree) (t : Typed) → IsAnswer p t → name_faults p ≡ []
+answer_named p t a = a.1.names
+
+pub main_within : (p : ProgramTree) (t : Typed) → IsAnswer p t → t.main < length p.nodes
+main_within p t a = subst (λ k. k < length p.nodes) (sym a.1.main_number) (called p a.1.names a.0 a.1.has_main).0
+
+pub answer_kinds : (p : ProgramTree) (t : Typed) → IsAnswer p t → t.kinds ≡ map (flow_kinds p) p.nodes
+answer_kinds p t a = a.1.flow_types

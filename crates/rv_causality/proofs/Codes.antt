@@ -1,0 +1,42 @@
+-- How many codes some bits tell apart, and the labels of an enumeration.
+use Rattle.std.proofs.Common.{◌≡◌, ℕ, zero, suc, ◌+◌, ◌-◌, ◌*◌, ◌^◌, ◌<◌, ◌≤◌, cond, List, [], ◌∷◌, length, get_or, refl, sym, ◌∙◌, ap, arith}
+use Rattle.std.proofs.Math.Nat.{pow-suc}
+use Rattle.std.proofs.lemmas.Bool.{le-leb, lt-leb}
+use Rattle.rv_syntax.specs.declared.tree.TypeDecl.{TypeDecl}
+use Rattle.rv_types.specs.declared.typed.Kind.{Kind}
+use Rattle.rv_types.specs.declared.typed.Kind.TheVariants as kind
+use Rattle.rv_syntax.specs.Tree.{ProgramTree}
+use Rattle.rv_causality.specs.Bits.{bits_of}
+use Rattle.rv_types.specs.Variables.{bits_from, kind_bits}
+use Rattle.rv_types.specs.Values.{label_count, labels_at}
+
+-- some bits are enough
+pub enough_bits : (more bits count : ℕ) → count ≤ 2 ^ bits → bits_from more bits count ≡ bits
+enough_bits zero bits count le = refl
+enough_bits (suc more) bits count le = ap (λ b. cond b bits (bits_from more (bits + 1) count)) (le-leb count (2 ^ bits) le)
+
+-- or one more is wanted
+wanted : (m more bits count : ℕ) → m ≡ suc more → 2 ^ bits < count → bits_from m bits count ≡ bits_from more (bits + 1) count
+wanted m more bits count e lt = ap (λ k. bits_from k bits count) e ∙ ap (λ b. cond b bits (bits_from more (bits + 1) count)) (lt-leb count (2 ^ bits) lt)
+
+pub one_bit_more : (bits count : ℕ) → bits < count → 2 ^ bits < count → bits_from (count - bits) bits count ≡ bits_from (count - (bits + 1)) (bits + 1) count
+one_bit_more bits count less lt = wanted (count - bits) (count - (bits + 1)) bits count (omega (arith, less)) lt
+
+pub twice_codes : (bits : ℕ) → 2 ^ (bits + 1) ≡ 2 ^ bits * 2
+twice_codes bits = ap (λ k. 2 ^ k) (let e : bits + 1 ≡ suc bits = omega arith in e) ∙ pow-suc 2 bits
+
+pub labels_here : (ds : List TypeDecl) (k : ℕ) (d : TypeDecl) → k < length ds → d ≡ get_or ds k d → labels_at ds k ≡ label_count d
+labels_here [] k d lt is = absurd (omega arith)
+labels_here (x ∷ ds) zero d lt is = ap label_count (sym is)
+labels_here (x ∷ ds) (suc k) d lt is = labels_here ds k d (omega (arith, lt)) is
+
+pub labels_past : (ds : List TypeDecl) (k : ℕ) → length ds ≤ k → labels_at ds k ≡ 0
+labels_past [] k le = refl
+labels_past (x ∷ ds) zero le = absurd (omega (arith, le))
+labels_past (x ∷ ds) (suc k) le = labels_past ds k (omega (arith, le))
+
+-- the bits of a type of a program
+pub bits_same : (p : ProgramTree) (k : Kind) → bits_of p.types k ≡ kind_bits p k
+bits_same p kind.Bool = refl
+bits_same p kind.Int = refl
+bits_same p (kind.Labels i) = refl

@@ -1,0 +1,156 @@
+-- Calls that lead back to their node, and the least offset of them.
+use Rattle.std.proofs.Common.{◌≡◌, ℕ, zero, suc, ◌+◌, ◌<◌, ◌≤◌, inl, inr, List, [], ◌∷◌, ◌++◌, map, length, get_or, refl, sym, ◌∙◌, ap, subst, arith, Option, Some}
+use Rattle.std.proofs.Common.{None as Nothing}
+use Rattle.std.specs.List.{Contains}
+use Rattle.std.proofs.lemmas.List.{get_or_default}
+use Rattle.std.proofs.lemmas.List.Elements.{Contains-append_left, Contains-append_right, Contains-append_cases}
+use Rattle.std.proofs.lemmas.Bool.{cases_eq}
+use Rattle.rv_causality.specs.declared.calls.Calling.{Calling}
+use Rattle.rv_causality.specs.Graphs.{Graph, edges, IsGraph, IsOrdered, Follows, IsLoop}
+use Rattle.rv_causality.specs.Callings.{LeadsTo, there, over, callees, call_graph}
+use Rattle.rv_causality.specs.Loops.{AtMost, IsLowered, IsLoweredTo, HasNoLoop, IsFirstLoop}
+use Rattle.rv_causality.proofs.Walks.{contains_at}
+
+pub lowered_none : (g : Graph) (k : ℕ) (old : Option ℕ) → IsLowered g k [] old old
+lowered_none g k old = record {
+  lower = λ at h. h;
+  found = inl refl;
+  least = λ c w lead. absurd (let lt = w.1 in omega (arith, lt));
+}
+
+pub lowered_more : (g : Graph) (k : ℕ) (xs ys : List Calling) (a b c : Option ℕ) → IsLowered g k xs a b → IsLowered g k ys b c → IsLowered g k (xs ++ ys) a c
+lowered_more g k xs ys a b c p q = record {
+  lower = λ at h. q.lower at (p.lower at h);
+  found = elim q.found [
+    | inl same ↦ elim p.found [
+      | inl older ↦ inl (same ∙ older)
+      | inr w ↦ inr (w.0, Contains-append_left xs ys w.0 w.1, same ∙ w.2, w.3)
+    ]
+    | inr w ↦ inr (w.0, Contains-append_right xs ys w.0 w.1, w.2, w.3)
+  ];
+  least = λ d w lead. elim (Contains-append_cases xs ys d w) [
+    | inl front ↦ q.lower d.at (p.least d front lead)
+    | inr back ↦ q.least d back lead
+  ];
+}
+
+pub lowered_to_more : (g : Graph) (t : List (List Calling)) (n : ℕ) (old new : Option ℕ) → IsLoweredTo g t n old → IsLowered g n (get_or t n []) old new → IsLoweredTo g t (n + 1) new
+lowered_to_more g t n old new p q = record {
+  found = elim q.found [
+    | inl same ↦ elim p.found [
+      | inl none ↦ inl (same ∙ none)
+      | inr w ↦ inr (w.0, w.1, (let lt = w.2 in omega (arith, lt)), w.3, same ∙ w.4, w.5)
+    ]
+    | inr w ↦ inr (n, w.0, omega arith, w.1, w.2, w.3)
+  ];
+  least = λ k c lt w lead. elim (cases_eq k n) [
+    | inl here ↦ q.least c (subst (λ m. Contains (get_or t m []) c) here w) (subst (λ m. LeadsTo g m c.callee) here lead)
+    | inr before ↦ q.lower c.at (p.least k c (omega (arith, lt, before)) w lead)
+  ];
+}
+
+-- what a node calls, in the graph and in the table
+pub edges_at : (t : List (List Calling)) (k : ℕ) → edges (call_graph t) k ≡ callees (get_or t k [])
+edges_at [] k = refl
+edges_at (cs ∷ t) zero = refl
+edges_at (cs ∷ t) (suc k) = edges_at t k
+
+pub callee_at : (cs : List Calling) (c : Calling) (j : ℕ) → j < length cs → get_or (callees cs) j 0 ≡ (get_or cs j c).callee
+callee_at [] c j lt = absurd (omega arith)
+callee_at (d ∷ cs) c zero lt = refl
+callee_at (d ∷ cs) c (suc j) lt = callee_at cs c j (omega (arith, lt))
+
+pub length_map : {X Y : Type 0} (f : X → Y) (xs : List X) → length (map f xs) ≡ length xs
+length_map f [] = refl
+length_map f (x ∷ xs) = ap suc (length_map f xs)
+
+-- a call of a node is an edge of it
+pub edge_of : (t : List (List Calling)) (k : ℕ) (c : Calling) → Contains (get_or t k []) c → (j : ℕ) × (j < length (edges (call_graph t) k)) × (get_or (edges (call_graph t) k) j 0 ≡ c.callee)
+edge_of t k c w =
+    let is = edges_at t k in
+    let n = ap length is ∙ length_map (λ (d : Calling). d.callee) (get_or t k []) in
+    let lt = w.1 in
+    (w.0, omega (arith, n, lt), ap (λ es. get_or es w.0 0) is ∙ callee_at (get_or t k []) c w.0 w.1 ∙ ap (λ (d : Calling). d.callee) w.2)
+
+-- and an edge is a call
+pub call_of : (t : List (List Calling)) (k j : ℕ) → j < length (edges (call_graph t) k) → (c : Calling) × Contains (get_or t k []) c × (c.callee ≡ get_or (edges (call_graph t) k) j 0)
+call_of t k j lt =
+    let is = edges_at t k in
+    let n = ap length is ∙ length_map (λ (d : Calling). d.callee) (get_or t k []) in
+    let d : Calling = record { at = 0; site = 0; callee = 0 } in
+    let less : j < length (get_or t k []) = omega (arith, n, lt) in
+    let c : Calling = get_or (get_or t k []) j d in
+    (c, (j, less, get_or_default (get_or t k []) j c d less), sym (ap (λ es. get_or es j 0) is ∙ callee_at (get_or t k []) d j less))
+
+module _ (t : List (List Calling)) (graph : IsGraph (call_graph t)) where
+  nodes : length (call_graph t) ≡ length t
+  nodes = length_map callees t
+
+  pub callee_within : (k : ℕ) (c : Calling) → k < length t → Contains (get_or t k []) c → c.callee < length (call_graph t)
+  callee_within k c lt w =
+      let e = edge_of t k c w in
+      let n = nodes in
+      subst (λ u. u < length (call_graph t)) e.2 (graph k e.0 (omega (arith, n, lt)) e.1)
+
+-- vertices that follow each other lead on
+pub follows_leads : (g : Graph) (p : ℕ) (ps : List ℕ) (q : ℕ) → Follows g p ps q → LeadsTo g q p
+follows_leads g p [] q w = let at = contains_at (edges g p) q w in over p at.0 at.1 (subst (λ u. LeadsTo g q u) (sym at.2) there)
+follows_leads g p (r ∷ rs) q w = let at = contains_at (edges g p) r w.0 in over p at.0 at.1 (subst (λ u. LeadsTo g q u) (sym at.2) (follows_leads g r rs q w.1))
+
+-- in a loop a call leads back
+pub loop_call : (t : List (List Calling)) (xs : List ℕ) → IsLoop (call_graph t) xs → (k : ℕ) × (c : Calling) × (k < length t) × Contains (get_or t k []) c × LeadsTo (call_graph t) k c.callee
+loop_call t [] is = absurd is
+loop_call t (p ∷ []) is =
+    let at = contains_at (edges (call_graph t) p) p is.1 in
+    let c = call_of t p at.0 at.1 in
+    let n = length_map callees t in
+    let lt = is.0 in
+    (p, c.0, omega (arith, n, lt), c.1, subst (λ u. LeadsTo (call_graph t) p u) (sym (c.2 ∙ at.2)) there)
+loop_call t (p ∷ r ∷ rs) is =
+    let at = contains_at (edges (call_graph t) p) r is.1.0 in
+    let c = call_of t p at.0 at.1 in
+    let n = length_map callees t in
+    let lt = is.0 in
+    (p, c.0, omega (arith, n, lt), c.1, subst (λ u. LeadsTo (call_graph t) p u) (sym (c.2 ∙ at.2)) (follows_leads (call_graph t) r rs p is.1.1))
+
+module _ (g : Graph) (order : List ℕ) (ordered : IsOrdered g order) where
+  -- what a vertex leads to stands no later
+  pub no_later : (b a i : ℕ) → LeadsTo g b a → i < length order → get_or order i 0 ≡ a → (j : ℕ) × (j ≤ i) × (get_or order j 0 ≡ b)
+  no_later b _ i there lt is = (i, omega arith, is)
+  no_later b _ i (over a j inside rest) lt is =
+      let next = ordered.after i j lt (subst (λ u. j < length (edges g u)) (sym is) inside) in
+      let less = next.1 in
+      let more = no_later b (get_or (edges g a) j 0) next.0 rest (omega (arith, less, lt)) (next.2 ∙ ap (λ u. get_or (edges g u) j 0) is) in
+      let le = more.1 in
+      (more.0, omega (arith, less, le), more.2)
+
+-- where the nodes have an order no call leads back
+pub ordered_no_loop : (t : List (List Calling)) (order : List ℕ) → IsOrdered (call_graph t) order → HasNoLoop (call_graph t) t
+ordered_no_loop t order ordered k c lt w lead =
+    let n = length_map callees t in
+    let at = contains_at order k (ordered.all k (omega (arith, n, lt))) in
+    let e = edge_of t k c w in
+    let next = ordered.after at.0 e.0 at.1 (subst (λ u. e.0 < length (edges (call_graph t) u)) (sym at.2) e.1) in
+    let less = next.1 in
+    let inside = at.1 in
+    let back = no_later (call_graph t) order ordered k c.callee next.0 lead (omega (arith, less, inside)) (next.2 ∙ ap (λ u. get_or (edges (call_graph t) u) e.0 0) at.2 ∙ e.2) in
+    let le = back.1 in
+    ordered.once back.0 at.0 (omega (arith, less, le)) inside (back.2 ∙ sym at.2)
+
+-- the least offset that is found is the first, and where there is a loop one is found
+pub first_found : (t : List (List Calling)) (at : ℕ) → IsLoweredTo (call_graph t) t (length t) (Some at) → IsFirstLoop (call_graph t) t at
+first_found t at low = record {
+  here = elim low.found [
+    | inl none ↦ absurd (cc)
+    | inr w ↦ (w.0, w.1, w.2, w.3, w.5, same w.1.at w.4)
+  ];
+  first = λ k c lt w lead. low.least k c lt w lead;
+}
+  where
+    same : (b : ℕ) → Some at ≡ Some b → b ≡ at
+    same b e = cc
+
+pub none_found : (t : List (List Calling)) (xs : List ℕ) (least : Option ℕ) → IsLoop (call_graph t) xs → IsLoweredTo (call_graph t) t (length t) least → least ≡ Nothing → ⊥
+none_found t xs least is low none =
+    let w = loop_call t xs is in
+    subst (λ l. AtMost l w.1.at) none (low.least w.0 w.1 w.2 w.3 w.4)

@@ -1,0 +1,38 @@
+-- The main node of a program, and the types of its flows.
+use Rattle.std.proofs.Common.{◌≡◌, ℕ, ◌<◌, ◌≤◌, ◌+◌, List, [], ◌++◌, map, length, get_or, slice_get, Some, sym, ◌∙◌, ap, subst, length-append, arith}
+use Rattle.rv_syntax.specs.declared.tree.Node as declared
+use Rattle.rv_syntax.specs.declared.tree.Decl.{Decl}
+use Rattle.rv_syntax.specs.Tree.{NodeTree, ProgramTree, node_tree}
+use Rattle.rv_types.specs.declared.typed.Kind.{Kind}
+use Rattle.rv_types.specs.Kinds.{flow_kinds, kind_in_program}
+use Rattle.rv_types.specs.Names.{name_faults, decls}
+use Rattle.rv_types.specs.Instances.{no_node, node_of}
+use Rattle.rv_types.specs.Instances.{name_at}
+use Rattle.rv_causality.proofs.Known.{map_at, node_of_number}
+use Rattle.rv_causality.proofs.Lowering.{length_map}
+use Rattle.rv_causality.proofs.Walks.{got}
+
+module _ (p : ProgramTree) (ns : List declared.Node) (k : ℕ) (n : declared.Node) (are : p.nodes ≡ map node_tree ns) (within : k < length p.nodes) (read : slice_get ns k ≡ Some n) where
+  -- the node with a number
+  node_here : get_or p.nodes k no_node ≡ node_tree n
+  node_here =
+      ap (λ l. get_or l k no_node) are
+      ∙ map_at node_tree ns k no_node n (subst (λ l. k < l) (ap length are ∙ length_map node_tree ns) within)
+      ∙ ap node_tree (got ns k n n read)
+
+  -- is the node of its name
+  pub main_node : name_faults p ≡ [] → node_of p (name_at p k) ≡ node_tree n
+  main_node named = node_of_number p named k within ∙ node_here
+
+  -- and has its types
+  pub main_kinds : (all : List (List Kind)) (own : List Kind) → all ≡ map (flow_kinds p) p.nodes → slice_get all k ≡ Some own → own ≡ flow_kinds p (node_tree n)
+  main_kinds all own each is =
+      sym (got all k own own is) ∙ ap (λ l. get_or l k own) each ∙ map_at (flow_kinds p) p.nodes k own no_node within ∙ ap (flow_kinds p) node_here
+
+-- no fewer than there are inputs
+pub inputs_few : (p : ProgramTree) (n : NodeTree) (own : List Kind) → own ≡ flow_kinds p n → length n.inputs ≤ length own
+inputs_few p n own is =
+    let a : length own ≡ length (decls n) = ap length is ∙ length_map (λ (d : Decl). kind_in_program p d.kind) (decls n) in
+    let b : length (decls n) ≡ length (n.inputs ++ n.outputs) + length n.locals = length-append (n.inputs ++ n.outputs) n.locals in
+    let c : length (n.inputs ++ n.outputs) ≡ length n.inputs + length n.outputs = length-append n.inputs n.outputs in
+    omega (arith, a, b, c)

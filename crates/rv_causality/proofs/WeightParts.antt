@@ -1,0 +1,31 @@
+-- Parts of expressions with their weights.
+use Rattle.std.proofs.Common.{◌≡◌, ℕ, min, Bool, true, false, cond, Option, Some, refl, ap, arith, nat_abs}
+use Rattle.std.proofs.Common.{None as Nothing}
+use Rattle.rv_base.specs.declared.value.Value.{Value}
+use Rattle.rv_syntax.specs.Tree.{Named}
+use Rattle.rv_syntax.specs.Places.{Identifier}
+use Rattle.rv_types.specs.declared.weighing.Weighed.{Weighed}
+use Rattle.rv_types.specs.Constants.{whole_in}
+use Rattle.rv_types.specs.ConstantParts.{constant_form}
+use Rattle.rv_types.specs.Types.{Scope}
+use Rattle.rv_types.specs.ValueTables.{cap}
+use Rattle.rv_types.specs.WideConstants.{lesser}
+
+-- what is known of a constant or label is its value
+pub named_weight : (s : Scope) (known : Identifier → Value) (x : Identifier) (w : Weighed) → s.fixed x ≡ true → Some w ≡ constant_form s known (Named x) → w.weight ≡ min (nat_abs (whole_in (known x))) cap
+named_weight s known x w fixed is = tested (s.fixed x) fixed is
+  where
+    tested : (b : Bool) → b ≡ true → Some w ≡ cond b (Some (record { value = known x; weight = min (nat_abs (whole_in (known x))) cap })) Nothing → w.weight ≡ min (nat_abs (whole_in (known x))) cap
+    tested true e h = let f : w ≡ record { value = known x; weight = min (nat_abs (whole_in (known x))) cap } = cc in ap (λ (v : Weighed). v.weight) f
+    tested false e h = cc
+
+-- the lesser of three offsets
+pub lesser_more : (a b c : Option ℕ) → lesser (lesser a b) c ≡ lesser a (lesser b c)
+lesser_more Nothing b c = refl
+lesser_more (Some a) Nothing c = refl
+lesser_more (Some a) (Some b) Nothing = refl
+lesser_more (Some a) (Some b) (Some c) = ap Some (let e : min (min a b) c ≡ min a (min b c) = omega arith in e)
+
+pub lesser_none : (a : Option ℕ) → lesser a Nothing ≡ a
+lesser_none Nothing = refl
+lesser_none (Some a) = refl

@@ -1,0 +1,10 @@
+use Rattle.std.proofs.Common.{◌≡◌, ◌++◌, map, drop}
+use Rattle.rv_syntax.specs.Delays.{delays_of_all}
+use Rattle.rv_syntax.specs.Tree.{tree_of, trees}
+use Rattle.rv_causality.specs.Memories.{reads}
+use Rattle.rv_causality.proofs.memories.+gather.Given as goal
+
+abbrev pub invariant-gather_all-loop-e : goal.invariant-gather_all-loop-e
+invariant-gather_all-loop-e l =
+    l.found ++ reads l.tables l.node (delays_of_all (trees (map tree_of (drop l.e-index l.expressions))))
+    ≡ l.initial.found ++ reads l.tables l.node (delays_of_all (trees (map tree_of l.expressions)))

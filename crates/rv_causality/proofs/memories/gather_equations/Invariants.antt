@@ -1,0 +1,10 @@
+use Rattle.std.proofs.Common.{◌≡◌, ◌++◌, map, drop}
+use Rattle.rv_syntax.specs.Delays.{delays_in_equations}
+use Rattle.rv_syntax.specs.Tree.{equation_tree}
+use Rattle.rv_causality.specs.Memories.{reads}
+use Rattle.rv_causality.proofs.memories.gather_equations.Given as goal
+
+abbrev pub invariant-loop-equation : goal.invariant-loop-equation
+invariant-loop-equation l =
+    l.found ++ reads l.tables l.node (delays_in_equations (map equation_tree (drop l.equation-index l.equations)))
+    ≡ l.initial.found ++ reads l.tables l.node (delays_in_equations (map equation_tree l.equations))

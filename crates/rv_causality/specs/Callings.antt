@@ -1,0 +1,69 @@
+-- The calls of a program by the numbers of its nodes.
+use Rattle.std.specs.Prelude.{◌≡◌, ◌⊎◌, ℕ, ◌+◌, ◌<◌, Bool, true, false, List, map, length, slice_index_or}
+use Rattle.std.specs.List.{Contains}
+use Rattle.rv_syntax.specs.declared.tree.Node as declared
+use Rattle.rv_syntax.specs.Tree.{ProgramTree}
+use Rattle.rv_syntax.specs.Places.{Identifier, index_of}
+use Rattle.rv_types.specs.Names.{node_names, texts}
+use Rattle.rv_causality.specs.declared.calls.Calling.{Calling}
+use Rattle.rv_types.specs.Instances.{CallTree, calls}
+use Rattle.rv_causality.specs.Graphs.{Graph, edges, falses}
+
+-- a call, where the nodes have these names
+abbrev pub calling : List Identifier → CallTree → Calling
+calling names c = record { at = c.at; site = c.site; callee = index_of names c.name }
+
+-- some calls
+abbrev pub callings : List Identifier → List CallTree → List Calling
+callings names cs = map (calling names) cs
+
+-- the names of the nodes of a program
+abbrev pub names_of : ProgramTree → List Identifier
+names_of p = texts (node_names p)
+
+-- the calls of each node
+abbrev pub callings_of : ProgramTree → List (List Calling)
+callings_of p = map (λ n. callings (names_of p) (calls n)) p.nodes
+
+-- the nodes that some calls call
+abbrev pub callees : List Calling → List ℕ
+callees cs = map (λ c. c.callee) cs
+
+-- which node calls which
+abbrev pub call_graph : List (List Calling) → Graph
+call_graph t = map callees t
+
+-- a vertex leads to another over any number of edges
+pub data LeadsTo (g : Graph) (b : ℕ) : ℕ → Type 0 where
+  there : LeadsTo g b b
+  over : (a j : ℕ) → j < length (edges g a) → LeadsTo g b (slice_index_or (edges g a) j 0) → LeadsTo g b a
+
+-- Exactly those vertices are marked to which one leads.
+pub record AreMarked (g : Graph) (from : ℕ) (marks : List Bool) : Type 0 where
+  pub size : length marks ≡ length g
+  pub sound : (k : ℕ) → k < length g → slice_index_or marks k false ≡ true → LeadsTo g k from
+  pub whole : (k : ℕ) → LeadsTo g k from → slice_index_or marks k false ≡ true
+
+-- What holds while marks spread from a vertex: what is marked is led to, and what a marked vertex points to is marked,
+-- unless that vertex waits.
+pub record IsSearch (g : Graph) (from : ℕ) (marks : List Bool) (waiting : List ℕ) : Type 0 where
+  pub size : length marks ≡ length g
+  pub sound : (k : ℕ) → k < length g → slice_index_or marks k false ≡ true → LeadsTo g k from
+  pub waiting_in : (i : ℕ) → i < length waiting → slice_index_or waiting i 0 < length g
+  pub waiting_marked : (i : ℕ) → i < length waiting → slice_index_or marks (slice_index_or waiting i 0) false ≡ true
+  pub closed : (k j : ℕ) → k < length g → slice_index_or marks k false ≡ true → j < length (edges g k) → (slice_index_or marks (slice_index_or (edges g k) j 0) false ≡ true) ⊎ Contains waiting k
+  pub start : slice_index_or marks from false ≡ true
+
+-- Some vertices are marked, and those of them wait that were not marked before.
+pub record IsSpread (targets : List ℕ) (marks : List Bool) (waiting : List ℕ) (new_marks : List Bool) (new_waiting : List ℕ) : Type 0 where
+  pub size : length new_marks ≡ length marks
+  pub kept : (k : ℕ) → slice_index_or marks k false ≡ true → slice_index_or new_marks k false ≡ true
+  pub marked : (j : ℕ) → j < length targets → slice_index_or new_marks (slice_index_or targets j 0) false ≡ true
+  pub only : (k : ℕ) → slice_index_or new_marks k false ≡ true → (slice_index_or marks k false ≡ true) ⊎ (Contains targets k × Contains new_waiting k)
+  pub waits : (k : ℕ) → Contains waiting k → Contains new_waiting k
+  pub waits_only : (i : ℕ) → i < length new_waiting → Contains waiting (slice_index_or new_waiting i 0) ⊎ Contains targets (slice_index_or new_waiting i 0)
+  pub count : falses new_marks + length new_waiting ≡ falses marks + length waiting
+
+-- the names of some nodes as they are declared
+abbrev pub node_texts : List declared.Node → List Identifier
+node_texts ns = map (λ n. n.name.text) ns

@@ -1,0 +1,51 @@
+-- The nodes of a program without recursion, in order.
+use Rattle.std.specs.Prelude.{◌≡◌, ◌≤◌, ℕ, map}
+use Rattle.rv_syntax.specs.Tree.{ProgramTree}
+use Rattle.rv_syntax.specs.Places.{Identifier}
+use Rattle.rv_causality.specs.declared.recursion.Nodes.{Nodes}
+use Rattle.rv_causality.specs.declared.fault.CauseFault.{CauseFault}
+use Rattle.rv_causality.specs.declared.fault.CauseFault.TheVariants.{Recursive, Cycle, TooLarge, TooWide, Memory}
+use Rattle.rv_causality.specs.Reach.{HasNoRecursion, IsFirstRecursion}
+use Rattle.rv_causality.specs.Sizes.{instance_count, expanded, integer_memories, integer_inputs, first_above, measures, IsFirstAbove}
+use Rattle.rv_types.specs.Variables.{over_instances, variable_count}
+use Rattle.rv_types.specs.Values.{label_count}
+use Rattle.rv_types.specs.Instances.{node_of}
+use Rattle.rv_causality.specs.Graphs.{IsOrdered}
+use Rattle.rv_causality.specs.Callings.{names_of, callings_of, call_graph}
+
+-- No node reaches itself. The names and calls are those of the nodes, and each stands after those that it calls.
+pub record AreOrderedNodes (p : ProgramTree) (n : Nodes) : Type 0 where
+  pub recursion : HasNoRecursion p
+  pub names : n.names ≡ names_of p
+  pub calls : n.calls ≡ callings_of p
+  pub order : IsOrdered (call_graph (callings_of p)) n.order
+
+-- the first recursive call; want of memory needs no cause
+abbrev pub IsRecursionOf : ProgramTree → CauseFault → Type 0
+IsRecursionOf p (Recursive at) = IsFirstRecursion p at
+IsRecursionOf p Memory = Unit {0}
+IsRecursionOf p (Cycle ps) = ⊥
+IsRecursionOf p (TooLarge q n) = ⊥
+IsRecursionOf p (TooWide at) = ⊥
+
+-- The program has no more instances and expressions than it may, and so many expressions.
+pub record IsSmall (p : ProgramTree) (main : Identifier) (count : ℕ) : Type 0 where
+  pub instances : instance_count p main ≤ 4000
+  pub expressions : expanded p main ≤ 200000
+  pub counted : count ≡ expanded p main
+
+-- And it has no more integer memories, integer inputs, labels and variables than it may.
+pub record IsSized (p : ProgramTree) (main : Identifier) (count : ℕ) : Type 0 where
+  pub small : IsSmall p main count
+  pub memories : over_instances p main (integer_memories p) ≤ 64
+  pub inputs : integer_inputs p (node_of p main) ≤ 64
+  pub labels : first_above 256 (map label_count p.types) ≤ 256
+  pub variables : variable_count p main ≤ 4096
+
+-- a quantity that is too large is the first; want of memory needs no cause
+abbrev pub IsSizeFault : ProgramTree → Identifier → CauseFault → Type 0
+IsSizeFault p main (TooLarge q n) = IsFirstAbove (measures p main) q n
+IsSizeFault p main Memory = Unit {0}
+IsSizeFault p main (Recursive at) = ⊥
+IsSizeFault p main (Cycle ps) = ⊥
+IsSizeFault p main (TooWide at) = ⊥

@@ -1,0 +1,13 @@
+-- Equations with several left sides.
+use Rattle.std.specs.Prelude.{◌≡◌, ℕ, length, Option}
+use Rattle.std.specs.List.{Contains}
+use Rattle.rv_syntax.specs.Tree.{Node, Call, Trees, EquationTree, NodeTree, ProgramTree}
+use Rattle.rv_syntax.specs.Places.{Identifier}
+
+-- The right side of an equation of a node is a call, where the equation has not one left side.
+abbrev pub HasSides : NodeTree → Type 0
+HasSides n = (q : EquationTree) → Contains n.equations q → (length q.lefts ≡ 1 → ⊥) → (at : ℕ) × (site : Option ℕ) × (f : Identifier) × (es : Trees) × (q.right ≡ Node at site (Call f es))
+
+-- the same of all nodes
+abbrev pub AreSided : ProgramTree → Type 0
+AreSided p = (n : NodeTree) → Contains p.nodes n → HasSides n

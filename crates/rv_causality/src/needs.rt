@@ -1,0 +1,89 @@
+//! What flows need at the same instant.
+
+ghost use Rattle.std.specs.Prelude.{◌≡◌, ◌++◌, ◌∷◌, [], map, unwrap_or, OnOk};
+ghost use Rattle.rv_syntax.specs.Tree.{tree_of, trees};
+ghost use Rattle.rv_causality.specs.NumberedNeeds.{IsReader, listed, numbers_needed, numbers_of_all, node_read, numbers_of};
+
+use crate::reader::Reader;
+use rv_base::{Many, Memory};
+use rv_syntax::{Expr, ExprForm};
+
+/// Adds the numbers of the flows that an expression needs, which stands on the clock of a flow. It calls itself for
+/// each operand, so as deep as the tree is: 20,101 levels at most.
+#[cycle(needs)]
+pub fn add_needs(
+    reader: &Reader,
+    clock: Option<u32>,
+    e: &Expr,
+    found: &mut Many<u32>,
+) -> Result<(), Memory>
+    requires { IsReader reader.now }
+    ensures { OnOk result (found.new ≡ found.old ++ numbers_needed (node_read reader.now) (numbers_of reader.now) clock (tree_of e.now)) }
+{
+    add_flow(clock, found)?;
+    match &e.form {
+        ExprForm::True | ExprForm::False | ExprForm::Number(_) | ExprForm::Pre(_) => Ok(()),
+        ExprForm::Named(name) => add_flow(reader.flow(name), found),
+        ExprForm::Not(operand) | ExprForm::Minus(operand) => {
+            add_needs(reader, clock, operand, found)
+        }
+        ExprForm::Current(operand) => {
+            let own = reader.clock_of(operand);
+            add_needs(reader, own, operand, found)
+        }
+        ExprForm::When(operand, name) => {
+            let own = reader.clock_of_flow(&name.text);
+            add_needs(reader, own, operand, found)
+        }
+        ExprForm::Binary(_, left, right) => {
+            add_needs(reader, clock, left, found)?;
+            add_needs(reader, clock, right, found)
+        }
+        ExprForm::If(condition, first, second) => {
+            add_needs(reader, clock, condition, found)?;
+            add_needs(reader, clock, first, found)?;
+            add_needs(reader, clock, second, found)
+        }
+        ExprForm::AtMostOne(operands) => add_all(reader, clock, operands.as_slice(), found),
+        ExprForm::Call(_, _) => add_output(reader, e.site, found),
+    }
+}
+
+/// Adds what the expressions need.
+#[cycle(needs)]
+fn add_all(
+    reader: &Reader,
+    clock: Option<u32>,
+    expressions: &[Expr],
+    found: &mut Many<u32>,
+) -> Result<(), Memory>
+    requires { IsReader reader.now }
+    ensures { OnOk result (found.new ≡ found.old ++ numbers_of_all (node_read reader.now) (numbers_of reader.now) clock (trees (map tree_of expressions.now))) }
+{
+    for e in expressions {
+        add_needs(reader, clock, e, found)?;
+    }
+    Ok(())
+}
+
+/// Adds the first output of the call with a site.
+#[inline(never)]
+fn add_output(reader: &Reader, site: Option<u32>, found: &mut Many<u32>) -> Result<(), Memory>
+    requires { IsReader reader.now }
+    ensures { OnOk result (found.new ≡ found.old ++ (numbers_of reader.now).output (unwrap_or site 0) ∷ []) }
+{
+    found.push(reader.output(site.unwrap_or(0)))?;
+    Ok(())
+}
+
+/// Adds a flow, if there is one.
+#[inline(never)]
+pub fn add_flow(flow: Option<u32>, found: &mut Many<u32>) -> Result<(), Memory>
+    ensures { OnOk result (found.new ≡ found.old ++ listed flow) }
+{
+    match flow {
+        None => {}
+        Some(flow) => found.push(flow)?,
+    }
+    Ok(())
+}

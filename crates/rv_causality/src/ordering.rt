@@ -1,0 +1,162 @@
+//! The rules of recursion, size, cycles and weights, in turn.
+
+ghost use Rattle.std.specs.Prelude.{◌≡◌, IfOk, IfErr};
+ghost use Rattle.rv_syntax.specs.Bounded.{IsTreeOfText};
+ghost use Rattle.rv_syntax.specs.Tree.{program_tree};
+ghost use Rattle.rv_types.specs.Instances.{name_at};
+ghost use Rattle.rv_types.specs.Scopes.{constant_values};
+ghost use Rattle.rv_types.specs.Settled.{IsAnswer};
+ghost use Rattle.rv_causality.specs.declared.fault.CauseFault.{CauseFault};
+ghost use Rattle.rv_causality.specs.Causes.{IsAccepted, IsOrder, IsCause, HasCause, Orders, Refuses};
+ghost use Rattle.rv_causality.specs.Expanded.{IsExpanded, IsKnown, program_of, main_of};
+ghost use Rattle.rv_causality.specs.Flowing.{all_flows, IsCycleFault};
+ghost use Rattle.rv_causality.specs.Givers.{AreGivers};
+ghost use Rattle.rv_causality.specs.Layouts.{IsLayout};
+ghost use Rattle.rv_causality.specs.Sequenced.{AreSequenced, IsSequenceFault};
+ghost use Rattle.rv_causality.specs.WeightTables.{IsNumbered};
+ghost use Rattle.rv_causality.specs.Weights.{AreLight};
+ghost use Rattle.rv_causality.specs.WideNodes.{IsWideFault};
+
+use crate::answer::{Instance, Order};
+use crate::expanded::Expanded;
+use crate::fault::CauseFault;
+use crate::flow_graph::flow_graph;
+use crate::flows::flows_of;
+use crate::givers::{Giver, givers_of};
+use crate::instances::instances;
+use crate::layout::{Layout, layout_of};
+use crate::measure::check_sizes;
+use crate::recursion::check;
+use crate::sequence::{Flow, evaluation, places_of};
+use crate::weight_check::check_weights;
+use rv_base::{Many, Place, Value};
+use rv_syntax::{Program, bounded_tree};
+use rv_types::{Typed, program_tables, sited_programs, well_formed_programs};
+use std::alloc::Global;
+
+/// Expands the instances of the main node of a program whose names, types and clocks are right, checks that it can be
+/// evaluated, and answers an order of evaluation. The program is to be the tree of a text within the limit.
+///
+/// Otherwise it answers the first fault: recursion of nodes, then sizes, cycles and weights. `Memory` comes where
+/// memory runs out. Time grows with the number of expressions of all instances and with the length of the places in
+/// the answer, up to look-ups of names.
+pub fn order(alloc: Global, p: &Program, t: &Typed) -> Result<Order, CauseFault>
+    requires text { IsTreeOfText (program_tree p.now) }
+    requires settled { IsAnswer (program_tree p.now) t.now }
+    // What is answered is an order of an accepted program.
+    ensures found { IfOk result (IsOrder (program_tree p.now) (name_at (program_tree p.now) t.now.main)) }
+    // An accepted program has an answer, unless memory runs out.
+    ensures only { IsAccepted (program_tree p.now) (name_at (program_tree p.now) t.now.main) → Orders result }
+    // A fault that is answered is the first.
+    ensures refused { IfErr result (HasCause (program_tree p.now) (name_at (program_tree p.now) t.now.main)) }
+    // Where a fault is the first it is answered, or another cycle where it is one, unless memory runs out.
+    ensures only_refused { (f : CauseFault) → IsCause (program_tree p.now) (name_at (program_tree p.now) t.now.main) f → Refuses f result }
+{
+    bounded_tree();
+    sited_programs();
+    well_formed_programs();
+    let nodes = match check(alloc, p) {
+        Ok(nodes) => nodes,
+        Err(fault) => return Err(fault),
+    };
+    let expanded = match check_sizes(alloc, p, t, &nodes) {
+        Ok(expanded) => expanded,
+        Err(fault) => return Err(fault),
+    };
+    let instances = instances(alloc, p, t.main, &nodes)?;
+    match sequence_of(alloc, p, t, &instances) {
+        Ok(sequence) => Ok(Order {
+            instances,
+            sequence,
+            expanded,
+        }),
+        Err(fault) => Err(fault),
+    }
+}
+
+/// A sequence of the flows of all instances, each after those that it needs, where no expression is too wide; otherwise a
+/// cycle, or the least offset of one that is.
+fn sequence_of(
+    alloc: Global,
+    p: &Program,
+    t: &Typed,
+    instances: &Many<Instance>,
+) -> Result<Many<Place>, CauseFault>
+    requires expanded { IsExpanded (program_tree p.now) (name_at (program_tree p.now) t.now.main) instances.now }
+    requires constants { t.now.constants ≡ constant_values (program_tree p.now) }
+    ensures sequence { IfOk result (AreSequenced (program_tree p.now) (name_at (program_tree p.now) t.now.main)) }
+    ensures fault { IfErr result (IsSequenceFault (program_tree p.now) (name_at (program_tree p.now) t.now.main)) }
+{
+    let expanded = Expanded::new(alloc, p, t.main, instances)?;
+    let layout = layout_of(alloc, &expanded)?;
+    let givers = givers_of(alloc, &expanded, &layout)?;
+    sequence_by_givers(alloc, &expanded, t.constants.as_slice(), &layout, &givers)
+}
+
+/// The same by the layout of the flows and by what gives them their values.
+fn sequence_by_givers(
+    alloc: Global,
+    expanded: &Expanded,
+    constants: &[Value],
+    layout: &Layout,
+    givers: &Many<Giver>,
+) -> Result<Many<Place>, CauseFault>
+    requires known { IsKnown expanded.now }
+    requires constants { constants.now ≡ constant_values (program_of expanded.now) }
+    requires layout { IsLayout (program_of expanded.now) (main_of expanded.now) expanded.now.instances.now layout.now }
+    requires givers { AreGivers (program_of expanded.now) (main_of expanded.now) expanded.now.instances.now givers.now }
+    ensures sequence { IfOk result (AreSequenced (program_of expanded.now) (main_of expanded.now)) }
+    ensures fault { IfErr result (IsSequenceFault (program_of expanded.now) (main_of expanded.now)) }
+{
+    let flows = flows_of(alloc, expanded.program, expanded.instances)?;
+    let numbers = match numbers_of(alloc, expanded, layout, givers, &flows) {
+        Ok(numbers) => numbers,
+        Err(fault) => return Err(fault),
+    };
+    match check_light(alloc, expanded, constants, layout, givers, &numbers) {
+        Ok(()) => {}
+        Err(fault) => return Err(fault),
+    }
+    let places = places_of(alloc, expanded.instances, &flows, numbers.as_slice())?;
+    Ok(places)
+}
+
+/// Checks that no expression is too wide, or answers the least offset of one that is.
+fn check_light(
+    alloc: Global,
+    expanded: &Expanded,
+    constants: &[Value],
+    layout: &Layout,
+    givers: &Many<Giver>,
+    numbers: &Many<u32>,
+) -> Result<(), CauseFault>
+    requires known { IsKnown expanded.now }
+    requires constants { constants.now ≡ constant_values (program_of expanded.now) }
+    requires layout { IsLayout (program_of expanded.now) (main_of expanded.now) expanded.now.instances.now layout.now }
+    requires givers { AreGivers (program_of expanded.now) (main_of expanded.now) expanded.now.instances.now givers.now }
+    requires numbered { IsNumbered (program_of expanded.now) (main_of expanded.now) expanded.now.instances.now numbers.now }
+    ensures light { IfOk result (λ done. AreLight (program_of expanded.now) (main_of expanded.now)) }
+    ensures wide { IfErr result (IsWideFault (program_of expanded.now) (main_of expanded.now)) }
+{
+    let tables = program_tables(alloc, expanded.program)?;
+    check_weights(alloc, expanded, &tables, constants, layout, givers, numbers)
+}
+
+/// The numbers of the flows in such a sequence, or a cycle.
+fn numbers_of(
+    alloc: Global,
+    expanded: &Expanded,
+    layout: &Layout,
+    givers: &Many<Giver>,
+    flows: &Many<Flow>,
+) -> Result<Many<u32>, CauseFault>
+    requires known { IsKnown expanded.now }
+    requires layout { IsLayout (program_of expanded.now) (main_of expanded.now) expanded.now.instances.now layout.now }
+    requires givers { AreGivers (program_of expanded.now) (main_of expanded.now) expanded.now.instances.now givers.now }
+    requires flows { flows.now ≡ all_flows (program_of expanded.now) expanded.now.instances.now }
+    ensures numbered { IfOk result (IsNumbered (program_of expanded.now) (main_of expanded.now) expanded.now.instances.now) }
+    ensures cycle { IfErr result (IsCycleFault (program_of expanded.now) (main_of expanded.now)) }
+{
+    let graph = flow_graph(alloc, expanded, layout, givers)?;
+    evaluation(alloc, expanded.instances, flows, &graph)
+}

@@ -1,0 +1,144 @@
+//! Recursion of nodes.
+
+ghost use Rattle.std.specs.Prelude.{◌≡◌, ◌<◌, ◌^◌, [], ◌∷◌, length, IfOk, IfErr};
+ghost use Rattle.std.specs.Bool.{MatchBool};
+ghost use Rattle.std.specs.List.{Contains};
+ghost use Rattle.rv_syntax.specs.Bounded.{IsBounded};
+ghost use Rattle.rv_syntax.specs.Tree.{program_tree};
+ghost use Rattle.rv_types.specs.Names.{name_faults};
+ghost use Rattle.rv_causality.specs.Nodes.{AreOrderedNodes, IsRecursionOf};
+ghost use Rattle.rv_causality.specs.declared.calls.Calling.{Calling as CallingModel};
+ghost use Rattle.rv_causality.specs.Graphs.{IsGraph, IsOrdered};
+ghost use Rattle.rv_causality.specs.Callings.{call_graph};
+ghost use Rattle.rv_causality.specs.Loops.{AtMost, IsLowered, IsLoweredTo, IsRecursion};
+
+use crate::calls::{Calling, calls_of, graph_of, names_of_nodes};
+use crate::fault::CauseFault;
+use crate::graph::{Sorted, sort};
+use crate::names::Names;
+use crate::reach::reached;
+use rv_base::{Many, Memory};
+use rv_syntax::Program;
+use std::alloc::Global;
+
+/// The names of the nodes, their calls, and an order in which each stands after those that it calls.
+#[derive(Drop)]
+pub struct Nodes {
+    pub names: Names,
+    pub calls: Many<Many<Calling>>,
+    pub order: Many<u32>,
+}
+
+/// Checks that no node reaches itself, and answers the nodes in order, or the first call that leads back.
+pub fn check(alloc: Global, p: &Program) -> Result<Nodes, CauseFault>
+    requires bounded { IsBounded (program_tree p.now) }
+    requires named { name_faults (program_tree p.now) ≡ [] }
+    ensures ordered { IfOk result (AreOrderedNodes (program_tree p.now)) }
+    ensures recursive { IfErr result (IsRecursionOf (program_tree p.now)) }
+{
+    let names = names_of_nodes(alloc, p)?;
+    let calls = calls_of(alloc, p, &names)?;
+    let graph = graph_of(alloc, &calls)?;
+    match node_order(alloc, &calls, &graph) {
+        Ok(order) => Ok(Nodes {
+            names,
+            calls,
+            order,
+        }),
+        Err(fault) => Err(fault),
+    }
+}
+
+/// The nodes in an order in which each stands after those that it calls, or the first call that leads back to its own
+/// node. Time is linear where there is none; otherwise it may grow with the square of the number of nodes.
+pub fn node_order(
+    alloc: Global,
+    table: &Many<Many<Calling>>,
+    graph: &Many<Many<u32>>,
+) -> Result<Many<u32>, CauseFault>
+    requires graph { graph.now ≡ call_graph table.now }
+    requires known { IsGraph graph.now }
+    requires few { length graph.now < 2 ^ 32 }
+    ensures ordered { IfOk result (λ nodes. IsOrdered graph.now nodes) }
+    ensures recursive { IfErr result (IsRecursion graph.now table.now) }
+{
+    match sort(alloc, graph)? {
+        Sorted::Ordered(nodes) => Ok(nodes),
+        Sorted::Looped(_) => match first_back(alloc, table, graph)? {
+            Some(at) => Err(CauseFault::Recursive(at)),
+            None => unreachable!(),
+        },
+    }
+}
+
+/// The least offset of a call whose node leads back to the node that it stands in.
+fn first_back(
+    alloc: Global,
+    table: &Many<Many<Calling>>,
+    graph: &Many<Many<u32>>,
+) -> Result<Option<u32>, Memory>
+    requires graph { graph.now ≡ call_graph table.now }
+    requires known { IsGraph graph.now }
+    requires few { length graph.now < 2 ^ 32 }
+    ensures { IfOk result (IsLoweredTo graph.now table.now (length table.now)) }
+{
+    let mut least = None;
+    for node in 0..table.len() {
+        least = lower_in_node(alloc, graph, node as u32, table.at(node).as_slice(), least)?;
+    }
+    Ok(least)
+}
+
+/// Lowers the least offset by the calls of a node.
+fn lower_in_node(
+    alloc: Global,
+    graph: &Many<Many<u32>>,
+    node: u32,
+    calls: &[Calling],
+    old: Option<u32>,
+) -> Result<Option<u32>, Memory>
+    requires known { IsGraph graph.now }
+    requires node { node < length graph.now }
+    requires callees { (c : CallingModel) → Contains calls.now c → c.callee < length graph.now }
+    ensures { IfOk result (IsLowered graph.now node calls.now old) }
+{
+    let mut least = old;
+    for call in calls {
+        least = lower(alloc, graph, node, call, least)?;
+    }
+    Ok(least)
+}
+
+/// Lowers the least offset by a call, where it leads back to its node.
+fn lower(
+    alloc: Global,
+    graph: &Many<Many<u32>>,
+    node: u32,
+    call: &Calling,
+    old: Option<u32>,
+) -> Result<Option<u32>, Memory>
+    requires known { IsGraph graph.now }
+    requires node { node < length graph.now }
+    requires callee { call.now.callee < length graph.now }
+    ensures { IfOk result (IsLowered graph.now node (call.now ∷ []) old) }
+{
+    if is_at_most(old, call.at) {
+        return Ok(old);
+    }
+    let marks = reached(alloc, graph, call.callee)?;
+    if *marks.at(node as usize) {
+        Ok(Some(call.at))
+    } else {
+        Ok(old)
+    }
+}
+
+/// Whether an offset is at least the least one, where that is known.
+fn is_at_most(least: Option<u32>, at: u32) -> bool
+    ensures { MatchBool result (AtMost least at) (AtMost least at → ⊥) }
+{
+    match least {
+        None => false,
+        Some(bound) => bound <= at,
+    }
+}
