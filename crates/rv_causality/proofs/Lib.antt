@@ -62,3 +62,4 @@ pub mod NeedsGraph
 pub mod FewInstances
 pub mod Numbered
 pub mod SequenceCause
+pub mod ReadSource

@@ -27,3 +27,5 @@ pub mod Givers
 pub mod Giving
 pub mod NumberedNeeds
 pub mod Sequenced
+pub mod Fitting
+pub mod Sources

@@ -4,20 +4,28 @@ ghost use Rattle.std.specs.Prelude.{◌≡◌, ◌≤◌, ◌++◌, length, IfOk
 ghost use Rattle.rv_syntax.specs.Bounded.{IsBounded, most};
 ghost use Rattle.rv_syntax.specs.Places.{flows};
 ghost use Rattle.rv_syntax.specs.Tree.{node_tree, program_tree};
-ghost use Rattle.rv_causality.specs.Flowing.{AreOfNodes, all_flows, flows_below};
+ghost use Rattle.rv_causality.specs.Expanded.{IsKnown, program_of};
+ghost use Rattle.rv_causality.specs.Flowing.{AreOf, AreOfNodes, all_flows, flows_below};
 
 use crate::answer::Instance;
+use crate::expanded::Expanded;
 use crate::sequence::Flow;
 use rv_base::{Many, Memory};
 use rv_syntax::{Node, Program};
 use std::alloc::Global;
 
+/// The flows of all instances of a program that is known.
+pub fn flows_in(alloc: Global, expanded: &Expanded) -> Result<Many<Flow>, Memory>
+    requires { IsKnown expanded.now }
+    ensures flows { IfOk result (λ found. found ≡ all_flows (program_of expanded.now) expanded.now.instances.now) }
+    ensures instances { IfOk result (AreOf expanded.now.instances.now) }
+{
+    let found = flows_of(alloc, expanded.program, expanded.instances)?;
+    Ok(found)
+}
+
 /// The flows of all instances: those of the first in the order of their sites, then those of the next.
-pub fn flows_of(
-    alloc: Global,
-    p: &Program,
-    instances: &Many<Instance>,
-) -> Result<Many<Flow>, Memory>
+fn flows_of(alloc: Global, p: &Program, instances: &Many<Instance>) -> Result<Many<Flow>, Memory>
     requires bounded { IsBounded (program_tree p.now) }
     requires nodes { AreOfNodes (program_tree p.now) instances.now }
     requires few { length instances.now ≤ 4000 }

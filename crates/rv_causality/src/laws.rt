@@ -15,7 +15,7 @@ ghost use Rattle.rv_causality.specs.declared.calls.Calling.{Calling};
 ghost use Rattle.rv_causality.specs.declared.answer.Instance.{Instance as InstanceModel};
 ghost use Rattle.rv_causality.specs.declared.layout.Layout.{Layout as LayoutModel};
 ghost use Rattle.rv_causality.specs.Expanded.{IsExpanded};
-ghost use Rattle.rv_causality.specs.Layouts.{IsNumberOf, IsHere, IsLayout, here_of, all_places};
+ghost use Rattle.rv_causality.specs.Layouts.{IsNumberOf, IsHere, IsLayout, here_of, all_places, node_at};
 ghost use Rattle.rv_causality.specs.Flowing.{flow_places as places_of_flows, all_flows, AreFlowPlaces, IsKnownPace};
 ghost use Rattle.rv_causality.specs.Listing.{AreAllSorted, all_listed};
 ghost use Rattle.rv_causality.specs.Reach.{HasNoRecursion};
@@ -41,7 +41,7 @@ pub(crate) fn instance_list()
 {}
 
 /// The numbered flows of all instances have the places of all flows, in order.
-pub(crate) fn flow_places()
+pub fn flow_places()
     ensures { (p : ProgramTree) (main : Identifier) (instances : List InstanceModel) → name_faults p ≡ [] → is_among (names_of p) main ≡ true → AreSited p → AreInstances p main instances → AreFlowPlaces p main (places_of_flows instances (all_flows p instances)) }
 {}
 
@@ -51,18 +51,27 @@ pub(crate) fn known_clocks()
 {}
 
 /// The numbers that a layout has of an instance are those of its flows, of its base clock and of what it calls.
-pub(crate) fn instance_numbers()
+pub fn instance_numbers()
     ensures { (p : ProgramTree) (main : Identifier) (instances : List InstanceModel) (l : LayoutModel) (m : ℕ) (i : InstanceTree) → IsExpanded p main instances → IsLayout p main instances l → IsInstance p main i → IsNumberOf p instances m i → IsHere p (all_places p instances) i (here_of l m) }
 {}
 
+/// Each number of an instance is that of one, each instance has a number, its node is that of the number, and its path tells
+/// it.
+pub fn numbered_instances()
+    ensures at { (p : ProgramTree) (main : Identifier) (instances : List InstanceModel) (m : ℕ) → IsExpanded p main instances → m < length instances → (i : InstanceTree) × IsInstance p main i × IsNumberOf p instances m i }
+    ensures number { (p : ProgramTree) (main : Identifier) (instances : List InstanceModel) (i : InstanceTree) → IsExpanded p main instances → IsInstance p main i → (m : ℕ) × IsNumberOf p instances m i }
+    ensures node { (p : ProgramTree) (main : Identifier) (instances : List InstanceModel) (m : ℕ) (i : InstanceTree) → IsExpanded p main instances → IsInstance p main i → IsNumberOf p instances m i → node_at p instances m ≡ i.node }
+    ensures same { (p : ProgramTree) (main : Identifier) (instances : List InstanceModel) (i a : InstanceTree) → IsExpanded p main instances → IsInstance p main i → IsInstance p main a → i.path ≡ a.path → i ≡ a }
+{}
+
 /// Each flow has one giver.
-pub(crate) fn one_giver()
+pub fn one_giver()
     ensures each { (p : ProgramTree) (main : Identifier) (instances : List InstanceModel) (q : Sites) → IsExpanded p main instances → IsFlow p main q → (f : GiverTree) × Gives p main q f }
     ensures one { (p : ProgramTree) (main : Identifier) (instances : List InstanceModel) (q : Sites) (f g : GiverTree) → IsExpanded p main instances → Gives p main q f → Gives p main q g → f ≡ g }
 {}
 
 /// A program whose names, types and clocks are right is known with its instances, where these are no more than they may
 /// be.
-pub(crate) fn expanded_program()
+pub fn expanded_program()
     ensures { (p : ProgramTree) (main : ℕ) (instances : List InstanceModel) → IsBounded p → name_faults p ≡ [] → AreSited p → AreWell p → HasNoRecursion p → main < length p.nodes → AreInstances p (name_at p main) instances → instance_count p (name_at p main) ≤ 4000 → IsExpanded p (name_at p main) instances }
 {}

@@ -26,10 +26,12 @@ mod order_tests;
 mod ordering;
 mod reach;
 mod reader;
+mod reading;
 mod recursion;
 mod sequence;
 mod sites;
 mod sizes;
+mod source;
 mod ticks;
 mod totals;
 mod variables;
@@ -38,6 +40,18 @@ mod weight_laws;
 mod weights;
 
 pub use answer::{Instance, Order};
+pub use callees::Callees;
+pub use expanded::Expanded;
 pub use fault::{CauseFault, Quantity};
-pub use laws::{counted_instances, no_cycle};
+pub use flows::flows_in;
+pub use givers::{BodyOf, Giver, OutputOf, givers_of};
+pub use laws::{
+    counted_instances, expanded_program, flow_places, instance_numbers, no_cycle,
+    numbered_instances, one_giver,
+};
+pub use layout::{Laid, Layout, layout_of, number_of_clock};
 pub use ordering::order;
+pub use reader::Reader;
+pub use reading::read_source;
+pub use sequence::{Flow, places_of};
+pub use source::{Source, SourceFault};

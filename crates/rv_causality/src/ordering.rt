@@ -21,7 +21,7 @@ use crate::answer::{Instance, Order};
 use crate::expanded::Expanded;
 use crate::fault::CauseFault;
 use crate::flow_graph::flow_graph;
-use crate::flows::flows_of;
+use crate::flows::flows_in;
 use crate::givers::{Giver, givers_of};
 use crate::instances::instances;
 use crate::layout::{Layout, layout_of};
@@ -108,7 +108,7 @@ fn sequence_by_givers(
     ensures sequence { IfOk result (AreSequenced (program_of expanded.now) (main_of expanded.now)) }
     ensures fault { IfErr result (IsSequenceFault (program_of expanded.now) (main_of expanded.now)) }
 {
-    let flows = flows_of(alloc, expanded.program, expanded.instances)?;
+    let flows = flows_in(alloc, expanded)?;
     let numbers = match numbers_of(alloc, expanded, layout, givers, &flows) {
         Ok(numbers) => numbers,
         Err(fault) => return Err(fault),

@@ -1,30 +1,16 @@
-use Rattle.std.proofs.Common.{length, map, subst, ap, List, ◌∙◌}
-use Rattle.std.specs.List.{Contains}
-use Rattle.rv_causality.specs.declared.sequence.Flow.{Flow}
+use Rattle.std.proofs.Common.{map, ap, ◌∙◌}
 use Rattle.rv_causality.specs.Expanded.{program_of, main_of}
-use Rattle.rv_causality.specs.Flowing.{flow_count, flow_places, place_at}
-use Rattle.rv_causality.proofs.ExpandedLaws.{of_nodes}
-use Rattle.rv_causality.proofs.FlowTable.{of_flows}
+use Rattle.rv_causality.specs.Flowing.{flow_places, place_at}
 use Rattle.rv_causality.proofs.Numbered.{numbers_within, sequenced}
 use Rattle.rv_causality.proofs.ordering.sequence_by_givers.Goals as goal
-
-pub flows_of-requires-clause-nodes : goal.flows_of-requires-clause-nodes
-flows_of-requires-clause-nodes c =
-    let x = c.args.expanded.now in
-    of_nodes (program_of x) (main_of x) x.instances.now c.requires.known.expanded
-
-pub places_of-requires-clause-instances : goal.places_of-requires-clause-instances
-places_of-requires-clause-instances c f w =
-    let x = c.args.expanded.now in
-    (of_flows (flow_count (program_of x) x.instances.now) (length x.instances.now) f (subst (λ (l : List Flow). Contains l f) c.in_ok-flows.ensures w)).0
 
 pub places_of-requires-clause-numbers : goal.places_of-requires-clause-numbers
 places_of-requires-clause-numbers c k w =
     let x = c.args.expanded.now in
-    numbers_within (program_of x) (main_of x) x.instances.now c.in_ok-flows.flows c.in-Ok.numbers c.as_slice.result.now k c.in_ok-flows.ensures c.in-Ok.ensures.numbered c.as_slice.ensures w
+    numbers_within (program_of x) (main_of x) x.instances.now c.in_ok-flows.flows c.in-Ok.numbers c.as_slice.result.now k c.in_ok-flows.ensures.flows c.in-Ok.ensures.numbered c.as_slice.ensures w
 
 pub returns-clause-sequence : goal.returns-clause-sequence
 returns-clause-sequence c =
     let x = c.args.expanded.now in
-    sequenced (program_of x) (main_of x) x.instances.now c.in_ok-flows.flows c.in-Ok.numbers c.in_ok-places.places c.in_ok-flows.ensures c.in-Ok.ensures.numbered c.in-Ok-check_light.ensures.light
+    sequenced (program_of x) (main_of x) x.instances.now c.in_ok-flows.flows c.in-Ok.numbers c.in_ok-places.places c.in_ok-flows.ensures.flows c.in-Ok.ensures.numbered c.in-Ok-check_light.ensures.light
     (c.in_ok-places.ensures ∙ ap (map (place_at (flow_places x.instances.now c.in_ok-flows.flows))) c.as_slice.ensures)
