@@ -1,8 +1,18 @@
 mod Served
+mod Known
+mod Found
 mod Named
-pub mod Decided
-mod Outside
-mod ShapeLemmas
-mod CodeLemmas
-mod RisingSites
-mod Searched
+mod Spelling
+mod NoIntegers
+mod Tried
+mod Typed
+mod Rising
+mod Weighing
+mod Sites
+mod Small
+mod Coding
+mod FlatStates
+mod Everywhere
+mod MainNode
+mod Judging
+mod Reported

@@ -2,9 +2,11 @@
 use Rattle.std.specs.Prelude.{◌≡◌, ◌⊎◌, ℕ, List, Option, Some, None, IsSomeAnd}
 use Rattle.std.specs.FinMap.{get}
 use Rattle.rv_base.specs.Shelf.{Shelf, HoldsUnder}
+use Rattle.rv_causality.specs.declared.source.SourceFault.{SourceFault}
+use Rattle.rv_causality.specs.Sources.{AreSame}
 use Rattle.rv_cli.specs.Words.{command}
 use Rattle.rv_cli.specs.declared.report.Report.{Report}
-use Rattle.rv_cli.specs.declared.report.Report.TheVariants.{TooLong, ReadFault, Usage, Memory}
+use Rattle.rv_cli.specs.declared.report.Report.TheVariants.{Refused, TooLong, ReadFault, Usage, Memory}
 
 -- The words are a command, and what is held under its file has P, beside its node, where the files tell what they
 -- hold.
@@ -28,6 +30,11 @@ pub record IsTold (held : Option Shelf) (words : List (List ℕ)) (P : List ℕ 
 -- The report is this one, unless the file could not be read or there was no memory.
 abbrev pub IsUnlessCutOff : Report → Report → Type 0
 IsUnlessCutOff expected report = (report ≡ expected) ⊎ ((report ≡ ReadFault) ⊎ (report ≡ Memory))
+
+-- It is a refusal for this fault, or for another cycle where the fault is one, unless the file could not be read or there
+-- was no memory.
+abbrev pub IsRefusalUnlessCutOff : SourceFault → Report → Type 0
+IsRefusalUnlessCutOff fault report = ((found : SourceFault) × (report ≡ Refused found) × AreSame fault found) ⊎ ((report ≡ ReadFault) ⊎ (report ≡ Memory))
 
 -- The report is one on the bytes of a source, and not on the words or the file.
 abbrev pub IsOnSource : Report → Type 0

@@ -4,5 +4,5 @@ pub mod Programs
 pub mod Printed
 pub mod StandardOut
 pub mod Refusals
-pub mod Shapes
-pub mod Codes
+pub mod Judged
+pub mod Spelled

@@ -1,13 +1,19 @@
 -- The text and the status of a report.
-use Rattle.std.specs.Prelude.{ℕ, List, [], ◌∷◌, ◌++◌, codes}
+use Rattle.std.specs.Prelude.{ℕ, List, [], ◌∷◌, ◌++◌, codes, flat_map}
 use Rattle.std.specs.Fmt.{decimal}
+use Rattle.rv_base.specs.declared.value.Place.{Place}
 use Rattle.rv_syntax.specs.declared.fault.TextFault.{TextFault}
 use Rattle.rv_syntax.specs.declared.fault.TextFault.TheVariants.{BadText, TooDeep, LeftOut, Memory as TextMemory}
 use Rattle.rv_types.specs.declared.fault.NameFault.{NameFault}
 use Rattle.rv_types.specs.declared.fault.NameFault.TheVariants.{NoNode, UnknownName, DefinedTwice, Undefined, TypeClash, Nonlinear, ClockClash, NotObserver, Memory as NameMemory}
+use Rattle.rv_causality.specs.declared.fault.CauseFault.{CauseFault}
+use Rattle.rv_causality.specs.declared.fault.CauseFault.TheVariants.{Recursive, Cycle, TooLarge, TooWide, Memory as CauseMemory}
+use Rattle.rv_causality.specs.declared.fault.Quantity.{Quantity}
+use Rattle.rv_causality.specs.declared.fault.Quantity.TheVariants as quantity
+use Rattle.rv_causality.specs.declared.source.SourceFault.{SourceFault}
+use Rattle.rv_causality.specs.declared.source.SourceFault.TheVariants.{Text, Names, Cause, Memory as SourceMemory}
 use Rattle.rv_cli.specs.declared.report.Report.{Report}
 use Rattle.rv_cli.specs.declared.report.Report.TheVariants.{Safe, Unknown, Refused, TooLong, ReadFault, Usage, Memory}
-use Rattle.rv_cli.specs.declared.report.SourceFault.TheVariants.{Text, Names}
 use Rattle.rv_cli.specs.declared.report.Sent.{Sent}
 use Rattle.rv_cli.specs.declared.report.Sent.TheVariants.{Whole, Failed, Memory as SentMemory}
 
@@ -34,12 +40,45 @@ text_of_name_fault (ClockClash at) = record_of (codes "reaver,refused,10,clockcl
 text_of_name_fault (NotObserver at) = record_of (codes "reaver,refused,11,notobserver," ++ decimal at)
 text_of_name_fault NameMemory = record_of (codes "reaver,memory")
 
+-- a place: its numbers, joined by points
+abbrev pub dotted : List ℕ → List ℕ
+dotted [] = []
+dotted (site ∷ sites) = decimal site ++ flat_map (λ s. 46 ∷ decimal s) sites
+
+-- places, a comma before each
+abbrev pub listed : List Place → List ℕ
+listed places = flat_map (λ p. 44 ∷ dotted p.sites) places
+
+-- the name of a quantity
+abbrev pub quantity_name : Quantity → List ℕ
+quantity_name quantity.Instances = codes "instances"
+quantity_name quantity.Expanded = codes "expanded"
+quantity_name quantity.Memories = codes "memories"
+quantity_name quantity.Inputs = codes "inputs"
+quantity_name quantity.Labels = codes "labels"
+quantity_name quantity.Variables = codes "variables"
+
+-- The record of a fault of recursion, sizes, cycles or weights: its number, its name, and its offset, its places, or the
+-- quantity and how large it is.
+abbrev pub text_of_cause : CauseFault → List ℕ
+text_of_cause (Recursive at) = record_of (codes "reaver,refused,12,recursive," ++ decimal at)
+text_of_cause (Cycle places) = record_of (codes "reaver,refused,13,cycle" ++ listed places)
+text_of_cause (TooLarge quantity number) = record_of (codes "reaver,refused,14,toolarge," ++ quantity_name quantity ++ 44 ∷ decimal number)
+text_of_cause (TooWide at) = record_of (codes "reaver,refused,15,toowide," ++ decimal at)
+text_of_cause CauseMemory = record_of (codes "reaver,memory")
+
+-- The record of a refusal.
+abbrev pub text_of_refusal : SourceFault → List ℕ
+text_of_refusal (Text fault) = text_of_fault fault
+text_of_refusal (Names fault) = text_of_name_fault fault
+text_of_refusal (Cause fault) = text_of_cause fault
+text_of_refusal SourceMemory = record_of (codes "reaver,memory")
+
 -- What is printed for a report.
 abbrev pub text_of : Report → List ℕ
 text_of Safe = record_of (codes "reaver,safe")
 text_of Unknown = record_of (codes "reaver,unknown")
-text_of (Refused (Text fault)) = text_of_fault fault
-text_of (Refused (Names fault)) = text_of_name_fault fault
+text_of (Refused fault) = text_of_refusal fault
 text_of (TooLong count) = record_of (codes "reaver,toolong," ++ decimal count)
 text_of ReadFault = record_of (codes "reaver,readfault")
 text_of Usage = record_of (codes "reaver,usage")

@@ -2,43 +2,27 @@
 use Rattle.std.specs.Prelude.{◌⊎◌, ℕ, List}
 use Rattle.rv_syntax.specs.Tree.{ProgramTree}
 use Rattle.rv_syntax.specs.Places.{Identifier}
-use Rattle.rv_syntax.specs.ProgramText.{IsTextOf}
-use Rattle.rv_syntax.specs.Faults.{IsFault}
-use Rattle.rv_types.specs.declared.fault.NameFault.{NameFault}
 use Rattle.rv_types.specs.declared.typed.Typed.{Typed}
-use Rattle.rv_types.specs.Settled.{IsSettled, IsFirstFault}
-use Rattle.rv_meaning.specs.Boolean.{IsBooleanProgram}
-use Rattle.rv_meaning.specs.Valuations.{FailsSomewhere}
-use Rattle.rv_cli.specs.declared.report.SourceFault.{SourceFault}
-use Rattle.rv_cli.specs.declared.report.SourceFault.TheVariants.{Text, Names}
+use Rattle.rv_causality.specs.declared.source.SourceFault.{SourceFault}
+use Rattle.rv_causality.specs.Sources.{IsSource, IsSourceFault}
+use Rattle.rv_meaning.specs.Valuations.{IsSmall, FailsSomewhere}
 
--- The program meets every rule of names, types and clocks, with this main node.
-abbrev pub IsAccepted : ProgramTree → Identifier → Type 0
-IsAccepted program node = (t : Typed) × IsSettled program node t
-
--- The bytes are the text of a program that is accepted with this node, and P holds of the program and the node.
+-- The bytes are the text of a program that is settled and accepted with this node, and P holds of the program and the node.
 pub record OnProgram (P : ProgramTree → Identifier → Type 0) (bytes : List ℕ) (node : Identifier) : Type 0 where
   pub program : ProgramTree
-  pub text : IsTextOf bytes program
-  pub accepted : IsAccepted program node
+  pub typed : Typed
+  pub source : IsSource bytes node program typed
   pub holds : P program node
 
--- The program is one that is judged today, a Boolean node, and P holds.
+-- The program is one that is judged today, a small one, and P holds.
 abbrev pub IsJudged : (ProgramTree → Identifier → Type 0) → ProgramTree → Identifier → Type 0
-IsJudged P program node = IsBooleanProgram program node × P program node
+IsJudged P program node = IsSmall program node × P program node
 
--- The program is not one that is judged today, or its observer is false at some valuation.
+-- The program is not one that is judged today, or its observer is false at some allowed valuation.
 abbrev pub IsUndecided : ProgramTree → Identifier → Type 0
-IsUndecided program node = (¬ IsBooleanProgram program node) ⊎ IsJudged FailsSomewhere program node
+IsUndecided program node = (¬ (IsSmall program node)) ⊎ IsJudged FailsSomewhere program node
 
--- The bytes are the text of a program whose first fault of names, types and clocks is this one.
-pub record HasNameFault (fault : NameFault) (bytes : List ℕ) (node : Identifier) : Type 0 where
-  pub program : ProgramTree
-  pub text : IsTextOf bytes program
-  pub first : IsFirstFault program node fault
-
--- Why a source is refused: for the fault of its first offending token, or, where it has a tree, for its first fault
--- of names, types and clocks.
+-- Why a source is refused: for the fault of its first offending token; or, where it has a tree, for its first fault of
+-- names, types and clocks; or, where it has none, for its first of recursion, sizes, cycles and weights.
 abbrev pub IsRefusedFor : SourceFault → List ℕ → Identifier → Type 0
-IsRefusedFor (Text fault) bytes node = IsFault bytes fault
-IsRefusedFor (Names fault) bytes node = HasNameFault fault bytes node
+IsRefusedFor fault bytes node = IsSourceFault bytes node fault

@@ -1,8 +1,8 @@
 //! `reaver prove FILE NODE` tells whether the observer of a Lustre node is true in every run.
 #![tactic(auto)]
 
-mod boolean;
 mod disk_files;
+mod judge;
 mod load;
 mod prove;
 mod report;

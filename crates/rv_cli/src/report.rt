@@ -1,28 +1,21 @@
 //! What the program answers, how it is printed, and the status that it ends with.
 
-ghost use Rattle.std.specs.Prelude.{◌≡◌, IfOk};
+ghost use Rattle.std.specs.Prelude.{◌≡◌, ◌++◌, codes, IfOk, OnOk};
 ghost use Rattle.std.specs.String.{string_bytes};
-ghost use Rattle.rv_cli.specs.Printed.{text_of, text_of_fault, text_of_name_fault, status_of, report_status};
+ghost use Rattle.rv_cli.specs.Printed.{text_of, text_of_refusal, text_of_fault, text_of_name_fault, text_of_cause, dotted, listed, quantity_name, status_of, report_status};
 
+use rv_base::Place;
+use rv_causality::{CauseFault, Quantity, SourceFault};
 use rv_syntax::TextFault;
 use rv_types::NameFault;
 use std::alloc::{AllocError, Global};
 
-/// Why a source is refused.
-#[derive(Clone, Copy, Debug, PartialEq, Eq)]
-pub enum SourceFault {
-    /// The text is no program.
-    Text(TextFault),
-    /// The program breaks a rule of names, types or clocks.
-    Names(NameFault),
-}
-
 /// What the program answers.
 #[derive(Debug, PartialEq, Eq, Drop)]
 pub enum Report {
-    /// In every run the observer is true at each instant.
+    /// In every run the observer is true at each instant up to which the assertions have held.
     Safe,
-    /// The program is not one that is judged, or its observer is false at some valuation.
+    /// The program is not one that is judged, or its observer is false at some allowed valuation.
     Unknown,
     /// The source is not one that is accepted.
     Refused(SourceFault),
@@ -65,12 +58,23 @@ pub fn text(alloc: Global, report: &Report) -> Result<String, AllocError>
     match report {
         Report::Safe => String::from_str(alloc, "reaver,safe\n"),
         Report::Unknown => String::from_str(alloc, "reaver,unknown\n"),
-        Report::Refused(SourceFault::Text(fault)) => fault_text(alloc, *fault),
-        Report::Refused(SourceFault::Names(fault)) => name_fault_text(alloc, *fault),
+        Report::Refused(fault) => refusal_text(alloc, fault),
         Report::TooLong(count) => format!(in alloc; "reaver,toolong,{count}\n"),
         Report::ReadFault => String::from_str(alloc, "reaver,readfault\n"),
         Report::Usage => String::from_str(alloc, "reaver,usage\n"),
         Report::Memory => String::from_str(alloc, "reaver,memory\n"),
+    }
+}
+
+/// The text of a refusal.
+fn refusal_text(alloc: Global, fault: &SourceFault) -> Result<String, AllocError>
+    ensures { IfOk result (λ text. string_bytes text ≡ text_of_refusal fault.now) }
+{
+    match fault {
+        SourceFault::Text(fault) => fault_text(alloc, *fault),
+        SourceFault::Names(fault) => name_fault_text(alloc, *fault),
+        SourceFault::Cause(fault) => cause_text(alloc, fault),
+        SourceFault::Memory => String::from_str(alloc, "reaver,memory\n"),
     }
 }
 
@@ -102,6 +106,64 @@ fn name_fault_text(alloc: Global, fault: NameFault) -> Result<String, AllocError
         NameFault::NotObserver(at) => format!(in alloc; "reaver,refused,11,notobserver,{at}\n"),
         NameFault::Memory => String::from_str(alloc, "reaver,memory\n"),
     }
+}
+
+/// The text of a refusal for recursion, sizes, cycles or weights: the number of the fault, its name in lower case letters,
+/// and its offset, its places, or the quantity and how large it is.
+fn cause_text(alloc: Global, fault: &CauseFault) -> Result<String, AllocError>
+    ensures { IfOk result (λ text. string_bytes text ≡ text_of_cause fault.now) }
+{
+    match fault {
+        CauseFault::Recursive(at) => format!(in alloc; "reaver,refused,12,recursive,{at}\n"),
+        CauseFault::Cycle(places) => cycle_text(alloc, places.as_slice()),
+        CauseFault::TooLarge(quantity, number) => {
+            let name = name_of(*quantity);
+            format!(in alloc; "reaver,refused,14,toolarge,{name},{number}\n")
+        }
+        CauseFault::TooWide(at) => format!(in alloc; "reaver,refused,15,toowide,{at}\n"),
+        CauseFault::Memory => String::from_str(alloc, "reaver,memory\n"),
+    }
+}
+
+/// The name of a quantity in lower case letters.
+fn name_of(quantity: Quantity) -> &'static str
+    ensures { result.now ≡ quantity_name quantity }
+{
+    match quantity {
+        Quantity::Instances => "instances",
+        Quantity::Expanded => "expanded",
+        Quantity::Memories => "memories",
+        Quantity::Inputs => "inputs",
+        Quantity::Labels => "labels",
+        Quantity::Variables => "variables",
+    }
+}
+
+/// The text of a cycle: its places in turn.
+fn cycle_text(alloc: Global, places: &[Place]) -> Result<String, AllocError>
+    ensures { IfOk result (λ text. string_bytes text ≡ codes "reaver,refused,13,cycle" ++ listed places.now ++ codes "\n") }
+{
+    let mut text = String::from_str(alloc, "reaver,refused,13,cycle")?;
+    for place in places {
+        text.push(',')?;
+        add_sites(&mut text, place.sites.as_slice())?;
+    }
+    text.push('\n')?;
+    Ok(text)
+}
+
+/// Adds the numbers of a place, joined by points.
+fn add_sites(text: &mut String, sites: &[u32]) -> Result<(), AllocError>
+    ensures { OnOk result (string_bytes text.new ≡ string_bytes text.old ++ dotted sites.now) }
+{
+    let Some((first, others)) = sites.split_first() else {
+        return Ok(());
+    };
+    write!(text, "{first}")?;
+    for site in others {
+        write!(text, ".{site}")?;
+    }
+    Ok(())
 }
 
 /// The status that the program ends with.

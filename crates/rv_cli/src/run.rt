@@ -8,18 +8,16 @@ ghost use Rattle.rv_base.specs.Shown.{AppendsPrefix};
 ghost use Rattle.rv_meaning.specs.Runs.{IsSafe};
 ghost use Rattle.rv_meaning.specs.Valuations.{HoldsEverywhere};
 ghost use Rattle.rv_cli.specs.Words.{texts, command};
-ghost use Rattle.rv_cli.specs.Answers.{OnFile, IsTold, IsUnlessCutOff};
+ghost use Rattle.rv_cli.specs.Answers.{OnFile, IsTold, IsUnlessCutOff, IsRefusalUnlessCutOff};
 ghost use Rattle.rv_cli.specs.Programs.{OnProgram, IsJudged, IsUndecided, IsRefusedFor};
 ghost use Rattle.rv_cli.specs.Printed.{text_of, status_of};
-ghost use Rattle.rv_cli.specs.declared.report.SourceFault.{SourceFault};
+ghost use Rattle.rv_causality.specs.declared.source.SourceFault.{SourceFault};
 
 use crate::load::{WholeFault, load_whole};
 use crate::prove::{SOURCE_LIMIT, report_on_source};
 use crate::report::{Outcome, Report, Sent, status, text};
 use crate::words::read_words;
 use rv_base::{Files, PutFault, Sink};
-use rv_syntax::{one_fault, one_tree};
-use rv_types::settled_or_refused;
 use std::alloc::Global;
 
 /// The status where there is no memory.
@@ -42,6 +40,14 @@ fn report_on<F: Files>(alloc: Global, words: &[String], files: &mut F) -> Report
         → (n ≡ SOURCE_LIMIT + 1) × OnFile (F.held files.old) (texts words.now) (λ bytes _. SOURCE_LIMIT < length bytes) }
     ensures read_fault { result ≡ Report.ReadFault → Rose (F.faults files.old) (F.faults files.new) }
     ensures usage { (result ≡ Report.Usage) ↔ (command (texts words.now) ≡ None) }
+    ensures only_safe { IsTold (F.held files.old) (texts words.now) (λ bytes node. (length bytes ≤ SOURCE_LIMIT) × OnProgram (IsJudged HoldsEverywhere) bytes node)
+        → IsUnlessCutOff Report.Safe result }
+    ensures only_unknown { IsTold (F.held files.old) (texts words.now) (λ bytes node. (length bytes ≤ SOURCE_LIMIT) × OnProgram IsUndecided bytes node)
+        → IsUnlessCutOff Report.Unknown result }
+    ensures only_refused { (fault : SourceFault) → IsTold (F.held files.old) (texts words.now) (λ bytes node. (length bytes ≤ SOURCE_LIMIT) × IsRefusedFor fault bytes node)
+        → IsRefusalUnlessCutOff fault result }
+    ensures only_too_long { IsTold (F.held files.old) (texts words.now) (λ bytes _. SOURCE_LIMIT < length bytes)
+        → IsUnlessCutOff (Report.TooLong (SOURCE_LIMIT + 1)) result }
     ensures same_held { F.held files.new ≡ F.held files.old }
 {
     let Some(command) = read_words(words) else {
@@ -81,9 +87,9 @@ fn show<S: Sink>(alloc: Global, report: &Report, out: &mut S) -> Sent
 /// the words are not four or the second is not `prove`, ReadFault only where the files count one more fault, and Memory
 /// where there is no memory. Beside these two, TooLong comes exactly where the file is longer than 1,048,576 bytes;
 /// Refused exactly where its bytes have no tree, with the fault of their first offending token, or where their program
-/// breaks a rule of names, types or clocks with this main node, with its first fault; Safe exactly where the program is
-/// one that is judged and its observer is true at every valuation; and Unknown exactly where it is accepted and not
-/// judged, or false at some valuation.
+/// breaks a rule with this main node, with its first fault of names, types and clocks, and then of recursion, sizes, cycles
+/// and weights, where any cycle may be told; Safe exactly where the program is one that is judged and its observer is true
+/// at every allowed valuation; and Unknown exactly where it is accepted and not judged, or false at some allowed valuation.
 pub fn run<F: Files, S: Sink>(
     alloc: Global,
     words: &Vec<String>,
@@ -107,7 +113,7 @@ pub fn run<F: Files, S: Sink>(
     ensures only_unknown { IsTold (F.held files.old) (texts words.now.items) (λ bytes node. (length bytes ≤ SOURCE_LIMIT) × OnProgram IsUndecided bytes node)
         → IsUnlessCutOff Report.Unknown result.report }
     ensures only_refused { (fault : SourceFault) → IsTold (F.held files.old) (texts words.now.items) (λ bytes node. (length bytes ≤ SOURCE_LIMIT) × IsRefusedFor fault bytes node)
-        → IsUnlessCutOff (Report.Refused fault) result.report }
+        → IsRefusalUnlessCutOff fault result.report }
     ensures only_too_long { IsTold (F.held files.old) (texts words.now.items) (λ bytes _. SOURCE_LIMIT < length bytes)
         → IsUnlessCutOff (Report.TooLong (SOURCE_LIMIT + 1)) result.report }
     ensures same_held { F.held files.new ≡ F.held files.old }
@@ -121,10 +127,6 @@ pub fn run<F: Files, S: Sink>(
     ensures status { result.status ≡ status_of result.report result.sent }
 {
     let report = report_on(alloc, words.as_slice(), files);
-    one_tree();
-    one_fault();
-    rv_types::one_fault();
-    settled_or_refused();
     let sent = show(alloc, &report, out);
     let status = status(&report, sent);
     Outcome {

@@ -12,9 +12,10 @@ ghost use Rattle.rv_cli.specs.Programs.{OnProgram};
 ghost use Rattle.rv_cli.specs.Words.{texts};
 
 use crate::prove::SOURCE_LIMIT;
-use crate::report::{Outcome, Report, Sent, SourceFault, text};
+use crate::report::{Outcome, Report, Sent, text};
 use crate::run::run;
-use rv_base::{Memory, MemoryFiles, MemorySink, SureFiles, SureSink};
+use rv_base::{Many, Memory, MemoryFiles, MemorySink, Place, SureFiles, SureSink};
+use rv_causality::{CauseFault, Quantity, SourceFault};
 use rv_syntax::TextFault;
 use rv_types::NameFault;
 use std::alloc::{AllocError, Global};
@@ -79,6 +80,10 @@ fn files_of(alloc: Global) -> Result<MemoryFiles, Memory> {
         "labels",
         b"type t = enum { p, q, r }; node m(s: t) returns (ok: bool); let ok = s = p or s = q or s = r; tel",
     )?;
+    files.add(
+        "recursive",
+        b"node m(a: bool) returns (ok: bool); let ok = m(a); tel",
+    )?;
     files.add("no_text", &[0, 255, 128, 10])?;
     Ok(files)
 }
@@ -123,11 +128,12 @@ fn answers_on_sources(rt: HostRuntime) -> Result<(), Fail> {
             3,
             "reaver,refused,8,typeclash,47\n",
         ),
+        plain("reaver prove labels m", Report::Safe, 0, "reaver,safe\n"),
         plain(
-            "reaver prove labels m",
-            Report::Unknown,
-            2,
-            "reaver,unknown\n",
+            "reaver prove recursive m",
+            Report::Refused(SourceFault::Cause(CauseFault::Recursive(45))),
+            3,
+            "reaver,refused,12,recursive,45\n",
         ),
         plain(
             "reaver prove no_text m",
@@ -276,7 +282,64 @@ fn prints_each_fault_of_names(rt: HostRuntime) -> Result<(), Fail> {
     Ok(())
 }
 
-// Nodes whose observer is true at every valuation of the main tick, the memories and the inputs: the names of the
+#[test]
+fn prints_each_fault_of_causes(rt: HostRuntime) -> Result<(), Fail> {
+    let mut places = Many::new(rt.alloc());
+    for sites in [
+        [2, 3].as_slice(),
+        [3, 0, 17].as_slice(),
+        [4_294_967_295].as_slice(),
+    ] {
+        let sites = Many::from_vec(sites.to_vec(rt.alloc())?);
+        places.push(Place { sites })?;
+    }
+    for (fault, shown) in [
+        (
+            CauseFault::Recursive(45),
+            "reaver,refused,12,recursive,45\n",
+        ),
+        (
+            CauseFault::Cycle(places),
+            "reaver,refused,13,cycle,2.3,3.0.17,4294967295\n",
+        ),
+        (CauseFault::TooWide(56), "reaver,refused,15,toowide,56\n"),
+    ] {
+        let printed = text(rt.alloc(), &Report::Refused(SourceFault::Cause(fault)))?;
+        assert_eq!(rt; printed.as_str(), shown);
+    }
+    Ok(())
+}
+
+#[test]
+fn prints_each_quantity(rt: HostRuntime) -> Result<(), Fail> {
+    for (quantity, shown) in [
+        (
+            Quantity::Instances,
+            "reaver,refused,14,toolarge,instances,4001\n",
+        ),
+        (
+            Quantity::Expanded,
+            "reaver,refused,14,toolarge,expanded,4001\n",
+        ),
+        (
+            Quantity::Memories,
+            "reaver,refused,14,toolarge,memories,4001\n",
+        ),
+        (Quantity::Inputs, "reaver,refused,14,toolarge,inputs,4001\n"),
+        (Quantity::Labels, "reaver,refused,14,toolarge,labels,4001\n"),
+        (
+            Quantity::Variables,
+            "reaver,refused,14,toolarge,variables,4001\n",
+        ),
+    ] {
+        let fault = SourceFault::Cause(CauseFault::TooLarge(quantity, 4001));
+        let printed = text(rt.alloc(), &Report::Refused(fault))?;
+        assert_eq!(rt; printed.as_str(), shown);
+    }
+    Ok(())
+}
+
+// Nodes whose observer is true at every allowed valuation of the main tick, the memories and the inputs: the names of the
 // inputs, and what stands after the header.
 const SAFE: &[(&str, &str)] = &[
     ("a", "let ok = true -> true; tel"),
@@ -311,9 +374,18 @@ const SAFE: &[(&str, &str)] = &[
          pre r; t = pre s; u = pre t; v = pre u; w = pre v; x = pre w; y = pre x; ok = y \
          or not y; tel",
     ),
+    // Flows before their equations, an assertion, other operators.
+    ("a", "var x: bool; let ok = x or not x; x = a; tel"),
+    ("a", "let assert a; ok = true; tel"),
+    ("a", "let assert false; ok = false; tel"),
+    ("a", "let assert pre a; ok = pre a; tel"),
+    ("a", "let ok = a => a; tel"),
+    ("a, b", "let ok = (a xor b) = (a <> b); tel"),
+    ("a, b", "let ok = #(a, not a, b and not b); tel"),
+    ("a, b", "let ok = if a then (b => a) else not a; tel"),
 ];
 
-// Nodes whose observer is false at some valuation.
+// Nodes whose observer is false at some allowed valuation.
 const UNKNOWN: &[(&str, &str)] = &[
     ("a", "let ok = true -> pre ok; tel"),
     ("a", "let ok = true -> false; tel"),
@@ -332,15 +404,12 @@ const UNKNOWN: &[(&str, &str)] = &[
         "let ok = pre a and pre pre a and pre pre pre a or not (pre a and pre pre a and \
          pre pre pre a); tel",
     ),
+    ("a", "var x, y: bool; let y = not x; x = not a; ok = x; tel"),
+    ("a, b", "let assert a; ok = b; tel"),
 ];
 
-// Programs that keep the rules and are not judged: a name outside `pre` before its equation, thirteen bits, an assertion,
-// another operator.
+// Programs that are accepted and not judged: thirteen bits, an integer.
 const NOT_JUDGED: &[(&str, &str)] = &[
-    ("a", "var x: bool; let ok = x or not x; x = a; tel"),
-    ("a", "let ok = ok; tel"),
-    ("a", "let ok = true -> ok; tel"),
-    ("a", "var x, y: bool; let y = not x; x = not a; ok = x; tel"),
     (
         "a, b, c, d, e, f, g, h, i, j, k",
         "let ok = pre a or not pre a; tel",
@@ -354,9 +423,121 @@ const NOT_JUDGED: &[(&str, &str)] = &[
         "a, b, c, d, e, f, g, h, i, j",
         "let ok = pre a or not pre b; tel",
     ),
-    ("a", "let assert a; ok = true; tel"),
-    ("a", "let ok = a => a; tel"),
-    ("a", "let ok = current (a when a); tel"),
+    ("a", "var x: int; let x = 0; ok = true; tel"),
+    ("a", "let ok = 1 < 2; tel"),
+    ("a", "var x: int; let x = 0 -> pre x + 1; ok = x >= 0; tel"),
+];
+
+// Whole sources with a node `m`, and what is printed.
+const PRINTED: &[(&str, &str)] = &[
+    (
+        "node m(a: bool) returns (ok: bool); let ok = m(a); tel",
+        "reaver,refused,12,recursive,45\n",
+    ),
+    (
+        "node m(a: bool) returns (ok: bool); var x, y: int; let x = y; y = x; ok = true; tel",
+        "reaver,refused,13,cycle,2,3\n",
+    ),
+    (
+        "node id(u: int) returns (v: int); let v = u; tel node m(a: bool) returns (ok: \
+         bool); var x: int; let x = id(x); ok = true; tel",
+        "reaver,refused,13,cycle,2,3.1,3.0\n",
+    ),
+    (
+        "node m(a: bool) returns (ok: bool); var d: bool; let d = current (pre (a when d)); \
+         ok = d; tel",
+        "reaver,refused,13,cycle,2\n",
+    ),
+    (
+        "node m(a: bool) returns (ok: bool); let ok = ok; tel",
+        "reaver,refused,13,cycle,1\n",
+    ),
+    (
+        "node m(a: bool) returns (ok: bool); var z: int; let z = 1099511627777; ok = true; tel",
+        "reaver,refused,15,toowide,56\n",
+    ),
+    // An assertion of a callee rules instants out.
+    (
+        "node n(x: bool) returns (y: bool); let assert x; y = x; tel node m(a: bool) \
+         returns (ok: bool); let ok = n(a); tel",
+        "reaver,safe\n",
+    ),
+    (
+        "node n(x: bool) returns (y: bool); let y = pre x; tel node m(a: bool) returns (ok: \
+         bool); let ok = n(a) or not n(a); tel",
+        "reaver,unknown\n",
+    ),
+    // Three labels have a fourth code, which is none of them.
+    (
+        "type t = enum { p, q, r }; node m(s: t) returns (ok: bool); let ok = s = p or s = \
+         q or s = r; tel",
+        "reaver,safe\n",
+    ),
+    (
+        "type t = enum { p, q, r }; node m(s: t) returns (ok: bool); let ok = s = p or s = \
+         q; tel",
+        "reaver,unknown\n",
+    ),
+    (
+        "type t = enum { p, q, r }; node m(s: t) returns (ok: bool); let ok = pre s = p or \
+         pre s = q or pre s = r; tel",
+        "reaver,safe\n",
+    ),
+    (
+        "type t = enum { p }; node m(s: t) returns (ok: bool); let ok = s = p; tel",
+        "reaver,safe\n",
+    ),
+    // What is on a clock holds while that is absent; two `current` of one flow read one memory, and what is assumed on
+    // a clock is assumed where that is there.
+    (
+        "node m(a: bool) returns (ok: bool); let ok = current (a when a); tel",
+        "reaver,unknown\n",
+    ),
+    (
+        "node m(a: bool) returns (ok: bool); var x: bool when a; let x = a when a; ok = \
+         true; tel",
+        "reaver,safe\n",
+    ),
+    (
+        "node m(a, c: bool) returns (ok: bool); var x: bool when c; let x = a when c; ok = \
+         current x = current x; tel",
+        "reaver,safe\n",
+    ),
+    (
+        "node m(a, c: bool) returns (ok: bool); let ok = current (a when c) = current (a \
+         when c); tel",
+        "reaver,unknown\n",
+    ),
+    (
+        "node m(a, c: bool) returns (ok: bool); let assert a when c; ok = c => a; tel",
+        "reaver,safe\n",
+    ),
+    (
+        "node m(a, c: bool) returns (ok: bool); let assert a when c; ok = a; tel",
+        "reaver,unknown\n",
+    ),
+    // A clock ticks for the first time when it is first there, and not with the main one.
+    (
+        "node m(c: bool) returns (ok: bool); var x: bool when c; let x = (true when c) -> \
+         (true when c); ok = c => current x; tel",
+        "reaver,safe\n",
+    ),
+    (
+        "node m(c: bool) returns (ok: bool); var x: bool when c; first: bool; let x = (true \
+         when c) -> (false when c); first = true -> false; ok = c and first => current x; tel",
+        "reaver,unknown\n",
+    ),
+    // A node that main does not reach.
+    (
+        "node n(x: bool) returns (y: bool); let y = current (x when x); tel node m(a: bool) \
+         returns (ok: bool); let ok = a or not a; tel",
+        "reaver,safe\n",
+    ),
+    (
+        "node n(x: bool) returns (y: bool); let y = current (x when x); tel node m(a: bool) \
+         returns (ok: bool); let ok = n(a) or not n(a); tel",
+        "reaver,unknown\n",
+    ),
 ];
 
 // Programs that break a rule of names, with the fault.
@@ -386,15 +567,46 @@ const REFUSED: &[(&str, NameFault)] = &[
 // The report on the node `m` of a source with these inputs.
 fn report_on_node(alloc: Global, inputs: &str, rest: &str) -> Result<Report, Fail> {
     let source = format!(in alloc; "node m({inputs}: bool) returns (ok: bool); {rest}")?;
+    let mut out = SureSink::new(alloc);
+    report_on(alloc, source.as_str(), &mut out)
+}
+
+// The report on the node `m` of a source, whose text is shown.
+fn report_on(alloc: Global, source: &str, out: &mut SureSink) -> Result<Report, Fail> {
     let mut files = MemoryFiles::new(alloc);
     files.add("f", source.as_bytes())?;
     let words = words_of(alloc, "reaver prove f m")?;
-    let mut out = SureSink::new(alloc);
-    Ok(run(alloc, &words, &mut files, &mut out).report)
+    Ok(run(alloc, &words, &mut files, out).report)
 }
 
 #[test]
-fn answers_on_boolean_nodes(rt: HostRuntime) -> Result<(), Fail> {
+fn prints_on_sources(rt: HostRuntime) -> Result<(), Fail> {
+    for (source, shown) in PRINTED {
+        let mut out = SureSink::new(rt.alloc());
+        report_on(rt.alloc(), source, &mut out)?;
+        assert_eq!(rt; out.bytes(), shown.as_bytes(), "at {source}");
+    }
+    Ok(())
+}
+
+#[test]
+fn prints_too_many_integer_inputs(rt: HostRuntime) -> Result<(), Fail> {
+    let mut source = String::from_str(rt.alloc(), "node m(a0")?;
+    for number in 1..65 {
+        write!(&mut source, ", a{number}")?;
+    }
+    source.push_str(": int) returns (ok: bool); let ok = true; tel")?;
+    let mut out = SureSink::new(rt.alloc());
+    report_on(rt.alloc(), source.as_str(), &mut out)?;
+    assert_eq!(rt;
+        out.bytes(),
+        b"reaver,refused,14,toolarge,inputs,65\n".as_slice()
+    );
+    Ok(())
+}
+
+#[test]
+fn answers_on_control_nodes(rt: HostRuntime) -> Result<(), Fail> {
     for (rows, report) in [
         (SAFE, Report::Safe),
         (UNKNOWN, Report::Unknown),

@@ -1,96 +1,211 @@
-//! The truth of the flows at 64 valuations at a time: each has a lane, the bits of one rank in all words.
+//! The value of a flat expression, exactly.
 
-ghost use Rattle.std.specs.Prelude.{◌≡◌, ℕ, ◌+◌, ◌-◌, ◌<◌, ◌≤◌, false, cond, length, IsTrue, IfOk, slice_index_or};
-ghost use Rattle.rv_flat.specs.FlatTree.{flat_tree};
-ghost use Rattle.rv_flat.specs.Numbers.{fits, are_ordered, bodies};
-ghost use Rattle.rv_flat.specs.Instants.{IsObserved, no_body};
-ghost use Rattle.rv_flat.specs.Reads.{value_of, joined};
-ghost use Rattle.rv_flat.specs.Lanes.{bit_of, lane_of};
+ghost use Rattle.std.specs.Prelude.{◌≡◌, ◌*ℤ◌, map, false, not, nat_le, slice_index_or};
+ghost use Rattle.rv_base.specs.declared.value.Value.TheVariants.{Flag, Whole};
+ghost use Rattle.rv_meaning.specs.Meaning as meaning;
+ghost use Rattle.rv_flat.specs.FlatTree.{flat_tree, flat_trees};
+ghost use Rattle.rv_flat.specs.FlatInstants.{nth, value_at, flat_trues};
+ghost use Rattle.rv_flat.specs.Tame.{IsHeld, IsTame, AreTame};
 
-use crate::flat::Flat;
-use crate::parts::{FlatExpr, FlatFlow, FlatForm};
-use rv_base::{Memory, Value};
+use crate::parts::{FlatExpr, FlatForm};
+use crate::state::State;
+use rv_base::{Many, Value};
 use rv_syntax::Op;
-use std::alloc::Global;
 
-/// The truth of the observer at 64 valuations, a lane each: one word for each variable that is no next copy, in order.
-pub fn observers_at(alloc: Global, flat: &Flat, valuations: &[u64]) -> Result<u64, Memory>
-    requires { length valuations.now ≡ 1 + (length flat.now.memories + length flat.now.inputs) }
-    ensures { IfOk result (λ word. (lane : ℕ) → lane < 64 → IsObserved flat.now (lane_of lane valuations.now) (bit_of word lane)) }
+/// The value of an expression at a state and inputs, from what the flows before it have.
+pub fn value_of(e: &FlatExpr, now: &State, inputs: &Many<Value>, row: &Many<Option<Value>>) -> Value
+    requires { IsTame now.now.ticked now.now.kept inputs.now row.now (flat_tree e.now) }
+    ensures { result ≡ value_at now.now inputs.now row.now (flat_tree e.now) }
 {
-    let values = values_at(
-        alloc,
-        flat.flows.as_slice(),
-        valuations,
-        flat.memories.len(),
-    )?;
-    Ok(values[flat.observer as usize])
+    let mut value = Value::Flag(false);
+    evaluate(e, now, inputs, row, &mut value);
+    value
 }
 
-/// The truth of each flow, where each names earlier ones, at valuations of the main tick, so many memories, and inputs.
-fn values_at(
-    alloc: Global,
-    flows: &[FlatFlow],
-    valuations: &[u64],
-    memories: usize,
-) -> Result<Vec<u64>, Memory>
-    requires some { 1 + memories ≤ length valuations.now }
-    requires ordered { IsTrue (are_ordered memories (length valuations.now - (1 + memories)) 0 (bodies flows.now)) }
-    ensures flows { IfOk result (λ values. length values.items ≡ length flows.now) }
-    ensures each { IfOk result (λ values. (lane : ℕ) → lane < 64 → (k : ℕ) → k < length flows.now
-        → slice_index_or (lane_of lane values.items) k false
-        ≡ value_of (lane_of lane values.items) (lane_of lane valuations.now) memories (slice_index_or (bodies flows.now) k no_body)) }
-{
-    let mut values = Vec::with_capacity(alloc, flows.len())?;
-    for flow in flows {
-        let value = truth(&flow.body, values.as_slice(), valuations, memories);
-        values.push(value)?;
-    }
-    Ok(values)
-}
-
-/// The truth of an expression, from the truth of the flows before it. It calls itself for each operand, so as deep as the
-/// tree is: 20,101 levels at most.
-fn truth(e: &FlatExpr, flows: &[u64], valuations: &[u64], memories: usize) -> u64
-    requires some { 1 + memories ≤ length valuations.now }
-    requires fits { IsTrue (fits memories (length valuations.now - (1 + memories)) (length flows.now) (flat_tree e.now)) }
-    ensures { (lane : ℕ) → lane < 64
-        → bit_of result lane ≡ value_of (lane_of lane flows.now) (lane_of lane valuations.now) memories (flat_tree e.now) }
+/// Writes that value. It calls itself for each operand, so as deep as the tree is: 20,101 levels at most. So one value is
+/// written over and over, and little else stands in its frame.
+#[cycle(evaluate)]
+fn evaluate(
+    e: &FlatExpr,
+    now: &State,
+    inputs: &Many<Value>,
+    row: &Many<Option<Value>>,
+    value: &mut Value,
+)
+    requires { IsTame now.now.ticked now.now.kept inputs.now row.now (flat_tree e.now) }
+    ensures { value.new ≡ value_at now.now inputs.now row.now (flat_tree e.now) }
 {
     match &e.form {
-        FlatForm::Constant(Value::Flag(true)) => u64::MAX,
-        FlatForm::Constant(_) => 0,
-        FlatForm::Flow(number) => flows[*number as usize],
-        FlatForm::Memory(number) => valuations[1 + *number as usize],
-        FlatForm::Ticked(_) => valuations[0],
-        FlatForm::Input(number) => valuations[1 + memories + *number as usize],
-        FlatForm::Not(operand) => !truth(operand, flows, valuations, memories),
-        FlatForm::Binary(op, left, right) => {
-            let left = truth(left, flows, valuations, memories);
-            let right = truth(right, flows, valuations, memories);
-            join(*op, left, right)
+        FlatForm::Constant(constant) => *value = *constant,
+        FlatForm::Flow(number) => read_flow(row, *number, value),
+        FlatForm::Memory(number) => read_value(&now.kept, *number, value),
+        FlatForm::Ticked(number) => read_tick(&now.ticked, *number, value),
+        FlatForm::Input(number) => read_value(inputs, *number, value),
+        FlatForm::Not(operand) => {
+            evaluate(operand, now, inputs, row, value);
+            *value = Value::Flag(!truth(value));
         }
-        FlatForm::If(test, yes, no) => {
-            let test = truth(test, flows, valuations, memories);
-            let yes = truth(yes, flows, valuations, memories);
-            let no = truth(no, flows, valuations, memories);
-            choose(test, yes, no)
+        FlatForm::Binary(op, left, right) => {
+            evaluate(left, now, inputs, row, value);
+            let left = *value;
+            evaluate(right, now, inputs, row, value);
+            operate(*op, &left, value);
+        }
+        FlatForm::Scale(by, operand) => {
+            evaluate(operand, now, inputs, row, value);
+            scale(*by, value);
+        }
+        FlatForm::If(condition, first, second) => {
+            evaluate(condition, now, inputs, row, value);
+            let chosen = if truth(value) { first } else { second };
+            evaluate(chosen, now, inputs, row, value);
+        }
+        FlatForm::AtMostOne(operands) => {
+            let count = count_true(operands.as_slice(), now, inputs, row, value);
+            *value = Value::Flag(count <= 1);
         }
     }
 }
 
-fn join(op: Op, left: u64, right: u64) -> u64
-    ensures { (lane : ℕ) → lane < 64 → bit_of result lane ≡ joined op (bit_of left lane) (bit_of right lane) }
+/// How many of the expressions are true. It writes over the value.
+#[cycle(evaluate)]
+fn count_true(
+    expressions: &[FlatExpr],
+    now: &State,
+    inputs: &Many<Value>,
+    row: &Many<Option<Value>>,
+    value: &mut Value,
+) -> usize
+    requires { AreTame now.now.ticked now.now.kept inputs.now row.now (flat_trees (map flat_tree expressions.now)) }
+    ensures { result ≡ flat_trues now.now.ticked now.now.kept inputs.now row.now (flat_trees (map flat_tree expressions.now)) }
 {
-    match op {
-        Op::And => left & right,
-        Op::Or => left | right,
+    let mut count = 0;
+    for e in expressions {
+        evaluate(e, now, inputs, row, value);
+        if truth(value) {
+            count += 1;
+        }
+    }
+    count
+}
+
+/// Writes what the flow with a number has, of no meaning where it is absent.
+#[tactic(auto, using(crate::proofs::Reading::read_nothing))]
+#[inline(never)]
+fn read_flow(row: &Many<Option<Value>>, number: u32, value: &mut Value)
+    ensures { value.new ≡ meaning.held (nth row.now number) }
+{
+    *value = match row.get(number as usize) {
+        Some(Some(held)) => *held,
+        Some(None) | None => Value::Flag(false),
+    };
+}
+
+/// Writes the value with a number.
+#[tactic(auto, using(crate::proofs::Reading::read_nothing))]
+#[inline(never)]
+fn read_value(values: &Many<Value>, number: u32, value: &mut Value)
+    ensures { value.new ≡ slice_index_or values.now number (Flag false) }
+{
+    *value = match values.get(number as usize) {
+        Some(kept) => *kept,
+        None => Value::Flag(false),
+    };
+}
+
+/// Writes whether the clock of the tick with a number has been there.
+#[tactic(auto, using(crate::proofs::Reading::read_nothing))]
+#[inline(never)]
+fn read_tick(ticked: &Many<bool>, number: u32, value: &mut Value)
+    ensures { value.new ≡ Flag (slice_index_or ticked.now number false) }
+{
+    *value = match ticked.get(number as usize) {
+        Some(tick) => Value::Flag(*tick),
+        None => Value::Flag(false),
+    };
+}
+
+/// The truth of a Boolean value.
+pub fn truth(value: &Value) -> bool
+    ensures { result ≡ meaning.is_true value.now }
+{
+    match value {
+        Value::Flag(flag) => *flag,
+        _ => false,
+    }
+}
+
+/// The number of an integer value.
+fn number(value: &Value) -> i128
+    ensures { result ≡ meaning.number value.now }
+{
+    match value {
+        Value::Whole(number) => *number,
         _ => 0,
     }
 }
 
-fn choose(test: u64, yes: u64, no: u64) -> u64
-    ensures { (lane : ℕ) → lane < 64 → bit_of result lane ≡ cond (bit_of test lane) (bit_of yes lane) (bit_of no lane) }
+/// Whether two values are of one type, and equal.
+fn is_same(a: &Value, b: &Value) -> bool
+    ensures { result ≡ meaning.is_equal a.now b.now }
 {
-    (test & yes) | (!test & no)
+    match a {
+        Value::Flag(a) => match b {
+            Value::Flag(b) => *a == *b,
+            _ => false,
+        },
+        Value::Label(a) => match b {
+            Value::Label(b) => *a == *b,
+            _ => false,
+        },
+        Value::Whole(a) => match b {
+            Value::Whole(b) => *a == *b,
+            _ => false,
+        },
+    }
+}
+
+/// Writes the number times an integer over it.
+#[inline(never)]
+fn scale(by: i128, value: &mut Value)
+    requires { IsHeld (Whole (by *ℤ meaning.number value.old)) }
+    ensures { value.new ≡ Whole (by *ℤ meaning.number value.old) }
+{
+    *value = Value::Whole(by * number(value));
+}
+
+/// What a Boolean operator gives.
+fn test(op: Op, a: &Value, b: &Value) -> bool
+    ensures { result ≡ meaning.is_true (meaning.operate op false a.now b.now) }
+{
+    match op {
+        Op::Implies => !truth(a) || truth(b),
+        Op::Or => truth(a) || truth(b),
+        Op::Xor => truth(a) != truth(b),
+        Op::And => truth(a) && truth(b),
+        Op::Equal => is_same(a, b),
+        Op::Differs => !is_same(a, b),
+        Op::Less => number(a) < number(b),
+        Op::AtMost => number(a) <= number(b),
+        Op::Greater => number(b) < number(a),
+        Op::AtLeast => number(b) <= number(a),
+        Op::Arrow => truth(b),
+        _ => false,
+    }
+}
+
+/// Writes what an operator gives over its right operand.
+#[inline(never)]
+fn operate(op: Op, a: &Value, b: &mut Value)
+    requires { IsHeld (meaning.operate op false a.now b.old) }
+    ensures { b.new ≡ meaning.operate op false a.now b.old }
+{
+    *b = match op {
+        Op::Plus => Value::Whole(number(a) + number(b)),
+        Op::Minus => Value::Whole(number(a) - number(b)),
+        Op::Times => Value::Whole(number(a) * number(b)),
+        Op::Slash | Op::Div | Op::Mod => Value::Whole(0),
+        Op::Arrow => *b,
+        _ => Value::Flag(test(op, a, b)),
+    };
 }

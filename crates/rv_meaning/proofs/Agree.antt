@@ -9,8 +9,10 @@ use Rattle.std.specs.FinMap.{same_map, slice_cmp-IsAntisymmetric, nat_cmp-IsAnti
 use Rattle.rv_base.specs.declared.value.Value.{Value}
 use Rattle.rv_syntax.specs.Tree.{ProgramTree}
 use Rattle.rv_syntax.specs.Places.{Identifier, Sites}
-use Rattle.rv_meaning.specs.Runs.{History, flat, cells, IsFlow}
-use Rattle.rv_meaning.specs.Needs.{IsSequence, AreDefined}
+use Rattle.rv_meaning.specs.Runs.{History, flat, cells}
+use Rattle.rv_types.specs.Instances.{IsFlow}
+use Rattle.rv_types.specs.Needs.{IsSequence}
+use Rattle.rv_meaning.specs.Givers.{AreDefined}
 use Rattle.rv_meaning.proofs.Local.{AreAlike}
 use Rattle.rv_meaning.proofs.Solutions.{Rule, IsLocal, IsSolution}
 

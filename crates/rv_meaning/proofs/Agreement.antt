@@ -1,75 +1,89 @@
--- Runs and symbolic instants of a Boolean program agree: at each instant a valuation follows a run, and the row of
--- the instant is its symbolic instant.
-use Rattle.std.proofs.Common.{◌≡◌, ℕ, ◌<◌, refl, sym, ◌∙◌, ap, subst, arith, get_or}
+-- Each row of a run of a program without integers is a symbolic instant.
+use Rattle.std.proofs.Common.{◌≡◌, ℕ, ◌<◌, List, get_or, refl, sym, ◌∙◌, ap, subst, arith, Some, slice_get}
 use Rattle.std.specs.FinMap as map
-use Rattle.std.specs.List.{Contains}
 use Rattle.rv_base.specs.declared.value.Value.{Value}
-use Rattle.rv_syntax.specs.declared.tree.TypeName.TheVariants as type_name
-use Rattle.rv_syntax.specs.Tree.{AssertionTree, ProgramTree}
+use Rattle.rv_syntax.specs.Tree.{ProgramTree}
 use Rattle.rv_syntax.specs.Places.{Identifier, Sites}
-use Rattle.rv_syntax.specs.Delays.{Delay, node_delays}
-use Rattle.rv_meaning.specs.Instances.{Instance, node_of, main_instance, IsInstance}
-use Rattle.rv_meaning.specs.Kinds.{HasType, kind}
-use Rattle.rv_meaning.specs.Meaning.{is_true, was_there, kept_place}
-use Rattle.rv_meaning.specs.Runs.{Instant, History, cells, IsRun}
-use Rattle.rv_meaning.specs.Valuations.{Valuation, spelled, IsSymbolicInstant, AllowsAt}
-use Rattle.rv_meaning.specs.Boolean.{IsBooleanProgram}
-use Rattle.rv_meaning.specs.Following.{held_before, Follows}
-use Rattle.rv_meaning.proofs.Following.{symbolic_instant}
-use Rattle.rv_meaning.proofs.Distinct.{none_in}
-use Rattle.rv_meaning.proofs.Plain.{only_main}
-use Rattle.rv_meaning.proofs.BooleanNodes.{boolean_main, plain, delay_kind, input_kind}
-use Rattle.rv_meaning.proofs.Flags.{IsFlag, flag_back, memory_flag}
-use Rattle.rv_meaning.proofs.Kept.{recalled, recalled_is}
+use Rattle.rv_types.specs.declared.typed.Kind.{Kind}
+use Rattle.rv_types.specs.declared.typed.Kind.TheVariants as kind
+use Rattle.rv_types.specs.Kinds.{decl_kinds}
+use Rattle.rv_types.specs.Values.{HasKind, operand_kind}
+use Rattle.rv_types.specs.Instances.{node_of, main_instance, is_main, IsNode}
+use Rattle.rv_types.specs.Needs.{IsSequence}
+use Rattle.rv_types.specs.WellFormed.{AreWell}
+use Rattle.rv_meaning.specs.Meaning.{kept_place}
+use Rattle.rv_meaning.specs.Runs.{History, cells, AreStarts, IsRun, IsAllowed, IsSafe}
+use Rattle.rv_meaning.specs.Instants.{State, IsInstant, AreGiven}
+use Rattle.rv_meaning.specs.Following.{IsStateAt}
+use Rattle.rv_meaning.specs.Valuations.{Valuation, Spells, IsCoded, IsSymbolicInstant, IsAllowedAt, HoldsEverywhere, IsControl}
+use Rattle.rv_meaning.proofs.Following.{instant_of_run, allowed_alike}
+use Rattle.rv_meaning.proofs.Brought.{state_at, is_state_at}
+use Rattle.rv_meaning.proofs.FlowSites.{input_kind, flow_at}
+use Rattle.rv_meaning.proofs.Spelling.{bits_of, spelled_back}
+use Rattle.rv_meaning.proofs.TypedStates.{AreNumbered, HaveOneClock, typed_at}
 
-module _ (program : ProgramTree) (main : Identifier) (boolean : IsBooleanProgram program main) where
-  -- there is no assertion in any instance
-  pub never_asserted : (i : Instance) (a : AssertionTree) → IsInstance program main i → Contains i.node.assertions a → ⊥
-  never_asserted i a inst w = none_in a (subst (λ l. Contains l a) (plain program main boolean).assertions
-      (subst (λ (i : Instance). Contains i.node.assertions a) (only_main program main (plain program main boolean) i inst) w))
+-- The valuation of a state and inputs: the bits of what the memories hold and of what is given.
+pub valuation_of : State → (ℕ → Value) → Valuation
+valuation_of state inputs = record { ticked = state.ticked; kept = λ p. bits_of (state.kept p); input = λ j. bits_of (inputs j) }
 
-  -- so every instant is allowed
-  pub always_allowed : (v : Valuation) (row : Instant) → AllowsAt program main v row
-  always_allowed v row i a inst w = absurd (never_asserted i a inst w)
+module _ (program : ProgramTree) (main : Identifier) (well : AreWell program) (is_node : IsNode program main) (control : IsControl program main) where
+  -- no input is an integer
+  no_integer : (j : ℕ) (k : Kind) → slice_get (decl_kinds program (node_of program main).inputs) j ≡ Some k → k ≡ kind.Int → ⊥
+  no_integer j k e is =
+      let f = flow_at program main well is_node (main_instance program main) is_main j k (input_kind program (node_of program main) j k e) in
+      control.flows (main_instance program main) f.name is_main f.within (f.kind ∙ ap Some is)
 
-  -- The valuation of a run at an instant: a tick bit says whether its clock was there before, a memory has what it
-  -- holds before, and an input has its value.
-  pub valuation_at : (starts : Sites → Value) (inputs : ℕ → ℕ → Value) (h : History) (t : ℕ) → Valuation
-  valuation_at starts inputs h t = record {
-    ticked = λ k. was_there (cells h) k t;
-    kept = λ p b. is_true (recalled program main (boolean_main program main boolean).numbered starts (cells h) t (node_delays (node_of program main)) p);
-    input = λ j b. is_true (inputs t j);
-  }
+  module _ (state : State) (inputs : ℕ → Value) (starts : AreStarts program main state.kept) (given : AreGiven program main inputs) where
+    -- it spells them
+    pub spells : Spells program main (valuation_of state inputs) state inputs
+    unfolding valuation_of
+    spells = record {
+      ticks = λ k. refl;
+      memories = λ i d inst w. sym (spelled_back program (operand_kind program i.node d.operand) (state.kept (kept_place i d.site d.operand)) (starts i d inst w) (control.delays i d inst w));
+      given = λ j k e. sym (spelled_back program k (inputs j) (given j k e) (no_integer j k e));
+    }
 
-  -- it follows the run
-  pub follows : (starts : Sites → Value) (inputs : ℕ → ℕ → Value) (n : ℕ) (h : History) (t : ℕ) → IsRun program main starts inputs n h → t < n
-      → Follows program main starts inputs (cells h) t (valuation_at starts inputs h t)
-  unfolding valuation_at
-  follows starts inputs n h t run lt = record {
-    ticks = λ k. refl;
-    memories = λ i d inst w.
-        let is = only_main program main (plain program main boolean) i inst in
-        subst (λ (i : Instance). spelled (kind program i.node d.operand) (λ b. is_true (recalled program main (boolean_main program main boolean).numbered starts (cells h) t (node_delays (node_of program main)) (kept_place i d.site d.operand)))
-        ≡ held_before program starts (cells h) i d t) (sym is)
-        (at_top d (subst (λ (i : Instance). Contains (node_delays i.node) d) is w));
-    given = λ j d e.
-        let is = input_kind program main boolean j d e in
-        let typed : IsFlag (inputs t j) = subst (λ k. HasType k (inputs t j)) is (run.inputs_typed t j d lt e) in
-        ap (λ k. spelled k (λ b. is_true (inputs t j))) is ∙ sym (flag_back (inputs t j) typed);
-  }
+    -- and each code names a label
+    pub is_coded : IsCoded program main (valuation_of state inputs)
+    is_coded = record {
+      memories = λ i d inst w. subst (HasKind program (operand_kind program i.node d.operand)) (spells.memories i d inst w) (starts i d inst w);
+      given = λ j k e. subst (HasKind program k) (spells.given j k e) (given j k e);
+    }
+
+module _ (program : ProgramTree) (main : Identifier) (well : AreWell program) (is_node : IsNode program main) (sequence : List Sites) (ordered : IsSequence program main sequence)
+    (numbered : AreNumbered program) (clocks : HaveOneClock program) (control : IsControl program main) where
+  -- each row of a run is the symbolic instant of a valuation, which is allowed where the assertions have held
+  pub agrees : (starts : Sites → Value) (inputs : ℕ → ℕ → Value) (n : ℕ) (h : History) (t : ℕ) → IsRun program main starts inputs n h → t < n
+      → (v : Valuation) × IsSymbolicInstant program main v (get_or h t map.empty) × (IsAllowed program main starts h t → IsAllowedAt program main v (get_or h t map.empty))
+  agrees starts inputs n h t run lt = (
+    valuation_of state (inputs t),
+    (state, inputs t, spelling, instant),
+    λ allowed. (
+      is_coded program main well is_node control state (inputs t) typed given,
+      (state, inputs t, spelling, instant, (allowed_alike program main starts inputs h t state at).0 (allowed t (omega arith))),
+    ),
+  )
     where
-      at_top : (d : Delay) → Contains (node_delays (node_of program main)) d
-          → spelled (kind program (node_of program main) d.operand) (λ b. is_true (recalled program main (boolean_main program main boolean).numbered starts (cells h) t (node_delays (node_of program main)) (kept_place (main_instance program main) d.site d.operand)))
-          ≡ held_before program starts (cells h) (main_instance program main) d t
-      at_top d w =
-          let bool = delay_kind program main (node_of program main) (boolean_main program main boolean) d w in
-          let what = recalled_is program main (boolean_main program main boolean).numbered starts (cells h) t (node_delays (node_of program main)) (λ e v. v) d w in
-          let typed = memory_flag program main boolean starts inputs n h run t (omega arith) d w in
-          ap (λ k. spelled k (λ b. is_true (recalled program main (boolean_main program main boolean).numbered starts (cells h) t (node_delays (node_of program main)) (kept_place (main_instance program main) d.site d.operand)))) bool
-          ∙ ap (λ v. spelled type_name.Bool (λ b. is_true v)) what
-          ∙ sym (flag_back (held_before program starts (cells h) (main_instance program main) d t) typed)
+      state : State
+      state = state_at program starts (cells h) t main well is_node
 
-  -- each instant of a run is the symbolic instant of its valuation
-  pub instant_of_run : (starts : Sites → Value) (inputs : ℕ → ℕ → Value) (n : ℕ) (h : History) (t : ℕ) → IsRun program main starts inputs n h → t < n
-      → IsSymbolicInstant program main (valuation_at starts inputs h t) (get_or h t map.empty)
-  instant_of_run starts inputs n h t run lt = symbolic_instant program main starts inputs h t (valuation_at starts inputs h t) (follows starts inputs n h t run lt) n run lt
+      at : IsStateAt program main starts (cells h) t state
+      at = is_state_at program starts (cells h) t main well is_node numbered
+
+      typed : AreStarts program main state.kept
+      typed = typed_at program main well is_node sequence ordered numbered clocks starts inputs n h run t (omega arith) state at
+
+      given : AreGiven program main (inputs t)
+      given j k e = run.inputs_typed t j k lt e
+
+      spelling : Spells program main (valuation_of state (inputs t)) state (inputs t)
+      spelling = spells program main well is_node control state (inputs t) typed given
+
+      instant : IsInstant program main state (inputs t) (get_or h t map.empty)
+      instant = instant_of_run program main starts inputs h t state at n run lt
+
+  -- so where the observer holds at every allowed valuation the program is safe
+  pub safe : HoldsEverywhere program main → IsSafe program main
+  safe holds n t starts inputs h run lt allowed =
+      let a = agrees starts inputs n h t run lt in
+      holds a.0 (get_or h t map.empty) (a.2 allowed)

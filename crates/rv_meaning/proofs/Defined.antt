@@ -6,15 +6,20 @@ use Rattle.std.specs.List.{Contains}
 use Rattle.rv_base.specs.declared.value.Value.{Value}
 use Rattle.rv_syntax.specs.Tree.{ProgramTree}
 use Rattle.rv_syntax.specs.Places.{Identifier, Sites, names, flows, site_of}
-use Rattle.rv_meaning.specs.Clocks.{clock_of}
-use Rattle.rv_meaning.specs.Instances.{CallTree, calls, Right, Body, Output, IsRight, Instance, place, absolute, clock_of_arguments, node_of, main_instance, callee, IsInstance, is_main, is_callee}
+use Rattle.rv_types.specs.Instances.{CallTree, calls, Right, Body, Output, IsRight, Instance, place, absolute, clock_of, clock_of_arguments, node_of, main_instance, callee, IsInstance, is_main, is_callee, IsFlow, IsNode}
+use Rattle.rv_types.specs.Clocks.{pace}
+use Rattle.rv_types.specs.Needs.{Giver, Given, Of, Gives, given, by_equation, by_call}
+use Rattle.rv_types.specs.WellFormed.{IsWellFormed, AreWell}
 use Rattle.rv_meaning.specs.Meaning.{Cells, is_there, right_value}
-use Rattle.rv_meaning.specs.Runs.{IsFlow}
-use Rattle.rv_meaning.specs.Needs.{Giver, Given, Of, Gives, given, by_equation, by_call, expected, AreDefined}
-use Rattle.rv_meaning.specs.Accepted.{IsAcceptable}
+use Rattle.rv_meaning.specs.Givers.{expected, AreDefined}
+use Rattle.rv_meaning.proofs.Acceptable.{suits_taken, formed}
 use Rattle.rv_meaning.proofs.NameLemmas.{snoc, index_at, arg_same, masked}
 
-module _ (program : ProgramTree) (main : Identifier) (wf : IsAcceptable program main) where
+module _ (program : ProgramTree) (main : Identifier) (well : AreWell program) (is_node : IsNode program main) where
+  -- each instance is well formed
+  wf : (i : Instance) → IsInstance program main i → IsWellFormed program i.node
+  wf = formed program main well is_node
+
   -- the site of a name is its number
   pub site_is : (i : Instance) → IsInstance program main i → (x : Identifier) (j : ℕ) → j < length (flows i.node) → get_or (flows i.node) j [] ≡ x → site_of i.node x ≡ j
   site_is i inst x j lt is =
@@ -71,7 +76,7 @@ module _ (program : ProgramTree) (main : Identifier) (wf : IsAcceptable program 
   input_site i inst j lt = site_is i inst (input i j) j (omega (arith, more i)) (flow_at i j lt)
 
   -- the call sites determine an instance
-  same_instance : (i j : Instance) → IsInstance program main i → IsInstance program main j → i.path ≡ j.path → i ≡ j
+  pub same_instance : (i j : Instance) → IsInstance program main i → IsInstance program main j → i.path ≡ j.path → i ≡ j
   same_instance _ _ is_main is_main e = refl
   same_instance _ _ is_main (is_callee {i = j} d q at) e = let long = ap length e in absurd (omega (arith, long, length-append j.path (d.site ∷ [])))
   same_instance _ _ (is_callee {i = i} c p at) is_main e = let long = ap length e in absurd (omega (arith, long, length-append i.path (c.site ∷ [])))
@@ -79,7 +84,7 @@ module _ (program : ProgramTree) (main : Identifier) (wf : IsAcceptable program 
       let r = snoc i.path j.path c.site d.site e in
       let up = same_instance i j p q r.0 in
       let one = (wf j q).sites c d (subst (λ i. Contains (calls i.node) c) up at) at' r.1 in
-      λ k. callee program main (up k) (one k)
+      λ k. callee program (up k) (one k)
 
   -- and a place determines a flow
   pub same_flow : (i j : Instance) (x y : Identifier) → IsInstance program main i → IsInstance program main j → Contains (flows i.node) x → Contains (flows j.node) y → place i x ≡ place j y → (i ≡ j) × (x ≡ y)
@@ -100,8 +105,8 @@ module _ (program : ProgramTree) (main : Identifier) (wf : IsAcceptable program 
   given_place j lt = ap (λ k. k ∷ []) (input_site (main_instance program main) is_main j lt)
 
   -- the place of an input of a callee
-  called_place : (i : Instance) (c : CallTree) (j : ℕ) → IsInstance program main i → Contains (calls i.node) c → j < length (node_of program c.name).inputs → place (callee program main i c) (input (callee program main i c) j) ≡ i.path ++ c.site ∷ j ∷ []
-  called_place i c j inst at lt = append_assoc i.path (c.site ∷ []) _ ∙ ap (λ k. i.path ++ c.site ∷ k ∷ []) (input_site (callee program main i c) (is_callee c inst at) j lt)
+  called_place : (i : Instance) (c : CallTree) (j : ℕ) → IsInstance program main i → Contains (calls i.node) c → j < length (node_of program c.name).inputs → place (callee program i c) (input (callee program i c) j) ≡ i.path ++ c.site ∷ j ∷ []
+  called_place i c j inst at lt = append_assoc i.path (c.site ∷ []) _ ∙ ap (λ k. i.path ++ c.site ∷ k ∷ []) (input_site (callee program i c) (is_callee c inst at) j lt)
 
   -- what has a giver is a flow
   pub flow_of_giver : (p : Sites) (g : Giver) → Gives program main p g → IsFlow program main p
@@ -109,7 +114,7 @@ module _ (program : ProgramTree) (main : Identifier) (wf : IsAcceptable program 
   flow_of_giver p _ (by_equation i x r inst right is) = (i, x, inst, ((wf i inst).left x r right).0, sym is)
   flow_of_giver p _ (by_call i c j e inst at arg is) =
       let lt = (wf i inst).no_more c j e at arg in
-      (callee program main i c, input (callee program main i c) j, is_callee c inst at, input_flow (callee program main i c) j lt, sym is ∙ sym (called_place i c j inst at lt))
+      (callee program i c, input (callee program i c) j, is_callee c inst at, input_flow (callee program i c) j lt, sym is ∙ sym (called_place i c j inst at lt))
 
   -- each flow has a giver
   source : (p : Sites) → IsFlow program main p → (g : Giver) × Gives program main p g
@@ -143,12 +148,12 @@ module _ (program : ProgramTree) (main : Identifier) (wf : IsAcceptable program 
       λ k. Of (f.0 k) (clock_of (f.0 k).node (f.1 k)) (one k)
   one_giver p _ _ (by_equation i x r inst right is) (by_call i' c j e inst' at arg is') =
       let lt = (wf i' inst').no_more c j e at arg in
-      let d : Instance = callee program main i' c in
+      let d : Instance = callee program i' c in
       absurd (not_input d i (input d j) x r (is_callee c inst' at) inst (input_flow d j lt) (input_in d j lt) right (called_place i' c j inst' at lt ∙ is' ∙ sym is))
   one_giver p _ _ (by_call i c k e inst at arg is) (given j lt is') = let long = ap length (is ∙ sym is') in absurd (omega (arith, long, length-append i.path (c.site ∷ k ∷ [])))
   one_giver p _ _ (by_call i' c j e inst' at arg is') (by_equation i x r inst right is) =
       let lt = (wf i' inst').no_more c j e at arg in
-      let d : Instance = callee program main i' c in
+      let d : Instance = callee program i' c in
       absurd (not_input d i (input d j) x r (is_callee c inst' at) inst (input_flow d j lt) (input_in d j lt) right (called_place i' c j inst' at lt ∙ is' ∙ sym is))
   one_giver p _ _ (by_call i c j e inst at arg is) (by_call i' c' j' e' inst' at' arg' is') =
       let r = snoc (i.path ++ c.site ∷ []) (i'.path ++ c'.site ∷ []) j j' (append_assoc i.path (c.site ∷ []) (j ∷ []) ∙ is ∙ sym is' ∙ sym (append_assoc i'.path (c'.site ∷ []) (j' ∷ []))) in
@@ -173,13 +178,13 @@ module _ (program : ProgramTree) (main : Identifier) (wf : IsAcceptable program 
         of_right r right (λ k. is_there h (absolute (f.0 k) (clock_of (f.0 k).node (f.1 k))) t)
       where
         of_right : (r : Right) → IsRight i'.node x' r → is_there h (absolute i' (clock_of i'.node x')) t ≡ is_there h (absolute i (clock_of i.node x)) t → IsSome (right_value program starts h i' (clock_of i'.node x') r t) ↔ (is_there h (absolute i (clock_of i.node x)) t ≡ true)
-        of_right (Body e) right e' = masked _ _ _ (ap (λ k. is_there h (absolute i' k) t) ((wf i' inst').body_clock x' e right) ∙ e')
+        of_right (Body e) right e' = masked _ _ _ (ap (λ k. is_there h (absolute i' k) t) (suits_taken (clock_of i'.node x') (pace i'.node e) ((wf i' inst').body_clock x' e right)) ∙ e')
         of_right (Output c j) right e' = masked _ _ _ (ap (λ k. is_there h (absolute i' k) t) ((wf i' inst').output_clock x' c j right) ∙ e')
     on_clock i x _ (by_call i' c j e inst' at' arg is) inst at =
         let lt = (wf i' inst').no_more c j e at' arg in
-        let d : Instance = callee program main i' c in
+        let d : Instance = callee program i' c in
         let f = same_flow d i (input d j) x (is_callee c inst' at') inst (input_flow d j lt) at (called_place i' c j inst' at' lt ∙ is) in
-        masked _ _ _ (ap (λ k. is_there h (absolute i' k) t) ((wf i' inst').argument_clock c j e at' arg)
+        masked _ _ _ (ap (λ k. is_there h (absolute i' k) t) (suits_taken (clock_of_arguments i' c.args) (pace i'.node e) ((wf i' inst').argument_clock c j e at' arg))
         ∙ ap (λ k. is_there h (absolute d k) t) (sym ((wf d (is_callee c inst' at')).base (input d j) (input_in d j lt)))
         ∙ (λ k. is_there h (absolute (f.0 k) (clock_of (f.0 k).node (f.1 k))) t))
 

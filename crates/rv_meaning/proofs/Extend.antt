@@ -11,8 +11,10 @@ use Rattle.rv_base.specs.declared.value.Value.{Value}
 use Rattle.rv_syntax.specs.Tree.{ProgramTree}
 use Rattle.rv_syntax.specs.Places.{Identifier, Sites}
 use Rattle.rv_meaning.specs.Meaning.{Cells}
-use Rattle.rv_meaning.specs.Runs.{History, Instant, flat, cells, IsFlow}
-use Rattle.rv_meaning.specs.Needs.{Giver, Gives, IsAmongFirst, IsSequence, AreDefined}
+use Rattle.rv_meaning.specs.Runs.{History, Instant, flat, cells}
+use Rattle.rv_types.specs.Instances.{IsFlow}
+use Rattle.rv_types.specs.Needs.{Giver, Gives, IsAmongFirst, IsSequence}
+use Rattle.rv_meaning.specs.Givers.{AreDefined}
 use Rattle.rv_meaning.proofs.Local.{AreAlike}
 use Rattle.rv_meaning.proofs.Solutions.{Rule, IsLocal, IsSolution}
 use Rattle.rv_meaning.proofs.Rows.{no_flag, get_same, get_other, one_or_other}

@@ -7,10 +7,12 @@ use Rattle.rv_base.specs.declared.value.Value.{Value}
 use Rattle.rv_base.specs.declared.value.Value.TheVariants.{Flag, Whole}
 use Rattle.rv_syntax.specs.Tree.{Tree, Node, Form, True, False, Number, Named, Not, Minus, Pre, Current, When, Binary, If, AtMostOne, Call, Trees, None, More, ProgramTree}
 use Rattle.rv_syntax.specs.Places.{Sites, is_flow}
-use Rattle.rv_meaning.specs.Clocks.{Clock, Base, taken, clock}
-use Rattle.rv_meaning.specs.Instances.{Right, Body, Output, Instance, place, absolute, clock_in, clock_taken, clock_of_arguments, output_place}
-use Rattle.rv_meaning.specs.Meaning.{Cells, is_true, number, held, is_on, operate, constant_value, is_there, was_there, last_before, kept_place, content, form_content, trues, value, right_value}
-use Rattle.rv_meaning.specs.Needs.{flow_of, needs, form_needs, needs_all, needs_of_right}
+use Rattle.rv_types.specs.declared.typed.Clock.{Clock}
+use Rattle.rv_types.specs.declared.typed.Clock.TheVariants.{Base}
+use Rattle.rv_types.specs.Scopes.{constant_value}
+use Rattle.rv_types.specs.Instances.{Right, Body, Output, Instance, place, absolute, clock_in, clock_taken, clock_of_arguments, output_place}
+use Rattle.rv_types.specs.Needs.{flow_of, needs, form_needs, needs_all, needs_of_right}
+use Rattle.rv_meaning.specs.Meaning.{Cells, is_true, number, held, is_on, operate, is_there, was_there, last_before, kept_place, content, form_content, trues, value, right_value}
 
 -- what holds of a joined list holds of its first part
 pub all_left : {X : Type 0} (P : X → Type 0) (xs ys : List X) → All P (xs ++ ys) → All P xs
@@ -19,11 +21,6 @@ all_left P xs ys h k d lt = subst P (get_or_append_left xs ys d k lt) (h k d (om
 -- and of its second
 pub all_right : {X : Type 0} (P : X → Type 0) (xs ys : List X) → All P (xs ++ ys) → All P ys
 all_right P xs ys h k d lt = subst P (get_or-append-add xs ys k d) (h (length xs + k) d (omega (arith, length-append xs ys)))
-
--- a clock that is taken twice is taken once
-pub taken_twice : (c : Option Clock) → taken (taken Base c) c ≡ taken Base c
-taken_twice Nothing = refl
-taken_twice (Some c) = refl
 
 module _ (g h : Cells) where
   -- the histories are the same before u
@@ -94,7 +91,7 @@ module _ (g h : Cells) where
     mutual
       -- an expression at t, where what it needs is the same
       pub now : (k : Clock) (e : Tree) (t : ℕ) → AreAlike t → All (IsAlike t) (needs program i k e) → content program starts g i e t ≡ content program starts h i e t
-      now k (Node at site form) t alike same = form_now (clock_taken i k (Node at site form)) site form t alike (all_right (IsAlike t) (flow_of (clock_in i k (Node at site form))) _ same)
+      now k (Node at site form) t alike same = form_now k site form t alike (all_right (IsAlike t) (flow_of (absolute i k)) _ same)
 
       -- by its form
       form_now : (k : Clock) (site : Option ℕ) (form : Form) (t : ℕ) → AreAlike t → All (IsAlike t) (form_needs program i k site form) → form_content program starts g i site form t ≡ form_content program starts h i site form t
@@ -110,14 +107,14 @@ module _ (g h : Cells) where
           (now k b t alike (all_right (IsAlike t) (needs program i k a) _ same) j)
       form_now k site (Pre e) t alike same = last_alike t alike (clock_in i Base e) _ _ (starts (kept_place i site e)) t (omega arith) (λ s less. before e t s alike less)
       form_now k site (Current e) t alike same = λ j. cond
-          (subst (λ c. is_there g (absolute i c) t ≡ is_there h (absolute i c) t) (taken_twice (clock i.node e)) (there_of (clock_taken i Base e) e t same) j)
+          (there_of (clock_taken i Base e) e t same j)
           (now (clock_taken i Base e) e t alike same j)
           (last_alike t alike (clock_in i Base e) (content program starts g i e) (content program starts h i e) (starts (kept_place i site e)) t (omega arith) (λ s less. before e t s alike less) j)
       form_now k site (When e c) t alike same = now _ e t alike same
-      form_now k site (If a b c) t alike same = let first : All (IsAlike t) (needs program i k a ++ needs program i k b) = all_left (IsAlike t) (needs program i k a ++ needs program i k b) _ same in λ j. cond
-          (is_true (now k a t alike (all_left (IsAlike t) (needs program i k a) _ first) j))
-          (now k b t alike (all_right (IsAlike t) (needs program i k a) _ first) j)
-          (now k c t alike (all_right (IsAlike t) (needs program i k a ++ needs program i k b) _ same) j)
+      form_now k site (If a b c) t alike same = let later : All (IsAlike t) (needs program i k b ++ needs program i k c) = all_right (IsAlike t) (needs program i k a) _ same in λ j. cond
+          (is_true (now k a t alike (all_left (IsAlike t) (needs program i k a) _ same) j))
+          (now k b t alike (all_left (IsAlike t) (needs program i k b) _ later) j)
+          (now k c t alike (all_right (IsAlike t) (needs program i k b) _ later) j)
       form_now k site (AtMostOne es) t alike same = ap (λ n. Flag (nat_le n 1)) (all_now k es t alike same)
       form_now k site (Call f args) t alike same = ap held (same 0 (output_place program i (unwrap_or site 0) f 0) (omega arith))
 
@@ -128,13 +125,13 @@ module _ (g h : Cells) where
           cond (is_true (now k e t alike (all_left (IsAlike t) (needs program i k e) _ same) j)) 1 0
           + all_now k es t alike (all_right (IsAlike t) (needs program i k e) _ same) j
 
-      -- its clock
-      there_of : (k : Clock) (e : Tree) (t : ℕ) → All (IsAlike t) (needs program i k e) → is_there g (clock_in i k e) t ≡ is_there h (clock_in i k e) t
-      there_of k (Node at site form) t same = there_now (clock_in i k (Node at site form)) t (all_left (IsAlike t) (flow_of (clock_in i k (Node at site form))) _ same)
+      -- the clock that it stands on
+      there_of : (k : Clock) (e : Tree) (t : ℕ) → All (IsAlike t) (needs program i k e) → is_there g (absolute i k) t ≡ is_there h (absolute i k) t
+      there_of k (Node at site form) t same = there_now (absolute i k) t (all_left (IsAlike t) (flow_of (absolute i k)) _ same)
 
-    -- the value of an expression at t
-    pub value_now : (k : Clock) (e : Tree) (t : ℕ) → AreAlike t → All (IsAlike t) (needs program i k e) → value program starts g i k e t ≡ value program starts h i k e t
-    value_now k e t alike same = λ j. cond (there_of k e t same j) (Some (now k e t alike same j)) Nothing
+    -- the value of an expression at t, which takes the clock k where it is free
+    pub value_now : (k : Clock) (e : Tree) (t : ℕ) → AreAlike t → All (IsAlike t) (needs program i (clock_taken i k e) e) → value program starts g i k e t ≡ value program starts h i k e t
+    value_now k e t alike same = λ j. cond (there_of (clock_taken i k e) e t same j) (Some (now (clock_taken i k e) e t alike same j)) Nothing
 
     -- the value of a right side at t
     pub right_now : (k : Clock) (r : Right) (t : ℕ) → AreAlike t → All (IsAlike t) (needs_of_right program i k r) → right_value program starts g i k r t ≡ right_value program starts h i k r t

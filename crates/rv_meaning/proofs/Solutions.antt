@@ -1,12 +1,12 @@
--- Histories in which each flow has at each instant what its giver makes of the history. Runs and symbolic
--- instants are both such solutions.
+-- Histories in which each flow has at each instant what its giver makes of the history. Runs and single instants are
+-- both such solutions.
 use Rattle.std.proofs.Common.{◌≡◌, ℕ, ◌<◌, Option}
 use Rattle.std.specs.List.{All}
 use Rattle.rv_base.specs.declared.value.Value.{Value}
 use Rattle.rv_syntax.specs.Tree.{ProgramTree}
 use Rattle.rv_syntax.specs.Places.{Identifier, Sites}
 use Rattle.rv_meaning.specs.Runs.{History, cells, IsHistory}
-use Rattle.rv_meaning.specs.Needs.{Giver, Gives, needs_of}
+use Rattle.rv_types.specs.Needs.{Giver, Gives, needs_of}
 use Rattle.rv_meaning.proofs.Local.{AreAlike, IsAlike}
 
 -- what a giver makes of a history at an instant

@@ -3,11 +3,11 @@ use Rattle.std.proofs.Common.{◌≡◌, ℕ, ◌<◌, ◌↔◌, true, refl, sy
 use Rattle.rv_base.specs.declared.value.Value.{Value}
 use Rattle.rv_syntax.specs.Tree.{ProgramTree}
 use Rattle.rv_syntax.specs.Places.{Identifier, Sites}
-use Rattle.rv_meaning.specs.Clocks.{clock_of}
-use Rattle.rv_meaning.specs.Instances.{absolute}
+use Rattle.rv_types.specs.Instances.{absolute, clock_of}
+use Rattle.rv_types.specs.Needs.{Giver, Given, Of, Gives, given, by_equation, by_call}
 use Rattle.rv_meaning.specs.Meaning.{is_there}
 use Rattle.rv_meaning.specs.Runs.{History, cells, AreStarts, AreInputs, IsRun}
-use Rattle.rv_meaning.specs.Needs.{Giver, Given, Of, Gives, given, by_equation, by_call, expected, AreDefined}
+use Rattle.rv_meaning.specs.Givers.{expected, AreDefined}
 use Rattle.rv_meaning.proofs.Local.{right_now}
 use Rattle.rv_meaning.proofs.Solutions.{Rule, IsLocal, IsSolution}
 

@@ -1,56 +1,41 @@
--- When a valuation is that of a run at an instant.
-use Rattle.std.specs.Prelude.{◌≡◌, ℕ, Bool, true, false, ◌&&◌, Option, Some, slice_get}
+-- The states and instants of a run.
+use Rattle.std.specs.Prelude.{◌≡◌, ℕ, suc, ◌+◌, ◌<◌, List, [], length, Option, slice_index_or}
+use Rattle.std.specs.FinMap as map
 use Rattle.std.specs.List.{Contains}
 use Rattle.rv_base.specs.declared.value.Value.{Value}
-use Rattle.rv_base.specs.declared.value.Value.TheVariants.{Flag}
-use Rattle.rv_syntax.specs.declared.tree.Decl.{Decl}
-use Rattle.rv_syntax.specs.declared.tree.Op.TheVariants as op
-use Rattle.rv_syntax.specs.Tree.{Tree, Node, Form, True, False, Named, Not, Binary, EquationTree, NodeTree, ProgramTree}
-use Rattle.rv_syntax.specs.Places.{Identifier, Sites}
-use Rattle.rv_meaning.specs.Clocks.{Base}
-use Rattle.rv_meaning.specs.Instances.{Instance, clock_in, node_of, IsInstance}
+use Rattle.rv_syntax.specs.Tree.{ProgramTree}
+use Rattle.rv_syntax.specs.Places.{Identifier, Sites, flows}
 use Rattle.rv_syntax.specs.Delays.{Delay, node_delays}
-use Rattle.rv_meaning.specs.Kinds.{kind}
+use Rattle.rv_types.specs.declared.typed.Kind.{Kind}
+use Rattle.rv_types.specs.declared.typed.Clock.TheVariants.{Base}
+use Rattle.rv_types.specs.Kinds.{flow_kind}
+use Rattle.rv_types.specs.Values.{HasKind, operand_kind}
+use Rattle.rv_types.specs.Instances.{Instance, place, clock_in, IsInstance}
+use Rattle.std.specs.Prelude.{Some}
 use Rattle.rv_meaning.specs.Meaning.{Cells, was_there, last_before, kept_place, content}
-use Rattle.rv_meaning.specs.Valuations.{Valuation, spelled}
+use Rattle.rv_meaning.specs.Runs.{Instant, History, cell}
+use Rattle.rv_meaning.specs.Instants.{State, IsInstant, IsNext, IsStart}
 
--- what the memory of a `pre` or `current` of an instance holds before the instant t
+-- what the memory of a `pre` or `current` of an instance holds before the instant t of a history
 abbrev pub held_before : ProgramTree → (Sites → Value) → Cells → Instance → Delay → ℕ → Value
 held_before program starts h i d t = last_before h (clock_in i Base d.operand) (content program starts h i d.operand) (starts (kept_place i d.site d.operand)) t
 
--- A valuation follows a history at the instant t: each tick bit says whether its clock was there before, and the
--- bits of each memory and of each input spell what these have.
-pub record Follows (program : ProgramTree) (main : Identifier) (starts : Sites → Value) (inputs : ℕ → ℕ → Value) (h : Cells) (t : ℕ) (v : Valuation) : Type 0 where
-  pub ticks : (k : Option Sites) → v.ticked k ≡ was_there h k t
-  pub memories : (i : Instance) (d : Delay) → IsInstance program main i → Contains (node_delays i.node) d
-      → spelled (kind program i.node d.operand) (v.kept (kept_place i d.site d.operand)) ≡ held_before program starts h i d t
-  pub given : (j : ℕ) (d : Decl) → slice_get (node_of program main).inputs j ≡ Some d → spelled d.kind (v.input j) ≡ inputs t j
+module _ (program : ProgramTree) (main : Identifier) where
+  -- The state that a history brings to the instant t.
+  pub record IsStateAt (starts : Sites → Value) (h : Cells) (t : ℕ) (state : State) : Type 0 where
+    pub ticks : (k : Option Sites) → state.ticked k ≡ was_there h k t
+    pub memories : (i : Instance) (d : Delay) → IsInstance program main i → Contains (node_delays i.node) d
+        → state.kept (kept_place i d.site d.operand) ≡ held_before program starts h i d t
 
--- All tick bits are false, as at the first instant.
-abbrev pub IsInitial : Valuation → Type 0
-IsInitial v = (k : Option Sites) → v.ticked k ≡ false
+  -- Rows from these starts and inputs, one after the other: each is an instant at its state, and each next state is that
+  -- after it.
+  pub record AreSteps (starts : Sites → Value) (inputs : ℕ → ℕ → Value) (n : ℕ) (states : ℕ → State) (rows : List Instant) : Type 0 where
+    pub instants : length rows ≡ n
+    pub start : IsStart program main starts (states 0)
+    pub instant : (t : ℕ) → t < n → IsInstant program main (states t) (inputs t) (slice_index_or rows t map.empty)
+    pub next : (t : ℕ) → t < n → IsNext program main (states t) (slice_index_or rows t map.empty) (states (t + 1))
 
--- the start values and the inputs that the bits of a valuation spell, where all are Boolean
-abbrev pub spelled_starts : Valuation → Sites → Value
-spelled_starts v p = Flag (v.kept p 0)
-
-abbrev pub spelled_inputs : Valuation → ℕ → ℕ → Value
-spelled_inputs v t j = Flag (v.input j 0)
-
--- The expression is of `true`, `false`, names, `not`, `and` and `or` alone: no instant before says anything of it.
-abbrev mutual
-  pub is_momentary : Tree → Bool
-  is_momentary (Node at site form) = form_is_momentary form
-
-  pub form_is_momentary : Form → Bool
-  form_is_momentary True = true
-  form_is_momentary False = true
-  form_is_momentary (Named x) = true
-  form_is_momentary (Not e) = is_momentary e
-  form_is_momentary (Binary op.And a b) = is_momentary a && is_momentary b
-  form_is_momentary (Binary op.Or a b) = is_momentary a && is_momentary b
-  form_is_momentary _ = false
-
--- All right sides of the node are such.
-abbrev pub IsMomentary : NodeTree → Type 0
-IsMomentary n = (q : EquationTree) → Contains n.equations q → is_momentary q.right ≡ true
+  -- each flow that is present has a value of its type
+  abbrev pub IsTypedInstant : Instant → Type 0
+  IsTypedInstant row = (i : Instance) (x : Identifier) (k : Kind) (v : Value) → IsInstance program main i → Contains (flows i.node) x → flow_kind program i.node x ≡ Some k
+      → cell row (place i x) ≡ Some v → HasKind program k v

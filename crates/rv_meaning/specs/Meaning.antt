@@ -8,9 +8,11 @@ use Rattle.rv_base.specs.declared.value.Value.TheVariants.{Flag, Label, Whole}
 use Rattle.rv_syntax.specs.declared.tree.Op.{Op}
 use Rattle.rv_syntax.specs.declared.tree.Op.TheVariants as op
 use Rattle.rv_syntax.specs.Tree.{Tree, Node, Form, True, False, Number, Named, Not, Minus, Pre, Current, When, Binary, If, AtMostOne, Call, Trees, None, More, ProgramTree}
-use Rattle.rv_syntax.specs.Places.{Identifier, Sites, is_flow, memory_place}
-use Rattle.rv_meaning.specs.Clocks.{Clock, Base}
-use Rattle.rv_meaning.specs.Instances.{Right, Body, Output, Instance, place, absolute, clock_in, clock_of_arguments, output_place}
+use Rattle.rv_syntax.specs.Places.{Sites, is_flow, memory_place}
+use Rattle.rv_types.specs.declared.typed.Clock.{Clock}
+use Rattle.rv_types.specs.declared.typed.Clock.TheVariants.{Base}
+use Rattle.rv_types.specs.Scopes.{constant_value}
+use Rattle.rv_types.specs.Instances.{Right, Body, Output, Instance, place, absolute, clock_in, clock_of_arguments, output_place}
 
 -- what each flow has at each instant, none where it is absent
 abbrev pub Cells : Type 0
@@ -63,11 +65,6 @@ operate op.Times first a b = Whole (number a *ℤ number b)
 operate op.Slash first a b = Whole (pos 0)
 operate op.Div first a b = Whole (pos 0)
 operate op.Mod first a b = Whole (pos 0)
-
--- The value of a constant or a label. Missing here until names and types are checked: no program that is
--- accepted today names one.
-abbrev pub constant_value : ProgramTree → Identifier → Value
-constant_value program x = Flag false
 
 -- whether the clock of a flow is there at the instant t, main's base clock where there is no flow
 abbrev pub is_there : Cells → Option Sites → ℕ → Bool

@@ -8,13 +8,14 @@ use Rattle.std.specs.FinMap as map
 use Rattle.std.specs.List.{Contains}
 use Rattle.rv_base.specs.declared.value.Value.{Value}
 use Rattle.rv_base.specs.declared.value.Value.TheVariants.{Flag}
-use Rattle.rv_syntax.specs.declared.tree.Decl.{Decl}
-use Rattle.rv_syntax.specs.Tree.{Tree, Trees, More, AssertionTree, ProgramTree}
+use Rattle.rv_syntax.specs.Tree.{Tree, AssertionTree, ProgramTree}
 use Rattle.rv_syntax.specs.Places.{Identifier, Sites, flows}
-use Rattle.rv_meaning.specs.Clocks.{Base, clock_of}
-use Rattle.rv_meaning.specs.Instances.{CallTree, Right, IsRight, calls, Instance, place, absolute, clock_of_arguments, node_of, IsInstance}
 use Rattle.rv_syntax.specs.Delays.{Delay, node_delays}
-use Rattle.rv_meaning.specs.Kinds.{HasType, kind}
+use Rattle.rv_types.specs.declared.typed.Kind.{Kind}
+use Rattle.rv_types.specs.declared.typed.Clock.TheVariants.{Base}
+use Rattle.rv_types.specs.Kinds.{decl_kinds}
+use Rattle.rv_types.specs.Values.{HasKind, operand_kind}
+use Rattle.rv_types.specs.Instances.{CallTree, Right, IsRight, IsArgument, calls, clock_of, Instance, place, absolute, clock_of_arguments, node_of, IsInstance, IsFlow}
 use Rattle.rv_meaning.specs.Meaning.{Cells, is_there, kept_place, value, right_value}
 
 -- what the flows have at one instant: each place has a value, or is absent
@@ -38,29 +39,20 @@ cell row p = flat (map.get row p)
 abbrev pub cells : History → Cells
 cells h t p = cell (slice_index_or h t map.empty) p
 
--- the argument of a callee's input
-pub data IsArgument : Trees → ℕ → Tree → Type 0 where
-  head : {e : Tree} {es : Trees} → IsArgument (More e es) 0 e
-  tail : {e a : Tree} {es : Trees} {j : ℕ} → IsArgument es j a → IsArgument (More e es) (suc j) a
-
 module _ (program : ProgramTree) (main : Identifier) where
-  -- the places of all flows of all instances
-  abbrev pub IsFlow : Sites → Type 0
-  IsFlow p = (i : Instance) × (x : Identifier) × IsInstance program main i × Contains (flows i.node) x × (p ≡ place i x)
-
   -- A history of n instants has at each of them exactly the places of all flows.
   pub record IsHistory (n : ℕ) (h : History) : Type 0 where
     pub instants : length h ≡ n
-    pub places : (t : ℕ) (p : Sites) → t < n → IsSome (map.get (slice_index_or h t map.empty) p) ↔ IsFlow p
+    pub places : (t : ℕ) (p : Sites) → t < n → IsSome (map.get (slice_index_or h t map.empty) p) ↔ IsFlow program main p
 
   -- each memory has a start value of its type
   abbrev pub AreStarts : (Sites → Value) → Type 0
   AreStarts starts = (i : Instance) (d : Delay) → IsInstance program main i → Contains (node_delays i.node) d
-      → HasType (kind program i.node d.operand) (starts (kept_place i d.site d.operand))
+      → HasKind program (operand_kind program i.node d.operand) (starts (kept_place i d.site d.operand))
 
   -- each input of the main node has at each of the first n instants a value of its type
   abbrev pub AreInputs : ℕ → (ℕ → ℕ → Value) → Type 0
-  AreInputs n inputs = (t j : ℕ) (d : Decl) → t < n → slice_get (node_of program main).inputs j ≡ Some d → HasType d.kind (inputs t j)
+  AreInputs n inputs = (t j : ℕ) (k : Kind) → t < n → slice_get (decl_kinds program (node_of program main).inputs) j ≡ Some k → HasKind program k (inputs t j)
 
   -- A run of n instants from these start values, by place, and these inputs, by instant and number.
   pub record IsRun (starts : Sites → Value) (inputs : ℕ → ℕ → Value) (n : ℕ) (h : History) : Type 0 where

@@ -1,23 +1,25 @@
 -- Valuations of the control of a program, and what its flows have at one.
--- (Jeannet 2003 for the control state; here no order of tests comes in yet, since no program that is accepted
--- today compares integers.)
-use Rattle.std.specs.Prelude.{◌≡◌, ℕ, ◌+◌, ◌↔◌, ◌⊎◌, pos, ◌-ℤ◌, Bool, true, false, not, ◌||◌, cond, nat_le, unwrap_or, [], ◌∷◌, ◌++◌, Option, Some, IsSome, slice_get}
+-- (Jeannet 2003 for the control state. Order tests of integers come with the programs that are judged over them.)
+use Rattle.std.specs.Prelude.{◌≡◌, ℕ, zero, suc, ◌+◌, ◌^◌, ◌≤◌, pos, Bool, true, false, cond, List, [], ◌∷◌, Option, Some, slice_get}
 use Rattle.std.specs.Prelude.{None as Nothing}
-use Rattle.std.specs.FinMap as map
 use Rattle.std.specs.List.{Contains}
 use Rattle.rv_base.specs.declared.value.Value.{Value}
-use Rattle.rv_base.specs.declared.value.Value.TheVariants.{Flag, Whole}
+use Rattle.rv_base.specs.declared.value.Value.TheVariants.{Flag, Label, Whole}
 use Rattle.rv_syntax.specs.declared.tree.Decl.{Decl}
-use Rattle.rv_syntax.specs.declared.tree.TypeName.{TypeName}
-use Rattle.rv_syntax.specs.declared.tree.TypeName.TheVariants as type_name
-use Rattle.rv_syntax.specs.Tree.{Tree, Node, Form, True, False, Number, Named, Not, Minus, Pre, Current, When, Binary, If, AtMostOne, Call, Trees, None, More, AssertionTree, ProgramTree}
-use Rattle.rv_syntax.specs.Places.{Identifier, Sites, flows, is_flow}
+use Rattle.rv_syntax.specs.declared.tree.Name.{Name}
+use Rattle.rv_syntax.specs.Tree.{Tree, Node, Current, When, ProgramTree}
+use Rattle.rv_syntax.specs.Places.{Identifier, Sites, flows}
 use Rattle.rv_syntax.specs.Delays.{Delay, node_delays}
-use Rattle.rv_meaning.specs.Clocks.{Clock, Base, clock_of}
-use Rattle.rv_meaning.specs.Instances.{CallTree, Right, Body, Output, IsRight, calls, Instance, place, absolute, clock_in, clock_of_arguments, output_place, node_of, IsInstance}
-use Rattle.rv_meaning.specs.Kinds.{kind}
-use Rattle.rv_meaning.specs.Meaning.{is_true, number, held, is_on, operate, constant_value, kept_place}
-use Rattle.rv_meaning.specs.Runs.{Instant, cell, IsArgument, IsFlow, observer_place}
+use Rattle.rv_types.specs.declared.typed.Kind.{Kind}
+use Rattle.rv_types.specs.declared.typed.Kind.TheVariants as kind
+use Rattle.rv_types.specs.Kinds.{decl_kinds, flow_kind}
+use Rattle.rv_types.specs.Values.{HasKind, operand_kind, labels_at}
+use Rattle.rv_types.specs.Variables.{bits_for, node_parts}
+use Rattle.rv_types.specs.Lists.{ComparisonAt, Compares, Variable, MainTick, Tick, Kept, Next, Input, Test, AreVariables}
+use Rattle.rv_types.specs.Instances.{Instance, node_of, IsInstance}
+use Rattle.rv_meaning.specs.Meaning.{kept_place}
+use Rattle.rv_meaning.specs.Runs.{Instant}
+use Rattle.rv_meaning.specs.Instants.{State, IsInstant, AllowsAt, observed_in}
 
 -- A valuation gives a truth value, freely, to each variable of the control: to each tick bit (by the place of its
 -- clock's flow, none for main's), to each bit of a memory (by its place) and of an input (by its number).
@@ -26,86 +28,72 @@ pub record Valuation : Type 0 where
   pub kept : Sites → ℕ → Bool
   pub input : ℕ → ℕ → Bool
 
--- The value that bits spell: a Boolean has one bit. Missing here until names and types are checked: the codes of
--- enumerations.
-abbrev pub spelled : TypeName → (ℕ → Bool) → Value
-spelled type_name.Bool bits = Flag (bits 0)
-spelled _ bits = Flag false
+-- the number that so many bits spell, bit 0 the least significant
+abbrev pub code : ℕ → (ℕ → Bool) → ℕ
+code zero bits = 0
+code (suc n) bits = code n bits + cond (bits n) (2 ^ n) 0
 
--- whether a clock is there in the row of an instant
-abbrev pub is_on_in : Instant → Option Sites → Bool
-is_on_in row Nothing = true
-is_on_in row (Some p) = is_on (cell row p)
+-- The value of a type that bits spell: a Boolean has one bit, and a label the bits of its number. Integers have none.
+abbrev pub spelled : ProgramTree → Kind → (ℕ → Bool) → Value
+spelled p kind.Bool bits = Flag (bits 0)
+spelled p kind.Int bits = Whole (pos 0)
+spelled p (kind.Labels i) bits = Label (code (bits_for (labels_at p.types i)) bits)
 
--- What an expression has at a valuation, in a row: a `pre` is the memory of its place, `current E` is E where E is
--- present and that memory elsewhere, and `E -> F` goes by the tick bit of its clock.
-module _ (program : ProgramTree) (v : Valuation) (row : Instant) (i : Instance) where
-  -- what the bits of a memory spell
-  abbrev pub memory : Option ℕ → Tree → Value
-  memory site e = spelled (kind program i.node e) (v.kept (kept_place i site e))
-
-  abbrev mutual
-    pub symbol : Tree → Value
-    symbol (Node at site form) = form_symbol site form
-
-    pub form_symbol : Option ℕ → Form → Value
-    form_symbol site True = Flag true
-    form_symbol site False = Flag false
-    form_symbol site (Number n) = Whole (pos n)
-    form_symbol site (Named x) = cond (is_flow i.node x) (held (cell row (place i x))) (constant_value program x)
-    form_symbol site (Not e) = Flag (not (is_true (symbol e)))
-    form_symbol site (Minus e) = Whole (pos 0 -ℤ number (symbol e))
-    form_symbol site (Pre e) = memory site e
-    form_symbol site (Current e) = cond (is_on_in row (clock_in i Base e)) (symbol e) (memory site e)
-    form_symbol site (When e c) = symbol e
-    form_symbol site (Binary o a b) = operate o (not (v.ticked (clock_in i Base (Node 0 site (Binary o a b))))) (symbol a) (symbol b)
-    form_symbol site (If a b c) = cond (is_true (symbol a)) (symbol b) (symbol c)
-    form_symbol site (AtMostOne es) = Flag (nat_le (true_symbols es) 1)
-    form_symbol site (Call f args) = held (cell row (output_place program i (unwrap_or site 0) f 0))
-
-    -- how many are true
-    pub true_symbols : Trees → ℕ
-    true_symbols None = 0
-    true_symbols (More e es) = cond (is_true (symbol e)) 1 0 + true_symbols es
-
-  -- the same, absent where its clock is; a free expression takes the clock k
-  abbrev pub symbolic_value : Clock → Tree → Option Value
-  symbolic_value k e = cond (is_on_in row (clock_in i k e)) (Some (symbol e)) Nothing
-
-  -- the same of a right side
-  abbrev pub symbolic_right : Clock → Right → Option Value
-  symbolic_right k (Body e) = symbolic_value k e
-  symbolic_right k (Output c j) = cond (is_on_in row (absolute i (clock_of_arguments i c.args))) (Some (held (cell row (output_place program i c.site c.name j)))) Nothing
+-- how many variables are bits of the control state or of control inputs
+abbrev pub control_bits : List Variable → ℕ
+control_bits [] = 0
+control_bits (MainTick ∷ vs) = 1 + control_bits vs
+control_bits (Tick p ∷ vs) = 1 + control_bits vs
+control_bits (Kept p b ∷ vs) = 1 + control_bits vs
+control_bits (Next ∷ vs) = control_bits vs
+control_bits (Input j b ∷ vs) = 1 + control_bits vs
+control_bits (Test p s ∷ vs) = control_bits vs
 
 module _ (program : ProgramTree) (main : Identifier) where
-  -- The symbolic instant at a valuation: the flows are absent or have values so that every equation holds.
-  pub record IsSymbolicInstant (v : Valuation) (row : Instant) : Type 0 where
-    pub places : (p : Sites) → IsSome (map.get row p) ↔ IsFlow program main p
-    pub given : (j : ℕ) (d : Decl) → slice_get (node_of program main).inputs j ≡ Some d → cell row (j ∷ []) ≡ Some (spelled d.kind (v.input j))
-    pub equations : (i : Instance) (x : Identifier) (r : Right) → IsInstance program main i → IsRight i.node x r
-        → cell row (place i x) ≡ symbolic_right program v row i (clock_of i.node x) r
-    pub arguments : (i : Instance) (c : CallTree) (j : ℕ) (e : Tree) → IsInstance program main i → Contains (calls i.node) c → IsArgument c.args j e
-        → cell row (i.path ++ c.site ∷ j ∷ []) ≡ symbolic_value program v row i (clock_of_arguments i c.args) e
-    pub clocks : (i : Instance) (x : Identifier) → IsInstance program main i → Contains (flows i.node) x
-        → IsSome (cell row (place i x)) ↔ (is_on_in row (absolute i (clock_of i.node x)) ≡ true)
-
-  -- The control state after that instant: each tick bit is true where it was or where its clock is there, and each
-  -- memory has its operand's value where that is present, and keeps its own elsewhere.
-  pub record IsNext (v : Valuation) (row : Instant) (next : Valuation) : Type 0 where
-    pub ticks : (k : Option Sites) → next.ticked k ≡ (v.ticked k || is_on_in row k)
+  -- The state and the inputs that a valuation spells.
+  pub record Spells (v : Valuation) (state : State) (inputs : ℕ → Value) : Type 0 where
+    pub ticks : (k : Option Sites) → state.ticked k ≡ v.ticked k
     pub memories : (i : Instance) (d : Delay) → IsInstance program main i → Contains (node_delays i.node) d
-        → memory program next row i d.site d.operand
-        ≡ cond (is_on_in row (clock_in i Base d.operand)) (symbol program v row i d.operand) (memory program v row i d.site d.operand)
+        → state.kept (kept_place i d.site d.operand) ≡ spelled program (operand_kind program i.node d.operand) (v.kept (kept_place i d.site d.operand))
+    pub given : (j : ℕ) (k : Kind) → slice_get (decl_kinds program (node_of program main).inputs) j ≡ Some k → inputs j ≡ spelled program k (v.input j)
 
-  -- every assertion of every instance is true or absent there
-  abbrev pub AllowsAt : Valuation → Instant → Type 0
-  AllowsAt v row = (i : Instance) (a : AssertionTree) → IsInstance program main i → Contains i.node.assertions a
-      → (symbolic_value program v row i Base a.body ≡ Nothing) ⊎ (symbolic_value program v row i Base a.body ≡ Some (Flag true))
+  -- Every code of an enumeration names a label.
+  pub record IsCoded (v : Valuation) : Type 0 where
+    pub memories : (i : Instance) (d : Delay) → IsInstance program main i → Contains (node_delays i.node) d
+        → HasKind program (operand_kind program i.node d.operand) (spelled program (operand_kind program i.node d.operand) (v.kept (kept_place i d.site d.operand)))
+    pub given : (j : ℕ) (k : Kind) → slice_get (decl_kinds program (node_of program main).inputs) j ≡ Some k → HasKind program k (spelled program k (v.input j))
 
-  -- At every valuation that the assertions allow the observer is true.
+  -- The symbolic instant at a valuation: the instant at the state and the inputs that it spells.
+  abbrev pub IsSymbolicInstant : Valuation → Instant → Type 0
+  IsSymbolicInstant v row = (state : State) × (inputs : ℕ → Value) × Spells v state inputs × IsInstant program main state inputs row
+
+  -- A valuation is allowed where its codes name labels and the assertions are true or absent.
+  abbrev pub IsAllowedAt : Valuation → Instant → Type 0
+  IsAllowedAt v row = IsCoded v × ((state : State) × (inputs : ℕ → Value) × Spells v state inputs × IsInstant program main state inputs row × AllowsAt program main state row)
+
+  -- At every allowed valuation the observer is true.
   abbrev pub HoldsEverywhere : Type 0
-  HoldsEverywhere = (v : Valuation) (row : Instant) → IsSymbolicInstant v row → AllowsAt v row → cell row (observer_place program main) ≡ Some (Flag true)
+  HoldsEverywhere = (v : Valuation) (row : Instant) → IsAllowedAt v row → observed_in program main row ≡ Some (Flag true)
 
-  -- At some valuation that the assertions allow the observer is false.
+  -- At some allowed valuation it is false.
   abbrev pub FailsSomewhere : Type 0
-  FailsSomewhere = (v : Valuation) × (row : Instant) × IsSymbolicInstant v row × AllowsAt v row × (cell row (observer_place program main) ≡ Some (Flag false))
+  FailsSomewhere = (v : Valuation) × (row : Instant) × IsAllowedAt v row × (observed_in program main row ≡ Some (Flag false))
+
+  -- No flow of any instance and no operand of a `pre` or `current` is an integer, and no integers are compared.
+  pub record IsControl : Type 0 where
+    pub flows : (i : Instance) (x : Identifier) → IsInstance program main i → Contains (flows i.node) x → flow_kind program i.node x ≡ Some kind.Int → ⊥
+    pub delays : (i : Instance) (d : Delay) → IsInstance program main i → Contains (node_delays i.node) d → operand_kind program i.node d.operand ≡ kind.Int → ⊥
+    pub comparisons : (i : Instance) (e : Tree) (c : ComparisonAt) → IsInstance program main i → Contains (node_parts i.node) e → Compares program i e c → ⊥
+
+  -- Without integers, and with at most twelve bits of the control state and of control inputs together.
+  pub record IsSmall : Type 0 where
+    pub control : IsControl
+    pub variables : List Variable
+    pub are_variables : AreVariables program main variables
+    pub few : control_bits variables ≤ 12
+
+  -- no node that main reaches has a declared clock, a `when` or a `current`
+  pub record IsUnclocked : Type 0 where
+    pub declared : (i : Instance) (d : Decl) → IsInstance program main i → Contains i.node.locals d → d.clock ≡ Nothing
+    pub when_free : (i : Instance) (at : ℕ) (site : Option ℕ) (e : Tree) (c : Name) → IsInstance program main i → Contains (node_parts i.node) (Node at site (When e c)) → ⊥
+    pub current_free : (i : Instance) (at : ℕ) (site : Option ℕ) (e : Tree) → IsInstance program main i → Contains (node_parts i.node) (Node at site (Current e)) → ⊥

@@ -1,16 +1,16 @@
-//! What a Lustre program means: its runs, its valuations, and when its observer is safe.
+//! What a Lustre program means: its runs, its instants, its valuations, and when its observer is safe.
 #![tactic(auto)]
 
+mod calls;
+mod finding;
+mod kinds;
 mod laws;
 mod memory_list;
-mod names;
-#[cfg(test)]
-mod tests;
+mod numbers;
 
+pub use kinds::kind_of;
 pub use laws::{
-    everywhere_is_safe, exactly_one_instant, exactly_one_run, excluded_middle_is_safe,
-    following_instants, following_next, identity_is_falsified, initial_falsifies, instants_agree,
-    latch_is_safe, momentary_falsifies, one_run, some_run,
+    defined_flows, everywhere_is_safe, initial_falsifies, instants_agree, one_instant, one_run,
+    run_is_instants, some_next, some_run, states_of_run, steps_are_run, typed_instants,
 };
 pub use memory_list::memories;
-pub use names::Names;

@@ -1,183 +1,264 @@
-//! The memories of a node.
+//! The places of memories.
 
-ghost use Rattle.std.specs.Prelude.{◌≡◌, ◌<◌, ◌≤◌, length, map, nat_lt, IfOk, OnOk, IfSome, IfNone};
-ghost use Rattle.std.specs.List.{prefix_len};
-ghost use Rattle.rv_syntax.specs.Tree.{node_tree, tree_of, trees, equation_tree, assertion_tree};
-ghost use Rattle.rv_syntax.specs.Places.{flows as flows_of};
-ghost use Rattle.rv_syntax.specs.Delays.{memory_sites, placed, delays, delays_of_all, delays_in_equations, delays_in_assertions};
-ghost use Rattle.rv_meaning.specs.Gathering.{site_among, with_delays, IsGathered};
+ghost use Rattle.std.specs.Prelude.{◌≡◌, ◌≤◌, ◌<◌, ◌++◌, ◌∷◌, [], ℕ, List, map, flat_map, length, slice_index_or, IfOk, OnOk};
+ghost use Rattle.std.specs.List.{Contains};
+ghost use Rattle.std.specs.Cmp.Lexicographic.{slice_cmp};
+ghost use Rattle.std.specs.Ordering.{nat_cmp};
+ghost use Rattle.rv_syntax.specs.Bounded.{most, IsBounded, IsTreeOfText};
+ghost use Rattle.rv_syntax.specs.Delays.{delays, delays_of_all, delays_in_equations, delays_in_assertions, node_delays};
+ghost use Rattle.rv_syntax.specs.Places.{flows};
+ghost use Rattle.rv_syntax.specs.Tree.{NodeTree as NodeModel, tree_of, trees, node_tree, equation_tree, assertion_tree, program_tree};
+ghost use Rattle.rv_types.specs.Instances.{name_at, no_node};
+ghost use Rattle.rv_types.specs.Settled.{IsAnswer};
+ghost use Rattle.rv_meaning.specs.Accessors.{ArePaths, AreMemoryPlaces};
+ghost use Rattle.rv_types.specs.Lists.{sites_of};
+ghost use Rattle.rv_meaning.specs.Callings.{callee_in};
+ghost use Rattle.rv_meaning.specs.Remembered.{AreSites, AreSorted, places_at, site_by, sites_at, sites_by};
 
-use crate::names::Names;
-use rv_base::Memory;
-use rv_syntax::{Assertion, Equation, Expr, ExprForm, Node};
+use crate::calls::{callees_of, node_at};
+use crate::numbers::{Numbers, flow_numbers};
+use rv_base::{Many, Memory, Place};
+use rv_syntax::{Assertion, Equation, Expr, ExprForm, Node, Program, bounded_tree};
+use rv_types::{Typed, well_formed_programs};
 use std::alloc::Global;
+use std::cmp::Ordering;
+use std::collections::HashMap;
 
-/// The sites of the memories of a node, each once and in rising order, none where they are more than `most`. The names
-/// are those of the node's flows in the order of their sites.
+/// The places of the memories of the instances with these paths, in order: a proper prefix first, then by the first
+/// number that differs. `Memory` comes where memory runs out. Time grows with the program and with the length of the
+/// paths and places, up to look-ups and one sort.
 pub fn memories(
     alloc: Global,
-    node: &Node,
-    flows: &Names,
-    most: usize,
-) -> Result<Option<Vec<u32>>, Memory>
-    requires names { flows.now ≡ flows_of (node_tree node.now) }
-    requires few { length flows.now ≤ 1048576 }
-    ensures sites { IfOk result (λ found. IfSome found (λ sites. sites.items ≡ memory_sites (node_tree node.now))) }
-    ensures within { IfOk result (λ found. IfSome found (λ sites. length sites.items ≤ most)) }
-    ensures more { IfOk result (λ found. IfNone found (most < length (memory_sites (node_tree node.now)))) }
+    p: &Program,
+    t: &Typed,
+    paths: &Many<Many<u32>>,
+) -> Result<Many<Place>, Memory>
+    requires text { IsTreeOfText (program_tree p.now) }
+    requires settled { IsAnswer (program_tree p.now) t.now }
+    requires paths { ArePaths (program_tree p.now) (name_at (program_tree p.now) t.now.main) paths.now }
+    ensures { IfOk result (λ ps. AreMemoryPlaces (program_tree p.now) (name_at (program_tree p.now) t.now.main) paths.now (sites_of ps)) }
 {
-    let mut sites = Vec::new(alloc);
-    if !gather_equations(node.equations.as_slice(), flows, most, &mut sites)? {
-        return Ok(None);
-    }
-    if !gather_assertions(node.assertions.as_slice(), flows, most, &mut sites)? {
-        return Ok(None);
-    }
-    Ok(Some(sites))
+    bounded_tree();
+    well_formed_programs();
+    let callees = callees_of(alloc, p.nodes.as_slice())?;
+    let sites = sites_of_nodes(alloc, p.nodes.as_slice())?;
+    let places = places_of(
+        alloc,
+        t.main,
+        paths.as_slice(),
+        callees.as_slice(),
+        sites.as_slice(),
+    )?;
+    Ok(sorted(places))
 }
 
-/// Puts the sites of the memories of the right sides to the others. It stops where they are more than `most`, since
-/// they never get fewer.
-fn gather_equations(
-    equations: &[Equation],
-    flows: &Names,
-    most: usize,
-    sites: &mut Vec<u32>,
-) -> Result<bool, Memory>
-    requires few { length flows.now ≤ 1048576 }
-    requires within { length sites.old.items ≤ most }
-    ensures { IfOk result (IsGathered most (with_delays flows.now sites.old.items (delays_in_equations (map equation_tree equations.now))) sites.new.items) }
+/// The places, from first to last, each once.
+fn sorted(places: Many<Place>) -> Many<Place>
+    ensures { AreSorted places result }
 {
-    for equation in equations {
-        if !gather(&equation.right, flows, most, sites)? {
-            return Ok(false);
-        }
+    let mut places = places.into_vec();
+    places.sort_unstable_by(|one, other| compare(one, other));
+    places.dedup();
+    Many::from_vec(places)
+}
+
+/// Whether a place stands before another: a proper prefix does, and otherwise that with the lower first number that
+/// differs.
+fn compare(one: &Place, other: &Place) -> Ordering
+    ensures { result ≡ slice_cmp nat_cmp one.now.sites other.now.sites }
+{
+    one.sites.as_slice().cmp(&other.sites.as_slice())
+}
+
+/// The places of the memories of the instances with these paths, path by path.
+fn places_of(
+    alloc: Global,
+    main: u32,
+    paths: &[Many<u32>],
+    callees: &[HashMap<u32, u32>],
+    sites: &[Many<u32>],
+) -> Result<Many<Place>, Memory>
+    ensures { IfOk result (λ places. sites_of places ≡ flat_map (places_at (callee_in callees.now) sites.now main) paths.now) }
+{
+    let mut places = Many::new(alloc);
+    for path in paths {
+        let own = sites_of_path(main, path.as_slice(), callees, sites);
+        push_places(alloc, path.as_slice(), own, &mut places)?;
     }
-    Ok(true)
+    Ok(places)
 }
 
-/// Puts the sites of the memories of the assertions to the others, as above.
-fn gather_assertions(
-    assertions: &[Assertion],
-    flows: &Names,
-    most: usize,
-    sites: &mut Vec<u32>,
-) -> Result<bool, Memory>
-    requires few { length flows.now ≤ 1048576 }
-    requires within { length sites.old.items ≤ most }
-    ensures { IfOk result (IsGathered most (with_delays flows.now sites.old.items (delays_in_assertions (map assertion_tree assertions.now))) sites.new.items) }
+/// The sites of the memories of the instance with a path.
+fn sites_of_path<'a>(
+    main: u32,
+    path: &[u32],
+    callees: &[HashMap<u32, u32>],
+    sites: &'a [Many<u32>],
+) -> &'a [u32]
+    ensures { result.now ≡ sites_at (callee_in callees.now) sites.now main path.now }
 {
-    for assertion in assertions {
-        if !gather(&assertion.body, flows, most, sites)? {
-            return Ok(false);
-        }
-    }
-    Ok(true)
-}
-
-/// Puts the sites of the memories of an expression to the others, as above. It calls itself for each operand, so as deep
-/// as the tree is: 20,101 levels at most.
-#[cycle(gather)]
-fn gather(e: &Expr, flows: &Names, most: usize, sites: &mut Vec<u32>) -> Result<bool, Memory>
-    requires few { length flows.now ≤ 1048576 }
-    requires within { length sites.old.items ≤ most }
-    ensures { IfOk result (IsGathered most (with_delays flows.now sites.old.items (delays (tree_of e.now))) sites.new.items) }
-{
-    match &e.form {
-        ExprForm::True | ExprForm::False | ExprForm::Number(_) | ExprForm::Named(_) => Ok(true),
-        ExprForm::Not(operand) | ExprForm::Minus(operand) | ExprForm::When(operand, _) => {
-            gather(operand, flows, most, sites)
-        }
-        ExprForm::Pre(operand) | ExprForm::Current(operand) => {
-            if !place_memory(e.site, operand, flows, most, sites)? {
-                return Ok(false);
-            }
-            gather(operand, flows, most, sites)
-        }
-        ExprForm::Binary(_, left, right) => {
-            if !gather(left, flows, most, sites)? {
-                return Ok(false);
-            }
-            gather(right, flows, most, sites)
-        }
-        ExprForm::If(condition, first, second) => {
-            if !gather(condition, flows, most, sites)? {
-                return Ok(false);
-            }
-            if !gather(first, flows, most, sites)? {
-                return Ok(false);
-            }
-            gather(second, flows, most, sites)
-        }
-        ExprForm::AtMostOne(operands) => gather_all(operands.as_slice(), flows, most, sites),
-        ExprForm::Call(_, arguments) => gather_all(arguments.as_slice(), flows, most, sites),
-    }
-}
-
-/// Puts the sites of the memories of the expressions to the others, as above.
-#[cycle(gather)]
-fn gather_all(
-    expressions: &[Expr],
-    flows: &Names,
-    most: usize,
-    sites: &mut Vec<u32>,
-) -> Result<bool, Memory>
-    requires few { length flows.now ≤ 1048576 }
-    requires within { length sites.old.items ≤ most }
-    ensures { IfOk result (IsGathered most (with_delays flows.now sites.old.items (delays_of_all (trees (map tree_of expressions.now)))) sites.new.items) }
-{
-    for e in expressions {
-        if !gather(e, flows, most, sites)? {
-            return Ok(false);
-        }
-    }
-    Ok(true)
-}
-
-/// Puts the site of the memory of a `pre` or `current` to the others, and tells whether they are at most `most`.
-fn place_memory(
-    site: Option<u32>,
-    operand: &Expr,
-    flows: &Names,
-    most: usize,
-    sites: &mut Vec<u32>,
-) -> Result<bool, Memory>
-    requires { length flows.now ≤ 1048576 }
-    ensures { IfOk result (IsGathered most (placed (site_among flows.now site (tree_of operand.now)) sites.old.items) sites.new.items) }
-{
-    place(memory_of(site, operand, flows), sites)?;
-    Ok(sites.len() <= most)
-}
-
-/// The site of the memory of a `pre` or `current`: that of the flow where its operand is one, and otherwise its own.
-fn memory_of(site: Option<u32>, operand: &Expr, flows: &Names) -> u32
-    requires { length flows.now ≤ 1048576 }
-    ensures { result ≡ site_among flows.now site (tree_of operand.now) }
-{
-    match &operand.form {
-        ExprForm::Named(name) => match flows.number(name) {
-            Some(number) => number as u32,
-            None => site.unwrap_or(0),
+    match node_at(callees, main, path) {
+        None => &[],
+        Some(number) => match sites.get(number as usize) {
+            None => &[],
+            Some(own) => own.as_slice(),
         },
-        _ => site.unwrap_or(0),
     }
 }
 
-/// Puts a site in its place among rising sites, where it is not among them. They are few, so they are moved one by one.
-fn place(site: u32, sites: &mut Vec<u32>) -> Result<(), Memory>
-    ensures { OnOk result (sites.new.items ≡ placed site sites.old.items) }
+/// Adds the places of the memories of an instance.
+fn push_places(
+    alloc: Global,
+    path: &[u32],
+    sites: &[u32],
+    places: &mut Many<Place>,
+) -> Result<(), Memory>
+    ensures { OnOk result (sites_of places.new ≡ sites_of places.old ++ map (λ s. path.now ++ s ∷ []) sites.now) }
 {
-    let at = smaller_count(sites.as_slice(), site);
-    if at < sites.len() && sites[at] == site {
-        return Ok(());
+    for site in sites {
+        places.push(place_at(alloc, path, *site)?)?;
     }
-    sites.insert(at, site)?;
     Ok(())
 }
 
-/// How many of rising sites are smaller than this one.
-fn smaller_count(sites: &[u32], site: u32) -> usize
-    ensures { result ≡ prefix_len (λ other. nat_lt other site) sites.now }
+/// The place of a site of an instance.
+fn place_at(alloc: Global, path: &[u32], site: u32) -> Result<Place, Memory>
+    ensures { IfOk result (λ place. place.sites ≡ path.now ++ site ∷ []) }
 {
-    sites.iter().take_while(|other| **other < site).count()
+    let mut sites = Many::from_vec(Vec::from_slice(alloc, path)?);
+    sites.push(site)?;
+    Ok(Place { sites })
+}
+
+/// For each node the sites of its memories.
+fn sites_of_nodes(alloc: Global, nodes: &[Node]) -> Result<Many<Many<u32>>, Memory>
+    requires { (n : NodeModel) → Contains (map node_tree nodes.now) n → length (flows n) ≤ most }
+    ensures { IfOk result (λ sites. (k : ℕ) → AreSites (slice_index_or (map node_tree nodes.now) k no_node) (slice_index_or sites k [])) }
+{
+    let mut sites = Many::new(alloc);
+    for node in nodes {
+        sites.push(sites_of_node(alloc, node)?)?;
+    }
+    Ok(sites)
+}
+
+/// The sites of the memories of a node, each once.
+fn sites_of_node(alloc: Global, node: &Node) -> Result<Many<u32>, Memory>
+    requires { length (flows (node_tree node.now)) ≤ most }
+    ensures { IfOk result (AreSites (node_tree node.now)) }
+{
+    let flows = flow_numbers(alloc, node)?;
+    let read = sites_read(alloc, node, &flows)?;
+    let mut sites = read.into_vec();
+    sites.sort_unstable();
+    sites.dedup();
+    Ok(Many::from_vec(sites))
+}
+
+/// The sites of the memories that the `pre` and `current` of a node read, in its equations and then in its assertions.
+fn sites_read(alloc: Global, node: &Node, flows: &Numbers) -> Result<Many<u32>, Memory>
+    ensures { IfOk result (λ sites. sites ≡ sites_by flows.now (node_delays (node_tree node.now))) }
+{
+    let mut sites = Many::new(alloc);
+    gather_equations(node.equations.as_slice(), flows, &mut sites)?;
+    gather_assertions(node.assertions.as_slice(), flows, &mut sites)?;
+    Ok(sites)
+}
+
+/// Adds what the right sides read.
+fn gather_equations(
+    equations: &[Equation],
+    flows: &Numbers,
+    sites: &mut Many<u32>,
+) -> Result<(), Memory>
+    ensures { OnOk result (sites.new ≡ sites.old ++ sites_by flows.now (delays_in_equations (map equation_tree equations.now))) }
+{
+    for equation in equations {
+        gather(&equation.right, flows, sites)?;
+    }
+    Ok(())
+}
+
+/// Adds what the assertions read.
+fn gather_assertions(
+    assertions: &[Assertion],
+    flows: &Numbers,
+    sites: &mut Many<u32>,
+) -> Result<(), Memory>
+    ensures { OnOk result (sites.new ≡ sites.old ++ sites_by flows.now (delays_in_assertions (map assertion_tree assertions.now))) }
+{
+    for assertion in assertions {
+        gather(&assertion.body, flows, sites)?;
+    }
+    Ok(())
+}
+
+/// Adds what an expression reads. It calls itself for each operand, so as deep as the tree is: 20,101 levels at most.
+#[cycle(gather)]
+fn gather(e: &Expr, flows: &Numbers, sites: &mut Many<u32>) -> Result<(), Memory>
+    ensures { OnOk result (sites.new ≡ sites.old ++ sites_by flows.now (delays (tree_of e.now))) }
+{
+    match &e.form {
+        ExprForm::True | ExprForm::False | ExprForm::Number(_) | ExprForm::Named(_) => Ok(()),
+        ExprForm::Not(operand) | ExprForm::Minus(operand) | ExprForm::When(operand, _) => {
+            gather(operand, flows, sites)
+        }
+        ExprForm::Pre(operand) | ExprForm::Current(operand) => {
+            add_site(e.site, operand, flows, sites)?;
+            gather(operand, flows, sites)
+        }
+        ExprForm::Binary(_, left, right) => {
+            gather(left, flows, sites)?;
+            gather(right, flows, sites)
+        }
+        ExprForm::If(condition, first, second) => {
+            gather(condition, flows, sites)?;
+            gather(first, flows, sites)?;
+            gather(second, flows, sites)
+        }
+        ExprForm::AtMostOne(operands) => gather_all(operands.as_slice(), flows, sites),
+        ExprForm::Call(_, arguments) => gather_all(arguments.as_slice(), flows, sites),
+    }
+}
+
+/// Adds what the expressions read.
+#[cycle(gather)]
+fn gather_all(expressions: &[Expr], flows: &Numbers, sites: &mut Many<u32>) -> Result<(), Memory>
+    ensures { OnOk result (sites.new ≡ sites.old ++ sites_by flows.now (delays_of_all (trees (map tree_of expressions.now)))) }
+{
+    for e in expressions {
+        gather(e, flows, sites)?;
+    }
+    Ok(())
+}
+
+/// Adds what a `pre` or `current` of this site and operand reads.
+#[inline(never)]
+fn add_site(
+    site: Option<u32>,
+    operand: &Expr,
+    flows: &Numbers,
+    sites: &mut Many<u32>,
+) -> Result<(), Memory>
+    ensures { OnOk result (sites.new ≡ sites.old ++ site_by flows.now site (tree_of operand.now) ∷ []) }
+{
+    sites.push(site_read(site, operand, flows))?;
+    Ok(())
+}
+
+/// The site of the memory of a `pre` or `current`: that of the flow where its operand is one, and otherwise its own.
+fn site_read(site: Option<u32>, operand: &Expr, flows: &Numbers) -> u32
+    ensures { result ≡ site_by flows.now site (tree_of operand.now) }
+{
+    match &operand.form {
+        ExprForm::Named(name) => {
+            let number = flows.number(name);
+            if number < flows.count {
+                number
+            } else {
+                site.unwrap_or(0)
+            }
+        }
+        _ => site.unwrap_or(0),
+    }
 }

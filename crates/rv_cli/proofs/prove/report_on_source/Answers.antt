@@ -1,28 +1,77 @@
-use Rattle.std.proofs.Common.{sym, ◌∙◌}
+use Rattle.std.proofs.Common.{◌≡◌, true, false, inr, sym, ◌∙◌, ap, subst}
 use Rattle.rv_syntax.specs.Tree.{program_tree}
-use Rattle.rv_meaning.specs.Boolean.{IsBooleanProgram}
+use Rattle.rv_types.specs.Instances.{name_at}
+use Rattle.rv_causality.specs.declared.source.SourceFault.{SourceFault}
+use Rattle.rv_meaning.specs.Runs.{IsSafe}
 use Rattle.rv_meaning.specs.Valuations.{HoldsEverywhere}
-use Rattle.rv_cli.proofs.Outside.{when_true, name_refusal-refused}
+use Rattle.rv_cli.specs.Answers.{IsOnSource, IsRefusalUnlessCutOff}
+use Rattle.rv_cli.specs.Programs.{IsJudged, IsUndecided}
+use Rattle.rv_cli.specs.declared.report.Report.{Report}
+use Rattle.rv_cli.proofs.Judging.{safe}
+use Rattle.rv_cli.proofs.Reported.{refusal-not_safe, refusal-not_unknown, refusal-on_source, refusal-refused, refused_accepted, refused_same, named, told, told_back, opposed}
+use Rattle.rv_cli.proofs.Tried.{when_true, when_false}
 use Rattle.rv_cli.proofs.prove.report_on_source.Goals as goal
 
-pub settle-requires : goal.settle-requires
-settle-requires c = (c.args.source.now, c.requires, c.in-Ok.ensures.found)
-
-pub is_boolean_program-requires : goal.is_boolean_program-requires
-is_boolean_program-requires c = λ n w. c.numbered_sites.ensures c.args.source.now (program_tree c.in-Ok.program) n c.requires c.in-Ok.ensures.found w
-
-pub returns-in-Err-settle-clause-refused : goal.returns-in-Err-settle-clause-refused
-returns-in-Err-settle-clause-refused c = λ fault h.
-    name_refusal-refused c.args.source.now c.args.node.now (program_tree c.in-Ok.program) c.in-Err-settle.fault fault c.in-Ok.ensures.found
-    c.in-Err-settle.ensures.refused (sym c.name_refusal.ensures ∙ h)
+pub returns-in-Err : goal.returns-in-Err
+returns-in-Err c =
+    let bytes = c.args.bytes.now in
+    let node = c.args.node.now in
+    let fault = c.in-Err.fault in
+    let is = c.refusal.ensures in
+    record {
+      safe = λ h. absurd (refusal-not_safe fault (sym is ∙ h));
+      safe_everywhere = λ h. absurd (refusal-not_safe fault (sym is ∙ h));
+      unknown = λ h. absurd (refusal-not_unknown fault (sym is ∙ h));
+      refused = λ found h. refusal-refused bytes node fault found c.in-Err.ensures.refused (sym is ∙ h);
+      only = subst IsOnSource (sym is) (refusal-on_source fault);
+      only_safe = λ on. inr (inr (is ∙ refused_accepted bytes node (IsJudged HoldsEverywhere) fault c.in-Err.ensures.only on));
+      only_unknown = λ on. inr (inr (is ∙ refused_accepted bytes node IsUndecided fault c.in-Err.ensures.only on));
+      only_refused = λ found h. subst (IsRefusalUnlessCutOff found) (sym is) (refused_same bytes node fault found (c.in-Err.ensures.only_refused found h));
+    }
 
 pub returns-in-Ok-true-clause-safe : goal.returns-in-Ok-true-clause-safe
 returns-in-Ok-true-clause-safe c = λ _.
-    let judged : IsBooleanProgram (program_tree c.in-Ok.program) c.args.node.now = when_true _ _ _ c.in-Ok-is_boolean_program.ensures c.if-not-is_judged.false in
-    let everywhere : HoldsEverywhere (program_tree c.in-Ok.program) c.args.node.now = when_true _ _ _ c.in-Ok-true.ensures c.in-Ok-true.field-0-test in
-    record {
-      program = program_tree c.in-Ok.program;
-      text = c.in-Ok.ensures.found;
-      accepted = (c.in-Ok-settle.typed, c.in-Ok-settle.ensures.found);
-      holds = c.everywhere_is_safe.ensures (program_tree c.in-Ok.program) c.args.node.now judged everywhere;
-    }
+    let s = c.in-Ok.source in
+    let source = c.in-Ok.ensures.found in
+    let p = program_tree s.program in
+    let main = name_at p s.typed.main in
+    let judged : IsJudged HoldsEverywhere p main = when_true c.in-Ok-true.field-0 (IsJudged HoldsEverywhere p main) (IsUndecided p main) c.in-Ok-true.ensures c.in-Ok-true.field-0-test in
+    told c.args.bytes.now c.args.node.now s source IsSafe
+    (safe p s.typed s.order source.fits (λ m text settled. c.well_formed_programs.ensures p m s.typed text settled)
+    (λ sequence well is_node ordered control holds. c.everywhere_is_safe.ensures p main sequence well is_node ordered control holds) judged)
+
+pub returns-in-Ok-true-clause-safe_everywhere : goal.returns-in-Ok-true-clause-safe_everywhere
+returns-in-Ok-true-clause-safe_everywhere c = λ _.
+    let s = c.in-Ok.source in
+    let p = program_tree s.program in
+    let main = name_at p s.typed.main in
+    told c.args.bytes.now c.args.node.now s c.in-Ok.ensures.found (IsJudged HoldsEverywhere)
+    (when_true c.in-Ok-true.field-0 (IsJudged HoldsEverywhere p main) (IsUndecided p main) c.in-Ok-true.ensures c.in-Ok-true.field-0-test)
+
+pub returns-in-Ok-true-clause-only_unknown : goal.returns-in-Ok-true-clause-only_unknown
+returns-in-Ok-true-clause-only_unknown c = λ on.
+    let s = c.in-Ok.source in
+    let p = program_tree s.program in
+    let main = name_at p s.typed.main in
+    let bytes = c.args.bytes.now in
+    let node = c.args.node.now in
+    let judged = when_true c.in-Ok-true.field-0 (IsJudged HoldsEverywhere p main) (IsUndecided p main) c.in-Ok-true.ensures c.in-Ok-true.field-0-test in
+    absurd (opposed p node (subst (IsJudged HoldsEverywhere p) (named bytes node s c.in-Ok.ensures.found) judged) (told_back bytes node s c.in-Ok.ensures.found (c.one_tree.ensures bytes) IsUndecided on))
+
+pub returns-in-Ok-false-clause-unknown : goal.returns-in-Ok-false-clause-unknown
+returns-in-Ok-false-clause-unknown c = λ _.
+    let s = c.in-Ok.source in
+    let p = program_tree s.program in
+    let main = name_at p s.typed.main in
+    told c.args.bytes.now c.args.node.now s c.in-Ok.ensures.found IsUndecided
+    (when_false c.in-Ok-false.field-0 (IsJudged HoldsEverywhere p main) (IsUndecided p main) c.in-Ok-false.ensures c.in-Ok-false.field-0-test)
+
+pub returns-in-Ok-false-clause-only_safe : goal.returns-in-Ok-false-clause-only_safe
+returns-in-Ok-false-clause-only_safe c = λ on.
+    let s = c.in-Ok.source in
+    let p = program_tree s.program in
+    let main = name_at p s.typed.main in
+    let bytes = c.args.bytes.now in
+    let node = c.args.node.now in
+    let undecided = when_false c.in-Ok-false.field-0 (IsJudged HoldsEverywhere p main) (IsUndecided p main) c.in-Ok-false.ensures c.in-Ok-false.field-0-test in
+    absurd (opposed p node (told_back bytes node s c.in-Ok.ensures.found (c.one_tree.ensures bytes) (IsJudged HoldsEverywhere) on) (subst (IsUndecided p) (named bytes node s c.in-Ok.ensures.found) undecided))

@@ -1,12 +1,6 @@
-use Rattle.std.proofs.Common.{get_or}
-use Rattle.std.specs.FinMap.{empty}
-use Rattle.rv_meaning.proofs.Agreement.{valuation_at, follows, instant_of_run, always_allowed}
+use Rattle.rv_meaning.proofs.Agreement.{agrees}
 use Rattle.rv_meaning.proofs.laws.instants_agree.Goals as goal
 
 pub returns : goal.returns
-returns c program main starts inputs n h t boolean run lt = (
-  valuation_at program main boolean starts inputs h t,
-  follows program main boolean starts inputs n h t run lt,
-  instant_of_run program main boolean starts inputs n h t run lt,
-  λ allowed. always_allowed program main boolean (valuation_at program main boolean starts inputs h t) (get_or h t empty),
-)
+returns c program main sequence starts inputs n h t well is_node ordered control run lt =
+    agrees program main well is_node sequence ordered well.numbered (λ m d w inner. (well.formed m w).delay_clock d inner) control starts inputs n h t run lt

@@ -4,7 +4,7 @@ use Rattle.rv_meaning.proofs.Sources.{wanted, wanted_is_local, run_of_solution}
 use Rattle.rv_meaning.proofs.laws.some_run.Goals as goal
 
 pub returns : goal.returns
-returns c program main sequence starts inputs n wf ordered typed given =
-    let defined = are_defined program main wf in
+returns c program main sequence starts inputs n well named ordered typed given =
+    let defined = are_defined program main well named in
     let s = a_solution program main (wanted program starts inputs) sequence (wanted_is_local program starts inputs) defined ordered n in
     (s.0, run_of_solution program main starts inputs defined typed n given s.0 s.1)

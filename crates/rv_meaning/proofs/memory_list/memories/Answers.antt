@@ -1,46 +1,42 @@
-use Rattle.std.proofs.Common.{◌≡◌, ◌<◌, [], List, ℕ, length, map, ap, subst, ◌∙◌}
-use Rattle.rv_syntax.specs.Tree.{NodeTree, node_tree, equation_tree, assertion_tree}
-use Rattle.rv_syntax.specs.Places.{Identifier, flows}
-use Rattle.rv_syntax.specs.Delays.{node_delays, memory_sites, delays_in_equations, delays_in_assertions}
-use Rattle.rv_meaning.specs.Gathering.{with_delays}
-use Rattle.rv_meaning.proofs.SiteLemmas.{stopped, is_whole, first_stops, joined, gathered_in_node}
+use Rattle.std.proofs.Common.{◌≡◌, List, length, map, sym, ◌∙◌, ap, subst, arith, get_or, []}
+use Rattle.std.proofs.lemmas.List.{length-map}
+use Rattle.std.specs.List.{Contains, flat_map}
+use Rattle.rv_syntax.specs.Places.{Sites}
+use Rattle.rv_syntax.specs.Tree.{node_tree, program_tree}
+use Rattle.rv_types.specs.Instances.{name_at, no_node}
+use Rattle.rv_types.specs.Lists.{sites_of}
+use Rattle.rv_meaning.specs.Callings.{callee_in}
+use Rattle.rv_meaning.specs.Leading.{callee_at}
+use Rattle.rv_meaning.specs.Remembered.{AreSites, places_at}
+use Rattle.rv_meaning.proofs.Leads.{is_node, settled, main_node}
+use Rattle.rv_meaning.proofs.MemoryPlaces.{are_memory_places}
 use Rattle.rv_meaning.proofs.memory_list.memories.Goals as goal
 
--- what a walk over the whole node gathers
-whole : (n : NodeTree) (names : List Identifier) (start : List ℕ) → names ≡ flows n → start ≡ [] → with_delays names start (node_delays n) ≡ memory_sites n
-whole n names start same none = (λ i. with_delays (same i) (none i) (node_delays n)) ∙ gathered_in_node n [] (node_delays n)
+pub callees_of-requires : goal.callees_of-requires
+callees_of-requires c =
+    let b = c.bounded_tree.ensures (program_tree c.args.p.now) c.requires.text in
+    let few = b.nodes in
+    let same = ap length c.as_slice.ensures in
+    omega (arith, few, same, length-map c.args.p.now.nodes node_tree)
 
-pub returns-then-not-branch-clause-more : goal.returns-then-not-branch-clause-more
-returns-then-not-branch-clause-more c =
-    let n = node_tree c.args.node.now in
-    subst (λ l. c.args.most < length l) (whole n c.args.flows.now c.new-sites.result.items c.requires.names c.new-sites.ensures.items)
-    (first_stops c.args.flows.now c.args.most c.new-sites.result.items
-    (delays_in_equations (map equation_tree c.as_slice.result.now)) (delays_in_equations n.equations) (delays_in_assertions n.assertions)
-    c.gather_equations.new.sites.items c.in_ok-gather_equations.field-0
-    (ap (λ l. delays_in_equations (map equation_tree l)) c.as_slice.ensures) c.in_ok-gather_equations.ensures c.if-not-branch.true)
+pub sites_of_nodes-requires : goal.sites_of_nodes-requires
+sites_of_nodes-requires c = λ n w.
+    let b = c.bounded_tree.ensures (program_tree c.args.p.now) c.requires.text in
+    b.node_flows n (subst (λ l. Contains (map node_tree l) n) c.as_slice-2.ensures w)
 
-pub returns-then-not-branch-2-clause-more : goal.returns-then-not-branch-2-clause-more
-returns-then-not-branch-2-clause-more c =
-    let n = node_tree c.args.node.now in
-    let rest = ap (λ l. delays_in_assertions (map assertion_tree l)) c.as_slice-2.ensures in
-    let both = joined c.args.flows.now c.args.most c.new-sites.result.items
-    (delays_in_equations (map equation_tree c.as_slice.result.now)) (delays_in_equations n.equations)
-    (delays_in_assertions (map assertion_tree c.as_slice-2.result.now)) (delays_in_assertions n.assertions)
-    c.gather_equations.new.sites.items c.in_ok-gather_equations.field-0
-    (ap (λ l. delays_in_equations (map equation_tree l)) c.as_slice.ensures) rest c.in_ok-gather_equations.ensures c.if-not-branch.false in
-    subst (λ l. c.args.most < length l) (both ∙ whole n c.args.flows.now c.new-sites.result.items c.requires.names c.new-sites.ensures.items)
-    (stopped c.args.most (with_delays c.args.flows.now c.gather_equations.new.sites.items (delays_in_assertions (map assertion_tree c.as_slice-2.result.now)))
-    c.gather_assertions.new.sites.items c.in_ok-gather_assertions.field-0 c.in_ok-gather_assertions.ensures c.if-not-branch-2.true)
-
-pub returns-clause-sites : goal.returns-clause-sites
-returns-clause-sites c =
-    let n = node_tree c.args.node.now in
-    let rest = ap (λ l. delays_in_assertions (map assertion_tree l)) c.as_slice-2.ensures in
-    let both = joined c.args.flows.now c.args.most c.new-sites.result.items
-    (delays_in_equations (map equation_tree c.as_slice.result.now)) (delays_in_equations n.equations)
-    (delays_in_assertions (map assertion_tree c.as_slice-2.result.now)) (delays_in_assertions n.assertions)
-    c.gather_equations.new.sites.items c.in_ok-gather_equations.field-0
-    (ap (λ l. delays_in_equations (map equation_tree l)) c.as_slice.ensures) rest c.in_ok-gather_equations.ensures c.if-not-branch.false in
-    let all = is_whole c.args.most (with_delays c.args.flows.now c.gather_equations.new.sites.items (delays_in_assertions (map assertion_tree c.as_slice-2.result.now)))
-    c.gather_assertions.new.sites.items c.in_ok-gather_assertions.field-0 c.in_ok-gather_assertions.ensures c.if-not-branch-2.false in
-    all.0 ∙ both ∙ whole n c.args.flows.now c.new-sites.result.items c.requires.names c.new-sites.ensures.items
+pub returns : goal.returns
+returns c =
+    let p = program_tree c.args.p.now in
+    let t = c.args.t.now in
+    let rules = settled p t c.requires.settled in
+    let well = c.well_formed_programs.ensures p (name_at p t.main) t c.requires.text rules in
+    let next = callee_in c.in_ok-callees.callees in
+    let found : sites_of c.in_ok-places.places ≡ flat_map (places_at next c.in_ok-sites.sites t.main) c.args.paths.now =
+    c.in_ok-places.ensures
+    ∙ (λ i. flat_map (places_at (callee_in (c.as_slice-4.ensures i)) (c.as_slice-5.ensures i) t.main) (c.as_slice-3.ensures i)) in
+    are_memory_places p (name_at p t.main) well (is_node p t c.requires.settled) t.main (main_node p t c.requires.settled) c.args.paths.now c.requires.paths
+    next (λ k s. c.in_ok-callees.ensures k s ∙ ap (λ ns. callee_at (map node_tree ns) k s) c.as_slice.ensures)
+    c.in_ok-sites.sites (λ k. subst (λ ns. AreSites (get_or (map node_tree ns) k no_node) (get_or c.in_ok-sites.sites k [])) c.as_slice-2.ensures (c.in_ok-sites.ensures k))
+    (sites_of c.sorted.result) c.sorted.ensures.rising
+    (λ q w. c.sorted.ensures.all q (subst (λ (l : List Sites). Contains l q) (sym found) w))
+    (λ q w. subst (λ (l : List Sites). Contains l q) found (c.sorted.ensures.only q w))

@@ -1,0 +1,26 @@
+-- What holds of each element of a list, and the name of the main node.
+use Rattle.std.proofs.Common.{◌≡◌, ℕ, Bool, true, false, ◌||◌, cond, List, [], ◌∷◌, suc, zero, map, refl, arith, Some, IsTrue, IsSome}
+use Rattle.std.specs.List.{All, Contains}
+use Rattle.std.proofs.lemmas.List.Elements.{Contains-append_right}
+use Rattle.rv_syntax.specs.Tree.{NodeTree, ProgramTree}
+use Rattle.rv_syntax.specs.Places.{Identifier, is_among, is_same}
+use Rattle.rv_types.specs.Kinds.{node_among, node_named}
+use Rattle.rv_types.specs.Instances.{IsNode}
+
+-- what holds of each element of a list holds of it by numbers
+pub each : {X : Type 0} (P : X → Type 0) (xs : List X) → ((x : X) → Contains xs x → P x) → All P xs
+each P [] h k d lt = absurd (omega arith)
+each P (x ∷ xs) h zero d lt = h x (0, omega arith, refl)
+each P (x ∷ xs) h (suc k) d lt = each P xs (λ y w. h y (Contains-append_right (x ∷ []) xs y w)) k d (omega arith)
+
+-- the main node has a name
+pub named_some : (p : ProgramTree) (main : Identifier) → IsNode p main → IsSome (node_named p main)
+named_some p main h = some p.nodes h
+  where
+    some : (ns : List NodeTree) → IsTrue (is_among (map (λ n. n.name.text) ns) main) → IsSome (node_among ns main)
+    some [] h = absurd (let different : ⊥ = cc in different)
+    some (n ∷ ns) h = tested (is_same n.name.text main) h (some ns)
+      where
+        tested : (b : Bool) → IsTrue (b || is_among (map (λ n. n.name.text) ns) main) → (IsTrue (is_among (map (λ n. n.name.text) ns) main) → IsSome (node_among ns main)) → IsSome (cond b (Some n) (node_among ns main))
+        tested true h again = refl
+        tested false h again = again h

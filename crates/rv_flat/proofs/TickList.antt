@@ -1,0 +1,122 @@
+-- The ticks among the variables of a flat system are those of its program, each once.
+use Rattle.std.proofs.Common.{◌≡◌, ℕ, zero, suc, ◌+◌, ◌<◌, Bool, true, false, cond, List, [], ◌∷◌, ◌++◌, length, map, get_or, refl, sym, ◌∙◌, ap, subst, arith}
+use Rattle.std.proofs.lemmas.List.{append-nil}
+use Rattle.std.proofs.lemmas.Slice.Eq.{bytes_eq-Decides}
+use Rattle.rv_syntax.specs.Tree.{ProgramTree}
+use Rattle.rv_syntax.specs.Places.{Identifier, Sites, is_same, index_of}
+use Rattle.rv_types.specs.declared.typed.Kind.{Kind}
+use Rattle.rv_types.specs.Variables.{kind_bits}
+use Rattle.rv_types.specs.Lists.{Side, Variable, MainTick, Tick, Kept, Next, Input, Test, AreRising, MemoryAt, ComparisonAt, sides_of, bits, with_copies, memory_variables, input_variables, test_variables, AreVariables}
+use Rattle.rv_types.specs.Needs.{IsBefore}
+use Rattle.rv_types.specs.Kinds.{decl_kinds}
+use Rattle.rv_types.specs.Instances.{node_of}
+use Rattle.rv_flat.specs.declared.parts.Bit.{Bit}
+use Rattle.rv_flat.specs.declared.parts.Bit.TheVariants as bit
+use Rattle.rv_flat.specs.Lists.{tick_places, variable_of}
+use Rattle.rv_flat.proofs.Earliest.{not_itself}
+
+-- the first number of a place in a list that rises
+module _ (ps : List Sites) where
+  apart : AreRising ps → (j k : ℕ) → j < k → k < length ps → get_or ps j [] ≡ get_or ps k [] → ⊥
+  apart rising j k lt less e = not_itself (get_or ps k []) (subst (λ p. IsBefore p (get_or ps k [])) e (rising j k lt less))
+
+same_itself : (p : Sites) → is_same p p ≡ true
+same_itself p = (bytes_eq-Decides p p).1 refl
+
+number_apart : (ps : List Sites) → ((j k : ℕ) → j < k → k < length ps → get_or ps j [] ≡ get_or ps k [] → ⊥) → (k : ℕ) → k < length ps → index_of ps (get_or ps k []) ≡ k
+number_apart [] one k lt = absurd (omega arith)
+number_apart (p ∷ ps) one zero lt = ap (λ b. cond b 0 (index_of ps p + 1)) (same_itself p)
+number_apart (p ∷ ps) one (suc k) lt =
+    tested (is_same p (get_or ps k [])) refl
+    (number_apart ps (λ i j less within e. one (suc i) (suc j) (omega arith) (omega arith) e) k (omega arith))
+  where
+    tested : (b : Bool) → is_same p (get_or ps k []) ≡ b → index_of ps (get_or ps k []) ≡ k → cond b 0 (index_of ps (get_or ps k []) + 1) ≡ suc k
+    tested true e later = absurd (one 0 (suc k) (omega arith) lt ((bytes_eq-Decides p (get_or ps k [])).0 e))
+    tested false e later = omega (arith, later)
+
+pub number_at : (ps : List Sites) → AreRising ps → (k : ℕ) → k < length ps → index_of ps (get_or ps k []) ≡ k
+number_at ps rising k lt = number_apart ps (apart ps rising) k lt
+
+-- the flows of the ticks among some variables
+abbrev ticks_in : List Variable → List Sites
+ticks_in [] = []
+ticks_in (Tick p ∷ vs) = p ∷ ticks_in vs
+ticks_in (MainTick ∷ vs) = ticks_in vs
+ticks_in (Kept p b ∷ vs) = ticks_in vs
+ticks_in (Next ∷ vs) = ticks_in vs
+ticks_in (Input j b ∷ vs) = ticks_in vs
+ticks_in (Test p s ∷ vs) = ticks_in vs
+
+ticks_same : (bs : List Bit) → tick_places bs ≡ ticks_in (map variable_of bs)
+ticks_same [] = refl
+ticks_same (bit.Tick p ∷ bs) = ap (λ ps. p.sites ∷ ps) (ticks_same bs)
+ticks_same (bit.MainTick ∷ bs) = ticks_same bs
+ticks_same (bit.Kept p b ∷ bs) = ticks_same bs
+ticks_same (bit.Next ∷ bs) = ticks_same bs
+ticks_same (bit.Input j b ∷ bs) = ticks_same bs
+ticks_same (bit.Test p s ∷ bs) = ticks_same bs
+
+ticks-append : (vs ws : List Variable) → ticks_in (vs ++ ws) ≡ ticks_in vs ++ ticks_in ws
+ticks-append [] ws = refl
+ticks-append (Tick p ∷ vs) ws = ap (λ ps. p ∷ ps) (ticks-append vs ws)
+ticks-append (MainTick ∷ vs) ws = ticks-append vs ws
+ticks-append (Kept p b ∷ vs) ws = ticks-append vs ws
+ticks-append (Next ∷ vs) ws = ticks-append vs ws
+ticks-append (Input j b ∷ vs) ws = ticks-append vs ws
+ticks-append (Test p s ∷ vs) ws = ticks-append vs ws
+
+ticks-copies : (vs : List Variable) → ticks_in (with_copies vs) ≡ ticks_in vs
+ticks-copies [] = refl
+ticks-copies (Tick p ∷ vs) = ap (λ ps. p ∷ ps) (ticks-copies vs)
+ticks-copies (MainTick ∷ vs) = ticks-copies vs
+ticks-copies (Kept p b ∷ vs) = ticks-copies vs
+ticks-copies (Next ∷ vs) = ticks-copies vs
+ticks-copies (Input j b ∷ vs) = ticks-copies vs
+ticks-copies (Test p s ∷ vs) = ticks-copies vs
+
+ticks-map : (ps : List Sites) → ticks_in (map Tick ps) ≡ ps
+ticks-map [] = refl
+ticks-map (p ∷ ps) = ap (λ qs. p ∷ qs) (ticks-map ps)
+
+-- two lists without ticks, one after the other
+no_more : (vs ws : List Variable) → ticks_in vs ≡ [] → ticks_in ws ≡ [] → ticks_in (vs ++ ws) ≡ []
+no_more vs ws v w = ticks-append vs ws ∙ (λ i. v i ++ w i)
+
+kept_bits : (p : Sites) (n : ℕ) → ticks_in (bits (Kept p) n) ≡ []
+kept_bits p zero = refl
+kept_bits p (suc n) = no_more (bits (Kept p) n) (Kept p n ∷ []) (kept_bits p n) refl
+
+input_bits : (j n : ℕ) → ticks_in (bits (Input j) n) ≡ []
+input_bits j zero = refl
+input_bits j (suc n) = no_more (bits (Input j) n) (Input j n ∷ []) (input_bits j n) refl
+
+no_memory : (p : ProgramTree) (ms : List MemoryAt) → ticks_in (memory_variables p ms) ≡ []
+no_memory p [] = refl
+no_memory p (m ∷ ms) = no_more (bits (Kept m.place) (kind_bits p m.kind)) (memory_variables p ms) (kept_bits m.place (kind_bits p m.kind)) (no_memory p ms)
+
+no_input : (p : ProgramTree) (j : ℕ) (ks : List Kind) → ticks_in (input_variables p j ks) ≡ []
+no_input p j [] = refl
+no_input p j (k ∷ ks) = no_more (bits (Input j) (kind_bits p k)) (input_variables p (j + 1) ks) (input_bits j (kind_bits p k)) (no_input p (j + 1) ks)
+
+no_side : (p : Sites) (ss : List Side) → ticks_in (map (Test p) ss) ≡ []
+no_side p [] = refl
+no_side p (s ∷ ss) = no_side p ss
+
+no_test : (cs : List ComparisonAt) → ticks_in (test_variables cs) ≡ []
+no_test [] = refl
+no_test (c ∷ cs) = no_more (map (Test c.place) (sides_of c.operator)) (test_variables cs) (no_side c.place (sides_of c.operator)) (no_test cs)
+
+-- so they rise
+pub ticks_rising : (program : ProgramTree) (main : Identifier) (bs : List Bit) → AreVariables program main (map variable_of bs) → AreRising (tick_places bs)
+ticks_rising program main bs are = subst AreRising (sym (ticks_same bs ∙ ap ticks_in are.list ∙ all)) are.are_ticks.rising
+  where
+    all : ticks_in (with_copies (MainTick ∷ map Tick are.ticks ++ memory_variables program are.memories)
+        ++ (input_variables program 0 (decl_kinds program (node_of program main).inputs) ++ test_variables are.comparisons)) ≡ are.ticks
+    all =
+        let first = MainTick ∷ map Tick are.ticks ++ memory_variables program are.memories in
+        let later = input_variables program 0 (decl_kinds program (node_of program main).inputs) ++ test_variables are.comparisons in
+        ticks-append (with_copies first) later
+        ∙ ap (λ ps. ps ++ ticks_in later) (ticks-copies first ∙ ticks-append (MainTick ∷ map Tick are.ticks) (memory_variables program are.memories))
+        ∙ (λ i. (ticks-map are.ticks i ++ no_memory program are.memories i)
+        ++ no_more (input_variables program 0 (decl_kinds program (node_of program main).inputs)) (test_variables are.comparisons) (no_input program 0 (decl_kinds program (node_of program main).inputs)) (no_test are.comparisons) i)
+        ∙ append-nil (are.ticks ++ []) ∙ append-nil are.ticks

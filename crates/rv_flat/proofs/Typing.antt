@@ -1,0 +1,214 @@
+-- In the flat system of a well formed program each memory takes values of its type.
+use Rattle.std.proofs.Common.{◌≡◌, ℕ, zero, suc, ◌<◌, Bool, true, false, cond, List, [], ◌∷◌, length, map, get_or, refl, sym, ◌∙◌, ap, subst, arith, length-append, inl, inr}
+use Rattle.std.proofs.Common.{Option, None as Nothing, Some}
+use Rattle.std.specs.Prelude.{slice_get}
+use Rattle.std.specs.List.{Contains}
+use Rattle.std.proofs.lemmas.Bool.{ltb-true}
+use Rattle.std.proofs.lemmas.Bool.Decides.{nat_tests}
+use Rattle.std.proofs.lemmas.List.{ext_get_or, get_or-map, get_or_append_left, get_or_push}
+use Rattle.std.proofs.lemmas.Option.{slice_get_within}
+use Rattle.std.proofs.Math.ListN.{length-map}
+use Rattle.std.proofs.Math.Nat.{eq-or-lt_of_le}
+use Rattle.rv_base.specs.declared.value.Value.{Value}
+use Rattle.rv_base.specs.declared.value.Value.TheVariants.{Flag, Label, Whole}
+use Rattle.rv_syntax.specs.declared.tree.TypeDecl.{TypeDecl}
+use Rattle.rv_syntax.specs.Tree.{ProgramTree}
+use Rattle.rv_syntax.specs.Places.{Identifier, Sites, index_of}
+use Rattle.rv_types.specs.declared.typed.Kind.{Kind}
+use Rattle.rv_types.specs.declared.typed.Kind.TheVariants as kind
+use Rattle.rv_types.specs.Instances.{IsNode}
+use Rattle.rv_types.specs.Lists.{MemoryAt, AreRising, memory_at}
+use Rattle.rv_types.specs.Names.{labels_of, texts}
+use Rattle.rv_types.specs.Needs.{IsSequence}
+use Rattle.rv_types.specs.Values.{HasKind, labels_at}
+use Rattle.rv_types.specs.WellFormed.{AreWell}
+use Rattle.rv_meaning.specs.Runs.{Instant, AreStarts}
+use Rattle.rv_meaning.specs.Instants.{State as Brought, IsInstant, IsNext, AreGiven}
+use Rattle.rv_flat.specs.declared.flat.Flat.{Flat}
+use Rattle.rv_flat.specs.declared.parts.FlatMemory.{FlatMemory}
+use Rattle.rv_flat.specs.declared.state.State.{State}
+use Rattle.rv_flat.specs.FlatInstants.{Row, places, memory_places, nth_item, memory_items, value_at, IsFlatInstant, IsFlatNext}
+use Rattle.rv_flat.specs.FlatOf.{IsFlatOf, flat_state, flat_inputs, first_values, row_of, instant_of, memory_of}
+use Rattle.rv_flat.specs.Facts.{constant_fits}
+use Rattle.rv_flat.specs.Lists.{tick_places}
+use Rattle.rv_flat.specs.Steps.{IsState, AreValues, AreTaken, label_counts, memory_kinds, input_kinds}
+use Rattle.rv_flat.proofs.TickList.{number_at, ticks_rising}
+
+-- What is taken from the meaning: memories of their types stay so, and there is a state after each row.
+
+abbrev pub TypedMemories : Type 0
+TypedMemories = (program : ProgramTree) (main : Identifier) (sequence : List Sites) (state next : Brought) (inputs : ℕ → Value) (row : Instant)
+    → AreWell program → IsNode program main → IsSequence program main sequence → AreStarts program main state.kept → AreGiven program main inputs
+    → IsInstant program main state inputs row → IsNext program main state row next → AreStarts program main next.kept
+
+abbrev pub SomeNext : Type 0
+SomeNext = (program : ProgramTree) (main : Identifier) (state : Brought) (row : Instant) → AreWell program → IsNode program main → (next : Brought) × IsNext program main state row next
+
+-- the labels of the enumerations
+counted : (ds : List TypeDecl) (i : ℕ) → get_or (map (λ ls. length ls) (map (λ d. texts (labels_of d)) ds)) i 0 ≡ labels_at ds i
+counted [] i = refl
+counted (d ∷ ds) zero = length-map (labels_of d) (λ x. x.text)
+counted (d ∷ ds) (suc i) = counted ds i
+
+-- both say which values a type has
+module _ (program : ProgramTree) (counts : List ℕ) (same : (i : ℕ) → get_or counts i 0 ≡ labels_at program.types i) where
+  has_kind : (k : Kind) (v : Value) → constant_fits counts k v ≡ true → HasKind program k v
+  has_kind kind.Bool (Flag b) e = tt
+  has_kind kind.Int (Whole z) e = tt
+  has_kind (kind.Labels i) (Label l) e = let lt : l < get_or counts i 0 = ltb-true l (get_or counts i 0) e in omega (arith, same i, lt)
+  has_kind kind.Bool (Label l) e = let bad : false ≡ true = e in absurd (grind arith)
+  has_kind kind.Bool (Whole z) e = let bad : false ≡ true = e in absurd (grind arith)
+  has_kind kind.Int (Flag b) e = let bad : false ≡ true = e in absurd (grind arith)
+  has_kind kind.Int (Label l) e = let bad : false ≡ true = e in absurd (grind arith)
+  has_kind (kind.Labels i) (Flag b) e = let bad : false ≡ true = e in absurd (grind arith)
+  has_kind (kind.Labels i) (Whole z) e = let bad : false ≡ true = e in absurd (grind arith)
+
+  fits_kind : (k : Kind) (v : Value) → HasKind program k v → constant_fits counts k v ≡ true
+  fits_kind kind.Bool (Flag b) h = refl
+  fits_kind kind.Int (Whole z) h = refl
+  fits_kind (kind.Labels i) (Label l) h = let s = same i in grind (arith, nat_tests)
+  fits_kind kind.Bool (Label l) h = absurd h
+  fits_kind kind.Bool (Whole z) h = absurd h
+  fits_kind kind.Int (Flag b) h = absurd h
+  fits_kind kind.Int (Label l) h = absurd h
+  fits_kind (kind.Labels i) (Flag b) h = absurd h
+  fits_kind (kind.Labels i) (Whole z) h = absurd h
+
+-- the inputs as a function and back
+length-values : (g : ℕ → Value) (n : ℕ) → length (first_values g n) ≡ n
+length-values g zero = refl
+length-values g (suc n) = omega (arith, length-append (first_values g n) (g n ∷ []), length-values g n)
+
+value_kth : (g : ℕ → Value) (n k : ℕ) → k < n → get_or (first_values g n) k (Flag false) ≡ g k
+value_kth g zero k lt = absurd (omega arith)
+value_kth g (suc n) k lt = elim (eq-or-lt_of_le {n = k} {m = n} (omega arith)) [
+  | inl same ↦ subst (λ j. get_or (first_values g (suc n)) j (Flag false) ≡ g j) (sym same) (get_or_push (first_values g n) (g n) (Flag false) n (length-values g n))
+  | inr below ↦ get_or_append_left (first_values g n) (g n ∷ []) (Flag false) k (omega (arith, length-values g n)) ∙ value_kth g n k below
+]
+
+-- a memory by its place and type, at a number
+memory_kth : (ms : List FlatMemory) (m : ℕ) (j : Kind) → slice_get (map (λ x. x.kind) ms) m ≡ Some j
+    → Contains (map memory_of ms) (record { place = get_or (map (λ x. x.place.sites) ms) m []; kind = j })
+memory_kth [] m j e = absurd (grind arith)
+memory_kth (x ∷ ms) zero j e = let same : x.kind ≡ j = grind arith in (0, omega arith, λ i. record { place = x.place.sites; kind = same i })
+memory_kth (x ∷ ms) (suc m) j e = let w = memory_kth ms m j e in (suc w.0, omega (arith, w.1), w.2)
+
+-- and back
+memory_found : (ms : List FlatMemory) (a : MemoryAt) → Contains (map memory_of ms) a
+    → (m : ℕ) × (m < length ms) × (slice_get (map (λ x. x.kind) ms) m ≡ Some a.kind) × (get_or (map (λ x. x.place.sites) ms) m [] ≡ a.place)
+memory_found [] a w = absurd (let lt = w.1 in omega (arith, lt))
+memory_found (x ∷ ms) a (zero, lt, is) = (0, omega arith, ap (λ (b : MemoryAt). Some b.kind) is, ap (λ (b : MemoryAt). b.place) is)
+memory_found (x ∷ ms) a (suc k, lt, is) = let r = memory_found ms a (k, omega arith, is) in (suc r.0, omega (arith, r.1), r.2, r.3)
+
+places_same : (ms : List FlatMemory) → map (λ (a : MemoryAt). a.place) (map memory_of ms) ≡ map (λ m. m.place.sites) ms
+places_same [] = refl
+places_same (x ∷ ms) = ap (λ ps. x.place.sites ∷ ps) (places_same ms)
+
+-- the number of a tick, by the flow of its clock
+abbrev tick_number : List Sites → Option Sites → ℕ
+tick_number ps Nothing = 0
+tick_number ps (Some p) = suc (index_of ps p)
+
+tick_value : (ticked : List Bool) (ps : List Sites) → AreRising ps → (k : ℕ) → k < suc (length ps)
+    → get_or (map (λ o. get_or ticked (tick_number ps o) false) (Nothing ∷ map (λ p. Some p) ps)) k false ≡ get_or ticked k false
+tick_value ticked ps rising zero lt = refl
+tick_value ticked ps rising (suc k) lt =
+    let g : Option Sites → Bool = λ o. get_or ticked (tick_number ps o) false in
+    let less : k < length ps = omega arith in
+    let long : length (map (λ (p : Sites). Some p) ps) ≡ length ps = length-map ps (λ p. Some p) in
+    get_or-map g (map (λ p. Some p) ps) k Nothing false (omega (arith, long))
+    ∙ ap g (get_or-map (λ (p : Sites). Some p) ps k [] Nothing less)
+    ∙ ap (λ j. get_or ticked (suc j) false) (number_at ps rising k less)
+
+module _ (typed_memories : TypedMemories) (some_next : SomeNext) (program : ProgramTree) (main : Identifier) (f : Flat) (now : State) (inputs : List Value) (row : Row)
+    (well : AreWell program) (named : IsNode program main) (flat : IsFlatOf program main f) (state : IsState f now) (given : AreValues f (input_kinds f) inputs)
+    (instant : IsFlatInstant f now inputs row) where
+  abbrev ticks : List Sites
+  ticks = tick_places f.variables
+
+  abbrev kept_places : List Sites
+  kept_places = memory_places f
+
+  memories_rising : AreRising kept_places
+  memories_rising = subst AreRising (places_same f.memories) flat.memories.rising
+
+  counts_same : (i : ℕ) → get_or (label_counts f) i 0 ≡ labels_at program.types i
+  counts_same i = ap (λ ls. get_or (map (λ l. length l) ls) i 0) flat.labels ∙ counted program.types i
+
+  -- the state and the inputs, as the program has them
+  abbrev brought : Brought
+  brought = record { ticked = λ o. get_or now.ticked (tick_number ticks o) false; kept = λ p. get_or now.kept (index_of kept_places p) (Flag false) }
+
+  abbrev given_at : ℕ → Value
+  given_at j = get_or inputs j (Flag false)
+
+  count : length kept_places ≡ length f.memories
+  count = length-map f.memories (λ m. m.place.sites)
+
+  state_same : flat_state f brought ≡ now
+  state_same =
+      let clocks = length-map ticks (λ (p : Sites). Some (index_of (places f) p)) in
+      let firsts = length-map ticks (λ (p : Sites). Some p) in
+      let long_ticks : length (flat_state f brought).ticked ≡ suc (length ticks) = length-map (Nothing ∷ map (λ p. Some p) ticks) brought.ticked ∙ omega (arith, firsts) in
+      let ticked = ext_get_or false (flat_state f brought).ticked now.ticked (omega (arith, long_ticks, clocks, state.ticks))
+      (λ k lt. tick_value now.ticked ticks (ticks_rising program main f.variables flat.variables) k (omega (arith, long_ticks))) in
+      let long : length (flat_state f brought).kept ≡ length kept_places = length-map kept_places brought.kept in
+      let kept = ext_get_or (Flag false) (flat_state f brought).kept now.kept (omega (arith, long, count, state.kept.size, length-map f.memories (λ m. m.kind)))
+      (λ m lt. let less : m < length kept_places = omega (arith, long) in
+      get_or-map brought.kept kept_places m [] (Flag false) less ∙ ap (λ j. get_or now.kept j (Flag false)) (number_at kept_places memories_rising m less)) in
+      λ i. record { ticked = ticked i; kept = kept i }
+
+  inputs_same : flat_inputs f given_at ≡ inputs
+  inputs_same =
+      let long = length-values given_at (length f.inputs) in
+      ext_get_or (Flag false) (flat_inputs f given_at) inputs (omega (arith, long, given.size, length-map f.inputs (λ j. j.kind)))
+      (λ k lt. value_kth given_at (length f.inputs) k (omega (arith, long)))
+
+  program_instant : IsInstant program main brought given_at (instant_of (places f) row)
+  program_instant =
+      flat.rows brought given_at row (subst (λ s. IsFlatInstant f s (flat_inputs f given_at) row) (sym state_same) (subst (λ js. IsFlatInstant f now js row) (sym inputs_same) instant))
+
+  abbrev next : Brought
+  next = (some_next program main brought (instant_of (places f) row) well named).0
+
+  flat_next : IsFlatNext f now inputs row (flat_state f next)
+  flat_next =
+      let is = flat.next brought next given_at (instant_of (places f) row) program_instant (some_next program main brought (instant_of (places f) row) well named).1 in
+      subst (λ r. IsFlatNext f now inputs r (flat_state f next)) (flat.kept row instant.flows)
+      (subst (λ js. IsFlatNext f now js (row_of (places f) (instant_of (places f) row)) (flat_state f next)) inputs_same
+      (subst (λ s. IsFlatNext f s (flat_inputs f given_at) (row_of (places f) (instant_of (places f) row)) (flat_state f next)) state_same is))
+
+  starts_typed : AreStarts program main brought.kept
+  starts_typed i d inst w =
+      let at = memory_at program i d in
+      let found = memory_found f.memories at (flat.memories.all i d inst tt w) in
+      let number : index_of kept_places at.place ≡ found.0 = ap (index_of kept_places) (sym found.3) ∙ number_at kept_places memories_rising found.0 (omega (arith, count, found.1)) in
+      let value : get_or now.kept found.0 (Flag false) ≡ brought.kept at.place = ap (λ j. get_or now.kept j (Flag false)) (sym number) in
+      subst (HasKind program at.kind) value
+      (has_kind program (label_counts f) counts_same at.kind (get_or now.kept found.0 (Flag false))
+      (state.kept.typed found.0 at.kind (slice_get_within (memory_kinds f) found.0 at.kind found.2) found.2))
+
+  given_typed : AreGiven program main given_at
+  given_typed j k e =
+      let is : slice_get (input_kinds f) j ≡ Some k = ap (λ ks. slice_get ks j) flat.input_kinds ∙ e in
+      has_kind program (label_counts f) counts_same k (given_at j) (given.typed j k (slice_get_within (input_kinds f) j k is) is)
+
+  next_typed : AreStarts program main next.kept
+  next_typed =
+      typed_memories program main (places f) brought next given_at (instant_of (places f) row) well named flat.sequence starts_typed given_typed program_instant
+      (some_next program main brought (instant_of (places f) row) well named).1
+
+  pub memories_taken : AreTaken f now inputs row
+  memories_taken m j lt e on =
+      let found = flat.memories.only (record { place = get_or kept_places m []; kind = j }) (memory_kth f.memories m j e) in
+      let item = nth_item (memory_items f) m in
+      let value : next.kept (get_or kept_places m []) ≡ value_at now inputs row item.body =
+      sym (get_or-map next.kept kept_places m [] (Flag false) (omega (arith, count)))
+      ∙ flat_next.kept m lt
+      ∙ ap (λ b. cond b (value_at now inputs row item.body) (get_or now.kept m (Flag false))) on in
+      let place : get_or kept_places m [] ≡ (memory_at program found.0 found.1).place = ap (λ (a : MemoryAt). a.place) found.5 in
+      let kind : j ≡ (memory_at program found.0 found.1).kind = ap (λ (a : MemoryAt). a.kind) found.5 in
+      let typed : HasKind program j (next.kept (get_or kept_places m [])) =
+      subst (λ q. HasKind program j (next.kept q)) (sym place) (subst (λ k. HasKind program k (next.kept (memory_at program found.0 found.1).place)) (sym kind)
+      (next_typed found.0 found.1 found.2 found.4)) in
+      fits_kind program (label_counts f) counts_same j (value_at now inputs row item.body) (subst (HasKind program j) value typed)

@@ -1,0 +1,39 @@
+-- What one instant gives, flow by flow, memory by memory and tick by tick.
+use Rattle.std.specs.Prelude.{◌≡◌, ℕ, ◌+◌, ◌<◌, Bool, false, not, ◌||◌, cond, List, [], ◌∷◌, map, length, Option, Some, slice_index_or}
+use Rattle.std.specs.Prelude.{None as Nothing}
+use Rattle.rv_base.specs.declared.value.Value.{Value}
+use Rattle.rv_base.specs.declared.value.Value.TheVariants.{Flag}
+use Rattle.rv_syntax.specs.Places.{Sites, index_of}
+use Rattle.rv_meaning.specs.Meaning.{is_true}
+use Rattle.rv_flat.specs.declared.flat.Flat.{Flat}
+use Rattle.rv_flat.specs.declared.state.State.{State}
+use Rattle.rv_flat.specs.FlatInstants.{Row, nth, is_on_at, nth_item, flow_items, memory_items, value_at}
+use Rattle.rv_flat.specs.FlatTree.{flat_tree}
+use Rattle.rv_flat.specs.FlatOf.{no_assertion}
+
+-- The row of the first flows, as many as are said: each has what its expression has where its clock is there, and is absent
+-- elsewhere.
+pub record IsFilled (f : Flat) (now : State) (inputs : List Value) (n : ℕ) (row : Row) : Type 0 where
+  pub flows : length row ≡ n
+  pub holds : (k : ℕ) → k < n
+      → nth row k ≡ cond (is_on_at row (nth_item (flow_items f) k).clock) (Some (value_at now inputs row (nth_item (flow_items f) k).body)) Nothing
+
+-- What the first memories, as many as are said, hold after an instant.
+pub record IsKept (f : Flat) (now : State) (inputs : List Value) (row : Row) (n : ℕ) (kept : List Value) : Type 0 where
+  pub memories : length kept ≡ n
+  pub holds : (m : ℕ) → m < n
+      → slice_index_or kept m (Flag false)
+      ≡ cond (is_on_at row (nth_item (memory_items f) m).clock) (value_at now inputs row (nth_item (memory_items f) m).body) (slice_index_or now.kept m (Flag false))
+
+-- the numbers of the flows at some places
+abbrev pub clocks_of : List Sites → List Sites → List (Option ℕ)
+clocks_of places ps = map (λ p. Some (index_of places p)) ps
+
+-- which of these ticks, numbered from a number on, have been there after an instant
+abbrev pub ticks_from : Row → List Bool → ℕ → List (Option ℕ) → List Bool
+ticks_from row ticked k [] = []
+ticks_from row ticked k (c ∷ cs) = (slice_index_or ticked k false || is_on_at row c) ∷ ticks_from row ticked (k + 1) cs
+
+-- whether the assertion with a number is false
+abbrev pub is_broken : Flat → State → List Value → Row → ℕ → Bool
+is_broken f now inputs row k = not (is_true (value_at now inputs row (slice_index_or (map flat_tree f.assertions) k no_assertion)))

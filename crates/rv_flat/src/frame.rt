@@ -1,0 +1,14 @@
+//! What an instance is read with while its expressions are made flat.
+
+use crate::numbering::Numbering;
+use rv_causality::{Expanded, Reader};
+use rv_types::NamedValues;
+
+/// An instance, what its names stand for, and the numbers of flows, ticks and memories.
+#[derive(Drop)]
+pub struct Frame<'a, 'b> {
+    pub expanded: &'b Expanded<'a, 'b>,
+    pub reader: Reader<'a, 'b>,
+    pub values: &'b NamedValues<'b>,
+    pub numbering: &'b Numbering,
+}

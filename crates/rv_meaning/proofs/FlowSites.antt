@@ -1,0 +1,117 @@
+-- Flows by their sites: their names, types and clocks.
+use Rattle.std.proofs.Common.{◌≡◌, ℕ, zero, suc, ◌+◌, ◌<◌, Bool, true, false, cond, List, [], ◌∷◌, ◌++◌, map, length, get_or, refl, sym, ◌∙◌, ap, arith, Some, slice_get, length-append, zero-add}
+use Rattle.std.proofs.lemmas.List.{length-map, get_or_append_left, get_or-append-add, get_or_default, append_assoc}
+use Rattle.std.proofs.lemmas.Option.{none-some, slice_get_within}
+use Rattle.std.specs.List.{Contains}
+use Rattle.rv_syntax.specs.declared.tree.Decl.{Decl}
+use Rattle.rv_syntax.specs.Tree.{NodeTree, ProgramTree}
+use Rattle.rv_syntax.specs.Places.{Identifier, names, flows, is_same, index_of, site_of}
+use Rattle.rv_types.specs.declared.typed.Kind.{Kind}
+use Rattle.rv_types.specs.declared.typed.Clock.TheVariants.{Base}
+use Rattle.rv_types.specs.Kinds.{kind_in_program, decl_kinds, flow_kinds, flow_kind}
+use Rattle.rv_types.specs.Clocks.{base_clock, declared_clock, clock_at}
+use Rattle.rv_types.specs.Instances.{Instance, IsInstance, IsNode}
+use Rattle.rv_types.specs.WellFormed.{AreWell}
+use Rattle.rv_meaning.proofs.Rows.{no_flag}
+use Rattle.rv_meaning.proofs.NameLemmas.{none_in, in_rest, same_text, text_itself, contains_tail}
+use Rattle.rv_meaning.proofs.Defined.{site_is}
+
+-- what stands in the first part of a list is found there first
+pub index_first : (xs ys : List Identifier) (x : Identifier) → Contains xs x → index_of (xs ++ ys) x < length xs
+index_first [] ys x w = absurd (none_in x w)
+index_first (y ∷ xs) ys x w = tested (is_same y x) refl (index_first xs ys x)
+  where
+    tested : (b : Bool) → is_same y x ≡ b → (Contains xs x → index_of (xs ++ ys) x < length xs) → cond b 0 (index_of (xs ++ ys) x + 1) < length (y ∷ xs)
+    tested true e again = omega arith
+    tested false e again = let lt = again (in_rest y xs x (λ is. no_flag (sym e ∙ ap (λ z. is_same z x) is ∙ text_itself x)) w) in omega arith
+
+-- what is found within a list is there
+index_within : (xs : List Identifier) (x : Identifier) → index_of xs x < length xs → Contains xs x
+index_within [] x lt = absurd (omega arith)
+index_within (y ∷ xs) x lt = tested (is_same y x) refl lt (index_within xs x)
+  where
+    tested : (b : Bool) → is_same y x ≡ b → cond b 0 (index_of xs x + 1) < length (y ∷ xs) → (index_of xs x < length xs → Contains xs x) → Contains (y ∷ xs) x
+    tested true e less again = (0, omega arith, same_text y x e)
+    tested false e less again = contains_tail y xs x (again (omega arith))
+
+-- an element of the first part of a list, by a function
+kept_by : {A B : Type 0} (f : A → B) (xs ys : List A) (j : ℕ) (k : B) → slice_get (map f xs) j ≡ Some k → slice_get (map f (xs ++ ys)) j ≡ Some k
+kept_by f [] ys j k e = absurd (none-some k e)
+kept_by f (x ∷ xs) ys zero k e = e
+kept_by f (x ∷ xs) ys (suc j) k e = kept_by f xs ys j k e
+
+-- one of the second
+shifted_by : {A B : Type 0} (f : A → B) (xs ys : List A) (j : ℕ) → slice_get (map f (xs ++ ys)) (length xs + j) ≡ slice_get (map f ys) j
+shifted_by f [] ys j = ap (slice_get (map f ys)) (zero-add j)
+shifted_by f (x ∷ xs) ys j =
+    let next : length (x ∷ xs) + j ≡ suc (length xs + j) = omega arith in
+    ap (slice_get (map f (x ∷ xs ++ ys))) next ∙ shifted_by f xs ys j
+
+-- flows without a declared clock are on the base clock
+all_base : (ds : List Decl) (j : ℕ) → get_or (map base_clock ds) j Base ≡ Base
+all_base [] zero = refl
+all_base [] (suc j) = refl
+all_base (d ∷ ds) zero = refl
+all_base (d ∷ ds) (suc j) = all_base ds j
+
+module _ (n : NodeTree) where
+  -- an output is on the base clock
+  pub output_base : (j : ℕ) → j < length n.outputs → clock_at n (length n.inputs + j) ≡ Base
+  output_base j lt =
+      let ins : length (map base_clock n.inputs) ≡ length n.inputs = length-map n.inputs base_clock in
+      let outs : length (map base_clock n.outputs) ≡ length n.outputs = length-map n.outputs base_clock in
+      let long : length (map base_clock n.inputs ++ map base_clock n.outputs) ≡ length (map base_clock n.inputs) + length (map base_clock n.outputs) = length-append (map base_clock n.inputs) (map base_clock n.outputs) in
+      let within : length n.inputs + j < length (map base_clock n.inputs ++ map base_clock n.outputs) = omega arith in
+      get_or_append_left (map base_clock n.inputs ++ map base_clock n.outputs) (map (λ d. declared_clock n d.clock) n.locals) Base (length n.inputs + j) within
+      ∙ ap (λ l. get_or (map base_clock n.inputs ++ map base_clock n.outputs) (l + j) Base) (sym ins)
+      ∙ get_or-append-add (map base_clock n.inputs) (map base_clock n.outputs) j Base
+      ∙ all_base n.outputs j
+
+  -- the site of an input is below their number
+  pub input_within : (x : Identifier) → Contains (names n.inputs) x → site_of n x < length n.inputs
+  input_within x w =
+      let whole : names n.inputs ++ names n.outputs ++ names n.locals ≡ names n.inputs ++ (names n.outputs ++ names n.locals) = append_assoc (names n.inputs) (names n.outputs) (names n.locals) in
+      let found : site_of n x ≡ index_of (names n.inputs ++ (names n.outputs ++ names n.locals)) x = ap (λ xs. index_of xs x) whole in
+      omega (arith, index_first (names n.inputs) (names n.outputs ++ names n.locals) x w, found, length-map n.inputs (λ d. d.name.text))
+
+module _ (program : ProgramTree) (n : NodeTree) where
+  -- there is a type for each flow
+  pub kinds_many : length (flow_kinds program n) ≡ length (flows n)
+  kinds_many = simp (length-append, length-map)
+
+  -- what has a type as a flow is one
+  pub flow_there : (x : Identifier) (k : Kind) → flow_kind program n x ≡ Some k → Contains (flows n) x
+  flow_there x k e = let lt = slice_get_within (flow_kinds program n) (site_of n x) k e in index_within (flows n) x (omega (arith, kinds_many))
+
+  -- the type of an input is that of a flow
+  pub input_kind : (j : ℕ) (k : Kind) → slice_get (decl_kinds program n.inputs) j ≡ Some k → slice_get (flow_kinds program n) j ≡ Some k
+  input_kind j k e =
+      kept_by (λ d. kind_in_program program d.kind) (n.inputs ++ n.outputs) n.locals j k
+      (kept_by (λ d. kind_in_program program d.kind) n.inputs n.outputs j k e)
+
+  -- and so is that of an output
+  pub output_kind : (j : ℕ) (k : Kind) → slice_get (decl_kinds program n.outputs) j ≡ Some k → slice_get (flow_kinds program n) (length n.inputs + j) ≡ Some k
+  output_kind j k e =
+      kept_by (λ d. kind_in_program program d.kind) (n.inputs ++ n.outputs) n.locals (length n.inputs + j) k
+      (shifted_by (λ d. kind_in_program program d.kind) n.inputs n.outputs j ∙ e)
+
+-- A flow of this site and type.
+pub record FlowAt (program : ProgramTree) (n : NodeTree) (s : ℕ) (k : Kind) : Type 0 where
+  pub name : Identifier
+  pub within : Contains (flows n) name
+  pub site : site_of n name ≡ s
+  pub kind : flow_kind program n name ≡ Some k
+
+-- each site with a type is that of a flow
+pub flow_at : (program : ProgramTree) (main : Identifier) → AreWell program → IsNode program main → (i : Instance) → IsInstance program main i
+    → (s : ℕ) (k : Kind) → slice_get (flow_kinds program i.node) s ≡ Some k → FlowAt program i.node s k
+flow_at program main well is_node i inst s k e =
+    let lt = slice_get_within (flow_kinds program i.node) s k e in
+    let less : s < length (flows i.node) = omega (arith, kinds_many program i.node) in
+    let at = site_is program main well is_node i inst (get_or (flows i.node) s []) s less refl in
+    record {
+      name = get_or (flows i.node) s [];
+      within = (s, less, get_or_default (flows i.node) s (get_or (flows i.node) s []) [] less);
+      site = at;
+      kind = ap (slice_get (flow_kinds program i.node)) at ∙ e;
+    }

@@ -1,0 +1,90 @@
+-- A history brings a state to each instant, where each `pre` and `current` of a node has a site of its own. Without that
+-- two memories with different values could have one place, and no state would hold both.
+use Rattle.std.proofs.Common.{◌≡◌, ℕ, ◌<◌, Bool, true, false, cond, nat_eq, List, [], ◌∷◌, ◌++◌, length, get_or, refl, sym, ◌∙◌, ap, arith, ◌⊎◌, inl, inr, Option, Some, unwrap_or, ◌||◌}
+use Rattle.std.proofs.Common.{None as Nothing}
+use Rattle.std.proofs.lemmas.List.{append_assoc}
+use Rattle.std.specs.List.{Contains}
+use Rattle.rv_base.specs.declared.value.Value.{Value}
+use Rattle.rv_base.specs.declared.value.Value.TheVariants.{Flag}
+use Rattle.rv_syntax.specs.Tree.{Tree, Node, Named, NodeTree, ProgramTree}
+use Rattle.rv_syntax.specs.Places.{Identifier, Sites, flows, site_of, is_same, is_among, is_flow, memory_site}
+use Rattle.rv_syntax.specs.Delays.{Delay, node_delays, IsNumbered}
+use Rattle.rv_types.specs.declared.typed.Clock.TheVariants.{Base}
+use Rattle.rv_types.specs.Instances.{CallTree, calls, Instance, clock_in, main_instance, callee, IsInstance, is_main, is_callee, IsNode}
+use Rattle.rv_types.specs.WellFormed.{AreWell}
+use Rattle.rv_meaning.specs.Meaning.{Cells, was_there, last_before, kept_place, content}
+use Rattle.rv_meaning.specs.Instants.{State}
+use Rattle.rv_meaning.specs.Following.{held_before, IsStateAt}
+use Rattle.rv_meaning.proofs.Acceptable.{node_in, formed}
+use Rattle.rv_meaning.proofs.NameLemmas.{same_text, index_at, contains_head, contains_tail, contains_cases, none_in}
+use Rattle.rv_meaning.proofs.Rows.{no_flag}
+
+module _ {X : Type 0} (key : X → ℕ) where
+  -- the first of some that has a number
+  abbrev pub first_with : List X → ℕ → Option X
+  first_with [] s = Nothing
+  first_with (x ∷ xs) s = cond (nat_eq (key x) s) (Some x) (first_with xs s)
+
+  -- it is found where one has the number
+  pub found : (xs : List X) (x : X) → Contains xs x → (y : X) × (first_with xs (key x) ≡ Some y) × Contains xs y × (key y ≡ key x)
+  found [] x w = absurd (none_in x w)
+  found (z ∷ xs) x w = tested (nat_eq (key z) (key x)) refl (found xs x)
+    where
+      tested : (b : Bool) → nat_eq (key z) (key x) ≡ b → (Contains xs x → (y : X) × (first_with xs (key x) ≡ Some y) × Contains xs y × (key y ≡ key x)) → (y : X) × (cond b (Some z) (first_with xs (key x)) ≡ Some y) × Contains (z ∷ xs) y × (key y ≡ key x)
+      tested true e again = (z, refl, contains_head z xs, grind arith)
+      tested false e again =
+          let other : z ≡ x → ⊥ = λ is. let same : key z ≡ key x = ap key is in grind arith in
+          elim (contains_cases z xs x w) [
+            | inl is ↦ absurd (other is)
+            | inr later ↦ let r = again later in (r.0, r.1, contains_tail z xs r.0 r.2, r.3)
+          ]
+
+-- a name that is among some is one of them
+pub among : (xs : List Identifier) (x : Identifier) → is_among xs x ≡ true → Contains xs x
+among [] x e = absurd (no_flag e)
+among (y ∷ ys) x e = tested (is_same y x) refl e (among ys x)
+  where
+    tested : (b : Bool) → is_same y x ≡ b → (b || is_among ys x) ≡ true → (is_among ys x ≡ true → Contains ys x) → Contains (y ∷ ys) x
+    tested true is e again = (0, omega arith, same_text y x is)
+    tested false is e again = contains_tail y ys x (again e)
+
+-- the operand is a flow of this name
+abbrev pub IsName : NodeTree → Tree → Identifier → Type 0
+IsName n e x = (at : ℕ) × (s : Option ℕ) × (e ≡ Node at s (Named x)) × (is_flow n x ≡ true)
+
+-- a memory has the site of its flow or its own
+pub memory_of_either : (n : NodeTree) (site : Option ℕ) (e : Tree) → ((x : Identifier) × IsName n e x × (memory_site n site e ≡ site_of n x)) ⊎ (memory_site n site e ≡ unwrap_or site 0)
+memory_of_either n site (Node at s (Named x)) = tested (is_flow n x) refl
+  where
+    tested : (b : Bool) → is_flow n x ≡ b → ((y : Identifier) × IsName n (Node at s (Named x)) y × (cond b (site_of n x) (unwrap_or site 0) ≡ site_of n y)) ⊎ (cond b (site_of n x) (unwrap_or site 0) ≡ unwrap_or site 0)
+    tested true is = inl (x, (at, s, refl, is), refl)
+    tested false is = inr refl
+memory_of_either n site (Node at s _) = inr refl
+
+module _ (n : NodeTree) (numbered : IsNumbered n) where
+  -- the site of a flow is one of the first
+  flow_site : (x : Identifier) → is_flow n x ≡ true → site_of n x < length (flows n)
+  flow_site x is = (index_at (flows n) x (among (flows n) x is)).0
+
+  -- and that of no other
+  pub same_flow_site : (x y : Identifier) → is_flow n x ≡ true → is_flow n y ≡ true → site_of n x ≡ site_of n y → x ≡ y
+  same_flow_site x y p q e =
+      let first = (index_at (flows n) x (among (flows n) x p)).1 in
+      let second = (index_at (flows n) y (among (flows n) y q)).1 in
+      sym first ∙ ap (λ k. get_or (flows n) k []) e ∙ second
+
+  -- no memory with a site of its own has that of a flow
+  pub own_beyond : (d : Delay) → Contains (node_delays n) d → (x : Identifier) → is_flow n x ≡ true → site_of n x ≡ unwrap_or d.site 0 → ⊥
+  own_beyond d w x is e =
+      let s = numbered.beyond d w in
+      let low = flow_site x is in
+      let own : unwrap_or d.site 0 ≡ s.0 = ap (λ o. unwrap_or o 0) s.1 in
+      omega (arith, s.2)
+
+  -- a site of its own belongs to one memory
+  pub same_own : (d e : Delay) → Contains (node_delays n) d → Contains (node_delays n) e → unwrap_or d.site 0 ≡ unwrap_or e.site 0 → d ≡ e
+  same_own d e w v is =
+      let s = numbered.beyond d w in
+      let r = numbered.beyond e v in
+      let same : s.0 ≡ r.0 = sym (ap (λ o. unwrap_or o 0) s.1) ∙ is ∙ ap (λ o. unwrap_or o 0) r.1 in
+      numbered.own d e w v (s.1 ∙ ap Some same ∙ sym r.1)

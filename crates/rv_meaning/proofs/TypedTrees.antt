@@ -1,0 +1,203 @@
+-- What an expression of an instance has in a row has its type, where its clock is there and the flows that it needs have
+-- theirs.
+use Rattle.std.proofs.Common.{◌≡◌, ℕ, ◌+◌, ◌<◌, ◌↔◌, pos, Bool, true, false, not, ◌||◌, cond, unwrap_or, List, [], ◌∷◌, ◌++◌, refl, sym, ◌∙◌, ap, subst, arith, Option, Some, IsSome, slice_get, length}
+use Rattle.std.proofs.Common.{None as Nothing}
+use Rattle.std.proofs.lemmas.List.{append_assoc, length-map}
+use Rattle.std.proofs.lemmas.Option.{none-some, same_Some, cond_some, slice_get_within}
+use Rattle.std.specs.List.{All, Contains}
+use Rattle.std.specs.Option.{option_map}
+use Rattle.rv_base.specs.declared.value.Value.{Value}
+use Rattle.rv_base.specs.declared.value.Value.TheVariants.{Flag, Whole}
+use Rattle.rv_syntax.specs.Tree.{Tree, Node, Form, True, False, Number, Named, Not, Minus, Pre, Current, When, Binary, If, AtMostOne, Call, ProgramTree}
+use Rattle.rv_syntax.specs.Places.{Identifier, Sites, flows, is_flow, site_of}
+use Rattle.rv_syntax.specs.Delays.{node_delays}
+use Rattle.rv_types.specs.declared.typed.Kind.{Kind}
+use Rattle.rv_types.specs.declared.typed.Kind.TheVariants as kind
+use Rattle.rv_types.specs.declared.typed.Clock.{Clock}
+use Rattle.rv_types.specs.declared.typed.Clock.TheVariants.{Base}
+use Rattle.rv_types.specs.declared.fault.Pace.TheVariants.{Free, At}
+use Rattle.rv_types.specs.declared.fault.Verdict.TheVariants.{Has, Silent, Clashes}
+use Rattle.rv_types.specs.Clocks.{pace, pace_of_all, seen, meet, form_pace, clock_at}
+use Rattle.rv_types.specs.Kinds.{kind_in_program, decl_kinds, flow_kind, node_named}
+use Rattle.rv_types.specs.Types.{kind_in, same_kind, one_of, where_met, memory_rule, not_rule, minus_rule, when_rule, if_rule, binary_rule, all_typed, all_suit, fit, sole, call_of, is_constant, form_verdict, kinds_of_all, kind_of}
+use Rattle.rv_types.specs.Scopes.{constant_kind, constant_value, signature_of, signature_named, node_scope}
+use Rattle.rv_types.specs.Values.{HasKind, operand_kind}
+use Rattle.rv_types.specs.Instances.{CallTree, calls, clock_of, clock_taken, clock_in, clock_of_arguments, Instance, place, absolute, no_node, node_of, callee, IsInstance, is_callee, output_place, IsNode}
+use Rattle.rv_types.specs.Needs.{flow_of, needs, form_needs}
+use Rattle.rv_types.specs.WellFormed.{Suits, AreWell}
+use Rattle.rv_meaning.specs.Meaning.{is_true, held, is_on, kept_place}
+use Rattle.rv_meaning.specs.Runs.{Instant, cell, AreStarts}
+use Rattle.rv_meaning.specs.Instants.{State, is_on_in, now, form_now, value_now}
+use Rattle.rv_meaning.proofs.Rows.{no_flag}
+use Rattle.rv_meaning.proofs.Local.{all_left, all_right}
+use Rattle.rv_meaning.proofs.Suiting.{suits_both, suits_parts, ground_taken, taken_suits, suits_operands, suits_current, suits_when}
+use Rattle.rv_meaning.proofs.TypedOperators.{met_kind, one_kind, two_kinds, three_kinds, flag_typed, whole_typed, operator_typed, if_typed}
+use Rattle.rv_meaning.proofs.Standing.{Stands, pre_operand, current_operand, when_operand, left_operand, right_operand, then_part, else_part, own_call}
+use Rattle.rv_meaning.proofs.FlowSites.{flow_there, output_base, output_kind, FlowAt, flow_at}
+
+-- a flow that is there has the value that it holds
+pub some_held : (o : Option Value) → IsSome o → o ≡ Some (held o)
+some_held Nothing h = absurd (no_flag h)
+some_held (Some v) h = refl
+
+-- a flow that is true is there
+on_some : (o : Option Value) → is_on o ≡ true → IsSome o
+on_some Nothing h = absurd (no_flag h)
+on_some (Some v) h = refl
+
+-- what has a type by the rule of all operands is Boolean
+pub all_kind : (typed met : Bool) (k : Kind) → kind_in (cond typed (where_met met kind.Bool) Silent) ≡ Some k → kind.Bool ≡ k
+all_kind true met k e = (met_kind met kind.Bool k e).1
+all_kind false met k e = absurd (none-some k e)
+
+-- a call that has a type has one output, of that type
+pub sole_output : (typed fits : Bool) (gives : List Kind) (k : Kind) → kind_in (cond typed (cond fits (sole gives) Clashes) Silent) ≡ Some k → slice_get gives 0 ≡ Some k
+sole_output true true [] k e = absurd (none-some k e)
+sole_output true true (j ∷ []) k e = e
+sole_output true true (j ∷ i ∷ ks) k e = absurd (none-some k e)
+sole_output true false gives k e = absurd (none-some k e)
+sole_output false fits gives k e = absurd (none-some k e)
+
+-- the type of a call is that of the first output of its node
+pub call_kind : (program : ProgramTree) (f : Identifier) (ks : List (Option Kind)) (k : Kind) → kind_in (call_of true (signature_named program f) ks) ≡ Some k
+    → slice_get (decl_kinds program (node_of program f).outputs) 0 ≡ Some k
+call_kind program f ks k e = elim (node_named program f)
+    as (λ m. kind_in (call_of true (option_map (signature_of program) m) ks) ≡ Some k → slice_get (decl_kinds program (unwrap_or m no_node).outputs) 0 ≡ Some k) [
+      | Nothing ↦ λ e. absurd (none-some k e)
+      | Some m ↦ λ e. sole_output (all_typed ks) (fit (decl_kinds program m.inputs) ks) (decl_kinds program m.outputs) k e
+    ] e
+
+module _ (program : ProgramTree) (main : Identifier) (row : Instant) where
+  -- what the flow at a place has is of its type
+  abbrev pub TypedAt : Sites → Type 0
+  TypedAt p = (i : Instance) (x : Identifier) (k : Kind) (v : Value) → IsInstance program main i → Contains (flows i.node) x → p ≡ place i x
+      → flow_kind program i.node x ≡ Some k → cell row p ≡ Some v → HasKind program k v
+
+  -- each flow is there exactly where its clock is
+  abbrev pub AreOnClock : Type 0
+  AreOnClock = (i : Instance) (x : Identifier) → IsInstance program main i → Contains (flows i.node) x
+      → IsSome (cell row (place i x)) ↔ (is_on_in row (absolute i (clock_of i.node x)) ≡ true)
+
+  -- so a flow whose clock is there holds a value of its type
+  pub flow_typed : AreOnClock → (i : Instance) (x : Identifier) (k : Kind) (p : Sites) → IsInstance program main i → Contains (flows i.node) x → p ≡ place i x
+      → flow_kind program i.node x ≡ Some k → is_on_in row (absolute i (clock_of i.node x)) ≡ true → TypedAt p → HasKind program k (held (cell row p))
+  flow_typed clocked i x k p inst w is e on known =
+      let there : IsSome (cell row p) = subst (λ q. IsSome (cell row q)) (sym is) ((clocked i x inst w).1 on) in
+      known i x k (held (cell row p)) inst w is e (some_held (cell row p) there)
+
+module _ (program : ProgramTree) (main : Identifier) (well : AreWell program) (is_node : IsNode program main) (row : Instant) (clocked : AreOnClock program main row) where
+  -- an output of a call whose arguments' clock is there holds a value of its type
+  pub output_typed : (i : Instance) → IsInstance program main i → (c : CallTree) (j : ℕ) (k : Kind) → Contains (calls i.node) c → slice_get (decl_kinds program (node_of program c.name).outputs) j ≡ Some k
+      → is_on_in row (absolute i (clock_of_arguments i c.args)) ≡ true → TypedAt program main row (output_place program i c.site c.name j)
+      → HasKind program k (held (cell row (output_place program i c.site c.name j)))
+  output_typed i inst c j k w e on known = of_flow (flow_at program main well is_node d (is_callee c inst w) (length d.node.inputs + j) k (output_kind program d.node j k e))
+    where
+      d : Instance
+      d = callee program i c
+
+      lt : j < length d.node.outputs
+      lt = let below = slice_get_within (decl_kinds program d.node.outputs) j k e in omega (arith, length-map d.node.outputs (λ d. kind_in_program program d.kind))
+
+      of_flow : FlowAt program d.node (length d.node.inputs + j) k → HasKind program k (held (cell row (output_place program i c.site c.name j)))
+      of_flow f =
+          flow_typed program main row clocked d f.name k (output_place program i c.site c.name j) (is_callee c inst w) f.within
+          (sym (append_assoc i.path (c.site ∷ []) (site_of d.node f.name ∷ []) ∙ ap (λ s. i.path ++ c.site ∷ s ∷ []) f.site)) f.kind
+          (ap (λ c. is_on_in row (absolute d c)) (ap (clock_at d.node) f.site ∙ output_base d.node j lt) ∙ on) known
+
+  module _ (state : State) (starts : AreStarts program main state.kept) (i : Instance) (inst : IsInstance program main i) where
+    -- what it has is of this type
+    abbrev Typed : Kind → Tree → Type 0
+    Typed k e = HasKind program k (now program state row i e)
+
+    -- the flows that it needs have values of their types
+    abbrev AreKnown : List Sites → Type 0
+    AreKnown ps = All (TypedAt program main row) ps
+
+    -- what a memory holds has the type of its operand
+    memory_typed : (site : Option ℕ) (e : Tree) (k : Kind) → Contains (node_delays i.node) (record { site = site; operand = e }) → kind_of (node_scope program i.node) e ≡ Some k
+        → HasKind program k (state.kept (kept_place i site e))
+    memory_typed site e k w is =
+        let own : operand_kind program i.node e ≡ k = ap (λ o. unwrap_or o kind.Bool) is in
+        subst (λ k. HasKind program k (state.kept (kept_place i site e))) own (starts i (record { site = site; operand = e }) inst w)
+
+    -- a name is a flow whose clock is there, or a constant
+    named_typed : (c : Clock) (x : Identifier) (k : Kind) (b : Bool) → kind_in (one_of Has (cond b (flow_kind program i.node x) (constant_kind program x))) ≡ Some k
+        → Suits c (cond b (At (clock_of i.node x)) Free) → is_on_in row (absolute i c) ≡ true → AreKnown (cond b (place i x ∷ []) [])
+        → HasKind program k (cond b (held (cell row (place i x))) (constant_value program x))
+    named_typed c x k true is s on known =
+        let h = one_kind Has (flow_kind program i.node x) k is in
+        let e : flow_kind program i.node x ≡ Some k = h.1 ∙ h.2 in
+        flow_typed program main row clocked i x k (place i x) inst (flow_there program i.node x k e) refl e
+        (ap (λ c. is_on_in row (absolute i c)) s ∙ on) (known 0 (place i x) (omega arith))
+    named_typed c x k false is s on known =
+        let h = one_kind Has (constant_kind program x) k is in
+        well.values x k (h.1 ∙ h.2)
+
+    -- a `current` has its operand where that is there, and its memory elsewhere
+    pub current_typed : (b : Bool) (k : Kind) (v w : Value) → (b ≡ true → HasKind program k v) → HasKind program k w → HasKind program k (cond b v w)
+    current_typed true k v w p q = p refl
+    current_typed false k v w p q = q
+
+    mutual
+      -- an expression on a clock that is there
+      pub tree_typed : (c : Clock) (e : Tree) (k : Kind) → Stands i.node e → Suits c (pace i.node e) → is_on_in row (absolute i c) ≡ true
+          → AreKnown (needs program i c e) → kind_of (node_scope program i.node) e ≡ Some k → Typed k e
+      tree_typed c (Node at site form) k stands s on known is =
+          form_typed c at site form k stands s on (all_right (TypedAt program main row) (flow_of (absolute i c)) (form_needs program i c site form) known) is
+
+      -- by its form
+      form_typed : (c : Clock) (at : ℕ) (site : Option ℕ) (form : Form) (k : Kind) → Stands i.node (Node at site form) → Suits c (form_pace i.node form) → is_on_in row (absolute i c) ≡ true
+          → AreKnown (form_needs program i c site form) → kind_in (form_verdict (node_scope program i.node) form) ≡ Some k → HasKind program k (form_now program state row i site form)
+      form_typed c at site True k stands s on known is = flag_typed program k (Flag true) tt (same_Some kind.Bool k is)
+      form_typed c at site False k stands s on known is = flag_typed program k (Flag false) tt (same_Some kind.Bool k is)
+      form_typed c at site (Number n) k stands s on known is = whole_typed program k (Whole (pos n)) tt (same_Some kind.Int k is)
+      form_typed c at site (Named x) k stands s on known is = named_typed c x k (is_flow i.node x) is s on known
+      form_typed c at site (Not e) k stands s on known is =
+          let h = one_kind not_rule (kind_of (node_scope program i.node) e) k is in
+          flag_typed program k _ tt (met_kind (same_kind h.0 kind.Bool) kind.Bool k h.2).1
+      form_typed c at site (Minus e) k stands s on known is =
+          let h = one_kind minus_rule (kind_of (node_scope program i.node) e) k is in
+          whole_typed program k _ tt (met_kind (same_kind h.0 kind.Int) kind.Int k h.2).1
+      form_typed c at site (Pre e) k stands s on known is =
+          let h = one_kind (memory_rule true) (kind_of (node_scope program i.node) e) k is in
+          memory_typed site e k (pre_operand i.node at site e stands) (h.1 ∙ h.2)
+      form_typed c at site (Current e) k stands s on known is =
+          let h = one_kind (memory_rule true) (kind_of (node_scope program i.node) e) k is in
+          let parts = current_operand i.node at site e stands in
+          current_typed (is_on_in row (clock_in i Base e)) k (now program state row i e) (state.kept (kept_place i site e))
+          (λ there. tree_typed (clock_taken i Base e) e k parts.1 (suits_current i.node c (pace i.node e) s) there known (h.1 ∙ h.2))
+          (memory_typed site e k parts.0 (h.1 ∙ h.2))
+      form_typed c at site (When e x) k stands s on known is =
+          let h = two_kinds when_rule (kind_of (node_scope program i.node) e) (flow_kind program i.node x.text) k is in
+          let clocks = suits_when i.node c (pace i.node e) (site_of i.node x.text) s in
+          let on_it : is_on (cell row (place i x.text)) ≡ true = ap (λ c. is_on_in row (absolute i c)) clocks.1 ∙ on in
+          let there = (clocked i x.text inst (flow_there program i.node x.text h.1 h.3)).0 (on_some (cell row (place i x.text)) on_it) in
+          tree_typed (clock_of i.node x.text) e k (when_operand i.node at site e x stands) clocks.0 there known
+          (h.2 ∙ ap Some (met_kind (same_kind h.1 kind.Bool) h.0 k h.4).1)
+      form_typed c at site (Binary o a b) k stands s on known is =
+          let scaled = is_constant (node_scope program i.node) a || is_constant (node_scope program i.node) b in
+          let h = two_kinds (binary_rule true scaled o) (kind_of (node_scope program i.node) a) (kind_of (node_scope program i.node) b) k is in
+          let clocks = suits_operands c o (pace i.node a) (pace i.node b) s in
+          operator_typed program scaled (not (state.ticked (clock_in i Base (Node 0 site (Binary o a b))))) o h.0 h.1 k (now program state row i a) (now program state row i b) h.4
+          (tree_typed c a h.0 (left_operand i.node at site o a b stands) clocks.0 on (all_left (TypedAt program main row) (needs program i c a) (needs program i c b) known) h.2)
+          (tree_typed c b h.1 (right_operand i.node at site o a b stands) clocks.1 on (all_right (TypedAt program main row) (needs program i c a) (needs program i c b) known) h.3)
+      form_typed c at site (If a b d) k stands s on known is =
+          let h = three_kinds if_rule (kind_of (node_scope program i.node) a) (kind_of (node_scope program i.node) b) (kind_of (node_scope program i.node) d) k is in
+          let clocks = suits_parts c (pace i.node b) (pace i.node d) (suits_both c (seen (pace i.node a)) (meet (seen (pace i.node b)) (seen (pace i.node d))) s).1 in
+          let later = all_right (TypedAt program main row) (needs program i c a) (needs program i c b ++ needs program i c d) known in
+          if_typed program (is_true (now program state row i a)) h.0 h.1 h.2 k (now program state row i b) (now program state row i d) h.6
+          (tree_typed c b h.1 (then_part i.node at site a b d stands) clocks.0 on (all_left (TypedAt program main row) (needs program i c b) (needs program i c d) later) h.4)
+          (tree_typed c d h.2 (else_part i.node at site a b d stands) clocks.1 on (all_right (TypedAt program main row) (needs program i c b) (needs program i c d) later) h.5)
+      form_typed c at site (AtMostOne es) k stands s on known is =
+          flag_typed program k _ tt (all_kind (all_typed (kinds_of_all (node_scope program i.node) es)) (all_suit kind.Bool (kinds_of_all (node_scope program i.node) es)) k is)
+      form_typed c at site (Call f args) k stands s on known is =
+          let own : CallTree = record { at = at; site = unwrap_or site 0; name = f; args = args } in
+          output_typed i inst own 0 k (own_call i.node at site f args stands) (call_kind program f (kinds_of_all (node_scope program i.node) args) k is)
+          (ap (λ c. is_on_in row (absolute i c)) (ground_taken c (pace_of_all i.node args) s) ∙ on) (known 0 (output_place program i (unwrap_or site 0) f 0) (omega arith))
+
+    -- what an expression has as a whole, where it is there
+    pub value_typed : (c : Clock) (e : Tree) (k : Kind) (v : Value) → Stands i.node e → Suits c (pace i.node e) → AreKnown (needs program i (clock_taken i c e) e)
+        → kind_of (node_scope program i.node) e ≡ Some k → value_now program state row i c e ≡ Some v → HasKind program k v
+    value_typed c e k v stands s known is has =
+        let h = cond_some (is_on_in row (clock_in i c e)) (now program state row i e) v has in
+        subst (HasKind program k) h.1 (tree_typed (clock_taken i c e) e k stands (taken_suits c (pace i.node e) s) h.0 known is)
