@@ -1,6 +1,9 @@
 //! A row of the table: what kind of text it is, the text, and what is answered on it.
 
+use crate::causes::ordered;
+use crate::places::remembered;
 use crate::shapes::write_shape;
+use crate::steps::stepped;
 use rv_base::{Memory, Value};
 use rv_syntax::{Program, TextFault, parse};
 use rv_types::{NameFault, settle};
@@ -20,7 +23,7 @@ const SEVERAL: &str =
 const CLOCKED: &str = "node m(a, c, e: bool; i: int) returns (ok: bool); ";
 
 /// The longest text that the parser takes.
-const MOST: usize = 1_048_576;
+pub const MOST: usize = 1_048_576;
 
 /// The answer on a row. Its fields stand between `~`: the kind, and then
 /// `program`: a whole text, in which a backtick stands for a line feed;
@@ -31,7 +34,10 @@ const MOST: usize = 1_048_576;
 /// `nested`: a right side by its front, a part, how often it is repeated, and the back;
 /// `settle`: a whole program with the main node `m`, whose names, types and clocks are judged;
 /// `values`: whole declarations of types and constants, and what the constants are;
-/// `typed`, `several`, `clocked`: the same by what stands behind the header, up to `tel`, of nodes as above.
+/// `source`: a whole program with the main node `m`, and its order of evaluation;
+/// `steps`: what the memories start with, what the inputs are at each instant, and a whole program with the main node `m`;
+/// `memories`: a whole program with the main node `m`, and the places of its memories with their types;
+/// `typed`, `several`, `clocked`: as `settle` by what stands behind the header, up to `tel`, of nodes as above.
 pub fn answer(alloc: Global, row: &str) -> Result<String, Memory> {
     let Some((kind, text)) = row.split_once('~') else {
         return Ok(String::from_str(alloc, "no row")?);
@@ -44,6 +50,9 @@ pub fn answer(alloc: Global, row: &str) -> Result<String, Memory> {
         "tree" => shape(alloc, &framed(alloc, "let ok = ", text, "; tel")?),
         "nested" => nested(alloc, text),
         "settle" => judged(alloc, &String::from_str(alloc, text)?),
+        "source" => ordered(alloc, text),
+        "steps" => stepped(alloc, text),
+        "memories" => remembered(alloc, text),
         "values" => values(alloc, &format!(in alloc; "{text}{HEADER}let ok = a; tel")?),
         "typed" => judged(alloc, &format!(in alloc; "{TYPED}{text} tel")?),
         "several" => judged(alloc, &format!(in alloc; "{SEVERAL}{text} tel")?),
@@ -82,7 +91,7 @@ fn read(alloc: Global, text: &String) -> Result<Program, TextFault> {
     parse(alloc, text.as_bytes())
 }
 
-fn fault_text(alloc: Global, fault: TextFault) -> Result<String, Memory> {
+pub fn fault_text(alloc: Global, fault: TextFault) -> Result<String, Memory> {
     match fault {
         TextFault::BadText(at) => Ok(format!(in alloc; "badtext {at}")?),
         TextFault::TooDeep(at) => Ok(format!(in alloc; "toodeep {at}")?),
@@ -167,7 +176,7 @@ fn listed(alloc: Global, values: &[Value]) -> Result<String, Memory> {
     Ok(found)
 }
 
-fn name_fault_text(alloc: Global, fault: NameFault) -> Result<String, Memory> {
+pub fn name_fault_text(alloc: Global, fault: NameFault) -> Result<String, Memory> {
     match fault {
         NameFault::NoNode => Ok(String::from_str(alloc, "nonode")?),
         NameFault::UnknownName(at) => Ok(format!(in alloc; "unknownname {at}")?),
