@@ -1,4 +1,5 @@
 pub mod Causes
+pub mod Fronts
 pub mod Shelf
 pub mod Shown
 pub mod MemoryFiles

@@ -9,10 +9,9 @@ mod memory;
 mod memory_files;
 mod memory_sink;
 mod sink;
+mod sites;
 mod sure_files;
 mod sure_sink;
-#[cfg(test)]
-mod tests;
 mod text;
 mod value;
 
@@ -23,6 +22,7 @@ pub use memory::Memory;
 pub use memory_files::MemoryFiles;
 pub use memory_sink::MemorySink;
 pub use sink::{PutFault, Sink};
+pub use sites::{Path, Sites};
 pub use sure_files::SureFiles;
 pub use sure_sink::SureSink;
 pub use text::Text;

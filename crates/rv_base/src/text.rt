@@ -1,6 +1,6 @@
 //! A text whose contracts speak of its bytes alone.
 
-ghost use Rattle.std.specs.Prelude.{◌≡◌, IfOk, length, string_bytes, nat_eq, IsTrue, ◌↔◌};
+ghost use Rattle.std.specs.Prelude.{◌≡◌, IfOk, length, nat_eq, IsTrue, ◌↔◌};
 ghost use Rattle.std.specs.Cmp.{nat_eq_equiv, partial_equiv_from_equiv};
 ghost use Rattle.std.specs.Cmp.Lexicographic.{pointwise, lists_per, lists_equiv};
 ghost use Rattle.std.specs.Hash as fed;
@@ -10,20 +10,22 @@ ghost use Rattle.std.proofs.Common.{rules};
 use std::alloc::{AllocError, Global};
 use std::hash::{Hash, Hasher};
 use std::marker::Model;
+use std::rc::RcStr;
 
 /// A text. To a contract it is the list of its bytes: neither the capacity nor the place of the block is part of
-/// its value.
+/// its value. Clones share the block, so a long name that is used often is kept once.
 #[derive(Debug, Drop)]
 pub struct Text {
-    text: String,
+    text: RcStr,
 }
 
 impl Model for Text {
-    ghost use Rattle.std.specs.Prelude.{List, ℕ, string_bytes};
+    ghost use Rattle.std.specs.Prelude.{List, ℕ};
+    ghost use Rattle.std.specs.Rc.{rc_str_bytes};
 
     ghost Value = { List ℕ };
 
-    ghost view = { λ t. string_bytes t.text };
+    ghost view = { λ t. rc_str_bytes t.text };
 }
 
 impl Text {
@@ -31,23 +33,8 @@ impl Text {
     pub fn from_str(alloc: Global, text: &str) -> Result<Text, AllocError>
         ensures { IfOk result (λ t. t ≡ text.now) }
     {
-        let text = String::from_str(alloc, text)?;
+        let text = RcStr::from_str(alloc, text)?;
         Ok(Text { text })
-    }
-
-    /// The `String`'s text, left where it is.
-    pub fn from_string(text: String) -> Text
-        ensures { result ≡ string_bytes text }
-    {
-        Text { text }
-    }
-
-    /// The text as a `String`, left where it is.
-    pub fn into_string(self) -> String
-        ensures { string_bytes result ≡ self }
-    {
-        let Text { text } = self;
-        text
     }
 
     /// The text as a slice.
@@ -61,7 +48,7 @@ impl Text {
     pub fn is(&self, other: &Text) -> bool
         ensures { IsTrue result ↔ (self.now ≡ other.now) }
     {
-        self.text.as_bytes() == other.text.as_bytes()
+        self.text.as_str().as_bytes() == other.text.as_str().as_bytes()
     }
 
     /// The length in bytes.
@@ -76,7 +63,7 @@ impl Text {
 impl Clone for Text {
     ghost is_clone = { λ a b. a ≡ b };
 
-    /// Copies the text, into a block of its own.
+    /// The same text in the same block.
     fn clone(&self) -> Result<Text, AllocError> {
         let text = self.text.clone()?;
         Ok(Text { text })
@@ -91,7 +78,7 @@ impl PartialEq for Text {
 
     /// Whether the two texts have the same bytes.
     fn eq(&self, other: &Text) -> bool {
-        self.text.as_bytes() == other.text.as_bytes()
+        self.text.as_str().as_bytes() == other.text.as_str().as_bytes()
     }
 }
 

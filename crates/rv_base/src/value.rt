@@ -1,13 +1,14 @@
 //! Where a flow or a memory of a program lies, what it holds, and how a run is told.
 
 use crate::many::Many;
+use crate::sites::Sites;
 
 /// Where a flow or a memory lies: the numbers of the call sites from the main node to an instance, and then the
 /// number of one site in its node, all counted from 0.
-#[derive(Debug, PartialEq, Eq, Drop)]
+#[derive(Clone, Debug, PartialEq, Eq, Drop)]
 pub struct Place {
-    /// The call sites, and last the site in the node.
-    pub sites: Many<u32>,
+    /// The call sites, and last the site in the node. Places of one instance share the call sites.
+    pub sites: Sites,
 }
 
 /// What a flow has at an instant.
