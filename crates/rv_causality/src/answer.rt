@@ -1,11 +1,11 @@
 //! In which order the flows of a program are evaluated.
 
-use rv_base::{Many, Place};
+use rv_base::{Many, Path, Place};
 
 /// A copy of a node: the call sites from the main node to it, and the number of its node in the file.
 #[derive(Debug, Drop)]
 pub struct Instance {
-    pub path: Many<u32>,
+    pub path: Path,
     pub node: u32,
 }
 

@@ -47,7 +47,7 @@ fn expand(alloc: Global, root: u32, calls: &Many<Many<Calling>>) -> Result<Many<
     let mut found = Many::new(alloc);
     let mut waiting = Many::new(alloc);
     waiting.push(Instance {
-        path: Many::new(alloc),
+        path: Path::from_slice(alloc, &[])?,
         node: root,
     })?;
     while let Some(instance) = waiting.pop() {
@@ -79,10 +79,10 @@ fn push_callees(
 fn callee_instance(alloc: Global, path: &[u32], call: &Calling) -> Result<Instance, Memory>
     ensures { IfOk result (λ i. i ≡ called_instance path.now call.now) }
 {
-    let mut longer = Many::from_vec(Vec::from_slice(alloc, path)?);
+    let mut longer = Vec::from_slice(alloc, path)?;
     longer.push(call.site)?;
     Ok(Instance {
-        path: longer,
+        path: Path::from_slice(alloc, longer.as_slice())?,
         node: call.callee,
     })
 }

@@ -12,7 +12,7 @@ ghost use Rattle.rv_causality.specs.Flowing.{flow_sites, flow_places, place_at, 
 use crate::answer::Instance;
 use crate::fault::CauseFault;
 use crate::graph::{Sorted, sort};
-use rv_base::{Many, Memory, Place};
+use rv_base::{Many, Memory, Place, Sites};
 use std::alloc::Global;
 
 /// A flow: the number of its instance and its site in the node.
@@ -60,19 +60,18 @@ pub fn places_of(
 {
     let mut places = Many::new(alloc);
     for number in numbers {
-        places.push(place_of(alloc, instances, *flows.at(*number as usize))?)?;
+        places.push(place_of(instances, *flows.at(*number as usize))?)?;
     }
     Ok(places)
 }
 
 /// The place of a flow.
-fn place_of(alloc: Global, instances: &Many<Instance>, flow: Flow) -> Result<Place, Memory>
+fn place_of(instances: &Many<Instance>, flow: Flow) -> Result<Place, Memory>
     requires { flow.instance < length instances.now }
     ensures { IfOk result (λ place. place.sites ≡ flow_sites instances.now flow) }
 {
     let instance = instances.at(flow.instance as usize);
-    let mut sites = Many::from_vec(Vec::from_slice(alloc, instance.path.as_slice())?);
-    sites.push(flow.site)?;
+    let sites = Sites::within(&instance.path, flow.site)?;
     Ok(Place { sites })
 }
 

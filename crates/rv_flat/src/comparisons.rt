@@ -66,14 +66,14 @@ fn sorted(found: Many<Comparison>) -> Many<Comparison>
 fn compare(one: &Comparison, other: &Comparison) -> Ordering
     ensures { result ≡ slice_cmp nat_cmp one.now.place.sites other.now.place.sites }
 {
-    one.place.sites.as_slice().cmp(other.place.sites.as_slice())
+    one.place.sites.compare(&other.place.sites)
 }
 
 /// Whether two comparisons have one place.
 fn is_one(one: &Comparison, other: &Comparison) -> bool
     ensures { result ≡ is_same one.now.place.sites other.now.place.sites }
 {
-    one.place.sites.as_slice() == other.place.sites.as_slice()
+    one.place.sites == other.place.sites
 }
 
 /// The comparisons of all instances, instance by instance.
@@ -87,7 +87,7 @@ fn found_in_all(
     let mut found = Many::new(alloc);
     for instance in instances {
         let own = tests_at(tested, instance.node);
-        push_found(alloc, instance.path.as_slice(), own, &mut found)?;
+        push_found(&instance.path, own, &mut found)?;
     }
     Ok(found)
 }
@@ -104,8 +104,7 @@ fn tests_at(tested: &[Many<Tested>], node: u32) -> &[Tested]
 
 /// Adds those of an instance.
 fn push_found(
-    alloc: Global,
-    path: &[u32],
+    path: &Path,
     tested: &[Tested],
     found: &mut Many<Comparison>,
 ) -> Result<(), Memory>
@@ -113,7 +112,7 @@ fn push_found(
 {
     for one in tested {
         found.push(Comparison {
-            place: place_of(alloc, path, one.site)?,
+            place: place_of(path, one.site)?,
             operator: one.operator,
         })?;
     }

@@ -483,9 +483,13 @@ fn spot_of(alloc: Global, frame: &Frame, site: Option<u32>) -> Result<Place, Mem
     match site {
         Some(own) => {
             sites.push(own)?;
+            let sites = Sites::from_slice(alloc, sites.as_slice())?;
             Ok(Place { sites })
         }
-        None => Ok(Place { sites }),
+        None => {
+            let sites = Sites::from_slice(alloc, sites.as_slice())?;
+            Ok(Place { sites })
+        }
     }
 }
 

@@ -78,8 +78,5 @@ fn kind_of_flow(given: &Given, flow: Flow) -> Kind
 pub fn copied(alloc: Global, place: &Place) -> Result<Place, Memory>
     ensures { IfOk result (λ copy. copy.sites ≡ place.now.sites) }
 {
-    let sites = Vec::from_slice(alloc, place.sites.as_slice())?;
-    Ok(Place {
-        sites: Many::from_vec(sites),
-    })
+    Ok(place.clone()?)
 }

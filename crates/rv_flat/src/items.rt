@@ -73,7 +73,7 @@ fn input_item(alloc: Global, number: u32) -> FlatItem
         clock: None,
         body: FlatExpr {
             at: Place {
-                sites: Many::new(alloc),
+                sites: Sites::empty(),
             },
             form: FlatForm::Input(number),
         },

@@ -11,7 +11,7 @@ use std::alloc::Global;
 fn is_before(a: &Place, b: &Place) -> bool
     ensures { result ≡ places.is_before a.now.sites b.now.sites }
 {
-    a.sites.as_slice().cmp(b.sites.as_slice()).is_lt()
+    a.sites.compare(&b.sites).is_lt()
 }
 
 /// The earlier one of a place and the one so far.
@@ -34,7 +34,5 @@ pub fn sooner<'a>(least: Option<&'a Place>, place: &'a Place) -> &'a Place
 pub fn copy_of(alloc: Global, place: &Place) -> Result<Place, Memory>
     ensures { IfOk result (λ p. p ≡ place.now) }
 {
-    Ok(Place {
-        sites: Many::from_vec(Vec::from_slice(alloc, place.sites.as_slice())?),
-    })
+    Ok(place.clone()?)
 }

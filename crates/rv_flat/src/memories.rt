@@ -90,9 +90,9 @@ fn tell_all(alloc: Global, kept: &[Kept]) -> Result<Callees, Memory>
 fn site_of(memory: &Kept) -> u32
     ensures { result ≡ last_site memory.now.place.sites }
 {
-    match memory.place.sites.as_slice().last() {
+    match memory.place.sites.last() {
         None => 0,
-        Some(site) => *site,
+        Some(site) => site,
     }
 }
 
@@ -110,14 +110,14 @@ fn sorted<'a>(found: Many<Kept<'a>>) -> Many<Kept<'a>>
 fn compare(one: &Kept, other: &Kept) -> Ordering
     ensures { result ≡ slice_cmp nat_cmp one.now.place.sites other.now.place.sites }
 {
-    one.place.sites.as_slice().cmp(other.place.sites.as_slice())
+    one.place.sites.compare(&other.place.sites)
 }
 
 /// Whether two memories have one place.
 fn is_one(one: &Kept, other: &Kept) -> bool
     ensures { result ≡ is_same one.now.place.sites other.now.place.sites }
 {
-    one.place.sites.as_slice() == other.place.sites.as_slice()
+    one.place.sites == other.place.sites
 }
 
 /// What the `pre` and `current` of all instances read, instance by instance.
@@ -148,9 +148,8 @@ fn push_of_node<'a>(
 {
     if let Some(own) = read.get(instance.node as usize) {
         push_found(
-            alloc,
             number,
-            instance.path.as_slice(),
+            &instance.path,
             own.as_slice(),
             found,
         )?;
@@ -160,9 +159,8 @@ fn push_of_node<'a>(
 
 /// Adds what an instance reads.
 fn push_found<'a>(
-    alloc: Global,
     number: u32,
-    path: &[u32],
+    path: &Path,
     read: &[MemoryRead<'a>],
     found: &mut Many<Kept<'a>>,
 ) -> Result<(), Memory>
@@ -170,7 +168,7 @@ fn push_found<'a>(
 {
     for one in read {
         found.push(Kept {
-            place: place_of(alloc, path, one.site)?,
+            place: place_of(path, one.site)?,
             kind: one.kind,
             instance: number,
             operand: one.operand,
@@ -180,11 +178,10 @@ fn push_found<'a>(
 }
 
 /// The place of a site of an instance.
-pub fn place_of(alloc: Global, path: &[u32], site: u32) -> Result<Place, Memory>
+pub fn place_of(path: &Path, site: u32) -> Result<Place, Memory>
     ensures { IfOk result (λ place. place.sites ≡ path.now ++ site ∷ []) }
 {
-    let mut sites = Many::from_vec(Vec::from_slice(alloc, path)?);
-    sites.push(site)?;
+    let sites = Sites::within(path, site)?;
     Ok(Place { sites })
 }
 

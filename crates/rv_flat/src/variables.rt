@@ -167,8 +167,7 @@ fn add_side(alloc: Global, place: &Place, side: Side, bits: &mut Many<Bit>) -> R
 fn copied(alloc: Global, place: &Place) -> Result<Place, Memory>
     ensures { IfOk result (λ made. made.sites ≡ place.now.sites) }
 {
-    let sites = Many::from_vec(Vec::from_slice(alloc, place.sites.as_slice())?);
-    Ok(Place { sites })
+    Ok(place.clone()?)
 }
 
 /// The bits of a control memory or input of a type; integers have none.

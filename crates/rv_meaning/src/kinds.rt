@@ -73,9 +73,9 @@ pub fn kind_of(p: &Program, t: &Typed, place: &Place) -> Option<Kind>
 {
     bounded_tree();
     well_formed_programs();
-    match place.sites.as_slice().split_last() {
+    match place.sites.last() {
         None => None,
-        Some((site, path)) => kind_after(p, t, path, *site),
+        Some(site) => kind_after(p, t, place.sites.front(), site),
     }
 }
 

@@ -67,7 +67,7 @@ fn sorted(places: Many<Place>) -> Many<Place>
 fn compare(one: &Place, other: &Place) -> Ordering
     ensures { result ≡ slice_cmp nat_cmp one.now.sites other.now.sites }
 {
-    one.sites.as_slice().cmp(&other.sites.as_slice())
+    one.sites.compare(&other.sites)
 }
 
 /// The places of the memories of the instances with these paths, path by path.
@@ -115,18 +115,18 @@ fn push_places(
 ) -> Result<(), Memory>
     ensures { OnOk result (sites_of places.new ≡ sites_of places.old ++ map (λ s. path.now ++ s ∷ []) sites.now) }
 {
+    let shared = Path::from_slice(alloc, path)?;
     for site in sites {
-        places.push(place_at(alloc, path, *site)?)?;
+        places.push(place_at(&shared, *site)?)?;
     }
     Ok(())
 }
 
 /// The place of a site of an instance.
-fn place_at(alloc: Global, path: &[u32], site: u32) -> Result<Place, Memory>
+fn place_at(path: &Path, site: u32) -> Result<Place, Memory>
     ensures { IfOk result (λ place. place.sites ≡ path.now ++ site ∷ []) }
 {
-    let mut sites = Many::from_vec(Vec::from_slice(alloc, path)?);
-    sites.push(site)?;
+    let sites = Sites::within(path, site)?;
     Ok(Place { sites })
 }
 
