@@ -23,6 +23,7 @@ ghost use Rattle.rv_syntax.specs.declared.tree.Name.{Name as NameAt};
 
 mod fault;
 mod lexer;
+mod limits;
 mod offending;
 mod operator;
 mod parser;
@@ -36,6 +37,7 @@ mod tree;
 use fault::Stop;
 pub use fault::TextFault;
 use lexer::tokens_of;
+pub use limits::{HEAVIEST, SOURCE_LIMIT, TOO_HEAVY};
 use offending::fault_of;
 use parser::Parser;
 use rules::read_program;
