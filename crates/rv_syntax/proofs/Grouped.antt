@@ -1,6 +1,6 @@
 -- The groups of flows, as one more flow comes.
-use Rattle.std.proofs.Common.{◌≡◌, ◌+◌, ◌<◌, ◌≤◌, ℕ, zero, suc, List, [], ◌∷◌, ◌++◌, length, map, get_or, refl, sym, ap, ◌∙◌, arith, append_assoc, length-append, inl, inr, ◌⊎◌}
-use Rattle.std.specs.Prelude.{Bool, false, Result, Ok, Err, OnOk, OnErr, Option, Some, take, slice_get, option_map}
+use Rattle.std.proofs.Common.{◌≡◌, ◌<◌, ℕ, zero, suc, List, [], ◌∷◌, ◌++◌, length, map, get_or, refl, sym, ap, ◌∙◌, arith, append_assoc, length-append, inl, inr, ◌⊎◌}
+use Rattle.std.specs.Prelude.{false, Result, Ok, Err, OnOk, OnErr, Option, Some, take, slice_get, option_map}
 use Rattle.std.specs.Result.{is_err}
 use Rattle.std.proofs.lemmas.List.{append-nil, get_or_append_left}
 use Rattle.std.proofs.Math.Nat.{eq-or-lt_of_le}
@@ -9,7 +9,7 @@ use Rattle.rv_syntax.specs.declared.tree.Decl.{Decl}
 use Rattle.rv_syntax.specs.declared.tree.Name.{Name}
 use Rattle.rv_syntax.specs.declared.tree.TypeName.{TypeName}
 use Rattle.rv_syntax.specs.ProgramText.{flow}
-use Rattle.rv_syntax.specs.Groups.{AreAlike, AreGroups, kind_at, clock_at}
+use Rattle.rv_syntax.specs.Groups.{AreAlike, AreGroups}
 
 slice_get_front : {A : Type 0} → (xs ys : List A) (i : ℕ) → i < length xs → slice_get (xs ++ ys) i ≡ slice_get xs i
 slice_get_front [] ys i p = absurd (omega arith)
