@@ -115,7 +115,8 @@ node-weighs n =
     )
 
 -- in the program of a text within the limit, sites fit
-pub program-fits : (bytes : List ℕ) (p : ProgramTree) → length bytes ≤ source_limit → IsProgram p (tokens bytes) → All (λ n. site_count n ≤ source_limit) p.nodes
+pub program-fits : (bytes : List ℕ) (p : ProgramTree) → length bytes ≤ source_limit → IsProgram p (tokens bytes)
+    → All (λ n. site_count n ≤ source_limit) p.nodes
 program-fits bytes p le h i d lt =
     let n = get_or p.nodes i d in
     omega (arith, node-weighs n, one-at (of_node each) p.nodes i d lt, program-short bytes p h)

@@ -1,5 +1,6 @@
 -- The groups of flows, as one more flow comes.
-use Rattle.std.proofs.Common.{◌≡◌, ◌<◌, ℕ, zero, suc, List, [], ◌∷◌, ◌++◌, length, map, get_or, refl, sym, ap, ◌∙◌, arith, append_assoc, length-append, inl, inr, ◌⊎◌}
+use Rattle.std.proofs.Common.{◌≡◌, ◌<◌, ℕ, zero, suc, List, [], ◌∷◌, ◌++◌, length, map, get_or, arith, append_assoc, length-append}
+use Rattle.std.proofs.Common.{refl, sym, ap, ◌∙◌, inl, inr, ◌⊎◌}
 use Rattle.std.specs.Prelude.{false, Result, Ok, Err, OnOk, OnErr, Option, Some, take, slice_get, option_map}
 use Rattle.std.specs.Result.{is_err}
 use Rattle.std.proofs.lemmas.List.{append-nil, get_or_append_left}
@@ -30,7 +31,8 @@ still_alike decls more first i p alike =
     }
 
 -- One more flow, with the number of the first of its group.
-pub one-more : (firsts : List ℕ) (decls : List Decl) (first : ℕ) (d : Decl) → AreGroups firsts decls → AreAlike (decls ++ d ∷ []) first (length decls) → AreGroups (firsts ++ first ∷ []) (decls ++ d ∷ [])
+pub one-more : (firsts : List ℕ) (decls : List Decl) (first : ℕ) (d : Decl) → AreGroups firsts decls → AreAlike (decls ++ d ∷ []) first (length decls)
+    → AreGroups (firsts ++ first ∷ []) (decls ++ d ∷ [])
 one-more firsts decls first d groups last = record {
   long = omega (arith, groups.long, length-append firsts (first ∷ []), length-append decls (d ∷ []));
   alike = λ i p. at i (eq-or-lt_of_le (omega (arith, p, length-append decls (d ∷ []))));
@@ -45,12 +47,15 @@ one-more firsts decls first d groups last = record {
         rw (s, e) last
 
 -- A flow of a group that begins with the flow of this number.
-pub in-group : (old : List Decl) (k : TypeName) (clock : Option Name) (names : List Name) (x : Name) → AreAlike ((old ++ map (flow k clock) names) ++ flow k clock x ∷ []) (length old) (length (old ++ map (flow k clock) names))
+pub in-group : (old : List Decl) (k : TypeName) (clock : Option Name) (names : List Name) (x : Name)
+    → AreAlike ((old ++ map (flow k clock) names) ++ flow k clock x ∷ []) (length old) (length (old ++ map (flow k clock) names))
 in-group old k clock [] x = rw append-nil (record { within = omega arith; kind = refl; clock = refl })
 in-group old k clock (y ∷ more) x =
     let before : List Decl = old ++ map (flow k clock) (y ∷ more) in
     let here : slice_get (before ++ flow k clock x ∷ []) (length before) ≡ Some (flow k clock x) = slice_get_seam before (flow k clock x) [] in
-    let first : slice_get (before ++ flow k clock x ∷ []) (length old) ≡ Some (flow k clock y) = rw (append_assoc old (map (flow k clock) (y ∷ more)) (flow k clock x ∷ [])) (slice_get_seam old (flow k clock y) (map (flow k clock) more ++ flow k clock x ∷ [])) in
+    let first : slice_get (before ++ flow k clock x ∷ []) (length old) ≡ Some (flow k clock y) =
+    rw (append_assoc old (map (flow k clock) (y ∷ more)) (flow k clock x ∷ []))
+    (slice_get_seam old (flow k clock y) (map (flow k clock) more ++ flow k clock x ∷ [])) in
     record {
       within = omega (arith, length-append old (map (flow k clock) (y ∷ more)));
       kind = ap (option_map (λ d. d.kind)) first ∙ sym (ap (option_map (λ d. d.kind)) here);
@@ -62,7 +67,8 @@ map-append f [] ys = refl
 map-append f (x ∷ xs) ys = ap (λ l. f x ∷ l) (map-append f xs ys)
 
 -- Some of the names have become flows, the first in their order.
-pub some-made : {A B : Type 0} → (f : A → B) (now old : List B) (names done rest : List A) → done ++ rest ≡ names → now ≡ old ++ map f done → (k : ℕ) × (now ≡ old ++ take k (map f names))
+pub some-made : {A B : Type 0} → (f : A → B) (now old : List B) (names done rest : List A) → done ++ rest ≡ names → now ≡ old ++ map f done
+    → (k : ℕ) × (now ≡ old ++ take k (map f names))
 some-made f now old names done rest e made =
     let t : take (length (map f done)) (map f names) ≡ map f done = rw (← e, map-append f done rest) (take-append_seam (map f done) (map f rest)) in
     (length (map f done), made ∙ ap (λ l. old ++ l) (sym t))
