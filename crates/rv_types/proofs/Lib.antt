@@ -19,6 +19,7 @@ mod NodeScope
 mod MainNode
 mod TimingLaws
 mod Answered
+mod SomeFault
 mod NodeFlows
 mod Refusals
 mod Members

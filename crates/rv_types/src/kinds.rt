@@ -2,7 +2,7 @@
 
 ghost use Rattle.std.specs.Prelude.{◌≡◌, ◌+◌, ◌≤◌, ◌<◌, ◌^◌, ◌++◌, [], map, reverse, length, IfOk};
 ghost use Rattle.rv_syntax.specs.Tree.{node_tree};
-ghost use Rattle.rv_syntax.specs.Bounded.{most};
+ghost use Rattle.rv_syntax.specs.Limits.{source_limit};
 ghost use Rattle.rv_syntax.specs.declared.tree.TypeDecl.{TypeDecl as AnyType};
 ghost use Rattle.rv_types.specs.Names.{repeated, labels_of};
 ghost use Rattle.rv_types.specs.Kinds.{written_kind, declared_kind};
@@ -44,7 +44,7 @@ fn declared(names: &Space, kinds: &[Kind], number: u32, body: &TypeBody) -> Kind
 pub fn type_kinds(alloc: Global, names: &Space, types: &[TypeDecl]) -> Result<Many<Kind>, Memory>
     requires names { names.now ≡ map (λ d. d.name) types.now }
     requires different { repeated [] names.now ≡ [] }
-    requires few { length types.now ≤ most }
+    requires few { length types.now ≤ source_limit }
     ensures { IfOk result (λ ks. ks ≡ declared_kinds (reverse types.now)) }
 {
     let mut kinds = Many::new(alloc);
@@ -131,7 +131,7 @@ pub fn signatures(
 
 /// Adds the labels of one declaration.
 fn push_labels(places: &mut Many<Label>, declaration: u32, labels: &[Name]) -> Result<(), Memory>
-    requires { length labels.now ≤ most }
+    requires { length labels.now ≤ source_limit }
     ensures { IfOk result (λ done. places.new ≡ places.old ++ places_among declaration 0 labels.now) }
 {
     let mut number = 0;
@@ -147,7 +147,7 @@ fn push_labels(places: &mut Many<Label>, declaration: u32, labels: &[Name]) -> R
 
 /// Adds the labels of one declaration, where it has any.
 fn push_labels_of(places: &mut Many<Label>, declaration: u32, d: &TypeDecl) -> Result<(), Memory>
-    requires { length (labels_of d.now) ≤ most }
+    requires { length (labels_of d.now) ≤ source_limit }
     ensures { IfOk result (λ done. places.new ≡ places.old ++ places_among declaration 0 (labels_of d.now)) }
 {
     match &d.body {
@@ -158,8 +158,8 @@ fn push_labels_of(places: &mut Many<Label>, declaration: u32, d: &TypeDecl) -> R
 
 /// All labels, in the order of their declarations.
 pub fn label_places(alloc: Global, types: &[TypeDecl]) -> Result<Many<Label>, Memory>
-    requires few { length types.now ≤ most }
-    requires few_labels { (d : AnyType) → Contains types.now d → length (labels_of d) ≤ most }
+    requires few { length types.now ≤ source_limit }
+    requires few_labels { (d : AnyType) → Contains types.now d → length (labels_of d) ≤ source_limit }
     ensures { IfOk result (λ ls. ls ≡ places_from 0 types.now) }
 {
     let mut places = Many::new(alloc);
