@@ -25,3 +25,4 @@ pub mod MemorySites
 pub mod OneFault
 pub mod FirstFault
 pub mod Placed
+pub mod Grouped

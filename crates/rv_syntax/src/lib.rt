@@ -21,6 +21,7 @@ ghost use Rattle.rv_syntax.specs.declared.token.Mark.TheVariants as mark;
 ghost use Rattle.rv_syntax.specs.declared.token.Token.{Token as TokenModel};
 ghost use Rattle.rv_syntax.specs.declared.tree.Name.{Name as NameAt};
 
+mod decls;
 mod fault;
 mod lexer;
 mod limits;
@@ -29,11 +30,10 @@ mod operator;
 mod parser;
 mod rules;
 mod sites;
-#[cfg(test)]
-mod tests;
 mod token;
 mod tree;
 
+pub use decls::Decls;
 use fault::Stop;
 pub use fault::TextFault;
 use lexer::tokens_of;
