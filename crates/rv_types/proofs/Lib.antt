@@ -1,4 +1,5 @@
 mod Joined
+mod Grouped
 mod FirstLaws
 mod OneFault
 mod Spaced
