@@ -1,5 +1,6 @@
 -- Walks over the flows of a section that use what is found of a flow for the rest of its group.
-use Rattle.std.proofs.Common.{◌≡◌, ℕ, zero, suc, ◌+◌, ◌<◌, List, [], ◌∷◌, ◌++◌, map, flat_map, take, length, get_or, slice_get, option_map, Option, Some, sym, ap, ◌∙◌, subst, arith, append_assoc}
+use Rattle.std.proofs.Common.{◌≡◌, ℕ, zero, suc, ◌+◌, ◌<◌, List, [], ◌∷◌, ◌++◌, map, flat_map, take, length, get_or}
+use Rattle.std.proofs.Common.{slice_get, option_map, Option, Some, sym, ap, ◌∙◌, subst, arith, append_assoc}
 use Rattle.std.proofs.lemmas.Grind.{flat_map-append}
 use Rattle.std.proofs.lemmas.List.{take_more, map-append, append-nil}
 use Rattle.std.proofs.lemmas.Option.{slice_get-get_or}
@@ -21,7 +22,8 @@ kept part found xs (suc k) before x later within alike known is =
     known k (get_or xs k x) step there ∙ ap found parts
 
 -- what is found of the item that was read
-pub looked_up : {X A : Type 0} (found : X → A) (xs : List X) (i : ℕ) (own : A) (read x : X) → own ≡ found read → slice_get xs i ≡ Some read → slice_get xs i ≡ Some x → own ≡ found x
+pub looked_up : {X A : Type 0} (found : X → A) (xs : List X) (i : ℕ) (own : A) (read x : X) → own ≡ found read
+    → slice_get xs i ≡ Some read → slice_get xs i ≡ Some x → own ≡ found x
 looked_up found xs i own read x e p q = let same : read ≡ x = cc in e ∙ ap found same
 
 -- it is that of the item before the next one
@@ -40,7 +42,8 @@ fault_step faults (x ∷ xs) i fault own both within known so_far joined =
     ap (flat_map faults) longer ∙ flat_map-append faults (take i (x ∷ xs)) (get_or (x ∷ xs) i x ∷ [])
     ∙ ap (λ l. flat_map faults (take i (x ∷ xs)) ++ l) (append-nil (faults (get_or (x ∷ xs) i x))) in
     let now = known (get_or (x ∷ xs) i x) (slice_get-get_or (x ∷ xs) i x within) in
-    joined ∙ (λ j. sooner (so_far j) (now j)) ∙ sym (first_append (flat_map faults (take i (x ∷ xs))) (faults (get_or (x ∷ xs) i x))) ∙ sym (ap first split)
+    let one = first_append (flat_map faults (take i (x ∷ xs))) (faults (get_or (x ∷ xs) i x)) in
+    joined ∙ (λ j. sooner (so_far j) (now j)) ∙ sym one ∙ sym (ap first split)
 
 -- what is found of one item more is added
 pub pushed_step : {X A : Type 0} (found : X → A) (xs : List X) (i : ℕ) (own : A) (initial old new : List A) → i < length xs
@@ -52,4 +55,5 @@ pushed_step found (x ∷ xs) i own initial old new within known so_far pushed =
     let split : map found (take (i + 1) (x ∷ xs)) ≡ map found (take i (x ∷ xs)) ++ found (get_or (x ∷ xs) i x) ∷ [] =
     ap (map found) longer ∙ map-append found (take i (x ∷ xs)) (get_or (x ∷ xs) i x ∷ []) in
     let now = known (get_or (x ∷ xs) i x) (slice_get-get_or (x ∷ xs) i x within) in
-    pushed ∙ (λ j. so_far j ++ now j ∷ []) ∙ append_assoc initial (map found (take i (x ∷ xs))) (found (get_or (x ∷ xs) i x) ∷ []) ∙ sym (ap (λ l. initial ++ l) split)
+    let back = sym (ap (λ l. initial ++ l) split) in
+    pushed ∙ (λ j. so_far j ++ now j ∷ []) ∙ append_assoc initial (map found (take i (x ∷ xs))) (found (get_or (x ∷ xs) i x) ∷ []) ∙ back

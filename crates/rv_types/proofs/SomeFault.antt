@@ -70,6 +70,7 @@ settles p main right = record {
 pub settled_or_first : (p : ProgramTree) (main : Identifier) → ((t : Typed) × IsSettled p main t) ⊎ ((f : NameFault) × IsFirstFault p main f)
 settled_or_first p main = told (some_of_groups (groups p main))
   where
-    told : AreNone (groups p main) ⊎ ((f : NameFault) × IsFirstOfGroups (groups p main) f) → ((t : Typed) × IsSettled p main t) ⊎ ((f : NameFault) × IsFirstFault p main f)
+    told : AreNone (groups p main) ⊎ ((f : NameFault) × IsFirstOfGroups (groups p main) f)
+        → ((t : Typed) × IsSettled p main t) ⊎ ((f : NameFault) × IsFirstFault p main f)
     told (inl right) = inl (settlement p main, settles p main right)
     told (inr h) = inr h

@@ -58,13 +58,7 @@ pub fn type_kinds(alloc: Global, names: &Space, types: &[TypeDecl]) -> Result<Ma
 }
 
 /// The type of a flow, which is that of the flow before it where both stand in one group.
-fn kind_in_group(
-    names: &Space,
-    types: &[Kind],
-    decls: &Decls,
-    index: usize,
-    before: Kind,
-) -> Kind
+fn kind_in_group(names: &Space, types: &[Kind], decls: &Decls, index: usize, before: Kind) -> Kind
     requires within { index < length decls.now }
     requires before { (k : ℕ) (d : AnyDecl) → k + 1 ≡ index → slice_get decls.now k ≡ Some d → before ≡ written_kind (entry_in names.now types.now) d.kind }
     ensures { (d : AnyDecl) → slice_get decls.now index ≡ Some d → result ≡ written_kind (entry_in names.now types.now) d.kind }

@@ -6,7 +6,10 @@ use Rattle.rv_types.proofs.Grouped.{pushed_step, here}
 use Rattle.rv_types.proofs.kinds.push_kinds.Goals as goal
 
 pub loop-index-preserved : goal.loop-index-preserved
-loop-index-preserved c = record {
-  so_far = pushed_step (λ (d : Decl). written_kind (entry_in c.args.names.now c.args.types.now) d.kind) c.args.decls.now c.loop-index.index c.kind_in_group-own.result _ _ _ (omega arith) c.kind_in_group-own.ensures c.loop-index.invariant.so_far c.in_ok-push.ensures.ok;
-  before = here (λ (d : Decl). written_kind (entry_in c.args.names.now c.args.types.now) d.kind) c.args.decls.now c.loop-index.index c.kind_in_group-own.result c.kind_in_group-own.ensures;
-}
+loop-index-preserved c =
+    let own = c.kind_in_group-own in
+    record {
+      so_far = pushed_step (λ (d : Decl). written_kind (entry_in c.args.names.now c.args.types.now) d.kind) c.args.decls.now c.loop-index.index own.result _ _ _
+          (omega arith) own.ensures c.loop-index.invariant.so_far c.in_ok-push.ensures.ok;
+      before = here (λ (d : Decl). written_kind (entry_in c.args.names.now c.args.types.now) d.kind) c.args.decls.now c.loop-index.index own.result own.ensures;
+    }
