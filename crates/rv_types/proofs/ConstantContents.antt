@@ -1,10 +1,11 @@
 -- A constant expression that has a type has a value of that type.
-use Rattle.std.proofs.Common.{◌≡◌, ℕ, suc, ◌+◌, ◌<◌, ◌^◌, max, Bool, true, false, cond, ◌&&◌, ◌||◌, List, [], ◌∷◌, reverse, length, nat_abs, Option, Some, refl, sym, ◌∙◌, ap, subst, arith}
+use Rattle.std.proofs.Common.{◌≡◌, ℕ, suc, ◌+◌, ◌<◌, max, Bool, true, false, cond, ◌&&◌, ◌||◌, List, [], ◌∷◌, reverse, length, nat_abs, Option, Some, refl, sym, ◌∙◌, ap, subst, arith}
 use Rattle.std.proofs.Common.{None as Nothing}
 use Rattle.std.specs.Prelude.{ℤ, pos, nat_le}
 use Rattle.std.proofs.lemmas.Bool.{eqb-true}
 use Rattle.rv_base.specs.declared.value.Value.{Value}
 use Rattle.rv_base.specs.declared.value.Value.TheVariants.{Flag, Label, Whole}
+use Rattle.rv_syntax.specs.Limits.{heaviest, too_heavy}
 use Rattle.rv_syntax.specs.declared.tree.Name.{Name}
 use Rattle.rv_syntax.specs.declared.tree.Op.{Op}
 use Rattle.rv_syntax.specs.declared.tree.Op.TheVariants as op
@@ -48,9 +49,9 @@ module _ (p : ProgramTree) where
   flag_kind b k e = subst (λ j. HasKind p j (Flag b)) e tt
 
   counted_kind : (weight : ℕ) (z : ℤ) (k : Kind) → kind.Int ≡ k → HasKind p k (counted weight z)
-  counted_kind weight z k e = subst (λ j. HasKind p j (counted weight z)) e (by (nat_le weight (2 ^ 40)))
+  counted_kind weight z k e = subst (λ j. HasKind p j (counted weight z)) e (by (nat_le weight heaviest))
     where
-      by : (b : Bool) → HasKind p kind.Int (cond b (Whole z) (Whole (pos (2 ^ 40 + 1))))
+      by : (b : Bool) → HasKind p kind.Int (cond b (Whole z) (Whole (pos too_heavy)))
       by true = tt
       by false = tt
 

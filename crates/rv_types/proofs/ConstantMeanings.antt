@@ -24,7 +24,8 @@ use Rattle.rv_types.specs.Scopes.{label_kind, label_value, constant_scope, as_de
 use Rattle.rv_types.specs.Earliest.{first, sooner}
 use Rattle.rv_types.specs.Tables.{entry_in, type_of_label, constant_or, value_in}
 use Rattle.rv_types.specs.TypeTables.{declared_kinds, places_from}
-use Rattle.rv_types.specs.ValueTables.{cap, value_of_label, value_or, known_in, AreSmall}
+use Rattle.rv_syntax.specs.Limits.{too_heavy}
+use Rattle.rv_types.specs.ValueTables.{value_of_label, value_or, known_in, AreSmall}
 use Rattle.rv_types.specs.ConstantTables.{AreTablesOf, as_declared_by, declared_clash, constant_types_by}
 use Rattle.rv_types.proofs.Joined.{first_append}
 use Rattle.rv_types.proofs.LastFirst.{last_of, all_of, front_of, last_is, all_of-map, get_last, get_elsewhere}
@@ -134,16 +135,16 @@ slice_cases xs v k = tested (nat_eq k (length xs)) refl
     tested true e = let at : k ≡ length xs = grind (arith, nat_tests) in inl (ap (slice_get (xs ++ v ∷ [])) at ∙ get_last xs v)
     tested false e = inr (get_elsewhere xs v k (λ at. let b : ⊥ = grind (arith, nat_tests) in b))
 
-pub more_small : (names : List Name) (vs : List Value) (labels : List Name) (places : List Label) (v : Value) → AreSmall (known_in names vs labels places) → nat_abs (whole_in v) ≤ cap → AreSmall (known_in names (vs ++ v ∷ []) labels places)
+pub more_small : (names : List Name) (vs : List Value) (labels : List Name) (places : List Label) (v : Value) → AreSmall (known_in names vs labels places) → nat_abs (whole_in v) ≤ too_heavy → AreSmall (known_in names (vs ++ v ∷ []) labels places)
 more_small names vs labels places v small h x = by (is_declared names x) (slice_cases vs v (index_of (texts names) x)) (small x)
   where
     label : Value
     label = value_of_label (entry_in labels places x)
 
-    by : (b : Bool) {o q : Option Value} → (q ≡ Some v) ⊎ (o ≡ q) → nat_abs (whole_in (value_or (cond b o Nothing) label)) ≤ cap → nat_abs (whole_in (value_or (cond b q Nothing) label)) ≤ cap
-    by true (inl e) old = subst (λ q. nat_abs (whole_in (value_or q label)) ≤ cap) (sym e) h
+    by : (b : Bool) {o q : Option Value} → (q ≡ Some v) ⊎ (o ≡ q) → nat_abs (whole_in (value_or (cond b o Nothing) label)) ≤ too_heavy → nat_abs (whole_in (value_or (cond b q Nothing) label)) ≤ too_heavy
+    by true (inl e) old = subst (λ q. nat_abs (whole_in (value_or q label)) ≤ too_heavy) (sym e) h
     by false (inl e) old = old
-    by b (inr e) old = subst (λ q. nat_abs (whole_in (value_or (cond b q Nothing) label)) ≤ cap) e old
+    by b (inr e) old = subst (λ q. nat_abs (whole_in (value_or (cond b q Nothing) label)) ≤ too_heavy) e old
 
 pub types_tabled : (p : ProgramTree) (types : List Name) (kinds : List Kind) → types ≡ type_names p → kinds ≡ declared_kinds (reverse p.types) → repeated [] (type_names p) ≡ [] → entry_in types kinds ≡ kind_after (reverse p.types)
 types_tabled p types kinds e k different =

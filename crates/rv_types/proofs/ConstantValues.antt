@@ -16,13 +16,14 @@ use Rattle.rv_types.specs.Kinds.{LabelPlace, label_of}
 use Rattle.rv_types.specs.Types.{Scope, is_constant, is_constant_form, are_constant}
 use Rattle.rv_types.specs.Constants.{flag_in, whole_in, counted_part, value_of, form_value, weight_of, form_weight, flags_of_all}
 use Rattle.rv_types.specs.Scopes.{constant_value, constant_value_after}
-use Rattle.rv_types.specs.ValueTables.{cap, AreSmall, at_most_after}
+use Rattle.rv_syntax.specs.Limits.{too_heavy}
+use Rattle.rv_types.specs.ValueTables.{AreSmall, at_most_after}
 use Rattle.rv_types.specs.ConstantParts.{constant_form, constant_part, trues_after, trues_over}
 use Rattle.rv_types.proofs.Weights.{counted_small, under_small}
 
 -- Values are small.
 
-part_small : (m : ℕ) (v : Value) → nat_abs (whole_in v) ≤ m → nat_abs (whole_in (counted_part m v)) ≤ min m cap
+part_small : (m : ℕ) (v : Value) → nat_abs (whole_in v) ≤ m → nat_abs (whole_in (counted_part m v)) ≤ min m too_heavy
 part_small m (Whole z) h = counted_small m z h
 part_small m (Flag b) h = omega arith
 part_small m (value.Label k) h = omega arith
@@ -34,15 +35,15 @@ chosen_small : (b : Bool) (v w : Value) (m n : ℕ) → nat_abs (whole_in v) ≤
 chosen_small true v w m n g h = omega (arith, g)
 chosen_small false v w m n g h = omega (arith, h)
 
-capped_less : (k m : ℕ) → k ≤ min m cap → k ≤ m
+capped_less : (k m : ℕ) → k ≤ min m too_heavy → k ≤ m
 capped_less k m h = omega (arith, h)
 
 module _ (known : Identifier → Value) (small : AreSmall known) where
   mutual
-    pub value_small : (e : Tree) → nat_abs (whole_in (value_of known e)) ≤ min (weight_of known e) cap
+    pub value_small : (e : Tree) → nat_abs (whole_in (value_of known e)) ≤ min (weight_of known e) too_heavy
     value_small (Node at site form) = form_small form
 
-    form_small : (form : Form) → nat_abs (whole_in (form_value known form)) ≤ min (form_weight known form) cap
+    form_small : (form : Form) → nat_abs (whole_in (form_value known form)) ≤ min (form_weight known form) too_heavy
     form_small True = omega arith
     form_small False = omega arith
     form_small (Number n) = counted_small n (pos n) (omega (arith, ints))
@@ -64,7 +65,7 @@ module _ (known : Identifier → Value) (small : AreSmall known) where
     form_small (AtMostOne es) = omega arith
     form_small (Call f es) = omega arith
 
-label_small : (o : Option LabelPlace) → nat_abs (whole_in (elim o as (λ _. Value) [ Nothing ↦ Flag false | Some l ↦ value.Label l.number ])) ≤ cap
+label_small : (o : Option LabelPlace) → nat_abs (whole_in (elim o as (λ _. Value) [ Nothing ↦ Flag false | Some l ↦ value.Label l.number ])) ≤ too_heavy
 label_small Nothing = omega arith
 label_small (Some l) = omega arith
 
@@ -72,7 +73,7 @@ pub small_after : (p : ProgramTree) (before : List ConstantTree) → AreSmall (c
 small_after p [] x = label_small (label_of p x)
 small_after p (c ∷ before) x = tested (is_same c.name.text x) (small_after p before)
   where
-    tested : (b : Bool) → AreSmall (constant_value_after p before) → nat_abs (whole_in (cond b (value_of (constant_value_after p before) c.body) (constant_value_after p before x))) ≤ cap
+    tested : (b : Bool) → AreSmall (constant_value_after p before) → nat_abs (whole_in (cond b (value_of (constant_value_after p before) c.body) (constant_value_after p before x))) ≤ too_heavy
     tested true small = let h = value_small (constant_value_after p before) small c.body in omega (arith, h)
     tested false small = small x
 
@@ -105,7 +106,7 @@ not_arrow s op.Mod a b h = refl
 pub record IsConstantPart (s : Scope) (known : Identifier → Value) (e : Tree) (w : Weighed) : Type 0 where
   pub constant : is_constant s e ≡ true
   pub value : w.value ≡ value_of known e
-  pub weight : w.weight ≡ min (weight_of known e) cap
+  pub weight : w.weight ≡ min (weight_of known e) too_heavy
 
 known_at : (b : Bool) (v w : Weighed) → Some w ≡ cond b (Some v) Nothing → (b ≡ true) × (w ≡ v)
 known_at true v w e = (refl, (let f : w ≡ v = cc in f))
@@ -113,12 +114,12 @@ known_at false v w e = cc
 
 pub is_part : (s : Scope) (known : Identifier → Value) (e : Tree) (w : Weighed) → Some w ≡ constant_part s known e → IsConstantPart s known e w
 is_part s known (Node at site form) w e =
-    let v = known_at (is_constant_form s form) (record { value = form_value known form; weight = min (form_weight known form) cap }) w e in
+    let v = known_at (is_constant_form s form) (record { value = form_value known form; weight = min (form_weight known form) too_heavy }) w e in
     record { constant = v.0; value = ap (λ (w : Weighed). w.value) v.1; weight = ap (λ (w : Weighed). w.weight) v.1 }
 
-pub makes_form : (s : Scope) (known : Identifier → Value) (form : Form) (w : Weighed) → is_constant_form s form ≡ true → w.value ≡ form_value known form → w.weight ≡ min (form_weight known form) cap → Some w ≡ constant_form s known form
+pub makes_form : (s : Scope) (known : Identifier → Value) (form : Form) (w : Weighed) → is_constant_form s form ≡ true → w.value ≡ form_value known form → w.weight ≡ min (form_weight known form) too_heavy → Some w ≡ constant_form s known form
 makes_form s known form w c v m =
-    (λ i. Some (record { value = v i; weight = m i })) ∙ ap (λ b. cond b (Some (record { value = form_value known form; weight = min (form_weight known form) cap })) Nothing) (sym c)
+    (λ i. Some (record { value = v i; weight = m i })) ∙ ap (λ b. cond b (Some (record { value = form_value known form; weight = min (form_weight known form) too_heavy })) Nothing) (sym c)
 
 -- The operands of a `#`.
 
@@ -154,7 +155,7 @@ module _ (s : Scope) (known : Identifier → Value) where
       never false b = refl
 
       step : (b : Bool) → ((t : Trues) → told (trues_over s known t es) ≡ cond (t.constant && are_constant s es) (Some (not t.several && at_most_after t.some (flags_of_all known es))) Nothing)
-          → told (trues_over s known (trues_after t (cond b (Some (record { value = form_value known form; weight = min (form_weight known form) cap })) Nothing)) es)
+          → told (trues_over s known (trues_after t (cond b (Some (record { value = form_value known form; weight = min (form_weight known form) too_heavy })) Nothing)) es)
           ≡ cond (t.constant && (b && are_constant s es)) (Some (not t.several && at_most_after t.some (flag_in (form_value known form) ∷ flags_of_all known es))) Nothing
       step true again =
           again (record { constant = t.constant; some = t.some || flag_in (form_value known form); several = t.several || (t.some && flag_in (form_value known form)) })
@@ -171,7 +172,7 @@ module _ (s : Scope) (known : Identifier → Value) where
   made_told true b = refl
   made_told false b = refl
 
-  told_form : (c b : Bool) → made (cond c (Some b) Nothing) ≡ cond c (Some (record { value = Flag b; weight = min 0 cap })) Nothing
+  told_form : (c b : Bool) → made (cond c (Some b) Nothing) ≡ cond c (Some (record { value = Flag b; weight = min 0 too_heavy })) Nothing
   unfolding made
   told_form true b = refl
   told_form false b = refl

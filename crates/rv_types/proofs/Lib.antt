@@ -1,4 +1,5 @@
 mod Joined
+mod Grouped
 mod FirstLaws
 mod OneFault
 mod Spaced
@@ -19,6 +20,7 @@ mod NodeScope
 mod MainNode
 mod TimingLaws
 mod Answered
+mod SomeFault
 mod NodeFlows
 mod Refusals
 mod Members

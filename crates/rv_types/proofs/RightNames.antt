@@ -5,7 +5,7 @@ use Rattle.rv_syntax.specs.declared.tree.TypeBody.{TypeBody}
 use Rattle.rv_syntax.specs.declared.tree.TypeBody.TheVariants.{Alias, Labels}
 use Rattle.rv_syntax.specs.declared.tree.TypeDecl.{TypeDecl}
 use Rattle.rv_syntax.specs.Tree.{NodeTree, ProgramTree}
-use Rattle.rv_syntax.specs.Bounded.{most}
+use Rattle.rv_syntax.specs.Limits.{source_limit}
 use Rattle.rv_types.specs.Names.{labels_of, type_names, constant_names, label_names, node_names, repeated, names_in_node, name_faults}
 use Rattle.rv_types.specs.Known.{first_spaces, flow_names}
 use Rattle.rv_types.specs.TypeTables.{declared_kinds, places_from}
@@ -39,10 +39,10 @@ all_different p e =
 pub flows_different : (p : ProgramTree) (n : NodeTree) → names_in_node p n ≡ [] → repeated [] (flow_names n) ≡ []
 flows_different p n e = (both_empty _ _ (both_empty _ _ e).0).0
 
-pub few_labels : (d : TypeDecl) → ((xs : List Name) → d.body ≡ Labels xs → length xs ≤ most) → length (labels_of d) ≤ most
+pub few_labels : (d : TypeDecl) → ((xs : List Name) → d.body ≡ Labels xs → length xs ≤ source_limit) → length (labels_of d) ≤ source_limit
 few_labels d h = tested d.body h
   where
-    tested : (b : TypeBody) → ((xs : List Name) → b ≡ Labels xs → length xs ≤ most) → length (elim b as (λ _. List Name) [ Alias t ↦ [] | Labels xs ↦ xs ]) ≤ most
+    tested : (b : TypeBody) → ((xs : List Name) → b ≡ Labels xs → length xs ≤ source_limit) → length (elim b as (λ _. List Name) [ Alias t ↦ [] | Labels xs ↦ xs ]) ≤ source_limit
     tested (Alias t) h = omega arith
     tested (Labels xs) h = h xs refl
 

@@ -9,12 +9,12 @@ use Rattle.rv_types.specs.declared.weighing.Weighed.{Weighed}
 use Rattle.rv_types.specs.declared.reading_values.Trues.{Trues}
 use Rattle.rv_types.specs.Types.{Scope, is_constant_form}
 use Rattle.rv_types.specs.Constants.{flag_in, whole_in, form_value, form_weight}
-use Rattle.rv_types.specs.ValueTables.{cap}
+use Rattle.rv_syntax.specs.Limits.{too_heavy}
 
 -- A value is no larger than its weight, and that counts to 2^40 + 1.
 pub record IsBound (w : Weighed) : Type 0 where
   pub value : nat_abs (whole_in w.value) ≤ w.weight
-  pub weight : w.weight ≤ cap
+  pub weight : w.weight ≤ too_heavy
 
 -- the same where something is known
 abbrev pub IsKnownBound : Option Weighed → Type 0
@@ -23,7 +23,7 @@ IsKnownBound o = IfSome o IsBound
 module _ (s : Scope) (known : Identifier → Value) where
   -- The value and the weight of a constant expression, whose weight counts to 2^40 + 1. Of another nothing is known.
   abbrev pub constant_form : Form → Option Weighed
-  constant_form form = cond (is_constant_form s form) (Some (record { value = form_value known form; weight = min (form_weight known form) cap })) Nothing
+  constant_form form = cond (is_constant_form s form) (Some (record { value = form_value known form; weight = min (form_weight known form) too_heavy })) Nothing
 
   abbrev pub constant_part : Tree → Option Weighed
   constant_part (Node at site form) = constant_form form

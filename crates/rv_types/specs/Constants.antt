@@ -1,12 +1,13 @@
 -- The values of constant expressions over integers of any size. An integer expression of a weight above 2^40 counts
 -- as the value 2^40 + 1.
-use Rattle.std.specs.Prelude.{ℕ, ◌+◌, ◌*◌, ◌^◌, max, Bool, true, false, not, ◌&&◌, ◌||◌, cond, nat_eq, nat_le, List, [], ◌∷◌, ℤ, pos, ◌+ℤ◌, ◌-ℤ◌, ◌*ℤ◌, neg_ℤ, nat_abs, int_lt, int_le}
+use Rattle.std.specs.Prelude.{ℕ, ◌+◌, ◌*◌, max, Bool, true, false, not, ◌&&◌, ◌||◌, cond, nat_eq, nat_le, List, [], ◌∷◌, ℤ, pos, ◌+ℤ◌, ◌-ℤ◌, ◌*ℤ◌, neg_ℤ, nat_abs, int_lt, int_le}
 use Rattle.rv_base.specs.declared.value.Value.{Value}
 use Rattle.rv_base.specs.declared.value.Value.TheVariants.{Flag, Label, Whole}
 use Rattle.rv_syntax.specs.declared.tree.Op.{Op}
 use Rattle.rv_syntax.specs.declared.tree.Op.TheVariants as op
 use Rattle.rv_syntax.specs.Tree.{Tree, Form, Trees, Node, True, False, Number, Named, Not, Minus, Binary, If, AtMostOne, None, More}
 use Rattle.rv_syntax.specs.Places.{Identifier}
+use Rattle.rv_syntax.specs.Limits.{heaviest, too_heavy}
 
 -- the truth of a Boolean value
 abbrev pub flag_in : Value → Bool
@@ -20,7 +21,7 @@ whole_in _ = pos 0
 
 -- the value that an integer expression of a weight counts as
 abbrev pub counted : ℕ → ℤ → Value
-counted weight z = cond (nat_le weight (2 ^ 40)) (Whole z) (Whole (pos (2 ^ 40 + 1)))
+counted weight z = cond (nat_le weight heaviest) (Whole z) (Whole (pos too_heavy))
 
 -- one of the last two parts of an `if`, of the larger weight of both
 abbrev pub counted_part : ℕ → Value → Value

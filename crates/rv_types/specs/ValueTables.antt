@@ -1,17 +1,18 @@
--- What constants and labels stand for, by tables, and the weight that any larger one counts as.
-use Rattle.std.specs.Prelude.{ℕ, ◌+◌, ◌^◌, ◌≤◌, Bool, true, false, List, nat_abs, Option, Some}
+-- What constants and labels stand for, by tables.
+use Rattle.std.specs.Prelude.{ℕ, ◌≤◌, Bool, true, false, List, nat_abs, Option, Some}
 use Rattle.std.specs.Prelude.{None as Nothing}
 use Rattle.rv_base.specs.declared.value.Value.{Value}
 use Rattle.rv_base.specs.declared.value.Value.TheVariants as value
 use Rattle.rv_syntax.specs.declared.tree.Name.{Name}
 use Rattle.rv_syntax.specs.Places.{Identifier}
+use Rattle.rv_syntax.specs.Limits.{too_heavy}
 use Rattle.rv_types.specs.declared.view.Label.{Label}
 use Rattle.rv_types.specs.Constants.{whole_in, none_true, at_most_one}
 use Rattle.rv_types.specs.Tables.{entry_in}
 
--- the weight that any larger one counts as
+-- as what any larger weight counts
 abbrev pub cap : ℕ
-cap = 2 ^ 40 + 1
+cap = too_heavy
 
 abbrev pub value_of_label : Option Label → Value
 value_of_label Nothing = value.Flag false
@@ -38,7 +39,7 @@ value_by t = known_in t.constants t.values t.labels t.places
 
 -- integers count to 2^40 + 1 at most
 abbrev pub AreSmall : (Identifier → Value) → Type 0
-AreSmall known = (x : Identifier) → nat_abs (whole_in (known x)) ≤ cap
+AreSmall known = (x : Identifier) → nat_abs (whole_in (known x)) ≤ too_heavy
 
 -- whether at most one flag is true, where one before them is or none
 abbrev pub at_most_after : Bool → List Bool → Bool

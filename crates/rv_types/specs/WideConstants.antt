@@ -1,9 +1,10 @@
 -- The least offset of what is too wide in constants.
-use Rattle.std.specs.Prelude.{ℕ, ◌^◌, min, cond, nat_lt, List, [], ◌∷◌, Option, Some}
+use Rattle.std.specs.Prelude.{ℕ, min, cond, nat_lt, List, [], ◌∷◌, Option, Some}
 use Rattle.std.specs.Prelude.{None as Nothing}
 use Rattle.rv_base.specs.declared.value.Value.{Value}
 use Rattle.rv_syntax.specs.Tree.{Tree, Node, Form, True, False, Number, Named, Not, Minus, Pre, Current, When, Binary, If, AtMostOne, Call, Trees, None, More, ConstantTree, ProgramTree}
 use Rattle.rv_syntax.specs.Places.{Identifier}
+use Rattle.rv_syntax.specs.Limits.{heaviest}
 use Rattle.rv_types.specs.Constants.{form_weight}
 use Rattle.rv_types.specs.Scopes.{constant_value_after}
 
@@ -15,7 +16,7 @@ lesser (Some a) (Some b) = Some (min a b)
 
 -- the offset of an expression of a weight, where that is above 2^40
 abbrev pub wide_at : ℕ → ℕ → Option ℕ
-wide_at at weight = cond (nat_lt (2 ^ 40) weight) (Some at) Nothing
+wide_at at weight = cond (nat_lt heaviest weight) (Some at) Nothing
 
 module _ (known : Identifier → Value) where
   -- The least offset of what is too wide in the body of a constant, where the names of constants have these values.

@@ -1,6 +1,7 @@
 //! The clocks of flows, and the rules of clocks.
 
-ghost use Rattle.std.specs.Prelude.{◌≡◌, ◌++◌, [], ◌<◌, ◌^◌, length, map, flat_map, IfOk};
+ghost use Rattle.std.specs.Prelude.{◌≡◌, ◌+◌, ◌++◌, [], ◌<◌, ◌^◌, ℕ, length, map, flat_map, slice_get, IfOk};
+ghost use Rattle.rv_syntax.specs.declared.tree.Decl.{Decl as AnyDecl};
 ghost use Rattle.rv_syntax.specs.Tree.{node_tree, equation_tree, assertion_tree};
 ghost use Rattle.rv_syntax.specs.Places.{flows as flow_texts};
 ghost use Rattle.rv_types.specs.Names.{texts, repeated};
@@ -13,13 +14,14 @@ ghost use Rattle.rv_types.specs.Earliest.{first};
 use crate::chains::{chain_ends, follow_clock};
 use crate::fault::{NameFault, Pace};
 use crate::first::sooner_of;
+use crate::groups::goes_on;
 use crate::names::flows_of;
 use crate::pacing::{as_seen, clash_of, met, pace_of, pace_of_name};
 use crate::space::Space;
 use crate::timing::Timing;
 use crate::typed::Clock;
 use rv_base::{Many, Memory};
-use rv_syntax::{Assertion, Decl, Equation, Name, Node};
+use rv_syntax::{Assertion, Decl, Decls, Equation, Name, Node};
 use std::alloc::Global;
 
 fn push_base(clocks: &mut Vec<Clock>, decls: &[Decl]) -> Result<(), Memory>
@@ -41,12 +43,28 @@ fn declared_clock(flows: &Space, clock: &Option<Name>) -> Clock
     }
 }
 
-fn push_declared(clocks: &mut Vec<Clock>, flows: &Space, decls: &[Decl]) -> Result<(), Memory>
+/// The clock of a flow, which is that of the flow before it where both stand in one group.
+fn clock_in_group(flows: &Space, decls: &Decls, index: usize, before: Clock) -> Clock
+    requires few { length flows.now < 2 ^ 32 }
+    requires within { index < length decls.now }
+    requires before { (k : ℕ) (d : AnyDecl) → k + 1 ≡ index → slice_get decls.now k ≡ Some d → before ≡ clock_by flows.now d.clock }
+    ensures { (d : AnyDecl) → slice_get decls.now index ≡ Some d → result ≡ clock_by flows.now d.clock }
+{
+    if goes_on(decls, index) {
+        before
+    } else {
+        declared_clock(flows, &decls.at(index).clock)
+    }
+}
+
+fn push_declared(clocks: &mut Vec<Clock>, flows: &Space, decls: &Decls) -> Result<(), Memory>
     requires { length flows.now < 2 ^ 32 }
     ensures { IfOk result (λ done. clocks.new.items ≡ clocks.old.items ++ map (λ d. clock_by flows.now d.clock) decls.now) }
 {
-    for decl in decls {
-        clocks.push(declared_clock(flows, &decl.clock))?;
+    let mut own = Clock::Base;
+    for index in 0..decls.len() {
+        own = clock_in_group(flows, decls, index, own);
+        clocks.push(own)?;
     }
     Ok(())
 }
@@ -60,7 +78,7 @@ pub fn clocks_of(alloc: Global, flows: &Space, node: &Node) -> Result<Vec<Clock>
     let mut clocks = Vec::new(alloc);
     push_base(&mut clocks, node.inputs.as_slice())?;
     push_base(&mut clocks, node.outputs.as_slice())?;
-    push_declared(&mut clocks, flows, node.locals.as_slice())?;
+    push_declared(&mut clocks, flows, &node.locals)?;
     Ok(clocks)
 }
 
@@ -87,13 +105,35 @@ fn chain_fault(timing: &Timing, ends: &[Clock], decl: &Decl) -> Option<NameFault
     }
 }
 
-fn chain_faults(timing: &Timing, ends: &[Clock], decls: &[Decl]) -> Option<NameFault>
+/// The same of a flow, which has what the flow before it has where both stand in one group.
+fn chain_fault_in(
+    timing: &Timing,
+    ends: &[Clock],
+    decls: &Decls,
+    index: usize,
+    before: Option<NameFault>,
+) -> Option<NameFault>
+    requires ends { EndsAt (node_tree timing.now.node.now) ends.now }
+    requires within { index < length decls.now }
+    requires before { (k : ℕ) (d : AnyDecl) → k + 1 ≡ index → slice_get decls.now k ≡ Some d → before ≡ first (chain_clash (node_tree timing.now.node.now) d) }
+    ensures { (d : AnyDecl) → slice_get decls.now index ≡ Some d → result ≡ first (chain_clash (node_tree timing.now.node.now) d) }
+{
+    if goes_on(decls, index) {
+        before
+    } else {
+        chain_fault(timing, ends, decls.at(index))
+    }
+}
+
+fn chain_faults(timing: &Timing, ends: &[Clock], decls: &Decls) -> Option<NameFault>
     requires { EndsAt (node_tree timing.now.node.now) ends.now }
     ensures { result ≡ first (flat_map (chain_clash (node_tree timing.now.node.now)) decls.now) }
 {
     let mut fault = None;
-    for decl in decls {
-        fault = sooner_of(fault, chain_fault(timing, ends, decl));
+    let mut own = None;
+    for index in 0..decls.len() {
+        own = chain_fault_in(timing, ends, decls, index, own);
+        fault = sooner_of(fault, own);
     }
     fault
 }
@@ -161,7 +201,7 @@ pub fn clock_fault(alloc: Global, timing: &Timing) -> Result<Option<NameFault>, 
 {
     let ends = ends_of(alloc, timing)?;
     let node = timing.node;
-    let chains = chain_faults(timing, ends.as_slice(), node.locals.as_slice());
+    let chains = chain_faults(timing, ends.as_slice(), &node.locals);
     let used = sooner_of(
         equation_faults(timing, node.equations.as_slice()),
         assertion_faults(timing, node.assertions.as_slice()),

@@ -8,7 +8,8 @@ ghost use Rattle.rv_types.specs.Earliest.{first, sooner};
 ghost use Rattle.rv_types.specs.Scopes.{constant_scope, constant_kinds_of, constant_values, constant_types};
 ghost use Rattle.rv_types.specs.Tables.{entry_in, scope_of, value_in};
 ghost use Rattle.rv_types.specs.Types.{kind_of};
-ghost use Rattle.rv_types.specs.ValueTables.{cap, known_in, AreSmall};
+ghost use Rattle.rv_syntax.specs.Limits.{too_heavy};
+ghost use Rattle.rv_types.specs.ValueTables.{known_in, AreSmall};
 ghost use Rattle.rv_types.specs.declared.fault.NameFault.{NameFault as AnyFault};
 
 use crate::fault::NameFault;
@@ -129,7 +130,7 @@ fn constant_after(globals: &Globals, none: &Space, before: &Constants, c: &Const
     requires small { AreSmall (known_in globals.now.constants.now before.now.values globals.now.labels.now globals.now.places.now) }
     ensures kind { result.kind ≡ as_declared_by (entry_in globals.now.types.now globals.now.type_kinds.now) c.now.kind (kind_of (constant_scope (value_in globals.now.constants.now before.now.kinds globals.now.labels.now globals.now.places.now)) (tree_of c.now.body)) }
     ensures value { result.value ≡ value_of (known_in globals.now.constants.now before.now.values globals.now.labels.now globals.now.places.now) (tree_of c.now.body) }
-    ensures bound { nat_abs (whole_in result.value) ≤ cap }
+    ensures bound { nat_abs (whole_in result.value) ≤ too_heavy }
     ensures fault { result.fault ≡ first (constant_types_by (entry_in globals.now.types.now globals.now.type_kinds.now) (constant_scope (value_in globals.now.constants.now before.now.kinds globals.now.labels.now globals.now.places.now)) (constant_tree c.now)) }
 {
     let view = View {

@@ -1,8 +1,9 @@
 //! The types of declarations.
 
-ghost use Rattle.std.specs.Prelude.{◌≡◌, ◌+◌, ◌≤◌, ◌<◌, ◌^◌, ◌++◌, [], map, reverse, length, IfOk};
+ghost use Rattle.std.specs.Prelude.{◌≡◌, ◌+◌, ◌≤◌, ◌<◌, ◌++◌, ℕ, [], map, reverse, length, slice_get, IfOk};
+ghost use Rattle.rv_syntax.specs.declared.tree.Decl.{Decl as AnyDecl};
 ghost use Rattle.rv_syntax.specs.Tree.{node_tree};
-ghost use Rattle.rv_syntax.specs.Bounded.{most};
+ghost use Rattle.rv_syntax.specs.Limits.{source_limit};
 ghost use Rattle.rv_syntax.specs.declared.tree.TypeDecl.{TypeDecl as AnyType};
 ghost use Rattle.rv_types.specs.Names.{repeated, labels_of};
 ghost use Rattle.rv_types.specs.Kinds.{written_kind, declared_kind};
@@ -10,11 +11,12 @@ ghost use Rattle.rv_types.specs.Tables.{entry_in};
 ghost use Rattle.rv_types.specs.TypeTables.{declared_kinds, kinds_by, flow_kinds_by, signature_by, places_among, places_from};
 ghost use Rattle.std.specs.List.{Contains};
 
+use crate::groups::goes_on;
 use crate::space::Space;
 use crate::typed::Kind;
 use crate::view::{Label, Signature, entry};
 use rv_base::{Many, Memory};
-use rv_syntax::{Decl, Name, Node, TypeBody, TypeDecl, TypeName};
+use rv_syntax::{Decls, Name, Node, TypeBody, TypeDecl, TypeName};
 use std::alloc::Global;
 
 /// What a written type is, where the names of types have these.
@@ -44,7 +46,7 @@ fn declared(names: &Space, kinds: &[Kind], number: u32, body: &TypeBody) -> Kind
 pub fn type_kinds(alloc: Global, names: &Space, types: &[TypeDecl]) -> Result<Many<Kind>, Memory>
     requires names { names.now ≡ map (λ d. d.name) types.now }
     requires different { repeated [] names.now ≡ [] }
-    requires few { length types.now ≤ most }
+    requires few { length types.now ≤ source_limit }
     ensures { IfOk result (λ ks. ks ≡ declared_kinds (reverse types.now)) }
 {
     let mut kinds = Many::new(alloc);
@@ -55,17 +57,32 @@ pub fn type_kinds(alloc: Global, names: &Space, types: &[TypeDecl]) -> Result<Ma
     Ok(kinds)
 }
 
+/// The type of a flow, which is that of the flow before it where both stand in one group.
+fn kind_in_group(names: &Space, types: &[Kind], decls: &Decls, index: usize, before: Kind) -> Kind
+    requires within { index < length decls.now }
+    requires before { (k : ℕ) (d : AnyDecl) → k + 1 ≡ index → slice_get decls.now k ≡ Some d → before ≡ written_kind (entry_in names.now types.now) d.kind }
+    ensures { (d : AnyDecl) → slice_get decls.now index ≡ Some d → result ≡ written_kind (entry_in names.now types.now) d.kind }
+{
+    if goes_on(decls, index) {
+        before
+    } else {
+        written(names, types, &decls.at(index).kind)
+    }
+}
+
 /// Adds the types of flows.
 pub fn push_kinds(
     kinds: &mut Many<Kind>,
     names: &Space,
     types: &[Kind],
-    decls: &[Decl],
+    decls: &Decls,
 ) -> Result<(), Memory>
     ensures { IfOk result (λ done. kinds.new ≡ kinds.old ++ kinds_by (entry_in names.now types.now) decls.now) }
 {
-    for d in decls {
-        kinds.push(written(names, types, &d.kind))?;
+    let mut own = Kind::Bool;
+    for index in 0..decls.len() {
+        own = kind_in_group(names, types, decls, index, own);
+        kinds.push(own)?;
     }
     Ok(())
 }
@@ -75,7 +92,7 @@ pub fn decl_kinds(
     alloc: Global,
     names: &Space,
     types: &[Kind],
-    decls: &[Decl],
+    decls: &Decls,
 ) -> Result<Many<Kind>, Memory>
     ensures { IfOk result (λ ks. ks ≡ kinds_by (entry_in names.now types.now) decls.now) }
 {
@@ -93,9 +110,9 @@ pub fn flow_kinds(
 ) -> Result<Many<Kind>, Memory>
     ensures { IfOk result (λ ks. ks ≡ flow_kinds_by (entry_in names.now types.now) (node_tree node.now)) }
 {
-    let mut kinds = decl_kinds(alloc, names, types, node.inputs.as_slice())?;
-    push_kinds(&mut kinds, names, types, node.outputs.as_slice())?;
-    push_kinds(&mut kinds, names, types, node.locals.as_slice())?;
+    let mut kinds = decl_kinds(alloc, names, types, &node.inputs)?;
+    push_kinds(&mut kinds, names, types, &node.outputs)?;
+    push_kinds(&mut kinds, names, types, &node.locals)?;
     Ok(kinds)
 }
 
@@ -108,8 +125,8 @@ pub fn signature(
 ) -> Result<Signature, Memory>
     ensures { IfOk result (λ g. g ≡ signature_by (entry_in names.now types.now) (node_tree node.now)) }
 {
-    let takes = decl_kinds(alloc, names, types, node.inputs.as_slice())?;
-    let gives = decl_kinds(alloc, names, types, node.outputs.as_slice())?;
+    let takes = decl_kinds(alloc, names, types, &node.inputs)?;
+    let gives = decl_kinds(alloc, names, types, &node.outputs)?;
     Ok(Signature::new(takes, gives))
 }
 
@@ -131,7 +148,7 @@ pub fn signatures(
 
 /// Adds the labels of one declaration.
 fn push_labels(places: &mut Many<Label>, declaration: u32, labels: &[Name]) -> Result<(), Memory>
-    requires { length labels.now ≤ most }
+    requires { length labels.now ≤ source_limit }
     ensures { IfOk result (λ done. places.new ≡ places.old ++ places_among declaration 0 labels.now) }
 {
     let mut number = 0;
@@ -147,7 +164,7 @@ fn push_labels(places: &mut Many<Label>, declaration: u32, labels: &[Name]) -> R
 
 /// Adds the labels of one declaration, where it has any.
 fn push_labels_of(places: &mut Many<Label>, declaration: u32, d: &TypeDecl) -> Result<(), Memory>
-    requires { length (labels_of d.now) ≤ most }
+    requires { length (labels_of d.now) ≤ source_limit }
     ensures { IfOk result (λ done. places.new ≡ places.old ++ places_among declaration 0 (labels_of d.now)) }
 {
     match &d.body {
@@ -158,8 +175,8 @@ fn push_labels_of(places: &mut Many<Label>, declaration: u32, d: &TypeDecl) -> R
 
 /// All labels, in the order of their declarations.
 pub fn label_places(alloc: Global, types: &[TypeDecl]) -> Result<Many<Label>, Memory>
-    requires few { length types.now ≤ most }
-    requires few_labels { (d : AnyType) → Contains types.now d → length (labels_of d) ≤ most }
+    requires few { length types.now ≤ source_limit }
+    requires few_labels { (d : AnyType) → Contains types.now d → length (labels_of d) ≤ source_limit }
     ensures { IfOk result (λ ls. ls ≡ places_from 0 types.now) }
 {
     let mut places = Many::new(alloc);

@@ -23,9 +23,10 @@ pub fn one_fault()
     ensures { (p : ProgramTree) (main : Identifier) (f g : NameFault) → IsFirstFault p main f → IsFirstFault p main g → f ≡ g }
 {}
 
-/// A program that is settled has no first fault.
+/// A program is settled or has a first fault, and never both.
 pub fn settled_or_refused()
-    ensures { (p : ProgramTree) (main : Identifier) (t : Typed) (f : NameFault) → IsSettled p main t → IsFirstFault p main f → ⊥ }
+    ensures either { (p : ProgramTree) (main : Identifier) → ((t : Typed) × IsSettled p main t) ⊎ ((f : NameFault) × IsFirstFault p main f) }
+    ensures never_both { (p : ProgramTree) (main : Identifier) (t : Typed) (f : NameFault) → IsSettled p main t → IsFirstFault p main f → ⊥ }
 {}
 
 /// The chain of clocks from a flow ends at the base clock exactly where it does within as many steps as there are

@@ -6,6 +6,7 @@ mod clocks;
 mod constants;
 mod fault;
 mod first;
+mod groups;
 mod kinds;
 mod laws;
 mod names;

@@ -1,6 +1,7 @@
 //! The rules of names.
 
-ghost use Rattle.std.specs.Prelude.{◌≡◌, ◌++◌, [], IfOk, map, flat_map};
+ghost use Rattle.std.specs.Prelude.{◌≡◌, ◌+◌, ◌<◌, ◌++◌, ℕ, [], IfOk, map, flat_map, length, slice_get};
+ghost use Rattle.rv_syntax.specs.declared.tree.Decl.{Decl as AnyDecl};
 ghost use Rattle.rv_syntax.specs.Tree.{program_tree, constant_tree, node_tree, equation_tree, assertion_tree};
 ghost use Rattle.rv_types.specs.Names.{is_declared, stands_before, decls, decl_names, lefts, repeated, type_use, use_of, undefined_unless, name_faults};
 ghost use Rattle.rv_types.specs.Firsts.{firsts_after, firsts};
@@ -9,12 +10,13 @@ ghost use Rattle.rv_types.specs.Earliest.{first};
 
 use crate::fault::NameFault;
 use crate::first::sooner_of;
+use crate::groups::goes_on;
 use crate::space::Space;
 use crate::spaces::{Declared, Spaces, declare_flows, declare_names, spaces_of};
 use crate::uses::{Reach, unknown_use, use_fault};
 use rv_base::Memory;
 use rv_syntax::{
-    Assertion, ConstDecl, Decl, Equation, Name, Node, Program, TypeBody, TypeDecl, TypeName,
+    Assertion, ConstDecl, Decl, Decls, Equation, Name, Node, Program, TypeBody, TypeDecl, TypeName,
 };
 use std::alloc::Global;
 
@@ -89,12 +91,32 @@ fn unknown_in_constants(spaces: &Spaces, none: &Space, constants: &[ConstDecl]) 
     fault
 }
 
-fn unknown_in_flows(types: &Space, decls: &[Decl]) -> Option<NameFault>
+/// The unknown type of a flow, which is that of the flow before it where both stand in one group.
+fn unknown_in_flow(
+    types: &Space,
+    decls: &Decls,
+    index: usize,
+    before: Option<NameFault>,
+) -> Option<NameFault>
+    requires within { index < length decls.now }
+    requires before { (k : ℕ) (d : AnyDecl) → k + 1 ≡ index → slice_get decls.now k ≡ Some d → before ≡ first (flow_use_in types.now d) }
+    ensures { (d : AnyDecl) → slice_get decls.now index ≡ Some d → result ≡ first (flow_use_in types.now d) }
+{
+    if goes_on(decls, index) {
+        before
+    } else {
+        unknown_type(types, &decls.at(index).kind)
+    }
+}
+
+fn unknown_in_flows(types: &Space, decls: &Decls) -> Option<NameFault>
     ensures { result ≡ first (flat_map (flow_use_in types.now) decls.now) }
 {
     let mut fault = None;
-    for decl in decls {
-        fault = sooner_of(fault, unknown_type(types, &decl.kind));
+    let mut own = None;
+    for index in 0..decls.len() {
+        own = unknown_in_flow(types, decls, index, own);
+        fault = sooner_of(fault, own);
     }
     fault
 }
@@ -108,12 +130,32 @@ fn unknown_clock(flows: &Space, decl: &Decl) -> Option<NameFault>
     }
 }
 
-fn unknown_clocks(flows: &Space, decls: &[Decl]) -> Option<NameFault>
+/// The unknown clock of a flow, which is that of the flow before it where both stand in one group.
+fn unknown_clock_in(
+    flows: &Space,
+    decls: &Decls,
+    index: usize,
+    before: Option<NameFault>,
+) -> Option<NameFault>
+    requires within { index < length decls.now }
+    requires before { (k : ℕ) (d : AnyDecl) → k + 1 ≡ index → slice_get decls.now k ≡ Some d → before ≡ first (clock_use_in flows.now d) }
+    ensures { (d : AnyDecl) → slice_get decls.now index ≡ Some d → result ≡ first (clock_use_in flows.now d) }
+{
+    if goes_on(decls, index) {
+        before
+    } else {
+        unknown_clock(flows, decls.at(index))
+    }
+}
+
+fn unknown_clocks(flows: &Space, decls: &Decls) -> Option<NameFault>
     ensures { result ≡ first (flat_map (clock_use_in flows.now) decls.now) }
 {
     let mut fault = None;
-    for decl in decls {
-        fault = sooner_of(fault, unknown_clock(flows, decl));
+    let mut own = None;
+    for index in 0..decls.len() {
+        own = unknown_clock_in(flows, decls, index, own);
+        fault = sooner_of(fault, own);
     }
     fault
 }
@@ -242,9 +284,9 @@ fn undefined_flow(alloc: Global, node: &Node) -> Result<Option<NameFault>, Memor
 fn unknown_in_decls(types: &Space, node: &Node) -> Option<NameFault>
     ensures { result ≡ first (flat_map (flow_use_in types.now) (decls (node_tree node.now))) }
 {
-    let inputs = unknown_in_flows(types, node.inputs.as_slice());
-    let outputs = unknown_in_flows(types, node.outputs.as_slice());
-    let locals = unknown_in_flows(types, node.locals.as_slice());
+    let inputs = unknown_in_flows(types, &node.inputs);
+    let outputs = unknown_in_flows(types, &node.outputs);
+    let locals = unknown_in_flows(types, &node.locals);
     sooner_of(sooner_of(inputs, outputs), locals)
 }
 
@@ -254,7 +296,7 @@ fn unknown_in_node(spaces: &Spaces, flows: &Space, node: &Node) -> Option<NameFa
 {
     let declared = sooner_of(
         unknown_in_decls(&spaces.types, node),
-        unknown_clocks(flows, node.locals.as_slice()),
+        unknown_clocks(flows, &node.locals),
     );
     let used = sooner_of(
         unknown_in_equations(spaces, flows, node.equations.as_slice()),

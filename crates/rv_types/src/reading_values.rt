@@ -9,7 +9,8 @@ ghost use Rattle.rv_types.specs.ConstantParts.{IsBound, IsKnownBound, constant_f
 ghost use Rattle.rv_types.specs.Readings.{AreTables};
 ghost use Rattle.rv_types.specs.Scopes.{constant_value, constant_value_after, constant_values, constant_values_of};
 ghost use Rattle.rv_types.specs.Types.{Scope};
-ghost use Rattle.rv_types.specs.ValueTables.{cap, value_by};
+ghost use Rattle.rv_syntax.specs.Limits.{too_heavy};
+ghost use Rattle.rv_types.specs.ValueTables.{value_by};
 
 use crate::reading::ProgramTables;
 use crate::values::{Known, value_named};
@@ -90,7 +91,7 @@ pub fn values_before<'a>(
 pub fn constant_named(values: &NamedValues, name: &Text) -> Weighed
     ensures bound { IsBound result }
     ensures value { result.value ≡ value_by values.now name.now }
-    ensures weight { result.weight ≡ min (nat_abs (whole_in (value_by values.now name.now))) cap }
+    ensures weight { result.weight ≡ min (nat_abs (whole_in (value_by values.now name.now))) too_heavy }
 {
     of_known(value_named(&values.known, name))
 }
@@ -100,7 +101,7 @@ pub fn constant_named(values: &NamedValues, name: &Text) -> Weighed
 pub fn constant_number(n: u64) -> Weighed
     ensures bound { IsBound result }
     ensures value { result.value ≡ counted n (pos n) }
-    ensures weight { result.weight ≡ min n cap }
+    ensures weight { result.weight ≡ min n too_heavy }
 {
     of_number(n)
 }
@@ -246,7 +247,7 @@ impl Trues {
 pub fn constant_size(constant: &Weighed) -> u64
     requires { IsBound constant.now }
     ensures value { result ≡ nat_abs (whole_in constant.now.value) }
-    ensures bound { result ≤ cap }
+    ensures bound { result ≤ too_heavy }
 {
     whole(constant.value).unsigned_abs() as u64
 }

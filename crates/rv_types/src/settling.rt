@@ -128,7 +128,8 @@ fn settled(alloc: Global, p: &Program, main: &Text) -> Result<Typed, NameFault>
 /// Otherwise it answers the first fault. `NoNode` comes before all others, then the faults of names, of types, of
 /// clocks and of the observer; within one of these the least offset decides, and at one offset the least number.
 /// The program is to be the tree of a text within the limit. `Memory` comes where memory runs out. Time grows with the
-/// length of the source, up to look-ups of names.
+/// length of the source and its logarithm, since the type and the clock of a group of flows are looked up once. Names
+/// are found by hashes with a fixed seed: those that are chosen to collide take longer.
 pub fn settle(alloc: Global, p: &Program, main: &str) -> Result<Typed, NameFault>
     requires { IsTreeOfText (program_tree p.now) }
     // What is answered meets every rule, with these types, clocks and constants.

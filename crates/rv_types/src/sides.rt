@@ -1,6 +1,7 @@
 //! The rules of types of equations, assertions and declared clocks.
 
-ghost use Rattle.std.specs.Prelude.{◌≡◌, ◌&&◌, not, map, flat_map, ◌++◌, ◌∷◌, [], length, nat_le};
+ghost use Rattle.std.specs.Prelude.{◌≡◌, ◌+◌, ◌<◌, ◌&&◌, ℕ, not, map, flat_map, ◌++◌, ◌∷◌, [], length, slice_get, nat_le};
+ghost use Rattle.rv_syntax.specs.declared.tree.Decl.{Decl as AnyDecl};
 ghost use Rattle.rv_syntax.specs.Tree.{tree_of, trees, equation_tree, assertion_tree, node_tree};
 ghost use Rattle.rv_types.specs.Earliest.{first};
 ghost use Rattle.rv_types.specs.NodeTypes.{clash_where, called_types, plain_types, lefts_by, sides_by, equation_by, assertion_by, local_by, types_by};
@@ -10,12 +11,13 @@ ghost use Rattle.rv_types.specs.Types.{fit};
 
 use crate::fault::NameFault;
 use crate::first::sooner_of;
+use crate::groups::goes_on;
 use crate::rules::clash_of;
 use crate::typed::Kind;
 use crate::typing::{is_suited_at, judge, judge_all};
 use crate::view::{View, takes_of};
 use rv_base::Text;
-use rv_syntax::{Assertion, Decl, Equation, Expr, ExprForm, Name, Node};
+use rv_syntax::{Assertion, Decl, Decls, Equation, Expr, ExprForm, Name, Node};
 
 /// The clash of two sides.
 fn sides_fault(at: u32, left: Option<Kind>, right: Option<Kind>) -> Option<NameFault>
@@ -157,12 +159,32 @@ fn local_fault(view: &View, d: &Decl) -> Option<NameFault>
     }
 }
 
-fn locals_fault(view: &View, locals: &[Decl]) -> Option<NameFault>
+/// The clash of a local's clock, which is that of the local before it where both stand in one group.
+fn local_fault_in(
+    view: &View,
+    locals: &Decls,
+    index: usize,
+    before: Option<NameFault>,
+) -> Option<NameFault>
+    requires within { index < length locals.now }
+    requires before { (k : ℕ) (d : AnyDecl) → k + 1 ≡ index → slice_get locals.now k ≡ Some d → before ≡ first (local_by (scope_of view.now) d) }
+    ensures { (d : AnyDecl) → slice_get locals.now index ≡ Some d → result ≡ first (local_by (scope_of view.now) d) }
+{
+    if goes_on(locals, index) {
+        before
+    } else {
+        local_fault(view, locals.at(index))
+    }
+}
+
+fn locals_fault(view: &View, locals: &Decls) -> Option<NameFault>
     ensures { result ≡ first (flat_map (local_by (scope_of view.now)) locals.now) }
 {
     let mut fault = None;
-    for d in locals {
-        fault = sooner_of(fault, local_fault(view, d));
+    let mut own = None;
+    for index in 0..locals.len() {
+        own = local_fault_in(view, locals, index, own);
+        fault = sooner_of(fault, own);
     }
     fault
 }
@@ -171,7 +193,7 @@ fn locals_fault(view: &View, locals: &[Decl]) -> Option<NameFault>
 pub fn type_fault(view: &View, node: &Node) -> Option<NameFault>
     ensures { result ≡ first (types_by (scope_of view.now) (node_tree node.now)) }
 {
-    let clocks = locals_fault(view, node.locals.as_slice());
+    let clocks = locals_fault(view, &node.locals);
     let equations = equations_fault(view, node.equations.as_slice());
     let assertions = assertions_fault(view, node.assertions.as_slice());
     sooner_of(clocks, sooner_of(equations, assertions))

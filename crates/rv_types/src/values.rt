@@ -4,7 +4,8 @@ ghost use Rattle.std.specs.Prelude.{◌≡◌, ◌≤◌, ◌&&◌, ◌||◌, mi
 ghost use Rattle.rv_syntax.specs.Tree.{tree_of, trees, Named, Not, Minus};
 ghost use Rattle.rv_types.specs.Constants.{flag_in, whole_in, weight_of, form_weight, value_of, form_value, value_under, weight_under, counted_part, flags_of_all, at_most_one};
 ghost use Rattle.rv_types.specs.Tables.{entry_in};
-ghost use Rattle.rv_types.specs.ValueTables.{cap, value_of_label, value_or, known_in, AreSmall};
+ghost use Rattle.rv_syntax.specs.Limits.{too_heavy};
+ghost use Rattle.rv_types.specs.ValueTables.{value_of_label, value_or, known_in, AreSmall};
 
 use crate::space::Space;
 use crate::view::{Label, entry};
@@ -52,7 +53,7 @@ pub fn value_named(known: &Known, name: &Text) -> Value
 fn of_name(known: &Known, name: &Text) -> Weighed
     requires { AreSmall (known_in known.now.constants.now known.now.values.now known.now.labels.now known.now.places.now) }
     ensures value { result.value ≡ form_value (known_in known.now.constants.now known.now.values.now known.now.labels.now known.now.places.now) (Named name.now) }
-    ensures weight { result.weight ≡ min (form_weight (known_in known.now.constants.now known.now.values.now known.now.labels.now known.now.places.now) (Named name.now)) cap }
+    ensures weight { result.weight ≡ min (form_weight (known_in known.now.constants.now known.now.values.now known.now.labels.now known.now.places.now) (Named name.now)) too_heavy }
     ensures bound { nat_abs (whole_in result.value) ≤ result.weight }
 {
     of_known(value_named(known, name))
@@ -73,7 +74,7 @@ fn is_true(known: &Known, e: &Expr) -> bool
 fn evaluate_not(known: &Known, a: &Expr) -> Weighed
     requires { AreSmall (known_in known.now.constants.now known.now.values.now known.now.labels.now known.now.places.now) }
     ensures value { result.value ≡ form_value (known_in known.now.constants.now known.now.values.now known.now.labels.now known.now.places.now) (Not (tree_of a.now)) }
-    ensures weight { result.weight ≡ min (form_weight (known_in known.now.constants.now known.now.values.now known.now.labels.now known.now.places.now) (Not (tree_of a.now))) cap }
+    ensures weight { result.weight ≡ min (form_weight (known_in known.now.constants.now known.now.values.now known.now.labels.now known.now.places.now) (Not (tree_of a.now))) too_heavy }
     ensures bound { nat_abs (whole_in result.value) ≤ result.weight }
 {
     of_flag(!is_true(known, a))
@@ -84,7 +85,7 @@ fn evaluate_not(known: &Known, a: &Expr) -> Weighed
 fn evaluate_minus(known: &Known, a: &Expr) -> Weighed
     requires { AreSmall (known_in known.now.constants.now known.now.values.now known.now.labels.now known.now.places.now) }
     ensures value { result.value ≡ form_value (known_in known.now.constants.now known.now.values.now known.now.labels.now known.now.places.now) (Minus (tree_of a.now)) }
-    ensures weight { result.weight ≡ min (form_weight (known_in known.now.constants.now known.now.values.now known.now.labels.now known.now.places.now) (Minus (tree_of a.now))) cap }
+    ensures weight { result.weight ≡ min (form_weight (known_in known.now.constants.now known.now.values.now known.now.labels.now known.now.places.now) (Minus (tree_of a.now))) too_heavy }
     ensures bound { nat_abs (whole_in result.value) ≤ result.weight }
 {
     let a = evaluate(known, a);
@@ -97,9 +98,9 @@ fn evaluate_minus(known: &Known, a: &Expr) -> Weighed
 fn with_right(known: &Known, op: Op, left: &Weighed, right: &Expr) -> Weighed
     requires small { AreSmall (known_in known.now.constants.now known.now.values.now known.now.labels.now known.now.places.now) }
     requires left { nat_abs (whole_in left.now.value) ≤ left.now.weight }
-    requires left_small { left.now.weight ≤ cap }
-    ensures value { (v : ℕ) → left.now.weight ≡ min v cap → result.value ≡ value_under (weight_under op (nat_abs (whole_in left.now.value)) v (weight_of (known_in known.now.constants.now known.now.values.now known.now.labels.now known.now.places.now) (tree_of right.now))) op left.now.value (value_of (known_in known.now.constants.now known.now.values.now known.now.labels.now known.now.places.now) (tree_of right.now)) }
-    ensures weight { (v : ℕ) → left.now.weight ≡ min v cap → result.weight ≡ min (weight_under op (nat_abs (whole_in left.now.value)) v (weight_of (known_in known.now.constants.now known.now.values.now known.now.labels.now known.now.places.now) (tree_of right.now))) cap }
+    requires left_small { left.now.weight ≤ too_heavy }
+    ensures value { (v : ℕ) → left.now.weight ≡ min v too_heavy → result.value ≡ value_under (weight_under op (nat_abs (whole_in left.now.value)) v (weight_of (known_in known.now.constants.now known.now.values.now known.now.labels.now known.now.places.now) (tree_of right.now))) op left.now.value (value_of (known_in known.now.constants.now known.now.values.now known.now.labels.now known.now.places.now) (tree_of right.now)) }
+    ensures weight { (v : ℕ) → left.now.weight ≡ min v too_heavy → result.weight ≡ min (weight_under op (nat_abs (whole_in left.now.value)) v (weight_of (known_in known.now.constants.now known.now.values.now known.now.labels.now known.now.places.now) (tree_of right.now))) too_heavy }
     ensures bound { nat_abs (whole_in result.value) ≤ result.weight }
 {
     let right = evaluate(known, right);
@@ -112,9 +113,9 @@ fn with_right(known: &Known, op: Op, left: &Weighed, right: &Expr) -> Weighed
 fn with_else(known: &Known, condition: bool, yes: &Weighed, no: &Expr) -> Weighed
     requires small { AreSmall (known_in known.now.constants.now known.now.values.now known.now.labels.now known.now.places.now) }
     requires yes { nat_abs (whole_in yes.now.value) ≤ yes.now.weight }
-    requires yes_small { yes.now.weight ≤ cap }
-    ensures value { (v : ℕ) → yes.now.weight ≡ min v cap → result.value ≡ counted_part (max v (weight_of (known_in known.now.constants.now known.now.values.now known.now.labels.now known.now.places.now) (tree_of no.now))) (cond condition yes.now.value (value_of (known_in known.now.constants.now known.now.values.now known.now.labels.now known.now.places.now) (tree_of no.now))) }
-    ensures weight { (v : ℕ) → yes.now.weight ≡ min v cap → result.weight ≡ min (max v (weight_of (known_in known.now.constants.now known.now.values.now known.now.labels.now known.now.places.now) (tree_of no.now))) cap }
+    requires yes_small { yes.now.weight ≤ too_heavy }
+    ensures value { (v : ℕ) → yes.now.weight ≡ min v too_heavy → result.value ≡ counted_part (max v (weight_of (known_in known.now.constants.now known.now.values.now known.now.labels.now known.now.places.now) (tree_of no.now))) (cond condition yes.now.value (value_of (known_in known.now.constants.now known.now.values.now known.now.labels.now known.now.places.now) (tree_of no.now))) }
+    ensures weight { (v : ℕ) → yes.now.weight ≡ min v too_heavy → result.weight ≡ min (max v (weight_of (known_in known.now.constants.now known.now.values.now known.now.labels.now known.now.places.now) (tree_of no.now))) too_heavy }
     ensures bound { nat_abs (whole_in result.value) ≤ result.weight }
 {
     let no = evaluate(known, no);
@@ -129,7 +130,7 @@ fn with_else(known: &Known, condition: bool, yes: &Weighed, no: &Expr) -> Weighe
 pub fn evaluate(known: &Known, e: &Expr) -> Weighed
     requires { AreSmall (known_in known.now.constants.now known.now.values.now known.now.labels.now known.now.places.now) }
     ensures value { result.value ≡ value_of (known_in known.now.constants.now known.now.values.now known.now.labels.now known.now.places.now) (tree_of e.now) }
-    ensures weight { result.weight ≡ min (weight_of (known_in known.now.constants.now known.now.values.now known.now.labels.now known.now.places.now) (tree_of e.now)) cap }
+    ensures weight { result.weight ≡ min (weight_of (known_in known.now.constants.now known.now.values.now known.now.labels.now known.now.places.now) (tree_of e.now)) too_heavy }
     ensures bound { nat_abs (whole_in result.value) ≤ result.weight }
 {
     match &e.form {

@@ -3,10 +3,10 @@
 
 ghost use Rattle.std.specs.Prelude.{◌≡◌, ◌+◌, ◌*◌, ◌^◌, ◌≤◌, ℕ, max, min, nat_abs, cond, ◌+ℤ◌, ◌-ℤ◌, ◌*ℤ◌, neg_ℤ, pos};
 ghost use Rattle.rv_types.specs.Constants.{flag_in, whole_in, counted, counted_part, same_value, flag_under, value_under, weight_under};
-ghost use Rattle.rv_types.specs.ValueTables.{cap};
+ghost use Rattle.rv_syntax.specs.Limits.{too_heavy};
 
 use rv_base::Value;
-use rv_syntax::Op;
+use rv_syntax::{HEAVIEST, Op, TOO_HEAVY};
 
 /// The value of an expression, and its weight, which counts to 2^40 + 1.
 #[derive(Clone, Copy, Debug)]
@@ -75,53 +75,53 @@ fn flag_of(op: Op, v: Value, w: Value) -> bool
 
 /// The least of a weight and 2^40 + 1.
 fn saturated(weight: u128) -> u64
-    ensures { result ≡ min weight cap }
+    ensures { result ≡ min weight too_heavy }
 {
-    if weight <= 1_099_511_627_776 {
+    if weight <= HEAVIEST as u128 {
         weight as u64
     } else {
-        1_099_511_627_777
+        TOO_HEAVY
     }
 }
 
 /// The value that an integer expression of a weight counts as.
 fn counted_whole(weight: u64, z: i128) -> Value
-    ensures value { (m : ℕ) → weight ≡ min m cap → result ≡ counted m z }
-    ensures bound { nat_abs z ≤ weight → weight ≤ cap → nat_abs (whole_in result) ≤ weight }
+    ensures value { (m : ℕ) → weight ≡ min m too_heavy → result ≡ counted m z }
+    ensures bound { nat_abs z ≤ weight → weight ≤ too_heavy → nat_abs (whole_in result) ≤ weight }
 {
-    if weight <= 1_099_511_627_776 {
+    if weight <= HEAVIEST {
         Value::Whole(z)
     } else {
-        Value::Whole(1_099_511_627_777)
+        Value::Whole(TOO_HEAVY as i128)
     }
 }
 
 fn sum(a: i128, b: i128) -> i128
-    requires a { nat_abs a ≤ cap }
-    requires b { nat_abs b ≤ cap }
+    requires a { nat_abs a ≤ too_heavy }
+    requires b { nat_abs b ≤ too_heavy }
     ensures { result ≡ a +ℤ b }
 {
     a + b
 }
 
 fn difference(a: i128, b: i128) -> i128
-    requires a { nat_abs a ≤ cap }
-    requires b { nat_abs b ≤ cap }
+    requires a { nat_abs a ≤ too_heavy }
+    requires b { nat_abs b ≤ too_heavy }
     ensures { result ≡ a -ℤ b }
 {
     a - b
 }
 
 fn product(a: i128, b: i128) -> i128
-    requires a { nat_abs a ≤ cap }
-    requires b { nat_abs b ≤ cap }
+    requires a { nat_abs a ≤ too_heavy }
+    requires b { nat_abs b ≤ too_heavy }
     ensures { result ≡ a *ℤ b }
 {
     a * b
 }
 
 fn negation(a: i128) -> i128
-    requires { nat_abs a ≤ cap }
+    requires { nat_abs a ≤ too_heavy }
     ensures { result ≡ neg_ℤ a }
 {
     -a
@@ -129,26 +129,26 @@ fn negation(a: i128) -> i128
 
 /// How far an integer is from 0.
 fn size_of_whole(a: i128) -> u64
-    requires { nat_abs a ≤ cap }
+    requires { nat_abs a ≤ too_heavy }
     ensures { result ≡ nat_abs a }
 {
     a.unsigned_abs() as u64
 }
 
 fn weight_of_product(size: u64, weight: u64) -> u64
-    requires a { size ≤ cap }
-    requires b { weight ≤ cap }
-    ensures { (w : ℕ) → weight ≡ min w cap → result ≡ min (size * w) cap }
+    requires a { size ≤ too_heavy }
+    requires b { weight ≤ too_heavy }
+    ensures { (w : ℕ) → weight ≡ min w too_heavy → result ≡ min (size * w) too_heavy }
 {
     saturated(size as u128 * weight as u128)
 }
 
 /// The weight of an operator between constants.
 fn weight_of(op: Op, size: u64, a: u64, b: u64) -> u64
-    requires size { size ≤ cap }
-    requires a { a ≤ cap }
-    requires b { b ≤ cap }
-    ensures { (v w : ℕ) → a ≡ min v cap → b ≡ min w cap → result ≡ min (weight_under op size v w) cap }
+    requires size { size ≤ too_heavy }
+    requires a { a ≤ too_heavy }
+    requires b { b ≤ too_heavy }
+    ensures { (v w : ℕ) → a ≡ min v too_heavy → b ≡ min w too_heavy → result ≡ min (weight_under op size v w) too_heavy }
 {
     match op {
         Op::Plus | Op::Minus => saturated(a as u128 + b as u128),
@@ -159,9 +159,9 @@ fn weight_of(op: Op, size: u64, a: u64, b: u64) -> u64
 
 /// The value of an operator between constants, the whole being of a weight.
 fn value_of(weight: u64, op: Op, v: Value, w: Value) -> Value
-    requires v { nat_abs (whole_in v) ≤ cap }
-    requires w { nat_abs (whole_in w) ≤ cap }
-    ensures { (m : ℕ) → weight ≡ min m cap → result ≡ value_under m op v w }
+    requires v { nat_abs (whole_in v) ≤ too_heavy }
+    requires w { nat_abs (whole_in w) ≤ too_heavy }
+    ensures { (m : ℕ) → weight ≡ min m too_heavy → result ≡ value_under m op v w }
 {
     match op {
         Op::Plus => counted_whole(weight, sum(whole(v), whole(w))),
@@ -177,10 +177,10 @@ fn value_of(weight: u64, op: Op, v: Value, w: Value) -> Value
 pub fn of_operator(op: Op, a: &Weighed, b: &Weighed) -> Weighed
     requires a { nat_abs (whole_in a.now.value) ≤ a.now.weight }
     requires b { nat_abs (whole_in b.now.value) ≤ b.now.weight }
-    requires a_small { a.now.weight ≤ cap }
-    requires b_small { b.now.weight ≤ cap }
-    ensures weight { (v w : ℕ) → a.now.weight ≡ min v cap → b.now.weight ≡ min w cap → result.weight ≡ min (weight_under op (nat_abs (whole_in a.now.value)) v w) cap }
-    ensures value { (v w : ℕ) → a.now.weight ≡ min v cap → b.now.weight ≡ min w cap → result.value ≡ value_under (weight_under op (nat_abs (whole_in a.now.value)) v w) op a.now.value b.now.value }
+    requires a_small { a.now.weight ≤ too_heavy }
+    requires b_small { b.now.weight ≤ too_heavy }
+    ensures weight { (v w : ℕ) → a.now.weight ≡ min v too_heavy → b.now.weight ≡ min w too_heavy → result.weight ≡ min (weight_under op (nat_abs (whole_in a.now.value)) v w) too_heavy }
+    ensures value { (v w : ℕ) → a.now.weight ≡ min v too_heavy → b.now.weight ≡ min w too_heavy → result.value ≡ value_under (weight_under op (nat_abs (whole_in a.now.value)) v w) op a.now.value b.now.value }
     ensures bound { nat_abs (whole_in result.value) ≤ result.weight }
 {
     let weight = weight_of(op, size_of_whole(whole(a.value)), a.weight, b.weight);
@@ -192,9 +192,9 @@ pub fn of_operator(op: Op, a: &Weighed, b: &Weighed) -> Weighed
 #[inline(never)]
 pub fn of_minus(a: &Weighed) -> Weighed
     requires a { nat_abs (whole_in a.now.value) ≤ a.now.weight }
-    requires a_small { a.now.weight ≤ cap }
+    requires a_small { a.now.weight ≤ too_heavy }
     ensures weight { result.weight ≡ a.now.weight }
-    ensures value { (m : ℕ) → a.now.weight ≡ min m cap → result.value ≡ counted m (neg_ℤ (whole_in a.now.value)) }
+    ensures value { (m : ℕ) → a.now.weight ≡ min m too_heavy → result.value ≡ counted m (neg_ℤ (whole_in a.now.value)) }
     ensures bound { nat_abs (whole_in result.value) ≤ result.weight }
 {
     Weighed {
@@ -204,8 +204,8 @@ pub fn of_minus(a: &Weighed) -> Weighed
 }
 
 fn counted_choice(weight: u64, value: Value) -> Value
-    ensures value { (m : ℕ) → weight ≡ min m cap → result ≡ counted_part m value }
-    ensures bound { nat_abs (whole_in value) ≤ weight → weight ≤ cap → nat_abs (whole_in result) ≤ weight }
+    ensures value { (m : ℕ) → weight ≡ min m too_heavy → result ≡ counted_part m value }
+    ensures bound { nat_abs (whole_in value) ≤ weight → weight ≤ too_heavy → nat_abs (whole_in result) ≤ weight }
 {
     match value {
         Value::Whole(z) => counted_whole(weight, z),
@@ -218,10 +218,10 @@ fn counted_choice(weight: u64, value: Value) -> Value
 pub fn of_if(condition: bool, b: &Weighed, c: &Weighed) -> Weighed
     requires b { nat_abs (whole_in b.now.value) ≤ b.now.weight }
     requires c { nat_abs (whole_in c.now.value) ≤ c.now.weight }
-    requires b_small { b.now.weight ≤ cap }
-    requires c_small { c.now.weight ≤ cap }
-    ensures weight { (v w : ℕ) → b.now.weight ≡ min v cap → c.now.weight ≡ min w cap → result.weight ≡ min (max v w) cap }
-    ensures value { (v w : ℕ) → b.now.weight ≡ min v cap → c.now.weight ≡ min w cap → result.value ≡ counted_part (max v w) (cond condition b.now.value c.now.value) }
+    requires b_small { b.now.weight ≤ too_heavy }
+    requires c_small { c.now.weight ≤ too_heavy }
+    ensures weight { (v w : ℕ) → b.now.weight ≡ min v too_heavy → c.now.weight ≡ min w too_heavy → result.weight ≡ min (max v w) too_heavy }
+    ensures value { (v w : ℕ) → b.now.weight ≡ min v too_heavy → c.now.weight ≡ min w too_heavy → result.value ≡ counted_part (max v w) (cond condition b.now.value c.now.value) }
     ensures bound { nat_abs (whole_in result.value) ≤ result.weight }
 {
     let weight = b.weight.max(c.weight);
@@ -236,7 +236,7 @@ pub fn of_if(condition: bool, b: &Weighed, c: &Weighed) -> Weighed
 #[inline(never)]
 pub fn of_number(n: u64) -> Weighed
     ensures value { result.value ≡ counted n (pos n) }
-    ensures weight { result.weight ≡ min n cap }
+    ensures weight { result.weight ≡ min n too_heavy }
     ensures bound { nat_abs (whole_in result.value) ≤ result.weight }
 {
     let weight = saturated(n as u128);
@@ -249,9 +249,9 @@ pub fn of_number(n: u64) -> Weighed
 /// A constant or label, whose value is known.
 #[inline(never)]
 pub fn of_known(value: Value) -> Weighed
-    requires { nat_abs (whole_in value) ≤ cap }
+    requires { nat_abs (whole_in value) ≤ too_heavy }
     ensures value { result.value ≡ value }
-    ensures weight { result.weight ≡ min (nat_abs (whole_in value)) cap }
+    ensures weight { result.weight ≡ min (nat_abs (whole_in value)) too_heavy }
     ensures bound { nat_abs (whole_in result.value) ≤ result.weight }
 {
     Weighed {

@@ -6,7 +6,8 @@ ghost use Rattle.rv_types.specs.Constants.{flag_in, whole_in, counted, counted_p
 ghost use Rattle.rv_types.specs.ConstantParts.{IsBound};
 ghost use Rattle.rv_types.specs.Readings.{AreTables};
 ghost use Rattle.rv_types.specs.Scopes.{constant_values};
-ghost use Rattle.rv_types.specs.ValueTables.{cap, value_by};
+ghost use Rattle.rv_syntax.specs.Limits.{too_heavy};
+ghost use Rattle.rv_types.specs.ValueTables.{value_by};
 ghost use Rattle.rv_types.specs.WideConstants.{lesser, wide_at, first_wide, wide_below, first_wide_of_all, first_wide_constant};
 
 use crate::reading::ProgramTables;
@@ -16,10 +17,7 @@ use crate::reading_values::{
 use crate::values::{Seen, seen_after};
 use crate::weighing::{Weighed, flag, of_if, of_minus, of_operator};
 use rv_base::{Text, Value};
-use rv_syntax::{Expr, ExprForm, Op, Program};
-
-/// The greatest weight of an expression: 2^40.
-const HEAVIEST: u64 = 1_099_511_627_776;
+use rv_syntax::{Expr, ExprForm, HEAVIEST, Op, Program};
 
 /// What is known of an expression of a constant.
 #[derive(Clone, Copy)]
@@ -58,7 +56,7 @@ pub fn lesser_of(a: Option<u32>, b: Option<u32>) -> Option<u32>
 fn part_of(at: u32, weighed: Weighed, below: Option<u32>) -> CountedPart
     requires { IsBound weighed }
     ensures weighed { result.weighed ≡ weighed }
-    ensures first { (m : ℕ) → weighed.weight ≡ min m cap → result.first ≡ lesser (wide_at at m) below }
+    ensures first { (m : ℕ) → weighed.weight ≡ min m too_heavy → result.first ≡ lesser (wide_at at m) below }
 {
     let own = if weighed.weight > HEAVIEST {
         Some(at)
@@ -88,7 +86,7 @@ fn flagged(flag: bool, below: Option<u32>) -> CountedPart
 #[inline(never)]
 fn of_number(at: u32, n: u64) -> CountedPart
     ensures value { result.weighed.value ≡ counted n (pos n) }
-    ensures weight { result.weighed.weight ≡ min n cap }
+    ensures weight { result.weighed.weight ≡ min n too_heavy }
     ensures first { result.first ≡ lesser (wide_at at n) None }
 {
     part_of(at, constant_number(n), None)
@@ -98,7 +96,7 @@ fn of_number(at: u32, n: u64) -> CountedPart
 #[inline(never)]
 fn of_name(known: &NamedValues, at: u32, name: &Text) -> CountedPart
     ensures value { result.weighed.value ≡ form_value (value_by known.now) (Named name.now) }
-    ensures weight { result.weighed.weight ≡ min (form_weight (value_by known.now) (Named name.now)) cap }
+    ensures weight { result.weighed.weight ≡ min (form_weight (value_by known.now) (Named name.now)) too_heavy }
     ensures first { result.first ≡ lesser (wide_at at (form_weight (value_by known.now) (Named name.now))) (wide_below (value_by known.now) (Named name.now)) }
 {
     part_of(at, constant_named(known, name), None)
@@ -107,9 +105,9 @@ fn of_name(known: &NamedValues, at: u32, name: &Text) -> CountedPart
 /// An operator between two operands.
 #[inline(never)]
 fn of_both(at: u32, op: Op, a: &CountedPart, b: &CountedPart) -> CountedPart
-    ensures value { (v w : ℕ) → a.now.weighed.weight ≡ min v cap → b.now.weighed.weight ≡ min w cap → result.weighed.value ≡ value_under (weight_under op (nat_abs (whole_in a.now.weighed.value)) v w) op a.now.weighed.value b.now.weighed.value }
-    ensures weight { (v w : ℕ) → a.now.weighed.weight ≡ min v cap → b.now.weighed.weight ≡ min w cap → result.weighed.weight ≡ min (weight_under op (nat_abs (whole_in a.now.weighed.value)) v w) cap }
-    ensures first { (v w : ℕ) → a.now.weighed.weight ≡ min v cap → b.now.weighed.weight ≡ min w cap → result.first ≡ lesser (wide_at at (weight_under op (nat_abs (whole_in a.now.weighed.value)) v w)) (lesser a.now.first b.now.first) }
+    ensures value { (v w : ℕ) → a.now.weighed.weight ≡ min v too_heavy → b.now.weighed.weight ≡ min w too_heavy → result.weighed.value ≡ value_under (weight_under op (nat_abs (whole_in a.now.weighed.value)) v w) op a.now.weighed.value b.now.weighed.value }
+    ensures weight { (v w : ℕ) → a.now.weighed.weight ≡ min v too_heavy → b.now.weighed.weight ≡ min w too_heavy → result.weighed.weight ≡ min (weight_under op (nat_abs (whole_in a.now.weighed.value)) v w) too_heavy }
+    ensures first { (v w : ℕ) → a.now.weighed.weight ≡ min v too_heavy → b.now.weighed.weight ≡ min w too_heavy → result.first ≡ lesser (wide_at at (weight_under op (nat_abs (whole_in a.now.weighed.value)) v w)) (lesser a.now.first b.now.first) }
 {
     let weighed = of_operator(op, &a.weighed, &b.weighed);
     part_of(at, weighed, lesser_of(a.first, b.first))
@@ -118,9 +116,9 @@ fn of_both(at: u32, op: Op, a: &CountedPart, b: &CountedPart) -> CountedPart
 /// An `if`, of its condition and its two parts.
 #[inline(never)]
 fn of_three(at: u32, condition: &CountedPart, a: &CountedPart, b: &CountedPart) -> CountedPart
-    ensures value { (v w : ℕ) → a.now.weighed.weight ≡ min v cap → b.now.weighed.weight ≡ min w cap → result.weighed.value ≡ counted_part (max v w) (cond (flag_in condition.now.weighed.value) a.now.weighed.value b.now.weighed.value) }
-    ensures weight { (v w : ℕ) → a.now.weighed.weight ≡ min v cap → b.now.weighed.weight ≡ min w cap → result.weighed.weight ≡ min (max v w) cap }
-    ensures first { (v w : ℕ) → a.now.weighed.weight ≡ min v cap → b.now.weighed.weight ≡ min w cap → result.first ≡ lesser (wide_at at (max v w)) (lesser condition.now.first (lesser a.now.first b.now.first)) }
+    ensures value { (v w : ℕ) → a.now.weighed.weight ≡ min v too_heavy → b.now.weighed.weight ≡ min w too_heavy → result.weighed.value ≡ counted_part (max v w) (cond (flag_in condition.now.weighed.value) a.now.weighed.value b.now.weighed.value) }
+    ensures weight { (v w : ℕ) → a.now.weighed.weight ≡ min v too_heavy → b.now.weighed.weight ≡ min w too_heavy → result.weighed.weight ≡ min (max v w) too_heavy }
+    ensures first { (v w : ℕ) → a.now.weighed.weight ≡ min v too_heavy → b.now.weighed.weight ≡ min w too_heavy → result.first ≡ lesser (wide_at at (max v w)) (lesser condition.now.first (lesser a.now.first b.now.first)) }
 {
     let weighed = of_if(flag(condition.weighed.value), &a.weighed, &b.weighed);
     let parts = lesser_of(a.first, b.first);
@@ -131,9 +129,9 @@ fn of_three(at: u32, condition: &CountedPart, a: &CountedPart, b: &CountedPart) 
 #[cycle(count)]
 #[inline(never)]
 fn with_right(known: &NamedValues, at: u32, op: Op, left: &CountedPart, right: &Expr) -> CountedPart
-    ensures value { (x : Tree) → left.now.weighed.value ≡ value_of (value_by known.now) x → left.now.weighed.weight ≡ min (weight_of (value_by known.now) x) cap → result.weighed.value ≡ form_value (value_by known.now) (Binary op x (tree_of right.now)) }
-    ensures weight { (x : Tree) → left.now.weighed.value ≡ value_of (value_by known.now) x → left.now.weighed.weight ≡ min (weight_of (value_by known.now) x) cap → result.weighed.weight ≡ min (form_weight (value_by known.now) (Binary op x (tree_of right.now))) cap }
-    ensures first { (x : Tree) → left.now.weighed.value ≡ value_of (value_by known.now) x → left.now.weighed.weight ≡ min (weight_of (value_by known.now) x) cap → left.now.first ≡ first_wide (value_by known.now) x → result.first ≡ lesser (wide_at at (form_weight (value_by known.now) (Binary op x (tree_of right.now)))) (wide_below (value_by known.now) (Binary op x (tree_of right.now))) }
+    ensures value { (x : Tree) → left.now.weighed.value ≡ value_of (value_by known.now) x → left.now.weighed.weight ≡ min (weight_of (value_by known.now) x) too_heavy → result.weighed.value ≡ form_value (value_by known.now) (Binary op x (tree_of right.now)) }
+    ensures weight { (x : Tree) → left.now.weighed.value ≡ value_of (value_by known.now) x → left.now.weighed.weight ≡ min (weight_of (value_by known.now) x) too_heavy → result.weighed.weight ≡ min (form_weight (value_by known.now) (Binary op x (tree_of right.now))) too_heavy }
+    ensures first { (x : Tree) → left.now.weighed.value ≡ value_of (value_by known.now) x → left.now.weighed.weight ≡ min (weight_of (value_by known.now) x) too_heavy → left.now.first ≡ first_wide (value_by known.now) x → result.first ≡ lesser (wide_at at (form_weight (value_by known.now) (Binary op x (tree_of right.now)))) (wide_below (value_by known.now) (Binary op x (tree_of right.now))) }
 {
     let right = count(known, right);
     of_both(at, op, left, &right)
@@ -156,7 +154,7 @@ fn count_not(known: &NamedValues, operand: &Expr) -> CountedPart
 #[inline(never)]
 fn count_minus(known: &NamedValues, at: u32, operand: &Expr) -> CountedPart
     ensures value { result.weighed.value ≡ form_value (value_by known.now) (Minus (tree_of operand.now)) }
-    ensures weight { result.weighed.weight ≡ min (form_weight (value_by known.now) (Minus (tree_of operand.now))) cap }
+    ensures weight { result.weighed.weight ≡ min (form_weight (value_by known.now) (Minus (tree_of operand.now))) too_heavy }
     ensures first { result.first ≡ lesser (wide_at at (form_weight (value_by known.now) (Minus (tree_of operand.now)))) (wide_below (value_by known.now) (Minus (tree_of operand.now))) }
 {
     let a = count(known, operand);
@@ -168,7 +166,7 @@ fn count_minus(known: &NamedValues, at: u32, operand: &Expr) -> CountedPart
 #[inline(never)]
 fn count_if(known: &NamedValues, at: u32, condition: &Expr, yes: &Expr, no: &Expr) -> CountedPart
     ensures value { result.weighed.value ≡ form_value (value_by known.now) (If (tree_of condition.now) (tree_of yes.now) (tree_of no.now)) }
-    ensures weight { result.weighed.weight ≡ min (form_weight (value_by known.now) (If (tree_of condition.now) (tree_of yes.now) (tree_of no.now))) cap }
+    ensures weight { result.weighed.weight ≡ min (form_weight (value_by known.now) (If (tree_of condition.now) (tree_of yes.now) (tree_of no.now))) too_heavy }
     ensures first { result.first ≡ lesser (wide_at at (form_weight (value_by known.now) (If (tree_of condition.now) (tree_of yes.now) (tree_of no.now)))) (wide_below (value_by known.now) (If (tree_of condition.now) (tree_of yes.now) (tree_of no.now))) }
 {
     let condition = count(known, condition);
@@ -239,7 +237,7 @@ fn count_call(known: &NamedValues, es: &[Expr]) -> CountedPart
 #[cycle(count)]
 fn count(known: &NamedValues, e: &Expr) -> CountedPart
     ensures value { result.weighed.value ≡ value_of (value_by known.now) (tree_of e.now) }
-    ensures weight { result.weighed.weight ≡ min (weight_of (value_by known.now) (tree_of e.now)) cap }
+    ensures weight { result.weighed.weight ≡ min (weight_of (value_by known.now) (tree_of e.now)) too_heavy }
     ensures first { result.first ≡ first_wide (value_by known.now) (tree_of e.now) }
 {
     match &e.form {

@@ -1,8 +1,12 @@
-use Rattle.std.proofs.Common.{◌≡◌, take, flat_map}
-use Rattle.rv_types.specs.Earliest.{first}
+use Rattle.std.proofs.Common.{◌≡◌, ℕ, ◌+◌, take, flat_map, slice_get, Some}
+use Rattle.rv_syntax.specs.declared.tree.Decl.{Decl}
 use Rattle.rv_syntax.specs.Tree.{node_tree}
 use Rattle.rv_types.specs.Clocks.{chain_clash}
+use Rattle.rv_types.specs.Earliest.{first}
 use Rattle.rv_types.proofs.clocks.chain_faults.Given as goal
 
-abbrev pub invariant-loop-decl : goal.invariant-loop-decl
-invariant-loop-decl l = l.fault ≡ first (flat_map (chain_clash (node_tree l.timing.node.now)) (take l.decl-index l.decls))
+abbrev pub invariant-loop-index : goal.invariant-loop-index
+invariant-loop-index l = record {
+  so_far : l.fault ≡ first (flat_map (chain_clash (node_tree l.timing.node.now)) (take l.index l.decls));
+  before : (k : ℕ) (d : Decl) → k + 1 ≡ l.index → slice_get l.decls k ≡ Some d → l.own ≡ first (chain_clash (node_tree l.timing.node.now) d);
+}

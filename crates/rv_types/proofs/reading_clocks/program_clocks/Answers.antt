@@ -1,4 +1,5 @@
 use Rattle.std.proofs.Common.{◌≡◌, ◌≤◌, ◌<◌, ◌^◌, rules, arith, map, subst, sym, length}
+use Rattle.rv_syntax.specs.Limits.{source_limit}
 use Rattle.rv_syntax.specs.Tree.{program_tree, node_tree}
 use Rattle.rv_syntax.specs.Places.{flows}
 use Rattle.rv_types.specs.Timings.{HaveFlows}
@@ -12,7 +13,7 @@ clocks_of_nodes-requires c =
     let kept : c.as_slice.result.now ≡ c.args.p.now.nodes = search rules in
     let all : HaveFlows p.nodes = λ n there. (
       flows_different p n (node_right p c.requires.names n there),
-      (let few : length (flows n) ≤ 1048576 = c.requires.bounded.node_flows n there in
+      (let few : length (flows n) ≤ source_limit = c.requires.bounded.node_flows n there in
           let small : length (flows n) < 2 ^ 32 = omega arith in small),
     ) in
     subst (λ ns. HaveFlows (map node_tree ns)) (sym kept) all

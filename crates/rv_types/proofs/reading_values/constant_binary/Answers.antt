@@ -1,7 +1,7 @@
 use Rattle.std.proofs.Common.{◌≡◌, ◌&&◌, min, nat_abs, Some, subst, arith, ◌∙◌}
 use Rattle.rv_types.specs.Constants.{whole_in, value_under, weight_under, weight_of}
 use Rattle.rv_types.specs.ConstantParts.{IsKnownBound, constant_part}
-use Rattle.rv_types.specs.ValueTables.{cap}
+use Rattle.rv_syntax.specs.Limits.{too_heavy}
 use Rattle.rv_syntax.specs.Tree.{Binary}
 use Rattle.rv_types.proofs.ConstantValues.{is_part, makes_form, not_arrow}
 use Rattle.rv_types.proofs.reading_values.constant_binary.Goals as goal
@@ -13,8 +13,8 @@ returns-in-Some-b c = record {
     weight =
         let a = subst IsKnownBound c.in-Some.is c.requires.a in
         let b = subst IsKnownBound c.in-Some-b.is c.requires.b in
-        let v : c.in-Some.a.weight ≡ min c.in-Some.a.weight cap = let h = a.weight in omega (arith, h) in
-        let w : c.in-Some-b.b.weight ≡ min c.in-Some-b.b.weight cap = let h = b.weight in omega (arith, h) in
+        let v : c.in-Some.a.weight ≡ min c.in-Some.a.weight too_heavy = let h = a.weight in omega (arith, h) in
+        let w : c.in-Some-b.b.weight ≡ min c.in-Some-b.b.weight too_heavy = let h = b.weight in omega (arith, h) in
         let e = c.of_operator.ensures.weight c.in-Some.a.weight c.in-Some-b.b.weight v w in
         omega (arith, e);
   };
@@ -27,5 +27,5 @@ returns-in-Some-b c = record {
       (c.of_operator.ensures.value (weight_of known x) (weight_of known y) pa.weight pb.weight
       ∙ (λ i. value_under (weight_under o (nat_abs (whole_in (pa.value i))) (weight_of known x) (weight_of known y)) o (pa.value i) (pb.value i)))
       (c.of_operator.ensures.weight (weight_of known x) (weight_of known y) pa.weight pb.weight
-      ∙ (λ i. min (weight_under o (nat_abs (whole_in (pa.value i))) (weight_of known x) (weight_of known y)) cap));
+      ∙ (λ i. min (weight_under o (nat_abs (whole_in (pa.value i))) (weight_of known x) (weight_of known y)) too_heavy));
 }

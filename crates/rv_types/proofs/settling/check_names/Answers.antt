@@ -1,5 +1,6 @@
 use Rattle.std.proofs.Common.{◌≡◌, ◌<◌, ◌≤◌, ◌^◌, ◌∙◌, ap, sym, subst, rules, arith, true, false, length, Some, None}
 use Rattle.std.proofs.lemmas.List.{length-map}
+use Rattle.rv_syntax.specs.Limits.{source_limit}
 use Rattle.rv_syntax.specs.Tree.{program_tree}
 use Rattle.rv_syntax.specs.Places.{index_of}
 use Rattle.rv_types.specs.Names.{texts, is_declared, node_names, name_faults}
@@ -19,7 +20,7 @@ overflow_cast-result c =
     let all : c.in_ok-declared.declared.spaces.nodes ≡ node_names p = space ∙ all_first (node_names p) (all_different p (first_none (name_faults p) none)).nodes in
     let long : length c.in_ok-declared.declared.spaces.nodes ≡ length p.nodes = ap length all ∙ length-map p.nodes (λ n. n.name) in
     let within : c.in-Some.number < length c.in_ok-declared.declared.spaces.nodes = search rules in
-    let few : length p.nodes ≤ 1048576 = c.requires.nodes in
+    let few : length p.nodes ≤ source_limit = c.requires.nodes in
     let small : c.in-Some.number < 2 ^ 32 = omega arith in
     search rules
 

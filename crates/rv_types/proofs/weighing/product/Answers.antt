@@ -1,8 +1,9 @@
-use Rattle.std.proofs.Common.{◌≡◌, ◌*ℤ◌, ◌^◌, ◌+◌, rules}
+use Rattle.std.proofs.Common.{◌≡◌, ◌*ℤ◌, rules}
 use mir.Val.{SFits, to_z, of_z}
 use mir.Syntax.{w128}
 use lib.IntN.{ℤ}
 use Rattle.std.proofs.lemmas.Int.{to_z-of_z, fits_signed_mul}
+use Rattle.rv_syntax.specs.Limits.{too_heavy}
 use Rattle.rv_types.proofs.weighing.product.Goals as goal
 
 exact : (a b x y : ℤ) → x ≡ a → y ≡ b → SFits w128 (a *ℤ b) → to_z w128 (of_z w128 (x *ℤ y)) ≡ a *ℤ b
@@ -12,5 +13,5 @@ pub returns : goal.returns
 returns c =
     let a : SFits w128 c.args.a = search rules in
     let b : SFits w128 c.args.b = search rules in
-    let p : SFits w128 (c.args.a *ℤ c.args.b) = fits_signed_mul w128 c.args.a c.args.b (2 ^ 40 + 1) (2 ^ 40 + 1) c.requires.a c.requires.b (search rules) in
+    let p : SFits w128 (c.args.a *ℤ c.args.b) = fits_signed_mul w128 c.args.a c.args.b too_heavy too_heavy c.requires.a c.requires.b (search rules) in
     exact c.args.a c.args.b _ _ (to_z-of_z w128 c.args.a a) (to_z-of_z w128 c.args.b b) p

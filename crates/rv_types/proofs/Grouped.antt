@@ -1,0 +1,59 @@
+-- Walks over the flows of a section that use what is found of a flow for the rest of its group.
+use Rattle.std.proofs.Common.{◌≡◌, ℕ, zero, suc, ◌+◌, ◌<◌, List, [], ◌∷◌, ◌++◌, map, flat_map, take, length, get_or}
+use Rattle.std.proofs.Common.{slice_get, option_map, Option, Some, sym, ap, ◌∙◌, subst, arith, append_assoc}
+use Rattle.std.proofs.lemmas.Grind.{flat_map-append}
+use Rattle.std.proofs.lemmas.List.{take_more, map-append, append-nil}
+use Rattle.std.proofs.lemmas.Option.{slice_get-get_or}
+use Rattle.rv_types.specs.declared.fault.NameFault.{NameFault}
+use Rattle.rv_types.specs.Earliest.{sooner, first}
+use Rattle.rv_types.proofs.Joined.{first_append}
+
+-- what is found of a part of an item is found of the next one, which has the same part
+pub kept : {X A B : Type 0} (part : X → B) (found : B → A) (xs : List X) (i : ℕ) (before : A) (x : X) → 0 < i → i < length xs
+    → ((k : ℕ) → k + 1 ≡ i → option_map part (slice_get xs k) ≡ option_map part (slice_get xs i))
+    → ((k : ℕ) (y : X) → k + 1 ≡ i → slice_get xs k ≡ Some y → before ≡ found (part y))
+    → slice_get xs i ≡ Some x → before ≡ found (part x)
+kept part found xs zero before x later within alike known is = absurd (omega arith)
+kept part found xs (suc k) before x later within alike known is =
+    let there : slice_get xs k ≡ Some (get_or xs k x) = slice_get-get_or xs k x (omega arith) in
+    let step : k + 1 ≡ suc k = omega arith in
+    let same : Some (part (get_or xs k x)) ≡ Some (part x) = sym (ap (option_map part) there) ∙ alike k step ∙ ap (option_map part) is in
+    let parts : part (get_or xs k x) ≡ part x = cc in
+    known k (get_or xs k x) step there ∙ ap found parts
+
+-- what is found of the item that was read
+pub looked_up : {X A : Type 0} (found : X → A) (xs : List X) (i : ℕ) (own : A) (read x : X) → own ≡ found read
+    → slice_get xs i ≡ Some read → slice_get xs i ≡ Some x → own ≡ found x
+looked_up found xs i own read x e p q = let same : read ≡ x = cc in e ∙ ap found same
+
+-- it is that of the item before the next one
+pub here : {X A : Type 0} (found : X → A) (xs : List X) (i : ℕ) (own : A) → ((x : X) → slice_get xs i ≡ Some x → own ≡ found x)
+    → (k : ℕ) (x : X) → k + 1 ≡ i + 1 → slice_get xs k ≡ Some x → own ≡ found x
+here found xs i own known k x e is = let same : k ≡ i = omega arith in known x (subst (λ j. slice_get xs j ≡ Some x) same is)
+
+-- the faults of one item more
+pub fault_step : {X : Type 0} (faults : X → List NameFault) (xs : List X) (i : ℕ) (fault own both : Option NameFault) → i < length xs
+    → ((x : X) → slice_get xs i ≡ Some x → own ≡ first (faults x)) → fault ≡ first (flat_map faults (take i xs)) → both ≡ sooner fault own
+    → both ≡ first (flat_map faults (take (i + 1) xs))
+fault_step faults [] i fault own both within known so_far joined = absurd (omega arith)
+fault_step faults (x ∷ xs) i fault own both within known so_far joined =
+    let longer : take (i + 1) (x ∷ xs) ≡ take i (x ∷ xs) ++ get_or (x ∷ xs) i x ∷ [] = take_more (x ∷ xs) i x within in
+    let split : flat_map faults (take (i + 1) (x ∷ xs)) ≡ flat_map faults (take i (x ∷ xs)) ++ faults (get_or (x ∷ xs) i x) =
+    ap (flat_map faults) longer ∙ flat_map-append faults (take i (x ∷ xs)) (get_or (x ∷ xs) i x ∷ [])
+    ∙ ap (λ l. flat_map faults (take i (x ∷ xs)) ++ l) (append-nil (faults (get_or (x ∷ xs) i x))) in
+    let now = known (get_or (x ∷ xs) i x) (slice_get-get_or (x ∷ xs) i x within) in
+    let one = first_append (flat_map faults (take i (x ∷ xs))) (faults (get_or (x ∷ xs) i x)) in
+    joined ∙ (λ j. sooner (so_far j) (now j)) ∙ sym one ∙ sym (ap first split)
+
+-- what is found of one item more is added
+pub pushed_step : {X A : Type 0} (found : X → A) (xs : List X) (i : ℕ) (own : A) (initial old new : List A) → i < length xs
+    → ((x : X) → slice_get xs i ≡ Some x → own ≡ found x) → old ≡ initial ++ map found (take i xs) → new ≡ old ++ own ∷ []
+    → new ≡ initial ++ map found (take (i + 1) xs)
+pushed_step found [] i own initial old new within known so_far pushed = absurd (omega arith)
+pushed_step found (x ∷ xs) i own initial old new within known so_far pushed =
+    let longer : take (i + 1) (x ∷ xs) ≡ take i (x ∷ xs) ++ get_or (x ∷ xs) i x ∷ [] = take_more (x ∷ xs) i x within in
+    let split : map found (take (i + 1) (x ∷ xs)) ≡ map found (take i (x ∷ xs)) ++ found (get_or (x ∷ xs) i x) ∷ [] =
+    ap (map found) longer ∙ map-append found (take i (x ∷ xs)) (get_or (x ∷ xs) i x ∷ []) in
+    let now = known (get_or (x ∷ xs) i x) (slice_get-get_or (x ∷ xs) i x within) in
+    let back = sym (ap (λ l. initial ++ l) split) in
+    pushed ∙ (λ j. so_far j ++ now j ∷ []) ∙ append_assoc initial (map found (take i (x ∷ xs))) (found (get_or (x ∷ xs) i x) ∷ []) ∙ back

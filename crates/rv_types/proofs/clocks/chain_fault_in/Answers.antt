@@ -1,0 +1,19 @@
+use Rattle.rv_types.proofs.Grouped.{kept, looked_up}
+use Rattle.std.proofs.Common.{Option}
+use Rattle.rv_syntax.specs.declared.tree.Decl.{Decl}
+use Rattle.rv_syntax.specs.declared.tree.Name.{Name}
+use Rattle.rv_syntax.specs.Tree.{node_tree}
+use Rattle.rv_types.specs.Clocks.{chain_clash}
+use Rattle.rv_types.specs.Earliest.{first}
+use Rattle.rv_types.proofs.clocks.chain_fault_in.Goals as goal
+
+pub returns-then-goes_on : goal.returns-then-goes_on
+returns-then-goes_on c = λ d is.
+    let on = c.if-goes_on.true in
+    kept (λ (d : Decl). d.clock) (λ (o : Option Name). first (chain_clash (node_tree c.args.timing.now.node.now) (record d { clock = o })))
+    c.args.decls.now c.args.index c.args.before d (c.goes_on.ensures.later on) c.requires.within (c.goes_on.ensures.clock on) c.requires.before is
+
+pub returns-else-goes_on : goal.returns-else-goes_on
+returns-else-goes_on c = λ d is.
+    looked_up (λ (e : Decl). first (chain_clash (node_tree c.args.timing.now.node.now) e))
+    c.args.decls.now c.args.index c.chain_fault.result c.at.result.now d c.chain_fault.ensures c.at.ensures.value is
