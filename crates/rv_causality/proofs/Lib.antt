@@ -2,7 +2,10 @@ pub mod HashedNames
 pub mod Known
 pub mod Walks
 pub mod Turns
-pub mod Marks
+pub mod Depths
+pub mod Searches
+pub mod Turned
+pub mod Parting
 pub mod Lowering
 pub mod Recursions
 pub mod Summing
