@@ -20,7 +20,8 @@ vertices_front g vs are i lt =
     subst (λ u. u < length g) (sym (get_or-take_below vs (length vs - 1) i 0 below)) (are i (omega (arith, below)))
 
 -- the last vertex apart
-pub vertices_rest : (g : Graph) (vs rest : List ℕ) (v : ℕ) → AreVertices g vs → vs ≡ rest ++ v ∷ [] → AreVertices g rest × (v < length g) × (length rest < length vs)
+pub vertices_rest : (g : Graph) (vs rest : List ℕ) (v : ℕ) → AreVertices g vs → vs ≡ rest ++ v ∷ []
+    → AreVertices g rest × (v < length g) × (length rest < length vs)
 vertices_rest g vs rest v are is = (
   (λ i lt. subst (λ u. u < length g) (at i lt) (are i (let n = size in omega (arith, n, lt)))),
   subst (λ u. u < length g) last (are (length rest) (let n = size in omega (arith, n))),
@@ -37,7 +38,8 @@ vertices_rest g vs rest v are is = (
     last = ap (λ l. get_or l (length rest) 0) is ∙ snoc_last rest v
 
 -- the search at its start
-pub depth_start : (g : Graph) (w : Walk) → (w.entered ≡ replicate (length g) false) × (w.finished ≡ replicate (length g) false) × (w.cursor ≡ replicate (length g) 0) × (w.path ≡ []) × (w.order ≡ []) → IsDepth g w
+pub depth_start : (g : Graph) (w : Walk)
+    → (w.entered ≡ replicate (length g) false) × (w.finished ≡ replicate (length g) false) × (w.cursor ≡ replicate (length g) 0) × (w.path ≡ []) × (w.order ≡ []) → IsDepth g w
 depth_start g w e = record {
   entered = ap length e.0 ∙ length-replicate (length g) false;
   finished = ap length e.1 ∙ length-replicate (length g) false;
@@ -51,7 +53,8 @@ abbrev pub weight : Walk → ℕ
 weight w = falses w.entered + falses w.entered + length w.path
 
 module _ (g : Graph) where
-  pub step_entered : (w : Walk) → IsDepth g w → (v : ℕ) (new : Walk) → v < length g → new ≡ record w { entered = set w.entered v true; cursor = set w.cursor v 0; path = w.path ++ v ∷ [] } → IsDepth g new
+  pub step_entered : (w : Walk) → IsDepth g w → (v : ℕ) (new : Walk) → v < length g
+      → new ≡ record w { entered = set w.entered v true; cursor = set w.cursor v 0; path = w.path ++ v ∷ [] } → IsDepth g new
   step_entered w d v new within is = subst (IsDepth g) (sym is) after
     where
       after : IsDepth g (record { entered = set w.entered v true; finished = w.finished; cursor = set w.cursor v 0; path = w.path ++ v ∷ []; order = w.order })
@@ -63,7 +66,8 @@ module _ (g : Graph) where
         order = d.order;
       }
 
-  step_left : (w : Walk) → IsDepth g w → (v : ℕ) (new : Walk) → v < length g → new ≡ record w { finished = set w.finished v true; path = take (length w.path - 1) w.path; order = w.order ++ v ∷ [] } → IsDepth g new
+  step_left : (w : Walk) → IsDepth g w → (v : ℕ) (new : Walk) → v < length g
+      → new ≡ record w { finished = set w.finished v true; path = take (length w.path - 1) w.path; order = w.order ++ v ∷ [] } → IsDepth g new
   step_left w d v new within is = subst (IsDepth g) (sym is) after
     where
       after : IsDepth g (record { entered = w.entered; finished = set w.finished v true; cursor = w.cursor; path = take (length w.path - 1) w.path; order = w.order ++ v ∷ [] })

@@ -15,6 +15,7 @@ pub mod OneCause
 pub mod Sized
 pub mod Answered
 pub mod AllInstances
+pub mod OnceInstances
 pub mod Inputs
 pub mod Flowing
 pub mod NoCycle

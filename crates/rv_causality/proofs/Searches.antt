@@ -54,7 +54,8 @@ put_count r (Some s ∷ ms) (suc v) lt not =
 
 module _ (allowed : Marks) (wanted : Option ℕ) (from : ℕ) where
   -- a vertex that is not allowed, or is marked already
-  pub spread_not : (v : ℕ) (marks : Marks) (waiting : List ℕ) → (mark_of allowed v ≡ wanted → mark_of marks v ≡ Some from) → IsSpread allowed wanted from (v ∷ []) marks waiting marks waiting
+  pub spread_not : (v : ℕ) (marks : Marks) (waiting : List ℕ) → (mark_of allowed v ≡ wanted → mark_of marks v ≡ Some from)
+      → IsSpread allowed wanted from (v ∷ []) marks waiting marks waiting
   spread_not v marks waiting is = record {
     size = refl;
     kept = λ k. inl refl;
@@ -100,7 +101,8 @@ module _ (allowed : Marks) (wanted : Option ℕ) (from : ℕ) where
   }
 
   -- some, and then others
-  pub spread_more : (xs ys : List ℕ) (m1 m2 m3 : Marks) (w1 w2 w3 : List ℕ) → IsSpread allowed wanted from xs m1 w1 m2 w2 → IsSpread allowed wanted from ys m2 w2 m3 w3
+  pub spread_more : (xs ys : List ℕ) (m1 m2 m3 : Marks) (w1 w2 w3 : List ℕ) → IsSpread allowed wanted from xs m1 w1 m2 w2
+      → IsSpread allowed wanted from ys m2 w2 m3 w3
       → IsSpread allowed wanted from (xs ++ ys) m1 w1 m3 w3
   spread_more xs ys m1 m2 m3 w1 w2 w3 p q = record {
     size = q.size ∙ p.size;
@@ -139,11 +141,13 @@ module _ (allowed : Marks) (wanted : Option ℕ) (from : ℕ) where
         same k e = elim (put_cases old from (Some from) k) [ inl is ↦ is | inr before ↦ absurd (fresh k (sym before ∙ e)) ]
 
     -- the last that waits is a vertex
-    pub search_last : (marks : Marks) (waiting rest : List ℕ) (v : ℕ) → IsSearch g allowed wanted from old marks waiting → waiting ≡ rest ++ v ∷ [] → v < length g
+    pub search_last : (marks : Marks) (waiting rest : List ℕ) (v : ℕ) → IsSearch g allowed wanted from old marks waiting → waiting ≡ rest ++ v ∷ []
+        → v < length g
     search_last marks waiting rest v s is = (s.within v (s.waits v (subst (λ l. Contains l v) (sym is) (Contains-append_right rest (v ∷ []) v (one v))))).0
 
     -- what the last waiting vertex points to is marked
-    pub search_step : (marks new_marks : Marks) (waiting rest new_waiting : List ℕ) (v : ℕ) → IsSearch g allowed wanted from old marks waiting → waiting ≡ rest ++ v ∷ []
+    pub search_step : (marks new_marks : Marks) (waiting rest new_waiting : List ℕ) (v : ℕ) → IsSearch g allowed wanted from old marks waiting
+        → waiting ≡ rest ++ v ∷ []
         → IsSpread allowed wanted from (edges g v) marks rest new_marks new_waiting
         → IsSearch g allowed wanted from old new_marks new_waiting × (unmarked from new_marks + length new_waiting < unmarked from marks + length waiting)
     search_step marks new_marks waiting rest new_waiting v s is spread = (
@@ -181,7 +185,8 @@ module _ (allowed : Marks) (wanted : Option ℕ) (from : ℕ) where
         v_within = (s.within v v_marked).0
 
     -- nothing waits any more
-    pub search_end : (marks : Marks) (waiting : List ℕ) → IsSearch g allowed wanted from old marks waiting → waiting ≡ [] → IsReached g allowed wanted from old marks
+    pub search_end : (marks : Marks) (waiting : List ℕ) → IsSearch g allowed wanted from old marks waiting → waiting ≡ []
+        → IsReached g allowed wanted from old marks
     search_end marks waiting s none = record {
       size = s.size;
       start = s.start;

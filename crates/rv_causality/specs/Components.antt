@@ -67,7 +67,8 @@ pub record IsSearch (g : Graph) (allowed : Marks) (wanted : Option ℕ) (from : 
   pub start : mark_of marks from ≡ Some from
   pub sound : (k : ℕ) → mark_of marks k ≡ Some from → LeadsTo g k from
   pub within : (k : ℕ) → mark_of marks k ≡ Some from → (k < length g) × (mark_of allowed k ≡ wanted)
-  pub closed : (a b : ℕ) → mark_of marks a ≡ Some from → Contains (edges g a) b → mark_of allowed b ≡ wanted → (mark_of marks b ≡ Some from) ⊎ Contains waiting a
+  pub closed : (a b : ℕ) → mark_of marks a ≡ Some from → Contains (edges g a) b → mark_of allowed b ≡ wanted
+      → (mark_of marks b ≡ Some from) ⊎ Contains waiting a
   pub kept : (k : ℕ) → (mark_of marks k ≡ mark_of old k) ⊎ (mark_of marks k ≡ Some from)
   pub waits : (k : ℕ) → Contains waiting k → mark_of marks k ≡ Some from
 
@@ -82,7 +83,8 @@ pub record IsSpread (allowed : Marks) (wanted : Option ℕ) (from : ℕ) (target
   pub size : length new_marks ≡ length marks
   pub kept : (k : ℕ) → (mark_of new_marks k ≡ mark_of marks k) ⊎ (mark_of new_marks k ≡ Some from)
   pub marked : (k : ℕ) → Contains targets k → mark_of allowed k ≡ wanted → mark_of new_marks k ≡ Some from
-  pub only : (k : ℕ) → mark_of new_marks k ≡ Some from → (mark_of marks k ≡ Some from) ⊎ (Contains targets k × Contains new_waiting k × (mark_of allowed k ≡ wanted))
+  pub only : (k : ℕ) → mark_of new_marks k ≡ Some from
+      → (mark_of marks k ≡ Some from) ⊎ (Contains targets k × Contains new_waiting k × (mark_of allowed k ≡ wanted))
   pub waits : (k : ℕ) → Contains waiting k → Contains new_waiting k
   pub waits_only : (k : ℕ) → Contains new_waiting k → Contains waiting k ⊎ (mark_of new_marks k ≡ Some from)
   pub count : unmarked from new_marks + length new_waiting ≡ unmarked from marks + length waiting
