@@ -5,6 +5,7 @@ use Rattle.std.specs.List.{Contains}
 use Rattle.std.proofs.lemmas.List.{get_or-set_other, get_or-set_same, length-set, append_assoc}
 use Rattle.std.proofs.lemmas.List.Elements.{Contains-get_or}
 use Rattle.std.proofs.lemmas.Bool.{cases_eq}
+use Rattle.rv_syntax.specs.Limits.{source_limit}
 use Rattle.rv_syntax.specs.declared.tree.Equation.{Equation}
 use Rattle.rv_syntax.specs.declared.tree.Expr.{Expr}
 use Rattle.rv_syntax.specs.declared.tree.Name.{Name}
@@ -260,7 +261,7 @@ module _ (p : ProgramTree) (main : Identifier) (instances : List Numbered) (know
       let less = within_main in
       subst (λ k. IsPlaced (all_places p instances) k (j ∷ [])) (zero-add j) (site_placed p main instances known 0 (main_instance p main) j at.0 is_main at.1 (omega (arith, front, less)))
 
-  pub input_few : j < 1048576
+  pub input_few : j < source_limit
   input_few =
       let at = main_at p main instances known in
       let few = node_few p main instances known 0 at.0 in

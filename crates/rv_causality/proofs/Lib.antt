@@ -2,7 +2,10 @@ pub mod HashedNames
 pub mod Known
 pub mod Walks
 pub mod Turns
-pub mod Marks
+pub mod Depths
+pub mod Searches
+pub mod Turned
+pub mod Parting
 pub mod Lowering
 pub mod Recursions
 pub mod Summing
@@ -12,6 +15,7 @@ pub mod OneCause
 pub mod Sized
 pub mod Answered
 pub mod AllInstances
+pub mod OnceInstances
 pub mod Inputs
 pub mod Flowing
 pub mod NoCycle

@@ -8,44 +8,45 @@ use Rattle.std.proofs.lemmas.Bool.{cases_eq}
 use Rattle.rv_causality.specs.declared.calls.Calling.{Calling}
 use Rattle.rv_causality.specs.Graphs.{Graph, edges, IsGraph, IsOrdered, Follows, IsLoop}
 use Rattle.rv_causality.specs.Callings.{LeadsTo, there, over, callees, call_graph}
+use Rattle.rv_causality.specs.Components.{Marks, mark_of, AreComponents}
 use Rattle.rv_causality.specs.Loops.{AtMost, IsLowered, IsLoweredTo, HasNoLoop, IsFirstLoop}
 use Rattle.rv_causality.proofs.Walks.{contains_at}
 
-pub lowered_none : (g : Graph) (k : ℕ) (old : Option ℕ) → IsLowered g k [] old old
-lowered_none g k old = record {
+pub lowered_none : (parts : Marks) (k : ℕ) (old : Option ℕ) → IsLowered parts k [] old old
+lowered_none parts k old = record {
   lower = λ at h. h;
   found = inl refl;
-  least = λ c w lead. absurd (let lt = w.1 in omega (arith, lt));
+  least = λ c w same. absurd (let lt = w.1 in omega (arith, lt));
 }
 
-pub lowered_more : (g : Graph) (k : ℕ) (xs ys : List Calling) (a b c : Option ℕ) → IsLowered g k xs a b → IsLowered g k ys b c → IsLowered g k (xs ++ ys) a c
-lowered_more g k xs ys a b c p q = record {
+pub lowered_more : (parts : Marks) (k : ℕ) (xs ys : List Calling) (a b c : Option ℕ) → IsLowered parts k xs a b → IsLowered parts k ys b c → IsLowered parts k (xs ++ ys) a c
+lowered_more parts k xs ys a b c p q = record {
   lower = λ at h. q.lower at (p.lower at h);
   found = elim q.found [
-    | inl same ↦ elim p.found [
-      | inl older ↦ inl (same ∙ older)
-      | inr w ↦ inr (w.0, Contains-append_left xs ys w.0 w.1, same ∙ w.2, w.3)
+    | inl kept ↦ elim p.found [
+      | inl older ↦ inl (kept ∙ older)
+      | inr w ↦ inr (w.0, Contains-append_left xs ys w.0 w.1, kept ∙ w.2, w.3)
     ]
     | inr w ↦ inr (w.0, Contains-append_right xs ys w.0 w.1, w.2, w.3)
   ];
-  least = λ d w lead. elim (Contains-append_cases xs ys d w) [
-    | inl front ↦ q.lower d.at (p.least d front lead)
-    | inr back ↦ q.least d back lead
+  least = λ d w same. elim (Contains-append_cases xs ys d w) [
+    | inl front ↦ q.lower d.at (p.least d front same)
+    | inr back ↦ q.least d back same
   ];
 }
 
-pub lowered_to_more : (g : Graph) (t : List (List Calling)) (n : ℕ) (old new : Option ℕ) → IsLoweredTo g t n old → IsLowered g n (get_or t n []) old new → IsLoweredTo g t (n + 1) new
-lowered_to_more g t n old new p q = record {
+pub lowered_to_more : (parts : Marks) (t : List (List Calling)) (n : ℕ) (old new : Option ℕ) → IsLoweredTo parts t n old → IsLowered parts n (get_or t n []) old new → IsLoweredTo parts t (n + 1) new
+lowered_to_more parts t n old new p q = record {
   found = elim q.found [
-    | inl same ↦ elim p.found [
-      | inl none ↦ inl (same ∙ none)
-      | inr w ↦ inr (w.0, w.1, (let lt = w.2 in omega (arith, lt)), w.3, same ∙ w.4, w.5)
+    | inl kept ↦ elim p.found [
+      | inl none ↦ inl (kept ∙ none)
+      | inr w ↦ inr (w.0, w.1, (let lt = w.2 in omega (arith, lt)), w.3, kept ∙ w.4, w.5)
     ]
     | inr w ↦ inr (n, w.0, omega arith, w.1, w.2, w.3)
   ];
-  least = λ k c lt w lead. elim (cases_eq k n) [
-    | inl here ↦ q.least c (subst (λ m. Contains (get_or t m []) c) here w) (subst (λ m. LeadsTo g m c.callee) here lead)
-    | inr before ↦ q.lower c.at (p.least k c (omega (arith, lt, before)) w lead)
+  least = λ k c lt w same. elim (cases_eq k n) [
+    | inl here ↦ q.least c (subst (λ m. Contains (get_or t m []) c) here w) (subst (λ m. mark_of parts m ≡ mark_of parts c.callee) here same)
+    | inr before ↦ q.lower c.at (p.least k c (omega (arith, lt, before)) w same)
   ];
 }
 
@@ -138,19 +139,33 @@ ordered_no_loop t order ordered k c lt w lead =
     ordered.once back.0 at.0 (omega (arith, less, le)) inside (back.2 ∙ sym at.2)
 
 -- the least offset that is found is the first, and where there is a loop one is found
-pub first_found : (t : List (List Calling)) (at : ℕ) → IsLoweredTo (call_graph t) t (length t) (Some at) → IsFirstLoop (call_graph t) t at
-first_found t at low = record {
-  here = elim low.found [
-    | inl none ↦ absurd (cc)
-    | inr w ↦ (w.0, w.1, w.2, w.3, w.5, same w.1.at w.4)
-  ];
-  first = λ k c lt w lead. low.least k c lt w lead;
-}
-  where
-    same : (b : ℕ) → Some at ≡ Some b → b ≡ at
-    same b e = cc
+module _ (t : List (List Calling)) (graph : IsGraph (call_graph t)) (parts : Marks) (are : AreComponents (call_graph t) parts) where
+  inside : (k : ℕ) → k < length t → k < length (call_graph t)
+  inside k lt = let n = length_map callees t in omega (arith, n, lt)
 
-pub none_found : (t : List (List Calling)) (xs : List ℕ) (least : Option ℕ) → IsLoop (call_graph t) xs → IsLoweredTo (call_graph t) t (length t) least → least ≡ Nothing → ⊥
-none_found t xs least is low none =
-    let w = loop_call t xs is in
-    subst (λ l. AtMost l w.1.at) none (low.least w.0 w.1 w.2 w.3 w.4)
+  -- a call between two nodes of one component leads back
+  same_back : (k : ℕ) (c : Calling) → k < length t → Contains (get_or t k []) c → mark_of parts k ≡ mark_of parts c.callee → LeadsTo (call_graph t) k c.callee
+  same_back k c lt w e = are.together c.callee k (callee_within t graph k c lt w) (inside k lt) (sym e)
+
+  -- and back
+  back_same : (k : ℕ) (c : Calling) → k < length t → Contains (get_or t k []) c → LeadsTo (call_graph t) k c.callee → mark_of parts k ≡ mark_of parts c.callee
+  back_same k c lt w lead =
+      let e = edge_of t k c w in
+      are.apart k c.callee (inside k lt) (over k e.0 e.1 (subst (λ u. LeadsTo (call_graph t) c.callee u) (sym e.2) there)) lead
+
+  pub first_found : (at : ℕ) → IsLoweredTo parts t (length t) (Some at) → IsFirstLoop (call_graph t) t at
+  first_found at low = record {
+    here = elim low.found [
+      | inl none ↦ absurd (cc)
+      | inr w ↦ (w.0, w.1, w.2, w.3, same_back w.0 w.1 w.2 w.3 w.5, same w.1.at w.4)
+    ];
+    first = λ k c lt w lead. low.least k c lt w (back_same k c lt w lead);
+  }
+    where
+      same : (b : ℕ) → Some at ≡ Some b → b ≡ at
+      same b e = cc
+
+  pub none_found : (xs : List ℕ) (least : Option ℕ) → IsLoop (call_graph t) xs → IsLoweredTo parts t (length t) least → least ≡ Nothing → ⊥
+  none_found xs least is low none =
+      let w = loop_call t xs is in
+      subst (λ l. AtMost l w.1.at) none (low.least w.0 w.1 w.2 w.3 (back_same w.0 w.1 w.2 w.3 w.4))

@@ -11,7 +11,8 @@ use Rattle.rv_causality.specs.Sizes.{node_size, instance_count, expanded, intege
 use Rattle.rv_types.specs.Variables.{total, over_instances, is_integer, memories}
 use Rattle.rv_types.specs.Values.{operand_kind}
 use Rattle.rv_causality.specs.Callings.{callings_of}
-use Rattle.rv_causality.specs.Totals.{cap, total_at, AreTotals, AreCapped}
+use Rattle.rv_syntax.specs.Limits.{heaviest}
+use Rattle.rv_causality.specs.Totals.{total_at, AreTotals, AreCapped}
 use Rattle.rv_causality.specs.Capped.{capped, capped_sizes}
 use Rattle.rv_types.specs.Instances.{name_at}
 use Rattle.rv_causality.specs.Memories.{integers, memory_kinds}
@@ -60,7 +61,7 @@ pub total_read : (p : ProgramTree) (named : name_faults p ≡ []) (own totals : 
 total_read p named own totals t k sum within table sums read =
     let size : length t ≡ length p.nodes = ap length table ∙ table_size p named in
     sym read ∙ sums.value k (omega (arith, size, within))
-    ∙ (λ i. min (total_at own (table i) (size i) k) cap)
+    ∙ (λ i. min (total_at own (table i) (size i) k) heaviest)
 
 -- what is found of a result holds of it in other words
 pub if_ok : {A E : Type 0} (r : Result A E) (P Q : A → Type 0) → ((x : A) → P x → Q x) → IfOk r P → IfOk r Q

@@ -7,17 +7,17 @@ use Rattle.rv_causality.specs.Sizes.{instance_count, expanded, integer_memories,
 use Rattle.rv_types.specs.Variables.{over_instances, variable_count}
 use Rattle.rv_types.specs.Values.{label_count}
 use Rattle.rv_types.specs.Instances.{node_of}
-use Rattle.rv_causality.specs.Totals.{cap}
+use Rattle.rv_syntax.specs.Limits.{heaviest}
 use Rattle.rv_causality.specs.Capped.{capped}
 use Rattle.rv_causality.specs.Nodes.{IsSmall, IsSized}
 
-above : (limit n c : ℕ) → n ≡ min c cap → limit < n → limit < c
+above : (limit n c : ℕ) → n ≡ min c heaviest → limit < n → limit < c
 above limit n c is more = omega (arith, is, more)
 
-below : (limit n c : ℕ) → n ≡ min c cap → n ≤ limit → limit < cap → c ≤ limit
+below : (limit n c : ℕ) → n ≡ min c heaviest → n ≤ limit → limit < heaviest → c ≤ limit
 below limit n c is less small = omega (arith, is, less, small)
 
-same : (limit n c : ℕ) → n ≡ min c cap → n ≤ limit → limit < cap → n ≡ c
+same : (limit n c : ℕ) → n ≡ min c heaviest → n ≤ limit → limit < heaviest → n ≡ c
 same limit n c is less small = omega (arith, is, less, small)
 
 module _ (p : ProgramTree) (main : Identifier) where

@@ -7,7 +7,8 @@ use Rattle.rv_causality.specs.declared.calls.Calling.{Calling}
 use Rattle.rv_types.specs.Variables.{total}
 use Rattle.rv_causality.specs.Graphs.{IsOrdered}
 use Rattle.rv_causality.specs.Callings.{callees, call_graph}
-use Rattle.rv_causality.specs.Totals.{cap, total_at, AreTotals, called_total, AreSummed}
+use Rattle.rv_syntax.specs.Limits.{heaviest}
+use Rattle.rv_causality.specs.Totals.{total_at, AreTotals, called_total, AreSummed}
 use Rattle.rv_causality.proofs.Walks.{contains_at, got}
 use Rattle.rv_causality.proofs.Lowering.{edge_of, length_map}
 
@@ -28,16 +29,16 @@ total_min m f g (x ∷ xs) a each =
     omega (arith, here, more)
 
 pub called_more : (totals : List ℕ) (own : ℕ) (calls : List Calling) (i : ℕ) (sum next x : ℕ) → i < length calls
-    → sum ≡ min (own + called_total totals (take i calls)) cap → x ≡ get_or totals (get_or calls i (record { at = 0; site = 0; callee = 0 })).callee 0 → next ≡ min (sum + x) cap
-    → next ≡ min (own + called_total totals (take (i + 1) calls)) cap
+    → sum ≡ min (own + called_total totals (take i calls)) heaviest → x ≡ get_or totals (get_or calls i (record { at = 0; site = 0; callee = 0 })).callee 0 → next ≡ min (sum + x) heaviest
+    → next ≡ min (own + called_total totals (take (i + 1) calls)) heaviest
 called_more totals own calls i sum next x lt is read more =
     let c : Calling = get_or calls i (record { at = 0; site = 0; callee = 0 }) in
-    let stepped = min_step cap own (called_total totals (take i calls)) x next sum is more in
+    let stepped = min_step heaviest own (called_total totals (take i calls)) x next sum is more in
     let one : called_total totals (take (i + 1) calls) ≡ called_total totals (take i calls) + (x + 0) =
     ap (called_total totals) (take_more calls i (record { at = 0; site = 0; callee = 0 }) lt)
     ∙ total_append (λ (c : Calling). get_or totals c.callee 0) (take i calls) (c ∷ [])
     ∙ ap (λ y. called_total totals (take i calls) + (y + 0)) (sym read) in
-    stepped ∙ ap (λ y. min (own + y) cap) (sym one)
+    stepped ∙ ap (λ y. min (own + y) heaviest) (sym one)
 
 min_below : (m a b : ℕ) → a ≡ min b m → a ≤ m
 min_below m a b e = omega (arith, e)
@@ -70,16 +71,16 @@ module _ (own : List ℕ) (t : List (List Calling)) (order : List ℕ) (ordered 
       subst (λ u. u < length t) b.2 (within b.0 (omega (arith, less, lt)))
 
   pub summed_step : (i : ℕ) (totals : List ℕ) (sum : ℕ) → AreSummed own t order i totals → i < length order
-      → sum ≡ min (get_or own (get_or order i 0) 0 + called_total totals (get_or t (get_or order i 0) [])) cap
+      → sum ≡ min (get_or own (get_or order i 0) 0 + called_total totals (get_or t (get_or order i 0) [])) heaviest
       → AreSummed own t order (i + 1) (set totals (get_or order i 0) sum)
   summed_step i totals sum s lt is = record {
     size = length-set totals (get_or order i 0) sum ∙ s.size;
     capped = λ k less. elim (cases_eq k (get_or order i 0)) [
-      | inl same ↦ subst (λ u. u ≤ cap) (sym (ap (λ u. get_or (set totals (get_or order i 0) sum) u 0) same ∙ here)) (min_below cap sum (get_or own (get_or order i 0) 0 + called_total totals (get_or t (get_or order i 0) [])) is)
-      | inr other ↦ subst (λ u. u ≤ cap) (sym (get_or-set_other totals (get_or order i 0) k sum 0 other)) (s.capped k (let n = length-set totals (get_or order i 0) sum in omega (arith, n, less)))
+      | inl same ↦ subst (λ u. u ≤ heaviest) (sym (ap (λ u. get_or (set totals (get_or order i 0) sum) u 0) same ∙ here)) (min_below heaviest sum (get_or own (get_or order i 0) 0 + called_total totals (get_or t (get_or order i 0) [])) is)
+      | inr other ↦ subst (λ u. u ≤ heaviest) (sym (get_or-set_other totals (get_or order i 0) k sum 0 other)) (s.capped k (let n = length-set totals (get_or order i 0) sum in omega (arith, n, less)))
     ];
     value = λ j levels below inside enough. elim (cases_eq j i) [
-      | inl same ↦ subst (λ j. j < levels → get_or (set totals (get_or order i 0) sum) (get_or order j 0) 0 ≡ min (total_at own t levels (get_or order j 0)) cap) (sym same) (at_node levels) enough
+      | inl same ↦ subst (λ j. j < levels → get_or (set totals (get_or order i 0) sum) (get_or order j 0) 0 ≡ min (total_at own t levels (get_or order j 0)) heaviest) (sym same) (at_node levels) enough
       | inr other ↦
           let less : j < i = omega (arith, below, other) in
           get_or-set_other totals (get_or order i 0) (get_or order j 0) sum 0 (ordered.once j i less lt)
@@ -93,13 +94,13 @@ module _ (own : List ℕ) (t : List (List Calling)) (order : List ℕ) (ordered 
       here : get_or (set totals (get_or order i 0) sum) (get_or order i 0) 0 ≡ sum
       here = get_or-set_same totals (get_or order i 0) sum 0 in_totals
 
-      at_node : (levels : ℕ) → i < levels → get_or (set totals (get_or order i 0) sum) (get_or order i 0) 0 ≡ min (total_at own t levels (get_or order i 0)) cap
+      at_node : (levels : ℕ) → i < levels → get_or (set totals (get_or order i 0) sum) (get_or order i 0) 0 ≡ min (total_at own t levels (get_or order i 0)) heaviest
       at_node zero enough = absurd (omega (arith, enough))
-      at_node (suc levels) enough = here ∙ is ∙ total_min cap (λ (c : Calling). get_or totals c.callee 0) (λ (c : Calling). total_at own t levels c.callee) (get_or t (get_or order i 0) []) (get_or own (get_or order i 0) 0)
+      at_node (suc levels) enough = here ∙ is ∙ total_min heaviest (λ (c : Calling). get_or totals c.callee 0) (λ (c : Calling). total_at own t levels c.callee) (get_or t (get_or order i 0) []) (get_or own (get_or order i 0) 0)
           (λ c w.
           let b = before i lt c w in
           let less = b.1 in
-          subst (λ u. get_or totals u 0 ≡ min (total_at own t levels u) cap) b.2
+          subst (λ u. get_or totals u 0 ≡ min (total_at own t levels u) heaviest) b.2
           (s.value b.0 levels less (omega (arith, less, lt)) (omega (arith, less, enough))))
 
   pub summed_end : (i : ℕ) (totals : List ℕ) → AreSummed own t order i totals → length order ≤ i → AreTotals own t totals
@@ -110,7 +111,7 @@ module _ (own : List ℕ) (t : List (List Calling)) (order : List ℕ) (ordered 
         let at = contains_at order k (ordered.all k (omega (arith, n, lt))) in
         let less = at.1 in
         let few = ordered.size in
-        subst (λ u. get_or totals u 0 ≡ min (total_at own t (length t) u) cap) at.2
+        subst (λ u. get_or totals u 0 ≡ min (total_at own t (length t) u) heaviest) at.2
         (s.value at.0 (length t) (omega (arith, less, all)) less (omega (arith, less, few, n)));
   }
 
@@ -124,10 +125,10 @@ module _ (own : List ℕ) (t : List (List Calling)) (order : List ℕ) (ordered 
 
   pub node_step : (items : List ℕ) (i o sum : ℕ) (cs calls : List Calling) (totals new : List ℕ) → items ≡ order → i < length items
       → slice_get own (get_or items i 0) ≡ Some o → slice_get t (get_or items i 0) ≡ Some cs → calls ≡ cs → AreSummed own t order i totals
-      → sum ≡ min (o + called_total totals calls) cap → new ≡ set totals (get_or items i 0) sum → AreSummed own t order (i + 1) new
+      → sum ≡ min (o + called_total totals calls) heaviest → new ≡ set totals (get_or items i 0) sum → AreSummed own t order (i + 1) new
   node_step items i o sum cs calls totals new same lt read_own read is s summed set_is =
       let in_order : i < length order = subst (λ (l : List ℕ). i < length l) same lt in
       let here : calls ≡ get_or t (get_or order i 0) [] = is ∙ sym (got t (get_or items i 0) cs [] read) ∙ ap (λ (l : List ℕ). get_or t (get_or l i 0) []) same in
       let has : o ≡ get_or own (get_or order i 0) 0 = sym (got own (get_or items i 0) o 0 read_own) ∙ ap (λ (l : List ℕ). get_or own (get_or l i 0) 0) same in
       subst (λ (l : List ℕ). AreSummed own t order (i + 1) l) (sym (set_is ∙ ap (λ (l : List ℕ). set totals (get_or l i 0) sum) same))
-      (summed_step i totals sum s in_order (summed ∙ ap (λ o. min (o + called_total totals calls) cap) has ∙ ap (λ (l : List Calling). min (get_or own (get_or order i 0) 0 + called_total totals l) cap) here))
+      (summed_step i totals sum s in_order (summed ∙ ap (λ o. min (o + called_total totals calls) heaviest) has ∙ ap (λ (l : List Calling). min (get_or own (get_or order i 0) 0 + called_total totals l) heaviest) here))

@@ -8,7 +8,8 @@ use Rattle.rv_causality.specs.declared.calls.Calling.{Calling}
 use Rattle.rv_types.specs.Instances.{CallTree, calls, Instance, no_node, callee, unrolled}
 use Rattle.rv_types.specs.Variables.{total}
 use Rattle.rv_causality.specs.Callings.{calling, callings_of, names_of}
-use Rattle.rv_causality.specs.Totals.{cap, total_at}
+use Rattle.rv_syntax.specs.Limits.{heaviest}
+use Rattle.rv_causality.specs.Totals.{total_at}
 use Rattle.rv_causality.specs.Capped.{capped}
 use Rattle.rv_causality.proofs.Known.{map_at, called, calls_declared}
 use Rattle.rv_causality.proofs.Recursions.{table_at}
@@ -53,23 +54,23 @@ module _ (p : ProgramTree) (named : name_faults p ≡ []) (f : NodeTree → ℕ)
       ∙ ap (total (λ (c : Calling). total_at (map f p.nodes) (callings_of p) levels c.callee)) (sym (table_at p named k lt)) in
       (λ j. own j + below j)
 
--- sums of capped numbers are the same up to the cap
-pub capped_total : {X : Type 0} (f : X → ℕ) (xs : List X) (t : List (List Calling)) (levels k : ℕ) → min (total_at (map (λ x. capped (f x)) xs) t levels k) cap ≡ min (total_at (map f xs) t levels k) cap
+-- sums of capped numbers are the same up to 2^40
+pub capped_total : {X : Type 0} (f : X → ℕ) (xs : List X) (t : List (List Calling)) (levels k : ℕ) → min (total_at (map (λ x. capped (f x)) xs) t levels k) heaviest ≡ min (total_at (map f xs) t levels k) heaviest
 capped_total {X = X} f xs t zero k = refl
 capped_total {X = X} f xs t (suc levels) k =
     let own = own_capped xs k in
-    let first = total_min cap (λ (c : Calling). min (total_at (map (λ x. capped (f x)) xs) t levels c.callee) cap) (λ (c : Calling). total_at (map (λ x. capped (f x)) xs) t levels c.callee) (get_or t k []) (get_or (map (λ x. capped (f x)) xs) k 0) (λ c w. refl) in
-    let second = total_min cap (λ (c : Calling). min (total_at (map f xs) t levels c.callee) cap) (λ (c : Calling). total_at (map f xs) t levels c.callee) (get_or t k []) (get_or (map f xs) k 0) (λ c w. refl) in
-    let same = total_same (λ (c : Calling). min (total_at (map (λ x. capped (f x)) xs) t levels c.callee) cap) (λ (c : Calling). min (total_at (map f xs) t levels c.callee) cap) (get_or t k []) (λ c w. capped_total f xs t levels c.callee) in
+    let first = total_min heaviest (λ (c : Calling). min (total_at (map (λ x. capped (f x)) xs) t levels c.callee) heaviest) (λ (c : Calling). total_at (map (λ x. capped (f x)) xs) t levels c.callee) (get_or t k []) (get_or (map (λ x. capped (f x)) xs) k 0) (λ c w. refl) in
+    let second = total_min heaviest (λ (c : Calling). min (total_at (map f xs) t levels c.callee) heaviest) (λ (c : Calling). total_at (map f xs) t levels c.callee) (get_or t k []) (get_or (map f xs) k 0) (λ c w. refl) in
+    let same = total_same (λ (c : Calling). min (total_at (map (λ x. capped (f x)) xs) t levels c.callee) heaviest) (λ (c : Calling). min (total_at (map f xs) t levels c.callee) heaviest) (get_or t k []) (λ c w. capped_total f xs t levels c.callee) in
     joined (get_or (map (λ x. capped (f x)) xs) k 0) (get_or (map f xs) k 0)
-    (total (λ (c : Calling). min (total_at (map (λ x. capped (f x)) xs) t levels c.callee) cap) (get_or t k [])) (total (λ (c : Calling). total_at (map (λ x. capped (f x)) xs) t levels c.callee) (get_or t k []))
-    (total (λ (c : Calling). min (total_at (map f xs) t levels c.callee) cap) (get_or t k [])) (total (λ (c : Calling). total_at (map f xs) t levels c.callee) (get_or t k []))
+    (total (λ (c : Calling). min (total_at (map (λ x. capped (f x)) xs) t levels c.callee) heaviest) (get_or t k [])) (total (λ (c : Calling). total_at (map (λ x. capped (f x)) xs) t levels c.callee) (get_or t k []))
+    (total (λ (c : Calling). min (total_at (map f xs) t levels c.callee) heaviest) (get_or t k [])) (total (λ (c : Calling). total_at (map f xs) t levels c.callee) (get_or t k []))
     own first second same
   where
-    own_capped : (xs : List X) (k : ℕ) → get_or (map (λ x. capped (f x)) xs) k 0 ≡ min (get_or (map f xs) k 0) cap
+    own_capped : (xs : List X) (k : ℕ) → get_or (map (λ x. capped (f x)) xs) k 0 ≡ min (get_or (map f xs) k 0) heaviest
     own_capped [] k = refl
     own_capped (x ∷ xs) zero = refl
     own_capped (x ∷ xs) (suc k) = own_capped xs k
 
-    joined : (a b s u v w : ℕ) → a ≡ min b cap → min (a + s) cap ≡ min (a + u) cap → min (b + v) cap ≡ min (b + w) cap → s ≡ v → min (a + u) cap ≡ min (b + w) cap
+    joined : (a b s u v w : ℕ) → a ≡ min b heaviest → min (a + s) heaviest ≡ min (a + u) heaviest → min (b + v) heaviest ≡ min (b + w) heaviest → s ≡ v → min (a + u) heaviest ≡ min (b + w) heaviest
     joined a b s u v w e p q r = omega (arith, e, p, q, r)

@@ -15,7 +15,7 @@ use Rattle.rv_causality.specs.Memories.{memory_kinds}
 use Rattle.rv_types.specs.Variables.{total, memories, memory_bits, kind_bits}
 use Rattle.rv_types.specs.Values.{operand_kind}
 use Rattle.rv_types.specs.Values.{labels_at, label_count}
-use Rattle.rv_causality.specs.Totals.{cap}
+use Rattle.rv_syntax.specs.Limits.{heaviest}
 use Rattle.rv_causality.proofs.Codes.{bits_same}
 use Rattle.rv_causality.proofs.Unrolling.{total_map}
 
@@ -23,17 +23,17 @@ pub variables_counted : (ticks bits inputs tests a b c d : ℕ) → ticks ≡ ca
     → capped (2 * (1 + (ticks + bits)) + (inputs + tests)) ≡ capped (2 * (1 + (a + b)) + (c + d))
 variables_counted ticks bits inputs tests a b c d e f g h = omega (arith, e, f, g, h)
 
-labels_of_body : (d : TypeDecl) (b : TypeBody) → d.body ≡ b → ((xs : List Name) → d.body ≡ Labels xs → length xs ≤ most) → label_count d ≤ cap
+labels_of_body : (d : TypeDecl) (b : TypeBody) → d.body ≡ b → ((xs : List Name) → d.body ≡ Labels xs → length xs ≤ most) → label_count d ≤ heaviest
 labels_of_body d (Alias t) is each = rw is (omega arith)
 labels_of_body d (Labels xs) is each = let few = each xs is in rw is (omega (arith, few))
 
-labels_few : (ds : List TypeDecl) → ((d : TypeDecl) (xs : List Name) → Contains ds d → d.body ≡ Labels xs → length xs ≤ most) → (k : ℕ) → labels_at ds k ≤ cap
+labels_few : (ds : List TypeDecl) → ((d : TypeDecl) (xs : List Name) → Contains ds d → d.body ≡ Labels xs → length xs ≤ most) → (k : ℕ) → labels_at ds k ≤ heaviest
 labels_few [] each k = omega arith
 labels_few (d ∷ ds) each zero = labels_of_body d d.body refl (λ xs is. each d xs (0, omega arith, refl) is)
 labels_few (d ∷ ds) each (suc k) = labels_few ds (λ e xs w is. each e xs (w.0 + 1, (let lt = w.1 in omega (arith, lt)), ap (λ j. get_or (d ∷ ds) j e) (let h : w.0 + 1 ≡ suc w.0 = omega arith in h) ∙ w.2) is) k
 
 -- no type has more labels than a source has bytes
-pub few_labels : (p : ProgramTree) → IsBounded p → (k : ℕ) → labels_at p.types k ≤ cap
+pub few_labels : (p : ProgramTree) → IsBounded p → (k : ℕ) → labels_at p.types k ≤ heaviest
 few_labels p bounded k = labels_few p.types (λ d xs w is. bounded.labels d xs w is) k
 
 pub bits_each : (p : ProgramTree) (ks : List Kind) → bits_of_all p.types ks ≡ total (kind_bits p) ks

@@ -14,35 +14,35 @@ use Rattle.rv_types.specs.ConstantParts.{constant_part}
 use Rattle.rv_types.specs.Instances.{CallTree, calls, Instance, place, node_of, output_place}
 use Rattle.rv_types.specs.Scopes.{node_scope, constant_value, is_fixed}
 use Rattle.rv_types.specs.Types.{Scope, is_constant, is_constant_form, are_constant}
-use Rattle.rv_types.specs.ValueTables.{cap}
+use Rattle.rv_syntax.specs.Limits.{too_heavy}
 use Rattle.rv_causality.specs.Weights.{constant_size, weight, form_weight as exact_weight}
 use Rattle.rv_causality.specs.Weighing.{Weighing, product_of, weight_in, form_weight_in}
 use Rattle.rv_causality.proofs.Walks.{nat_split}
 
--- Numbers that count to the cap.
+-- Numbers that count to 2^40 + 1.
 
-scaled : (k v : ℕ) → min (k * v) cap ≡ min (k * min v cap) cap
+scaled : (k v : ℕ) → min (k * v) too_heavy ≡ min (k * min v too_heavy) too_heavy
 scaled zero v = omega arith
-scaled (suc k) v = elim (nat_split cap v) [
+scaled (suc k) v = elim (nat_split too_heavy v) [
   | inl above ↦
-      let b = mul-le-mul_left (suc k) (let h : cap ≤ v = omega (arith, above) in h) in
-      let is : min v cap ≡ cap = omega (arith, above) in
-      let c : suc k * min v cap ≡ suc k * cap = ap (λ n. suc k * n) is in
-      let d : cap ≤ suc k * cap = mul_at_least k in
+      let b = mul-le-mul_left (suc k) (let h : too_heavy ≤ v = omega (arith, above) in h) in
+      let is : min v too_heavy ≡ too_heavy = omega (arith, above) in
+      let c : suc k * min v too_heavy ≡ suc k * too_heavy = ap (λ n. suc k * n) is in
+      let d : too_heavy ≤ suc k * too_heavy = mul_at_least k in
       omega (arith, b, c, d)
-  | inr below ↦ ap (λ n. min (suc k * n) cap) (let e : v ≡ min v cap = omega (arith, below) in e)
+  | inr below ↦ ap (λ n. min (suc k * n) too_heavy) (let e : v ≡ min v too_heavy = omega (arith, below) in e)
 ]
   where
-    mul_at_least : (k : ℕ) → cap ≤ suc k * cap
-    mul_at_least k = let h = mul-le-mul_left cap (let l : 1 ≤ suc k = omega arith in l) in omega (arith, h)
+    mul_at_least : (k : ℕ) → too_heavy ≤ suc k * too_heavy
+    mul_at_least k = let h = mul-le-mul_left too_heavy (let l : 1 ≤ suc k = omega arith in l) in omega (arith, h)
 
-pub times_capped : (k v w : ℕ) → min v cap ≡ min w cap → min (k * v) cap ≡ min (k * w) cap
-times_capped k v w e = scaled k v ∙ ap (λ n. min (k * n) cap) e ∙ sym (scaled k w)
+pub times_capped : (k v w : ℕ) → min v too_heavy ≡ min w too_heavy → min (k * v) too_heavy ≡ min (k * w) too_heavy
+times_capped k v w e = scaled k v ∙ ap (λ n. min (k * n) too_heavy) e ∙ sym (scaled k w)
 
-pub plus_capped : (a b v w : ℕ) → min a cap ≡ min v cap → min b cap ≡ min w cap → min (a + b) cap ≡ min (v + w) cap
+pub plus_capped : (a b v w : ℕ) → min a too_heavy ≡ min v too_heavy → min b too_heavy ≡ min w too_heavy → min (a + b) too_heavy ≡ min (v + w) too_heavy
 plus_capped a b v w e f = omega (arith, e, f)
 
-pub max_capped : (a b v w : ℕ) → min a cap ≡ min v cap → min b cap ≡ min w cap → min (max a b) cap ≡ min (max v w) cap
+pub max_capped : (a b v w : ℕ) → min a too_heavy ≡ min v too_heavy → min b too_heavy ≡ min w too_heavy → min (max a b) too_heavy ≡ min (max v w) too_heavy
 max_capped a b v w e f = omega (arith, e, f)
 
 -- Which names are fixed decides what is constant.
@@ -160,14 +160,14 @@ module _ (p : ProgramTree) (i : Instance) (P : Sites → Type 0) (flows others :
 -- what is known of an expression where it is constant
 constant_known : (s : Scope) (k : Identifier → Value) (e : Tree) → is_constant s e ≡ true → (c : Weighed) × (constant_part s k e ≡ Some c) × (c.value ≡ value_of k e)
 constant_known s k (Node at site form) e =
-    (record { value = form_value k form; weight = min (form_weight k form) cap }, ap (λ b. cond b (Some (record { value = form_value k form; weight = min (form_weight k form) cap })) Nothing) e, refl)
+    (record { value = form_value k form; weight = min (form_weight k form) too_heavy }, ap (λ b. cond b (Some (record { value = form_value k form; weight = min (form_weight k form) too_heavy })) Nothing) e, refl)
 
 constant_unknown : (s : Scope) (k : Identifier → Value) (e : Tree) → is_constant s e ≡ false → constant_part s k e ≡ Nothing
-constant_unknown s k (Node at site form) e = ap (λ b. cond b (Some (record { value = form_value k form; weight = min (form_weight k form) cap })) Nothing) e
+constant_unknown s k (Node at site form) e = ap (λ b. cond b (Some (record { value = form_value k form; weight = min (form_weight k form) too_heavy })) Nothing) e
 
 product_capped : (p : ProgramTree) (i : Instance) (w : Weighing) → ((x : Identifier) → w.scope.fixed x ≡ is_fixed i.node x) → w.known ≡ constant_value p → (a b : Tree) (v u x y : ℕ)
-    → (is_constant (node_scope p i.node) a || is_constant (node_scope p i.node) b) ≡ true → min v cap ≡ min x cap → min u cap ≡ min y cap
-    → min (product_of (constant_part w.scope w.known a) (constant_part w.scope w.known b) v u) cap ≡ min (cond (is_constant (node_scope p i.node) a) (constant_size p a * y) (constant_size p b * x)) cap
+    → (is_constant (node_scope p i.node) a || is_constant (node_scope p i.node) b) ≡ true → min v too_heavy ≡ min x too_heavy → min u too_heavy ≡ min y too_heavy
+    → min (product_of (constant_part w.scope w.known a) (constant_part w.scope w.known b) v u) too_heavy ≡ min (cond (is_constant (node_scope p i.node) a) (constant_size p a * y) (constant_size p b * x)) too_heavy
 product_capped p i w fixed known a b v u x y one e f =
     chosen (is_constant (node_scope p i.node) a) (is_constant (node_scope p i.node) b) (constant a) (constant b) one
   where
@@ -178,38 +178,38 @@ product_capped p i w fixed known a b v u x y one e f =
     constant e = same_constant w.scope (node_scope p i.node) fixed e
 
     chosen : (j k : Bool) → is_constant w.scope a ≡ j → is_constant w.scope b ≡ k → (j || k) ≡ true
-        → min (product_of (constant_part w.scope w.known a) (constant_part w.scope w.known b) v u) cap ≡ min (cond j (constant_size p a * y) (constant_size p b * x)) cap
+        → min (product_of (constant_part w.scope w.known a) (constant_part w.scope w.known b) v u) too_heavy ≡ min (cond j (constant_size p a * y) (constant_size p b * x)) too_heavy
     chosen true k c d one =
         let left = constant_known w.scope w.known a c in
-        ap (λ o. min (product_of o (constant_part w.scope w.known b) v u) cap) left.1
-        ∙ ap (λ (z : Value). min (nat_abs (whole_in z) * u) cap) left.2
-        ∙ ap (λ n. min (n * u) cap) (size a)
+        ap (λ o. min (product_of o (constant_part w.scope w.known b) v u) too_heavy) left.1
+        ∙ ap (λ (z : Value). min (nat_abs (whole_in z) * u) too_heavy) left.2
+        ∙ ap (λ n. min (n * u) too_heavy) (size a)
         ∙ times_capped (constant_size p a) u y f
     chosen false true c d one =
         let right = constant_known w.scope w.known b d in
-        (λ j. min (product_of (constant_unknown w.scope w.known a c j) (right.1 j) v u) cap)
-        ∙ ap (λ (z : Value). min (nat_abs (whole_in z) * v) cap) right.2
-        ∙ ap (λ n. min (n * v) cap) (size b)
+        (λ j. min (product_of (constant_unknown w.scope w.known a c j) (right.1 j) v u) too_heavy)
+        ∙ ap (λ (z : Value). min (nat_abs (whole_in z) * v) too_heavy) right.2
+        ∙ ap (λ n. min (n * v) too_heavy) (size b)
         ∙ times_capped (constant_size p b) v x e
     chosen false false c d one = cc
 
--- Tables that count to the cap give the weights that do.
+-- Tables that count to 2^40 + 1 give the weights that do.
 module _ (p : ProgramTree) (i : Instance) (P : Sites → Type 0) (flows : Sites → ℕ) (w : Weighing) (fixed : (x : Identifier) → w.scope.fixed x ≡ is_fixed i.node x) (known : w.known ≡ constant_value p)
-    (flow : (x : Identifier) → is_flow i.node x ≡ true → P (place i x) → min (w.flow x) cap ≡ min (flows (place i x)) cap)
-    (output : (c : CallTree) → Contains (calls i.node) c → length (node_of p c.name).outputs ≡ 1 → P (output_place p i c.site c.name 0) → min (w.output c.site) cap ≡ min (flows (output_place p i c.site c.name 0)) cap) where
+    (flow : (x : Identifier) → is_flow i.node x ≡ true → P (place i x) → min (w.flow x) too_heavy ≡ min (flows (place i x)) too_heavy)
+    (output : (c : CallTree) → Contains (calls i.node) c → length (node_of p c.name).outputs ≡ 1 → P (output_place p i c.site c.name 0) → min (w.output c.site) too_heavy ≡ min (flows (output_place p i c.site c.name 0)) too_heavy) where
   mutual
-    pub capped_weight : (e : Tree) → Reads p i P e → min (weight_in w e) cap ≡ min (weight p flows i e) cap
+    pub capped_weight : (e : Tree) → Reads p i P e → min (weight_in w e) too_heavy ≡ min (weight p flows i e) too_heavy
     capped_weight (Node at site form) r = form_capped at site form r
 
-    form_capped : (at : ℕ) (site : Option ℕ) (form : Form) → FormReads p i P at site form → min (form_weight_in w site form) cap ≡ min (exact_weight p flows i site form) cap
+    form_capped : (at : ℕ) (site : Option ℕ) (form : Form) → FormReads p i P at site form → min (form_weight_in w site form) too_heavy ≡ min (exact_weight p flows i site form) too_heavy
     form_capped at site True r = refl
     form_capped at site False r = refl
     form_capped at site (Number n) r = refl
-    form_capped at site (Named x) r = ap (λ b. min (cond b (nat_abs (whole_in (w.known x))) (w.flow x)) cap) (fixed x) ∙ named (is_flow i.node x) refl
+    form_capped at site (Named x) r = ap (λ b. min (cond b (nat_abs (whole_in (w.known x))) (w.flow x)) too_heavy) (fixed x) ∙ named (is_flow i.node x) refl
       where
-        named : (b : Bool) → is_flow i.node x ≡ b → min (cond (not b) (nat_abs (whole_in (w.known x))) (w.flow x)) cap ≡ min (cond b (flows (place i x)) (nat_abs (whole_in (constant_value p x)))) cap
+        named : (b : Bool) → is_flow i.node x ≡ b → min (cond (not b) (nat_abs (whole_in (w.known x))) (w.flow x)) too_heavy ≡ min (cond b (flows (place i x)) (nat_abs (whole_in (constant_value p x)))) too_heavy
         named true e = flow x e (r e)
-        named false e = ap (λ (k : Identifier → Value). min (nat_abs (whole_in (k x))) cap) known
+        named false e = ap (λ (k : Identifier → Value). min (nat_abs (whole_in (k x))) too_heavy) known
     form_capped at site (Not e) r = refl
     form_capped at site (Minus e) r = capped_weight e r
     form_capped at site (Pre e) r = refl

@@ -14,7 +14,8 @@ use Rattle.rv_causality.specs.declared.answer.Instance.{Instance as Numbered}
 use Rattle.rv_causality.specs.Expanded.{IsExpanded}
 use Rattle.rv_causality.specs.Sided.{AreSided}
 use Rattle.rv_types.specs.Variables.{parts, form_parts, parts_of_all}
-use Rattle.rv_causality.specs.Weights.{heaviest, weight, too_wide, weighed_of_several, weighed_under, weighed, AreWeights, IsTooWide, AreLight, IsFirstTooWide}
+use Rattle.rv_syntax.specs.Limits.{heaviest}
+use Rattle.rv_causality.specs.Weights.{weight, too_wide, weighed_of_several, weighed_under, weighed, AreWeights, IsTooWide, AreLight, IsFirstTooWide}
 use Rattle.rv_causality.proofs.AllInstances.{of_flat_map}
 use Rattle.rv_causality.proofs.CallsInside.{in_argument, in_right, in_body, calls_nested}
 use Rattle.rv_causality.proofs.ExpandedLaws.{node_in}

@@ -14,7 +14,8 @@ use Rattle.rv_types.specs.Constants.{weight_of, form_weight}
 use Rattle.rv_types.specs.Instances.{Instance, IsInstance}
 use Rattle.rv_types.specs.Needs.{IsSequence}
 use Rattle.rv_types.specs.Scopes.{constant_value, constant_value_after}
-use Rattle.rv_types.specs.ValueTables.{NamedTables, value_by, cap}
+use Rattle.rv_syntax.specs.Limits.{too_heavy}
+use Rattle.rv_types.specs.ValueTables.{NamedTables, value_by}
 use Rattle.rv_types.specs.WideConstants.{lesser, wide_at, first_wide, wide_below, first_wide_of_all, first_wide_constant}
 use Rattle.rv_causality.specs.declared.answer.Instance.{Instance as Numbered}
 use Rattle.rv_causality.specs.declared.layout.Layout.{Layout}
@@ -23,7 +24,8 @@ use Rattle.rv_causality.specs.Layouts.{IsNumberOf, IsLayout, node_at}
 use Rattle.rv_causality.specs.Loops.{AtMost}
 use Rattle.rv_causality.specs.Sided.{AreSided}
 use Rattle.rv_types.specs.Variables.{parts, form_parts, parts_of_all}
-use Rattle.rv_causality.specs.Weights.{heaviest, weight, too_wide, weighed_of_several, weighed_under, weighed, too_wide_constants, AreWeights, IsTooWide, AreLight, IsFirstTooWide}
+use Rattle.rv_syntax.specs.Limits.{heaviest}
+use Rattle.rv_causality.specs.Weights.{weight, too_wide, weighed_of_several, weighed_under, weighed, too_wide_constants, AreWeights, IsTooWide, AreLight, IsFirstTooWide}
 use Rattle.rv_causality.specs.Weighing.{Weighing, weight_in, form_weight_in, first_in, first_below, first_in_all}
 use Rattle.rv_causality.specs.WeightTables.{weighing_at, counted_weight, AreFlowWeights}
 use Rattle.rv_causality.specs.WideNodes.{wide_in_several, wide_in_side, wide_in_equations, wide_in_assertions, wide_in_node, wide_in_first}
@@ -195,7 +197,7 @@ constants_least p (c ∷ cs) =
     (λ i. lesser (constants_least p cs i) (constant_least (constant_value_after p cs) c.body i))
     ∙ sym (least_append (too_wide_constants p cs) (too_wide (weight_of (constant_value_after p cs)) (parts c.body)))
 
--- Weights that count to the cap tell what is too wide.
+-- Weights that count to 2^40 + 1 tell what is too wide.
 
 lt_true : (a b : ℕ) → a < b → nat_lt a b ≡ true
 lt_true a b h = grind (arith, nat_tests)
@@ -203,10 +205,10 @@ lt_true a b h = grind (arith, nat_tests)
 lt_false : (a b : ℕ) → b ≤ a → nat_lt a b ≡ false
 lt_false a b h = grind (arith, nat_tests)
 
-told_by_count : (v : ℕ) → nat_lt heaviest v ≡ nat_lt heaviest (min v cap)
+told_by_count : (v : ℕ) → nat_lt heaviest v ≡ nat_lt heaviest (min v too_heavy)
 told_by_count v = elim (nat_split heaviest v) [
-  | inl above ↦ lt_true heaviest v above ∙ sym (lt_true heaviest (min v cap) (omega (arith, above)))
-  | inr below ↦ lt_false heaviest v below ∙ sym (lt_false heaviest (min v cap) (omega (arith, below)))
+  | inl above ↦ lt_true heaviest v above ∙ sym (lt_true heaviest (min v too_heavy) (omega (arith, above)))
+  | inr below ↦ lt_false heaviest v below ∙ sym (lt_false heaviest (min v too_heavy) (omega (arith, below)))
 ]
 
 wide_counted : (w u : Tree → ℕ) (es : List Tree) → ((e : Tree) → Contains es e → counted_weight (w e) ≡ counted_weight (u e)) → too_wide w es ≡ too_wide u es

@@ -38,32 +38,6 @@ pub data LeadsTo (g : Graph) (b : ℕ) : ℕ → Type 0 where
   there : LeadsTo g b b
   over : (a j : ℕ) → j < length (edges g a) → LeadsTo g b (slice_index_or (edges g a) j 0) → LeadsTo g b a
 
--- Exactly those vertices are marked to which one leads.
-pub record AreMarked (g : Graph) (from : ℕ) (marks : List Bool) : Type 0 where
-  pub size : length marks ≡ length g
-  pub sound : (k : ℕ) → k < length g → slice_index_or marks k false ≡ true → LeadsTo g k from
-  pub whole : (k : ℕ) → LeadsTo g k from → slice_index_or marks k false ≡ true
-
--- What holds while marks spread from a vertex: what is marked is led to, and what a marked vertex points to is marked,
--- unless that vertex waits.
-pub record IsSearch (g : Graph) (from : ℕ) (marks : List Bool) (waiting : List ℕ) : Type 0 where
-  pub size : length marks ≡ length g
-  pub sound : (k : ℕ) → k < length g → slice_index_or marks k false ≡ true → LeadsTo g k from
-  pub waiting_in : (i : ℕ) → i < length waiting → slice_index_or waiting i 0 < length g
-  pub waiting_marked : (i : ℕ) → i < length waiting → slice_index_or marks (slice_index_or waiting i 0) false ≡ true
-  pub closed : (k j : ℕ) → k < length g → slice_index_or marks k false ≡ true → j < length (edges g k) → (slice_index_or marks (slice_index_or (edges g k) j 0) false ≡ true) ⊎ Contains waiting k
-  pub start : slice_index_or marks from false ≡ true
-
--- Some vertices are marked, and those of them wait that were not marked before.
-pub record IsSpread (targets : List ℕ) (marks : List Bool) (waiting : List ℕ) (new_marks : List Bool) (new_waiting : List ℕ) : Type 0 where
-  pub size : length new_marks ≡ length marks
-  pub kept : (k : ℕ) → slice_index_or marks k false ≡ true → slice_index_or new_marks k false ≡ true
-  pub marked : (j : ℕ) → j < length targets → slice_index_or new_marks (slice_index_or targets j 0) false ≡ true
-  pub only : (k : ℕ) → slice_index_or new_marks k false ≡ true → (slice_index_or marks k false ≡ true) ⊎ (Contains targets k × Contains new_waiting k)
-  pub waits : (k : ℕ) → Contains waiting k → Contains new_waiting k
-  pub waits_only : (i : ℕ) → i < length new_waiting → Contains waiting (slice_index_or new_waiting i 0) ⊎ Contains targets (slice_index_or new_waiting i 0)
-  pub count : falses new_marks + length new_waiting ≡ falses marks + length waiting
-
 -- the names of some nodes as they are declared
 abbrev pub node_texts : List declared.Node → List Identifier
 node_texts ns = map (λ n. n.name.text) ns

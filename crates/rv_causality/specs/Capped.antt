@@ -1,12 +1,12 @@
--- Numbers that stop at the cap.
+-- Numbers that stop at 2^40.
 use Rattle.std.specs.Prelude.{ℕ, min, List, map}
 use Rattle.rv_syntax.specs.Tree.{NodeTree}
 use Rattle.rv_causality.specs.Sizes.{node_size}
-use Rattle.rv_causality.specs.Totals.{cap}
+use Rattle.rv_syntax.specs.Limits.{heaviest}
 
--- a number, or the cap where that is less
+-- a number, or 2^40 where that is less
 abbrev pub capped : ℕ → ℕ
-capped k = min k cap
+capped k = min k heaviest
 
 -- the sizes of nodes, each capped
 abbrev pub capped_sizes : List NodeTree → List ℕ

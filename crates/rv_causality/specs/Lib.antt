@@ -5,6 +5,7 @@ pub mod Causes
 pub mod Graphs
 pub mod Numbering
 pub mod Callings
+pub mod Components
 pub mod Loops
 pub mod Nodes
 pub mod Totals

@@ -7,22 +7,23 @@ use Rattle.rv_causality.specs.declared.fault.CauseFault.{CauseFault}
 use Rattle.rv_causality.specs.declared.fault.CauseFault.TheVariants.{Recursive, Cycle, TooLarge, TooWide, Memory}
 use Rattle.rv_causality.specs.Graphs.{Graph}
 use Rattle.rv_causality.specs.Callings.{LeadsTo}
+use Rattle.rv_causality.specs.Components.{Marks, mark_of}
 
 -- an offset is at least the least one, where that is known
 abbrev pub AtMost : Option ℕ → ℕ → Type 0
 AtMost Nothing at = ⊥
 AtMost (Some b) at = b ≤ at
 
--- The least offset so far, lowered by those calls of a node that lead back to it.
-pub record IsLowered (g : Graph) (k : ℕ) (calls : List Calling) (old new : Option ℕ) : Type 0 where
+-- The least offset so far, lowered by those calls of a node whose callee has the mark of the node.
+pub record IsLowered (parts : Marks) (k : ℕ) (calls : List Calling) (old new : Option ℕ) : Type 0 where
   pub lower : (at : ℕ) → AtMost old at → AtMost new at
-  pub found : (new ≡ old) ⊎ ((c : Calling) × Contains calls c × (new ≡ Some c.at) × LeadsTo g k c.callee)
-  pub least : (c : Calling) → Contains calls c → LeadsTo g k c.callee → AtMost new c.at
+  pub found : (new ≡ old) ⊎ ((c : Calling) × Contains calls c × (new ≡ Some c.at) × (mark_of parts k ≡ mark_of parts c.callee))
+  pub least : (c : Calling) → Contains calls c → mark_of parts k ≡ mark_of parts c.callee → AtMost new c.at
 
 -- the same over the nodes of a table from the first to one of them
-pub record IsLoweredTo (g : Graph) (table : List (List Calling)) (nodes : ℕ) (new : Option ℕ) : Type 0 where
-  pub found : (new ≡ Nothing) ⊎ ((k : ℕ) × (c : Calling) × (k < nodes) × Contains (slice_index_or table k []) c × (new ≡ Some c.at) × LeadsTo g k c.callee)
-  pub least : (k : ℕ) (c : Calling) → k < nodes → Contains (slice_index_or table k []) c → LeadsTo g k c.callee → AtMost new c.at
+pub record IsLoweredTo (parts : Marks) (table : List (List Calling)) (nodes : ℕ) (new : Option ℕ) : Type 0 where
+  pub found : (new ≡ Nothing) ⊎ ((k : ℕ) × (c : Calling) × (k < nodes) × Contains (slice_index_or table k []) c × (new ≡ Some c.at) × (mark_of parts k ≡ mark_of parts c.callee))
+  pub least : (k : ℕ) (c : Calling) → k < nodes → Contains (slice_index_or table k []) c → mark_of parts k ≡ mark_of parts c.callee → AtMost new c.at
 
 -- No call leads back to its node.
 abbrev pub HasNoLoop : Graph → List (List Calling) → Type 0

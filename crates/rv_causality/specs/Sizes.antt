@@ -1,6 +1,7 @@
 -- How large a program is: its instances, the expressions, memories and comparisons of all of them, its inputs, its
 -- enumerations, and the variables of its decision diagrams.
-use Rattle.std.specs.Prelude.{◌≡◌, ◌⊎◌, ℕ, ◌+◌, ◌^◌, ◌<◌, ◌≤◌, min, cond, nat_lt, List, [], ◌∷◌, map, length}
+use Rattle.std.specs.Prelude.{◌≡◌, ◌⊎◌, ℕ, ◌+◌, ◌<◌, ◌≤◌, min, cond, nat_lt, List, [], ◌∷◌, map, length}
+use Rattle.rv_syntax.specs.Limits.{heaviest}
 use Rattle.rv_syntax.specs.Tree.{Tree, Node, Form, True, False, Number, Named, Not, Minus, Pre, Current, When, Binary, If, AtMostOne, Call, Trees, None, More, NodeTree, ProgramTree}
 use Rattle.rv_syntax.specs.Places.{Identifier}
 use Rattle.rv_types.specs.Kinds.{decl_kinds}
@@ -87,5 +88,5 @@ AreWithin (m ∷ ms) = (m.number ≤ m.limit) × AreWithin ms
 -- The first that is above its limit, with the lesser of its number and 2^40.
 abbrev pub IsFirstAbove : List Measure → Quantity → ℕ → Type 0
 IsFirstAbove [] q n = ⊥
-IsFirstAbove (m ∷ ms) q n = ((m.limit < m.number) × (q ≡ m.quantity) × (n ≡ min m.number (2 ^ 40)))
+IsFirstAbove (m ∷ ms) q n = ((m.limit < m.number) × (q ≡ m.quantity) × (n ≡ min m.number heaviest))
     ⊎ ((m.number ≤ m.limit) × IsFirstAbove ms q n)

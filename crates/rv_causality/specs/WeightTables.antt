@@ -4,7 +4,8 @@ use Rattle.rv_syntax.specs.Tree.{Tree, Node, ProgramTree, tree_of}
 use Rattle.rv_syntax.specs.Places.{Identifier, Sites, site_of}
 use Rattle.rv_types.specs.Needs.{IsSequence}
 use Rattle.rv_types.specs.Scopes.{is_fixed}
-use Rattle.rv_types.specs.ValueTables.{NamedTables, value_by, cap}
+use Rattle.rv_syntax.specs.Limits.{too_heavy}
+use Rattle.rv_types.specs.ValueTables.{NamedTables, value_by}
 use Rattle.rv_causality.specs.declared.answer.Instance.{Instance as Numbered}
 use Rattle.rv_causality.specs.declared.givers.Giver.{Giver as Told}
 use Rattle.rv_causality.specs.declared.givers.Giver.TheVariants.{Input, Body, Output}
@@ -46,7 +47,7 @@ pub record IsNumbered (p : ProgramTree) (main : Identifier) (instances : List Nu
 
 -- a weight, where any above 2^40 counts as 2^40 + 1
 abbrev pub counted_weight : ℕ → ℕ
-counted_weight weight = min weight cap
+counted_weight weight = min weight too_heavy
 
 -- Each flow has its weight.
 pub record AreFlowWeights (p : ProgramTree) (main : Identifier) (instances : List Numbered) (weights : List ℕ) : Type 0 where

@@ -4,6 +4,7 @@ use Rattle.std.specs.List.{Contains}
 use Rattle.rv_syntax.specs.declared.tree.Name.{Name}
 use Rattle.rv_syntax.specs.declared.tree.Op.{Op}
 use Rattle.rv_syntax.specs.declared.tree.Op.TheVariants as op
+use Rattle.rv_syntax.specs.Limits.{heaviest}
 use Rattle.rv_syntax.specs.Tree.{Tree, Node, Form, True, False, Number, Named, Not, Minus, Pre, Current, When, Binary, If, AtMostOne, Call, ConstantTree, NodeTree, ProgramTree}
 use Rattle.rv_syntax.specs.Places.{Identifier, Sites, is_flow}
 use Rattle.rv_types.specs.Types.{is_constant}
@@ -12,10 +13,6 @@ use Rattle.rv_types.specs.Scopes.{node_scope, constant_value, constant_value_aft
 use Rattle.rv_types.specs.Instances.{Right, Body, Output, Instance, place, output_place, IsInstance}
 use Rattle.rv_types.specs.Needs.{Giver, Given, Of, Gives}
 use Rattle.rv_types.specs.Variables.{parts, parts_of_all}
-
--- the greatest weight of an expression, and the greatest literal
-abbrev pub heaviest : ℕ
-heaviest = 2 ^ 40
 
 -- the absolute value of a constant expression of a node
 abbrev pub constant_size : ProgramTree → Tree → ℕ

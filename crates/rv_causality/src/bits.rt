@@ -5,7 +5,7 @@ ghost use Rattle.rv_causality.specs.Bits.{bits_of as bits_of_type, bits_of_all};
 ghost use Rattle.rv_causality.specs.Capped.{capped};
 ghost use Rattle.rv_types.specs.Variables.{bits_for as least_bits};
 ghost use Rattle.rv_types.specs.Values.{labels_at as labels_of_type};
-ghost use Rattle.rv_causality.specs.Totals.{cap};
+ghost use Rattle.rv_syntax.specs.Limits.{heaviest};
 
 use crate::declared_sizes::labels_in;
 use crate::totals::capped_sum;
@@ -20,7 +20,7 @@ pub fn memory_bits_of(
     types: &[TypeDecl],
     kinds: &Many<Many<Kind>>,
 ) -> Result<Many<u64>, Memory>
-    requires few { (k : ℕ) → labels_of_type types.now k ≤ cap }
+    requires few { (k : ℕ) → labels_of_type types.now k ≤ heaviest }
     ensures { IfOk result (λ own. own ≡ map (λ ks. capped (bits_of_all types.now ks)) kinds.now) }
 {
     let mut own = Many::new(alloc);
@@ -32,7 +32,7 @@ pub fn memory_bits_of(
 
 /// The bits of control memories or inputs of these types, or 2^40 where that is less.
 pub fn bits_of_kinds(types: &[TypeDecl], kinds: &[Kind]) -> u64
-    requires few { (k : ℕ) → labels_of_type types.now k ≤ cap }
+    requires few { (k : ℕ) → labels_of_type types.now k ≤ heaviest }
     ensures { result ≡ capped (bits_of_all types.now kinds.now) }
 {
     let mut sum = 0;
@@ -44,9 +44,9 @@ pub fn bits_of_kinds(types: &[TypeDecl], kinds: &[Kind]) -> u64
 
 /// The bits of one of this type; integers have none.
 fn bits_of(types: &[TypeDecl], kind: Kind) -> u64
-    requires few { (k : ℕ) → labels_of_type types.now k ≤ cap }
+    requires few { (k : ℕ) → labels_of_type types.now k ≤ heaviest }
     ensures value { result ≡ bits_of_type types.now kind }
-    ensures small { result ≤ cap }
+    ensures small { result ≤ heaviest }
 {
     match kind {
         Kind::Bool => 1,
@@ -71,9 +71,9 @@ fn labels_at(types: &[TypeDecl], number: u32) -> u64
 /// The least number of bits with which so many codes can be told apart.
 #[tactic(auto, using(crate::proofs::Codes::enough_bits, crate::proofs::Codes::one_bit_more, crate::proofs::Codes::twice_codes))]
 fn bits_for(count: u64) -> u64
-    requires { count ≤ cap }
+    requires { count ≤ heaviest }
     ensures value { result ≡ least_bits count }
-    ensures small { result ≤ cap }
+    ensures small { result ≤ heaviest }
 {
     let mut bits = 0;
     let mut codes = 1;

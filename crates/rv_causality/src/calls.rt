@@ -1,6 +1,7 @@
 //! The calls of the nodes of a program.
 
 ghost use Rattle.std.specs.Prelude.{◌≡◌, ◌++◌, ◌∷◌, ◌≤◌, [], map, length, unwrap_or, IfOk, OnOk};
+ghost use Rattle.rv_syntax.specs.Limits.{source_limit};
 ghost use Rattle.rv_syntax.specs.Places.{index_of};
 ghost use Rattle.rv_syntax.specs.Tree.{tree_of, trees, node_tree, equation_tree, assertion_tree, program_tree};
 ghost use Rattle.rv_types.specs.Names.{name_faults};
@@ -35,7 +36,7 @@ pub fn names_of_nodes(alloc: Global, p: &Program) -> Result<Names, Memory>
 /// The calls of each node. A name that no node has counts as a node after all others.
 pub fn calls_of(alloc: Global, p: &Program, names: &Names) -> Result<Many<Many<Calling>>, Memory>
     requires names { names.now ≡ names_of (program_tree p.now) }
-    requires few { length names.now ≤ 1048576 }
+    requires few { length names.now ≤ source_limit }
     ensures { IfOk result (λ table. table ≡ callings_of (program_tree p.now)) }
 {
     let mut table = Many::new(alloc);
@@ -47,7 +48,7 @@ pub fn calls_of(alloc: Global, p: &Program, names: &Names) -> Result<Many<Many<C
 
 /// The calls of a node, in its equations and then in its assertions.
 pub fn node_calls(alloc: Global, node: &Node, names: &Names) -> Result<Many<Calling>, Memory>
-    requires { length names.now ≤ 1048576 }
+    requires { length names.now ≤ source_limit }
     ensures { IfOk result (λ found. found ≡ callings names.now (calls (node_tree node.now))) }
 {
     let mut found = Many::new(alloc);
@@ -62,7 +63,7 @@ fn gather_equations(
     names: &Names,
     found: &mut Many<Calling>,
 ) -> Result<(), Memory>
-    requires { length names.now ≤ 1048576 }
+    requires { length names.now ≤ source_limit }
     ensures { OnOk result (found.new ≡ found.old ++ callings names.now (calls_in_equations (map equation_tree equations.now))) }
 {
     for equation in equations {
@@ -77,7 +78,7 @@ fn gather_assertions(
     names: &Names,
     found: &mut Many<Calling>,
 ) -> Result<(), Memory>
-    requires { length names.now ≤ 1048576 }
+    requires { length names.now ≤ source_limit }
     ensures { OnOk result (found.new ≡ found.old ++ callings names.now (calls_in_assertions (map assertion_tree assertions.now))) }
 {
     for assertion in assertions {
@@ -89,7 +90,7 @@ fn gather_assertions(
 /// Adds the calls of an expression. It calls itself for each operand, so as deep as the tree is: 20,101 levels at most.
 #[cycle(gather)]
 fn gather(e: &Expr, names: &Names, found: &mut Many<Calling>) -> Result<(), Memory>
-    requires { length names.now ≤ 1048576 }
+    requires { length names.now ≤ source_limit }
     ensures { OnOk result (found.new ≡ found.old ++ callings names.now (calls_in (tree_of e.now))) }
 {
     match &e.form {
@@ -119,7 +120,7 @@ fn gather(e: &Expr, names: &Names, found: &mut Many<Calling>) -> Result<(), Memo
 /// Adds the calls of the expressions.
 #[cycle(gather)]
 fn gather_all(expressions: &[Expr], names: &Names, found: &mut Many<Calling>) -> Result<(), Memory>
-    requires { length names.now ≤ 1048576 }
+    requires { length names.now ≤ source_limit }
     ensures { OnOk result (found.new ≡ found.old ++ callings names.now (calls_in_all (trees (map tree_of expressions.now)))) }
 {
     for e in expressions {
@@ -136,7 +137,7 @@ fn add_call(
     names: &Names,
     found: &mut Many<Calling>,
 ) -> Result<(), Memory>
-    requires { length names.now ≤ 1048576 }
+    requires { length names.now ≤ source_limit }
     ensures { OnOk result (found.new ≡ found.old ++ record { at = at; site = unwrap_or site 0; callee = index_of names.now callee.now } ∷ []) }
 {
     let callee = number_of(names, callee);
@@ -150,7 +151,7 @@ fn add_call(
 
 /// The number of a name, the number of all names where it is not among them.
 fn number_of(names: &Names, name: &Text) -> u32
-    requires { length names.now ≤ 1048576 }
+    requires { length names.now ≤ source_limit }
     ensures { result ≡ index_of names.now name.now }
 {
     match names.number(name) {

@@ -1,6 +1,7 @@
 //! A program with all its instances.
 
 ghost use Rattle.std.specs.Prelude.{◌≡◌, ◌<◌, ◌≤◌, length, map, IfOk};
+ghost use Rattle.rv_syntax.specs.Limits.{source_limit};
 ghost use Rattle.rv_syntax.specs.Tree.{node_tree, program_tree};
 ghost use Rattle.rv_types.specs.Instances.{name_at};
 ghost use Rattle.rv_causality.specs.Expanded.{IsExpanded, IsKnown, program_of, told, calls_told};
@@ -88,7 +89,7 @@ impl<'a, 'b> Expanded<'a, 'b> {
         requires known { IsKnown self.now }
         requires within { instance < length self.now.instances.now }
         ensures count { result ≡ flow_count (program_of self.now) self.now.instances.now instance }
-        ensures few { result ≤ 1048576 }
+        ensures few { result ≤ source_limit }
     {
         count_flows(self.node(instance))
     }

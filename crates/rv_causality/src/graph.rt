@@ -18,12 +18,12 @@ pub enum Sorted {
 /// A search in depth: which vertices have been entered and which are finished, how many edges of each have been looked
 /// at, the path to where the search is, and the finished vertices in the order in which they were.
 #[derive(Drop)]
-struct Walk {
-    entered: Many<bool>,
-    finished: Many<bool>,
-    cursor: Many<usize>,
-    path: Many<u32>,
-    order: Many<u32>,
+pub struct Walk {
+    pub entered: Many<bool>,
+    pub finished: Many<bool>,
+    pub cursor: Many<usize>,
+    pub path: Many<u32>,
+    pub order: Many<u32>,
 }
 
 /// Orders the vertices so that each stands after those that it points to, or finds a loop where there is one. Time
@@ -96,7 +96,7 @@ fn explore(
 
 impl Walk {
     /// Nothing has been entered.
-    fn new(alloc: Global, count: usize) -> Result<Walk, Memory>
+    pub fn new(alloc: Global, count: usize) -> Result<Walk, Memory>
         ensures { IfOk result (λ w. (w.entered ≡ replicate count false) × (w.finished ≡ replicate count false) × (w.cursor ≡ replicate count 0) × (w.path ≡ []) × (w.order ≡ [])) }
     {
         Ok(Walk {
@@ -109,7 +109,7 @@ impl Walk {
     }
 
     /// The last vertex on the path.
-    fn top(&self) -> Option<u32>
+    pub fn top(&self) -> Option<u32>
         ensures some { IfSome result (λ v. (0 < length self.now.path) × (slice_index_or self.now.path (length self.now.path - 1) 0 ≡ v)) }
         ensures none { IfNone result (self.now.path ≡ []) }
     {
@@ -122,7 +122,7 @@ impl Walk {
     }
 
     /// Goes on to a vertex.
-    fn enter(&mut self, v: u32) -> Result<(), Memory>
+    pub fn enter(&mut self, v: u32) -> Result<(), Memory>
         requires entered { v < length self.old.entered }
         requires cursor { v < length self.old.cursor }
         ensures { OnOk result (self.new ≡ record self.old { entered = slice_set self.old.entered v true; cursor = slice_set self.old.cursor v 0; path = self.old.path ++ v ∷ [] }) }
@@ -134,7 +134,7 @@ impl Walk {
     }
 
     /// Finishes the last vertex on the path.
-    fn leave(&mut self, v: u32) -> Result<(), Memory>
+    pub fn leave(&mut self, v: u32) -> Result<(), Memory>
         requires { v < length self.old.finished }
         ensures { OnOk result (self.new ≡ record self.old { finished = slice_set self.old.finished v true; path = take (length self.old.path - 1) self.old.path; order = self.old.order ++ v ∷ [] }) }
     {
@@ -157,7 +157,28 @@ impl Walk {
     {
         let targets = graph.at(v as usize).as_slice();
         let start = *self.cursor.at(v as usize);
-        match first_unfinished(targets, start, self.finished.as_slice()) {
+        match first_unmarked(targets, start, self.finished.as_slice()) {
+            None => None,
+            Some(next) => {
+                self.cursor.set(v as usize, next + 1);
+                Some(targets[next])
+            }
+        }
+    }
+
+    /// The next vertex that this one points to and that has not been entered.
+    pub fn next_new(&mut self, graph: &Many<Many<u32>>, v: u32) -> Option<u32>
+        requires vertices { IsGraph graph.now }
+        requires within { v < length graph.now }
+        requires cursor { length self.old.cursor ≡ length graph.now }
+        requires entered { length self.old.entered ≡ length graph.now }
+        ensures cursor { length self.new.cursor ≡ length graph.now }
+        ensures same { self.new ≡ record self.old { cursor = self.new.cursor } }
+        ensures some { IfSome result (λ child. (child < length graph.now) × (slice_index_or self.old.entered child false ≡ false)) }
+    {
+        let targets = graph.at(v as usize).as_slice();
+        let start = *self.cursor.at(v as usize);
+        match first_unmarked(targets, start, self.entered.as_slice()) {
             None => None,
             Some(next) => {
                 self.cursor.set(v as usize, next + 1);
@@ -192,15 +213,15 @@ fn position_of(path: &[u32], v: u32) -> usize
     unreachable!()
 }
 
-/// The number of the first target, from a number on, that is not finished.
-fn first_unfinished(targets: &[u32], start: usize, finished: &[bool]) -> Option<usize>
-    requires { (j : ℕ) → j < length targets.now → slice_index_or targets.now j 0 < length finished.now }
-    ensures some { IfSome result (λ k. (k < length targets.now) × (slice_index_or finished.now (slice_index_or targets.now k 0) false ≡ false) × ((j : ℕ) → start ≤ j → j < k → slice_index_or finished.now (slice_index_or targets.now j 0) false ≡ true)) }
-    ensures none { IfNone result ((j : ℕ) → start ≤ j → j < length targets.now → slice_index_or finished.now (slice_index_or targets.now j 0) false ≡ true) }
+/// The number of the first target, from a number on, that is not marked.
+fn first_unmarked(targets: &[u32], start: usize, marked: &[bool]) -> Option<usize>
+    requires { (j : ℕ) → j < length targets.now → slice_index_or targets.now j 0 < length marked.now }
+    ensures some { IfSome result (λ k. (k < length targets.now) × (slice_index_or marked.now (slice_index_or targets.now k 0) false ≡ false) × ((j : ℕ) → start ≤ j → j < k → slice_index_or marked.now (slice_index_or targets.now j 0) false ≡ true)) }
+    ensures none { IfNone result ((j : ℕ) → start ≤ j → j < length targets.now → slice_index_or marked.now (slice_index_or targets.now j 0) false ≡ true) }
 {
     let mut k = start;
     while k < targets.len() {
-        if !finished[targets[k] as usize] {
+        if !marked[targets[k] as usize] {
             return Some(k);
         }
         k += 1;

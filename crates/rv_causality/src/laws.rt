@@ -1,6 +1,6 @@
 //! What follows from the definitions alone.
 
-ghost use Rattle.std.specs.Prelude.{◌≡◌, ◌<◌, ◌≤◌, [], ℕ, Bool, List, flat_map, length, true};
+ghost use Rattle.std.specs.Prelude.{◌≡◌, ◌<◌, ◌≤◌, [], ℕ, Bool, List, flat_map, length, slice_index_or, true};
 ghost use Rattle.std.specs.List.{Contains};
 ghost use Rattle.rv_syntax.specs.Bounded.{IsBounded};
 ghost use Rattle.rv_syntax.specs.Places.{Identifier, Sites, is_among, is_flow};
@@ -24,10 +24,12 @@ ghost use Rattle.rv_causality.specs.Causes.{AreFed, AreInstances};
 ghost use Rattle.rv_types.specs.WellFormed.{AreSited};
 ghost use Rattle.rv_types.specs.Instances.{name_at};
 
-/// Where no node reaches itself, the instances over which sizes are counted are all instances of the program.
+/// Where no node reaches itself, the instances over which sizes are counted are all instances of the program. Each of them
+/// is counted once: no two have one path.
 pub fn counted_instances()
     ensures all { (p : ProgramTree) (main : Identifier) (i : InstanceTree) → name_faults p ≡ [] → HasNoRecursion p → is_among (names_of p) main ≡ true → IsInstance p main i → Contains (all_instances p main) i }
     ensures only { (p : ProgramTree) (main : Identifier) (i : InstanceTree) → Contains (all_instances p main) i → IsInstance p main i }
+    ensures once { (p : ProgramTree) (main : Identifier) (j k : ℕ) (i : InstanceTree) → name_faults p ≡ [] → AreSited p → j < k → k < length (all_instances p main) → (slice_index_or (all_instances p main) j i).path ≡ (slice_index_or (all_instances p main) k i).path → ⊥ }
 {}
 
 /// Where there is an order of evaluation, no flow needs itself at one instant.

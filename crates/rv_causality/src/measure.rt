@@ -26,7 +26,7 @@ use crate::ticks::tick_total_of;
 use crate::totals::totals;
 use crate::variables::variables_of;
 use rv_base::{Many, Memory};
-use rv_syntax::Program;
+use rv_syntax::{Program, HEAVIEST};
 use rv_types::{Typed, program_tables};
 use std::alloc::Global;
 
@@ -47,9 +47,6 @@ const MOST_LABELS: u64 = 256;
 
 /// The most variables of the decision diagrams.
 const MOST_VARIABLES: u64 = 4_096;
-
-/// Where numbers stop: 2^40.
-const CAP: u64 = 1_099_511_627_776;
 
 /// Checks the sizes of a program in their order, and answers how many expressions there are, or the first that is too
 /// large. Sums are taken over nodes, so a program that doubles at each level costs no more than its text.
@@ -77,7 +74,7 @@ pub fn check_sizes(alloc: Global, p: &Program, t: &Typed, nodes: &Nodes) -> Resu
     if inputs > MOST_INPUTS {
         return Err(CauseFault::TooLarge(Quantity::Inputs, inputs));
     }
-    let labels = labels_above(p.types.as_slice()).min(CAP);
+    let labels = labels_above(p.types.as_slice()).min(HEAVIEST);
     if labels > MOST_LABELS {
         return Err(CauseFault::TooLarge(Quantity::Labels, labels));
     }
@@ -130,7 +127,7 @@ fn main_inputs(p: &Program, t: &Typed) -> u64
     ensures { result ≡ capped (integer_inputs (program_tree p.now) (node_of (program_tree p.now) (name_at (program_tree p.now) t.now.main))) }
 {
     let main = t.main as usize;
-    integer_inputs_of(p.nodes.at(main), t.kinds.at(main).as_slice()).min(CAP)
+    integer_inputs_of(p.nodes.at(main), t.kinds.at(main).as_slice()).min(HEAVIEST)
 }
 
 /// The number of integer memories of all instances below the main node, or 2^40 where that is less.

@@ -6,11 +6,9 @@ ghost use Rattle.rv_causality.specs.Memories.{integers};
 
 use crate::declared_sizes::integers_among;
 use rv_base::{Many, Memory};
+use rv_syntax::HEAVIEST;
 use rv_types::Kind;
 use std::alloc::Global;
-
-/// Where numbers stop: 2^40.
-const CAP: u64 = 1_099_511_627_776;
 
 /// For each node, whose memories have these types, the number of integer ones, or 2^40 where that is less.
 pub fn integer_memories_of(alloc: Global, kinds: &Many<Many<Kind>>) -> Result<Many<u64>, Memory>
@@ -27,5 +25,5 @@ pub fn integer_memories_of(alloc: Global, kinds: &Many<Many<Kind>>) -> Result<Ma
 fn capped_integers(kinds: &[Kind]) -> u64
     ensures { result ≡ capped (integers kinds.now) }
 {
-    integers_among(kinds).min(CAP)
+    integers_among(kinds).min(HEAVIEST)
 }

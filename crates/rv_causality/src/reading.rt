@@ -1,6 +1,7 @@
 //! From the bytes of a file to an accepted source.
 
 ghost use Rattle.std.specs.Prelude.{◌≡◌, ◌≤◌, length, IfOk, IfErr};
+ghost use Rattle.rv_syntax.specs.Limits.{source_limit};
 ghost use Rattle.rv_syntax.specs.Tree.{ProgramTree};
 ghost use Rattle.rv_types.specs.declared.typed.Typed.{Typed};
 ghost use Rattle.rv_causality.specs.declared.source.SourceFault.{SourceFault as FaultModel};
@@ -16,7 +17,7 @@ use std::alloc::Global;
 /// Reads the bytes of a source of at most 1,048,576 bytes with its main node: `parse`, `settle` and `order` in turn. `Text`,
 /// `Names` and `Cause` come where these refuse it, with their fault, and `Memory` where memory runs out.
 pub fn read_source(alloc: Global, bytes: &[u8], main: &str) -> Result<Source, SourceFault>
-    requires { length bytes.now ≤ 1048576 }
+    requires { length bytes.now ≤ source_limit }
     // What is answered is the source.
     ensures found { IfOk result (IsSourceOf bytes.now main.now) }
     // A source that is accepted is answered, unless memory runs out.

@@ -1,6 +1,6 @@
 //! Recursion of nodes.
 
-ghost use Rattle.std.specs.Prelude.{◌≡◌, ◌<◌, ◌^◌, [], ◌∷◌, length, IfOk, IfErr};
+ghost use Rattle.std.specs.Prelude.{◌≡◌, ◌<◌, ◌^◌, [], ◌∷◌, ℕ, length, slice_index_or, IfOk, IfErr};
 ghost use Rattle.std.specs.Bool.{MatchBool};
 ghost use Rattle.std.specs.List.{Contains};
 ghost use Rattle.rv_syntax.specs.Bounded.{IsBounded};
@@ -13,11 +13,12 @@ ghost use Rattle.rv_causality.specs.Callings.{call_graph};
 ghost use Rattle.rv_causality.specs.Loops.{AtMost, IsLowered, IsLoweredTo, IsRecursion};
 
 use crate::calls::{Calling, calls_of, graph_of, names_of_nodes};
+use crate::components::components_of;
 use crate::fault::CauseFault;
 use crate::graph::{Sorted, sort};
 use crate::names::Names;
-use crate::reach::reached;
-use rv_base::{Many, Memory};
+use crate::reach::are_same;
+use rv_base::Many;
 use rv_syntax::Program;
 use std::alloc::Global;
 
@@ -50,7 +51,7 @@ pub fn check(alloc: Global, p: &Program) -> Result<Nodes, CauseFault>
 }
 
 /// The nodes in an order in which each stands after those that it calls, or the first call that leads back to its own
-/// node. Time is linear where there is none; otherwise it may grow with the square of the number of nodes.
+/// node: the first between two nodes of one component. Time is linear.
 pub fn node_order(
     alloc: Global,
     table: &Many<Many<Calling>>,
@@ -64,72 +65,59 @@ pub fn node_order(
 {
     match sort(alloc, graph)? {
         Sorted::Ordered(nodes) => Ok(nodes),
-        Sorted::Looped(_) => match first_back(alloc, table, graph)? {
-            Some(at) => Err(CauseFault::Recursive(at)),
-            None => unreachable!(),
-        },
+        Sorted::Looped(_) => {
+            let parts = components_of(alloc, graph)?;
+            match first_back(table, &parts) {
+                Some(at) => Err(CauseFault::Recursive(at)),
+                None => unreachable!(),
+            }
+        }
     }
 }
 
-/// The least offset of a call whose node leads back to the node that it stands in.
-fn first_back(
-    alloc: Global,
-    table: &Many<Many<Calling>>,
-    graph: &Many<Many<u32>>,
-) -> Result<Option<u32>, Memory>
-    requires graph { graph.now ≡ call_graph table.now }
-    requires known { IsGraph graph.now }
-    requires few { length graph.now < 2 ^ 32 }
-    ensures { IfOk result (IsLoweredTo graph.now table.now (length table.now)) }
+/// The least offset of a call between two nodes of one component.
+fn first_back(table: &Many<Many<Calling>>, parts: &Many<Option<u32>>) -> Option<u32>
+    requires nodes { length parts.now ≡ length table.now }
+    requires callees { (k : ℕ) (c : CallingModel) → k < length table.now → Contains (slice_index_or table.now k []) c → c.callee < length parts.now }
+    ensures { IsLoweredTo parts.now table.now (length table.now) result }
 {
     let mut least = None;
     for node in 0..table.len() {
-        least = lower_in_node(alloc, graph, node as u32, table.at(node).as_slice(), least)?;
+        least = lower_in_node(parts, node, table.at(node).as_slice(), least);
     }
-    Ok(least)
+    least
 }
 
 /// Lowers the least offset by the calls of a node.
 fn lower_in_node(
-    alloc: Global,
-    graph: &Many<Many<u32>>,
-    node: u32,
+    parts: &Many<Option<u32>>,
+    node: usize,
     calls: &[Calling],
     old: Option<u32>,
-) -> Result<Option<u32>, Memory>
-    requires known { IsGraph graph.now }
-    requires node { node < length graph.now }
-    requires callees { (c : CallingModel) → Contains calls.now c → c.callee < length graph.now }
-    ensures { IfOk result (IsLowered graph.now node calls.now old) }
+) -> Option<u32>
+    requires node { node < length parts.now }
+    requires callees { (c : CallingModel) → Contains calls.now c → c.callee < length parts.now }
+    ensures { IsLowered parts.now node calls.now old result }
 {
     let mut least = old;
     for call in calls {
-        least = lower(alloc, graph, node, call, least)?;
+        least = lower(parts, node, call, least);
     }
-    Ok(least)
+    least
 }
 
-/// Lowers the least offset by a call, where it leads back to its node.
-fn lower(
-    alloc: Global,
-    graph: &Many<Many<u32>>,
-    node: u32,
-    call: &Calling,
-    old: Option<u32>,
-) -> Result<Option<u32>, Memory>
-    requires known { IsGraph graph.now }
-    requires node { node < length graph.now }
-    requires callee { call.now.callee < length graph.now }
-    ensures { IfOk result (IsLowered graph.now node (call.now ∷ []) old) }
+/// Lowers the least offset by a call, where its node is in the component of the node that it stands in.
+fn lower(parts: &Many<Option<u32>>, node: usize, call: &Calling, old: Option<u32>) -> Option<u32>
+    requires node { node < length parts.now }
+    requires callee { call.now.callee < length parts.now }
+    ensures { IsLowered parts.now node (call.now ∷ []) old result }
 {
     if is_at_most(old, call.at) {
-        return Ok(old);
-    }
-    let marks = reached(alloc, graph, call.callee)?;
-    if *marks.at(node as usize) {
-        Ok(Some(call.at))
+        old
+    } else if are_same(*parts.at(node), *parts.at(call.callee as usize)) {
+        Some(call.at)
     } else {
-        Ok(old)
+        old
     }
 }
 

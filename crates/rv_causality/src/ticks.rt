@@ -22,15 +22,12 @@ use crate::names::Names;
 use crate::recursion::Nodes;
 use crate::sites::Sites;
 use rv_base::{Many, Memory, Text};
-use rv_syntax::{Assertion, Equation, Expr, ExprForm, Node, Op, Program};
+use rv_syntax::{Assertion, Equation, Expr, ExprForm, Node, Op, Program, HEAVIEST};
 use rv_types::{
     Clock, NodeClocks, Pace, called_pace, choice_pace, delayed_pace, joined_pace, kept_pace,
     node_clocks, operator_pace,
 };
 use std::alloc::Global;
-
-/// Where numbers stop: 2^40.
-const CAP: u64 = 1_099_511_627_776;
 
 /// The ticks of all instances are those of the nodes, summed along calls.
 pub(crate) fn tick_counts()
@@ -102,7 +99,7 @@ fn add_node(
 {
     let found = ticking_in(alloc, node, names, &ticks.bases)?;
     let own = different_sites(alloc, found.as_slice())?;
-    ticks.own.set(at, own.min(CAP));
+    ticks.own.set(at, own.min(HEAVIEST));
     ticks.bases.set(at, is_base_among(found.as_slice()));
     Ok(())
 }

@@ -5,15 +5,14 @@ ghost use Rattle.std.specs.List.{Contains};
 ghost use Rattle.rv_causality.specs.declared.calls.Calling.{Calling as CallingModel};
 ghost use Rattle.rv_causality.specs.Graphs.{IsGraph, IsOrdered};
 ghost use Rattle.rv_causality.specs.Callings.{call_graph};
-ghost use Rattle.rv_causality.specs.Totals.{AreTotals, AreCapped, called_total, cap};
+ghost use Rattle.rv_syntax.specs.Limits.{heaviest};
+ghost use Rattle.rv_causality.specs.Totals.{AreTotals, AreCapped, called_total};
 
 use crate::calls::Calling;
 use crate::graph::all_equal;
 use rv_base::{Many, Memory};
+use rv_syntax::HEAVIEST;
 use std::alloc::Global;
-
-/// Where sums stop: 2^40.
-const CAP: u64 = 1_099_511_627_776;
 
 /// For each node the sum of what it and all copies of nodes below it have of their own, or 2^40 where that is less.
 /// The nodes are given in an order in which each stands after those that it calls, so each is looked at once.
@@ -40,10 +39,10 @@ pub fn totals(
 
 /// What a node has of its own, and the sums of the nodes that it calls.
 fn sum_of(own: u64, calls: &[Calling], totals: &Many<u64>) -> u64
-    requires own { own ≤ cap }
+    requires own { own ≤ heaviest }
     requires totals { AreCapped totals.now }
     requires callees { (c : CallingModel) → Contains calls.now c → c.callee < length totals.now }
-    ensures { result ≡ min (own + called_total totals.now calls.now) cap }
+    ensures { result ≡ min (own + called_total totals.now calls.now) heaviest }
 {
     let mut sum = own;
     for call in calls {
@@ -54,9 +53,9 @@ fn sum_of(own: u64, calls: &[Calling], totals: &Many<u64>) -> u64
 
 /// A sum, or 2^40 where that is less.
 pub fn capped_sum(a: u64, b: u64) -> u64
-    requires a { a ≤ cap }
-    requires b { b ≤ cap }
-    ensures { result ≡ min (a + b) cap }
+    requires a { a ≤ heaviest }
+    requires b { b ≤ heaviest }
+    ensures { result ≡ min (a + b) heaviest }
 {
-    (a + b).min(CAP)
+    (a + b).min(HEAVIEST)
 }

@@ -11,7 +11,7 @@ ghost use Rattle.rv_types.specs.Variables.{over_instances, memory_bits, order_te
 ghost use Rattle.rv_causality.specs.Capped.{capped};
 ghost use Rattle.rv_types.specs.Instances.{name_at};
 ghost use Rattle.rv_causality.specs.Nodes.{AreOrderedNodes};
-ghost use Rattle.rv_causality.specs.Totals.{cap};
+ghost use Rattle.rv_syntax.specs.Limits.{heaviest};
 
 use crate::bits::{bits_of_kinds, memory_bits_of};
 use crate::measure::total_of;
@@ -20,12 +20,9 @@ use crate::order_tests::order_tests_of;
 use crate::recursion::Nodes;
 use crate::totals::capped_sum;
 use rv_base::Memory;
-use rv_syntax::Program;
+use rv_syntax::{Program, HEAVIEST};
 use rv_types::{ProgramTables, Typed, program_tables};
 use std::alloc::Global;
-
-/// Where numbers stop: 2^40.
-const CAP: u64 = 1_099_511_627_776;
 
 /// The variables of the diagrams of a program with so many ticks, or 2^40 where that is less. State bits are the main
 /// tick, the other ticks and those of the control memories, and each has a next copy.
@@ -54,13 +51,13 @@ pub fn variables_of(
 
 /// Variables of so many ticks, bits of memories and of inputs, and order tests.
 fn sum_of_variables(ticks: u64, bits: u64, inputs: u64, tests: u64) -> u64
-    requires ticks { ticks ≤ cap }
-    requires bits { bits ≤ cap }
-    requires inputs { inputs ≤ cap }
-    requires tests { tests ≤ cap }
+    requires ticks { ticks ≤ heaviest }
+    requires bits { bits ≤ heaviest }
+    requires inputs { inputs ≤ heaviest }
+    requires tests { tests ≤ heaviest }
     ensures { result ≡ capped (2 * (1 + (ticks + bits)) + (inputs + tests)) }
 {
-    (2 * (1 + (ticks + bits)) + (inputs + tests)).min(CAP)
+    (2 * (1 + (ticks + bits)) + (inputs + tests)).min(HEAVIEST)
 }
 
 /// The bits of the control memories of all instances below the main node, or 2^40 where that is less.

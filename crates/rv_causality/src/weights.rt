@@ -8,21 +8,18 @@ ghost use Rattle.std.proofs.Props.{props};
 ghost use Rattle.rv_types.specs.Constants.{counted};
 ghost use Rattle.rv_types.specs.ConstantParts.{IsBound, IsKnownBound, constant_part, constant_form, no_trues, trues_over};
 ghost use Rattle.rv_types.specs.Types.{Scope};
-ghost use Rattle.rv_types.specs.ValueTables.{cap};
+ghost use Rattle.rv_syntax.specs.Limits.{too_heavy};
 ghost use Rattle.rv_types.specs.WideConstants.{lesser, wide_at};
 ghost use Rattle.rv_causality.specs.Layouts.{here_of};
 ghost use Rattle.rv_causality.specs.Weighing.{weighing, weight_in, form_weight_in, first_in, first_below, first_in_all, product_of, weight_of_operator};
 
 use crate::layout::Layout;
 use rv_base::{Text, Value};
-use rv_syntax::{Expr, ExprForm, Op};
+use rv_syntax::{Expr, ExprForm, Op, HEAVIEST, TOO_HEAVY};
 use rv_types::{
     NamedValues, NodeClocks, Trues, Weighed, constant_binary, constant_flag, constant_if,
     constant_minus, constant_named, constant_not, constant_number, constant_size, lesser_of,
 };
-
-/// The greatest weight of an expression, and the greatest literal: 2^40.
-const HEAVIEST: u64 = 1_099_511_627_776;
 
 /// What the weights of the expressions of an instance depend on.
 #[derive(Drop)]
@@ -48,7 +45,7 @@ pub struct Part {
     pub constant: Option<Weighed>,
     /// The least offset of what is too wide in it.
     pub first: Option<u32>,
-    ghost small: { weight ≤ cap },
+    ghost small: { weight ≤ too_heavy },
     ghost bound: { IfSome constant IsBound } by { Prim.hlevel props },
 }
 
@@ -63,23 +60,23 @@ pub struct Operands {
 
 /// The least of a weight and 2^40 + 1.
 fn saturated(weight: u128) -> u64
-    ensures { result ≡ min weight cap }
+    ensures { result ≡ min weight too_heavy }
 {
     if weight <= HEAVIEST as u128 {
         weight as u64
     } else {
-        HEAVIEST + 1
+        TOO_HEAVY
     }
 }
 
 /// What is known of an expression at an offset, of its weight, its value and the least offset below it.
 #[inline(never)]
 fn made(at: u32, weight: u64, constant: Option<Weighed>, below: Option<u32>) -> Part
-    requires small { weight ≤ cap }
+    requires small { weight ≤ too_heavy }
     requires bound { IsKnownBound constant }
     ensures weight { result.weight ≡ weight }
     ensures constant { result.constant ≡ constant }
-    ensures first { (m : ℕ) → weight ≡ min m cap → result.first ≡ lesser (wide_at at m) below }
+    ensures first { (m : ℕ) → weight ≡ min m too_heavy → result.first ≡ lesser (wide_at at m) below }
 {
     let own = if weight > HEAVIEST { Some(at) } else { None };
     Part {
@@ -101,7 +98,7 @@ fn first_number(layout: &Layout, instance: u32) -> u32
 
 /// The weight of the flow with a number.
 pub fn weight_at(weights: &[u64], number: usize) -> u64
-    ensures { result ≡ min (slice_index_or weights.now number 0) cap }
+    ensures { result ≡ min (slice_index_or weights.now number 0) too_heavy }
 {
     match weights.get(number) {
         None => 0,
@@ -111,7 +108,7 @@ pub fn weight_at(weights: &[u64], number: usize) -> u64
 
 /// The weight of a flow of the instance, by its site.
 fn own_weight(w: &Weigher, site: u32) -> u64
-    ensures { result ≡ min (slice_index_or w.now.weights.now ((here_of w.now.layout.now w.now.instance).offset + site) 0) cap }
+    ensures { result ≡ min (slice_index_or w.now.weights.now ((here_of w.now.layout.now w.now.instance).offset + site) 0) too_heavy }
 {
     let first = first_number(w.layout, w.instance);
     weight_at(w.weights, first as usize + site as usize)
@@ -130,7 +127,7 @@ pub fn output_number(layout: &Layout, instance: u32, site: u32) -> u32
 
 /// The weight of the first output of what a call gives, by the site of the call.
 fn output_weight(w: &Weigher, site: u32) -> u64
-    ensures { result ≡ min ((weighing w.now).output site) cap }
+    ensures { result ≡ min ((weighing w.now).output site) too_heavy }
 {
     let number = output_number(w.layout, w.instance, site);
     weight_at(w.weights, number as usize)
@@ -155,8 +152,8 @@ fn light(weight: u64, constant: Option<Weighed>, below: Option<u32>) -> Part
 /// A literal.
 #[inline(never)]
 fn of_number(at: u32, n: u64) -> Part
-    ensures weight { result.weight ≡ min n cap }
-    ensures constant { result.constant ≡ Some (record { value = counted n (pos n); weight = min n cap }) }
+    ensures weight { result.weight ≡ min n too_heavy }
+    ensures constant { result.constant ≡ Some (record { value = counted n (pos n); weight = min n too_heavy }) }
     ensures first { result.first ≡ lesser (wide_at at n) None }
 {
     let constant = constant_number(n);
@@ -176,7 +173,7 @@ fn of_flag(flag: bool) -> Part
 /// The name of a flow, constant or label.
 #[inline(never)]
 fn of_name(w: &Weigher, at: u32, name: &Text) -> Part
-    ensures weight { result.weight ≡ min (form_weight_in (weighing w.now) None (Named name.now)) cap }
+    ensures weight { result.weight ≡ min (form_weight_in (weighing w.now) None (Named name.now)) too_heavy }
     ensures constant { result.constant ≡ constant_form (weighing w.now).scope (weighing w.now).known (Named name.now) }
     ensures first { result.first ≡ lesser (wide_at at (form_weight_in (weighing w.now) None (Named name.now))) None }
 {
@@ -193,8 +190,8 @@ fn of_name(w: &Weigher, at: u32, name: &Text) -> Part
 /// the left one counts as the constant operand; where none is, as nowhere in a program whose types are right, there is
 /// no weight.
 fn product_weight(a: &Part, b: &Part) -> u64
-    ensures small { result ≤ cap }
-    ensures weight { (v w : ℕ) → a.now.weight ≡ min v cap → b.now.weight ≡ min w cap → result ≡ min (product_of a.now.constant b.now.constant v w) cap }
+    ensures small { result ≤ too_heavy }
+    ensures weight { (v w : ℕ) → a.now.weight ≡ min v too_heavy → b.now.weight ≡ min w too_heavy → result ≡ min (product_of a.now.constant b.now.constant v w) too_heavy }
 {
     match &a.constant {
         Some(constant) => saturated(constant_size(constant) as u128 * b.weight as u128),
@@ -207,8 +204,8 @@ fn product_weight(a: &Part, b: &Part) -> u64
 
 /// The weight of an operator between two operands. What gives a Boolean has none.
 fn operator_weight(op: Op, a: &Part, b: &Part) -> u64
-    ensures small { result ≤ cap }
-    ensures weight { (v w : ℕ) → a.now.weight ≡ min v cap → b.now.weight ≡ min w cap → result ≡ min (weight_of_operator op a.now.constant b.now.constant v w) cap }
+    ensures small { result ≤ too_heavy }
+    ensures weight { (v w : ℕ) → a.now.weight ≡ min v too_heavy → b.now.weight ≡ min w too_heavy → result ≡ min (weight_of_operator op a.now.constant b.now.constant v w) too_heavy }
 {
     match op {
         Op::Plus | Op::Minus => saturated(a.weight as u128 + b.weight as u128),
@@ -221,9 +218,9 @@ fn operator_weight(op: Op, a: &Part, b: &Part) -> u64
 /// An operator between two operands.
 #[inline(never)]
 fn of_operator(at: u32, op: Op, a: &Part, b: &Part) -> Part
-    ensures weight { (v w : ℕ) → a.now.weight ≡ min v cap → b.now.weight ≡ min w cap → result.weight ≡ min (weight_of_operator op a.now.constant b.now.constant v w) cap }
+    ensures weight { (v w : ℕ) → a.now.weight ≡ min v too_heavy → b.now.weight ≡ min w too_heavy → result.weight ≡ min (weight_of_operator op a.now.constant b.now.constant v w) too_heavy }
     ensures constant { (s : Scope) (known : Identifier → AnyValue) (x y : Tree) → a.now.constant ≡ constant_part s known x → b.now.constant ≡ constant_part s known y → result.constant ≡ constant_form s known (Binary op x y) }
-    ensures first { (v w : ℕ) → a.now.weight ≡ min v cap → b.now.weight ≡ min w cap → result.first ≡ lesser (wide_at at (weight_of_operator op a.now.constant b.now.constant v w)) (lesser a.now.first b.now.first) }
+    ensures first { (v w : ℕ) → a.now.weight ≡ min v too_heavy → b.now.weight ≡ min w too_heavy → result.first ≡ lesser (wide_at at (weight_of_operator op a.now.constant b.now.constant v w)) (lesser a.now.first b.now.first) }
 {
     made(
         at,
@@ -236,9 +233,9 @@ fn of_operator(at: u32, op: Op, a: &Part, b: &Part) -> Part
 /// An `if`, of its condition and its two parts.
 #[inline(never)]
 fn of_if(at: u32, condition: &Part, a: &Part, b: &Part) -> Part
-    ensures weight { (v w : ℕ) → a.now.weight ≡ min v cap → b.now.weight ≡ min w cap → result.weight ≡ min (max v w) cap }
+    ensures weight { (v w : ℕ) → a.now.weight ≡ min v too_heavy → b.now.weight ≡ min w too_heavy → result.weight ≡ min (max v w) too_heavy }
     ensures constant { (s : Scope) (known : Identifier → AnyValue) (i x y : Tree) → condition.now.constant ≡ constant_part s known i → a.now.constant ≡ constant_part s known x → b.now.constant ≡ constant_part s known y → result.constant ≡ constant_form s known (If i x y) }
-    ensures first { (v w : ℕ) → a.now.weight ≡ min v cap → b.now.weight ≡ min w cap → result.first ≡ lesser (wide_at at (max v w)) (lesser condition.now.first (lesser a.now.first b.now.first)) }
+    ensures first { (v w : ℕ) → a.now.weight ≡ min v too_heavy → b.now.weight ≡ min w too_heavy → result.first ≡ lesser (wide_at at (max v w)) (lesser condition.now.first (lesser a.now.first b.now.first)) }
 {
     made(
         at,
@@ -252,9 +249,9 @@ fn of_if(at: u32, condition: &Part, a: &Part, b: &Part) -> Part
 #[cycle(weigh)]
 #[inline(never)]
 fn with_right(w: &Weigher, whole: bool, at: u32, op: Op, left: &Part, right: &Expr) -> Part
-    ensures weight { (x : Tree) → left.now.weight ≡ min (weight_in (weighing w.now) x) cap → left.now.constant ≡ constant_part (weighing w.now).scope (weighing w.now).known x → result.weight ≡ min (form_weight_in (weighing w.now) None (Binary op x (tree_of right.now))) cap }
+    ensures weight { (x : Tree) → left.now.weight ≡ min (weight_in (weighing w.now) x) too_heavy → left.now.constant ≡ constant_part (weighing w.now).scope (weighing w.now).known x → result.weight ≡ min (form_weight_in (weighing w.now) None (Binary op x (tree_of right.now))) too_heavy }
     ensures constant { (x : Tree) → left.now.constant ≡ constant_part (weighing w.now).scope (weighing w.now).known x → result.constant ≡ constant_form (weighing w.now).scope (weighing w.now).known (Binary op x (tree_of right.now)) }
-    ensures first { (x : Tree) → left.now.weight ≡ min (weight_in (weighing w.now) x) cap → left.now.constant ≡ constant_part (weighing w.now).scope (weighing w.now).known x → left.now.first ≡ first_in (weighing w.now) whole x → result.first ≡ lesser (wide_at at (form_weight_in (weighing w.now) None (Binary op x (tree_of right.now)))) (first_below (weighing w.now) whole (Binary op x (tree_of right.now))) }
+    ensures first { (x : Tree) → left.now.weight ≡ min (weight_in (weighing w.now) x) too_heavy → left.now.constant ≡ constant_part (weighing w.now).scope (weighing w.now).known x → left.now.first ≡ first_in (weighing w.now) whole x → result.first ≡ lesser (wide_at at (form_weight_in (weighing w.now) None (Binary op x (tree_of right.now)))) (first_below (weighing w.now) whole (Binary op x (tree_of right.now))) }
 {
     let right = weigh(w, whole, right);
     of_operator(at, op, left, &right)
@@ -276,7 +273,7 @@ fn weigh_not(w: &Weigher, whole: bool, operand: &Expr) -> Part
 #[cycle(weigh)]
 #[inline(never)]
 fn weigh_minus(w: &Weigher, whole: bool, at: u32, operand: &Expr) -> Part
-    ensures weight { result.weight ≡ min (form_weight_in (weighing w.now) None (Minus (tree_of operand.now))) cap }
+    ensures weight { result.weight ≡ min (form_weight_in (weighing w.now) None (Minus (tree_of operand.now))) too_heavy }
     ensures constant { result.constant ≡ constant_form (weighing w.now).scope (weighing w.now).known (Minus (tree_of operand.now)) }
     ensures first { result.first ≡ lesser (wide_at at (form_weight_in (weighing w.now) None (Minus (tree_of operand.now)))) (first_below (weighing w.now) whole (Minus (tree_of operand.now))) }
 {
@@ -304,7 +301,7 @@ fn weigh_pre(w: &Weigher, whole: bool, operand: &Expr) -> Part
 #[cycle(weigh)]
 #[inline(never)]
 fn weigh_current(w: &Weigher, whole: bool, at: u32, operand: &Expr) -> Part
-    ensures weight { result.weight ≡ min (form_weight_in (weighing w.now) None (Current (tree_of operand.now))) cap }
+    ensures weight { result.weight ≡ min (form_weight_in (weighing w.now) None (Current (tree_of operand.now))) too_heavy }
     ensures constant { result.constant ≡ constant_form (weighing w.now).scope (weighing w.now).known (Current (tree_of operand.now)) }
     ensures first { result.first ≡ lesser (wide_at at (form_weight_in (weighing w.now) None (Current (tree_of operand.now)))) (first_below (weighing w.now) whole (Current (tree_of operand.now))) }
 {
@@ -316,7 +313,7 @@ fn weigh_current(w: &Weigher, whole: bool, at: u32, operand: &Expr) -> Part
 #[cycle(weigh)]
 #[inline(never)]
 fn weigh_when(w: &Weigher, whole: bool, at: u32, operand: &Expr) -> Part
-    ensures weight { result.weight ≡ min (weight_in (weighing w.now) (tree_of operand.now)) cap }
+    ensures weight { result.weight ≡ min (weight_in (weighing w.now) (tree_of operand.now)) too_heavy }
     ensures constant { result.constant ≡ None }
     ensures first { result.first ≡ lesser (wide_at at (weight_in (weighing w.now) (tree_of operand.now))) (first_in (weighing w.now) whole (tree_of operand.now)) }
 {
@@ -328,7 +325,7 @@ fn weigh_when(w: &Weigher, whole: bool, at: u32, operand: &Expr) -> Part
 #[cycle(weigh)]
 #[inline(never)]
 fn weigh_if(w: &Weigher, whole: bool, at: u32, condition: &Expr, yes: &Expr, no: &Expr) -> Part
-    ensures weight { result.weight ≡ min (form_weight_in (weighing w.now) None (If (tree_of condition.now) (tree_of yes.now) (tree_of no.now))) cap }
+    ensures weight { result.weight ≡ min (form_weight_in (weighing w.now) None (If (tree_of condition.now) (tree_of yes.now) (tree_of no.now))) too_heavy }
     ensures constant { result.constant ≡ constant_form (weighing w.now).scope (weighing w.now).known (If (tree_of condition.now) (tree_of yes.now) (tree_of no.now)) }
     ensures first { result.first ≡ lesser (wide_at at (form_weight_in (weighing w.now) None (If (tree_of condition.now) (tree_of yes.now) (tree_of no.now)))) (first_below (weighing w.now) whole (If (tree_of condition.now) (tree_of yes.now) (tree_of no.now))) }
 {
@@ -370,7 +367,7 @@ fn weigh_at_most_one(w: &Weigher, whole: bool, es: &[Expr]) -> Part
 #[cycle(weigh)]
 #[inline(never)]
 fn weigh_call(w: &Weigher, whole: bool, at: u32, site: Option<u32>, es: &[Expr]) -> Part
-    ensures weight { result.weight ≡ min ((weighing w.now).output (unwrap_or site 0)) cap }
+    ensures weight { result.weight ≡ min ((weighing w.now).output (unwrap_or site 0)) too_heavy }
     ensures constant { result.constant ≡ None }
     ensures first { result.first ≡ lesser (wide_at at ((weighing w.now).output (unwrap_or site 0))) (cond whole (first_in_all (weighing w.now) whole (trees (map tree_of es.now))) None) }
 {
@@ -390,7 +387,7 @@ fn weigh_call(w: &Weigher, whole: bool, at: u32, site: Option<u32>, es: &[Expr])
 /// the frame of this function.
 #[cycle(weigh)]
 pub fn weigh(w: &Weigher, whole: bool, e: &Expr) -> Part
-    ensures weight { result.weight ≡ min (weight_in (weighing w.now) (tree_of e.now)) cap }
+    ensures weight { result.weight ≡ min (weight_in (weighing w.now) (tree_of e.now)) too_heavy }
     ensures constant { result.constant ≡ constant_part (weighing w.now).scope (weighing w.now).known (tree_of e.now) }
     ensures first { result.first ≡ first_in (weighing w.now) whole (tree_of e.now) }
 {

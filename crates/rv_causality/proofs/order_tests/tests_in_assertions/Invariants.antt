@@ -4,12 +4,12 @@ use Rattle.rv_types.specs.Readings.{view_of}
 use Rattle.rv_types.specs.Tables.{scope_of}
 use Rattle.rv_types.specs.Variables.{total}
 use Rattle.rv_causality.specs.Tests.{tests}
-use Rattle.rv_causality.specs.Totals.{cap}
+use Rattle.rv_syntax.specs.Limits.{heaviest}
 use Rattle.rv_causality.specs.Capped.{capped}
 use Rattle.rv_causality.proofs.order_tests.tests_in_assertions.Given as goal
 
 abbrev pub invariant-loop-assertion : goal.invariant-loop-assertion
 invariant-loop-assertion l = record {
-  bound : l.sum ≤ cap;
+  bound : l.sum ≤ heaviest;
   sum : capped (l.sum + total (λ (a : AssertionTree). tests (scope_of (view_of l.tables l.node)) a.body) (map assertion_tree (drop l.assertion-index l.assertions))) ≡ capped (total (λ (a : AssertionTree). tests (scope_of (view_of l.tables l.node)) a.body) (map assertion_tree l.assertions));
 }

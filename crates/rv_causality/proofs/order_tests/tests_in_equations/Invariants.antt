@@ -4,12 +4,12 @@ use Rattle.rv_types.specs.Readings.{view_of}
 use Rattle.rv_types.specs.Tables.{scope_of}
 use Rattle.rv_types.specs.Variables.{total}
 use Rattle.rv_causality.specs.Tests.{tests}
-use Rattle.rv_causality.specs.Totals.{cap}
+use Rattle.rv_syntax.specs.Limits.{heaviest}
 use Rattle.rv_causality.specs.Capped.{capped}
 use Rattle.rv_causality.proofs.order_tests.tests_in_equations.Given as goal
 
 abbrev pub invariant-loop-equation : goal.invariant-loop-equation
 invariant-loop-equation l = record {
-  bound : l.sum ≤ cap;
+  bound : l.sum ≤ heaviest;
   sum : capped (l.sum + total (λ (q : EquationTree). tests (scope_of (view_of l.tables l.node)) q.right) (map equation_tree (drop l.equation-index l.equations))) ≡ capped (total (λ (q : EquationTree). tests (scope_of (view_of l.tables l.node)) q.right) (map equation_tree l.equations));
 }

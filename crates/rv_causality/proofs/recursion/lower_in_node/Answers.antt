@@ -7,21 +7,21 @@ use Rattle.rv_causality.proofs.Lowering.{lowered_none, lowered_more}
 use Rattle.rv_causality.proofs.recursion.lower_in_node.Goals as goal
 
 pub loop-call-init : goal.loop-call-init
-loop-call-init c = lowered_none c.args.graph.now c.args.node c.args.old
+loop-call-init c = lowered_none c.args.parts.now c.args.node c.args.old
 
-pub lower-requires-clause-callee : goal.lower-requires-clause-callee
-lower-requires-clause-callee c =
+pub lower-least-requires-clause-callee : goal.lower-least-requires-clause-callee
+lower-least-requires-clause-callee c =
     c.requires.callees (get_or c.args.calls.now c.loop-call.call-index (record { at = 0; site = 0; callee = 0 }))
     (Contains-get_or c.args.calls.now c.loop-call.call-index (record { at = 0; site = 0; callee = 0 }) (omega arith))
 
 pub loop-call-preserved : goal.loop-call-preserved
 loop-call-preserved c =
-    subst (λ (cs : List Calling). IsLowered c.args.graph.now c.args.node cs c.args.old c.in_ok-least.least)
+    subst (λ (cs : List Calling). IsLowered c.args.parts.now c.args.node cs c.args.old c.lower-least.result)
     (sym (take_more c.args.calls.now c.loop-call.call-index (record { at = 0; site = 0; callee = 0 }) (omega arith)))
-    (lowered_more c.args.graph.now c.args.node (take c.loop-call.call-index c.args.calls.now) (get_or c.args.calls.now c.loop-call.call-index (record { at = 0; site = 0; callee = 0 }) ∷ [])
-    c.args.old c.loop-call.least c.in_ok-least.least c.loop-call.invariant c.in_ok-least.ensures)
+    (lowered_more c.args.parts.now c.args.node (take c.loop-call.call-index c.args.calls.now) (get_or c.args.calls.now c.loop-call.call-index (record { at = 0; site = 0; callee = 0 }) ∷ [])
+    c.args.old c.loop-call.least c.lower-least.result c.loop-call.invariant c.lower-least.ensures)
 
 pub returns : goal.returns
 returns c =
-    subst (λ (cs : List Calling). IsLowered c.args.graph.now c.args.node cs c.args.old c.loop-call.least)
+    subst (λ (cs : List Calling). IsLowered c.args.parts.now c.args.node cs c.args.old c.loop-call.least)
     (take_all c.loop-call.call-index c.args.calls.now (omega arith)) c.loop-call.invariant

@@ -3,4 +3,4 @@ use Rattle.rv_causality.specs.Loops.{IsLowered}
 use Rattle.rv_causality.proofs.recursion.lower_in_node.Given as goal
 
 abbrev pub invariant-loop-call : goal.invariant-loop-call
-invariant-loop-call l = IsLowered l.graph l.node (take l.call-index l.calls) l.fn.old l.least
+invariant-loop-call l = IsLowered l.parts l.node (take l.call-index l.calls) l.fn.old l.least

@@ -1,12 +1,12 @@
 use Rattle.std.proofs.Common.{◌≡◌, ◌+◌, ◌≤◌, map, drop}
 use Rattle.rv_syntax.specs.Tree.{tree_of, trees}
 use Rattle.rv_causality.specs.Sizes.{size_of_all}
-use Rattle.rv_causality.specs.Totals.{cap}
+use Rattle.rv_syntax.specs.Limits.{heaviest}
 use Rattle.rv_causality.specs.Capped.{capped}
 use Rattle.rv_causality.proofs.sizes.+size.Given as goal
 
 abbrev pub invariant-size_of_list-loop-e : goal.invariant-size_of_list-loop-e
 invariant-size_of_list-loop-e l = record {
-  bound : l.sum ≤ cap;
+  bound : l.sum ≤ heaviest;
   sum : capped (l.sum + size_of_all (trees (map tree_of (drop l.e-index l.expressions)))) ≡ capped (size_of_all (trees (map tree_of l.expressions)));
 }

@@ -2,12 +2,12 @@ use Rattle.std.proofs.Common.{◌≡◌, ◌+◌, ◌≤◌, map, drop}
 use Rattle.rv_syntax.specs.Tree.{AssertionTree, assertion_tree}
 use Rattle.rv_causality.specs.Sizes.{size}
 use Rattle.rv_types.specs.Variables.{total}
-use Rattle.rv_causality.specs.Totals.{cap}
+use Rattle.rv_syntax.specs.Limits.{heaviest}
 use Rattle.rv_causality.specs.Capped.{capped}
 use Rattle.rv_causality.proofs.sizes.size_of_assertions.Given as goal
 
 abbrev pub invariant-loop-assertion : goal.invariant-loop-assertion
 invariant-loop-assertion l = record {
-  bound : l.sum ≤ cap;
+  bound : l.sum ≤ heaviest;
   sum : capped (l.sum + total (λ (a : AssertionTree). size a.body) (map assertion_tree (drop l.assertion-index l.assertions))) ≡ capped (total (λ (a : AssertionTree). size a.body) (map assertion_tree l.assertions));
 }

@@ -1,4 +1,5 @@
 use Rattle.std.proofs.Common.{◌≤◌, ◌≡◌, length, refl, ap, arith}
+use Rattle.rv_syntax.specs.Limits.{source_limit}
 use Rattle.rv_syntax.specs.Places.{flows}
 use Rattle.rv_syntax.specs.Tree.{node_tree, program_tree}
 use Rattle.rv_causality.proofs.Known.{flows_once}
@@ -14,7 +15,7 @@ add_node-requires-clause-different c =
 pub add_node-requires-clause-few : goal.add_node-requires-clause-few
 add_node-requires-clause-few c =
     let p = program_tree c.args.p.now in
-    let few : length (flows (node_tree c.at.result.now)) ≤ 1048576 = c.requires.bounded.node_flows (node_tree c.at.result.now)
+    let few : length (flows (node_tree c.at.result.now)) ≤ source_limit = c.requires.bounded.node_flows (node_tree c.at.result.now)
     (read_among p c.requires.named c.args.nodes.now.order c.requires.nodes.order c.args.p.now.nodes refl c.as_slice-node-items.result.now c.as_slice-node-items.ensures c.loop-node.node-index c.loop-node-test.true c.at.result.now c.at.ensures.value) in
     omega (arith, few)
 

@@ -1,6 +1,6 @@
 use Rattle.std.proofs.Common.{◌≤◌, get_or, sym, subst, arith}
 use Rattle.std.proofs.lemmas.List.Elements.{Contains-get_or}
-use Rattle.rv_causality.specs.Totals.{cap}
+use Rattle.rv_syntax.specs.Limits.{heaviest}
 use Rattle.rv_causality.proofs.Walks.{got}
 use Rattle.rv_causality.proofs.Summing.{called_more}
 use Rattle.rv_causality.proofs.totals.sum_of.Goals as goal
@@ -13,7 +13,7 @@ at-requires c =
 pub capped_sum-sum-requires-clause-b : goal.capped_sum-sum-requires-clause-b
 capped_sum-sum-requires-clause-b c =
     let callee = (get_or c.args.calls.now c.loop-call.call-index (record { at = 0; site = 0; callee = 0 })).callee in
-    subst (λ u. u ≤ cap) (got c.args.totals.now callee c.at.result.now 0 c.at.ensures.value)
+    subst (λ u. u ≤ heaviest) (got c.args.totals.now callee c.at.result.now 0 c.at.ensures.value)
     (c.requires.totals callee
     (c.requires.callees (get_or c.args.calls.now c.loop-call.call-index (record { at = 0; site = 0; callee = 0 }))
     (Contains-get_or c.args.calls.now c.loop-call.call-index (record { at = 0; site = 0; callee = 0 }) (omega arith))))

@@ -7,7 +7,7 @@ use Rattle.rv_causality.specs.Bits.{bits_of_all}
 use Rattle.rv_causality.specs.Capped.{capped}
 use Rattle.rv_types.specs.Variables.{input_bits}
 use Rattle.rv_types.specs.Values.{labels_at}
-use Rattle.rv_causality.specs.Totals.{cap}
+use Rattle.rv_syntax.specs.Limits.{heaviest}
 use Rattle.rv_causality.proofs.Lowering.{length_map}
 use Rattle.rv_causality.proofs.Main.{main_node, main_kinds, inputs_few}
 use Rattle.rv_causality.proofs.Inputs.{input_kinds}
@@ -23,7 +23,7 @@ at-requires-2 c =
     subst (λ n. c.args.t.now.main < n) (sym (ap length c.requires.kinds ∙ length_map (flow_kinds p) p.nodes)) c.requires.main
 
 pub bits_of_kinds-requires : goal.bits_of_kinds-requires
-bits_of_kinds-requires c = record { few = λ k. subst (λ (ds : List TypeDecl). labels_at ds k ≤ cap) (sym c.as_slice.ensures) (few_labels (program_tree c.args.p.now) c.requires.bounded k) }
+bits_of_kinds-requires c = record { few = λ k. subst (λ (ds : List TypeDecl). labels_at ds k ≤ heaviest) (sym c.as_slice.ensures) (few_labels (program_tree c.args.p.now) c.requires.bounded k) }
 
 pub slice_bounds-bits_of_kinds-end : goal.slice_bounds-bits_of_kinds-end
 slice_bounds-bits_of_kinds-end c =

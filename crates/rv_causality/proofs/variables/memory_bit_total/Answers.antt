@@ -5,7 +5,8 @@ use Rattle.rv_types.specs.declared.typed.Kind.{Kind}
 use Rattle.rv_causality.specs.Bits.{bits_of_all}
 use Rattle.rv_types.specs.Variables.{memory_bits, over_instances}
 use Rattle.rv_types.specs.Values.{labels_at}
-use Rattle.rv_causality.specs.Totals.{cap, AreCapped, total_at}
+use Rattle.rv_syntax.specs.Limits.{heaviest}
+use Rattle.rv_causality.specs.Totals.{AreCapped, total_at}
 use Rattle.rv_causality.specs.Callings.{callings_of}
 use Rattle.rv_types.specs.Instances.{name_at}
 use Rattle.rv_causality.specs.Capped.{capped}
@@ -15,7 +16,7 @@ use Rattle.rv_causality.proofs.Varied.{few_labels, bits_measured}
 use Rattle.rv_causality.proofs.variables.memory_bit_total.Goals as goal
 
 pub memory_bits_of-requires : goal.memory_bits_of-requires
-memory_bits_of-requires c = record { few = λ k. subst (λ (ds : List TypeDecl). labels_at ds k ≤ cap) (sym c.as_slice.ensures) (few_labels (program_tree c.args.p.now) c.requires.bounded k) }
+memory_bits_of-requires c = record { few = λ k. subst (λ (ds : List TypeDecl). labels_at ds k ≤ heaviest) (sym c.as_slice.ensures) (few_labels (program_tree c.args.p.now) c.requires.bounded k) }
 
 pub total_of-requires : goal.total_of-requires
 total_of-requires c =

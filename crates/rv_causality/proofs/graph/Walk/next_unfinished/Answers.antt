@@ -3,8 +3,8 @@ use Rattle.rv_causality.specs.Graphs.{edges}
 use Rattle.rv_causality.proofs.Walks.{got}
 use Rattle.rv_causality.proofs.graph.Walk.next_unfinished.Goals as goal
 
-pub first_unfinished-requires : goal.first_unfinished-requires
-first_unfinished-requires c j lt =
+pub first_unmarked-requires : goal.first_unmarked-requires
+first_unmarked-requires c j lt =
     let same : edges c.args.graph.now c.args.v ≡ c.as_slice-targets.result.now = got c.args.graph.now c.args.v c.at.result.now [] c.at.ensures.value ∙ sym c.as_slice-targets.ensures in
     let size : length c.args.graph.now ≡ length c.as_slice.result.now = sym (ap length c.as_slice.ensures ∙ c.requires.finished) in
     subst (λ n. get_or c.as_slice-targets.result.now j 0 < n) size

@@ -1,0 +1,6 @@
+use Rattle.std.proofs.Common.{◌≡◌, length}
+use Rattle.rv_causality.specs.Components.{IsReversedTo}
+use Rattle.rv_causality.proofs.components.reversed.Given as goal
+
+abbrev pub invariant-loop-v : goal.invariant-loop-v
+invariant-loop-v l = IsReversedTo l.graph l.v l.turned.items
