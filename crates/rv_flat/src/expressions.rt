@@ -1,6 +1,6 @@
 //! Expressions of instances as flat ones.
 
-ghost use Rattle.std.specs.Prelude.{◌≡◌, [], ℕ, negsuc, pos, map, slice_index_or, Some, IfOk, IsSome, OnOk};
+ghost use Rattle.std.specs.Prelude.{◌≡◌, ◌++◌, ◌∷◌, [], ℕ, negsuc, pos, map, slice_index_or, Some, IfOk, IsSome, OnOk};
 ghost use Rattle.std.specs.List.{Contains};
 ghost use Rattle.rv_syntax.specs.Tree as tree;
 ghost use Rattle.rv_syntax.specs.Tree.{Tree, tree_of, trees};
@@ -489,19 +489,31 @@ fn nowhere() -> Place
     }
 }
 
-/// The place of a site of the instance, the empty one where there is no site. It shares the path of the instance.
-#[tactic(auto, using(crate::proofs::Reading::read_nothing))]
+/// The place of a site of the instance, the empty one where there is no site.
 pub fn spot_of(alloc: Global, frame: &Frame, site: Option<u32>) -> Result<Place, Memory>
     ensures { IfOk result (λ p. p.sites ≡ spot (path_read frame.now) site) }
 {
-    let Some(own) = site else {
-        return Ok(nowhere());
-    };
-    let sites = match frame.expanded.instances.get(frame.reader.instance as usize) {
-        Some(instance) => Sites::within(&instance.path, own)?,
-        None => Sites::from_slice(alloc, &[own])?,
-    };
-    Ok(Place { sites })
+    match site {
+        Some(own) => place_at(alloc, frame, own),
+        None => Ok(nowhere()),
+    }
+}
+
+/// The place of a site of the instance. It shares the path of the instance.
+#[tactic(auto, using(crate::proofs::Reading::read_nothing))]
+fn place_at(alloc: Global, frame: &Frame, site: u32) -> Result<Place, Memory>
+    ensures { IfOk result (λ p. p.sites ≡ path_read frame.now ++ site ∷ []) }
+{
+    match frame.expanded.instances.get(frame.reader.instance as usize) {
+        Some(instance) => {
+            let sites = Sites::within(&instance.path, site)?;
+            Ok(Place { sites })
+        }
+        None => {
+            let sites = Sites::from_slice(alloc, &[site])?;
+            Ok(Place { sites })
+        }
+    }
 }
 
 /// A flat expression in memory of its own. This and the functions below stay calls, so that `flat_part`, which calls
