@@ -22,7 +22,7 @@ use Rattle.rv_flat.proofs.KeptMemories.{kept_places}
 use Rattle.rv_flat.proofs.PlaceNumbers.{its_number}
 
 -- the site after a path
-last_of : (path : Sites) (s : ℕ) → last_site (path ++ s ∷ []) ≡ s
+pub last_of : (path : Sites) (s : ℕ) → last_site (path ++ s ∷ []) ≡ s
 last_of [] s = refl
 last_of (x ∷ []) s = refl
 last_of (x ∷ y ∷ rest) s = last_of (y ∷ rest) s
