@@ -8,8 +8,6 @@ mod prove;
 mod report;
 mod run;
 mod search;
-#[cfg(test)]
-mod tests;
 mod words;
 
 pub use report::{Outcome, Report, Sent, status_of_report, text};
