@@ -13,13 +13,13 @@ use Rattle.rv_types.specs.Lists.{sites_of}
 use Rattle.rv_causality.specs.declared.answer.Order.{Order}
 use Rattle.rv_causality.specs.Fitting.{Fits}
 use Rattle.rv_syntax.specs.Bounded.{IsTreeOfText}
-use Rattle.rv_meaning.specs.Runs.{Instant, IsSafe}
+use Rattle.rv_meaning.specs.Runs.{Instant, History, AreStarts, AreInputs, IsRun, IsSafe}
 use Rattle.rv_meaning.specs.Instants.{State as Brought, IsInstant}
 use Rattle.rv_meaning.specs.Valuations.{IsSmall, IsControl, HoldsEverywhere}
 use Rattle.rv_flat.specs.declared.flat.Flat.{Flat}
 use Rattle.rv_flat.specs.FlatOf.{IsFlatOf}
 use Rattle.rv_run.specs.declared.search.Shape.{Shape}
-use Rattle.rv_run.specs.Programs.{IsJudged, IsUndecided}
+use Rattle.rv_run.specs.Programs.{WithRuns, IsJudged, IsUndecided}
 use Rattle.rv_run.specs.Judged.{IsSmallSystem}
 use Rattle.rv_run.specs.Spelled.{IsShapeOf, bits_of_shape, IsAlwaysTrue, IsSometimesFalse}
 use Rattle.rv_run.proofs.Everywhere.{everywhere, somewhere}
@@ -48,6 +48,21 @@ module _ (p : ProgramTree) (t : Typed) (o : Order) (fits : Fits p t o)
   -- what holds at every allowed valuation is safe, where that is a law
   pub safe : ((sequence : List Sites) → AreWell p → IsNode p main → IsSequence p main sequence → IsControl p main → HoldsEverywhere p main → IsSafe p main) → IsJudged HoldsEverywhere p main → IsSafe p main
   safe law judged = law (sites_of o.sequence) well is_node fits.ordered.sequence judged.0.control judged.1
+
+  -- and what holds does so with runs, where that there is exactly one is a law
+  pub with_runs : (P : ProgramTree → Identifier → Type 0)
+      → ((starts : Sites → Value) (inputs : ℕ → ℕ → Value) (n : ℕ) (h g : History) → AreWell p → IsNode p main → IsSequence p main (sites_of o.sequence)
+      → IsRun p main starts inputs n h → IsRun p main starts inputs n g → h ≡ g)
+      → ((starts : Sites → Value) (inputs : ℕ → ℕ → Value) (n : ℕ) → AreWell p → IsNode p main → IsSequence p main (sites_of o.sequence)
+      → AreStarts p main starts → AreInputs p main n inputs → (h : History) × IsRun p main starts inputs n h)
+      → P p main → WithRuns P p main
+  with_runs P one some holds = record {
+    sequence = sites_of o.sequence;
+    ordered = fits.ordered.sequence;
+    runs = λ n starts inputs started given. let run = some starts inputs n well is_node fits.ordered.sequence started given in
+    (run.0, run.1, λ other another. one starts inputs n other run.0 well is_node fits.ordered.sequence another run.1);
+    holds = holds;
+  }
 
   -- the shape has few bits
   pub few_bits : (f : Flat) → IsFlatOf p main f → IsSmallSystem f → (s : Shape) → IsShapeOf f s → bits_of_shape s ≤ 12

@@ -5,13 +5,13 @@ ghost use Rattle.rv_causality.specs.declared.source.SourceFault.{SourceFault as 
 ghost use Rattle.rv_meaning.specs.Runs.{IsSafe};
 ghost use Rattle.rv_meaning.specs.Valuations.{HoldsEverywhere};
 ghost use Rattle.rv_run.specs.Answers.{IsOnSource, IsUnlessCutOff, IsRefusalUnlessCutOff};
-ghost use Rattle.rv_run.specs.Programs.{OnProgram, IsJudged, IsUndecided, IsRefusedFor};
+ghost use Rattle.rv_run.specs.Programs.{OnProgram, WithRuns, IsJudged, IsUndecided, IsRefusedFor};
 ghost use Rattle.rv_run.specs.Refusals.{refusal_of};
 
 use crate::judge::is_judged_safe;
 use crate::report::Report;
 use rv_causality::{SourceFault, read_source};
-use rv_meaning::everywhere_is_safe;
+use rv_meaning::{everywhere_is_safe, one_run, some_run};
 use rv_syntax::{SOURCE_LIMIT, one_tree};
 use rv_types::well_formed_programs;
 use std::alloc::Global;
@@ -22,9 +22,9 @@ use std::alloc::Global;
 /// not.
 pub fn report_on_source(alloc: Global, bytes: &[u8], node: &str) -> Report
     requires { length bytes.now ≤ SOURCE_LIMIT }
-    ensures safe { result ≡ Report.Safe → OnProgram IsSafe bytes.now node.now }
-    ensures safe_everywhere { result ≡ Report.Safe → OnProgram (IsJudged HoldsEverywhere) bytes.now node.now }
-    ensures unknown { result ≡ Report.Unknown → OnProgram IsUndecided bytes.now node.now }
+    ensures safe { result ≡ Report.Safe → OnProgram (WithRuns IsSafe) bytes.now node.now }
+    ensures safe_everywhere { result ≡ Report.Safe → OnProgram (WithRuns (IsJudged HoldsEverywhere)) bytes.now node.now }
+    ensures unknown { result ≡ Report.Unknown → OnProgram (WithRuns IsUndecided) bytes.now node.now }
     ensures refused { (fault : FaultModel) → result ≡ Report.Refused fault → IsRefusedFor fault bytes.now node.now }
     ensures only { IsOnSource result }
     ensures only_safe { OnProgram (IsJudged HoldsEverywhere) bytes.now node.now → IsUnlessCutOff Report.Safe result }
@@ -34,6 +34,8 @@ pub fn report_on_source(alloc: Global, bytes: &[u8], node: &str) -> Report
     one_tree();
     well_formed_programs();
     everywhere_is_safe();
+    one_run();
+    some_run();
     let source = match read_source(alloc, bytes, node) {
         Ok(source) => source,
         Err(fault) => return refusal(fault),

@@ -9,7 +9,7 @@ ghost use Rattle.rv_meaning.specs.Runs.{IsSafe};
 ghost use Rattle.rv_meaning.specs.Valuations.{HoldsEverywhere};
 ghost use Rattle.rv_run.specs.Words.{texts, command};
 ghost use Rattle.rv_run.specs.Answers.{OnFile, IsTold, IsUnlessCutOff, IsRefusalUnlessCutOff};
-ghost use Rattle.rv_run.specs.Programs.{OnProgram, IsJudged, IsUndecided, IsRefusedFor};
+ghost use Rattle.rv_run.specs.Programs.{OnProgram, WithRuns, IsJudged, IsUndecided, IsRefusedFor};
 ghost use Rattle.rv_run.specs.Printed.{text_of, status_of};
 ghost use Rattle.rv_causality.specs.declared.source.SourceFault.{SourceFault};
 
@@ -24,9 +24,9 @@ use std::alloc::Global;
 /// The report on the words.
 fn report_on<F: Files>(alloc: Global, words: &[String], files: &mut F) -> Report
     requires { All (λ word. IsTrue (F.serves files.old (string_bytes word))) words.now }
-    ensures safe { result ≡ Report.Safe → OnFile (F.held files.old) (texts words.now) (OnProgram IsSafe) }
-    ensures safe_everywhere { result ≡ Report.Safe → OnFile (F.held files.old) (texts words.now) (OnProgram (IsJudged HoldsEverywhere)) }
-    ensures unknown { result ≡ Report.Unknown → OnFile (F.held files.old) (texts words.now) (OnProgram IsUndecided) }
+    ensures safe { result ≡ Report.Safe → OnFile (F.held files.old) (texts words.now) (OnProgram (WithRuns IsSafe)) }
+    ensures safe_everywhere { result ≡ Report.Safe → OnFile (F.held files.old) (texts words.now) (OnProgram (WithRuns (IsJudged HoldsEverywhere))) }
+    ensures unknown { result ≡ Report.Unknown → OnFile (F.held files.old) (texts words.now) (OnProgram (WithRuns IsUndecided)) }
     ensures not_too_long { (result ≡ Report.Safe) ⊎ (result ≡ Report.Unknown)
         → OnFile (F.held files.old) (texts words.now) (λ bytes _. length bytes ≤ SOURCE_LIMIT) }
     ensures refused { (fault : SourceFault) → result ≡ Report.Refused fault
@@ -44,6 +44,7 @@ fn report_on<F: Files>(alloc: Global, words: &[String], files: &mut F) -> Report
     ensures only_too_long { IsTold (F.held files.old) (texts words.now) (λ bytes _. SOURCE_LIMIT < length bytes)
         → IsUnlessCutOff (Report.TooLong (SOURCE_LIMIT + 1)) result }
     ensures same_held { F.held files.new ≡ F.held files.old }
+    ensures same_serves { F.serves files.new ≡ F.serves files.old }
 {
     let Some(command) = read_words(words) else {
         return Report::Usage;
@@ -92,9 +93,9 @@ pub fn run<F: Files, S: Sink>(
     out: &mut S,
 ) -> Outcome
     requires { All (λ word. IsTrue (F.serves files.old (string_bytes word))) words.now.items }
-    ensures safe { result.report ≡ Report.Safe → OnFile (F.held files.old) (texts words.now.items) (OnProgram IsSafe) }
-    ensures safe_everywhere { result.report ≡ Report.Safe → OnFile (F.held files.old) (texts words.now.items) (OnProgram (IsJudged HoldsEverywhere)) }
-    ensures unknown { result.report ≡ Report.Unknown → OnFile (F.held files.old) (texts words.now.items) (OnProgram IsUndecided) }
+    ensures safe { result.report ≡ Report.Safe → OnFile (F.held files.old) (texts words.now.items) (OnProgram (WithRuns IsSafe)) }
+    ensures safe_everywhere { result.report ≡ Report.Safe → OnFile (F.held files.old) (texts words.now.items) (OnProgram (WithRuns (IsJudged HoldsEverywhere))) }
+    ensures unknown { result.report ≡ Report.Unknown → OnFile (F.held files.old) (texts words.now.items) (OnProgram (WithRuns IsUndecided)) }
     ensures not_too_long { (result.report ≡ Report.Safe) ⊎ (result.report ≡ Report.Unknown)
         → OnFile (F.held files.old) (texts words.now.items) (λ bytes _. length bytes ≤ SOURCE_LIMIT) }
     ensures refused { (fault : SourceFault) → result.report ≡ Report.Refused fault
@@ -112,6 +113,7 @@ pub fn run<F: Files, S: Sink>(
     ensures only_too_long { IsTold (F.held files.old) (texts words.now.items) (λ bytes _. SOURCE_LIMIT < length bytes)
         → IsUnlessCutOff (Report.TooLong (SOURCE_LIMIT + 1)) result.report }
     ensures same_held { F.held files.new ≡ F.held files.old }
+    ensures same_serves { F.serves files.new ≡ F.serves files.old }
 
     ensures shown_whole { result.sent ≡ Sent.Whole → Appends (S.shown out.old) (S.shown out.new) (text_of result.report) }
     ensures shown_prefix { result.sent ≡ Sent.Failed → AppendsPrefix (S.shown out.old) (S.shown out.new) (text_of result.report) }

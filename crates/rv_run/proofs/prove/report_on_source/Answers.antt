@@ -1,13 +1,14 @@
 use Rattle.std.proofs.Common.{◌≡◌, true, false, inr, sym, ◌∙◌, ap, subst}
 use Rattle.rv_syntax.specs.Tree.{program_tree}
 use Rattle.rv_types.specs.Instances.{name_at}
+use Rattle.rv_types.specs.Lists.{sites_of}
 use Rattle.rv_causality.specs.declared.source.SourceFault.{SourceFault}
 use Rattle.rv_meaning.specs.Runs.{IsSafe}
 use Rattle.rv_meaning.specs.Valuations.{HoldsEverywhere}
 use Rattle.rv_run.specs.Answers.{IsOnSource, IsRefusalUnlessCutOff}
-use Rattle.rv_run.specs.Programs.{IsJudged, IsUndecided}
+use Rattle.rv_run.specs.Programs.{WithRuns, IsJudged, IsUndecided}
 use Rattle.rv_run.specs.declared.report.Report.{Report}
-use Rattle.rv_run.proofs.Judging.{safe}
+use Rattle.rv_run.proofs.Judging.{safe, with_runs}
 use Rattle.rv_run.proofs.Reported.{refusal-not_safe, refusal-not_unknown, refusal-on_source, refusal-refused, refused_accepted, refused_same, named, told, told_back, opposed}
 use Rattle.rv_run.proofs.Tried.{when_true, when_false}
 use Rattle.rv_run.proofs.prove.report_on_source.Goals as goal
@@ -36,17 +37,21 @@ returns-in-Ok-true-clause-safe c = λ _.
     let p = program_tree s.program in
     let main = name_at p s.typed.main in
     let judged : IsJudged HoldsEverywhere p main = when_true c.in-Ok-true.field-0 (IsJudged HoldsEverywhere p main) (IsUndecided p main) c.in-Ok-true.ensures c.in-Ok-true.field-0-test in
-    told c.args.bytes.now c.args.node.now s source IsSafe
+    told c.args.bytes.now c.args.node.now s source (WithRuns IsSafe)
+    (with_runs p s.typed s.order source.fits (λ m text settled. c.well_formed_programs.ensures p m s.typed text settled) IsSafe
+    (c.one_run.ensures p main (sites_of s.order.sequence)) (c.some_run.ensures p main (sites_of s.order.sequence))
     (safe p s.typed s.order source.fits (λ m text settled. c.well_formed_programs.ensures p m s.typed text settled)
-    (λ sequence well is_node ordered control holds. c.everywhere_is_safe.ensures p main sequence well is_node ordered control holds) judged)
+    (λ sequence well is_node ordered control holds. c.everywhere_is_safe.ensures p main sequence well is_node ordered control holds) judged))
 
 pub returns-in-Ok-true-clause-safe_everywhere : goal.returns-in-Ok-true-clause-safe_everywhere
 returns-in-Ok-true-clause-safe_everywhere c = λ _.
     let s = c.in-Ok.source in
     let p = program_tree s.program in
     let main = name_at p s.typed.main in
-    told c.args.bytes.now c.args.node.now s c.in-Ok.ensures.found (IsJudged HoldsEverywhere)
-    (when_true c.in-Ok-true.field-0 (IsJudged HoldsEverywhere p main) (IsUndecided p main) c.in-Ok-true.ensures c.in-Ok-true.field-0-test)
+    told c.args.bytes.now c.args.node.now s c.in-Ok.ensures.found (WithRuns (IsJudged HoldsEverywhere))
+    (with_runs p s.typed s.order c.in-Ok.ensures.found.fits (λ m text settled. c.well_formed_programs.ensures p m s.typed text settled) (IsJudged HoldsEverywhere)
+    (c.one_run.ensures p main (sites_of s.order.sequence)) (c.some_run.ensures p main (sites_of s.order.sequence))
+    (when_true c.in-Ok-true.field-0 (IsJudged HoldsEverywhere p main) (IsUndecided p main) c.in-Ok-true.ensures c.in-Ok-true.field-0-test))
 
 pub returns-in-Ok-true-clause-only_unknown : goal.returns-in-Ok-true-clause-only_unknown
 returns-in-Ok-true-clause-only_unknown c = λ on.
@@ -63,8 +68,10 @@ returns-in-Ok-false-clause-unknown c = λ _.
     let s = c.in-Ok.source in
     let p = program_tree s.program in
     let main = name_at p s.typed.main in
-    told c.args.bytes.now c.args.node.now s c.in-Ok.ensures.found IsUndecided
-    (when_false c.in-Ok-false.field-0 (IsJudged HoldsEverywhere p main) (IsUndecided p main) c.in-Ok-false.ensures c.in-Ok-false.field-0-test)
+    told c.args.bytes.now c.args.node.now s c.in-Ok.ensures.found (WithRuns IsUndecided)
+    (with_runs p s.typed s.order c.in-Ok.ensures.found.fits (λ m text settled. c.well_formed_programs.ensures p m s.typed text settled) IsUndecided
+    (c.one_run.ensures p main (sites_of s.order.sequence)) (c.some_run.ensures p main (sites_of s.order.sequence))
+    (when_false c.in-Ok-false.field-0 (IsJudged HoldsEverywhere p main) (IsUndecided p main) c.in-Ok-false.ensures c.in-Ok-false.field-0-test))
 
 pub returns-in-Ok-false-clause-only_safe : goal.returns-in-Ok-false-clause-only_safe
 returns-in-Ok-false-clause-only_safe c = λ on.
