@@ -6,9 +6,9 @@ mod judge;
 mod load;
 mod prove;
 mod report;
-mod run;
+mod running;
 mod search;
 mod words;
 
 pub use report::{Outcome, Report, Sent, status_of_report, text};
-pub use run::run;
+pub use running::run;

@@ -6,7 +6,7 @@ use Rattle.rv_run.specs.Words.{texts}
 use Rattle.rv_run.specs.Programs.{OnProgram, WithRuns, IsJudged, IsUndecided, IsRefusedFor}
 use Rattle.rv_run.proofs.Named.{on_file}
 use Rattle.rv_run.proofs.Served.{served}
-use Rattle.rv_run.proofs.run.report_on.Goals as goal
+use Rattle.rv_run.proofs.running.report_on.Goals as goal
 
 pub load_whole-requires : goal.load_whole-requires
 load_whole-requires g c = served (g.F.Files.serves c.args.files.now) c.args.words.now _ c.requires (sym c.in-Some.ensures)

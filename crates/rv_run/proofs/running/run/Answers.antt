@@ -5,7 +5,7 @@ use Rattle.rv_syntax.specs.Limits.{source_limit}
 use Rattle.rv_run.specs.Words.{texts}
 use Rattle.rv_run.specs.Answers.{IsTold, IsRefusalUnlessCutOff}
 use Rattle.rv_run.specs.Programs.{IsRefusedFor}
-use Rattle.rv_run.proofs.run.run.Goals as goal
+use Rattle.rv_run.proofs.running.run.Goals as goal
 
 pub returns-clause-only_refused : goal.returns-clause-only_refused
 returns-clause-only_refused g c = λ fault.
