@@ -4,6 +4,7 @@ use Rattle.std.specs.Prelude.{Option, Some, None}
 use Rattle.std.specs.List.{All, Contains}
 use Rattle.std.proofs.lemmas.List.{length-map}
 use Rattle.std.proofs.lemmas.Bool.Decides.{nat_tests}
+use Rattle.rv_syntax.specs.Limits.{source_limit}
 use Rattle.rv_syntax.specs.declared.token.Kind.{Kind}
 use Rattle.rv_syntax.specs.declared.token.Token.{Token}
 use Rattle.rv_syntax.specs.Tree.{NodeTree, ProgramTree}
@@ -114,7 +115,7 @@ node-weighs n =
     )
 
 -- in the program of a text within the limit, sites fit
-pub program-fits : (bytes : List ℕ) (p : ProgramTree) → length bytes ≤ 1048576 → IsProgram p (tokens bytes) → All (λ n. site_count n ≤ 1048576) p.nodes
+pub program-fits : (bytes : List ℕ) (p : ProgramTree) → length bytes ≤ source_limit → IsProgram p (tokens bytes) → All (λ n. site_count n ≤ source_limit) p.nodes
 program-fits bytes p le h i d lt =
     let n = get_or p.nodes i d in
     omega (arith, node-weighs n, one-at (of_node each) p.nodes i d lt, program-short bytes p h)

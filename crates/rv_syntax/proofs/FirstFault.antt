@@ -1,7 +1,7 @@
 -- A whole text is read as its tree, or its reading stops at the first offending token.
 use Rattle.std.proofs.Common.{inl, inr, ◌≡◌, ℕ, Bool, true, false, cond, List, [], ◌∷◌, ◌++◌, length, refl, sym, ap, ◌∙◌, subst, append_assoc, length-append, arith, ◌≤◌}
 use Rattle.std.proofs.lemmas.List.{append-nil, append_cancel_right}
-use Rattle.std.specs.Prelude.{Option, Some, None, Ok, Err, ◌<◌, Result, IfOk, IfErr}
+use Rattle.std.specs.Prelude.{◌⊎◌, Option, Some, None, Ok, Err, ◌<◌, Result, IfOk, IfErr}
 use Rattle.rv_syntax.specs.declared.token.Token.{Token}
 use Rattle.rv_syntax.specs.declared.fault.Why.{Why}
 use Rattle.rv_syntax.specs.declared.fault.Why.TheVariants as why
@@ -235,6 +235,23 @@ module _ (program : Parse ProgramTree) (IsEndOfText : List Token → Type 0) (en
   text-of bytes p t e is =
       let w = whole (tokens bytes) p e in
       (p, is, w.program, w.shallow)
+
+  -- ---- Each text has a tree or a fault.
+  abbrev TreeOrFault : List ℕ → Type 0
+  TreeOrFault bytes = ((t : ProgramTree) × IsTextOf bytes t) ⊎ ((f : TextFault) × IsFault bytes f)
+
+  fault-there : (bytes : List ℕ) (w : Why) (rest : List Token) → shortfall (program (tokens bytes)) ≡ Some (w, rest) → TreeOrFault bytes
+  fault-there bytes w rest s =
+      let b = is-cut (tokens bytes) w rest s in
+      inr (fault_at b.0 rest w (length bytes), is-fault bytes b.0 rest w b.1 s)
+
+  either : (bytes : List ℕ) (r : Reading ProgramTree) → program (tokens bytes) ≡ r → TreeOrFault bytes
+  either bytes (Ok (p, [])) e = inl (program_with_sites p, text-of bytes p (program_with_sites p) e refl)
+  either bytes (Ok (p, t ∷ rest)) e = fault-there bytes why.Offends (t ∷ rest) (ap shortfall e)
+  either bytes (Err (w, rest)) e = fault-there bytes w rest (ap shortfall e)
+
+  pub tree-or-fault : (bytes : List ℕ) → TreeOrFault bytes
+  tree-or-fault bytes = either bytes (program (tokens bytes)) refl
 
   -- ---- An answer that is the tree of the text, or tells its fault.
   pub answers : (bytes : List ℕ) (ts : List Token) (p : ProgramTree) (q : Program) → ts ≡ tokens bytes → program ts ≡ Ok (p, []) → program_tree q ≡ program_with_sites p → Answered bytes (Ok q)

@@ -5,6 +5,7 @@ use Rattle.std.specs.List.{Contains}
 use Rattle.std.proofs.lemmas.List.{length-map, map-append, get_or_default}
 use Rattle.std.proofs.lemmas.Bool.{cases_order}
 use Rattle.std.proofs.lemmas.Bool.Decides.{nat_tests}
+use Rattle.rv_syntax.specs.Limits.{source_limit}
 use Rattle.rv_syntax.specs.declared.tree.Op.{Op}
 use Rattle.rv_syntax.specs.declared.tree.Op.TheVariants as op
 use Rattle.rv_syntax.specs.Tree.{Tree, Node, Form, True, False, Number, Named, Not, Minus, Pre, Current, When, Binary, If, AtMostOne, Call, Trees, None, More, EquationTree, AssertionTree, NodeTree, ProgramTree}
@@ -341,7 +342,7 @@ module _ (m : NodeTree) (once : (x : ℕ) → all_of (alone x) (node_offsets m) 
       let place : h.0 ≡ g.0 = one-place h.0 g.0 (omega (arith, length-delays, h.1)) (omega (arith, length-delays, g.1)) numbers in
       sym h.2 ∙ get_or_default (node_delays (with_sites m)) h.0 d e h.1 ∙ ap (λ i. get_or (node_delays (with_sites m)) i e) place ∙ g.2
 
-  node-is-numbered : length (flows m) ≤ 1048576 → IsNumbered (with_sites m)
+  node-is-numbered : length (flows m) ≤ source_limit → IsNumbered (with_sites m)
   node-is-numbered few = record {
     few = few;
     beyond = λ d h. (site_at m (get_or (node_delayed m) h.0 0), delay-site d h, omega arith);
@@ -351,12 +352,12 @@ module _ (m : NodeTree) (once : (x : ℕ) → all_of (alone x) (node_offsets m) 
     apart = apart-sites;
   }
 
-pub numbered-text : (bytes : List ℕ) (t : ProgramTree) (n : NodeTree) → length bytes ≤ 1048576 → IsTextOf bytes t → Contains t.nodes n → IsNumbered n
+pub numbered-text : (bytes : List ℕ) (t : ProgramTree) (n : NodeTree) → length bytes ≤ source_limit → IsTextOf bytes t → Contains t.nodes n → IsNumbered n
 numbered-text bytes t n le x h =
     let p : ProgramTree = x.0 in
     let from = from-map with_sites p.nodes n (subst (λ (u : ProgramTree). Contains u.nodes n) x.1 h) in
     let m : NodeTree = from.0 in
-    let few : length (flows m) ≤ 1048576 = omega (arith, node-weighs m, one-of (of_node each) p.nodes m from.1, program-short bytes p x.2) in
+    let few : length (flows m) ≤ source_limit = omega (arith, node-weighs m, one-of (of_node each) p.nodes m from.1, program-short bytes p x.2) in
     let once : (y : ℕ) → all_of (alone y) (node_offsets m) ≤ 1 = λ y. omega (
       arith,
       all_of-append (alone y) (equation_offsets m.equations) (assertion_offsets m.assertions),

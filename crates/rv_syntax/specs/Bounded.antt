@@ -5,21 +5,22 @@ use Rattle.rv_syntax.specs.declared.tree.Name.{Name}
 use Rattle.rv_syntax.specs.declared.tree.TypeDecl.{TypeDecl}
 use Rattle.rv_syntax.specs.declared.tree.TypeBody.TheVariants.{Labels}
 use Rattle.rv_syntax.specs.Tree.{NodeTree, ProgramTree}
+use Rattle.rv_syntax.specs.Limits.{source_limit}
 use Rattle.rv_syntax.specs.Places.{flows}
 use Rattle.rv_syntax.specs.ProgramText.{IsTextOf}
 
--- the most bytes that a source has
+-- the most that a source has of anything: it has no more than bytes
 abbrev pub most : ℕ
-most = 1048576
+most = source_limit
 
 -- The declarations of each kind, the labels of a type and the flows of a node are no more than a source has bytes.
 pub record IsBounded (t : ProgramTree) : Type 0 where
-  pub types : length t.types ≤ most
-  pub constants : length t.constants ≤ most
-  pub nodes : length t.nodes ≤ most
-  pub labels : (d : TypeDecl) (xs : List Name) → Contains t.types d → d.body ≡ Labels xs → length xs ≤ most
-  pub node_flows : (n : NodeTree) → Contains t.nodes n → length (flows n) ≤ most
+  pub types : length t.types ≤ source_limit
+  pub constants : length t.constants ≤ source_limit
+  pub nodes : length t.nodes ≤ source_limit
+  pub labels : (d : TypeDecl) (xs : List Name) → Contains t.types d → d.body ≡ Labels xs → length xs ≤ source_limit
+  pub node_flows : (n : NodeTree) → Contains t.nodes n → length (flows n) ≤ source_limit
 
 -- the tree of some source within the limit
 abbrev pub IsTreeOfText : ProgramTree → Type 0
-IsTreeOfText t = (bytes : List ℕ) × (length bytes ≤ most) × IsTextOf bytes t
+IsTreeOfText t = (bytes : List ℕ) × (length bytes ≤ source_limit) × IsTextOf bytes t

@@ -1,6 +1,7 @@
 -- Every `pre` and `current` of a node, with its operand, and the memories that they read.
 use Rattle.std.specs.Prelude.{◌≡◌, ℕ, ◌+◌, ◌<◌, ◌≤◌, cond, nat_lt, nat_eq, List, [], ◌∷◌, ◌++◌, map, length, slice_index_or, Option, Some}
 use Rattle.std.specs.List.{Contains}
+use Rattle.rv_syntax.specs.Limits.{source_limit}
 use Rattle.rv_syntax.specs.Tree.{Tree, Node, Form, True, False, Number, Named, Not, Minus, Pre, Current, When, Binary, If, AtMostOne, Call, Trees, None, More, EquationTree, AssertionTree, NodeTree}
 use Rattle.rv_syntax.specs.Places.{flows, memory_site}
 use Rattle.rv_syntax.specs.SitedParts.{SitedPart, node_parts}
@@ -70,7 +71,7 @@ memory_sites n = gathered [] (delay_sites n (node_delays n))
 -- `current` has a later site of its own. So has all that has a site beside the flows: their sites are the next numbers,
 -- in the order of the offsets, and no two are the same.
 pub record IsNumbered (n : NodeTree) : Type 0 where
-  pub few : length (flows n) ≤ 1048576
+  pub few : length (flows n) ≤ source_limit
   pub beyond : (d : Delay) → Contains (node_delays n) d → (s : ℕ) × (d.site ≡ Some s) × (length (flows n) ≤ s)
   pub own : (d e : Delay) → Contains (node_delays n) d → Contains (node_delays n) e → d.site ≡ e.site → d ≡ e
   pub next : (p : SitedPart) → Contains (node_parts n) p → (s : ℕ) × (p.site ≡ Some s) × (length (flows n) ≤ s) × (s < length (flows n) + length (node_parts n))

@@ -1,9 +1,10 @@
 -- The tokens of a text.
-use Rattle.std.specs.Prelude.{◌≡◌, ℕ, zero, suc, ◌+◌, ◌-◌, ◌^◌, ◌<◌, min, Bool, true, false, not, ◌&&◌, ◌||◌, cond, ◌==◌, List, [], ◌∷◌, ◌++◌, length, take, slice_index, Option, Some, None, codes}
+use Rattle.std.specs.Prelude.{◌≡◌, ℕ, zero, suc, ◌+◌, ◌-◌, ◌<◌, min, Bool, true, false, not, ◌&&◌, ◌||◌, cond, ◌==◌, List, [], ◌∷◌, ◌++◌, length, take, slice_index, Option, Some, None, codes}
 use Rattle.std.specs.Char.{is_ascii_alphabetic, is_ascii_alphanumeric, is_ascii_digit}
 use Rattle.std.specs.List.{prefix_len}
 use Rattle.std.specs.Str.{bytes_eq, IsAscii}
 use Rattle.std.specs.Str.Parse.{digits_value}
+use Rattle.rv_syntax.specs.Limits.{too_heavy}
 use Rattle.rv_syntax.specs.declared.token.Mark.{Mark}
 use Rattle.rv_syntax.specs.declared.token.Mark.TheVariants as mark
 use Rattle.rv_syntax.specs.declared.token.Kind.{Kind}
@@ -206,7 +207,7 @@ cut text =
 
 -- A number is kept up to 2^40, and a larger one as 2^40 + 1.
 abbrev pub kept : ℕ → ℕ
-kept n = min n (2 ^ 40 + 1)
+kept n = min n too_heavy
 
 abbrev pub point : Bool → Kind
 point true = kind.Fixed mark.Dot

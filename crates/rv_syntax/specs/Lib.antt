@@ -1,5 +1,6 @@
 pub mod Limits
 pub mod Tree
+pub mod Groups
 pub mod Places
 pub mod Delays
 pub mod Sites

@@ -4,7 +4,9 @@ ghost use Rattle.std.specs.Prelude.{◌≡◌, ◌≤◌, ◌<◌, ◌++◌, ℕ
 ghost use Rattle.std.specs.Str.{bytes_eq, IsAscii};
 ghost use Rattle.std.specs.Str.Parse.{digits_value};
 ghost use Rattle.rv_syntax.specs.Lexing as spec;
+ghost use Rattle.rv_syntax.specs.Limits.{source_limit};
 
+use crate::limits::TOO_HEAVY;
 use crate::token::{Kind, Mark, Token};
 use rv_base::{Memory, Text};
 use std::alloc::{AllocError, Global};
@@ -365,9 +367,6 @@ fn cut(text: &[u8]) -> (Shape, usize)
     }
 }
 
-/// A number above the greatest that is told apart.
-const ABOVE: u64 = (1 << 40) + 1;
-
 /// The number that these digits are, or 2^40 + 1 where it is above 2^40.
 fn number(digits: &[u8]) -> u64
     requires { spec.AreDigits digits.now }
@@ -375,7 +374,7 @@ fn number(digits: &[u8]) -> u64
 {
     let mut number = 0;
     for digit in digits {
-        number = (number * 10 + u64::from(*digit - b'0')).min(ABOVE);
+        number = (number * 10 + u64::from(*digit - b'0')).min(TOO_HEAVY);
     }
     number
 }
@@ -433,7 +432,7 @@ fn push_token(tokens: &mut Vec<Token>, kind: Option<Kind>, at: u32) -> Result<()
 
 /// The tokens of a text, first to last.
 pub fn tokens_of(alloc: Global, bytes: &[u8]) -> Result<Vec<Token>, Memory>
-    requires { length bytes.now ≤ 1048576 }
+    requires { length bytes.now ≤ source_limit }
     ensures { IfOk result (λ tokens. tokens.items ≡ spec.tokens bytes.now) }
 {
     let mut tokens = Vec::new(alloc);

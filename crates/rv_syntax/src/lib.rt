@@ -1,7 +1,7 @@
 //! From the bytes of a Lustre source to its syntax tree.
 #![tactic(auto)]
 
-ghost use Rattle.std.specs.Prelude.{true, ◌≡◌, ◌<◌, ◌≤◌, [], ◌∷◌, ◌++◌, ℕ, List, length, slice_index_or, IfOk, IfErr};
+ghost use Rattle.std.specs.Prelude.{true, ◌≡◌, ◌⊎◌, ◌<◌, ◌≤◌, [], ◌∷◌, ◌++◌, ℕ, List, length, slice_index_or, IfOk, IfErr};
 ghost use Rattle.std.specs.List.{All, Contains};
 ghost use Rattle.rv_syntax.specs.Correct.{Finds, Explains, Refuses};
 ghost use Rattle.rv_syntax.specs.Delays.{Delay, node_delays, memory_sites, IsNumbered};
@@ -11,6 +11,7 @@ ghost use Rattle.rv_syntax.specs.Reading as reading;
 ghost use Rattle.rv_syntax.specs.Stopped.{Tells};
 ghost use Rattle.rv_syntax.specs.Bounded.{IsBounded, IsTreeOfText};
 ghost use Rattle.rv_syntax.specs.declared.fault.TextFault.{TextFault as FaultModel};
+ghost use Rattle.rv_syntax.specs.Limits.{source_limit};
 ghost use Rattle.rv_syntax.specs.Longest.{AreTokens, IsLongest};
 ghost use Rattle.rv_syntax.specs.Places.{memory_site};
 ghost use Rattle.rv_syntax.specs.ProgramText.{IsTextOf};
@@ -21,6 +22,7 @@ ghost use Rattle.rv_syntax.specs.declared.token.Mark.TheVariants as mark;
 ghost use Rattle.rv_syntax.specs.declared.token.Token.{Token as TokenModel};
 ghost use Rattle.rv_syntax.specs.declared.tree.Name.{Name as NameAt};
 
+mod decls;
 mod fault;
 mod lexer;
 mod limits;
@@ -29,11 +31,10 @@ mod operator;
 mod parser;
 mod rules;
 mod sites;
-#[cfg(test)]
-mod tests;
 mod token;
 mod tree;
 
+pub use decls::Decls;
 use fault::Stop;
 pub use fault::TextFault;
 use lexer::tokens_of;
@@ -56,7 +57,7 @@ pub use tree::{
 /// the nesting including it is above 200. `Memory` comes where memory runs out.
 /// Time and memory grow with the length of the source alone.
 pub fn parse(alloc: Global, bytes: &[u8]) -> Result<Program, TextFault>
-    requires { length bytes.now ≤ 1048576 }
+    requires { length bytes.now ≤ source_limit }
     // What is answered is the tree of the text.
     ensures found { IfOk result (λ p. IsTextOf bytes.now (program_tree p)) }
     // The tree of the text is answered, unless memory runs out.
@@ -77,10 +78,15 @@ pub fn one_tree()
     ensures { (bytes : List ℕ) (t u : ProgramTree) → IsTextOf bytes t → IsTextOf bytes u → t ≡ u }
 {}
 
-/// A text has a tree or one fault, and never both.
+/// A text has at most one fault, and none where it has a tree.
 pub fn one_fault()
     ensures one { (bytes : List ℕ) (f g : FaultModel) → IsFault bytes f → IsFault bytes g → f ≡ g }
     ensures no_tree { (bytes : List ℕ) (f : FaultModel) (t : ProgramTree) → IsFault bytes f → IsTextOf bytes t → ⊥ }
+{}
+
+/// A text has a tree or a fault: there is no third.
+pub fn tree_or_fault()
+    ensures { (bytes : List ℕ) → ((t : ProgramTree) × IsTextOf bytes t) ⊎ ((f : FaultModel) × IsFault bytes f) }
 {}
 
 /// Each token that is left out, as a word or symbol or in its place, is one at which no program goes on.
@@ -126,7 +132,7 @@ pub fn whole_text()
 /// In the tree of a text within the limit the sites of each node are numbered: its flows come first; each `pre`, `current`,
 /// call, comparison and assertion has a later site of its own, in the order of their offsets.
 pub fn numbered_sites()
-    ensures { (bytes : List ℕ) (t : ProgramTree) (n : NodeTree) → length bytes ≤ 1048576 → IsTextOf bytes t → Contains t.nodes n → IsNumbered n }
+    ensures { (bytes : List ℕ) (t : ProgramTree) (n : NodeTree) → length bytes ≤ source_limit → IsTextOf bytes t → Contains t.nodes n → IsNumbered n }
 {}
 
 /// The memories of a node stand at the sites that its `pre` and `current` read, each once and in rising order.

@@ -3,17 +3,18 @@
 ghost use Rattle.std.specs.Prelude.{⊤, ◌≡◌, ◌++◌, [], ◌∷◌, List, Option, None, IfOk, OnOk, map};
 ghost use Rattle.rv_syntax.specs.Parse.{maybe, starts};
 ghost use Rattle.rv_syntax.specs.Marks.{is_mark};
-ghost use Rattle.rv_syntax.specs.ProgramText.{all_flows, flow, flows_of, joined};
+ghost use Rattle.rv_syntax.specs.ProgramText.{all_flows, flows_of, joined};
 ghost use Rattle.rv_syntax.specs.declared.tree.Decl.{Decl as DeclModel};
 ghost use Rattle.rv_syntax.specs.Reading as spec;
 ghost use Rattle.rv_syntax.specs.Reads.{Reads, same};
 ghost use Rattle.rv_syntax.specs.Tree.{assertion_tree, constant_tree, equation_tree, node_tree, program_tree, tree_of};
 
+use crate::decls::Decls;
 use crate::fault::Stop;
 use crate::parser::Parser;
 use crate::token::Mark;
 use crate::tree::{
-    Assertion, ConstDecl, Decl, Equation, Expr, Name, Node, Program, TypeBody, TypeDecl, TypeName,
+    Assertion, ConstDecl, Equation, Expr, Name, Node, Program, TypeBody, TypeDecl, TypeName,
 };
 use rv_base::Many;
 use std::alloc::{AllocError, Global};
@@ -236,61 +237,13 @@ fn read_constants(
     read_next_constants(alloc, parser, found)
 }
 
-/// A name in memory of its own.
-fn copied_name(name: &Name) -> Result<Name, AllocError>
-    ensures { IfOk result (λ copy. copy ≡ name.now) }
-{
-    Ok(Name {
-        text: name.text.clone()?,
-        at: name.at,
-    })
-}
-
-/// A type in memory of its own.
-fn copied_kind(kind: &TypeName) -> Result<TypeName, AllocError>
-    ensures { IfOk result (λ copy. copy ≡ kind.now) }
-{
-    match kind {
-        TypeName::Bool => Ok(TypeName::Bool),
-        TypeName::Int => Ok(TypeName::Int),
-        TypeName::Named(name) => Ok(TypeName::Named(copied_name(name)?)),
-    }
-}
-
-/// A clock in memory of its own, where there is one.
-fn copied_clock(clock: &Option<Name>) -> Result<Option<Name>, AllocError>
-    ensures { IfOk result (λ copy. copy ≡ clock.now) }
-{
-    match clock {
-        Some(name) => Ok(Some(copied_name(name)?)),
-        None => Ok(None),
-    }
-}
-
-/// The declaration of a flow of this type, on this clock where it has one.
-fn flow_of(kind: &TypeName, clock: &Option<Name>, name: Name) -> Result<Decl, AllocError>
-    ensures { IfOk result (λ decl. decl ≡ flow kind.now clock.now name) }
-{
-    Ok(Decl {
-        name,
-        kind: copied_kind(kind)?,
-        clock: copied_clock(clock)?,
-    })
-}
-
 /// The flows of a group on this clock where it has one, behind those that were found before.
-fn with_flows(
-    found: Many<Decl>,
-    group: Group,
-    clock: Option<Name>,
-) -> Result<Many<Decl>, AllocError>
+fn with_flows(found: Decls, group: Group, clock: Option<Name>) -> Result<Decls, AllocError>
     ensures { IfOk result (λ flows. flows ≡ found ++ flows_of (spec.group_of group) clock) }
 {
     let Group { names, kind } = group;
     let mut found = found;
-    'each: for name in names.into_vec() {
-        found.push(flow_of(&kind, &clock, name)?)?;
-    }
+    found.push_group(names, &kind, &clock)?;
     Ok(found)
 }
 
@@ -319,11 +272,7 @@ fn read_next_group(alloc: Global, parser: &mut Parser<'_>) -> Result<Option<Grou
 }
 
 /// The flows of groups behind semicolons, after those that were found before. A semicolon may end them.
-fn read_next_groups(
-    alloc: Global,
-    parser: &mut Parser<'_>,
-    found: Many<Decl>,
-) -> Result<Many<Decl>, Stop>
+fn read_next_groups(alloc: Global, parser: &mut Parser<'_>, found: Decls) -> Result<Decls, Stop>
     ensures { Reads (same {A = List DeclModel}) (spec.mapped (λ more. found ++ all_flows more) (spec.next_groups parser.old.rest)) result parser.new.rest }
 {
     let mut found = found;
@@ -338,11 +287,11 @@ fn read_next_groups(
 
 /// The flows of groups with semicolons between them.
 #[tactic(auto, unfolding(crate::specs::Reading::decls))]
-fn read_decls(alloc: Global, parser: &mut Parser<'_>) -> Result<Many<Decl>, Stop>
+fn read_decls(alloc: Global, parser: &mut Parser<'_>) -> Result<Decls, Stop>
     ensures { Reads (same {A = List DeclModel}) (spec.decls parser.old.rest) result parser.new.rest }
 {
     let group = read_group(alloc, parser)?;
-    let found = with_flows(Many::new(alloc), group, None)?;
+    let found = with_flows(Decls::new(alloc), group, None)?;
     read_next_groups(alloc, parser, found)
 }
 
@@ -411,11 +360,7 @@ fn sees_local(parser: &Parser<'_>) -> bool
 }
 
 /// Local flows, as long as a token begins some, after those that were found before.
-fn read_next_locals(
-    alloc: Global,
-    parser: &mut Parser<'_>,
-    found: Many<Decl>,
-) -> Result<Many<Decl>, Stop>
+fn read_next_locals(alloc: Global, parser: &mut Parser<'_>, found: Decls) -> Result<Decls, Stop>
     ensures { Reads (same {A = List DeclModel}) (spec.mapped (λ more. found ++ joined more) (spec.next_locals parser.old.rest)) result parser.new.rest }
 {
     let mut found = found;
@@ -428,7 +373,7 @@ fn read_next_locals(
 
 /// `var` and local flows, after those that were found before.
 #[tactic(auto, unfolding(crate::specs::Reading::var))]
-fn read_var(alloc: Global, parser: &mut Parser<'_>, found: Many<Decl>) -> Result<Many<Decl>, Stop>
+fn read_var(alloc: Global, parser: &mut Parser<'_>, found: Decls) -> Result<Decls, Stop>
     ensures { Reads (same {A = List DeclModel}) (spec.with_front found (spec.var parser.old.rest)) result parser.new.rest }
 {
     parser.expect(Mark::Var)?;
@@ -438,10 +383,10 @@ fn read_var(alloc: Global, parser: &mut Parser<'_>, found: Many<Decl>) -> Result
 }
 
 /// The local flows of a node, as long as there is a `var`.
-fn read_vars(alloc: Global, parser: &mut Parser<'_>) -> Result<Many<Decl>, Stop>
+fn read_vars(alloc: Global, parser: &mut Parser<'_>) -> Result<Decls, Stop>
     ensures { Reads (same {A = List DeclModel}) (spec.mapped joined (spec.vars parser.old.rest)) result parser.new.rest }
 {
-    let mut found = Many::new(alloc);
+    let mut found = Decls::new(alloc);
     'more: while parser.sees(Mark::Var) {
         found = read_var(alloc, parser, found)?;
     }
@@ -540,7 +485,7 @@ fn read_title(alloc: Global, parser: &mut Parser<'_>) -> Result<Name, Stop>
 
 /// The inputs in their brackets.
 #[tactic(auto, unfolding(crate::specs::Reading::inputs))]
-fn read_inputs(alloc: Global, parser: &mut Parser<'_>) -> Result<Many<Decl>, Stop>
+fn read_inputs(alloc: Global, parser: &mut Parser<'_>) -> Result<Decls, Stop>
     ensures { Reads (same {A = List DeclModel}) (spec.inputs parser.old.rest) result parser.new.rest }
 {
     parser.expect(Mark::Open)?;
@@ -563,7 +508,7 @@ fn take_semi(parser: &mut Parser<'_>) -> Result<bool, Stop>
 
 /// `returns`, the outputs in their brackets, and a semicolon where there is one.
 #[tactic(auto, unfolding(crate::specs::Reading::outputs))]
-fn read_outputs(alloc: Global, parser: &mut Parser<'_>) -> Result<Many<Decl>, Stop>
+fn read_outputs(alloc: Global, parser: &mut Parser<'_>) -> Result<Decls, Stop>
     ensures { Reads (same {A = List DeclModel}) (spec.outputs parser.old.rest) result parser.new.rest }
 {
     parser.expect(Mark::Returns)?;

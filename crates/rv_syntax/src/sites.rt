@@ -4,6 +4,7 @@
 ghost use Rattle.std.specs.Prelude.{◌≡◌, ◌+◌, ◌≤◌, ◌++◌, ℕ, length, map, IsTrue, IfOk, OnOk, Some, None};
 ghost use Rattle.std.specs.List.{All};
 ghost use Rattle.std.specs.List.Sorted.{IsNonDecreasing};
+ghost use Rattle.rv_syntax.specs.Limits.{source_limit};
 ghost use Rattle.rv_syntax.specs.ProgramText.{program_with_sites};
 ghost use Rattle.rv_syntax.specs.Sites as spec;
 ghost use Rattle.rv_syntax.specs.Tree.{assertion_tree, equation_tree, node_tree, program_tree, tree_of, trees};
@@ -29,7 +30,7 @@ struct Sites {
     first: u32,
     offsets: Vec<u32>,
     ghost rising: { IsNonDecreasing offsets.items },
-    ghost few: { first + length offsets.items ≤ 1048576 },
+    ghost few: { first + length offsets.items ≤ source_limit },
 }
 
 impl Sites {
@@ -129,7 +130,7 @@ fn collect_assertions(assertions: &[Assertion], offsets: &mut Vec<u32>) -> Resul
 
 /// The sites of a node.
 fn sites_of(alloc: Global, node: &Node) -> Result<Sites, AllocError>
-    requires { spec.site_count (node_tree node.now) ≤ 1048576 }
+    requires { spec.site_count (node_tree node.now) ≤ source_limit }
     ensures { IfOk result (λ s. spec.numbered_from s.first s.offsets.items ≡ spec.site_at (node_tree node.now)) }
 {
     let flows = node.inputs.len() + node.outputs.len() + node.locals.len();
@@ -338,7 +339,7 @@ fn sited_assertions(
 
 /// The node with the sites of its expressions and assertions.
 fn with_sites(alloc: Global, node: Node) -> Result<Node, AllocError>
-    requires { spec.site_count (node_tree node) ≤ 1048576 }
+    requires { spec.site_count (node_tree node) ≤ source_limit }
     ensures { IfOk result (λ n. node_tree n ≡ spec.with_sites (node_tree node)) }
 {
     let sites = sites_of(alloc, &node)?;
@@ -365,7 +366,7 @@ fn with_sites(alloc: Global, node: Node) -> Result<Node, AllocError>
 /// The program with the sites of its nodes, each of which has at most 1,048,576.
 /// Time is that of sorting the offsets of each node, and of finding each by bisection.
 pub fn with_program_sites(alloc: Global, program: Program) -> Result<Program, AllocError>
-    requires { All (λ n. spec.site_count n ≤ 1048576) (program_tree program).nodes }
+    requires { All (λ n. spec.site_count n ≤ source_limit) (program_tree program).nodes }
     ensures { IfOk result (λ p. program_tree p ≡ program_with_sites (program_tree program)) }
 {
     let Program {

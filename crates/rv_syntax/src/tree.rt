@@ -1,5 +1,6 @@
 //! The syntax tree of a Lustre program. Brackets, white space and comments leave nothing in it.
 
+use crate::decls::Decls;
 use rv_base::{Box, Many, Text};
 
 /// A name as it stands in the source, with the offset of its first byte.
@@ -51,9 +52,9 @@ pub struct ConstDecl {
 #[derive(Debug, Drop)]
 pub struct Node {
     pub name: Name,
-    pub inputs: Many<Decl>,
-    pub outputs: Many<Decl>,
-    pub locals: Many<Decl>,
+    pub inputs: Decls,
+    pub outputs: Decls,
+    pub locals: Decls,
     pub equations: Many<Equation>,
     pub assertions: Many<Assertion>,
 }

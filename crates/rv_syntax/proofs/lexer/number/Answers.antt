@@ -1,10 +1,11 @@
-use Rattle.std.proofs.Common.{◌≡◌, ℕ, ◌+◌, ◌-◌, ◌*◌, ◌^◌, ◌<◌, List, get_or, length, take, arith}
+use Rattle.std.proofs.Common.{◌≡◌, ℕ, ◌+◌, ◌-◌, ◌*◌, ◌<◌, List, get_or, length, take, arith}
 use Rattle.std.specs.Prelude.{min, true, nat_le}
 use Rattle.std.specs.Char.{digit_value, is_ascii_digit}
 use Rattle.std.specs.Str.Parse.{digits_value}
 use Rattle.std.proofs.lemmas.Bool.{and_parts, leb-true}
 use Rattle.std.proofs.lemmas.Int.Digits.{digits_value_more}
 use Rattle.std.proofs.lemmas.Str.{digit_value_digit}
+use Rattle.rv_syntax.specs.Limits.{too_heavy}
 use Rattle.rv_syntax.specs.Lexing.{AreDigits, kept}
 use Rattle.rv_syntax.proofs.lexer.number.Goals as goal
 
@@ -17,9 +18,9 @@ digit-is x h =
     digit_value_digit x (leb-true 48 x both.0, leb-true x 57 both.1)
 
 more-digits : (w : List ℕ) (i n : ℕ) → i < length w → AreDigits w → n ≡ kept (digits_value 10 (take i w))
-    → min (n * 10 + (get_or w i 0 - 48)) (2 ^ 40 + 1) ≡ kept (digits_value 10 (take (i + 1) w))
+    → min (n * 10 + (get_or w i 0 - 48)) too_heavy ≡ kept (digits_value 10 (take (i + 1) w))
 more-digits w i n h d e =
-    held n (digits_value 10 (take i w)) (digit_value (get_or w i 0)) (2 ^ 40 + 1) (get_or w i 0) (digits_value 10 (take (i + 1) w))
+    held n (digits_value 10 (take i w)) (digit_value (get_or w i 0)) too_heavy (get_or w i 0) (digits_value 10 (take (i + 1) w))
     e (digits_value_more 10 w i h) (digit-is (get_or w i 0) (d i h))
 
 pub loop-digit-preserved : goal.loop-digit-preserved

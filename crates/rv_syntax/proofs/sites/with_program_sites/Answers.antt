@@ -2,13 +2,14 @@ use Rattle.std.proofs.Common.{◌≤◌, map, subst, arith}
 use Rattle.std.specs.List.{All}
 use Rattle.std.proofs.lemmas.List.Elements.{All-tail}
 use Rattle.std.specs.Vec.Iter.{into_iter_items}
+use Rattle.rv_syntax.specs.Limits.{source_limit}
 use Rattle.rv_syntax.specs.Tree.{NodeTree, node_tree}
 use Rattle.rv_syntax.specs.Sites.{with_sites, site_count}
 use Rattle.rv_syntax.proofs.Joined.{turned-more}
 use Rattle.rv_syntax.proofs.sites.with_program_sites.Goals as goal
 
 abbrev Fits : NodeTree → Type 0
-Fits n = site_count n ≤ 1048576
+Fits n = site_count n ≤ source_limit
 
 pub with_sites-requires : goal.with_sites-requires
 with_sites-requires c =

@@ -1,6 +1,7 @@
 use Rattle.std.proofs.Common.{◌≡◌, ◌≤◌, ◌++◌, map}
 use Rattle.std.specs.List.{All}
 use Rattle.std.specs.Vec.Iter.{into_iter_items}
+use Rattle.rv_syntax.specs.Limits.{source_limit}
 use Rattle.rv_syntax.specs.Tree.{node_tree}
 use Rattle.rv_syntax.specs.Sites.{with_sites, site_count}
 use Rattle.rv_syntax.proofs.sites.with_program_sites.Given as goal
@@ -8,5 +9,5 @@ use Rattle.rv_syntax.proofs.sites.with_program_sites.Given as goal
 abbrev pub invariant-each : goal.invariant-each
 invariant-each l = record {
   tree : map node_tree l.made ++ map with_sites (map node_tree (into_iter_items l.node-iterator)) ≡ map with_sites (map node_tree l.fn.program.nodes);
-  fits : All (λ n. site_count n ≤ 1048576) (map node_tree (into_iter_items l.node-iterator));
+  fits : All (λ n. site_count n ≤ source_limit) (map node_tree (into_iter_items l.node-iterator));
 }

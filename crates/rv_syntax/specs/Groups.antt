@@ -1,0 +1,24 @@
+-- Groups of flows: names that share one written type and one clock.
+use Rattle.std.specs.Prelude.{◌≡◌, ℕ, ◌<◌, ◌≤◌, List, length, get_or, Option, slice_get, option_map}
+use Rattle.rv_syntax.specs.declared.tree.Decl.{Decl}
+use Rattle.rv_syntax.specs.declared.tree.Name.{Name}
+use Rattle.rv_syntax.specs.declared.tree.TypeName.{TypeName}
+
+-- the type of the flow with this number, where there is one
+abbrev pub kind_at : List Decl → ℕ → Option TypeName
+kind_at decls i = option_map (λ d. d.kind) (slice_get decls i)
+
+-- its clock, where it has one
+abbrev pub clock_at : List Decl → ℕ → Option (Option Name)
+clock_at decls i = option_map (λ d. d.clock) (slice_get decls i)
+
+-- The flow numbered `first` stands at or before the one numbered `i`, with the same type and clock.
+pub record AreAlike (decls : List Decl) (first i : ℕ) : Type 0 where
+  pub within : first ≤ i
+  pub kind : kind_at decls first ≡ kind_at decls i
+  pub clock : clock_at decls first ≡ clock_at decls i
+
+-- Each flow has the number of the first of its group.
+pub record AreGroups (firsts : List ℕ) (decls : List Decl) : Type 0 where
+  pub long : length firsts ≡ length decls
+  pub alike : (i : ℕ) → i < length decls → AreAlike decls (get_or firsts i 0) i
