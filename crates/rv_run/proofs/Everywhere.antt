@@ -30,10 +30,10 @@ use Rattle.rv_run.specs.Judged.{IsSmallSystem}
 use Rattle.rv_run.specs.Spelled.{HoldsAt, FailsAt, IsAlwaysTrue, IsSometimesFalse}
 use Rattle.rv_run.proofs.Known.{main_in}
 use Rattle.rv_run.proofs.Coding.{bits_of, spelled_back}
-use Rattle.rv_run.proofs.FlatStates.{flat_state_typed, given_values, brought, brought_inputs, brought_starts, brought_given, state_back, inputs_back}
 use Rattle.rv_run.proofs.NoIntegers.{Suits, is_of_some, within_found, flow_suits}
 use Rattle.rv_run.proofs.Sites.{name_at_site, name_within, site_is, output_within, output_clock}
 use Rattle.rv_run.proofs.Small.{small_control, input_control}
+use Rattle.rv_run.proofs.Ranged.{AreBrought, memories_ranged, inputs_ranged}
 
 -- The valuation of a state and inputs: the bits of what the memories hold and of what is given.
 valuation : Brought → (ℕ → Value) → Valuation
@@ -72,7 +72,10 @@ not_true_and_false o (Whole z) (inr holds) is h = cc
 
 module _ (p : ProgramTree) (main : Identifier) (f : Flat) (flat : IsFlatOf p main f) (well : AreWell p) (is_node : IsNode p main) (small : IsSmallSystem f)
     (one : (state : Brought) (inputs : ℕ → Value) → (row : Instant) × IsInstant p main state inputs row × ((other : Instant) → IsInstant p main state inputs other → other ≡ row))
-    (observer : 0 < length (node_of p main).outputs) where
+    (brought : AreBrought p main f) (observer : 0 < length (node_of p main).outputs) where
+  control : IsControl p main
+  control = small_control p main f flat well is_node small
+
   -- what the observer has in a row
   observer_kind : slice_get (map (λ (g : FlatFlow). g.kind) f.flows) f.observer ≡ Some kind.Bool
   observer_kind = is_of_some kind.Bool (slice_get (map (λ (g : FlatFlow). g.kind) f.flows) f.observer) f.observed
@@ -102,7 +105,7 @@ module _ (p : ProgramTree) (main : Identifier) (f : Flat) (flat : IsFlatOf p mai
       let allows : AllowsAt p main state row = allowed.1.4 in
       let starts : AreStarts p main state.kept = λ i d inst w. subst (HasKind p (operand_kind p i.node d.operand)) (sym (spells.memories i d inst w)) (coded.memories i d inst w) in
       let given : AreGiven p main inputs = λ j k e. subst (HasKind p k) (sym (spells.given j k e)) (coded.given j k e) in
-      let h = all (flat_state f state) (flat_inputs f inputs) (flat_state_typed p main f flat well is_node small state starts) (given_values p main f flat well is_node small inputs given) in
+      let h = all (flat_state f state) (flat_inputs f inputs) (brought.back state starts (memories_ranged p main f flat well is_node control state.kept starts)) (brought.given inputs given (inputs_ranged p main f flat well is_node control inputs given)) in
       let same = one_row state inputs row h.0 instant h.1 in
       elim h.2 [
         | inl broken ↦
@@ -145,19 +148,16 @@ module _ (p : ProgramTree) (main : Identifier) (f : Flat) (flat : IsFlatOf p mai
       fails = sometimes.4
 
       state : Brought
-      state = brought p main f flat well is_node small now given is_state are_given
+      state = (brought.states now is_state).0
 
       inputs : ℕ → Value
-      inputs = brought_inputs p main f flat well is_node small now given is_state are_given
+      inputs = (brought.inputs given are_given).0
 
       starts : AreStarts p main state.kept
-      starts = brought_starts p main f flat well is_node small now given is_state are_given
+      starts = (brought.states now is_state).2
 
       typed : AreGiven p main inputs
-      typed = brought_given p main f flat well is_node small now given is_state are_given
-
-      control : IsControl p main
-      control = small_control p main f flat well is_node small
+      typed = (brought.inputs given are_given).2
 
       spells : Spells p main (valuation state inputs) state inputs
       spells = record {
@@ -173,10 +173,10 @@ module _ (p : ProgramTree) (main : Identifier) (f : Flat) (flat : IsFlatOf p mai
       }
 
       same_state : flat_state f state ≡ now
-      same_state = state_back p main f flat well is_node small now given is_state are_given
+      same_state = (brought.states now is_state).1
 
       same_inputs : flat_inputs f inputs ≡ given
-      same_inputs = inputs_back p main f flat well is_node small now given is_state are_given
+      same_inputs = (brought.inputs given are_given).1
 
       flat_instant : IsFlatInstant f (flat_state f state) (flat_inputs f inputs) fails.0
       flat_instant = subst (λ (s : State). IsFlatInstant f s (flat_inputs f inputs) fails.0) (sym same_state) (subst (λ (vs : List Value). IsFlatInstant f now vs fails.0) (sym same_inputs) fails.1)

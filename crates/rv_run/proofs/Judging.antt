@@ -23,6 +23,7 @@ use Rattle.rv_run.specs.Programs.{WithRuns, IsJudged, IsUndecided}
 use Rattle.rv_run.specs.Judged.{IsSmallSystem}
 use Rattle.rv_run.specs.Spelled.{IsShapeOf, bits_of_shape, IsAlwaysTrue, IsSometimesFalse}
 use Rattle.rv_run.proofs.Everywhere.{everywhere, somewhere}
+use Rattle.rv_run.proofs.Ranged.{AreBrought}
 use Rattle.rv_run.proofs.MainNode.{main_named, main_is_node, main_output}
 use Rattle.rv_run.proofs.Small.{small_system, system_small, shape_bits}
 
@@ -70,7 +71,8 @@ module _ (p : ProgramTree) (t : Typed) (o : Order) (fits : Fits p t o)
 
   module _ (f : Flat) (flat : IsFlatOf p main f) (small : IsSmallSystem f)
       (one : (state : Brought) (inputs : ℕ → Value) → AreWell p → IsNode p main → IsSequence p main (sites_of o.sequence)
-      → (row : Instant) × IsInstant p main state inputs row × ((other : Instant) → IsInstant p main state inputs other → other ≡ row)) where
+      → (row : Instant) × IsInstant p main state inputs row × ((other : Instant) → IsInstant p main state inputs other → other ≡ row))
+      (bring : AreWell p → IsNode p main → AreBrought p main f) where
     one_instant : (state : Brought) (inputs : ℕ → Value) → (row : Instant) × IsInstant p main state inputs row × ((other : Instant) → IsInstant p main state inputs other → other ≡ row)
     one_instant state inputs = one state inputs well is_node fits.ordered.sequence
 
@@ -81,8 +83,8 @@ module _ (p : ProgramTree) (t : Typed) (o : Order) (fits : Fits p t o)
     output = main_output p main t settled
 
     pub decided : (b : Bool) → MatchBool b (IsAlwaysTrue f) (IsSometimesFalse f) → MatchBool b (IsJudged HoldsEverywhere p main) (IsUndecided p main)
-    decided true all = (is_small, everywhere p main f flat well is_node small one_instant output all)
-    decided false some = inr (is_small, somewhere p main f flat well is_node small one_instant output some)
+    decided true all = (is_small, everywhere p main f flat well is_node small one_instant (bring well is_node) output all)
+    decided false some = inr (is_small, somewhere p main f flat well is_node small one_instant (bring well is_node) output some)
 
 -- What a call comes to, where want of memory is no answer.
 pub carried : {E : Type 0} (P Q R S : Type 0) (r : Result Bool E) → ((b : Bool) → MatchBool b P Q → MatchBool b R S) → IfOk r (λ b. MatchBool b P Q) → IfOk r (λ b. MatchBool b R S)

@@ -11,7 +11,7 @@ mod Weighing
 mod Sites
 mod Small
 mod Coding
-mod FlatStates
+mod Ranged
 mod Everywhere
 mod MainNode
 mod Judging

@@ -13,7 +13,7 @@ ghost use Rattle.rv_run.specs.Judged.{is_test, is_control, control_bits_of, IsSm
 use crate::search::{is_always_true, shape_of};
 use rv_base::Memory;
 use rv_causality::Source;
-use rv_flat::{Bit, Flat, flatten};
+use rv_flat::{Bit, Flat, flat_states, flatten};
 use rv_meaning::one_instant;
 use rv_types::{Kind, well_formed_programs};
 use std::alloc::Global;
@@ -30,6 +30,7 @@ pub fn is_judged_safe(alloc: Global, source: &Source) -> Result<bool, Memory>
         (IsUndecided (program_tree source.now.program) (name_at (program_tree source.now.program) source.now.typed.main))) }
 {
     one_instant();
+    flat_states();
     well_formed_programs();
     let flat = flatten(alloc, source)?;
     if is_small(&flat) {

@@ -29,5 +29,15 @@ returns-then-is_small c =
     carried _ _ _ _ c.is_always_true.result
     (decided p s.typed s.order c.requires (λ main text settled. c.well_formed_programs.ensures p main s.typed text settled) c.in_ok-flat.flat c.in_ok-flat.ensures.flat
     (c.is_small.ensures.0 c.if-is_small.true)
-    (λ state inputs well is_node ordered. c.one_instant.ensures p (name_at p s.typed.main) (sites_of s.order.sequence) state inputs well is_node ordered))
+    (λ state inputs well is_node ordered. c.one_instant.ensures p (name_at p s.typed.main) (sites_of s.order.sequence) state inputs well is_node ordered)
+    (λ well is_node.
+    let flat = c.in_ok-flat.ensures.flat in
+    let f = c.in_ok-flat.flat in
+    let main = name_at p s.typed.main in
+    record {
+      states = λ now is. c.flat_states.ensures.states p main f now well is_node flat is;
+      inputs = λ given are. c.flat_states.ensures.inputs p main f given well is_node flat are;
+      back = λ state starts ranged. c.flat_states.ensures.back p main f state well is_node flat starts ranged;
+      given = λ inputs given ranged. c.flat_states.ensures.given p main f inputs well is_node flat given ranged;
+    }))
     c.is_always_true.ensures
