@@ -27,12 +27,12 @@ use Rattle.rv_flat.proofs.TypedParts.{both_hold}
 
 module _ (s : Scope) where
   -- the comparison that an expression itself is
-  abbrev own_of : Tree → List Tested
+  abbrev pub own_of : Tree → List Tested
   own_of (Node at site (Binary o a b)) = own_tests s site o a
   own_of _ = []
 
   mutual
-    tests_are : (e : Tree) → tests s e ≡ flat_map own_of (parts e)
+    pub tests_are : (e : Tree) → tests s e ≡ flat_map own_of (parts e)
     tests_are (Node at site True) = refl
     tests_are (Node at site False) = refl
     tests_are (Node at site (Number n)) = refl
@@ -51,16 +51,16 @@ module _ (s : Scope) where
     tests_are (Node at site (AtMostOne es)) = all_are es
     tests_are (Node at site (Call f es)) = all_are es
 
-    all_are : (es : Trees) → tests_of_all s es ≡ flat_map own_of (parts_of_all es)
+    pub all_are : (es : Trees) → tests_of_all s es ≡ flat_map own_of (parts_of_all es)
     all_are None = refl
     all_are (More e es) = (λ i. tests_are e i ++ all_are es i) ∙ sym (flat_map-append own_of (parts e) (parts_of_all es))
 
-  equations_are : (qs : List EquationTree) → tests_in_equations s qs ≡ flat_map own_of (flat_map (λ (q : EquationTree). parts q.right) qs)
+  pub equations_are : (qs : List EquationTree) → tests_in_equations s qs ≡ flat_map own_of (flat_map (λ (q : EquationTree). parts q.right) qs)
   equations_are [] = refl
   equations_are (q ∷ qs) =
       (λ i. tests_are q.right i ++ equations_are qs i) ∙ sym (flat_map-append own_of (parts q.right) (flat_map (λ (q : EquationTree). parts q.right) qs))
 
-  assertions_are : (rest : List AssertionTree) → tests_in_assertions s rest ≡ flat_map own_of (flat_map (λ (a : AssertionTree). parts a.body) rest)
+  pub assertions_are : (rest : List AssertionTree) → tests_in_assertions s rest ≡ flat_map own_of (flat_map (λ (a : AssertionTree). parts a.body) rest)
   assertions_are [] = refl
   assertions_are (a ∷ rest) =
       (λ i. tests_are a.body i ++ assertions_are rest i) ∙ sym (flat_map-append own_of (parts a.body) (flat_map (λ (a : AssertionTree). parts a.body) rest))
@@ -80,7 +80,7 @@ module _ (s : Scope) where
     pub compares : is_comparison t.operator ≡ true
     pub integer : is_integer (unwrap_or (kind_of s left) kind.Bool) ≡ true
 
-  own_is : (e : Tree) (t : Tested) → Contains (own_of e) t → IsTest e t
+  pub own_is : (e : Tree) (t : Tested) → Contains (own_of e) t → IsTest e t
   own_is (Node at site True) t w = none_in t w
   own_is (Node at site False) t w = none_in t w
   own_is (Node at site (Number n)) t w = none_in t w
@@ -106,7 +106,7 @@ module _ (s : Scope) where
   own_is (Node at site (Call f es)) t w = none_in t w
 
 module _ (p : ProgramTree) (n : NodeTree) where
-  node_is : tests_in p n ≡ flat_map (own_of (node_scope p n)) (node_parts n)
+  pub node_is : tests_in p n ≡ flat_map (own_of (node_scope p n)) (node_parts n)
   node_is =
       (λ i. equations_are (node_scope p n) n.equations i ++ assertions_are (node_scope p n) n.assertions i)
       ∙ sym (flat_map-append (own_of (node_scope p n)) (flat_map (λ (q : EquationTree). parts q.right) n.equations) (flat_map (λ (a : AssertionTree). parts a.body) n.assertions))
@@ -125,18 +125,18 @@ module _ (p : ProgramTree) (n : NodeTree) where
 
 -- What has a site, with its operator.
 
-record Marked : Type 0 where
-  at_site : SitedPart
-  operator : Op
+pub record Marked : Type 0 where
+  pub at_site : SitedPart
+  pub operator : Op
 
-abbrev marked_comparison : Op → ℕ → Option ℕ → List Marked
+abbrev pub marked_comparison : Op → ℕ → Option ℕ → List Marked
 marked_comparison o at site = cond (is_comparison o) (record { at_site = part at site; operator = o } ∷ []) []
 
 abbrev mutual
-  marks : Tree → List Marked
+  pub marks : Tree → List Marked
   marks (Node at site form) = form_marks at site form
 
-  form_marks : ℕ → Option ℕ → Form → List Marked
+  pub form_marks : ℕ → Option ℕ → Form → List Marked
   form_marks at site True = []
   form_marks at site False = []
   form_marks at site (Number n) = []
@@ -151,22 +151,22 @@ abbrev mutual
   form_marks at site (AtMostOne ts) = marks_of_all ts
   form_marks at site (Call f ts) = record { at_site = part at site; operator = op.Arrow } ∷ marks_of_all ts
 
-  marks_of_all : Trees → List Marked
+  pub marks_of_all : Trees → List Marked
   marks_of_all None = []
   marks_of_all (More t ts) = marks t ++ marks_of_all ts
 
-abbrev equation_marks : List EquationTree → List Marked
+abbrev pub equation_marks : List EquationTree → List Marked
 equation_marks [] = []
 equation_marks (q ∷ qs) = marks q.right ++ equation_marks qs
 
-abbrev assertion_marks : List AssertionTree → List Marked
+abbrev pub assertion_marks : List AssertionTree → List Marked
 assertion_marks [] = []
 assertion_marks (a ∷ rest) = record { at_site = part a.at (Some a.site); operator = op.Arrow } ∷ (marks a.body ++ assertion_marks rest)
 
-abbrev node_marks : NodeTree → List Marked
+abbrev pub node_marks : NodeTree → List Marked
 node_marks n = equation_marks n.equations ++ assertion_marks n.assertions
 
-abbrev parts_seen : List Marked → List SitedPart
+abbrev pub parts_seen : List Marked → List SitedPart
 parts_seen ms = map (λ (m : Marked). m.at_site) ms
 
 seen_both : (xs ys : List Marked) → parts_seen (xs ++ ys) ≡ parts_seen xs ++ parts_seen ys
@@ -214,15 +214,15 @@ assertions_seen [] = refl
 assertions_seen (a ∷ rest) =
     ap (λ l. part a.at (Some a.site) ∷ l) (seen_both (marks a.body) (assertion_marks rest) ∙ (λ i. marks_seen a.body i ++ assertions_seen rest i))
 
-node_seen : (n : NodeTree) → parts_seen (node_marks n) ≡ sited.node_parts n
+pub node_seen : (n : NodeTree) → parts_seen (node_marks n) ≡ sited.node_parts n
 node_seen n = seen_both (equation_marks n.equations) (assertion_marks n.assertions) ∙ (λ i. equations_seen n.equations i ++ assertions_seen n.assertions i)
 
 -- Each comparison is marked.
 module _ (at : ℕ) (site : Option ℕ) (o : Op) (a b : Tree) (compares : is_comparison o ≡ true) where
-  abbrev it : Tree
+  abbrev pub it : Tree
   it = Node at site (Binary o a b)
 
-  abbrev its : Marked
+  abbrev pub its : Marked
   its = record { at_site = part at site; operator = o }
 
   -- the expression itself
@@ -233,7 +233,7 @@ module _ (at : ℕ) (site : Option ℕ) (o : Op) (a b : Tree) (compares : is_com
       (Contains-append_left (marked_comparison o at site) (marks b) its (subst (λ (t : Bool). Contains (cond t (its ∷ []) []) its) (sym compares) (at_head its []))))
 
   mutual
-    marked : (e : Tree) → Contains (parts e) it → Contains (marks e) its
+    pub marked : (e : Tree) → Contains (parts e) it → Contains (marks e) its
     marked (Node k s form) w = elim (head_or_tail (Node k s form) (form_parts form) it w) [
       | inl is ↦ itself (Node k s form) is
       | inr below ↦ form_marked k s form below
@@ -263,7 +263,7 @@ module _ (at : ℕ) (site : Option ℕ) (o : Op) (a b : Tree) (compares : is_com
     form_marked k s (AtMostOne ts) w = all_marked ts w
     form_marked k s (Call f ts) w = in_tail (record { at_site = part k s; operator = op.Arrow }) (marks_of_all ts) its (all_marked ts w)
 
-    all_marked : (ts : Trees) → Contains (parts_of_all ts) it → Contains (marks_of_all ts) its
+    pub all_marked : (ts : Trees) → Contains (parts_of_all ts) it → Contains (marks_of_all ts) its
     all_marked None w = none_in it w
     all_marked (More t ts) w = elim (Contains-append_cases (parts t) (parts_of_all ts) it w) [
       | inl here ↦ Contains-append_left (marks t) (marks_of_all ts) its (marked t here)
@@ -286,7 +286,7 @@ module _ (at : ℕ) (site : Option ℕ) (o : Op) (a b : Tree) (compares : is_com
         | inr rest ↦ Contains-append_right (marks x.body) (assertion_marks xs) its (assertions_marked xs rest)
       ])
 
-  node_marked : (n : NodeTree) → Contains (node_parts n) it → Contains (node_marks n) its
+  pub node_marked : (n : NodeTree) → Contains (node_parts n) it → Contains (node_marks n) its
   node_marked n w = elim (Contains-append_cases (flat_map (λ (q : EquationTree). parts q.right) n.equations) (flat_map (λ (x : AssertionTree). parts x.body) n.assertions) it w) [
     | inl here ↦ Contains-append_left (equation_marks n.equations) (assertion_marks n.assertions) its (equations_marked n.equations here)
     | inr rest ↦ Contains-append_right (equation_marks n.equations) (assertion_marks n.assertions) its (assertions_marked n.assertions rest)

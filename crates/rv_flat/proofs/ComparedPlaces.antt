@@ -23,7 +23,7 @@ use Rattle.rv_flat.proofs.Members.{in_map}
 use Rattle.rv_flat.proofs.TypedParts.{no_flag}
 
 -- the comparisons are the operators with order tests
-has_sides : (o : Op) → is_comparison o ≡ true → 0 < length (sides_of o)
+pub has_sides : (o : Op) → is_comparison o ≡ true → 0 < length (sides_of o)
 has_sides op.Equal e = omega arith
 has_sides op.Differs e = omega arith
 has_sides op.Less e = omega arith

@@ -1,25 +1,32 @@
 -- A program has no more diagram variables than are counted.
-use Rattle.std.proofs.Common.{◌≡◌, ◌⊎◌, inl, inr, ℕ, zero, suc, ◌+◌, ◌*◌, ◌<◌, ◌≤◌, Bool, true, false, ◌||◌, cond, nat_eq, List, [], ◌∷◌, ◌++◌, map, flat_map, length, get_or, refl, sym, ◌∙◌, ap, subst, arith, Option, Some, length-append}
+use Rattle.std.proofs.Common.{◌≡◌, ◌⊎◌, inl, inr, ℕ, zero, suc, ◌+◌, ◌*◌, ◌<◌, ◌≤◌, Bool, true, false, ◌&&◌, ◌||◌, cond, nat_eq, List, [], ◌∷◌, ◌++◌, map, flat_map, length, get_or, refl, sym, ◌∙◌, ap, subst, arith, Option, Some, length-append}
 use Rattle.std.proofs.Common.{None as Nothing}
-use Rattle.std.proofs.lemmas.Bool.{cases_order}
+use Rattle.std.specs.Prelude.{nat_le, nat_lt}
+use Rattle.std.proofs.lemmas.Bool.{cases_order, le-leb}
 use Rattle.std.proofs.lemmas.Bool.Decides.{nat_tests}
 use Rattle.std.proofs.lemmas.List.{length-map, get_or_default}
 use Rattle.std.proofs.lemmas.List.Elements.{Contains-append_left, Contains-append_right, Contains-append_cases}
 use Rattle.std.specs.List.{Contains}
 use Rattle.rv_syntax.specs.declared.tree.Op.{Op}
 use Rattle.rv_syntax.specs.declared.tree.Op.TheVariants as op
+use Rattle.rv_syntax.specs.declared.tree.TypeDecl.{TypeDecl}
 use Rattle.rv_syntax.specs.Tree.{Tree, Node, Form, Binary, NodeTree, ProgramTree}
 use Rattle.rv_syntax.specs.Places.{Identifier, Sites, memory_site}
 use Rattle.rv_syntax.specs.Delays.{Delay, node_delays}
 use Rattle.rv_types.specs.declared.typed.Kind.{Kind}
 use Rattle.rv_types.specs.declared.typed.Clock.TheVariants.{Base}
 use Rattle.rv_types.specs.Kinds.{decl_kinds}
-use Rattle.rv_types.specs.Values.{operand_kind}
+use Rattle.rv_types.specs.Names.{labels_of, texts}
+use Rattle.rv_types.specs.Values.{label_count, operand_kind}
 use Rattle.rv_types.specs.Instances.{Instance, IsInstance, all_instances, clock_in, node_of}
 use Rattle.rv_types.specs.Lists.{AreRising, AreTicks, AreMemories, AreComparisons, AreVariables, IsAny, MemoryAt, ComparisonAt, Compares, Variable, MainTick, Tick, Kept, Input, Test, bits, with_copies, memory_variables, input_variables, test_variables, sides_of, memory_places, memory_at}
 use Rattle.rv_types.specs.Needs.{IsBefore}
 use Rattle.rv_types.specs.Variables.{total, is_integer, is_in, memories, memories_beside, node_parts, kind_bits, memory_bits, tests_of, own_tests, order_tests, is_arrow, arrow_clocks, same_place, is_place_in, different, over_instances, ticks, variable_count}
+use Rattle.rv_causality.specs.Sizes.{first_above, integer_memories}
 use Rattle.rv_flat.specs.declared.parts.Bit.{Bit}
+use Rattle.rv_flat.specs.declared.parts.FlatMemory.{FlatMemory}
+use Rattle.rv_flat.specs.Facts.{all_few, integers}
+use Rattle.rv_flat.specs.FlatOf.{memory_of}
 use Rattle.rv_flat.specs.Lists.{variable_of}
 use Rattle.rv_flat.proofs.Earliest.{not_itself}
 use Rattle.rv_flat.proofs.Members.{none_in, at_head, in_tail, head_or_tail, in_map, in_flat_map}
@@ -27,18 +34,18 @@ use Rattle.rv_flat.proofs.TypedParts.{no_flag, both_hold}
 
 -- Sums.
 
-total_joined : {X : Type 0} (f : X → ℕ) (xs ys : List X) → total f (xs ++ ys) ≡ total f xs + total f ys
+pub total_joined : {X : Type 0} (f : X → ℕ) (xs ys : List X) → total f (xs ++ ys) ≡ total f xs + total f ys
 total_joined f [] ys = omega arith
 total_joined f (x ∷ xs) ys = let h = total_joined f xs ys in omega (arith, h)
 
-total_flat_map : {X Y : Type 0} (f : Y → ℕ) (g : X → List Y) (xs : List X) → total f (flat_map g xs) ≡ total (λ x. total f (g x)) xs
+pub total_flat_map : {X Y : Type 0} (f : Y → ℕ) (g : X → List Y) (xs : List X) → total f (flat_map g xs) ≡ total (λ x. total f (g x)) xs
 total_flat_map f g [] = refl
 total_flat_map f g (x ∷ xs) =
     let h = total_flat_map f g xs in
     let a = total_joined f (g x) (flat_map g xs) in
     omega (arith, h, a)
 
-total_map : {X Y : Type 0} (f : Y → ℕ) (g : X → Y) (xs : List X) → total f (map g xs) ≡ total (λ x. f (g x)) xs
+pub total_map : {X Y : Type 0} (f : Y → ℕ) (g : X → Y) (xs : List X) → total f (map g xs) ≡ total (λ x. f (g x)) xs
 total_map f g [] = refl
 total_map f g (x ∷ xs) = let h = total_map f g xs in omega (arith, h)
 
@@ -49,7 +56,7 @@ total_less f g (x ∷ xs) less =
     let a = less x in
     omega (arith, h, a)
 
-total_same : {X : Type 0} (f g : X → ℕ) (xs : List X) → ((x : X) → f x ≡ g x) → total f xs ≡ total g xs
+pub total_same : {X : Type 0} (f g : X → ℕ) (xs : List X) → ((x : X) → f x ≡ g x) → total f xs ≡ total g xs
 total_same f g [] same = refl
 total_same f g (x ∷ xs) same =
     let h = total_same f g xs same in
@@ -57,14 +64,14 @@ total_same f g (x ∷ xs) same =
     omega (arith, h, a)
 
 -- a list around one of its elements
-around : {X : Type 0} (ys : List X) (x : X) → Contains ys x → (l : List X) × (r : List X) × (ys ≡ l ++ x ∷ r)
+pub around : {X : Type 0} (ys : List X) (x : X) → Contains ys x → (l : List X) × (r : List X) × (ys ≡ l ++ x ∷ r)
 around [] x w = none_in x w
 around (y ∷ ys) x w = elim (head_or_tail y ys x w) [
   | inl same ↦ ([], ys, ap (λ z. z ∷ ys) same)
   | inr rest ↦ let s = around ys x rest in (y ∷ s.0, s.1, ap (λ l. y ∷ l) s.2)
 ]
 
-still_there : {X : Type 0} (l r : List X) (x y : X) → Contains (l ++ x ∷ r) y → (x ≡ y → ⊥) → Contains (l ++ r) y
+pub still_there : {X : Type 0} (l r : List X) (x y : X) → Contains (l ++ x ∷ r) y → (x ≡ y → ⊥) → Contains (l ++ r) y
 still_there l r x y w other = elim (Contains-append_cases l (x ∷ r) y w) [
   | inl v ↦ Contains-append_left l r y v
   | inr v ↦ elim (head_or_tail x r y v) [
@@ -101,11 +108,11 @@ length_bits make (suc n) =
     let a = length-append (bits make n) (make n ∷ []) in
     omega (arith, h, a)
 
-length_copies : (vs : List Variable) → length (with_copies vs) ≡ 2 * length vs
+pub length_copies : (vs : List Variable) → length (with_copies vs) ≡ 2 * length vs
 length_copies [] = refl
 length_copies (v ∷ vs) = let h = length_copies vs in omega (arith, h)
 
-length_memories : (p : ProgramTree) (ms : List MemoryAt) → length (memory_variables p ms) ≡ total (λ (m : MemoryAt). kind_bits p m.kind) ms
+pub length_memories : (p : ProgramTree) (ms : List MemoryAt) → length (memory_variables p ms) ≡ total (λ (m : MemoryAt). kind_bits p m.kind) ms
 length_memories p [] = refl
 length_memories p (m ∷ ms) =
     let h = length_memories p ms in
@@ -113,7 +120,7 @@ length_memories p (m ∷ ms) =
     let b = length_bits (Kept m.place) (kind_bits p m.kind) in
     omega (arith, h, a, b)
 
-length_inputs : (p : ProgramTree) (j : ℕ) (ks : List Kind) → length (input_variables p j ks) ≡ total (kind_bits p) ks
+pub length_inputs : (p : ProgramTree) (j : ℕ) (ks : List Kind) → length (input_variables p j ks) ≡ total (kind_bits p) ks
 length_inputs p j [] = refl
 length_inputs p j (k ∷ ks) =
     let h = length_inputs p (j + 1) ks in
@@ -121,10 +128,10 @@ length_inputs p j (k ∷ ks) =
     let b = length_bits (Input j) (kind_bits p k) in
     omega (arith, h, a, b)
 
-abbrev tests : ComparisonAt → ℕ
+abbrev pub tests : ComparisonAt → ℕ
 tests c = length (sides_of c.operator)
 
-length_tests : (cs : List ComparisonAt) → length (test_variables cs) ≡ total tests cs
+pub length_tests : (cs : List ComparisonAt) → length (test_variables cs) ≡ total tests cs
 length_tests [] = refl
 length_tests (c ∷ cs) =
     let h = length_tests cs in
@@ -166,7 +173,7 @@ still_different (r ∷ qs) q w = by (is_place_in qs r) refl (still_different qs)
       | inr rest ↦ in_tail r (different qs) q (again q rest)
     ]
 
-abbrev own_clocks : Instance → Tree → List Sites
+abbrev pub own_clocks : Instance → Tree → List Sites
 own_clocks i e = cond (is_arrow e) (elim (clock_in i Base e) as (λ _. List Sites) [ Nothing ↦ [] | Some p ↦ p ∷ [] ]) []
 
 own_clock : (i : Instance) (e : Tree) (q : Sites) → is_arrow e ≡ true → clock_in i Base e ≡ Some q → Contains (own_clocks i e) q
@@ -181,7 +188,7 @@ arrow_there i (x ∷ es) e q w arrow at = elim (head_or_tail x es e w) [
   | inr rest ↦ Contains-append_right (own_clocks i x) (arrow_clocks i es) q (arrow_there i es e q rest arrow at)
 ]
 
-ones : (qs : List Sites) → total (λ (q : Sites). 1) qs ≡ length qs
+pub ones : (qs : List Sites) → total (λ (q : Sites). 1) qs ≡ length qs
 ones [] = refl
 ones (q ∷ qs) = let h = ones qs in omega (arith, h)
 
@@ -191,7 +198,7 @@ themselves (q ∷ qs) = ap (λ l. q ∷ l) (themselves qs)
 
 -- Memories.
 
-abbrev site : NodeTree → Delay → ℕ
+abbrev pub site : NodeTree → Delay → ℕ
 site n d = memory_site n d.site d.operand
 
 abbrev HasOne : NodeTree → List ℕ → List Delay → Delay → Type 0
@@ -281,7 +288,7 @@ own_there p i e c r =
 
 -- All together.
 module _ (p : ProgramTree) (main : Identifier) (counted : (i : Instance) → IsInstance p main i → Contains (all_instances p main) i) where
-  ticks_few : (qs : List Sites) → AreTicks p main qs → length qs ≤ length (ticks p main)
+  pub ticks_few : (qs : List Sites) → AreTicks p main qs → length qs ≤ length (ticks p main)
   ticks_few qs are =
       let clocks : Instance → List Sites = λ i. arrow_clocks i (node_parts i.node) in
       let few = sum_no_more (λ (q : Sites). 1) (λ (q : Sites). q) qs (ticks p main) (subst AreRising (sym (themselves qs)) are.rising)
@@ -305,18 +312,33 @@ module _ (p : ProgramTree) (main : Identifier) (counted : (i : Instance) → IsI
             (in_flat_map memories_at (all_instances p main) r.0 (memory_at p r.0 new.0) (counted r.0 r.2) (in_map (memory_at p r.0) (memories r.0.node) new.0 new.1))
       ]
 
-  memories_few : (ms : List MemoryAt) → AreMemories p main IsAny ms → total (λ (m : MemoryAt). kind_bits p m.kind) ms ≤ over_instances p main (memory_bits p)
-  memories_few ms are =
-      let f : MemoryAt → ℕ = λ m. kind_bits p m.kind in
-      let few = sum_no_more f (λ (m : MemoryAt). m.place) ms (flat_map memories_at (all_instances p main)) are.rising (memory_there ms are) in
-      let a = total_flat_map f memories_at (all_instances p main) in
-      let b = total_same (λ (i : Instance). total f (memories_at i)) (λ (i : Instance). memory_bits p i.node) (all_instances p main) (λ i. total_map f (memory_at p i) (memories i.node)) in
+  -- a sum over the types of memories is no more than that over those of all instances
+  kinds_few : (f : Kind → ℕ) (ms : List MemoryAt) → AreMemories p main IsAny ms
+      → total (λ (m : MemoryAt). f m.kind) ms ≤ over_instances p main (λ n. total (λ d. f (operand_kind p n d.operand)) (memories n))
+  kinds_few f ms are =
+      let g : MemoryAt → ℕ = λ m. f m.kind in
+      let own : NodeTree → ℕ = λ n. total (λ d. f (operand_kind p n d.operand)) (memories n) in
+      let few = sum_no_more g (λ (m : MemoryAt). m.place) ms (flat_map memories_at (all_instances p main)) are.rising (memory_there ms are) in
+      let a = total_flat_map g memories_at (all_instances p main) in
+      let b = total_same (λ (i : Instance). total g (memories_at i)) (λ (i : Instance). own i.node) (all_instances p main) (λ i. total_map g (memory_at p i) (memories i.node)) in
       omega (arith, few, a, b)
+
+  pub memories_few : (ms : List MemoryAt) → AreMemories p main IsAny ms → total (λ (m : MemoryAt). kind_bits p m.kind) ms ≤ over_instances p main (memory_bits p)
+  memories_few ms are = kinds_few (kind_bits p) ms are
+
+  -- so there are no more integer memories than are counted
+  pub few_integers : (ms : List FlatMemory) → AreMemories p main IsAny (map memory_of ms) → over_instances p main (integer_memories p) ≤ 64 → integers (map (λ m. m.kind) ms) ≤ 64
+  few_integers ms are few =
+      let f : Kind → ℕ = λ k. cond (is_integer k) 1 0 in
+      let a = total_map f (λ (m : FlatMemory). m.kind) ms in
+      let b = total_map (λ (m : MemoryAt). f m.kind) memory_of ms in
+      let c = kinds_few f (map memory_of ms) are in
+      omega (arith, few, a, b, c)
 
   abbrev comparisons_at : Instance → List ComparisonAt
   comparisons_at i = flat_map (own_comparisons p i) (node_parts i.node)
 
-  tests_few : (cs : List ComparisonAt) → AreComparisons p main cs → total tests cs ≤ over_instances p main (order_tests p)
+  pub tests_few : (cs : List ComparisonAt) → AreComparisons p main cs → total tests cs ≤ over_instances p main (order_tests p)
   tests_few cs are =
       let few = sum_no_more tests (λ (c : ComparisonAt). c.place) cs (flat_map comparisons_at (all_instances p main)) are.rising
       (λ c w. let r = are.only c w in
@@ -345,3 +367,19 @@ module _ (p : ProgramTree) (main : Identifier) (counted : (i : Instance) → IsI
       let k = memories_few are.memories are.are_memories in
       let l = tests_few are.comparisons are.are_comparisons in
       omega (arith, a, b, c, d, e, f, g, h, i, j, k, l, few)
+
+-- no enumeration has more labels than the first that is above the limit
+pub few_labels : (ds : List TypeDecl) → first_above 256 (map label_count ds) ≤ 256 → all_few 256 (map (λ d. texts (labels_of d)) ds) ≡ true
+few_labels [] few = refl
+few_labels (d ∷ ds) few = by (nat_lt 256 (label_count d)) refl few
+  where
+    long : length (texts (labels_of d)) ≡ label_count d
+    long = length-map (labels_of d) (λ x. x.text)
+
+    by : (b : Bool) → nat_lt 256 (label_count d) ≡ b → cond b (label_count d) (first_above 256 (map label_count ds)) ≤ 256
+        → (nat_le (length (texts (labels_of d))) 256 && all_few 256 (map (λ d. texts (labels_of d)) ds)) ≡ true
+    by true e le = let above : 256 < label_count d = grind (arith, nat_tests, e) in absurd (omega (arith, above, le))
+    by false e le =
+        let below : label_count d ≤ 256 = grind (arith, nat_tests, e) in
+        let here : nat_le (length (texts (labels_of d))) 256 ≡ true = le-leb (length (texts (labels_of d))) 256 (omega (arith, below, long)) in
+        ap (λ t. t && all_few 256 (map (λ d. texts (labels_of d)) ds)) here ∙ few_labels ds le

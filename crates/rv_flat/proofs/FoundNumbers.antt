@@ -1,5 +1,5 @@
 -- The numbers of flows, ticks and memories, where what was looked at is a list read.
-use Rattle.std.proofs.Common.{◌≡◌, ℕ, ◌+◌, ◌<◌, List, map, length, Some, slice_index_or, sym, ◌∙◌, ap, subst}
+use Rattle.std.proofs.Common.{◌≡◌, ℕ, ◌+◌, ◌<◌, List, [], ◌∷◌, map, length, Some, slice_index_or, refl, sym, ◌∙◌, ap, subst}
 use Rattle.std.specs.List.{Contains}
 use Rattle.rv_syntax.specs.Tree.{ProgramTree}
 use Rattle.rv_syntax.specs.Places.{Identifier, Sites, index_of, memory_site}
@@ -11,6 +11,8 @@ use Rattle.rv_causality.specs.Callees.{callee_in}
 use Rattle.rv_causality.specs.Flowing.{place_at}
 use Rattle.rv_causality.specs.Layouts.{IsNumberOf}
 use Rattle.rv_flat.specs.declared.kept.Kept.{Kept}
+use Rattle.rv_flat.specs.Facts.{numbers_among}
+use Rattle.rv_flat.proofs.Members.{at_head, in_tail}
 
 pub ticks_numbered : (places : List Sites) (count : ℕ) (ts taken made : List ℕ) → taken ≡ ts
     → ((qs : List Sites) → length qs ≡ count → AreRising qs → AreRising (map (place_at qs) taken) → ((k : ℕ) → Contains taken k → k < count)
@@ -32,3 +34,12 @@ pub memories_numbered : (p : ProgramTree) (main : Identifier) (instances : List 
     → callee_in table m (memory_site i.node d.site d.operand) ≡ Some (index_of (map (λ (k : Kept). k.place.sites) ks) (delay_place i d))
 memories_numbered p main instances ks taken table same told m i d is n w =
     told m i d is n w ∙ ap (λ (l : List Kept). Some (index_of (map (λ (k : Kept). k.place.sites) l) (delay_place i d))) same
+
+-- the numbers of the flows of ticks, as they are looked up
+pub tick_flows_numbered : (places sequence : List Sites) (flows ts : List ℕ) → ((k : ℕ) → k < length places → slice_index_or flows k 0 ≡ index_of sequence (place_at places k))
+    → ((k : ℕ) → Contains ts k → k < length places) → map (λ k. slice_index_or flows k 0) ts ≡ numbers_among sequence (map (place_at places) ts)
+tick_flows_numbered places sequence flows [] are within = refl
+tick_flows_numbered places sequence flows (t ∷ ts) are within =
+    let first = are t (within t (at_head t ts)) in
+    let rest = tick_flows_numbered places sequence flows ts are (λ k w. within k (in_tail t ts k w)) in
+    λ i. first i ∷ rest i

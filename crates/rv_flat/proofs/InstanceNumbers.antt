@@ -1,7 +1,7 @@
 -- The instances of an expanded program by their numbers, and what is found of them, one after the other.
 use Rattle.std.proofs.Common.{◌≡◌, inl, inr, ℕ, zero, suc, ◌+◌, ◌<◌, Bool, true, false, ◌||◌, cond, List, [], ◌∷◌, ◌++◌, map, flat_map, length, get_or, refl, sym, ◌∙◌, ap, subst, arith, unwrap_or, Some, IsSome, length-append}
 use Rattle.std.proofs.lemmas.Bool.{cases_order}
-use Rattle.std.proofs.lemmas.List.{get_or_default}
+use Rattle.std.proofs.lemmas.List.{get_or_default, length-map}
 use Rattle.std.proofs.lemmas.List.Elements.{Contains-append_left, Contains-append_right, Contains-append_cases, Contains-get_or}
 use Rattle.std.specs.List.{Contains}
 use Rattle.rv_syntax.specs.Tree.{NodeTree, ProgramTree}
@@ -17,8 +17,8 @@ use Rattle.rv_causality.specs.Expanded.{IsExpanded, no_instance}
 use Rattle.rv_causality.specs.Layouts.{node_at, path_at}
 use Rattle.rv_flat.specs.NodeReaders.{lists_to}
 use Rattle.rv_flat.proofs.Earliest.{not_itself}
-use Rattle.rv_flat.proofs.Members.{none_in, at_head, in_tail, head_or_tail}
-use Rattle.rv_flat.proofs.PlaceNumbers.{same_text}
+use Rattle.rv_flat.proofs.Members.{none_in, at_head, in_tail, head_or_tail, in_map}
+use Rattle.rv_flat.proofs.PlaceNumbers.{same_text, index_at, is_found}
 use Rattle.rv_flat.proofs.TypedParts.{no_flag}
 use Rattle.rv_flat.proofs.WellInstances as well
 
@@ -167,6 +167,18 @@ module _ (p : ProgramTree) (main : Identifier) (instances : List Numbered) (know
   -- so it is that of the instance with its number
   pub node_is : (m : ℕ) (i : Instance) → IsInstance p main i → get_or instances m no_instance ≡ numbered p i → node_at p instances m ≡ i.node
   node_is m i is e = ap (λ (x : Numbered). get_or p.nodes x.node no_node) e ∙ number_node i is
+
+  -- and it is among the numbers of nodes
+  pub node_within : (m : ℕ) → m < length instances → (get_or instances m no_instance).node < length p.nodes
+  node_within m lt =
+      let r = instance_at m lt in
+      let names = map (λ (n : NodeTree). n.name.text) p.nodes in
+      let there = is_found names r.0.node.name.text (in_map (λ (n : NodeTree). n.name.text) p.nodes r.0.node (node_in r.0 r.1)) in
+      let at = (index_at names r.0.node.name.text there).0 in
+      let many = length-map p.nodes (λ (n : NodeTree). n.name.text) in
+      let same : (get_or instances m no_instance).node ≡ index_of names r.0.node.name.text =
+      ap (λ (x : Numbered). x.node) r.2 ∙ ap (λ (xs : List Identifier). index_of xs r.0.node.name.text) (name_texts p.nodes) in
+      omega (arith, at, many, same)
 
   -- the call sites determine an instance
   pub same_instance : (i j : Instance) → IsInstance p main i → IsInstance p main j → i.path ≡ j.path → i ≡ j

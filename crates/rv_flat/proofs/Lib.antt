@@ -23,7 +23,6 @@ pub mod OneRow
 pub mod Weighing
 pub mod FlowWeights
 pub mod Earliest
-pub mod Numbered
 pub mod Taming
 pub mod Keeping
 pub mod OneStep
@@ -33,6 +32,7 @@ pub mod Typing
 pub mod PartsStand
 pub mod ReadTables
 pub mod ReadItems
+pub mod ReadNodes
 pub mod MadeItems
 pub mod SortedPlaces
 pub mod InstanceNumbers
@@ -55,5 +55,7 @@ pub mod MadeFlows
 pub mod AssertedParts
 pub mod KeptParts
 pub mod GivenParts
+pub mod Apart
 pub mod CountedVariables
+pub mod VariableCount
 pub mod Assembled

@@ -1,5 +1,5 @@
 -- Items that are made by the tables of a frame are those of the program.
-use Rattle.std.proofs.Common.{◌≡◌, ℕ, ◌+◌, true, List, refl, sym, ◌∙◌, ap, subst, Option, Some, IsSome}
+use Rattle.std.proofs.Common.{◌≡◌, ℕ, ◌+◌, true, List, [], ◌∷◌, ◌++◌, refl, sym, ◌∙◌, ap, subst, Option, Some, IsSome}
 use Rattle.std.specs.List.{Contains}
 use Rattle.rv_base.specs.declared.value.Value.TheVariants.{Flag}
 use Rattle.rv_syntax.specs.Tree.{Tree, AssertionTree, ProgramTree, tree_of}
@@ -27,7 +27,8 @@ use Rattle.rv_causality.specs.Weights.{AreLight}
 use Rattle.rv_flat.specs.declared.frame.Frame.{Frame}
 use Rattle.rv_flat.specs.FlatTree.{FlatTree, Node, Constant, Flow, If}
 use Rattle.rv_flat.specs.Frames.{IsFrame, IsNumbering}
-use Rattle.rv_flat.specs.Readings.{Numbers, spot, presence, clock_number, flow_at, flat_of, giver_item, delay_item, assertion_of}
+use Rattle.rv_flat.specs.NodeReaders.{scope_by}
+use Rattle.rv_flat.specs.Readings.{Numbers, unplaced, presence, clock_number, flow_at, flat_of, giver_item, delay_item, assertion_of}
 use Rattle.rv_flat.specs.Tables.{path_read, flow_read, clock_read, clock_of_read}
 use Rattle.rv_flat.proofs.ReadFits.{some_is}
 use Rattle.rv_flat.proofs.ReadItems.{is_frame, giver_clock, body_given, output_given}
@@ -42,6 +43,7 @@ HasNumbers = (p : ProgramTree) (main : Identifier) (instances : List Numbered) (
 module _ (law : HasNumbers) (numbers : Numbers) (x : Frame) (known : IsKnown x.expanded.now) (light : AreLight (program_of x.expanded.now) (main_of x.expanded.now))
     (ticks : AreTicks (program_of x.expanded.now) (main_of x.expanded.now) numbers.ticks)
     (reads : IsReader x.reader) (node : node_read x.reader ≡ node_at (program_of x.expanded.now) x.expanded.now.instances.now x.reader.instance)
+    (scope : scope_by x.tables.now x.own.now ≡ node_scope (program_of x.expanded.now) (node_at (program_of x.expanded.now) x.expanded.now.instances.now x.reader.instance))
     (layout : IsLayout (program_of x.expanded.now) (main_of x.expanded.now) x.expanded.now.instances.now x.reader.layout.now) (values : value_by x.values.now ≡ constant_value (program_of x.expanded.now))
     (numbering : IsNumbering (program_of x.expanded.now) (main_of x.expanded.now) x.expanded.now.instances.now numbers x.numbering.now)
   where
@@ -55,7 +57,7 @@ module _ (law : HasNumbers) (numbers : Numbers) (x : Frame) (known : IsKnown x.e
     instances = x.expanded.now.instances.now
 
     frame : (i : Instance) → IsInstance p main i → IsNumberOf p instances x.reader.instance i → IsFrame numbers i x
-    frame i of number = is_frame numbers i x known light of number reads node layout values numbering
+    frame i of number = is_frame numbers i x known light of number reads node scope layout values numbering
 
     here : (i : Instance) → IsInstance p main i → IsNumberOf p instances x.reader.instance i → IsHere p (all_places p instances) i (numbers_of x.reader)
     here i of number = law p main instances x.reader.layout.now x.reader.instance i known.expanded layout of number
@@ -82,7 +84,7 @@ module _ (law : HasNumbers) (numbers : Numbers) (x : Frame) (known : IsKnown x.e
 
     pub output_made : (o : OutputOf) (q : Sites) (g : Giver) (clock : Option ℕ) (body : FlatTree) → x.reader.instance ≡ o.instance → Gives p main q g → StandsFor p instances (told.Output o) g
         → clock ≡ clock_read x (number_of_clock (numbers_of x.reader) o.clock)
-        → body ≡ Node (spot (path_read x) (Some (site_in (tree_of o.call.now)))) (Flow (flow_read x ((numbers_of x.reader).output (site_in (tree_of o.call.now)) + o.output)))
+        → body ≡ unplaced (Flow (flow_read x ((numbers_of x.reader).output (site_in (tree_of o.call.now)) + o.output)))
         → (record { clock = clock; body = body }) ≡ giver_item p numbers g
     output_made o q (Given j) clock body same gives stands clocked made = absurd stands
     output_made o q (Of i k (Body e)) clock body same gives stands clocked made = absurd stands
@@ -96,8 +98,8 @@ module _ (law : HasNumbers) (numbers : Numbers) (x : Frame) (known : IsKnown x.e
         let own : clock_number numbers (absolute i k) ≡ clock_number numbers (absolute i _) = ap (λ c. clock_number numbers (absolute i c)) (sym r.clock) in
         let flow : flow_read x ((numbers_of x.reader).output (site_in (tree_of o.call.now)) + o.output) ≡ _ =
         (λ t. flow_read x ((numbers_of x.reader).output (site_in (stands.2 t)) + stands.3 t)) ∙ output_is numbers i x f h c j r.there r.within in
-        let body_is : body ≡ Node (spot i.path (Some c.site)) (flow_at p numbers i (output_place p i c.site c.name j)) =
-        made ∙ (λ t. Node (spot (path_is numbers i x f h t) (Some (site_in (stands.2 t)))) (Flow (flow t))) in
+        let body_is : body ≡ unplaced (flow_at p numbers i (output_place p i c.site c.name j)) =
+        made ∙ (λ t. unplaced (Flow (flow t))) in
         λ t. record { clock = (clock_is ∙ own) t; body = body_is t }
 
     pub delay_made : (i : Instance) (d : Delay) (e : Tree) (clock : Option ℕ) (body : FlatTree) → IsInstance p main i → IsNumberOf p instances x.reader.instance i → Contains (node_delays i.node) d → e ≡ d.operand
@@ -113,7 +115,7 @@ module _ (law : HasNumbers) (numbers : Numbers) (x : Frame) (known : IsKnown x.e
 
     pub assertion_made : (i : Instance) (a : AssertionTree) (clock : Option ℕ) (body made : FlatTree) → IsInstance p main i → IsNumberOf p instances x.reader.instance i → Contains i.node.assertions a
         → clock ≡ clock_read x (clock_of_read x a.body) → IsMadeOf a.body body
-        → made ≡ Node (spot (path_read x) (Some a.site)) (If (Node (path_read x) (presence clock)) body (Node (path_read x) (Constant (Flag true))))
+        → made ≡ Node (path_read x ++ a.site ∷ []) (If (unplaced (presence clock)) body (unplaced (Constant (Flag true))))
         → made ≡ assertion_of p numbers i a
     assertion_made i a clock body made of number w clocked is made_is =
         let t = (typed p main known.expanded.well (is_node p main known.expanded.declared) i of).assertion a w in
@@ -122,4 +124,4 @@ module _ (law : HasNumbers) (numbers : Numbers) (x : Frame) (known : IsKnown x.e
         let clock_is : clock ≡ clock_number numbers (clock_in i Base a.body) = clocked ∙ own_clock_is numbers i x f h a.body kind.Bool t in
         let body_is : body ≡ flat_of p numbers i a.body = is numbers i f ticks (stands_in i.node a.body (as_assertion a w)) (subst IsSome (sym t) refl) in
         let q = path_is numbers i x f h in
-        made_is ∙ (λ j. Node (spot (q j) (Some a.site)) (If (Node (q j) (presence (clock_is j))) (body_is j) (Node (q j) (Constant (Flag true)))))
+        made_is ∙ (λ j. Node (q j ++ a.site ∷ []) (If (unplaced (presence (clock_is j))) (body_is j) (unplaced (Constant (Flag true)))))

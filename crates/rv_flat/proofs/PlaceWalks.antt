@@ -1,5 +1,5 @@
 -- Where the layout of all flows leads along a place.
-use Rattle.std.proofs.Common.{◌≡◌, inl, inr, ℕ, ◌+◌, ◌-◌, ◌<◌, ◌^◌, List, [], ◌∷◌, ◌++◌, map, length, get_or, unwrap_or, refl, sym, ◌∙◌, ap, subst, arith}
+use Rattle.std.proofs.Common.{◌≡◌, inl, inr, ℕ, zero, suc, ◌+◌, ◌-◌, ◌<◌, ◌^◌, List, [], ◌∷◌, ◌++◌, map, length, get_or, take, unwrap_or, refl, sym, ◌∙◌, ap, subst, arith}
 use Rattle.std.specs.Prelude.{min}
 use Rattle.std.proofs.lemmas.Bool.{cases_eq}
 use Rattle.std.proofs.lemmas.List.{get_or_default, get_or-map, length-map}
@@ -12,7 +12,7 @@ use Rattle.rv_causality.specs.declared.layout.Layout.{Layout}
 use Rattle.rv_causality.specs.Causes.{numbered}
 use Rattle.rv_causality.specs.Expanded.{IsExpanded, no_instance}
 use Rattle.rv_causality.specs.Layouts.{IsLayout, IsHere, IsNumberOf, IsPlaced, callee_or_main, here_of, path_at, all_places}
-use Rattle.rv_flat.specs.Positions.{AreNumbersOf, number_from, site_number}
+use Rattle.rv_flat.specs.Positions.{AreNumbersOf, number_from, site_number, way_from}
 use Rattle.rv_flat.proofs.FlowTotals.{few_flows}
 use Rattle.rv_flat.proofs.PlaceNumbers.{index_at, is_found}
 
@@ -28,6 +28,42 @@ walk-snoc l m (t ∷ q) s = walk-snoc l (callee_or_main l.callees m t) q s
 number-snoc : (l : Layout) (m n : ℕ) (q : Sites) (s : ℕ) → number_from l m n (q ++ s ∷ []) ≡ site_number l (walk l m q) s
 number-snoc l m n [] s = refl
 number-snoc l m n (t ∷ q) s = number-snoc l (callee_or_main l.callees m t) (site_number l m t) q s
+
+-- the instances along calls: how many, the last of them, and those along one call more and along fewer calls
+way_long : (l : Layout) (m : ℕ) (q : Sites) → length (way_from l m q) ≡ length q + 1
+way_long l m [] = refl
+way_long l m (s ∷ q) = let h = way_long l (callee_or_main l.callees m s) q in omega (arith, h)
+
+way_end : (l : Layout) (m : ℕ) (q : Sites) → get_or (way_from l m q) (length q) 0 ≡ walk l m q
+way_end l m [] = refl
+way_end l m (s ∷ q) = way_end l (callee_or_main l.callees m s) q
+
+pub way_last : (l : Layout) (m : ℕ) (q : Sites) → get_or (way_from l m q) (length (way_from l m q) - 1) 0 ≡ walk l m q
+way_last l m q =
+    let long : length (way_from l m q) - 1 ≡ length q = let h = way_long l m q in omega (arith, h) in
+    ap (λ k. get_or (way_from l m q) k 0) long ∙ way_end l m q
+
+way-snoc : (l : Layout) (m : ℕ) (q : Sites) (s : ℕ) → way_from l m (q ++ s ∷ []) ≡ way_from l m q ++ callee_or_main l.callees (walk l m q) s ∷ []
+way-snoc l m [] s = refl
+way-snoc l m (t ∷ q) s = ap (λ w. m ∷ w) (way-snoc l (callee_or_main l.callees m t) q s)
+
+-- going on along one more call
+pub way_more : (l : Layout) (q : Sites) (s : ℕ) (way new : List ℕ) → way ≡ way_from l 0 q → new ≡ way ++ callee_or_main l.callees (get_or way (length way - 1) 0) s ∷ [] → new ≡ way_from l 0 (q ++ s ∷ [])
+way_more l q s way new is grown =
+    grown ∙ (λ i. is i ++ callee_or_main l.callees (get_or (is i) (length (is i) - 1) 0) s ∷ [])
+    ∙ ap (λ k. way_from l 0 q ++ callee_or_main l.callees k s ∷ []) (way_last l 0 q) ∙ sym (way-snoc l 0 q s)
+
+-- back along fewer calls
+pub way_back : (l : Layout) (m : ℕ) (q : Sites) (k : ℕ) → take (k + 1) (way_from l m q) ≡ way_from l m (take k q)
+way_back l m [] zero = refl
+way_back l m [] (suc k) = refl
+way_back l m (s ∷ q) zero = refl
+way_back l m (s ∷ q) (suc k) = ap (λ w. m ∷ w) (way_back l (callee_or_main l.callees m s) q k)
+
+-- the number at the end of the way along a path, and of one site more
+pub number_reached : (l : Layout) (m n : ℕ) (q : Sites) (s : ℕ) (way : List ℕ) → way ≡ way_from l m q → site_number l (get_or way (length way - 1) 0) s ≡ number_from l m n (q ++ s ∷ [])
+number_reached l m n q s way is =
+    (λ i. site_number l (get_or (is i) (length (is i) - 1) 0) s) ∙ ap (λ k. site_number l k s) (way_last l m q) ∙ sym (number-snoc l m n q s)
 
 module _ (p : ProgramTree) (main : Identifier) (instances : List Numbered) (known : IsExpanded p main instances) where
   -- the number of an instance

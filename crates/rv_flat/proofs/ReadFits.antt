@@ -43,7 +43,7 @@ use Rattle.rv_flat.specs.Lists.{tick_places}
 use Rattle.rv_flat.specs.Facts.{Scope, scope_of, kinds, is_of, any_of, constant_fits, fits, form_fits, all_fit, clock_fits, flows_fit, memories_fit, assertions_fit}
 use Rattle.rv_flat.specs.FlatOf.{memory_of, no_assertion}
 use Rattle.rv_flat.specs.FlatInstants.{no_item, flow_item, memory_item}
-use Rattle.rv_flat.specs.Readings.{Numbers, numbers_of, places_of, memory_places_of, clock_number, tick_number, presence, product, operator, inner, coefficient, flat_of, flat_form, flats_of, giver_item, delay_item, assertion_of, IsRead, AreKinds}
+use Rattle.rv_flat.specs.Readings.{Numbers, numbers_of, places_of, memory_places_of, clock_number, tick_number, presence, product, operator, unplaced, coefficient, flat_of, flat_form, flats_of, giver_item, delay_item, assertion_of, IsRead, AreKinds}
 use Rattle.rv_flat.proofs.Members.{at_head}
 use Rattle.rv_flat.proofs.Standing.{Stands, as_child, of_not, of_minus, of_current, of_when, of_left, of_right, of_condition, of_first, of_second, of_operand, stands_in, own_delay, own_current, own_call, body_stands, argument_stands, operand_stands, as_assertion, output_call}
 use Rattle.rv_flat.proofs.TypedParts.{no_flag, both_hold, same_kinds, met_kind, IsTyped, named_typed, not_typed, minus_typed, pre_typed, current_typed, when_typed, binary_typed, if_typed, most_typed, call_typed}
@@ -242,7 +242,7 @@ module _ (program : ProgramTree) (main : Identifier) (well : AreWell program) (n
 
       operator_fits : (before : ℕ) (scaled left : Bool) (o : Op) (l r k : Kind) (y z : ℤ) (tick : TreeForm) (f g : FlatTree) → IsBelow (length program.types) l → kind_in (binary_rule true scaled o l r) ≡ Some k
           → (o ≡ op.Arrow → form_fits scope before kind.Bool tick ≡ true) → fits scope before l f ≡ true → fits scope before r g ≡ true
-          → form_fits scope before k (operator o (If (inner program numbers i tick) g f) (product left y z f g) f g) ≡ true
+          → form_fits scope before k (operator o (If (unplaced tick) g f) (product left y z f g) f g) ≡ true
       operator_fits before scaled left op.Arrow l r k y z tick f g h e t p q =
           let m = met_kind (same_kind l r) l k e in
           both (form_fits scope before kind.Bool tick) _ (t refl)

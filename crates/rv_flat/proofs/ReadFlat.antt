@@ -1,9 +1,10 @@
 -- A flat system that is read from its program, and has its names and lists, is one of that program.
-use Rattle.std.proofs.Common.{◌≡◌, [], map, slice_index_or, ◌∙◌, sym}
+use Rattle.std.proofs.Common.{◌≡◌, [], length, map, slice_index_or, ◌∙◌, sym}
 use Rattle.rv_syntax.specs.Tree.{ProgramTree}
 use Rattle.rv_syntax.specs.Places.{Identifier, names}
 use Rattle.rv_types.specs.Instances.{node_of, IsNode}
 use Rattle.rv_types.specs.Lists.{AreVariables, AreColumns}
+use Rattle.rv_types.specs.Variables.{variable_count}
 use Rattle.rv_types.specs.WellFormed.{AreWell}
 use Rattle.rv_meaning.specs.Runs.{observer_place}
 use Rattle.rv_meaning.specs.Givers.{AreDefined}
@@ -23,6 +24,7 @@ module _ (program : ProgramTree) (main : Identifier) (well : AreWell program) (n
     pub name : f.main ≡ main
     pub inputs : map (λ i. i.name) f.inputs ≡ names (node_of program main).inputs
     pub variables : AreVariables program main (map variable_of f.variables)
+    pub counted : length f.variables ≡ variable_count program main
     pub columns : AreColumns program main (map column_of f.columns)
     pub observer : slice_index_or (places f) f.observer [] ≡ observer_place program main
     pub thresholds : AreThresholds program f.thresholds
@@ -34,6 +36,7 @@ module _ (program : ProgramTree) (main : Identifier) (well : AreWell program) (n
     input_kinds = types.input;
     memories = read.list;
     variables = has.variables;
+    counted = has.counted;
     columns = has.columns;
     sequence = read.sequence;
     kinds = types.flow;

@@ -25,7 +25,8 @@ use Rattle.rv_meaning.specs.Meaning.{Cells, is_there, held, is_true}
 use Rattle.rv_meaning.specs.Runs.{Instant, flat, cell}
 use Rattle.rv_meaning.specs.Givers.{AreDefined, expected}
 use Rattle.rv_meaning.specs.Instants.{State as Brought, is_on_in, now, value_now, right_now, IsInstant, IsNext}
-use Rattle.rv_causality.specs.Weights.{heaviest, weight, AreLight}
+use Rattle.rv_syntax.specs.Limits.{heaviest}
+use Rattle.rv_causality.specs.Weights.{weight, AreLight}
 use Rattle.rv_flat.specs.declared.flat.Flat.{Flat}
 use Rattle.rv_flat.specs.declared.parts.FlatExpr.{FlatExpr}
 use Rattle.rv_flat.specs.declared.state.State.{State}

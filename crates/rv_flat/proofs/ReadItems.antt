@@ -32,6 +32,7 @@ use Rattle.rv_causality.specs.NumberedNeeds.{IsReader, IsGiver, node_read, numbe
 use Rattle.rv_causality.specs.Weights.{AreLight}
 use Rattle.rv_flat.specs.declared.frame.Frame.{Frame}
 use Rattle.rv_flat.specs.Frames.{IsFrame, IsNumbering}
+use Rattle.rv_flat.specs.NodeReaders.{scope_by}
 use Rattle.rv_flat.specs.Readings.{Numbers}
 use Rattle.rv_flat.proofs.PlaceNumbers.{same_text}
 use Rattle.rv_flat.proofs.Standing.{stands_in, body_stands, argument_stands, output_call}
@@ -187,15 +188,17 @@ module _ (p : ProgramTree) (main : Identifier) (instances : List Numbered) (know
 -- A frame that is made of what is known.
 pub is_frame : (numbers : Numbers) (i : Instance) (x : Frame) → IsKnown x.expanded.now → AreLight (program_of x.expanded.now) (main_of x.expanded.now) → IsInstance (program_of x.expanded.now) (main_of x.expanded.now) i
     → IsNumberOf (program_of x.expanded.now) x.expanded.now.instances.now x.reader.instance i → IsReader x.reader → node_read x.reader ≡ node_at (program_of x.expanded.now) x.expanded.now.instances.now x.reader.instance
+    → scope_by x.tables.now x.own.now ≡ node_scope (program_of x.expanded.now) (node_at (program_of x.expanded.now) x.expanded.now.instances.now x.reader.instance)
     → IsLayout (program_of x.expanded.now) (main_of x.expanded.now) x.expanded.now.instances.now x.reader.layout.now → value_by x.values.now ≡ constant_value (program_of x.expanded.now)
     → IsNumbering (program_of x.expanded.now) (main_of x.expanded.now) x.expanded.now.instances.now numbers x.numbering.now → IsFrame numbers i x
-is_frame numbers i x known light of number reads node layout values numbering = record {
+is_frame numbers i x known light of number reads node scope layout values numbering = record {
   known = known;
   light = light;
   instance = of;
   number = number;
   reader = reads;
   node = node ∙ node_is (program_of x.expanded.now) (main_of x.expanded.now) x.expanded.now.instances.now known.expanded x.reader.instance i of number;
+  scope = scope ∙ ap (node_scope (program_of x.expanded.now)) (node_is (program_of x.expanded.now) (main_of x.expanded.now) x.expanded.now.instances.now known.expanded x.reader.instance i of number);
   layout = layout;
   values = values;
   numbering = numbering;

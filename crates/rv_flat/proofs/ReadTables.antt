@@ -23,7 +23,7 @@ use Rattle.rv_types.specs.Kinds.{decl_kinds, flow_kinds, kind_in_program}
 use Rattle.rv_types.specs.Types.{kind_in, kind_of, both_are, binary_rule, is_constant}
 use Rattle.rv_types.specs.Constants.{whole_in, value_of, weight_of}
 use Rattle.rv_types.specs.ConstantParts.{constant_part}
-use Rattle.rv_types.specs.ValueTables.{cap}
+use Rattle.rv_syntax.specs.Limits.{too_heavy}
 use Rattle.rv_types.specs.Scopes.{node_scope, constant_value}
 use Rattle.rv_types.specs.Names.{texts}
 use Rattle.rv_types.specs.Instances.{CallTree, calls, Instance, place, absolute, clock_in, taken, output_place, node_of, IsNode, IsArgument, head, tail}
@@ -38,9 +38,10 @@ use Rattle.rv_causality.specs.Layouts.{Here, IsPlaced, IsClockPlaced, IsHere, al
 use Rattle.rv_causality.specs.NumberedNeeds.{clock_number as number_of_clock, clock_of_expression, numbers_of}
 use Rattle.rv_flat.specs.declared.frame.Frame.{Frame}
 use Rattle.rv_flat.specs.FlatTree.{FlatTree, Node, TreeForm, Constant, Flow, Memory, Ticked, Not, Binary, Scale, If, AtMostOne, More, flat_trees}
+use Rattle.rv_flat.specs.Compared.{is_test}
 use Rattle.rv_flat.specs.Frames.{IsFrame}
-use Rattle.rv_flat.specs.Readings.{Numbers, clock_number, tick_number, spot, presence, product, operator, flow_at, kept_at, named, coefficient, flat_of, flat_form, flats_of}
-use Rattle.rv_flat.specs.Tables.{product_read, path_read, flow_read, clock_read, tick_read, clock_of_read, kept_read, named_read, constant_read, output_read, tree_read, form_read, trees_read}
+use Rattle.rv_flat.specs.Readings.{Numbers, clock_number, tick_number, spot, unplaced, operator_place, presence, product, operator, flow_at, kept_at, named, coefficient, flat_of, flat_form, flats_of}
+use Rattle.rv_flat.specs.Tables.{product_read, path_read, operator_place_read, flow_read, clock_read, tick_read, clock_of_read, kept_read, named_read, constant_read, output_read, tree_read, form_read, trees_read}
 use Rattle.rv_flat.proofs.Standing.{Stands, as_child, of_not, of_minus, of_current, of_when, of_left, of_right, of_condition, of_first, of_second, of_operand, own_delay, own_current, own_call, stands_in}
 use Rattle.rv_flat.proofs.PartsStand.{standing, calling, part_is}
 use Rattle.rv_flat.proofs.TypedParts.{no_flag, IsTyped, not_typed, minus_typed, current_typed, when_typed, binary_typed, if_typed, most_typed, call_typed}
@@ -93,6 +94,9 @@ operator_is op.Slash c d m n f g u v choice times p q = λ j. Binary op.Slash (p
 operator_is op.Div c d m n f g u v choice times p q = λ j. Binary op.Div (p j) (q j)
 operator_is op.Mod c d m n f g u v choice times p q = λ j. Binary op.Mod (p j) (q j)
 
+at_place : (q r : Sites) (f g : TreeForm) → q ≡ r → f ≡ g → Node q f ≡ Node r g
+at_place q r f g p e = λ j. Node (p j) (e j)
+
 -- a clock that is that of a flow is one of the node
 pub clock_known : (p : ProgramTree) (n : NodeTree) (s : ℕ) → IsTrueClock p n (On s) → s < length (flows_of n)
 clock_known p n s t = let lt = slice_get_within (flow_kinds p n) s kind.Bool t in let many = kinds_many p n in omega (arith, lt, many)
@@ -124,8 +128,9 @@ module _ (numbers : Numbers) (i : Instance) (x : Frame) (is : IsFrame numbers i 
     pub path_is : path_read x ≡ i.path
     path_is = ap (λ (m : Numbered). m.path) is.number.1
 
-    pub at_site : (site : Option ℕ) (f g : TreeForm) → f ≡ g → Node (spot (path_read x) site) f ≡ Node (spot i.path site) g
-    at_site site f g e = λ j. Node (spot (path_is j) site) (e j)
+    -- the place of an operator
+    place_is : (site : Option ℕ) (o : Op) (a : Tree) → operator_place_read x site o a ≡ operator_place program numbers i site o a
+    place_is site o a = λ j. cond (is_test (is.scope j) o a) (spot (path_is j) site) []
 
     flow_is : (k : ℕ) (q : Sites) → IsPlaced places k q → flow_read x k ≡ index_of numbers.flows q
     flow_is k q w = is.numbering.flows k w.0 ∙ ap (index_of numbers.flows) w.1
@@ -195,7 +200,7 @@ module _ (numbers : Numbers) (i : Instance) (x : Frame) (is : IsFrame numbers i 
 
     -- what is known of an expression where it is constant
     abbrev weighed : Tree → Weighed
-    weighed e = record { value = value_of (constant_value program) e; weight = min (weight_of (constant_value program) e) cap }
+    weighed e = record { value = value_of (constant_value program) e; weight = min (weight_of (constant_value program) e) too_heavy }
 
     constant_is : (e : Tree) → constant_read x e ≡ cond (is_constant (node_scope program i.node) e) (Some (weighed e)) Nothing
     constant_is (tree.Node at site form) = λ j. constant_part (node_scope program (is.node j)) (is.values j) (tree.Node at site form)
@@ -220,29 +225,28 @@ module _ (numbers : Numbers) (i : Instance) (x : Frame) (is : IsFrame numbers i 
         expression_is (tree.Node at site form) k s t = form_is at site form k s t
 
         form_is : (at : ℕ) (site : Option ℕ) (form : Form) (k : Kind) → Stands i.node (tree.Node at site form) → IsTyped program i.node (tree.Node at site form) k → form_read x site form ≡ flat_form program numbers i site form
-        form_is at site tree.True k s t = at_site site (Constant (Flag true)) (Constant (Flag true)) refl
-        form_is at site tree.False k s t = at_site site (Constant (Flag false)) (Constant (Flag false)) refl
-        form_is at site (tree.Number n) k s t = at_site site (Constant (Whole (pos n))) (Constant (Whole (pos n))) refl
-        form_is at site (tree.Named y) k s t = at_site site (named_read x y) (named program numbers i y) (name_is y)
+        form_is at site tree.True k s t = refl
+        form_is at site tree.False k s t = refl
+        form_is at site (tree.Number n) k s t = refl
+        form_is at site (tree.Named y) k s t = ap unplaced (name_is y)
         form_is at site (tree.Not e) k s t =
-            at_site site (Not (tree_read x e)) (Not (flat_of program numbers i e)) (ap Not (expression_is e kind.Bool (as_child at site (tree.Not e) e s of_not) (not_typed program i.node at site e k t).0))
+            ap (λ f. unplaced (Not f)) (expression_is e kind.Bool (as_child at site (tree.Not e) e s of_not) (not_typed program i.node at site e k t).0)
         form_is at site (tree.Minus e) k s t =
-            at_site site (Scale (negsuc 0) (tree_read x e)) (Scale (negsuc 0) (flat_of program numbers i e))
-            (ap (Scale (negsuc 0)) (expression_is e kind.Int (as_child at site (tree.Minus e) e s of_minus) (minus_typed program i.node at site e k t).0))
-        form_is at site (tree.Pre e) k s t = at_site site (Memory (kept_read x site e)) (kept_at program numbers i site e) (kept_is site e (own_delay i.node at site e s))
+            ap (λ f. unplaced (Scale (negsuc 0) f)) (expression_is e kind.Int (as_child at site (tree.Minus e) e s of_minus) (minus_typed program i.node at site e k t).0)
+        form_is at site (tree.Pre e) k s t = ap unplaced (kept_is site e (own_delay i.node at site e s))
         form_is at site (tree.Current e) k s t =
             let r = current_typed program i.node at site e k t in
             let clock = own_clock_is e k r in
             let kept = kept_is site e (own_current i.node at site e s) in
             let body = expression_is e k (as_child at site (tree.Current e) e s of_current) r in
-            λ j. Node (spot (path_is j) site) (If (Node (path_is j) (presence (clock j))) (body j) (Node (path_is j) (kept j)))
+            λ j. unplaced (If (unplaced (presence (clock j))) (body j) (unplaced (kept j)))
         form_is at site (tree.When e y) k s t = expression_is e k (as_child at site (tree.When e y) e s (of_when y)) (when_typed program i.node at site e y k t).0
         form_is at site (tree.Binary o a b) k s t =
             let r = binary_typed program i.node at site o a b k t in
             let left = expression_is a r.left (as_child at site (tree.Binary o a b) a s of_left) r.left_is in
             let right = expression_is b r.right (as_child at site (tree.Binary o a b) b s of_right) r.right_is in
-            at_site site _ _ (operator_is o _ _ _ _ (tree_read x a) (tree_read x b) (flat_of program numbers i a) (flat_of program numbers i b)
-            (λ arrow. let tick = arrow_is at site o a b k s t arrow in λ j. If (Node (path_is j) (Ticked (tick j))) (right j) (left j))
+            at_place _ _ _ _ (place_is site o a) (operator_is o _ _ _ _ (tree_read x a) (tree_read x b) (flat_of program numbers i a) (flat_of program numbers i b)
+            (λ arrow. let tick = arrow_is at site o a b k s t arrow in λ j. If (unplaced (Ticked (tick j))) (right j) (left j))
             (λ times. product_read_is a b (tree_read x a) (tree_read x b) (flat_of program numbers i a) (flat_of program numbers i b)
             (scaled_product (both_are kind.Int r.left r.right) (is_constant (node_scope program i.node) a || is_constant (node_scope program i.node) b) k
             (sym (ap (λ u. kind_in (binary_rule true (is_constant (node_scope program i.node) a || is_constant (node_scope program i.node) b) u r.left r.right)) times) ∙ r.rule))
@@ -253,11 +257,10 @@ module _ (numbers : Numbers) (i : Instance) (x : Frame) (is : IsFrame numbers i 
             let condition = expression_is a kind.Bool (as_child at site (tree.If a b c) a s of_condition) r.0 in
             let first = expression_is b k (as_child at site (tree.If a b c) b s of_first) r.1 in
             let second = expression_is c k (as_child at site (tree.If a b c) c s of_second) r.2 in
-            λ j. Node (spot (path_is j) site) (If (condition j) (first j) (second j))
+            λ j. unplaced (If (condition j) (first j) (second j))
         form_is at site (tree.AtMostOne es) k s t =
-            at_site site (AtMostOne (trees_read x es)) (AtMostOne (flats_of program numbers i es))
-            (ap AtMostOne (all_are es (λ j e arg. as_child at site (tree.AtMostOne es) e s (of_operand j arg)) (most_typed program i.node at site es k t).0))
-        form_is at site (tree.Call f args) k s t = at_site site (Flow (output_read x site)) (flow_at program numbers i (output_place program i (unwrap_or site 0) f 0)) (call_is at site f args k (own_call i.node at site f args s) t)
+            ap (λ fs. unplaced (AtMostOne fs)) (all_are es (λ j e arg. as_child at site (tree.AtMostOne es) e s (of_operand j arg)) (most_typed program i.node at site es k t).0)
+        form_is at site (tree.Call f args) k s t = ap unplaced (call_is at site f args k (own_call i.node at site f args s) t)
 
         all_are : (es : Trees) → ((j : ℕ) (e : Tree) → IsArgument es j e → Stands i.node e) → ((j : ℕ) (e : Tree) → IsArgument es j e → IsTyped program i.node e kind.Bool) → trees_read x es ≡ flats_of program numbers i es
         all_are tree.None s t = refl
@@ -274,6 +277,5 @@ module _ (numbers : Numbers) (i : Instance) (x : Frame) (is : IsFrame numbers i 
             | standing s ↦ expression_is e t.0 s t.1
             | calling at site f args same there ↦
                 subst (λ u. tree_read x u ≡ flat_of program numbers i u) (sym same)
-                (at_site site (Flow (output_read x site)) (flow_at program numbers i (output_place program i (unwrap_or site 0) f 0))
-                (call_is at site f args t.0 there (subst (λ u. IsTyped program i.node u t.0) same t.1)))
+                (ap unplaced (call_is at site f args t.0 there (subst (λ u. IsTyped program i.node u t.0) same t.1)))
           ]

@@ -26,10 +26,11 @@ use Rattle.rv_types.specs.Instances.{Instance, place, clock_in, output_place, Is
 use Rattle.rv_meaning.specs.Meaning.{held, is_on, is_true, number, operate}
 use Rattle.rv_meaning.specs.Runs.{Instant, cell}
 use Rattle.rv_meaning.specs.Instants.{State as Brought, is_on_in, now, form_now, trues_now}
-use Rattle.rv_causality.specs.Weights.{heaviest, weight}
+use Rattle.rv_syntax.specs.Limits.{heaviest}
+use Rattle.rv_causality.specs.Weights.{weight}
 use Rattle.rv_flat.specs.FlatTree.{FlatTree, TreeForm, Constant, Flow, Ticked, If}
 use Rattle.rv_flat.specs.FlatInstants.{Row, nth, is_on_at, flat_value, form_flat_value, flat_trues}
-use Rattle.rv_flat.specs.Readings.{Numbers, clock_number, tick_number, presence, product, operator, inner, coefficient, flat_of, flat_form, flats_of}
+use Rattle.rv_flat.specs.Readings.{Numbers, clock_number, tick_number, presence, product, operator, unplaced, coefficient, flat_of, flat_form, flats_of}
 use Rattle.rv_flat.proofs.Standing.{Stands, as_child, of_not, of_minus, of_current, of_when, of_left, of_right, of_condition, of_first, of_second, of_operand, stands_in, own_delay, own_current}
 use Rattle.rv_flat.proofs.TypedParts.{no_flag, IsTyped, not_typed, minus_typed, current_typed, when_typed, binary_typed, if_typed, most_typed}
 use Rattle.rv_flat.proofs.ConstantOperands.{same_number, constant_now}
@@ -99,7 +100,7 @@ module _ (program : ProgramTree) (main : Identifier) (numbers : Numbers) (flows 
           → (o ≡ op.Arrow → get_or ticked (tick_number numbers (clock_in i Base (tree.Node 0 site (tree.Binary o a b)))) false ≡ state.ticked (clock_in i Base (tree.Node 0 site (tree.Binary o a b))))
           → (o ≡ op.Times → form_flat_value ticked kept inputs row times ≡ Whole (number (meant a) *ℤ number (meant b)))
           → read f ≡ meant a → read g ≡ meant b
-          → form_flat_value ticked kept inputs row (operator o (If (inner program numbers i (Ticked (tick_number numbers (clock_in i Base (tree.Node 0 site (tree.Binary o a b)))))) g f) times f g)
+          → form_flat_value ticked kept inputs row (operator o (If (unplaced (Ticked (tick_number numbers (clock_in i Base (tree.Node 0 site (tree.Binary o a b)))))) g f) times f g)
           ≡ operate o (first_here site o a b) (meant a) (meant b)
       operator_read site op.Arrow a b f g times t p r s = (λ e. cond (t refl e) (s e) (r e)) ∙ turned (state.ticked (clock_in i Base (tree.Node 0 site (tree.Binary op.Arrow a b)))) (meant a) (meant b)
       operator_read site op.Times a b f g times t p r s = p refl

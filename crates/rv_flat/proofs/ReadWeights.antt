@@ -27,7 +27,8 @@ use Rattle.rv_types.specs.Scopes.{node_scope, constant_value}
 use Rattle.rv_types.specs.Instances.{CallTree, Body, Output, Instance, place, absolute, clock_of, clock_taken as taken_clock, clock_in, clock_of_arguments, output_place, IsInstance, IsFlow, IsNode, IsArgument, head, tail}
 use Rattle.rv_types.specs.Needs.{flow_of, needs, form_needs, needs_of, Giver, Gives, given, by_equation, by_call, IsAmongFirst}
 use Rattle.rv_types.specs.WellFormed.{AreWell}
-use Rattle.rv_causality.specs.Weights.{heaviest, constant_size, weight, form_weight, weight_of_giver, IsTooWide, AreWeights}
+use Rattle.rv_syntax.specs.Limits.{heaviest}
+use Rattle.rv_causality.specs.Weights.{constant_size, weight, form_weight, weight_of_giver, IsTooWide, AreWeights}
 use Rattle.rv_flat.specs.declared.parts.Bit.{Bit}
 use Rattle.rv_flat.specs.declared.parts.FlatExpr.{FlatExpr}
 use Rattle.rv_flat.specs.declared.parts.FlatFlow.{FlatFlow}
@@ -37,7 +38,7 @@ use Rattle.rv_flat.specs.FlatTree.{FlatTree, TreeForm, Constant, Flow, Ticked, I
 use Rattle.rv_flat.specs.Facts.{constant_weight, flat_weight, form_flat_weight, is_light, form_is_light, all_light, weights_after, flow_weights, flows_light, memories_light, assertions_light}
 use Rattle.rv_flat.specs.FlatOf.{no_assertion}
 use Rattle.rv_flat.specs.FlatInstants.{no_item, flow_item, memory_item}
-use Rattle.rv_flat.specs.Readings.{Numbers, numbers_of, places_of, clock_number, tick_number, presence, product, operator, inner, coefficient, flat_of, flat_form, flats_of, giver_item, delay_item, assertion_of, IsRead}
+use Rattle.rv_flat.specs.Readings.{Numbers, numbers_of, places_of, clock_number, tick_number, presence, product, operator, unplaced, coefficient, flat_of, flat_form, flats_of, giver_item, delay_item, assertion_of, IsRead}
 use Rattle.rv_flat.proofs.Members.{at_head}
 use Rattle.rv_flat.proofs.Standing.{Stands, as_child, of_not, of_minus, of_current, of_when, of_left, of_right, of_condition, of_first, of_second, of_operand, own_call, body_stands, argument_stands, operand_stands, as_assertion, output_call}
 use Rattle.rv_flat.proofs.TypedParts.{no_flag, IsTyped, not_typed, minus_typed, current_typed, when_typed, binary_typed, if_typed, most_typed, call_typed}
@@ -122,7 +123,7 @@ module _ (program : ProgramTree) (main : Identifier) (well : AreWell program) (n
       turned m n = omega arith
 
       operator_weighs : (site : Option ℕ) (o : Op) (a b : Tree) (tick : TreeForm) (f g : FlatTree) → flat_weight ws f ≡ weight program wf i a → flat_weight ws g ≡ weight program wf i b
-          → form_flat_weight ws (operator o (If (inner program numbers i tick) g f) (product (is_constant (node_scope program i.node) a) (coefficient program numbers i a) (coefficient program numbers i b) f g) f g) ≡ form_weight program wf i site (tree.Binary o a b)
+          → form_flat_weight ws (operator o (If (unplaced tick) g f) (product (is_constant (node_scope program i.node) a) (coefficient program numbers i a) (coefficient program numbers i b) f g) f g) ≡ form_weight program wf i site (tree.Binary o a b)
       operator_weighs site op.Arrow a b tick f g p q = (λ j. max (q j) (p j)) ∙ turned (weight program wf i a) (weight program wf i b)
       operator_weighs site op.Times a b tick f g p q = product_weighs (is_constant (node_scope program i.node) a) a b f g p q
       operator_weighs site op.Plus a b tick f g p q = λ j. p j + q j
@@ -291,7 +292,7 @@ module _ (program : ProgramTree) (main : Identifier) (well : AreWell program) (n
       IsLightHere f = is_light all_weights f ≡ true
 
       -- the presence of the clock of an expression that has a type
-      presence_light : (k : Option Sites) → ((q : Sites) → k ≡ Some q → IsFlow program main q) → IsLightHere (inner program numbers i (presence (clock_number numbers k)))
+      presence_light : (k : Option Sites) → ((q : Sites) → k ≡ Some q → IsFlow program main q) → IsLightHere (unplaced (presence (clock_number numbers k)))
       presence_light Nothing flow = refl
       presence_light (Some q) flow =
           let is = flow q refl in
@@ -321,7 +322,7 @@ module _ (program : ProgramTree) (main : Identifier) (well : AreWell program) (n
       product_light false a b f g l r p q = both (nat_le (nat_abs (coefficient program numbers i b)) heaviest) (is_light all_weights f) (r refl) p
 
       operator_light : (o : Op) (t : ℕ) (times : TreeForm) (f g : FlatTree) → (o ≡ op.Times → form_is_light all_weights times ≡ true) → IsLightHere f → IsLightHere g
-          → form_is_light all_weights (operator o (If (inner program numbers i (Ticked t)) g f) times f g) ≡ true
+          → form_is_light all_weights (operator o (If (unplaced (Ticked t)) g f) times f g) ≡ true
       operator_light op.Arrow t times f g h p q = both (is_light all_weights g) (is_light all_weights f) q p
       operator_light op.Times t times f g h p q = h refl
       operator_light op.Implies t times f g h p q = both (is_light all_weights f) (is_light all_weights g) p q
@@ -361,7 +362,7 @@ module _ (program : ProgramTree) (main : Identifier) (well : AreWell program) (n
         form_light at site (tree.Pre e) k s t root = refl
         form_light at site (tree.Current e) k s t root =
             let r = current_typed program i.node at site e k t in
-            both _ (is_light all_weights (inner program numbers i (presence (clock_number numbers (clock_in i Base e)))) && (is_light all_weights (flat_of program numbers i e) && true)) root
+            both _ (is_light all_weights (unplaced (presence (clock_number numbers (clock_in i Base e)))) && (is_light all_weights (flat_of program numbers i e) && true)) root
             (both _ (is_light all_weights (flat_of program numbers i e) && true) (presence_light (clock_in i Base e) (own_clock e k r))
             (both (is_light all_weights (flat_of program numbers i e)) true (expression_light e k (as_child at site (tree.Current e) e s of_current) r) refl))
         form_light at site (tree.When e x) k s t root = expression_light e k (as_child at site (tree.When e x) e s (of_when x)) (when_typed program i.node at site e x k t).0
@@ -447,7 +448,7 @@ module _ (program : ProgramTree) (main : Identifier) (well : AreWell program) (n
         let body = flat_of program numbers i r.1.body in
         let is : flat_tree a ≡ assertion_of program numbers i r.1 =
         sym (get_or_from_slice_get (map flat_tree assertions) k (flat_tree a) no_assertion (slice_get-map flat_tree assertions k ∙ ap (option_map flat_tree) at)) ∙ r.4 in
-        let parts = both (is_light all_weights (inner program numbers i (presence (clock_number numbers (clock_in i Base r.1.body))))) (is_light all_weights body && true)
+        let parts = both (is_light all_weights (unplaced (presence (clock_number numbers (clock_in i Base r.1.body))))) (is_light all_weights body && true)
         (presence_light i r.2 (clock_in i Base r.1.body) (own_clock i r.2 r.1.body kind.Bool t))
         (both (is_light all_weights body) true (expression_light i r.2 r.1.body kind.Bool (as_assertion r.1 r.3) t) refl) in
         ap (is_light all_weights) is

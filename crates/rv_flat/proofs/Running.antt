@@ -1,37 +1,44 @@
 -- Steps of a flat system from the start give the run of its program.
-use Rattle.std.proofs.Common.{◌≡◌, ℕ, zero, suc, ◌+◌, ◌<◌, ◌↔◌, Bool, false, List, [], ◌∷◌, length, map, get_or, refl, sym, ◌∙◌, ap, subst, arith}
+use Rattle.std.proofs.Common.{◌≡◌, ◌⊎◌, inl, inr, ℕ, zero, suc, ◌+◌, ◌<◌, ◌≤◌, ◌↔◌, Bool, true, false, List, [], ◌∷◌, ◌++◌, length, map, get_or, refl, sym, ◌∙◌, ap, subst, arith}
 use Rattle.std.proofs.Common.{Option, None as Nothing, Some}
 use Rattle.std.specs.FinMap.{empty}
 use Rattle.std.specs.List.{Contains}
-use Rattle.std.proofs.lemmas.List.{ext_get_or}
+use Rattle.std.proofs.lemmas.List.{ext_get_or, get_or-map}
 use Rattle.std.proofs.Math.ListN.{length-map}
 use Rattle.rv_base.specs.declared.value.Value.{Value}
-use Rattle.rv_base.specs.declared.value.Value.TheVariants.{Flag}
-use Rattle.rv_syntax.specs.Tree.{ProgramTree}
+use Rattle.rv_base.specs.declared.value.Place.{Place}
+use Rattle.rv_base.specs.declared.value.Value.TheVariants.{Flag, Label, Whole}
+use Rattle.rv_syntax.specs.Tree.{AssertionTree, ProgramTree}
 use Rattle.rv_syntax.specs.Places.{Identifier, Sites, index_of}
-use Rattle.rv_types.specs.Instances.{IsNode}
+use Rattle.rv_types.specs.declared.typed.Clock.TheVariants.{Base}
+use Rattle.rv_types.specs.Instances.{Instance, node_of, IsInstance, IsNode}
 use Rattle.rv_types.specs.Lists.{MemoryAt}
 use Rattle.rv_types.specs.WellFormed.{AreWell}
-use Rattle.rv_meaning.specs.Meaning.{kept_place}
-use Rattle.rv_meaning.specs.Runs.{History, cells, AssertionsHold, IsRun}
-use Rattle.rv_meaning.specs.Instants.{State as Brought, IsInstant, IsNext, IsStart, AllowsAt}
+use Rattle.rv_meaning.specs.Meaning.{is_true, kept_place, value}
+use Rattle.rv_meaning.specs.Runs.{History, cell, cells, observed, AssertionsHold, IsRun}
+use Rattle.rv_meaning.specs.Instants.{State as Brought, IsInstant, IsNext, IsStart, AllowsAt, value_now}
 use Rattle.rv_meaning.specs.Following.{IsStateAt}
 use Rattle.rv_flat.specs.declared.flat.Flat.{Flat}
 use Rattle.rv_flat.specs.declared.parts.FlatMemory.{FlatMemory}
 use Rattle.rv_flat.specs.declared.state.State.{State}
-use Rattle.rv_flat.specs.FlatInstants.{Row, places, memory_places, tick_clocks, IsFlatInstant, IsFlatNext}
-use Rattle.rv_flat.specs.FlatOf.{IsFlatOf, flat_state, flat_inputs, row_of, memory_of}
+use Rattle.rv_flat.specs.FlatInstants.{Row, nth, places, memory_places, tick_clocks, IsFlatInstant, IsFlatNext}
+use Rattle.rv_flat.specs.FlatOf.{IsBroken, IsFlatBroken, flat_state, flat_inputs, row_of, memory_of}
+use Rattle.rv_flat.specs.FlatRuns.{AreStepsOf, IsBrokenAt}
 use Rattle.rv_flat.specs.Lists.{tick_places}
-use Rattle.rv_flat.specs.Steps.{IsFlatStart}
+use Rattle.rv_flat.specs.Steps.{IsFlatStart, IsLeastOf}
+use Rattle.rv_flat.proofs.Earliest.{least_same}
 use Rattle.rv_flat.proofs.OneRow.{only_row}
 
 -- What is taken from the meaning: the states and the instants of a run.
 
-abbrev pub RunIsInstants : Type 0
-RunIsInstants = (program : ProgramTree) (main : Identifier) (starts : Sites → Value) (inputs : ℕ → ℕ → Value) (n : ℕ) (h : History) (t : ℕ) (state : Brought)
-    → IsRun program main starts inputs n h → t < n → IsStateAt program main starts (cells h) t state
-    → IsInstant program main state (inputs t) (get_or h t empty)
-    × (AssertionsHold program main starts h t ↔ AllowsAt program main state (get_or h t empty))
+pub record RunIsInstants : Type 0 where
+  pub instant : (program : ProgramTree) (main : Identifier) (starts : Sites → Value) (inputs : ℕ → ℕ → Value) (n : ℕ) (h : History) (t : ℕ) (state : Brought)
+      → IsRun program main starts inputs n h → t < n → IsStateAt program main starts (cells h) t state
+      → IsInstant program main state (inputs t) (get_or h t empty)
+      × (AssertionsHold program main starts h t ↔ AllowsAt program main state (get_or h t empty))
+  pub assertions : (program : ProgramTree) (main : Identifier) (starts : Sites → Value) (h : History) (t : ℕ) (state : Brought) (i : Instance) (a : AssertionTree)
+      → IsStateAt program main starts (cells h) t state → IsInstance program main i → Contains i.node.assertions a
+      → value program starts (cells h) i Base a.body t ≡ value_now program state (get_or h t empty) i Base a.body
 
 pub record StatesOfRun : Type 0 where
   pub some : (program : ProgramTree) (main : Identifier) (starts : Sites → Value) (h : History) (t : ℕ) → AreWell program → IsNode program main → (state : Brought) × IsStateAt program main starts (cells h) t state
@@ -71,21 +78,39 @@ all_false g [] none k = refl
 all_false g (x ∷ ks) none zero = none x
 all_false g (x ∷ ks) none (suc k) = all_false g ks none k
 
+-- an assertion that is not false holds
+not_false : (o : Option Value) → ((v : Value) → o ≡ Some v → is_true v ≡ false → ⊥) → (o ≡ Nothing) ⊎ (o ≡ Some (Flag true))
+not_false Nothing h = inl refl
+not_false (Some (Flag true)) h = inr refl
+not_false (Some (Flag false)) h = absurd (h (Flag false) refl refl)
+not_false (Some (Label l)) h = absurd (h (Label l) refl refl)
+not_false (Some (Whole z)) h = absurd (h (Whole z) refl refl)
+
+not_both : (o : Option Value) (v : Value) → (o ≡ Nothing) ⊎ (o ≡ Some (Flag true)) → o ≡ Some v → is_true v ≡ false → ⊥
+not_both o v (inl none) is h = cc
+not_both o (Flag true) (inr holds) is h = cc
+not_both o (Flag false) (inr holds) is h = cc
+not_both o (Label l) (inr holds) is h = cc
+not_both o (Whole z) (inr holds) is h = cc
+
+-- what stands at a number is something only below the end
+within_places : (ps : List Sites) (k s : ℕ) → get_or ps k [] ≡ s ∷ [] → k < length ps
+within_places [] k s e = cc
+within_places (p ∷ ps) zero s e = omega arith
+within_places (p ∷ ps) (suc k) s e = let h = within_places ps k s e in omega (arith, h)
+
 module _ (run_is_instants : RunIsInstants) (states_of_run : StatesOfRun)
     (program : ProgramTree) (main : Identifier) (f : Flat) (starts : Sites → Value) (inputs : ℕ → ℕ → Value) (n : ℕ) (h : History) (states : ℕ → State) (rows : ℕ → Row)
-    (well : AreWell program) (named : IsNode program main) (flat : IsFlatOf program main f) (run : IsRun program main starts inputs n h)
-    (start : IsFlatStart f (map starts (memory_places f)) (states 0))
-    (instants : (t : ℕ) → t < n → IsFlatInstant f (states t) (flat_inputs f (inputs t)) (rows t))
-    (nexts : (t : ℕ) → t < n → IsFlatNext f (states t) (flat_inputs f (inputs t)) (rows t) (states (t + 1))) where
+    (are : AreStepsOf program main f starts inputs n h states rows) where
   -- the state that the run brings to an instant
   abbrev brought : ℕ → Brought
-  brought t = (states_of_run.some program main starts h t well named).0
+  brought t = (states_of_run.some program main starts h t are.well are.named).0
 
   brought_at : (t : ℕ) → IsStateAt program main starts (cells h) t (brought t)
-  brought_at t = (states_of_run.some program main starts h t well named).1
+  brought_at t = (states_of_run.some program main starts h t are.well are.named).1
 
   instant_at : (t : ℕ) → t < n → IsInstant program main (brought t) (inputs t) (get_or h t empty)
-  instant_at t lt = (run_is_instants program main starts inputs n h t (brought t) run lt (brought_at t)).0
+  instant_at t lt = (run_is_instants.instant program main starts inputs n h t (brought t) are.run lt (brought_at t)).0
 
   start_same : states 0 ≡ flat_state f (brought 0)
   start_same =
@@ -95,33 +120,73 @@ module _ (run_is_instants : RunIsInstants) (states_of_run : StatesOfRun)
       length-map ks (brought 0).ticked ∙ omega (arith, length-map (tick_places f.variables) (λ (p : Sites). Some p), length-map (tick_places f.variables) (λ (p : Sites). Some (index_of (places f) p))) in
       let kept : map starts (memory_places f) ≡ map (brought 0).kept (memory_places f) =
       sym (same_kept (brought 0).kept starts f.memories (λ m w.
-      let found = flat.memories.only m w in
+      let found = are.flat.memories.only m w in
       let at : m.place ≡ kept_place found.0 found.1.site found.1.operand = ap (λ x. x.place) found.5 in
       ap (brought 0).kept at ∙ first.memories found.0 found.1 found.2 found.4 ∙ ap starts (sym at))) in
-      let ticked = ext_get_or false (states 0).ticked (flat_state f (brought 0)).ticked (start.ticks ∙ sym long) (λ k lt. start.none k ∙ sym (all_false (brought 0).ticked ks first.ticks k)) in
-      let held = start.kept ∙ kept in
+      let ticked = ext_get_or false (states 0).ticked (flat_state f (brought 0)).ticked (are.start.ticks ∙ sym long) (λ k lt. are.start.none k ∙ sym (all_false (brought 0).ticked ks first.ticks k)) in
+      let held = are.start.kept ∙ kept in
       λ i. record { ticked = ticked i; kept = held i }
 
   row_same : (t : ℕ) → t < n → states t ≡ flat_state f (brought t) → rows t ≡ row_of (places f) (get_or h t empty)
   row_same t lt same =
       only_row f (states t) (flat_inputs f (inputs t)) (row_of (places f) (get_or h t empty)) (rows t)
-      (subst (λ s. IsFlatInstant f s (flat_inputs f (inputs t)) (row_of (places f) (get_or h t empty))) (sym same) (flat.instants (brought t) (inputs t) (get_or h t empty) (instant_at t lt)))
-      (instants t lt)
+      (subst (λ s. IsFlatInstant f s (flat_inputs f (inputs t)) (row_of (places f) (get_or h t empty))) (sym same) (are.flat.instants (brought t) (inputs t) (get_or h t empty) (instant_at t lt)))
+      (are.instants t lt)
 
-  state_same : (t : ℕ) → t < n → states t ≡ flat_state f (brought t)
-  state_same zero lt = start_same
-  state_same (suc t) lt =
+  pub state_same : (t : ℕ) → t ≤ n → states t ≡ flat_state f (brought t)
+  state_same zero le = start_same
+  state_same (suc t) le =
       let before : t < n = omega arith in
-      let same = state_same t before in
+      let same = state_same t (omega (arith, before)) in
       let row = row_same t before same in
       let one : t + 1 ≡ suc t = omega arith in
-      let after = flat.next (brought t) (brought (t + 1)) (inputs t) (get_or h t empty) (instant_at t before)
+      let after = are.flat.next (brought t) (brought (t + 1)) (inputs t) (get_or h t empty) (instant_at t before)
       (states_of_run.next program main starts h t (brought t) (brought (t + 1)) (brought_at t) (brought_at (t + 1))) in
       let mine : IsFlatNext f (flat_state f (brought t)) (flat_inputs f (inputs t)) (row_of (places f) (get_or h t empty)) (states (t + 1)) =
       subst (λ s. IsFlatNext f s (flat_inputs f (inputs t)) (row_of (places f) (get_or h t empty)) (states (t + 1))) same
-      (subst (λ r. IsFlatNext f (states t) (flat_inputs f (inputs t)) r (states (t + 1))) row (nexts t before)) in
+      (subst (λ r. IsFlatNext f (states t) (flat_inputs f (inputs t)) r (states (t + 1))) row (are.nexts t before)) in
       subst (λ j. states j ≡ flat_state f (brought j)) one
       (one_next f (flat_state f (brought t)) (flat_inputs f (inputs t)) (row_of (places f) (get_or h t empty)) (states (t + 1)) (flat_state f (brought (t + 1))) mine after)
 
   pub rows_of_run : (t : ℕ) → t < n → rows t ≡ row_of (places f) (get_or h t empty)
-  rows_of_run t lt = row_same t lt (state_same t lt)
+  rows_of_run t lt = row_same t lt (state_same t (omega arith))
+
+  -- the state that the run brings to each instant
+  pub states_brought : (t : ℕ) → t ≤ n → (state : Brought) × IsStateAt program main starts (cells h) t state × (states t ≡ flat_state f state)
+  states_brought t le = (brought t, brought_at t, state_same t le)
+
+  -- the observer
+  pub observer_of_run : (t : ℕ) → t < n → nth (rows t) f.observer ≡ observed program main h t
+  observer_of_run t lt =
+      let within = within_places (places f) f.observer (length (node_of program main).inputs) are.flat.observer in
+      ap (λ r. nth r f.observer) (rows_of_run t lt)
+      ∙ get_or-map (cell (get_or h t empty)) (places f) f.observer [] Nothing within ∙ ap (cell (get_or h t empty)) are.flat.observer
+
+  -- the assertions that are false
+  module _ (t : ℕ) (lt : t < n) where
+    abbrev IsFalse : Sites → Type 0
+    IsFalse = IsFlatBroken f (states t) (flat_inputs f (inputs t)) (rows t)
+
+    alike : (i : Instance) (a : AssertionTree) → IsInstance program main i → Contains i.node.assertions a → value program starts (cells h) i Base a.body t ≡ value_now program (brought t) (get_or h t empty) i Base a.body
+    alike i a inst w = run_is_instants.assertions program main starts h t (brought t) i a (brought_at t) inst w
+
+    both_broken : (q : Sites) → IsBroken program main (brought t) (get_or h t empty) q ↔ IsFalse q
+    both_broken q =
+        subst (λ s. IsBroken program main (brought t) (get_or h t empty) q ↔ IsFlatBroken f s (flat_inputs f (inputs t)) (rows t) q) (sym (state_same t (omega arith)))
+        (subst (λ r. IsBroken program main (brought t) (get_or h t empty) q ↔ IsFlatBroken f (flat_state f (brought t)) (flat_inputs f (inputs t)) r q) (sym (rows_of_run t lt))
+        (are.flat.assertions (brought t) (inputs t) (get_or h t empty) q (instant_at t lt)))
+
+    pub broken_of_run : (q : Sites) → IsFalse q ↔ IsBrokenAt program main starts h t q
+    broken_of_run q = (
+      λ w. let b = (both_broken q).1 w in (b.0, b.1, b.2, b.3, b.4, b.5, alike b.0 b.1 b.3 b.4 ∙ b.6, b.7),
+      λ b. (both_broken q).0 (b.0, b.1, b.2, b.3, b.4, b.5, sym (alike b.0 b.1 b.3 b.4) ∙ b.6, b.7),
+    )
+
+    pub least_of_run : (p : Option Place) → IsLeastOf IsFalse p → IsLeastOf (IsBrokenAt program main starts h t) p
+    least_of_run p least = least_same IsFalse (IsBrokenAt program main starts h t) p (λ q w. (broken_of_run q).0 w) (λ q w. (broken_of_run q).1 w) least
+
+    pub allowed_of_run : AssertionsHold program main starts h t ↔ ((q : Sites) → IsFalse q → ⊥)
+    allowed_of_run = (
+      λ holds q w. let b = (broken_of_run q).0 w in not_both (value program starts (cells h) b.0 Base b.1.body t) b.2 (holds b.0 b.1 b.3 b.4) b.6 b.7,
+      λ none i a inst w. not_false (value program starts (cells h) i Base a.body t) (λ v is false_v. none (i.path ++ a.site ∷ []) ((broken_of_run (i.path ++ a.site ∷ [])).1 (i, a, v, inst, w, refl, is, false_v))),
+    )

@@ -6,6 +6,7 @@ use Rattle.std.specs.List.{Contains}
 use Rattle.std.proofs.lemmas.Bool.{ltb-true}
 use Rattle.std.proofs.lemmas.Bool.Decides.{nat_tests}
 use Rattle.std.proofs.lemmas.List.{ext_get_or, get_or-map, get_or_append_left, get_or_push}
+use Rattle.std.proofs.lemmas.List.Elements.{Contains-get_or}
 use Rattle.std.proofs.lemmas.Option.{slice_get_within}
 use Rattle.std.proofs.Math.ListN.{length-map}
 use Rattle.std.proofs.Math.Nat.{eq-or-lt_of_le}
@@ -31,7 +32,7 @@ use Rattle.rv_flat.specs.FlatInstants.{Row, places, memory_places, nth_item, mem
 use Rattle.rv_flat.specs.FlatOf.{IsFlatOf, flat_state, flat_inputs, first_values, row_of, instant_of, memory_of}
 use Rattle.rv_flat.specs.Facts.{constant_fits}
 use Rattle.rv_flat.specs.Lists.{tick_places}
-use Rattle.rv_flat.specs.Steps.{IsState, AreValues, AreTaken, label_counts, memory_kinds, input_kinds}
+use Rattle.rv_flat.specs.Steps.{IsInRange, IsState, AreValues, AreTaken, label_counts, memory_kinds, input_kinds}
 use Rattle.rv_flat.proofs.TickList.{number_at, ticks_rising}
 
 -- What is taken from the meaning: memories of their types stay so, and there is a state after each row.
@@ -120,9 +121,8 @@ tick_value ticked ps rising (suc k) lt =
     ∙ ap g (get_or-map (λ (p : Sites). Some p) ps k [] Nothing less)
     ∙ ap (λ j. get_or ticked (suc j) false) (number_at ps rising k less)
 
-module _ (typed_memories : TypedMemories) (some_next : SomeNext) (program : ProgramTree) (main : Identifier) (f : Flat) (now : State) (inputs : List Value) (row : Row)
-    (well : AreWell program) (named : IsNode program main) (flat : IsFlatOf program main f) (state : IsState f now) (given : AreValues f (input_kinds f) inputs)
-    (instant : IsFlatInstant f now inputs row) where
+-- The states and the inputs of a flat system, as its program has them.
+module _ (program : ProgramTree) (main : Identifier) (f : Flat) (well : AreWell program) (named : IsNode program main) (flat : IsFlatOf program main f) where
   abbrev ticks : List Sites
   ticks = tick_places f.variables
 
@@ -135,80 +135,142 @@ module _ (typed_memories : TypedMemories) (some_next : SomeNext) (program : Prog
   counts_same : (i : ℕ) → get_or (label_counts f) i 0 ≡ labels_at program.types i
   counts_same i = ap (λ ls. get_or (map (λ l. length l) ls) i 0) flat.labels ∙ counted program.types i
 
-  -- the state and the inputs, as the program has them
-  abbrev brought : Brought
-  brought = record { ticked = λ o. get_or now.ticked (tick_number ticks o) false; kept = λ p. get_or now.kept (index_of kept_places p) (Flag false) }
-
-  abbrev given_at : ℕ → Value
-  given_at j = get_or inputs j (Flag false)
-
   count : length kept_places ≡ length f.memories
   count = length-map f.memories (λ m. m.place.sites)
 
-  state_same : flat_state f brought ≡ now
-  state_same =
-      let clocks = length-map ticks (λ (p : Sites). Some (index_of (places f) p)) in
+  -- how many ticks the flat form of a state has
+  ticks_long : (state : Brought) → length (flat_state f state).ticked ≡ suc (length ticks)
+  ticks_long state =
       let firsts = length-map ticks (λ (p : Sites). Some p) in
-      let long_ticks : length (flat_state f brought).ticked ≡ suc (length ticks) = length-map (Nothing ∷ map (λ p. Some p) ticks) brought.ticked ∙ omega (arith, firsts) in
-      let ticked = ext_get_or false (flat_state f brought).ticked now.ticked (omega (arith, long_ticks, clocks, state.ticks))
-      (λ k lt. tick_value now.ticked ticks (ticks_rising program main f.variables flat.variables) k (omega (arith, long_ticks))) in
-      let long : length (flat_state f brought).kept ≡ length kept_places = length-map kept_places brought.kept in
-      let kept = ext_get_or (Flag false) (flat_state f brought).kept now.kept (omega (arith, long, count, state.kept.size, length-map f.memories (λ m. m.kind)))
-      (λ m lt. let less : m < length kept_places = omega (arith, long) in
-      get_or-map brought.kept kept_places m [] (Flag false) less ∙ ap (λ j. get_or now.kept j (Flag false)) (number_at kept_places memories_rising m less)) in
-      λ i. record { ticked = ticked i; kept = kept i }
+      length-map (Nothing ∷ map (λ p. Some p) ticks) state.ticked ∙ omega (arith, firsts)
 
-  inputs_same : flat_inputs f given_at ≡ inputs
-  inputs_same =
-      let long = length-values given_at (length f.inputs) in
-      ext_get_or (Flag false) (flat_inputs f given_at) inputs (omega (arith, long, given.size, length-map f.inputs (λ j. j.kind)))
-      (λ k lt. value_kth given_at (length f.inputs) k (omega (arith, long)))
+  module _ (now : State) (state : IsState f now) where
+    abbrev brought : Brought
+    brought = record { ticked = λ o. get_or now.ticked (tick_number ticks o) false; kept = λ p. get_or now.kept (index_of kept_places p) (Flag false) }
 
-  program_instant : IsInstant program main brought given_at (instant_of (places f) row)
+    pub state_same : flat_state f brought ≡ now
+    state_same =
+        let clocks = length-map ticks (λ (p : Sites). Some (index_of (places f) p)) in
+        let long_ticks = ticks_long brought in
+        let ticked = ext_get_or false (flat_state f brought).ticked now.ticked (omega (arith, long_ticks, clocks, state.ticks))
+        (λ k lt. tick_value now.ticked ticks (ticks_rising program main f.variables flat.variables) k (omega (arith, long_ticks))) in
+        let long : length (flat_state f brought).kept ≡ length kept_places = length-map kept_places brought.kept in
+        let kept = ext_get_or (Flag false) (flat_state f brought).kept now.kept (omega (arith, long, count, state.kept.size, length-map f.memories (λ m. m.kind)))
+        (λ m lt. let less : m < length kept_places = omega (arith, long) in
+        get_or-map brought.kept kept_places m [] (Flag false) less ∙ ap (λ j. get_or now.kept j (Flag false)) (number_at kept_places memories_rising m less)) in
+        λ i. record { ticked = ticked i; kept = kept i }
+
+    pub starts_typed : AreStarts program main brought.kept
+    starts_typed i d inst w =
+        let at = memory_at program i d in
+        let found = memory_found f.memories at (flat.memories.all i d inst tt w) in
+        let number : index_of kept_places at.place ≡ found.0 = ap (index_of kept_places) (sym found.3) ∙ number_at kept_places memories_rising found.0 (omega (arith, count, found.1)) in
+        let value : get_or now.kept found.0 (Flag false) ≡ brought.kept at.place = ap (λ j. get_or now.kept j (Flag false)) (sym number) in
+        subst (HasKind program at.kind) value
+        (has_kind program (label_counts f) counts_same at.kind (get_or now.kept found.0 (Flag false))
+        (state.kept.typed found.0 at.kind (slice_get_within (memory_kinds f) found.0 at.kind found.2) found.2))
+
+    pub state_of_program : (state : Brought) × (flat_state f state ≡ now) × AreStarts program main state.kept
+    state_of_program = (brought, state_same, starts_typed)
+
+  module _ (given_values : List Value) (given : AreValues f (input_kinds f) given_values) where
+    abbrev given_at : ℕ → Value
+    given_at j = get_or given_values j (Flag false)
+
+    pub inputs_same : flat_inputs f given_at ≡ given_values
+    inputs_same =
+        let long = length-values given_at (length f.inputs) in
+        ext_get_or (Flag false) (flat_inputs f given_at) given_values (omega (arith, long, given.size, length-map f.inputs (λ j. j.kind)))
+        (λ k lt. value_kth given_at (length f.inputs) k (omega (arith, long)))
+
+    pub given_typed : AreGiven program main given_at
+    given_typed j k e =
+        let is : slice_get (input_kinds f) j ≡ Some k = ap (λ ks. slice_get ks j) flat.input_kinds ∙ e in
+        has_kind program (label_counts f) counts_same k (given_at j) (given.typed j k (slice_get_within (input_kinds f) j k is) is)
+
+    pub inputs_of_program : (inputs : ℕ → Value) × (flat_inputs f inputs ≡ given_values) × AreGiven program main inputs
+    inputs_of_program = (given_at, inputs_same, given_typed)
+
+  -- And back: what a state of the program is to the flat system.
+  pub state_of_flat : (state : Brought) → AreStarts program main state.kept → ((q : Sites) → Contains kept_places q → IsInRange (state.kept q)) → IsState f (flat_state f state)
+  state_of_flat state starts small = record {
+    ticks =
+        let clocks = length-map ticks (λ (p : Sites). Some (index_of (places f) p)) in
+        let long = ticks_long state in
+        omega (arith, clocks, long);
+    kept = record {
+      size = length-map kept_places state.kept ∙ count ∙ sym (length-map f.memories (λ m. m.kind));
+      typed = λ m j lt e.
+          let less : m < length kept_places = omega (arith, lt, count, length-map f.memories (λ m. m.kind)) in
+          let found = flat.memories.only (record { place = get_or kept_places m []; kind = j }) (memory_kth f.memories m j e) in
+          let at : MemoryAt = memory_at program found.0 found.1 in
+          let place : get_or kept_places m [] ≡ at.place = ap (λ (a : MemoryAt). a.place) found.5 in
+          let kind : j ≡ at.kind = ap (λ (a : MemoryAt). a.kind) found.5 in
+          let typed : HasKind program j (state.kept (get_or kept_places m [])) =
+          subst (λ q. HasKind program j (state.kept q)) (sym place) (subst (λ k. HasKind program k (state.kept at.place)) (sym kind) (starts found.0 found.1 found.2 found.4)) in
+          subst (λ v. constant_fits (label_counts f) j v ≡ true) (sym (get_or-map state.kept kept_places m [] (Flag false) less))
+          (fits_kind program (label_counts f) counts_same j (state.kept (get_or kept_places m [])) typed);
+      within = λ m lt.
+          let less : m < length kept_places = omega (arith, lt, length-map kept_places state.kept) in
+          subst IsInRange (sym (get_or-map state.kept kept_places m [] (Flag false) less)) (small (get_or kept_places m []) (Contains-get_or kept_places m [] less));
+    };
+  }
+
+  -- and what its inputs are
+  pub inputs_of_flat : (inputs : ℕ → Value) → AreGiven program main inputs → ((j : ℕ) → j < length f.inputs → IsInRange (inputs j)) → AreValues f (input_kinds f) (flat_inputs f inputs)
+  inputs_of_flat inputs given small = record {
+    size = length-values inputs (length f.inputs) ∙ sym (length-map f.inputs (λ j. j.kind));
+    typed = λ k j lt e.
+        let less : k < length f.inputs = omega (arith, lt, length-map f.inputs (λ j. j.kind)) in
+        subst (λ v. constant_fits (label_counts f) j v ≡ true) (sym (value_kth inputs (length f.inputs) k less))
+        (fits_kind program (label_counts f) counts_same j (inputs k) (given k j (ap (λ ks. slice_get ks k) (sym flat.input_kinds) ∙ e)));
+    within = λ k lt.
+        let less : k < length f.inputs = omega (arith, lt, length-values inputs (length f.inputs)) in
+        subst IsInRange (sym (value_kth inputs (length f.inputs) k less)) (small k less);
+  }
+
+module _ (typed_memories : TypedMemories) (some_next : SomeNext) (program : ProgramTree) (main : Identifier) (f : Flat) (now : State) (inputs : List Value) (row : Row)
+    (well : AreWell program) (named : IsNode program main) (flat : IsFlatOf program main f) (state : IsState f now) (given : AreValues f (input_kinds f) inputs)
+    (instant : IsFlatInstant f now inputs row) where
+  abbrev memory_spots : List Sites
+  memory_spots = memory_places f
+
+  abbrev before : Brought
+  before = brought program main f well named flat now state
+
+  abbrev inputs_at : ℕ → Value
+  inputs_at = given_at program main f well named flat inputs given
+
+  program_instant : IsInstant program main before inputs_at (instant_of (places f) row)
   program_instant =
-      flat.rows brought given_at row (subst (λ s. IsFlatInstant f s (flat_inputs f given_at) row) (sym state_same) (subst (λ js. IsFlatInstant f now js row) (sym inputs_same) instant))
+      flat.rows before inputs_at row (subst (λ s. IsFlatInstant f s (flat_inputs f inputs_at) row) (sym (state_same program main f well named flat now state)) (subst (λ js. IsFlatInstant f now js row) (sym (inputs_same program main f well named flat inputs given)) instant))
 
   abbrev next : Brought
-  next = (some_next program main brought (instant_of (places f) row) well named).0
+  next = (some_next program main before (instant_of (places f) row) well named).0
 
   flat_next : IsFlatNext f now inputs row (flat_state f next)
   flat_next =
-      let is = flat.next brought next given_at (instant_of (places f) row) program_instant (some_next program main brought (instant_of (places f) row) well named).1 in
+      let is = flat.next before next inputs_at (instant_of (places f) row) program_instant (some_next program main before (instant_of (places f) row) well named).1 in
       subst (λ r. IsFlatNext f now inputs r (flat_state f next)) (flat.kept row instant.flows)
-      (subst (λ js. IsFlatNext f now js (row_of (places f) (instant_of (places f) row)) (flat_state f next)) inputs_same
-      (subst (λ s. IsFlatNext f s (flat_inputs f given_at) (row_of (places f) (instant_of (places f) row)) (flat_state f next)) state_same is))
-
-  starts_typed : AreStarts program main brought.kept
-  starts_typed i d inst w =
-      let at = memory_at program i d in
-      let found = memory_found f.memories at (flat.memories.all i d inst tt w) in
-      let number : index_of kept_places at.place ≡ found.0 = ap (index_of kept_places) (sym found.3) ∙ number_at kept_places memories_rising found.0 (omega (arith, count, found.1)) in
-      let value : get_or now.kept found.0 (Flag false) ≡ brought.kept at.place = ap (λ j. get_or now.kept j (Flag false)) (sym number) in
-      subst (HasKind program at.kind) value
-      (has_kind program (label_counts f) counts_same at.kind (get_or now.kept found.0 (Flag false))
-      (state.kept.typed found.0 at.kind (slice_get_within (memory_kinds f) found.0 at.kind found.2) found.2))
-
-  given_typed : AreGiven program main given_at
-  given_typed j k e =
-      let is : slice_get (input_kinds f) j ≡ Some k = ap (λ ks. slice_get ks j) flat.input_kinds ∙ e in
-      has_kind program (label_counts f) counts_same k (given_at j) (given.typed j k (slice_get_within (input_kinds f) j k is) is)
+      (subst (λ js. IsFlatNext f now js (row_of (places f) (instant_of (places f) row)) (flat_state f next)) (inputs_same program main f well named flat inputs given)
+      (subst (λ s. IsFlatNext f s (flat_inputs f inputs_at) (row_of (places f) (instant_of (places f) row)) (flat_state f next)) (state_same program main f well named flat now state) is))
 
   next_typed : AreStarts program main next.kept
   next_typed =
-      typed_memories program main (places f) brought next given_at (instant_of (places f) row) well named flat.sequence starts_typed given_typed program_instant
-      (some_next program main brought (instant_of (places f) row) well named).1
+      typed_memories program main (places f) before next inputs_at (instant_of (places f) row) well named flat.sequence (starts_typed program main f well named flat now state) (given_typed program main f well named flat inputs given) program_instant
+      (some_next program main before (instant_of (places f) row) well named).1
 
   pub memories_taken : AreTaken f now inputs row
   memories_taken m j lt e on =
-      let found = flat.memories.only (record { place = get_or kept_places m []; kind = j }) (memory_kth f.memories m j e) in
+      let found = flat.memories.only (record { place = get_or memory_spots m []; kind = j }) (memory_kth f.memories m j e) in
       let item = nth_item (memory_items f) m in
-      let value : next.kept (get_or kept_places m []) ≡ value_at now inputs row item.body =
-      sym (get_or-map next.kept kept_places m [] (Flag false) (omega (arith, count)))
+      let value : next.kept (get_or memory_spots m []) ≡ value_at now inputs row item.body =
+      sym (get_or-map next.kept memory_spots m [] (Flag false) (omega (arith, length-map f.memories (λ m. m.place.sites))))
       ∙ flat_next.kept m lt
       ∙ ap (λ b. cond b (value_at now inputs row item.body) (get_or now.kept m (Flag false))) on in
-      let place : get_or kept_places m [] ≡ (memory_at program found.0 found.1).place = ap (λ (a : MemoryAt). a.place) found.5 in
+      let place : get_or memory_spots m [] ≡ (memory_at program found.0 found.1).place = ap (λ (a : MemoryAt). a.place) found.5 in
       let kind : j ≡ (memory_at program found.0 found.1).kind = ap (λ (a : MemoryAt). a.kind) found.5 in
-      let typed : HasKind program j (next.kept (get_or kept_places m [])) =
+      let typed : HasKind program j (next.kept (get_or memory_spots m [])) =
       subst (λ q. HasKind program j (next.kept q)) (sym place) (subst (λ k. HasKind program k (next.kept (memory_at program found.0 found.1).place)) (sym kind)
       (next_typed found.0 found.1 found.2 found.4)) in
-      fits_kind program (label_counts f) counts_same j (value_at now inputs row item.body) (subst (HasKind program j) value typed)
+      fits_kind program (label_counts f) (counts_same program main f well named flat) j (value_at now inputs row item.body) (subst (HasKind program j) value typed)

@@ -24,11 +24,13 @@ use Rattle.rv_flat.specs.declared.given.Given.{Given}
 use Rattle.rv_flat.specs.declared.parts.FlatExpr.{FlatExpr}
 use Rattle.rv_flat.specs.declared.parts.FlatFlow.{FlatFlow}
 use Rattle.rv_flat.specs.declared.parts.FlatMemory.{FlatMemory}
+use Rattle.rv_flat.specs.Facts.{numbers_among}
 use Rattle.rv_flat.specs.FlatInstants.{flow_item, memory_item}
 use Rattle.rv_flat.specs.FlatTree.{FlatTree, flat_tree}
 use Rattle.rv_flat.specs.FlatOf.{memory_of}
 use Rattle.rv_flat.specs.Frames.{IsNumbering}
 use Rattle.rv_flat.specs.Kept.{AreKept, kept_memory, found_comparison}
+use Rattle.rv_flat.specs.NodeReaders.{AreOwnTables}
 use Rattle.rv_flat.specs.Positions.{AreNumbersOf}
 use Rattle.rv_flat.specs.Readings.{Numbers, giver_item, delay_item, assertion_of}
 
@@ -36,14 +38,15 @@ use Rattle.rv_flat.specs.Readings.{Numbers, giver_item, delay_item, assertion_of
 abbrev pub numbers_found : List Sites → Found → Numbers
 numbers_found sequence f = record { flows = sequence; memories = map (λ k. k.place.sites) f.kept; ticks = sites_of f.ticks }
 
--- The memories, ticks and comparisons of a program, the numbers of its flows in the sequence, and the numbers of all in the
--- flat system.
+-- The memories, ticks and comparisons of a program, the numbers of its flows in the sequence, the numbers of all in the flat
+-- system, and those of the flows of the ticks.
 pub record IsFound (x : Expanded) (sequence : List Sites) (f : Found) : Type 0 where
   pub kept : AreKept (program_of x) (main_of x) x.instances.now f.kept
   pub ticks : AreTicks (program_of x) (main_of x) (sites_of f.ticks)
   pub comparisons : AreComparisons (program_of x) (main_of x) (map found_comparison f.comparisons)
   pub order : AreNumbersOf (all_places (program_of x) x.instances.now) sequence f.order
   pub numbering : IsNumbering (program_of x) (main_of x) x.instances.now (numbers_found sequence f) f.numbering
+  pub tick_flows : f.tick_flows ≡ numbers_among sequence (sites_of f.ticks)
 
 -- What is known of a program that is accepted, while its flat system is made.
 pub record IsGiven (g : Given) : Type 0 where
@@ -52,6 +55,7 @@ pub record IsGiven (g : Given) : Type 0 where
   pub givers : AreGivers (program_of g.expanded.now) (main_of g.expanded.now) g.expanded.now.instances.now g.givers.now
   pub flows : g.flows.now ≡ all_flows (program_of g.expanded.now) g.expanded.now.instances.now
   pub of : AreOf g.expanded.now.instances.now g.flows.now
+  pub owns : AreOwnTables (program_of g.expanded.now) g.tables.now g.owns.now
   pub values : value_by g.values.now ≡ constant_value (program_of g.expanded.now)
   pub kinds : g.kinds.now ≡ map (flow_kinds (program_of g.expanded.now)) (program_of g.expanded.now).nodes
   pub sequence : IsSequence (program_of g.expanded.now) (main_of g.expanded.now) (sites_of g.sequence.now)

@@ -1,5 +1,5 @@
 -- The comparisons of integers in nodes, and those that they are in instances.
-use Rattle.std.specs.Prelude.{ℕ, ◌&&◌, cond, List, [], ◌∷◌, ◌++◌, map, unwrap_or, Option, Some, slice_index_or}
+use Rattle.std.specs.Prelude.{ℕ, Bool, ◌&&◌, cond, List, [], ◌∷◌, ◌++◌, map, unwrap_or, Option, Some, slice_index_or}
 use Rattle.std.specs.Prelude.{None as Nothing}
 use Rattle.rv_syntax.specs.declared.tree.Op.{Op}
 use Rattle.rv_syntax.specs.Sites.{is_comparison}
@@ -15,11 +15,15 @@ use Rattle.rv_causality.specs.Expanded.{no_instance}
 use Rattle.rv_causality.specs.Layouts.{path_at}
 use Rattle.rv_flat.specs.declared.comparisons.Tested.{Tested}
 
+-- whether an operator with this left operand compares integers
+abbrev pub is_test : Scope → Op → Tree → Bool
+is_test s o a = is_comparison o && is_integer (unwrap_or (kind_of s a) kind.Bool)
+
 module _ (s : Scope) where
   -- an operator with this site and left operand, where it compares integers
   abbrev pub own_tests : Option ℕ → Op → Tree → List Tested
   own_tests Nothing o a = []
-  own_tests (Some k) o a = cond (is_comparison o && is_integer (unwrap_or (kind_of s a) kind.Bool)) (record { site = k; operator = o } ∷ []) []
+  own_tests (Some k) o a = cond (is_test s o a) (record { site = k; operator = o } ∷ []) []
 
   abbrev mutual
     -- those in an expression

@@ -1,15 +1,17 @@
 -- What a flat system keeps in its type: its numbers are in range, flows name earlier flows alone, types fit, and weights
 -- are within their limit.
-use Rattle.std.specs.Prelude.{ℕ, zero, suc, ◌+◌, ◌*◌, ◌^◌, max, nat_abs, Bool, true, false, ◌&&◌, ◌||◌, nat_lt, nat_le, List, [], ◌∷◌, ◌++◌, map, length, Option, Some, slice_get, slice_index_or}
+use Rattle.std.specs.Prelude.{ℕ, zero, suc, ◌+◌, ◌*◌, max, nat_abs, Bool, true, false, ◌&&◌, ◌||◌, nat_lt, nat_le, cond, List, [], ◌∷◌, ◌++◌, map, length, Option, Some, slice_get, slice_index_or}
 use Rattle.std.specs.Prelude.{None as Nothing}
 use Rattle.rv_base.specs.declared.value.Value.{Value}
 use Rattle.rv_base.specs.declared.value.Value.TheVariants.{Flag, Label, Whole}
 use Rattle.rv_syntax.specs.declared.tree.Op.{Op}
 use Rattle.rv_syntax.specs.declared.tree.Op.TheVariants as op
-use Rattle.rv_syntax.specs.Places.{Sites, is_among}
+use Rattle.rv_syntax.specs.Limits.{heaviest}
+use Rattle.rv_syntax.specs.Places.{Sites, is_among, index_of}
 use Rattle.rv_types.specs.declared.typed.Kind.{Kind}
 use Rattle.rv_types.specs.declared.typed.Kind.TheVariants as kind
 use Rattle.rv_types.specs.Types.{same_kind}
+use Rattle.rv_types.specs.Variables.{total, is_integer}
 use Rattle.rv_flat.specs.declared.parts.Bit.{Bit}
 use Rattle.rv_flat.specs.declared.parts.FlatExpr.{FlatExpr}
 use Rattle.rv_flat.specs.declared.parts.FlatFlow.{FlatFlow}
@@ -127,10 +129,20 @@ abbrev pub ticks_known : List Sites → List Sites → Bool
 ticks_known places [] = true
 ticks_known places (p ∷ ps) = is_among places p && ticks_known places ps
 
--- Weights: a bound on the magnitude of an integer in terms of what memories and inputs hold.
+-- the numbers of the flows at some places
+abbrev pub numbers_among : List Sites → List Sites → List ℕ
+numbers_among places ps = map (index_of places) ps
 
-abbrev pub heaviest : ℕ
-heaviest = 2 ^ 40
+-- how many of some types are that of integers
+abbrev pub integers : List Kind → ℕ
+integers ks = total (λ k. cond (is_integer k) 1 0) ks
+
+-- no enumeration has more labels
+abbrev pub all_few : ℕ → List (List (List ℕ)) → Bool
+all_few limit [] = true
+all_few limit (ls ∷ rest) = nat_le (length ls) limit && all_few limit rest
+
+-- Weights: a bound on the magnitude of an integer in terms of what memories and inputs hold.
 
 abbrev pub constant_weight : Value → ℕ
 constant_weight (Whole z) = nat_abs z

@@ -3,7 +3,6 @@ use Rattle.std.specs.Prelude.{◌≡◌, ℕ, ◌+◌, ◌<◌, Bool, false, not
 use Rattle.std.specs.Prelude.{None as Nothing}
 use Rattle.rv_base.specs.declared.value.Value.{Value}
 use Rattle.rv_base.specs.declared.value.Value.TheVariants.{Flag}
-use Rattle.rv_syntax.specs.Places.{Sites, index_of}
 use Rattle.rv_meaning.specs.Meaning.{is_true}
 use Rattle.rv_flat.specs.declared.flat.Flat.{Flat}
 use Rattle.rv_flat.specs.declared.state.State.{State}
@@ -24,10 +23,6 @@ pub record IsKept (f : Flat) (now : State) (inputs : List Value) (row : Row) (n 
   pub holds : (m : ℕ) → m < n
       → slice_index_or kept m (Flag false)
       ≡ cond (is_on_at row (nth_item (memory_items f) m).clock) (value_at now inputs row (nth_item (memory_items f) m).body) (slice_index_or now.kept m (Flag false))
-
--- the numbers of the flows at some places
-abbrev pub clocks_of : List Sites → List Sites → List (Option ℕ)
-clocks_of places ps = map (λ p. Some (index_of places p)) ps
 
 -- which of these ticks, numbered from a number on, have been there after an instant
 abbrev pub ticks_from : Row → List Bool → ℕ → List (Option ℕ) → List Bool

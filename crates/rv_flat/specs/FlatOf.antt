@@ -13,6 +13,7 @@ use Rattle.rv_types.specs.Names.{labels_of, texts}
 use Rattle.rv_types.specs.Instances.{Instance, place, node_of, IsInstance}
 use Rattle.rv_types.specs.Needs.{IsSequence}
 use Rattle.rv_types.specs.Lists.{IsAny, MemoryAt, AreMemories, AreVariables, AreColumns}
+use Rattle.rv_types.specs.Variables.{variable_count}
 use Rattle.rv_meaning.specs.Meaning.{is_true}
 use Rattle.rv_meaning.specs.Runs.{Instant, cell, observer_place}
 use Rattle.rv_meaning.specs.Instants.{State as Brought, IsInstant, IsNext, value_now}
@@ -68,14 +69,15 @@ IsFlatBroken f now inputs row q = (k : ℕ) × (k < length f.assertions) × (q �
     × (is_true (value_at now inputs row (slice_index_or (map flat_tree f.assertions) k no_assertion)) ≡ false)
 
 module _ (program : ProgramTree) (main : Identifier) where
-  -- What a flat system has of its program beside the instants: names, types, memories, variables, columns, labels,
-  -- thresholds, and an order of evaluation of the flows.
+  -- What a flat system has of its program beside the instants: names, types, memories, variables, as many as are counted,
+  -- columns, labels, thresholds, and an order of evaluation of the flows.
   pub record IsFlatOf (f : Flat) : Type 0 where
     pub name : f.main ≡ main
     pub inputs : map (λ i. i.name) f.inputs ≡ names (node_of program main).inputs
     pub input_kinds : map (λ i. i.kind) f.inputs ≡ decl_kinds program (node_of program main).inputs
     pub memories : AreMemories program main IsAny (map memory_of f.memories)
     pub variables : AreVariables program main (map variable_of f.variables)
+    pub counted : length f.variables ≡ variable_count program main
     pub columns : AreColumns program main (map column_of f.columns)
     pub sequence : IsSequence program main (places f)
     pub kinds : (i : Instance) (x : Identifier) (k : ℕ) → IsInstance program main i → Contains (flows i.node) x → k < length f.flows → slice_index_or (places f) k [] ≡ place i x

@@ -4,7 +4,7 @@ use Rattle.std.specs.List.{Contains}
 use Rattle.rv_syntax.specs.Tree.{ProgramTree}
 use Rattle.rv_syntax.specs.Places.{Identifier, index_of, memory_site}
 use Rattle.rv_syntax.specs.Delays.{Delay, node_delays}
-use Rattle.rv_types.specs.Scopes.{constant_value}
+use Rattle.rv_types.specs.Scopes.{node_scope, constant_value}
 use Rattle.rv_types.specs.ValueTables.{value_by}
 use Rattle.rv_types.specs.Instances.{Instance, IsInstance}
 use Rattle.rv_types.specs.Lists.{delay_place}
@@ -17,6 +17,7 @@ use Rattle.rv_causality.specs.NumberedNeeds.{IsReader, node_read}
 use Rattle.rv_causality.specs.Weights.{AreLight}
 use Rattle.rv_flat.specs.declared.frame.Frame.{Frame}
 use Rattle.rv_flat.specs.declared.numbering.Numbering.{Numbering}
+use Rattle.rv_flat.specs.NodeReaders.{scope_by}
 use Rattle.rv_flat.specs.Readings.{Numbers}
 
 -- These are the numbers of the flows, ticks and memories at these places.
@@ -35,6 +36,7 @@ pub record IsFrame (numbers : Numbers) (i : Instance) (f : Frame) : Type 0 where
   pub number : IsNumberOf (program_of f.expanded.now) f.expanded.now.instances.now f.reader.instance i
   pub reader : IsReader f.reader
   pub node : node_read f.reader ≡ i.node
+  pub scope : scope_by f.tables.now f.own.now ≡ node_scope (program_of f.expanded.now) i.node
   pub layout : IsLayout (program_of f.expanded.now) (main_of f.expanded.now) f.expanded.now.instances.now f.reader.layout.now
   pub values : value_by f.values.now ≡ constant_value (program_of f.expanded.now)
   pub numbering : IsNumbering (program_of f.expanded.now) (main_of f.expanded.now) f.expanded.now.instances.now numbers f.numbering.now

@@ -4,6 +4,7 @@ pub mod FlatInstants
 pub mod Facts
 pub mod FlatOf
 pub mod Steps
+pub mod FlatRuns
 pub mod Thresholds
 pub mod Readings
 pub mod Literals
@@ -11,7 +12,6 @@ pub mod Filling
 pub mod Tame
 pub mod Earliest
 pub mod Ranges
-pub mod Numbers
 pub mod Frames
 pub mod Kept
 pub mod Items

@@ -1,9 +1,12 @@
 -- The nodes whose expressions are read, and what is found of all instances, one after the other.
 use Rattle.std.specs.Prelude.{◌≡◌, ℕ, zero, suc, List, [], ◌++◌, map}
 use Rattle.std.specs.List.{Contains}
-use Rattle.rv_syntax.specs.Tree.{NodeTree, node_tree}
+use Rattle.rv_syntax.specs.Tree.{NodeTree, ProgramTree, node_tree}
 use Rattle.rv_syntax.specs.Places.{Sites}
+use Rattle.rv_types.specs.declared.reading.NodeTables.{NodeTables}
+use Rattle.rv_types.specs.declared.reading.ProgramTables.{ProgramTables}
 use Rattle.rv_types.specs.Readings.{view_of}
+use Rattle.rv_types.specs.Scopes.{node_scope}
 use Rattle.rv_types.specs.Tables.{scope_of}
 use Rattle.rv_types.specs.Types.{Scope}
 use Rattle.rv_types.specs.Lists.{AreRising}
@@ -16,6 +19,14 @@ node_read r = node_tree r.clocks.now.node.now
 -- what names stand for in its expressions
 abbrev pub scope_read : NodeReader → Scope
 scope_read r = scope_of (view_of r.tables.now r.own)
+
+-- what names stand for in the expressions of a node, by the tables of its flows
+abbrev pub scope_by : ProgramTables → NodeTables → Scope
+scope_by tables own = scope_of (view_of tables own)
+
+-- These are the tables of the flows of each node.
+abbrev pub AreOwnTables : ProgramTree → ProgramTables → List NodeTables → Type 0
+AreOwnTables p tables owns = map (scope_by tables) owns ≡ map (node_scope p) p.nodes
 
 -- the lists of the first numbers, one after the other
 abbrev pub lists_to : {X : Type 0} → (ℕ → List X) → ℕ → List X

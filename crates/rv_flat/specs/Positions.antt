@@ -19,6 +19,11 @@ abbrev pub number_from : Layout → ℕ → ℕ → Sites → ℕ
 number_from l m number [] = number
 number_from l m number (s ∷ sites) = number_from l (callee_or_main l.callees m s) (site_number l m s) sites
 
+-- the instances along calls, the first one included
+abbrev pub way_from : Layout → ℕ → Sites → List ℕ
+way_from l m [] = m ∷ []
+way_from l m (s ∷ sites) = m ∷ way_from l (callee_or_main l.callees m s) sites
+
 -- a list with, at each of some numbers, where that stands among them, counted from j
 abbrev pub told : List ℕ → ℕ → List ℕ → List ℕ
 told at j [] = at

@@ -28,6 +28,7 @@ use Rattle.rv_flat.specs.declared.parts.FlatInput.{FlatInput}
 use Rattle.rv_flat.specs.declared.parts.FlatMemory.{FlatMemory}
 use Rattle.rv_flat.specs.FlatTree.{FlatTree, Node, TreeForm, FlatTrees, Constant, Flow, Memory, Ticked, Input, Not, Binary, Scale, If, AtMostOne, None, More, flat_tree}
 use Rattle.rv_flat.specs.Lists.{tick_places}
+use Rattle.rv_flat.specs.Compared.{is_test}
 use Rattle.rv_flat.specs.FlatInstants.{Item, nth_item, flow_item, memory_item}
 use Rattle.rv_flat.specs.FlatOf.{memory_of, no_assertion}
 
@@ -57,10 +58,14 @@ abbrev pub tick_number : Numbers → Option Sites → ℕ
 tick_number numbers Nothing = 0
 tick_number numbers (Some q) = index_of numbers.ticks q + 1
 
--- the place of an expression of an instance
+-- the place of a site of an instance, the empty one where there is no site
 abbrev pub spot : Sites → Option ℕ → Sites
-spot path Nothing = path
+spot path Nothing = []
 spot path (Some s) = path ++ s ∷ []
+
+-- a part without a place
+abbrev pub unplaced : TreeForm → FlatTree
+unplaced form = Node [] form
 
 -- whether a clock is there, by the number of its flow: main's base clock always is
 abbrev pub presence : Option ℕ → TreeForm
@@ -78,7 +83,7 @@ operator op.Times choice times f g = times
 operator o choice times f g = Binary o f g
 
 -- An expression of an instance. `E when C` is E, `current E` is E where the clock of E is there and its memory elsewhere,
--- and `E -> F` is F where its clock has ticked and E elsewhere.
+-- and `E -> F` is F where its clock has ticked and E elsewhere. Only a comparison of integers has a place.
 module _ (program : ProgramTree) (numbers : Numbers) (i : Instance) where
   -- the flow at a place
   abbrev pub flow_at : Sites → TreeForm
@@ -96,31 +101,31 @@ module _ (program : ProgramTree) (numbers : Numbers) (i : Instance) where
   abbrev pub coefficient : Tree → ℤ
   coefficient e = whole_in (value_of (constant_value program) e)
 
-  -- a part that has no site
-  abbrev pub inner : TreeForm → FlatTree
-  inner form = Node i.path form
+  -- the place of an operator with this site and left operand: a comparison of integers has its own
+  abbrev pub operator_place : Option ℕ → Op → Tree → Sites
+  operator_place site o a = cond (is_test (node_scope program i.node) o a) (spot i.path site) []
 
   abbrev mutual
     pub flat_of : Tree → FlatTree
     flat_of (tree.Node at site form) = flat_form site form
 
     pub flat_form : Option ℕ → Form → FlatTree
-    flat_form site tree.True = Node (spot i.path site) (Constant (Flag true))
-    flat_form site tree.False = Node (spot i.path site) (Constant (Flag false))
-    flat_form site (tree.Number n) = Node (spot i.path site) (Constant (value.Whole (pos n)))
-    flat_form site (tree.Named x) = Node (spot i.path site) (named x)
-    flat_form site (tree.Not e) = Node (spot i.path site) (Not (flat_of e))
-    flat_form site (tree.Minus e) = Node (spot i.path site) (Scale (negsuc 0) (flat_of e))
-    flat_form site (tree.Pre e) = Node (spot i.path site) (kept_at site e)
-    flat_form site (tree.Current e) = Node (spot i.path site) (If (inner (presence (clock_number numbers (clock_in i Base e)))) (flat_of e) (inner (kept_at site e)))
+    flat_form site tree.True = unplaced (Constant (Flag true))
+    flat_form site tree.False = unplaced (Constant (Flag false))
+    flat_form site (tree.Number n) = unplaced (Constant (value.Whole (pos n)))
+    flat_form site (tree.Named x) = unplaced (named x)
+    flat_form site (tree.Not e) = unplaced (Not (flat_of e))
+    flat_form site (tree.Minus e) = unplaced (Scale (negsuc 0) (flat_of e))
+    flat_form site (tree.Pre e) = unplaced (kept_at site e)
+    flat_form site (tree.Current e) = unplaced (If (unplaced (presence (clock_number numbers (clock_in i Base e)))) (flat_of e) (unplaced (kept_at site e)))
     flat_form site (tree.When e c) = flat_of e
-    flat_form site (tree.Binary o a b) = Node (spot i.path site) (operator o
-        (If (inner (Ticked (tick_number numbers (clock_in i Base (tree.Node 0 site (tree.Binary o a b)))))) (flat_of b) (flat_of a))
+    flat_form site (tree.Binary o a b) = Node (operator_place site o a) (operator o
+        (If (unplaced (Ticked (tick_number numbers (clock_in i Base (tree.Node 0 site (tree.Binary o a b)))))) (flat_of b) (flat_of a))
         (product (is_constant (node_scope program i.node) a) (coefficient a) (coefficient b) (flat_of a) (flat_of b))
         (flat_of a) (flat_of b))
-    flat_form site (tree.If a b c) = Node (spot i.path site) (If (flat_of a) (flat_of b) (flat_of c))
-    flat_form site (tree.AtMostOne es) = Node (spot i.path site) (AtMostOne (flats_of es))
-    flat_form site (tree.Call f args) = Node (spot i.path site) (flow_at (output_place program i (unwrap_or site 0) f 0))
+    flat_form site (tree.If a b c) = unplaced (If (flat_of a) (flat_of b) (flat_of c))
+    flat_form site (tree.AtMostOne es) = unplaced (AtMostOne (flats_of es))
+    flat_form site (tree.Call f args) = unplaced (flow_at (output_place program i (unwrap_or site 0) f 0))
 
     pub flats_of : Trees → FlatTrees
     flats_of tree.None = None
@@ -128,11 +133,11 @@ module _ (program : ProgramTree) (numbers : Numbers) (i : Instance) where
 
 -- What gives a flow: an input of main, a right side or argument on its clock, or an output of a call with several.
 abbrev pub giver_item : ProgramTree → Numbers → Giver → Item
-giver_item program numbers (Given j) = record { clock = Nothing; body = Node [] (Input j) }
+giver_item program numbers (Given j) = record { clock = Nothing; body = unplaced (Input j) }
 giver_item program numbers (Of i k (Body e)) = record { clock = clock_number numbers (clock_in i k e); body = flat_of program numbers i e }
 giver_item program numbers (Of i k (Output c j)) = record {
   clock = clock_number numbers (absolute i (clock_of_arguments i c.args));
-  body = Node (spot i.path (Some c.site)) (flow_at program numbers i (output_place program i c.site c.name j));
+  body = unplaced (flow_at program numbers i (output_place program i c.site c.name j));
 }
 
 -- A memory takes the operand of its `pre` or `current` where that is there.
@@ -142,10 +147,10 @@ delay_item program numbers i d = record { clock = clock_number numbers (clock_in
 -- An assertion: true where its clock is absent. It is a choice also where the clock is main's base clock, so that what is
 -- assumed keeps its own place.
 abbrev pub assertion_of : ProgramTree → Numbers → Instance → AssertionTree → FlatTree
-assertion_of program numbers i a = Node (spot i.path (Some a.site)) (If
-    (inner program numbers i (presence (clock_number numbers (clock_in i Base a.body))))
+assertion_of program numbers i a = Node (i.path ++ a.site ∷ []) (If
+    (unplaced (presence (clock_number numbers (clock_in i Base a.body))))
     (flat_of program numbers i a.body)
-    (inner program numbers i (Constant (Flag true))))
+    (unplaced (Constant (Flag true))))
 
 -- The flows, memories, inputs, variables and assertions of a flat system are read from its program.
 pub record IsRead (program : ProgramTree) (main : Identifier) (flows : List FlatFlow) (memories : List FlatMemory) (inputs : List FlatInput) (variables : List Bit) (assertions : List FlatExpr) : Type 0 where

@@ -1,8 +1,9 @@
 -- An expression of an instance as a flat one, by the tables of a frame.
-use Rattle.std.specs.Prelude.{ℕ, ◌+◌, pos, negsuc, true, false, cond, unwrap_or, Option, Some, slice_index_or}
+use Rattle.std.specs.Prelude.{ℕ, ◌+◌, pos, negsuc, true, false, cond, unwrap_or, [], Option, Some, slice_index_or}
 use Rattle.std.specs.Prelude.{None as Nothing}
 use Rattle.std.specs.Option.{option_map}
 use Rattle.rv_base.specs.declared.value.Value.TheVariants.{Flag, Whole}
+use Rattle.rv_syntax.specs.declared.tree.Op.{Op}
 use Rattle.rv_syntax.specs.Tree as tree
 use Rattle.rv_syntax.specs.Tree.{Tree, Form, Trees}
 use Rattle.rv_syntax.specs.Places.{Identifier, Sites, is_flow, site_of, memory_site}
@@ -19,7 +20,9 @@ use Rattle.rv_causality.specs.Layouts.{path_at}
 use Rattle.rv_causality.specs.NumberedNeeds.{clock_number, clock_of_expression, node_read, numbers_of}
 use Rattle.rv_flat.specs.declared.frame.Frame.{Frame}
 use Rattle.rv_flat.specs.FlatTree.{FlatTree, Node, TreeForm, FlatTrees, Constant, Flow, Memory, Ticked, Not, Scale, If, AtMostOne, None, More}
-use Rattle.rv_flat.specs.Readings.{spot, presence, operator}
+use Rattle.rv_flat.specs.Compared.{is_test}
+use Rattle.rv_flat.specs.NodeReaders.{scope_by}
+use Rattle.rv_flat.specs.Readings.{spot, unplaced, presence, operator}
 
 -- a product, by what is known of the operands where they are constant, as one is in each accepted program
 abbrev pub product_read : (a b : Option Weighed) → FlatTree → FlatTree → TreeForm
@@ -75,27 +78,36 @@ module _ (x : Frame) where
   abbrev pub output_read : Option ℕ → ℕ
   output_read site = flow_read ((numbers_of x.reader).output (unwrap_or site 0))
 
+  -- the place of an operator with this site and left operand
+  abbrev pub operator_place_read : Option ℕ → Op → Tree → Sites
+  operator_place_read site o a = cond (is_test (scope_by x.tables.now x.own.now) o a) (spot path_read site) []
+
+  -- the place of an expression: only a comparison of integers has one
+  abbrev pub place_read : Tree → Sites
+  place_read (tree.Node at site (tree.Binary o a b)) = operator_place_read site o a
+  place_read _ = []
+
   abbrev mutual
     pub tree_read : Tree → FlatTree
     tree_read (tree.Node at site form) = form_read site form
 
     pub form_read : Option ℕ → Form → FlatTree
-    form_read site tree.True = Node (spot path_read site) (Constant (Flag true))
-    form_read site tree.False = Node (spot path_read site) (Constant (Flag false))
-    form_read site (tree.Number n) = Node (spot path_read site) (Constant (Whole (pos n)))
-    form_read site (tree.Named y) = Node (spot path_read site) (named_read y)
-    form_read site (tree.Not e) = Node (spot path_read site) (Not (tree_read e))
-    form_read site (tree.Minus e) = Node (spot path_read site) (Scale (negsuc 0) (tree_read e))
-    form_read site (tree.Pre e) = Node (spot path_read site) (Memory (kept_read site e))
-    form_read site (tree.Current e) = Node (spot path_read site) (If (Node path_read (presence (clock_read (clock_of_read e)))) (tree_read e) (Node path_read (Memory (kept_read site e))))
+    form_read site tree.True = unplaced (Constant (Flag true))
+    form_read site tree.False = unplaced (Constant (Flag false))
+    form_read site (tree.Number n) = unplaced (Constant (Whole (pos n)))
+    form_read site (tree.Named y) = unplaced (named_read y)
+    form_read site (tree.Not e) = unplaced (Not (tree_read e))
+    form_read site (tree.Minus e) = unplaced (Scale (negsuc 0) (tree_read e))
+    form_read site (tree.Pre e) = unplaced (Memory (kept_read site e))
+    form_read site (tree.Current e) = unplaced (If (unplaced (presence (clock_read (clock_of_read e)))) (tree_read e) (unplaced (Memory (kept_read site e))))
     form_read site (tree.When e c) = tree_read e
-    form_read site (tree.Binary o a b) = Node (spot path_read site) (operator o
-        (If (Node path_read (Ticked (tick_read (clock_of_read (tree.Node 0 site (tree.Binary o a b)))))) (tree_read b) (tree_read a))
+    form_read site (tree.Binary o a b) = Node (operator_place_read site o a) (operator o
+        (If (unplaced (Ticked (tick_read (clock_of_read (tree.Node 0 site (tree.Binary o a b)))))) (tree_read b) (tree_read a))
         (product_read (constant_read a) (constant_read b) (tree_read a) (tree_read b))
         (tree_read a) (tree_read b))
-    form_read site (tree.If a b c) = Node (spot path_read site) (If (tree_read a) (tree_read b) (tree_read c))
-    form_read site (tree.AtMostOne es) = Node (spot path_read site) (AtMostOne (trees_read es))
-    form_read site (tree.Call f args) = Node (spot path_read site) (Flow (output_read site))
+    form_read site (tree.If a b c) = unplaced (If (tree_read a) (tree_read b) (tree_read c))
+    form_read site (tree.AtMostOne es) = unplaced (AtMostOne (trees_read es))
+    form_read site (tree.Call f args) = unplaced (Flow (output_read site))
 
     pub trees_read : Trees → FlatTrees
     trees_read tree.None = None

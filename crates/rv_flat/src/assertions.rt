@@ -74,6 +74,8 @@ fn push_assertion(
         alloc,
         given.expanded,
         given.layout,
+        given.tables,
+        given.owns,
         given.values,
         &found.numbering,
         instance,

@@ -24,10 +24,11 @@ use crate::flows::flat_flows;
 use crate::found::{Found, found_in};
 use crate::given::Given;
 use crate::naming::{inputs_of, labels_of};
+use crate::node_reader::own_tables;
 use crate::remembered::flat_memories;
 use crate::thresholds::thresholds_of;
 use crate::variables::{columns_of, variables_of};
-use rv_base::{Memory, Place};
+use rv_base::{Many, Memory, Place};
 use rv_causality::{
     Expanded, Order, Source, counted_instances, expanded_program, flows_in, givers_of,
     instance_numbers, layout_of,
@@ -63,12 +64,15 @@ fn flat_of(alloc: Global, program: &Program, typed: &Typed, order: &Order) -> Re
     let givers = givers_of(alloc, &expanded, &layout)?;
     let flows = flows_in(alloc, &expanded)?;
     let tables = program_tables(alloc, program)?;
+    let owns = own_tables(alloc, &expanded, &tables)?;
     let values = named_values(program, &tables, typed.constants.as_slice());
     let given = Given {
         expanded: &expanded,
         layout: &layout,
         givers: &givers,
         flows: &flows,
+        tables: &tables,
+        owns: &owns,
         values: &values,
         kinds: &typed.kinds,
         sequence: order.sequence.as_slice(),
@@ -123,6 +127,7 @@ fn flat_by(
     let labels = labels_of(alloc, program.types.as_slice())?;
     let thresholds = thresholds_of(alloc, program, typed.constants.as_slice())?;
     let name = main.name.text.clone()?;
+    let tick_flows = same_numbers(alloc, &found.tick_flows)?;
     Ok(Flat {
         variables,
         columns,
@@ -135,5 +140,14 @@ fn flat_by(
         labels,
         thresholds,
         expanded,
+        tick_flows,
     })
+}
+
+/// The same numbers again.
+fn same_numbers(alloc: Global, numbers: &Many<u32>) -> Result<Many<u32>, Memory>
+    ensures { IfOk result (λ made. made ≡ numbers.now) }
+{
+    let copy = Vec::from_slice(alloc, numbers.as_slice())?;
+    Ok(Many::from_vec(copy))
 }

@@ -1,6 +1,6 @@
 //! The comparisons of integers of all instances, in the order of their places.
 
-ghost use Rattle.std.specs.Prelude.{◌≡◌, ◌++◌, ◌&&◌, [], map, length, slice_index_or, unwrap_or, IfOk, OnOk};
+ghost use Rattle.std.specs.Prelude.{◌≡◌, ◌++◌, [], map, length, slice_index_or, IfOk, OnOk};
 ghost use Rattle.std.specs.Cmp.Lexicographic.{slice_cmp};
 ghost use Rattle.std.specs.Ordering.{nat_cmp};
 ghost use Rattle.rv_syntax.specs.Places.{is_same};
@@ -9,22 +9,21 @@ ghost use Rattle.rv_syntax.specs.Tree.{ProgramTree, tree_of, trees, node_tree, e
 ghost use Rattle.rv_types.specs.Known.{flow_names};
 ghost use Rattle.rv_types.specs.Lists.{AreComparisons};
 ghost use Rattle.rv_types.specs.Names.{repeated};
-ghost use Rattle.rv_types.specs.Readings.{AreTables};
-ghost use Rattle.rv_types.specs.Types.{kind_of};
+ghost use Rattle.rv_types.specs.Readings.{AreTables, view_of};
+ghost use Rattle.rv_types.specs.Tables.{scope_of};
 ghost use Rattle.rv_types.specs.Variables.{is_integer};
-ghost use Rattle.rv_types.specs.declared.typed.Kind.TheVariants as kind;
 ghost use Rattle.rv_causality.specs.Expanded.{IsKnown, program_of, main_of};
-ghost use Rattle.rv_flat.specs.Compared.{own_tests, tests, tests_of_all, tests_in_equations, tests_in_assertions, tests_in, compared_at, compared_in};
+ghost use Rattle.rv_flat.specs.Compared.{is_test as tests_integers, own_tests, tests, tests_of_all, tests_in_equations, tests_in_assertions, tests_in, compared_at, compared_in};
 ghost use Rattle.rv_flat.specs.Kept.{found_comparison};
 ghost use Rattle.rv_flat.specs.NodeReaders.{scope_read, lists_to, AreSortedBy};
 
 use crate::kept::Comparison;
 use crate::memories::place_of;
 use crate::node_reader::NodeReader;
-use rv_base::{Many, Memory};
+use rv_base::{Many, Memory, Path};
 use rv_causality::{Expanded, Instance};
 use rv_syntax::{Assertion, Equation, Expr, ExprForm, Op};
-use rv_types::{Kind, NodeClocks, ProgramTables};
+use rv_types::{Kind, NodeClocks, NodeTables, ProgramTables, operand_kind};
 use std::alloc::Global;
 use std::cmp::Ordering;
 
@@ -235,18 +234,18 @@ fn add_test(
     ensures { OnOk result (found.new ≡ found.old ++ own_tests (scope_read reader.now) site operator (tree_of left.now)) }
 {
     if let Some(site) = site {
-        if is_test(reader, operator, left) {
+        if is_test(reader.tables, &reader.own, operator, left) {
             found.push(Tested { site, operator })?;
         }
     }
     Ok(())
 }
 
-/// Whether an operator with this left operand compares integers.
-fn is_test(reader: &NodeReader, operator: Op, left: &Expr) -> bool
-    ensures { result ≡ is_comparison operator && is_integer (unwrap_or (kind_of (scope_read reader.now) (tree_of left.now)) kind.Bool) }
+/// Whether an operator with this left operand compares integers, by the tables of its node.
+pub fn is_test(tables: &ProgramTables, own: &NodeTables, operator: Op, left: &Expr) -> bool
+    ensures { result ≡ tests_integers (scope_of (view_of tables.now own.now)) operator (tree_of left.now) }
 {
-    compares(operator) && is_int(reader.kind(left))
+    compares(operator) && is_int(operand_kind(tables, own, left))
 }
 
 fn is_int(kind: Kind) -> bool

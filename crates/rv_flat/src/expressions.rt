@@ -1,16 +1,17 @@
 //! Expressions of instances as flat ones.
 
-ghost use Rattle.std.specs.Prelude.{◌≡◌, ℕ, negsuc, map, slice_index_or, Some, IfOk, IsSome, OnOk};
+ghost use Rattle.std.specs.Prelude.{◌≡◌, [], ℕ, negsuc, pos, map, slice_index_or, Some, IfOk, IsSome, OnOk};
 ghost use Rattle.std.specs.List.{Contains};
 ghost use Rattle.rv_syntax.specs.Tree as tree;
 ghost use Rattle.rv_syntax.specs.Tree.{Tree, tree_of, trees};
-ghost use Rattle.rv_syntax.specs.Places.{memory_site};
+ghost use Rattle.rv_base.specs.declared.value.Value.{Value as AnyValue};
+ghost use Rattle.rv_syntax.specs.Places.{Identifier, memory_site};
 ghost use Rattle.rv_types.specs.Constants.{whole_in};
 ghost use Rattle.rv_types.specs.ConstantParts.{IsKnownBound, constant_form};
 ghost use Rattle.rv_types.specs.Instances.{Instance};
 ghost use Rattle.rv_types.specs.Lists.{AreTicks};
 ghost use Rattle.rv_types.specs.Scopes.{node_scope};
-ghost use Rattle.rv_types.specs.Types.{kind_of};
+ghost use Rattle.rv_types.specs.Types.{Scope, kind_of};
 ghost use Rattle.rv_types.specs.ValueTables.{value_by};
 ghost use Rattle.rv_types.specs.Variables.{node_parts};
 ghost use Rattle.rv_causality.specs.Expanded.{main_of, program_of};
@@ -19,13 +20,14 @@ ghost use Rattle.rv_flat.specs.FlatTree as flat;
 ghost use Rattle.rv_flat.specs.FlatTree.{flat_tree, flat_trees};
 ghost use Rattle.rv_flat.specs.Frames.{IsFrame};
 ghost use Rattle.rv_flat.specs.Readings as readings;
-ghost use Rattle.rv_flat.specs.Readings.{Numbers, presence, spot};
+ghost use Rattle.rv_flat.specs.Readings.{Numbers, presence, spot, unplaced};
 ghost use Rattle.rv_flat.specs.Tables as tables;
-ghost use Rattle.rv_flat.specs.Tables.{constant_read, flow_read, form_read, kept_read, path_read, product_read, scope_read, tick_read, tree_read};
+ghost use Rattle.rv_flat.specs.Tables.{constant_read, form_read, kept_read, named_read, operator_place_read, path_read, place_read, product_read, scope_read, tick_read, tree_read};
 
+use crate::comparisons::is_test;
 use crate::frame::Frame;
 use crate::parts::{FlatExpr, FlatForm};
-use rv_base::{Box, Many, Memory, Place, Text, Value};
+use rv_base::{Box, Many, Memory, Place, Sites, Text, Value};
 use rv_causality::instance_numbers;
 use rv_syntax::{Expr, ExprForm, Op};
 use rv_types::{
@@ -34,9 +36,9 @@ use rv_types::{
 };
 use std::alloc::Global;
 
-/// An expression of an instance as a flat one. Time grows with the number of its parts and the length of the instance's
-/// path at each, up to look-ups; what stands under a `current` or `->` is looked at once more for each of them, of which
-/// there are no more than a text is nested deep.
+/// An expression of an instance as a flat one. Time grows with the number of its parts, up to look-ups; what stands under a
+/// `current` or `->`, or left of a comparison, is looked at once more for each of them, of which there are no more than a text
+/// is nested deep.
 pub fn flat_of(alloc: Global, frame: &Frame, e: &Expr) -> Result<FlatExpr, Memory>
     requires { IsReader frame.now.reader }
     ensures { (numbers : Numbers) (i : Instance) → IsFrame numbers i frame.now → AreTicks (program_of frame.now.expanded.now) (main_of frame.now.expanded.now) numbers.ticks → Contains (node_parts i.node) (tree_of e.now) → IsSome (kind_of (node_scope (program_of frame.now.expanded.now) i.node) (tree_of e.now)) → IfOk result (λ f. flat_tree f ≡ readings.flat_of (program_of frame.now.expanded.now) numbers i (tree_of e.now)) }
@@ -72,19 +74,19 @@ fn flat_part(
             *constant = None;
             Ok(operand)
         }
-        ExprForm::True => flat_flag(alloc, frame, e.site, true, constant),
-        ExprForm::False => flat_flag(alloc, frame, e.site, false, constant),
-        ExprForm::Number(number) => flat_number(alloc, frame, e.site, *number, constant),
-        ExprForm::Named(name) => flat_name(alloc, frame, e.site, name, constant),
-        ExprForm::Not(operand) => flat_not(alloc, frame, e.site, operand, constant),
-        ExprForm::Minus(operand) => flat_minus(alloc, frame, e.site, operand, constant),
+        ExprForm::True => flat_flag(alloc, true, constant),
+        ExprForm::False => flat_flag(alloc, false, constant),
+        ExprForm::Number(number) => flat_number(alloc, *number, constant),
+        ExprForm::Named(name) => flat_name(alloc, frame, name, constant),
+        ExprForm::Not(operand) => flat_not(alloc, frame, operand, constant),
+        ExprForm::Minus(operand) => flat_minus(alloc, frame, operand, constant),
         ExprForm::Pre(operand) => flat_pre(alloc, frame, e.site, operand, constant),
         ExprForm::Current(operand) => flat_current(alloc, frame, e.site, operand, constant),
         ExprForm::If(condition, first, second) => {
-            flat_if(alloc, frame, e.site, condition, first, second, constant)
+            flat_if(alloc, frame, condition, first, second, constant)
         }
         ExprForm::AtMostOne(operands) => {
-            flat_at_most_one(alloc, frame, e.site, operands.as_slice(), constant)
+            flat_at_most_one(alloc, frame, operands.as_slice(), constant)
         }
         ExprForm::Call(_, _) => flat_call(alloc, frame, e.site, constant),
     }
@@ -114,8 +116,8 @@ fn flat_right(
     *constant = constant_binary(op, &first, &second);
     match op {
         Op::Arrow => made_arrow(alloc, frame, e, left, right),
-        Op::Times => made_product(alloc, frame, e.site, &first, left, &second, right),
-        _ => made_binary(alloc, frame, e.site, op, left, right),
+        Op::Times => made_product(alloc, &first, left, &second, right),
+        _ => made_binary(alloc, place_of(alloc, frame, e)?, op, left, right),
     }
 }
 
@@ -123,34 +125,30 @@ fn flat_right(
 #[inline(never)]
 fn flat_flag(
     alloc: Global,
-    frame: &Frame,
-    site: Option<u32>,
     flag: bool,
     constant: &mut Option<Weighed>,
 ) -> Result<Box<FlatExpr>, Memory>
-    ensures flat { IfOk result (λ f. flat_tree f ≡ flat.Node (spot (path_read frame.now) site) (flat.Constant (Value.Flag flag))) }
+    ensures flat { IfOk result (λ f. flat_tree f ≡ unplaced (flat.Constant (Value.Flag flag))) }
     ensures constant { OnOk result (constant.new ≡ Some (record { value = Value.Flag flag; weight = 0 })) }
     ensures bound { OnOk result (IsKnownBound constant.new) }
 {
     *constant = Some(constant_flag(flag));
-    made_constant(alloc, frame, site, Value::Flag(flag))
+    made_constant(alloc, Value::Flag(flag))
 }
 
 /// A literal.
 #[inline(never)]
 fn flat_number(
     alloc: Global,
-    frame: &Frame,
-    site: Option<u32>,
     number: u64,
     constant: &mut Option<Weighed>,
 ) -> Result<Box<FlatExpr>, Memory>
-    ensures flat { IfOk result (λ f. flat_tree f ≡ form_read frame.now site (tree.Number number)) }
-    ensures constant { OnOk result (constant.new ≡ constant_form (scope_read frame.now) (value_by frame.now.values.now) (tree.Number number)) }
+    ensures flat { IfOk result (λ f. flat_tree f ≡ unplaced (flat.Constant (Value.Whole (pos number)))) }
+    ensures constant { (s : Scope) (known : Identifier → AnyValue) → OnOk result (constant.new ≡ constant_form s known (tree.Number number)) }
     ensures bound { OnOk result (IsKnownBound constant.new) }
 {
     *constant = Some(constant_number(number));
-    made_constant(alloc, frame, site, Value::Whole(number as i128))
+    made_constant(alloc, Value::Whole(number as i128))
 }
 
 /// The name of a flow, constant or label.
@@ -158,12 +156,11 @@ fn flat_number(
 fn flat_name(
     alloc: Global,
     frame: &Frame,
-    site: Option<u32>,
     name: &Text,
     constant: &mut Option<Weighed>,
 ) -> Result<Box<FlatExpr>, Memory>
     requires { IsReader frame.now.reader }
-    ensures flat { IfOk result (λ f. flat_tree f ≡ form_read frame.now site (tree.Named name.now)) }
+    ensures flat { IfOk result (λ f. flat_tree f ≡ unplaced (named_read frame.now name.now)) }
     ensures constant { OnOk result (constant.new ≡ constant_form (scope_read frame.now) (value_by frame.now.values.now) (tree.Named name.now)) }
     ensures bound { OnOk result (IsKnownBound constant.new) }
 {
@@ -171,12 +168,12 @@ fn flat_name(
         Some(number) => {
             *constant = None;
             let flow = number_at(&frame.numbering.flows, number as usize);
-            made_flow(alloc, frame, site, flow)
+            made_flow(alloc, flow)
         }
         None => {
             let known = constant_named(frame.values, name);
             *constant = Some(known);
-            made_constant(alloc, frame, site, known.value)
+            made_constant(alloc, known.value)
         }
     }
 }
@@ -187,19 +184,18 @@ fn flat_name(
 fn flat_not(
     alloc: Global,
     frame: &Frame,
-    site: Option<u32>,
     operand: &Expr,
     constant: &mut Option<Weighed>,
 ) -> Result<Box<FlatExpr>, Memory>
     requires { IsReader frame.now.reader }
-    ensures flat { IfOk result (λ f. flat_tree f ≡ form_read frame.now site (tree.Not (tree_of operand.now))) }
+    ensures flat { IfOk result (λ f. flat_tree f ≡ unplaced (flat.Not (tree_read frame.now (tree_of operand.now)))) }
     ensures constant { OnOk result (constant.new ≡ constant_form (scope_read frame.now) (value_by frame.now.values.now) (tree.Not (tree_of operand.now))) }
     ensures bound { OnOk result (IsKnownBound constant.new) }
 {
     let made = flat_part(alloc, frame, operand, constant)?;
     let known = *constant;
     *constant = constant_not(&known);
-    made_not(alloc, frame, site, made)
+    made_not(alloc, made)
 }
 
 /// Unary `-`.
@@ -208,19 +204,18 @@ fn flat_not(
 fn flat_minus(
     alloc: Global,
     frame: &Frame,
-    site: Option<u32>,
     operand: &Expr,
     constant: &mut Option<Weighed>,
 ) -> Result<Box<FlatExpr>, Memory>
     requires { IsReader frame.now.reader }
-    ensures flat { IfOk result (λ f. flat_tree f ≡ form_read frame.now site (tree.Minus (tree_of operand.now))) }
+    ensures flat { IfOk result (λ f. flat_tree f ≡ unplaced (flat.Scale (negsuc 0) (tree_read frame.now (tree_of operand.now)))) }
     ensures constant { OnOk result (constant.new ≡ constant_form (scope_read frame.now) (value_by frame.now.values.now) (tree.Minus (tree_of operand.now))) }
     ensures bound { OnOk result (IsKnownBound constant.new) }
 {
     let made = flat_part(alloc, frame, operand, constant)?;
     let known = *constant;
     *constant = constant_minus(&known);
-    made_scale(alloc, frame, site, -1, made)
+    made_scale(alloc, -1, made)
 }
 
 /// `pre`.
@@ -232,13 +227,13 @@ fn flat_pre(
     operand: &Expr,
     constant: &mut Option<Weighed>,
 ) -> Result<Box<FlatExpr>, Memory>
-    ensures flat { IfOk result (λ f. flat_tree f ≡ form_read frame.now site (tree.Pre (tree_of operand.now))) }
+    ensures flat { IfOk result (λ f. flat_tree f ≡ unplaced (flat.Memory (kept_read frame.now site (tree_of operand.now)))) }
     ensures constant { OnOk result (constant.new ≡ None) }
     ensures bound { OnOk result (IsKnownBound constant.new) }
 {
     *constant = None;
     let kept = kept_number(frame, site, operand);
-    made_memory(alloc, frame, site, kept)
+    made_memory(alloc, kept)
 }
 
 /// `current`.
@@ -259,9 +254,9 @@ fn flat_current(
     let made = flat_part(alloc, frame, operand, constant)?;
     *constant = None;
     let clock = frame.reader.clock_of(operand);
-    let there = made_presence(alloc, frame, clock_number(frame, clock))?;
-    let kept = made_memory(alloc, frame, None, kept_number(frame, site, operand))?;
-    made_if(alloc, frame, site, there, made, kept)
+    let there = made_presence(alloc, clock_number(frame, clock))?;
+    let kept = made_memory(alloc, kept_number(frame, site, operand))?;
+    made_if(alloc, there, made, kept)
 }
 
 /// `if`.
@@ -270,14 +265,13 @@ fn flat_current(
 fn flat_if(
     alloc: Global,
     frame: &Frame,
-    site: Option<u32>,
     condition: &Expr,
     first: &Expr,
     second: &Expr,
     constant: &mut Option<Weighed>,
 ) -> Result<Box<FlatExpr>, Memory>
     requires { IsReader frame.now.reader }
-    ensures flat { IfOk result (λ f. flat_tree f ≡ form_read frame.now site (tree.If (tree_of condition.now) (tree_of first.now) (tree_of second.now))) }
+    ensures flat { IfOk result (λ f. flat_tree f ≡ unplaced (flat.If (tree_read frame.now (tree_of condition.now)) (tree_read frame.now (tree_of first.now)) (tree_read frame.now (tree_of second.now)))) }
     ensures constant { OnOk result (constant.new ≡ constant_form (scope_read frame.now) (value_by frame.now.values.now) (tree.If (tree_of condition.now) (tree_of first.now) (tree_of second.now))) }
     ensures bound { OnOk result (IsKnownBound constant.new) }
 {
@@ -288,7 +282,7 @@ fn flat_if(
     let second = flat_part(alloc, frame, second, constant)?;
     let of_second = *constant;
     *constant = constant_if(&of_condition, &of_first, &of_second);
-    made_if(alloc, frame, site, condition, first, second)
+    made_if(alloc, condition, first, second)
 }
 
 /// `#`.
@@ -297,19 +291,18 @@ fn flat_if(
 fn flat_at_most_one(
     alloc: Global,
     frame: &Frame,
-    site: Option<u32>,
     operands: &[Expr],
     constant: &mut Option<Weighed>,
 ) -> Result<Box<FlatExpr>, Memory>
     requires { IsReader frame.now.reader }
-    ensures flat { IfOk result (λ f. flat_tree f ≡ form_read frame.now site (tree.AtMostOne (trees (map tree_of operands.now)))) }
+    ensures flat { IfOk result (λ f. flat_tree f ≡ unplaced (flat.AtMostOne (tables.trees_read frame.now (trees (map tree_of operands.now))))) }
     ensures constant { OnOk result (constant.new ≡ constant_form (scope_read frame.now) (value_by frame.now.values.now) (tree.AtMostOne (trees (map tree_of operands.now)))) }
     ensures bound { OnOk result (IsKnownBound constant.new) }
 {
     let mut trues = Trues::none();
     let all = flat_all(alloc, frame, operands, constant, &mut trues)?;
     *constant = trues.at_most_one();
-    made_at_most_one(alloc, frame, site, all)
+    made_at_most_one(alloc, all)
 }
 
 /// The operands of a `#`, and what is known of them.
@@ -344,14 +337,14 @@ fn flat_call(
     constant: &mut Option<Weighed>,
 ) -> Result<Box<FlatExpr>, Memory>
     requires { IsReader frame.now.reader }
-    ensures flat { IfOk result (λ f. flat_tree f ≡ flat.Node (spot (path_read frame.now) site) (flat.Flow (tables.output_read frame.now site))) }
+    ensures flat { IfOk result (λ f. flat_tree f ≡ unplaced (flat.Flow (tables.output_read frame.now site))) }
     ensures constant { OnOk result (constant.new ≡ None) }
     ensures bound { OnOk result (IsKnownBound constant.new) }
 {
     *constant = None;
     let output = frame.reader.output(site.unwrap_or(0));
     let flow = number_at(&frame.numbering.flows, output as usize);
-    made_flow(alloc, frame, site, flow)
+    made_flow(alloc, flow)
 }
 
 /// `E -> F`: a choice by whether its clock has ticked.
@@ -364,11 +357,11 @@ fn made_arrow(
     right: Box<FlatExpr>,
 ) -> Result<Box<FlatExpr>, Memory>
     requires { IsReader frame.now.reader }
-    ensures { IfOk result (λ f. flat_tree f ≡ flat.Node (spot (path_read frame.now) e.now.site) (flat.If (flat.Node (path_read frame.now) (flat.Ticked (tick_read frame.now (tables.clock_of_read frame.now (tree_of e.now))))) (flat_tree right) (flat_tree left))) }
+    ensures { IfOk result (λ f. flat_tree f ≡ unplaced (flat.If (unplaced (flat.Ticked (tick_read frame.now (tables.clock_of_read frame.now (tree_of e.now))))) (flat_tree right) (flat_tree left))) }
 {
     let clock = frame.reader.clock_of(e);
-    let ticked = made_ticked(alloc, frame, tick_number(frame, clock))?;
-    made_if(alloc, frame, e.site, ticked, right, left)
+    let ticked = made_ticked(alloc, tick_number(frame, clock))?;
+    made_if(alloc, ticked, right, left)
 }
 
 /// A product, of its operands and of what is known of them: the left one counts as its value if it is constant, else
@@ -376,20 +369,18 @@ fn made_arrow(
 #[inline(never)]
 fn made_product(
     alloc: Global,
-    frame: &Frame,
-    site: Option<u32>,
     first: &Option<Weighed>,
     left: Box<FlatExpr>,
     second: &Option<Weighed>,
     right: Box<FlatExpr>,
 ) -> Result<Box<FlatExpr>, Memory>
-    ensures { IfOk result (λ f. flat_tree f ≡ flat.Node (spot (path_read frame.now) site) (product_read first.now second.now (flat_tree left) (flat_tree right))) }
+    ensures { IfOk result (λ f. flat_tree f ≡ unplaced (product_read first.now second.now (flat_tree left) (flat_tree right))) }
 {
     match first {
-        Some(known) => made_scale(alloc, frame, site, whole(&known.value), right),
+        Some(known) => made_scale(alloc, whole(&known.value), right),
         None => match second {
-            Some(known) => made_scale(alloc, frame, site, whole(&known.value), left),
-            None => made_scale(alloc, frame, site, 0, left),
+            Some(known) => made_scale(alloc, whole(&known.value), left),
+            None => made_scale(alloc, 0, left),
         },
     }
 }
@@ -461,36 +452,56 @@ fn site_of_memory(frame: &Frame, site: Option<u32>, operand: &Expr) -> u32
     }
 }
 
-/// The path of the instance.
-#[tactic(auto, using(crate::proofs::Reading::read_nothing))]
-fn path_of(alloc: Global, frame: &Frame) -> Result<Many<u32>, Memory>
-    ensures { IfOk result (λ path. path ≡ path_read frame.now) }
+/// The place of an expression of the instance: a comparison of integers has that of its site, all others the empty one.
+#[inline(never)]
+fn place_of(alloc: Global, frame: &Frame, e: &Expr) -> Result<Place, Memory>
+    ensures { IfOk result (λ p. p.sites ≡ place_read frame.now (tree_of e.now)) }
 {
-    match frame.expanded.instances.get(frame.reader.instance as usize) {
-        Some(instance) => {
-            let path = Vec::from_slice(alloc, instance.path.as_slice())?;
-            Ok(Many::from_vec(path))
-        }
-        None => Ok(Many::new(alloc)),
+    match &e.form {
+        ExprForm::Binary(op, left, _) => place_of_operator(alloc, frame, e.site, *op, left),
+        _ => Ok(nowhere()),
     }
 }
 
-/// The place of an expression of the instance, by its site where it has one.
-fn spot_of(alloc: Global, frame: &Frame, site: Option<u32>) -> Result<Place, Memory>
+/// The place of an operator with this site and left operand.
+fn place_of_operator(
+    alloc: Global,
+    frame: &Frame,
+    site: Option<u32>,
+    op: Op,
+    left: &Expr,
+) -> Result<Place, Memory>
+    ensures { IfOk result (λ p. p.sites ≡ operator_place_read frame.now site op (tree_of left.now)) }
+{
+    if is_test(frame.tables, frame.own, op, left) {
+        spot_of(alloc, frame, site)
+    } else {
+        Ok(nowhere())
+    }
+}
+
+/// The empty place.
+fn nowhere() -> Place
+    ensures { result.sites ≡ [] }
+{
+    Place {
+        sites: Sites::empty(),
+    }
+}
+
+/// The place of a site of the instance, the empty one where there is no site. It shares the path of the instance.
+#[tactic(auto, using(crate::proofs::Reading::read_nothing))]
+pub fn spot_of(alloc: Global, frame: &Frame, site: Option<u32>) -> Result<Place, Memory>
     ensures { IfOk result (λ p. p.sites ≡ spot (path_read frame.now) site) }
 {
-    let mut sites = path_of(alloc, frame)?;
-    match site {
-        Some(own) => {
-            sites.push(own)?;
-            let sites = Sites::from_slice(alloc, sites.as_slice())?;
-            Ok(Place { sites })
-        }
-        None => {
-            let sites = Sites::from_slice(alloc, sites.as_slice())?;
-            Ok(Place { sites })
-        }
-    }
+    let Some(own) = site else {
+        return Ok(nowhere());
+    };
+    let sites = match frame.expanded.instances.get(frame.reader.instance as usize) {
+        Some(instance) => Sites::within(&instance.path, own)?,
+        None => Sites::from_slice(alloc, &[own])?,
+    };
+    Ok(Place { sites })
 }
 
 /// A flat expression in memory of its own. This and the functions below stay calls, so that `flat_part`, which calls
@@ -502,137 +513,97 @@ fn made(alloc: Global, at: Place, form: FlatForm) -> Result<Box<FlatExpr>, Memor
     Ok(made)
 }
 
-/// A constant, at the site of an expression of the instance or at none.
-#[inline(never)]
-pub fn made_constant(
-    alloc: Global,
-    frame: &Frame,
-    site: Option<u32>,
-    value: Value,
-) -> Result<Box<FlatExpr>, Memory>
-    ensures { IfOk result (λ f. flat_tree f ≡ flat.Node (spot (path_read frame.now) site) (flat.Constant value)) }
+/// One without a place.
+fn made_unplaced(alloc: Global, form: FlatForm) -> Result<Box<FlatExpr>, Memory>
+    ensures { IfOk result (λ f. f ≡ record { at = record { sites = [] }; form = form }) }
 {
-    let at = spot_of(alloc, frame, site)?;
-    made(alloc, at, FlatForm::Constant(value))
+    made(alloc, nowhere(), form)
+}
+
+/// A constant.
+#[inline(never)]
+pub fn made_constant(alloc: Global, value: Value) -> Result<Box<FlatExpr>, Memory>
+    ensures { IfOk result (λ f. flat_tree f ≡ unplaced (flat.Constant value)) }
+{
+    made_unplaced(alloc, FlatForm::Constant(value))
 }
 
 /// A flow, by its number.
 #[inline(never)]
-pub fn made_flow(
-    alloc: Global,
-    frame: &Frame,
-    site: Option<u32>,
-    number: u32,
-) -> Result<Box<FlatExpr>, Memory>
-    ensures { IfOk result (λ f. flat_tree f ≡ flat.Node (spot (path_read frame.now) site) (flat.Flow number)) }
+pub fn made_flow(alloc: Global, number: u32) -> Result<Box<FlatExpr>, Memory>
+    ensures { IfOk result (λ f. flat_tree f ≡ unplaced (flat.Flow number)) }
 {
-    let at = spot_of(alloc, frame, site)?;
-    made(alloc, at, FlatForm::Flow(number))
+    made_unplaced(alloc, FlatForm::Flow(number))
 }
 
 /// Whether a clock is there, by the number of its flow.
 #[inline(never)]
-pub fn made_presence(
-    alloc: Global,
-    frame: &Frame,
-    clock: Option<u32>,
-) -> Result<Box<FlatExpr>, Memory>
-    ensures { IfOk result (λ f. flat_tree f ≡ flat.Node (path_read frame.now) (presence clock)) }
+pub fn made_presence(alloc: Global, clock: Option<u32>) -> Result<Box<FlatExpr>, Memory>
+    ensures { IfOk result (λ f. flat_tree f ≡ unplaced (presence clock)) }
 {
     match clock {
-        Some(number) => made_flow(alloc, frame, None, number),
-        None => made_constant(alloc, frame, None, Value::Flag(true)),
+        Some(number) => made_flow(alloc, number),
+        None => made_constant(alloc, Value::Flag(true)),
     }
 }
 
 #[inline(never)]
-fn made_memory(
-    alloc: Global,
-    frame: &Frame,
-    site: Option<u32>,
-    number: u32,
-) -> Result<Box<FlatExpr>, Memory>
-    ensures { IfOk result (λ f. flat_tree f ≡ flat.Node (spot (path_read frame.now) site) (flat.Memory number)) }
+fn made_memory(alloc: Global, number: u32) -> Result<Box<FlatExpr>, Memory>
+    ensures { IfOk result (λ f. flat_tree f ≡ unplaced (flat.Memory number)) }
 {
-    let at = spot_of(alloc, frame, site)?;
-    made(alloc, at, FlatForm::Memory(number))
+    made_unplaced(alloc, FlatForm::Memory(number))
 }
 
 #[inline(never)]
-fn made_ticked(alloc: Global, frame: &Frame, number: u32) -> Result<Box<FlatExpr>, Memory>
-    ensures { IfOk result (λ f. flat_tree f ≡ flat.Node (path_read frame.now) (flat.Ticked number)) }
+fn made_ticked(alloc: Global, number: u32) -> Result<Box<FlatExpr>, Memory>
+    ensures { IfOk result (λ f. flat_tree f ≡ unplaced (flat.Ticked number)) }
 {
-    let at = spot_of(alloc, frame, None)?;
-    made(alloc, at, FlatForm::Ticked(number))
+    made_unplaced(alloc, FlatForm::Ticked(number))
 }
 
 #[inline(never)]
-fn made_not(
-    alloc: Global,
-    frame: &Frame,
-    site: Option<u32>,
-    operand: Box<FlatExpr>,
-) -> Result<Box<FlatExpr>, Memory>
-    ensures { IfOk result (λ f. flat_tree f ≡ flat.Node (spot (path_read frame.now) site) (flat.Not (flat_tree operand))) }
+fn made_not(alloc: Global, operand: Box<FlatExpr>) -> Result<Box<FlatExpr>, Memory>
+    ensures { IfOk result (λ f. flat_tree f ≡ unplaced (flat.Not (flat_tree operand))) }
 {
-    let at = spot_of(alloc, frame, site)?;
-    made(alloc, at, FlatForm::Not(operand))
+    made_unplaced(alloc, FlatForm::Not(operand))
 }
 
 #[inline(never)]
 fn made_binary(
     alloc: Global,
-    frame: &Frame,
-    site: Option<u32>,
+    at: Place,
     op: Op,
     left: Box<FlatExpr>,
     right: Box<FlatExpr>,
 ) -> Result<Box<FlatExpr>, Memory>
-    ensures { IfOk result (λ f. flat_tree f ≡ flat.Node (spot (path_read frame.now) site) (flat.Binary op (flat_tree left) (flat_tree right))) }
+    ensures { IfOk result (λ f. flat_tree f ≡ flat.Node at.sites (flat.Binary op (flat_tree left) (flat_tree right))) }
 {
-    let at = spot_of(alloc, frame, site)?;
     made(alloc, at, FlatForm::Binary(op, left, right))
 }
 
 #[inline(never)]
-fn made_scale(
-    alloc: Global,
-    frame: &Frame,
-    site: Option<u32>,
-    by: i128,
-    operand: Box<FlatExpr>,
-) -> Result<Box<FlatExpr>, Memory>
-    ensures { IfOk result (λ f. flat_tree f ≡ flat.Node (spot (path_read frame.now) site) (flat.Scale by (flat_tree operand))) }
+fn made_scale(alloc: Global, by: i128, operand: Box<FlatExpr>) -> Result<Box<FlatExpr>, Memory>
+    ensures { IfOk result (λ f. flat_tree f ≡ unplaced (flat.Scale by (flat_tree operand))) }
 {
-    let at = spot_of(alloc, frame, site)?;
-    made(alloc, at, FlatForm::Scale(by, operand))
+    made_unplaced(alloc, FlatForm::Scale(by, operand))
 }
 
 /// A choice.
 #[inline(never)]
-pub fn made_if(
+fn made_if(
     alloc: Global,
-    frame: &Frame,
-    site: Option<u32>,
     condition: Box<FlatExpr>,
     first: Box<FlatExpr>,
     second: Box<FlatExpr>,
 ) -> Result<Box<FlatExpr>, Memory>
-    ensures { IfOk result (λ f. flat_tree f ≡ flat.Node (spot (path_read frame.now) site) (flat.If (flat_tree condition) (flat_tree first) (flat_tree second))) }
+    ensures { IfOk result (λ f. flat_tree f ≡ unplaced (flat.If (flat_tree condition) (flat_tree first) (flat_tree second))) }
 {
-    let at = spot_of(alloc, frame, site)?;
-    made(alloc, at, FlatForm::If(condition, first, second))
+    made_unplaced(alloc, FlatForm::If(condition, first, second))
 }
 
 #[inline(never)]
-fn made_at_most_one(
-    alloc: Global,
-    frame: &Frame,
-    site: Option<u32>,
-    operands: Many<FlatExpr>,
-) -> Result<Box<FlatExpr>, Memory>
-    ensures { IfOk result (λ f. flat_tree f ≡ flat.Node (spot (path_read frame.now) site) (flat.AtMostOne (flat_trees (map flat_tree operands)))) }
+fn made_at_most_one(alloc: Global, operands: Many<FlatExpr>) -> Result<Box<FlatExpr>, Memory>
+    ensures { IfOk result (λ f. flat_tree f ≡ unplaced (flat.AtMostOne (flat_trees (map flat_tree operands)))) }
 {
-    let at = spot_of(alloc, frame, site)?;
-    made(alloc, at, FlatForm::AtMostOne(operands))
+    made_unplaced(alloc, FlatForm::AtMostOne(operands))
 }

@@ -39,11 +39,13 @@ fn flat_flow(alloc: Global, given: &Given, found: &Found, number: usize) -> Resu
         alloc,
         given.expanded,
         given.layout,
+        given.tables,
+        given.owns,
         given.values,
         &found.numbering,
         given.givers.at(at),
     )?;
-    let place = copied(alloc, &given.sequence[number])?;
+    let place = copied(&given.sequence[number])?;
     Ok(FlatFlow {
         place,
         kind: kind_of_flow(given, *given.flows.at(at)),
@@ -74,8 +76,8 @@ fn kind_of_flow(given: &Given, flow: Flow) -> Kind
     }
 }
 
-/// A copy of a place.
-pub fn copied(alloc: Global, place: &Place) -> Result<Place, Memory>
+/// A copy of a place, which shares its path.
+pub fn copied(place: &Place) -> Result<Place, Memory>
     ensures { IfOk result (λ copy. copy.sites ≡ place.now.sites) }
 {
     Ok(place.clone()?)

@@ -1,6 +1,6 @@
 //! What is found of a program before its flat system is put together.
 
-ghost use Rattle.std.specs.Prelude.{◌≡◌, ◌<◌, ℕ, map, length, IfOk};
+ghost use Rattle.std.specs.Prelude.{◌≡◌, ◌<◌, ℕ, map, length, slice_index_or, IfOk};
 ghost use Rattle.std.specs.List.{Contains};
 ghost use Rattle.rv_types.specs.Lists.{AreTicks, sites_of};
 ghost use Rattle.rv_types.specs.Needs.{IsSequence};
@@ -15,6 +15,7 @@ ghost use Rattle.rv_flat.specs.Kept.{AreKept};
 ghost use Rattle.rv_flat.specs.Positions.{AreNumbersOf};
 
 use crate::comparisons::comparisons_of;
+use crate::expressions::number_at;
 use crate::kept::{Comparison, Kept};
 use crate::memories::{few_memories, kept_of, memory_numbers};
 use crate::numbering::Numbering;
@@ -26,7 +27,8 @@ use rv_types::ProgramTables;
 use std::alloc::Global;
 
 /// The memories, ticks and comparisons of all instances, in the order of their places; for each flow of the sequence its
-/// number in the layout; and the numbers of flows, ticks and memories in the flat system.
+/// number in the layout; the numbers of flows, ticks and memories in the flat system; and for each tick the number of the flow
+/// of its clock there.
 #[derive(Drop)]
 pub struct Found<'a> {
     pub kept: Many<Kept<'a>>,
@@ -34,6 +36,7 @@ pub struct Found<'a> {
     pub comparisons: Many<Comparison>,
     pub order: Many<u32>,
     pub numbering: Numbering,
+    pub tick_flows: Many<u32>,
 }
 
 /// What is found of a program with this order of evaluation.
@@ -57,12 +60,14 @@ pub fn found_in<'a>(
     let ticks = tick_places(alloc, expanded, &ticking)?;
     let order = flow_numbers(alloc, layout, sequence)?;
     let numbering = numbered(alloc, expanded, layout, sequence, &order, &ticking, &kept)?;
+    let tick_flows = numbers_at(alloc, &numbering.flows, ticking.as_slice())?;
     Ok(Found {
         kept,
         ticks,
         comparisons,
         order,
         numbering,
+        tick_flows,
     })
 }
 
@@ -79,6 +84,17 @@ fn tick_places(
     let flows = flows_in(alloc, expanded)?;
     let places = places_of(alloc, expanded.instances, &flows, ticking.as_slice())?;
     Ok(places)
+}
+
+/// What stands at some numbers, 0 where nothing does.
+fn numbers_at(alloc: Global, numbers: &Many<u32>, at: &[u32]) -> Result<Many<u32>, Memory>
+    ensures { IfOk result (λ found. found ≡ map (λ k. slice_index_or numbers.now k 0) at.now) }
+{
+    let mut found = Many::new(alloc);
+    for k in at {
+        found.push(number_at(numbers, *k as usize))?;
+    }
+    Ok(found)
 }
 
 /// The numbers of flows, ticks and memories in the flat system.

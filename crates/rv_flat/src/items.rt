@@ -18,21 +18,23 @@ ghost use Rattle.rv_causality.specs.Layouts.{IsLayout, IsNumberOf};
 ghost use Rattle.rv_causality.specs.NumberedNeeds.{IsGiver, site_in};
 ghost use Rattle.rv_causality.specs.Weights.{AreLight};
 ghost use Rattle.rv_flat.specs.Frames.{IsNumbering};
-ghost use Rattle.rv_flat.specs.FlatTree.{flat_tree};
+ghost use Rattle.rv_flat.specs.FlatTree.{Node, If, flat_tree};
 ghost use Rattle.rv_flat.specs.Items.{made_item};
+ghost use Rattle.rv_flat.specs.NodeReaders.{AreOwnTables};
 ghost use Rattle.rv_flat.specs.Readings as readings;
 ghost use Rattle.rv_flat.specs.Readings.{Numbers};
 
 use crate::expressions::{
-    clock_number, flat_of, made_constant, made_flow, made_if, made_presence, number_at,
+    clock_number, flat_of, made_constant, made_flow, made_presence, number_at, spot_of,
 };
 use crate::frame::Frame;
+use crate::node_reader::own_at;
 use crate::numbering::Numbering;
 use crate::parts::{FlatExpr, FlatForm};
-use rv_base::{Box, Many, Memory, Place, Value};
+use rv_base::{Box, Many, Memory, Place, Sites, Value};
 use rv_causality::{BodyOf, Expanded, Giver, Layout, OutputOf, Reader, instance_numbers};
 use rv_syntax::{Assertion, Expr};
-use rv_types::NamedValues;
+use rv_types::{NamedValues, NodeTables, ProgramTables};
 use std::alloc::Global;
 
 /// The number of the flow of a clock, none for the main node's base clock, and what a flow or memory takes where that is
@@ -48,25 +50,28 @@ pub fn giver_item(
     alloc: Global,
     expanded: &Expanded,
     layout: &Layout,
+    tables: &ProgramTables,
+    owns: &Many<NodeTables>,
     values: &NamedValues,
     numbering: &Numbering,
     giver: &Giver,
 ) -> Result<FlatItem, Memory>
     requires known { IsKnown expanded.now }
     requires layout { IsLayout (program_of expanded.now) (main_of expanded.now) expanded.now.instances.now layout.now }
+    requires owns { AreOwnTables (program_of expanded.now) tables.now owns.now }
     requires values { value_by values.now ≡ constant_value (program_of expanded.now) }
     requires giver { IsGiver (program_of expanded.now) (main_of expanded.now) expanded.now.instances.now giver.now }
     ensures { (numbers : Numbers) (q : Sites) (g : GiverTree) → AreLight (program_of expanded.now) (main_of expanded.now) → AreTicks (program_of expanded.now) (main_of expanded.now) numbers.ticks → IsNumbering (program_of expanded.now) (main_of expanded.now) expanded.now.instances.now numbers numbering.now → Gives (program_of expanded.now) (main_of expanded.now) q g → StandsFor (program_of expanded.now) expanded.now.instances.now giver.now g → IfOk result (λ x. made_item x ≡ readings.giver_item (program_of expanded.now) numbers g) }
 {
     match giver {
-        Giver::Input(number) => Ok(input_item(alloc, *number)),
-        Giver::Body(body) => body_item(alloc, expanded, layout, values, numbering, body),
-        Giver::Output(output) => output_item(alloc, expanded, layout, values, numbering, output),
+        Giver::Input(number) => Ok(input_item(*number)),
+        Giver::Body(body) => body_item(alloc, expanded, layout, tables, owns, values, numbering, body),
+        Giver::Output(output) => output_item(alloc, expanded, layout, tables, owns, values, numbering, output),
     }
 }
 
 /// An input of the main node.
-fn input_item(alloc: Global, number: u32) -> FlatItem
+fn input_item(number: u32) -> FlatItem
     ensures { (p : ProgramTree) (instances : List Numbered) (numbers : Numbers) (g : GiverTree) → StandsFor p instances (giver.Input number) g → made_item result ≡ readings.giver_item p numbers g }
 {
     FlatItem {
@@ -85,21 +90,27 @@ fn body_item(
     alloc: Global,
     expanded: &Expanded,
     layout: &Layout,
+    tables: &ProgramTables,
+    owns: &Many<NodeTables>,
     values: &NamedValues,
     numbering: &Numbering,
     body: &BodyOf,
 ) -> Result<FlatItem, Memory>
     requires known { IsKnown expanded.now }
     requires layout { IsLayout (program_of expanded.now) (main_of expanded.now) expanded.now.instances.now layout.now }
+    requires owns { AreOwnTables (program_of expanded.now) tables.now owns.now }
     requires values { value_by values.now ≡ constant_value (program_of expanded.now) }
     requires giver { IsGiver (program_of expanded.now) (main_of expanded.now) expanded.now.instances.now (giver.Body body.now) }
     ensures { (numbers : Numbers) (q : Sites) (g : GiverTree) → AreLight (program_of expanded.now) (main_of expanded.now) → AreTicks (program_of expanded.now) (main_of expanded.now) numbers.ticks → IsNumbering (program_of expanded.now) (main_of expanded.now) expanded.now.instances.now numbers numbering.now → Gives (program_of expanded.now) (main_of expanded.now) q g → StandsFor (program_of expanded.now) expanded.now.instances.now (giver.Body body.now) g → IfOk result (λ x. made_item x ≡ readings.giver_item (program_of expanded.now) numbers g) }
 {
     instance_numbers();
     let reader = Reader::new(expanded, layout, body.instance);
+    let own = own_at(expanded, tables, owns, body.instance);
     let frame = Frame {
         expanded,
         reader,
+        tables,
+        own,
         values,
         numbering,
     };
@@ -116,28 +127,34 @@ fn output_item(
     alloc: Global,
     expanded: &Expanded,
     layout: &Layout,
+    tables: &ProgramTables,
+    owns: &Many<NodeTables>,
     values: &NamedValues,
     numbering: &Numbering,
     output: &OutputOf,
 ) -> Result<FlatItem, Memory>
     requires known { IsKnown expanded.now }
     requires layout { IsLayout (program_of expanded.now) (main_of expanded.now) expanded.now.instances.now layout.now }
+    requires owns { AreOwnTables (program_of expanded.now) tables.now owns.now }
     requires values { value_by values.now ≡ constant_value (program_of expanded.now) }
     requires giver { IsGiver (program_of expanded.now) (main_of expanded.now) expanded.now.instances.now (giver.Output output.now) }
     ensures { (numbers : Numbers) (q : Sites) (g : GiverTree) → AreLight (program_of expanded.now) (main_of expanded.now) → AreTicks (program_of expanded.now) (main_of expanded.now) numbers.ticks → IsNumbering (program_of expanded.now) (main_of expanded.now) expanded.now.instances.now numbers numbering.now → Gives (program_of expanded.now) (main_of expanded.now) q g → StandsFor (program_of expanded.now) expanded.now.instances.now (giver.Output output.now) g → IfOk result (λ x. made_item x ≡ readings.giver_item (program_of expanded.now) numbers g) }
 {
     instance_numbers();
     let reader = Reader::new(expanded, layout, output.instance);
+    let own = own_at(expanded, tables, owns, output.instance);
     let frame = Frame {
         expanded,
         reader,
+        tables,
+        own,
         values,
         numbering,
     };
     let site = site_of(output.call);
     let first = frame.reader.output(site);
     let flow = number_at(&numbering.flows, first as usize + output.output);
-    let made = made_flow(alloc, &frame, Some(site), flow)?;
+    let made = made_flow(alloc, flow)?;
     let clock = frame.reader.clock(output.clock);
     Ok(FlatItem {
         clock: clock_number(&frame, clock),
@@ -157,6 +174,8 @@ pub fn delay_item(
     alloc: Global,
     expanded: &Expanded,
     layout: &Layout,
+    tables: &ProgramTables,
+    owns: &Many<NodeTables>,
     values: &NamedValues,
     numbering: &Numbering,
     instance: u32,
@@ -164,15 +183,19 @@ pub fn delay_item(
 ) -> Result<FlatItem, Memory>
     requires known { IsKnown expanded.now }
     requires layout { IsLayout (program_of expanded.now) (main_of expanded.now) expanded.now.instances.now layout.now }
+    requires owns { AreOwnTables (program_of expanded.now) tables.now owns.now }
     requires values { value_by values.now ≡ constant_value (program_of expanded.now) }
     requires within { instance < length expanded.now.instances.now }
     ensures { (numbers : Numbers) (i : Instance) (d : Delay) → AreLight (program_of expanded.now) (main_of expanded.now) → AreTicks (program_of expanded.now) (main_of expanded.now) numbers.ticks → IsNumbering (program_of expanded.now) (main_of expanded.now) expanded.now.instances.now numbers numbering.now → IsInstance (program_of expanded.now) (main_of expanded.now) i → IsNumberOf (program_of expanded.now) expanded.now.instances.now instance i → Contains (node_delays i.node) d → tree_of operand.now ≡ d.operand → IfOk result (λ x. made_item x ≡ readings.delay_item (program_of expanded.now) numbers i d) }
 {
     instance_numbers();
     let reader = Reader::new(expanded, layout, instance);
+    let own = own_at(expanded, tables, owns, instance);
     let frame = Frame {
         expanded,
         reader,
+        tables,
+        own,
         values,
         numbering,
     };
@@ -189,6 +212,8 @@ pub fn flat_assertion(
     alloc: Global,
     expanded: &Expanded,
     layout: &Layout,
+    tables: &ProgramTables,
+    owns: &Many<NodeTables>,
     values: &NamedValues,
     numbering: &Numbering,
     instance: u32,
@@ -196,23 +221,42 @@ pub fn flat_assertion(
 ) -> Result<FlatExpr, Memory>
     requires known { IsKnown expanded.now }
     requires layout { IsLayout (program_of expanded.now) (main_of expanded.now) expanded.now.instances.now layout.now }
+    requires owns { AreOwnTables (program_of expanded.now) tables.now owns.now }
     requires values { value_by values.now ≡ constant_value (program_of expanded.now) }
     requires within { instance < length expanded.now.instances.now }
     ensures { (numbers : Numbers) (i : Instance) → AreLight (program_of expanded.now) (main_of expanded.now) → AreTicks (program_of expanded.now) (main_of expanded.now) numbers.ticks → IsNumbering (program_of expanded.now) (main_of expanded.now) expanded.now.instances.now numbers numbering.now → IsInstance (program_of expanded.now) (main_of expanded.now) i → IsNumberOf (program_of expanded.now) expanded.now.instances.now instance i → Contains i.node.assertions (assertion_tree assertion.now) → IfOk result (λ f. flat_tree f ≡ readings.assertion_of (program_of expanded.now) numbers i (assertion_tree assertion.now)) }
 {
     instance_numbers();
     let reader = Reader::new(expanded, layout, instance);
+    let own = own_at(expanded, tables, owns, instance);
     let frame = Frame {
         expanded,
         reader,
+        tables,
+        own,
         values,
         numbering,
     };
     let made = flat_of(alloc, &frame, &assertion.body)?;
     let body = Box::new(alloc, made)?;
     let clock = frame.reader.clock_of(&assertion.body);
-    let there = made_presence(alloc, &frame, clock_number(&frame, clock))?;
-    let absent = made_constant(alloc, &frame, None, Value::Flag(true))?;
-    let whole = made_if(alloc, &frame, Some(assertion.site), there, body, absent)?;
-    Ok(whole.into_inner())
+    let there = made_presence(alloc, clock_number(&frame, clock))?;
+    let absent = made_constant(alloc, Value::Flag(true))?;
+    let at = spot_of(alloc, &frame, Some(assertion.site))?;
+    Ok(assumed(at, there, body, absent))
+}
+
+/// What is assumed at a place: the second expression, where the first is true.
+fn assumed(
+    at: Place,
+    there: Box<FlatExpr>,
+    body: Box<FlatExpr>,
+    absent: Box<FlatExpr>,
+) -> FlatExpr
+    ensures { flat_tree result ≡ Node at.sites (If (flat_tree there) (flat_tree body) (flat_tree absent)) }
+{
+    FlatExpr {
+        at,
+        form: FlatForm::If(there, body, absent),
+    }
 }

@@ -4,8 +4,7 @@ ghost use Rattle.std.specs.Prelude.{◌≡◌, IfOk};
 ghost use Rattle.std.specs.Option.{option_copied};
 ghost use Rattle.rv_flat.specs.Earliest as places;
 
-use rv_base::{Many, Memory, Place};
-use std::alloc::Global;
+use rv_base::{Memory, Place};
 
 /// Whether a place stands before another: a proper prefix does, or the one with the smaller first number that differs.
 fn is_before(a: &Place, b: &Place) -> bool
@@ -31,7 +30,7 @@ pub fn sooner<'a>(least: Option<&'a Place>, place: &'a Place) -> &'a Place
 }
 
 /// A copy of a place.
-pub fn copy_of(alloc: Global, place: &Place) -> Result<Place, Memory>
+pub fn copy_of(place: &Place) -> Result<Place, Memory>
     ensures { IfOk result (λ p. p ≡ place.now) }
 {
     Ok(place.clone()?)

@@ -24,7 +24,7 @@ ghost use Rattle.rv_flat.specs.Remembered.{read_seen, reads, reads_in, kept_seen
 
 use crate::kept::Kept;
 use crate::node_reader::NodeReader;
-use rv_base::{Many, Memory, Place};
+use rv_base::{Many, Memory, Path, Place, Sites};
 use rv_causality::{Callees, Expanded, Instance, counted_instances};
 use rv_syntax::{Assertion, Equation, Expr, ExprForm};
 use rv_types::{Kind, NodeClocks, ProgramTables};

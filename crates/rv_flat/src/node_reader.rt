@@ -1,6 +1,6 @@
 //! Nodes whose expressions are read by the tables of their flows.
 
-ghost use Rattle.std.specs.Prelude.{◌≡◌, [], unwrap_or, IfOk};
+ghost use Rattle.std.specs.Prelude.{◌≡◌, ◌<◌, [], length, unwrap_or, IfOk};
 ghost use Rattle.rv_syntax.specs.Places.{memory_site as site_of_memory};
 ghost use Rattle.rv_syntax.specs.Tree.{ProgramTree, node_tree, tree_of};
 ghost use Rattle.rv_types.specs.Known.{flow_names};
@@ -9,9 +9,12 @@ ghost use Rattle.rv_types.specs.Readings.{AreTables};
 ghost use Rattle.rv_types.specs.Scopes.{node_scope};
 ghost use Rattle.rv_types.specs.Types.{kind_of};
 ghost use Rattle.rv_types.specs.declared.typed.Kind.TheVariants as kind;
-ghost use Rattle.rv_flat.specs.NodeReaders.{node_read, scope_read};
+ghost use Rattle.rv_causality.specs.Expanded.{IsKnown, program_of};
+ghost use Rattle.rv_causality.specs.Layouts.{node_at};
+ghost use Rattle.rv_flat.specs.NodeReaders.{AreOwnTables, node_read, scope_by, scope_read};
 
-use rv_base::Memory;
+use rv_base::{Many, Memory};
+use rv_causality::Expanded;
 use rv_syntax::{Expr, ExprForm};
 use rv_types::{Kind, NodeClocks, NodeTables, ProgramTables, node_tables, operand_kind};
 use std::alloc::Global;
@@ -22,6 +25,40 @@ pub struct NodeReader<'a, 'b> {
     pub clocks: &'b NodeClocks<'a>,
     pub tables: &'b ProgramTables,
     pub own: NodeTables,
+}
+
+/// The tables of the flows of each node of a program.
+pub fn own_tables(
+    alloc: Global,
+    expanded: &Expanded,
+    tables: &ProgramTables,
+) -> Result<Many<NodeTables>, Memory>
+    requires known { IsKnown expanded.now }
+    requires tables { AreTables (program_of expanded.now) tables.now }
+    ensures { IfOk result (AreOwnTables (program_of expanded.now) tables.now) }
+{
+    let mut owns = Many::new(alloc);
+    for clocks in expanded.clocks.as_slice() {
+        let own = node_tables(alloc, tables, clocks.node)?;
+        owns.push(own)?;
+    }
+    Ok(owns)
+}
+
+/// The tables of the flows of the node of an instance.
+pub fn own_at<'c>(
+    expanded: &Expanded,
+    tables: &ProgramTables,
+    owns: &'c Many<NodeTables>,
+    instance: u32,
+) -> &'c NodeTables
+    requires known { IsKnown expanded.now }
+    requires owns { AreOwnTables (program_of expanded.now) tables.now owns.now }
+    requires within { instance < length expanded.now.instances.now }
+    ensures { scope_by tables.now result.now ≡ node_scope (program_of expanded.now) (node_at (program_of expanded.now) expanded.now.instances.now instance) }
+{
+    let _ = tables;
+    owns.at(expanded.instances.at(instance as usize).node as usize)
 }
 
 impl<'a, 'b> NodeReader<'a, 'b> {

@@ -64,8 +64,8 @@ pub struct FlatFlow {
     pub body: FlatExpr,
 }
 
-/// An expression over the flows before it. Its place is that of its node's instance, followed by its own site where
-/// it has one.
+/// An expression over the flows before it. A comparison of integers has the place by which its order tests name it, and the
+/// whole of an assertion that by which a false one is told; every other expression has the empty place.
 #[cycle(flat_expr)]
 #[derive(Debug, Drop)]
 pub struct FlatExpr {

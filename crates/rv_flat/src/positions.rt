@@ -1,19 +1,19 @@
 //! The numbers of the flows of an order of evaluation, and where each flow stands in it.
 
-ghost use Rattle.std.specs.Prelude.{◌≡◌, ◌+◌, ◌<◌, ◌^◌, ℕ, List, length, map, replicate, slice_index_or, slice_set, IfOk};
+ghost use Rattle.std.specs.Prelude.{◌≡◌, ◌+◌, ◌-◌, ◌<◌, ◌≤◌, ◌^◌, ◌++◌, ◌∷◌, [], ℕ, List, length, map, replicate, take, slice_index_or, slice_set, IfOk, OnOk};
 ghost use Rattle.rv_syntax.specs.Tree.{ProgramTree};
-ghost use Rattle.rv_syntax.specs.Places.{Identifier, Sites, index_of};
+ghost use Rattle.rv_syntax.specs.Places.{Identifier, Sites as SitesModel, index_of};
 ghost use Rattle.rv_types.specs.Needs.{IsSequence};
 ghost use Rattle.rv_types.specs.Lists.{sites_of};
 ghost use Rattle.rv_causality.specs.declared.answer.Instance.{Instance as InstanceModel};
 ghost use Rattle.rv_causality.specs.Expanded.{IsExpanded, IsKnown, program_of, main_of};
 ghost use Rattle.rv_causality.specs.Flowing.{place_at};
-ghost use Rattle.rv_causality.specs.Layouts.{IsLayout, all_places, here_of};
-ghost use Rattle.rv_flat.specs.Positions.{AreNumbersOf, number_from, site_number, told};
+ghost use Rattle.rv_causality.specs.Layouts.{IsLayout, all_places, callee_or_main, here_of};
+ghost use Rattle.rv_flat.specs.Positions.{AreNumbersOf, number_from, site_number, told, way_from};
 
-use rv_base::{Many, Memory, Place};
+use rv_base::{Many, Memory, Place, Sites};
 use rv_causality::{Expanded, Layout, flow_places, instance_numbers};
-use std::alloc::Global;
+use std::alloc::{AllocError, Global};
 
 /// How many flows all instances have.
 pub fn flow_count(expanded: &Expanded, layout: &Layout) -> usize
@@ -26,8 +26,9 @@ pub fn flow_count(expanded: &Expanded, layout: &Layout) -> usize
     layout.laid.at(last).first as usize + expanded.count(last as u32) as usize
 }
 
-/// For each place of a sequence of all flows the number of its flow. Time grows with the length of the places, up to
-/// look-ups.
+/// For each place of a sequence of all flows the number of its flow. Each place is compared once with the one before it,
+/// and followed from where the two part; so time grows with the length of the places, and look-ups come only where the
+/// sequence goes on to an instance within another one.
 pub fn flow_numbers(alloc: Global, layout: &Layout, sequence: &[Place]) -> Result<Many<u32>, Memory>
     ensures { (p : ProgramTree) (main : Identifier) (instances : List InstanceModel) → IsExpanded p main instances → IsLayout p main instances layout.now → IsSequence p main (sites_of sequence.now) → IfOk result (AreNumbersOf (all_places p instances) (sites_of sequence.now)) }
 {
@@ -40,23 +41,82 @@ fn numbers_of(alloc: Global, layout: &Layout, sequence: &[Place]) -> Result<Many
     ensures { IfOk result (λ numbers. numbers ≡ map (number_from layout.now 0 0) (sites_of sequence.now)) }
 {
     let mut numbers = Many::new(alloc);
+    let mut way = Many::new(alloc);
+    way.push(0)?;
+    let mut path: &[u32] = &[];
     for place in sequence {
-        numbers.push(number_of(layout, place.sites.as_slice()))?;
+        let number = number_of(layout, &place.sites, path, &mut way)?;
+        numbers.push(number)?;
+        path = place.sites.front();
     }
     Ok(numbers)
 }
 
-/// The number to which the layout leads from main: at each site that of a flow, which is one at the last.
-fn number_of(layout: &Layout, sites: &[u32]) -> u32
-    ensures { result ≡ number_from layout.now 0 0 sites.now }
+/// The number to which the layout leads from main along a place. The way along a path becomes that along the place's own.
+fn number_of(
+    layout: &Layout,
+    sites: &Sites,
+    path: &[u32],
+    way: &mut Many<u32>,
+) -> Result<u32, Memory>
+    requires { way.old ≡ way_from layout.now 0 path.now }
+    ensures number { IfOk result (λ number. number ≡ number_from layout.now 0 0 sites.now) }
+    ensures way { OnOk result (way.new ≡ way_from layout.now 0 (take (length sites.now - 1) sites.now)) }
 {
-    let mut instance = 0;
-    let mut number = 0;
-    for site in sites {
-        number = number_at(layout, instance, *site);
-        instance = layout.callees.callee(instance, *site).unwrap_or(0);
+    turn(layout, path, sites.front(), way)?;
+    match sites.last() {
+        Some(site) => Ok(number_at(layout, end_of(way), site)),
+        None => Ok(0),
     }
-    number
+}
+
+/// Makes the way along one path that along another.
+fn turn(layout: &Layout, path: &[u32], other: &[u32], way: &mut Many<u32>) -> Result<(), Memory>
+    requires { way.old ≡ way_from layout.now 0 path.now }
+    ensures { OnOk result (way.new ≡ way_from layout.now 0 other.now) }
+{
+    let common = shared(path, other);
+    way.truncate(common + 1);
+    for k in common..other.len() {
+        go_on(layout, other[k], way)?;
+    }
+    Ok(())
+}
+
+/// How many sites two paths have in common before they part.
+fn shared(one: &[u32], other: &[u32]) -> usize
+    ensures within { result ≤ length one.now }
+    ensures within_other { result ≤ length other.now }
+    ensures same { take result one.now ≡ take result other.now }
+{
+    if one == other {
+        return one.len();
+    }
+    for k in 0..one.len() {
+        if k >= other.len() {
+            return k;
+        }
+        if one[k] != other[k] {
+            return k;
+        }
+    }
+    one.len()
+}
+
+/// Adds the instance that a call of the last one gives.
+fn go_on(layout: &Layout, site: u32, way: &mut Many<u32>) -> Result<(), AllocError>
+    ensures { OnOk result (way.new ≡ way.old ++ callee_or_main layout.now.callees (slice_index_or way.old (length way.old - 1) 0) site ∷ []) }
+{
+    let callee = layout.callees.callee(end_of(way), site).unwrap_or(0);
+    way.push(callee)
+}
+
+/// The last instance of a way.
+fn end_of(way: &Many<u32>) -> u32
+    ensures { result ≡ slice_index_or way.now (length way.now - 1) 0 }
+{
+    let count = way.len();
+    if count == 0 { 0 } else { *way.at(count - 1) }
 }
 
 /// The number of the flow of an instance with this site.
@@ -79,7 +139,7 @@ fn first_of(layout: &Layout, instance: u32) -> u32
 
 /// For each flow, by its number, where it stands in a sequence of all flows, which have these numbers there.
 pub fn positions(alloc: Global, count: usize, numbers: &[u32]) -> Result<Many<u32>, Memory>
-    ensures { (p : ProgramTree) (main : Identifier) (instances : List InstanceModel) (sequence : List Sites) → IsExpanded p main instances → IsSequence p main sequence → count ≡ length (all_places p instances) → AreNumbersOf (all_places p instances) sequence numbers.now → IfOk result (λ at. (k : ℕ) → k < length (all_places p instances) → slice_index_or at k 0 ≡ index_of sequence (place_at (all_places p instances) k)) }
+    ensures { (p : ProgramTree) (main : Identifier) (instances : List InstanceModel) (sequence : List SitesModel) → IsExpanded p main instances → IsSequence p main sequence → count ≡ length (all_places p instances) → AreNumbersOf (all_places p instances) sequence numbers.now → IfOk result (λ at. (k : ℕ) → k < length (all_places p instances) → slice_index_or at k 0 ≡ index_of sequence (place_at (all_places p instances) k)) }
 {
     flow_places();
     standing(alloc, count, 0, numbers)

@@ -50,12 +50,14 @@ fn flat_memory(
         alloc,
         given.expanded,
         given.layout,
+        given.tables,
+        given.owns,
         given.values,
         &found.numbering,
         kept.instance,
         kept.operand,
     )?;
-    let place = copied(alloc, &kept.place)?;
+    let place = copied(&kept.place)?;
     Ok(FlatMemory {
         place,
         kind: kept.kind,

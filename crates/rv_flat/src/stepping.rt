@@ -35,11 +35,11 @@ pub fn start(alloc: Global, flat: &Flat, starts: &Many<Value>) -> Result<State, 
 }
 
 /// The place that is to be told, where there is one.
-fn told(alloc: Global, place: Option<&Place>) -> Result<Option<Place>, Memory>
+fn told(place: Option<&Place>) -> Result<Option<Place>, Memory>
     ensures { IfOk result (λ p. p ≡ option_copied place.entry) }
 {
     match place {
-        Some(place) => Ok(Some(copy_of(alloc, place)?)),
+        Some(place) => Ok(Some(copy_of(place)?)),
         None => Ok(None),
     }
 }
@@ -61,10 +61,10 @@ pub fn step(
     let values = row_of(alloc, flat, now, input)?;
     let kept = kept_after(alloc, flat, now, input, &values)?;
     if let Some(place) = grown_place(flat, &values, &kept) {
-        return Err(StepFault::Outgrown(copy_of(alloc, place)?));
+        return Err(StepFault::Outgrown(copy_of(place)?));
     }
     let ticked = ticked_after(alloc, flat, now, &values)?;
-    let broken = told(alloc, broken_place(flat, now, input, &values))?;
+    let broken = told(broken_place(flat, now, input, &values))?;
     Ok(Stepped {
         next: State { ticked, kept },
         observer: is_flow_on(&values, flat.observer as usize),

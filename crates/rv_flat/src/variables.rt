@@ -12,6 +12,7 @@ ghost use Rattle.rv_flat.specs.Kept.{kept_memory, found_comparison};
 ghost use Rattle.rv_flat.specs.Lists.{column_of, side_of, tick_places, variable_of};
 ghost use Rattle.rv_flat.specs.VariableLists.{kept_variables, given_variables, own_columns};
 
+use crate::flows::copied;
 use crate::kept::{Comparison, Kept};
 use crate::parts::{Bit, Column, Side};
 use rv_base::{Many, Memory, Place};
@@ -52,10 +53,10 @@ fn listed_variables(
 {
     let mut bits = Many::new(alloc);
     add_pair(Bit::MainTick, &mut bits)?;
-    add_ticks(alloc, ticks, &mut bits)?;
-    add_memories(alloc, types, kept, &mut bits)?;
+    add_ticks(ticks, &mut bits)?;
+    add_memories(types, kept, &mut bits)?;
     add_inputs(types, inputs, &mut bits)?;
-    add_tests(alloc, comparisons, &mut bits)?;
+    add_tests(comparisons, &mut bits)?;
     Ok(bits)
 }
 
@@ -68,11 +69,11 @@ fn add_pair(bit: Bit, bits: &mut Many<Bit>) -> Result<(), AllocError>
 }
 
 /// Adds ticks.
-fn add_ticks(alloc: Global, ticks: &[Place], bits: &mut Many<Bit>) -> Result<(), Memory>
+fn add_ticks(ticks: &[Place], bits: &mut Many<Bit>) -> Result<(), Memory>
     ensures { OnOk result (map variable_of bits.new ≡ map variable_of bits.old ++ with_copies (map lists.Tick (sites_of ticks.now))) }
 {
     for place in ticks {
-        let again = copied(alloc, place)?;
+        let again = copied(place)?;
         add_pair(Bit::Tick(again), bits)?;
     }
     Ok(())
@@ -80,7 +81,6 @@ fn add_ticks(alloc: Global, ticks: &[Place], bits: &mut Many<Bit>) -> Result<(),
 
 /// Adds the bits of memories.
 fn add_memories(
-    alloc: Global,
     types: &[TypeDecl],
     kept: &[Kept],
     bits: &mut Many<Bit>,
@@ -90,17 +90,17 @@ fn add_memories(
 {
     for memory in kept {
         let count = bits_of(types, memory.kind);
-        add_memory(alloc, &memory.place, count, bits)?;
+        add_memory(&memory.place, count, bits)?;
     }
     Ok(())
 }
 
 /// Adds so many bits of the memory at a place.
-fn add_memory(alloc: Global, place: &Place, count: u32, bits: &mut Many<Bit>) -> Result<(), Memory>
+fn add_memory(place: &Place, count: u32, bits: &mut Many<Bit>) -> Result<(), Memory>
     ensures { OnOk result (map variable_of bits.new ≡ map variable_of bits.old ++ with_copies (lists.bits (lists.Kept place.now.sites) count)) }
 {
     for bit in 0..count {
-        let again = copied(alloc, place)?;
+        let again = copied(place)?;
         add_pair(Bit::Kept(again, bit), bits)?;
     }
     Ok(())
@@ -130,44 +130,37 @@ fn add_input(number: u32, count: u32, bits: &mut Many<Bit>) -> Result<(), Memory
 }
 
 /// Adds the order tests of comparisons.
-fn add_tests(alloc: Global, comparisons: &[Comparison], bits: &mut Many<Bit>) -> Result<(), Memory>
+fn add_tests(comparisons: &[Comparison], bits: &mut Many<Bit>) -> Result<(), Memory>
     ensures { OnOk result (map variable_of bits.new ≡ map variable_of bits.old ++ test_variables (map found_comparison comparisons.now)) }
 {
     for comparison in comparisons {
-        add_sides(alloc, &comparison.place, comparison.operator, bits)?;
+        add_sides(&comparison.place, comparison.operator, bits)?;
     }
     Ok(())
 }
 
 /// Adds the order tests of a comparison.
-fn add_sides(alloc: Global, place: &Place, operator: Op, bits: &mut Many<Bit>) -> Result<(), Memory>
+fn add_sides(place: &Place, operator: Op, bits: &mut Many<Bit>) -> Result<(), Memory>
     ensures { OnOk result (map variable_of bits.new ≡ map variable_of bits.old ++ map (lists.Test place.now.sites) (sides_of operator)) }
 {
     match operator {
         Op::Equal | Op::Differs => {
-            add_side(alloc, place, Side::AtMost, bits)?;
-            add_side(alloc, place, Side::AtLeast, bits)
+            add_side(place, Side::AtMost, bits)?;
+            add_side(place, Side::AtLeast, bits)
         }
-        Op::AtMost | Op::Greater => add_side(alloc, place, Side::AtMost, bits),
-        Op::AtLeast | Op::Less => add_side(alloc, place, Side::AtLeast, bits),
+        Op::AtMost | Op::Greater => add_side(place, Side::AtMost, bits),
+        Op::AtLeast | Op::Less => add_side(place, Side::AtLeast, bits),
         _ => Ok(()),
     }
 }
 
 /// Adds one.
-fn add_side(alloc: Global, place: &Place, side: Side, bits: &mut Many<Bit>) -> Result<(), Memory>
+fn add_side(place: &Place, side: Side, bits: &mut Many<Bit>) -> Result<(), Memory>
     ensures { OnOk result (map variable_of bits.new ≡ map variable_of bits.old ++ lists.Test place.now.sites (side_of side) ∷ []) }
 {
-    let again = copied(alloc, place)?;
+    let again = copied(place)?;
     bits.push(Bit::Test(again, side))?;
     Ok(())
-}
-
-/// A place again.
-fn copied(alloc: Global, place: &Place) -> Result<Place, Memory>
-    ensures { IfOk result (λ made. made.sites ≡ place.now.sites) }
-{
-    Ok(place.clone()?)
 }
 
 /// The bits of a control memory or input of a type; integers have none.
@@ -226,24 +219,23 @@ pub fn columns_of(alloc: Global, kept: &[Kept], inputs: &[Kind]) -> Result<Many<
     ensures { IfOk result (λ made. map column_of made ≡ memory_columns (map kept_memory kept.now) ++ input_columns 0 inputs.now) }
 {
     let mut columns = Many::new(alloc);
-    add_kept_columns(alloc, kept, &mut columns)?;
+    add_kept_columns(kept, &mut columns)?;
     add_input_columns(inputs, &mut columns)?;
     Ok(columns)
 }
 
 /// Adds those of memories.
-fn add_kept_columns(alloc: Global, kept: &[Kept], columns: &mut Many<Column>) -> Result<(), Memory>
+fn add_kept_columns(kept: &[Kept], columns: &mut Many<Column>) -> Result<(), Memory>
     ensures { OnOk result (map column_of columns.new ≡ map column_of columns.old ++ memory_columns (map kept_memory kept.now)) }
 {
     for memory in kept {
-        add_kept_column(alloc, &memory.place, memory.kind, columns)?;
+        add_kept_column(&memory.place, memory.kind, columns)?;
     }
     Ok(())
 }
 
 /// Adds that of a memory, where it is of integers.
 fn add_kept_column(
-    alloc: Global,
     place: &Place,
     kind: Kind,
     columns: &mut Many<Column>,
@@ -252,7 +244,7 @@ fn add_kept_column(
 {
     match kind {
         Kind::Int => {
-            let again = copied(alloc, place)?;
+            let again = copied(place)?;
             columns.push(Column::Kept(again))?;
             Ok(())
         }

@@ -101,12 +101,13 @@ module _ (program : ProgramTree) (main : Identifier) (starts : Sites → Value) 
         (λ some. sym on ∙ there.0 some, λ yes. there.1 (on ∙ yes));
   }
 
-  -- and the assertions hold alike
+  -- the assertions have the same there
+  pub assertion_alike : (i : Instance) (a : AssertionTree) → IsInstance program main i → Contains i.node.assertions a → value program starts (cells h) i Base a.body t ≡ value_now program state (get_or h t map.empty) i Base a.body
+  assertion_alike i a inst w = value_followed program starts state h t f.ticks i Base a.body (λ d inner. known i inst d (of_assertion i.node a d w inner))
+
+  -- so they hold alike
   pub allowed_alike : AssertionsHold program main starts h t ↔ AllowsAt program main state (get_or h t map.empty)
   allowed_alike = (
-    λ holds i a inst w. subst Holds (is i a inst w) (holds i a inst w),
-    λ allows i a inst w. subst Holds (sym (is i a inst w)) (allows i a inst w),
+    λ holds i a inst w. subst Holds (assertion_alike i a inst w) (holds i a inst w),
+    λ allows i a inst w. subst Holds (sym (assertion_alike i a inst w)) (allows i a inst w),
   )
-    where
-      is : (i : Instance) (a : AssertionTree) → IsInstance program main i → Contains i.node.assertions a → value program starts (cells h) i Base a.body t ≡ value_now program state (get_or h t map.empty) i Base a.body
-      is i a inst w = value_followed program starts state h t f.ticks i Base a.body (λ d inner. known i inst d (of_assertion i.node a d w inner))

@@ -2,15 +2,18 @@
 
 ghost use Rattle.std.specs.Prelude.{◌≡◌, ℕ, ◌+◌, ◌<◌, ◌↔◌, false, List, Some, slice_index_or};
 ghost use Rattle.std.specs.FinMap.{empty};
+ghost use Rattle.std.specs.List.{Contains};
 ghost use Rattle.rv_base.specs.declared.value.Value.{Value};
 ghost use Rattle.rv_base.specs.declared.value.Value.TheVariants.{Flag};
-ghost use Rattle.rv_syntax.specs.Tree.{ProgramTree};
+ghost use Rattle.rv_syntax.specs.Tree.{AssertionTree, ProgramTree};
 ghost use Rattle.rv_syntax.specs.Places.{Identifier, Sites};
-ghost use Rattle.rv_types.specs.Instances.{IsNode};
+ghost use Rattle.rv_types.specs.declared.typed.Clock.TheVariants.{Base};
+ghost use Rattle.rv_types.specs.Instances.{Instance, IsInstance, IsNode};
 ghost use Rattle.rv_types.specs.Needs.{IsSequence};
 ghost use Rattle.rv_types.specs.WellFormed.{AreWell};
+ghost use Rattle.rv_meaning.specs.Meaning.{value};
 ghost use Rattle.rv_meaning.specs.Runs.{History, Instant, cells, AssertionsHold, AreStarts, AreInputs, IsRun, IsAllowed, IsSafe, Falsifies};
-ghost use Rattle.rv_meaning.specs.Instants.{State, IsInstant, IsNext, IsStart, AllowsAt, AreGiven, observed_in};
+ghost use Rattle.rv_meaning.specs.Instants.{State, IsInstant, IsNext, IsStart, AllowsAt, AreGiven, observed_in, value_now};
 ghost use Rattle.rv_meaning.specs.Givers.{AreDefined};
 ghost use Rattle.rv_meaning.specs.Following.{IsStateAt, AreSteps, IsTypedInstant};
 ghost use Rattle.rv_meaning.specs.Valuations.{Valuation, IsSymbolicInstant, IsAllowedAt, HoldsEverywhere, IsControl};
@@ -35,12 +38,16 @@ pub fn one_instant()
         → (row : Instant) × IsInstant program main state inputs row × ((other : Instant) → IsInstant program main state inputs other → other ≡ row) }
 {}
 
-/// Each row of a run is an instant at the state that the run brings there, and the assertions hold in both or in neither.
+/// Each row of a run is an instant at the state that the run brings there, and the assertions have the same there; so they hold
+/// in both or in neither.
 pub fn run_is_instants()
-    ensures { (program : ProgramTree) (main : Identifier) (starts : Sites → Value) (inputs : ℕ → ℕ → Value) (n : ℕ) (h : History) (t : ℕ) (state : State)
+    ensures instant { (program : ProgramTree) (main : Identifier) (starts : Sites → Value) (inputs : ℕ → ℕ → Value) (n : ℕ) (h : History) (t : ℕ) (state : State)
         → IsRun program main starts inputs n h → t < n → IsStateAt program main starts (cells h) t state
         → IsInstant program main state (inputs t) (slice_index_or h t empty)
         × (AssertionsHold program main starts h t ↔ AllowsAt program main state (slice_index_or h t empty)) }
+    ensures assertions { (program : ProgramTree) (main : Identifier) (starts : Sites → Value) (h : History) (t : ℕ) (state : State) (i : Instance) (a : AssertionTree)
+        → IsStateAt program main starts (cells h) t state → IsInstance program main i → Contains i.node.assertions a
+        → value program starts (cells h) i Base a.body t ≡ value_now program state (slice_index_or h t empty) i Base a.body }
 {}
 
 /// A history brings a state to each instant: at the first the start, and after each row the next one.

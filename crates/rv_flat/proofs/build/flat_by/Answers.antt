@@ -1,22 +1,27 @@
-use Rattle.std.proofs.Common.{◌≡◌, ◌≤◌, [], ◌∷◌, ◌++◌, map, length, get_or, sym, ◌∙◌, ap, subst, arith}
+use Rattle.std.proofs.Common.{◌≡◌, ◌≤◌, true, [], ◌∷◌, ◌++◌, map, length, get_or, sym, ◌∙◌, ap, subst, arith}
 use Rattle.rv_syntax.specs.Bounded.{most}
-use Rattle.rv_syntax.specs.Places.{names, index_of}
+use Rattle.rv_syntax.specs.Places.{names, index_of, is_same}
 use Rattle.rv_syntax.specs.Tree.{ProgramTree, NodeTree}
 use Rattle.rv_types.specs.Instances.{node_of}
 use Rattle.rv_types.specs.Values.{labels_at}
 use Rattle.rv_types.specs.Lists.{AreVariables, MainTick, Tick, sites_of, with_copies, memory_variables, input_variables, test_variables, memory_columns, input_columns}
 use Rattle.rv_types.specs.Names.{labels_of, texts}
 use Rattle.rv_flat.specs.Kept.{kept_memory, found_comparison}
+use Rattle.rv_flat.specs.Facts.{all_few, integers, numbers_among}
 use Rattle.rv_flat.specs.Lists.{tick_places, variable_of}
 use Rattle.rv_flat.specs.Readings.{places_of}
 use Rattle.rv_flat.specs.Building.{program_given, main_given, numbers_of}
-use Rattle.rv_flat.proofs.Assembled.{taken_kinds, inputs_within, kinds_within, main_kinds, main_name, few_given, first_node, is_named, is_read, are_kinds, main_number, observer_there, observer_kind, observer_within, all_ticks_known}
-use Rattle.rv_flat.proofs.CountedVariables.{few_variables}
+use Rattle.rv_flat.proofs.Assembled.{taken_kinds, inputs_within, kinds_within, main_kinds, main_name, few_given, first_node, is_named, is_read, are_kinds, main_number, observer_there, observer_kind, observer_within, all_ticks_known, same_flows}
+use Rattle.rv_flat.proofs.CountedVariables.{few_integers, few_variables}
+use Rattle.rv_flat.proofs.CountedVariables.{few_labels as few_label_lists}
 use Rattle.rv_flat.proofs.FlowTotals.{some_instance}
+use Rattle.rv_flat.proofs.InstanceNumbers.{node_in}
 use Rattle.rv_flat.proofs.LabelBits.{few_labels}
+use Rattle.rv_flat.proofs.PlaceNumbers.{text_itself}
 use Rattle.rv_flat.proofs.ReadFlat.{is_flat_of}
 use Rattle.rv_flat.proofs.ReadFits.{all_flows_fit, all_memories_fit, all_assertions_fit}
 use Rattle.rv_flat.proofs.ReadWeights.{all_flows_light, all_memories_light, all_assertions_light}
+use Rattle.rv_flat.proofs.VariableCount.{counted_variables}
 use Rattle.rv_flat.proofs.build.flat_by.Goals as goal
 
 pub node-main-requires-clause-within : goal.node-main-requires-clause-within
@@ -96,16 +101,23 @@ invariant_of-result c =
     let as_ = c.in_ok-assertions.assertions in
     let ls = c.in_ok-labels.labels in
     let light = given.light in
+    let flows = same_flows c.args.given.now c.args.found.now given c.requires.found fl ms is vs as_ c.in_ok-flows.ensures c.in_ok-memories.ensures c.in_ok-assertions.ensures kinds ticks in
+    let tick_flows : c.in_ok-tick_flows.tick_flows ≡ numbers_among (places_of fl) (tick_places vs) =
+    c.in_ok-tick_flows.ensures ∙ c.requires.found.tick_flows ∙ (λ i. numbers_among (sym flows i) (sym ticks i)) in
     record {
       flows_fit = all_flows_fit p main known.well named fl ms is vs as_ ls read types;
       memories_fit = all_memories_fit p main known.well named fl ms is vs as_ ls read types;
       assertions_fit = all_assertions_fit p main known.well named fl ms is vs as_ ls read types;
       observed = observer_kind c.args.given.now c.args.found.now given c.requires.found fl ms is vs as_ c.in_ok-flows.ensures c.in_ok-memories.ensures c.in_ok-assertions.ensures kinds ticks c.requires.observer c.number_at.result number;
       ticks = all_ticks_known p main instances known (places_of fl) (tick_places vs) read.sequence read.ticks;
+      tick_numbers = subst (λ l. is_same l (numbers_among (places_of fl) (tick_places vs)) ≡ true) (sym tick_flows) (text_itself (numbers_among (places_of fl) (tick_places vs)));
       flows_light = all_flows_light p main known.well named fl ms is vs as_ read light.0 light.1 light.2;
       memories_light = all_memories_light p main known.well named fl ms is vs as_ read light.0 light.1 light.2;
       assertions_light = all_assertions_light p main known.well named fl ms is vs as_ read light.0 light.1 light.2;
       few_variables = few_variables p main (λ i of. c.counted_instances.ensures.all p main i known.named c.requires.accepted.recursion known.declared of) vs variables c.requires.accepted.sizes.1.1.1.1.1.0;
+      few_memories = few_integers p main (λ i of. c.counted_instances.ensures.all p main i known.named c.requires.accepted.recursion known.declared of) ms read.list c.requires.accepted.sizes.1.1.0;
+      few_inputs = subst (λ ks. integers ks ≤ 64) (sym kinds) c.requires.accepted.sizes.1.1.1.0;
+      few_labels = subst (λ l. all_few 256 l ≡ true) (sym labels) (few_label_lists p.types c.requires.accepted.sizes.1.1.1.1.0);
       few_expressions = c.requires.few;
     }
 
@@ -143,6 +155,8 @@ returns-clause-flat c =
       name = sym c.in_ok-name.ensures.cases ∙ ap (λ (n : NodeTree). n.name.text) (c.node-main.ensures ∙ first_node p main instances known) ∙ main_name p main instances known;
       inputs = c.in_ok-inputs.ensures.names ∙ ap names (c.as_slice.ensures ∙ node);
       variables = variables;
+      counted = counted_variables p main known.sited known.well.numbered (node_in p main instances known)
+          (λ i of. c.counted_instances.ensures.all p main i known.named c.requires.accepted.recursion known.declared of) (λ i w. c.counted_instances.ensures.only p main i w) c.in_ok-variables.variables variables;
       columns = record {
         memories = map kept_memory c.args.found.now.kept;
         are_memories = c.requires.found.kept.list;

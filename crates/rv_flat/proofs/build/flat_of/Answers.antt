@@ -32,6 +32,7 @@ flat_by-requires-clause-given c =
       givers = c.in_ok-givers.ensures;
       flows = c.in_ok-flows.ensures.flows;
       of = c.in_ok-flows.ensures.instances;
+      owns = c.in_ok-owns.ensures;
       values = c.named_values-values.ensures ∙ ap constant_value same;
       kinds = s.1.flow_types ∙ ap (λ (q : ProgramTree). map (flow_kinds q) q.nodes) same;
       sequence = sequence_same p (program_of e) (name_at p c.args.typed.now.main) (main_of e) (sites_of c.args.order.now.sequence) (sites_of c.as_slice-2.result.now) same name (ap sites_of (sym c.as_slice-2.ensures)) c.requires.ordered.sequence;

@@ -26,12 +26,12 @@ pub returns-in-Some-clause-found : goal.returns-in-Some-clause-found
 returns-in-Some-clause-found c =
     let p = program_tree c.args.p.now in
     let t = c.args.t.now in
-    let path = c.in-Some.path.now in
-    let s = c.in-Some.site.now in
+    let path = c.front.result.now in
+    let s = c.in-Some.site in
     let rules = settled p t c.requires.settled in
     let well = c.well_formed_programs.ensures p (name_at p t.main) t c.requires.text rules in
     let seen : c.kind_after.result ≡ kind_at_end p _ t.main path s = c.kind_after.ensures ∙ ap (λ ks. kind_at_end p ks t.main path s) rules.flow_types in
-    let same : path ++ s ∷ [] ≡ c.args.place.now.sites = sym c.in-Some.ensures.cases.0 ∙ c.as_slice.ensures in
+    let same : path ++ s ∷ [] ≡ c.args.place.now.sites = ap (λ (q : Sites). q ++ s ∷ []) c.front.ensures ∙ sym c.in-Some.ensures.some in
     where_some c.kind_after.result (IsKindAt p (name_at p t.main) c.args.place.now.sites)
     (λ k is. subst (λ (q : Sites). IsKindAt p (name_at p t.main) q k) same
     (found p (name_at p t.main) well (is_node p t c.requires.settled) t.main (main_node p t c.requires.settled) path s k (sym seen ∙ is)))
@@ -40,12 +40,12 @@ pub returns-in-Some-clause-none : goal.returns-in-Some-clause-none
 returns-in-Some-clause-none c =
     let p = program_tree c.args.p.now in
     let t = c.args.t.now in
-    let path = c.in-Some.path.now in
-    let s = c.in-Some.site.now in
+    let path = c.front.result.now in
+    let s = c.in-Some.site in
     let rules = settled p t c.requires.settled in
     let well = c.well_formed_programs.ensures p (name_at p t.main) t c.requires.text rules in
     let seen : c.kind_after.result ≡ kind_at_end p _ t.main path s = c.kind_after.ensures ∙ ap (λ ks. kind_at_end p ks t.main path s) rules.flow_types in
-    let same : path ++ s ∷ [] ≡ c.args.place.now.sites = sym c.in-Some.ensures.cases.0 ∙ c.as_slice.ensures in
+    let same : path ++ s ∷ [] ≡ c.args.place.now.sites = ap (λ (q : Sites). q ++ s ∷ []) c.front.ensures ∙ sym c.in-Some.ensures.some in
     where_none c.kind_after.result ((k : Kind) → IsKindAt p (name_at p t.main) c.args.place.now.sites k → ⊥)
     (λ is k at. nothing p (name_at p t.main) well (is_node p t c.requires.settled) t.main (main_node p t c.requires.settled) path s k (sym seen ∙ is)
     (subst (λ (q : Sites). IsKindAt p (name_at p t.main) q k) (sym same) at))
