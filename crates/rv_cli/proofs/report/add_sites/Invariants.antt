@@ -1,8 +1,0 @@
-use Rattle.std.proofs.Common.{◌≡◌, ◌∷◌, ◌++◌, take}
-use Rattle.std.specs.Prelude.{flat_map}
-use Rattle.std.specs.Fmt.{decimal}
-use Rattle.std.specs.String.{string_bytes}
-use Rattle.rv_cli.proofs.report.add_sites.Given as goal
-
-abbrev pub invariant-loop-site : goal.invariant-loop-site
-invariant-loop-site l = string_bytes l.text ≡ string_bytes l.initial.text ++ flat_map (λ s. 46 ∷ decimal s) (take l.site-index l.others)

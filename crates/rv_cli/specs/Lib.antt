@@ -1,8 +1,0 @@
-pub mod Words
-pub mod Answers
-pub mod Programs
-pub mod Printed
-pub mod StandardOut
-pub mod Refusals
-pub mod Judged
-pub mod Spelled

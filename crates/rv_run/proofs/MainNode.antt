@@ -1,0 +1,53 @@
+-- The main node of a program that keeps every rule.
+use Rattle.std.proofs.Common.{◌≡◌, ℕ, ◌<◌, Bool, true, false, cond, List, [], ◌∷◌, map, length, get_or, refl, sym, ◌∙◌, ap, subst, arith, Option, Some, IsTrue, IsSome, is_some, unwrap_or}
+use Rattle.std.proofs.Common.{None as Nothing}
+use Rattle.std.proofs.lemmas.List.{length-map}
+use Rattle.rv_syntax.specs.declared.tree.Decl.{Decl}
+use Rattle.rv_syntax.specs.declared.tree.Name.{Name}
+use Rattle.rv_syntax.specs.Tree.{NodeTree, ProgramTree}
+use Rattle.rv_syntax.specs.Places.{Identifier, is_among}
+use Rattle.rv_types.specs.declared.fault.NameFault.{NameFault}
+use Rattle.rv_types.specs.declared.fault.NameFault.TheVariants.{NotObserver}
+use Rattle.rv_types.specs.declared.typed.Kind.{Kind}
+use Rattle.rv_types.specs.declared.typed.Typed.{Typed}
+use Rattle.rv_types.specs.Names.{texts, node_names}
+use Rattle.rv_types.specs.Kinds.{decl_kinds, node_named}
+use Rattle.rv_types.specs.Scopes.{is_observer, observer_faults}
+use Rattle.rv_types.specs.Settled.{IsSettled, node_number}
+use Rattle.rv_types.specs.Instances.{no_node, node_of, name_at, IsNode}
+use Rattle.rv_run.proofs.Known.{index_there, text_at}
+use Rattle.rv_run.proofs.Found.{named_some}
+
+texts_same : (ns : List NodeTree) → texts (map (λ (n : NodeTree). n.name) ns) ≡ map (λ (n : NodeTree). n.name.text) ns
+texts_same [] = refl
+texts_same (n ∷ ns) = ap (λ l. n.name.text ∷ l) (texts_same ns)
+
+-- an observer is an output
+some_output : (ds : List Decl) (p : ProgramTree) → is_observer (decl_kinds p ds) ≡ true → 0 < length ds
+some_output [] p h = cc
+some_output (d ∷ ds) p h = omega arith
+
+observed : (p : ProgramTree) (o : Option NodeTree) → elim o as (λ _. List NameFault) [ Nothing ↦ [] | Some m ↦ cond (is_observer (decl_kinds p m.outputs)) [] (NotObserver m.name.at ∷ []) ] ≡ [] → IsSome o → 0 < length (unwrap_or o no_node).outputs
+observed p Nothing h some = absurd (let different : ⊥ = cc in different)
+observed p (Some m) h some = by (is_observer (decl_kinds p m.outputs)) refl h
+  where
+    by : (b : Bool) → is_observer (decl_kinds p m.outputs) ≡ b → cond b [] (NotObserver m.name.at ∷ []) ≡ [] → 0 < length m.outputs
+    by true e h = some_output m.outputs p e
+    by false e h = cc
+
+module _ (p : ProgramTree) (main : Identifier) (t : Typed) (settled : IsSettled p main t) where
+  -- it has the name that it is asked for by
+  pub main_named : name_at p t.main ≡ main
+  main_named =
+      let here = index_there (texts (node_names p)) main settled.has_main in
+      let a = length-map (node_names p) (λ (x : Name). x.text) in
+      let b = length-map p.nodes (λ (n : NodeTree). n.name) in
+      let lt = here.0 in
+      ap (name_at p) settled.main_number ∙ sym (text_at p.nodes (node_number p main) (omega (arith, lt, a, b))) ∙ here.1
+
+  pub main_is_node : IsNode p main
+  main_is_node = subst (λ (l : List Identifier). IsTrue (is_among l main)) (texts_same p.nodes) settled.has_main
+
+  -- and an output
+  pub main_output : 0 < length (node_of p main).outputs
+  main_output = observed p (node_named p main) settled.observer (named_some p main main_is_node)

@@ -1,0 +1,44 @@
+-- What an answer says of the file that the words name.
+use Rattle.std.specs.Prelude.{◌≡◌, ◌⊎◌, ℕ, List, Option, Some, None, IsSomeAnd}
+use Rattle.std.specs.FinMap.{get}
+use Rattle.rv_base.specs.Shelf.{Shelf, HoldsUnder}
+use Rattle.rv_causality.specs.declared.source.SourceFault.{SourceFault}
+use Rattle.rv_causality.specs.Sources.{AreSame}
+use Rattle.rv_run.specs.Words.{command}
+use Rattle.rv_run.specs.declared.report.Report.{Report}
+use Rattle.rv_run.specs.declared.report.Report.TheVariants.{Refused, TooLong, ReadFault, Usage, Memory}
+
+-- The words are a command, and what is held under its file has P, beside its node, where the files tell what they
+-- hold.
+abbrev pub OnFile : Option Shelf → List (List ℕ) → (List ℕ → List ℕ → Type 0) → Type 0
+OnFile held words P = IsSomeAnd (command words) (λ named. HoldsUnder held named.0 (λ bytes. P bytes named.1))
+
+-- The files tell what they hold, and under this name they hold these bytes.
+abbrev pub Tells : Option Shelf → List ℕ → List ℕ → Type 0
+Tells None name bytes = ⊥
+Tells (Some shelf) name bytes = get shelf name ≡ Some bytes
+
+-- The words are a command, the files tell what they hold under its file, and that has P, beside the command's node.
+pub record IsTold (held : Option Shelf) (words : List (List ℕ)) (P : List ℕ → List ℕ → Type 0) : Type 0 where
+  pub file : List ℕ
+  pub node : List ℕ
+  pub bytes : List ℕ
+  pub named : command words ≡ Some (file, node)
+  pub told : Tells held file bytes
+  pub holds : P bytes node
+
+-- The report is this one, unless the file could not be read or there was no memory.
+abbrev pub IsUnlessCutOff : Report → Report → Type 0
+IsUnlessCutOff expected report = (report ≡ expected) ⊎ ((report ≡ ReadFault) ⊎ (report ≡ Memory))
+
+-- It is a refusal for this fault, or for another cycle where the fault is one, unless the file could not be read or there
+-- was no memory.
+abbrev pub IsRefusalUnlessCutOff : SourceFault → Report → Type 0
+IsRefusalUnlessCutOff fault report = ((found : SourceFault) × (report ≡ Refused found) × AreSame fault found) ⊎ ((report ≡ ReadFault) ⊎ (report ≡ Memory))
+
+-- The report is one on the bytes of a source, and not on the words or the file.
+abbrev pub IsOnSource : Report → Type 0
+IsOnSource (TooLong count) = ⊥
+IsOnSource ReadFault = ⊥
+IsOnSource Usage = ⊥
+IsOnSource report = Unit {0}

@@ -1,0 +1,102 @@
+-- The text and the status of a report.
+use Rattle.std.specs.Prelude.{ℕ, List, [], ◌∷◌, ◌++◌, codes, flat_map}
+use Rattle.std.specs.Fmt.{decimal}
+use Rattle.rv_base.specs.declared.value.Place.{Place}
+use Rattle.rv_syntax.specs.declared.fault.TextFault.{TextFault}
+use Rattle.rv_syntax.specs.declared.fault.TextFault.TheVariants.{BadText, TooDeep, LeftOut, Memory as TextMemory}
+use Rattle.rv_types.specs.declared.fault.NameFault.{NameFault}
+use Rattle.rv_types.specs.declared.fault.NameFault.TheVariants.{NoNode, UnknownName, DefinedTwice, Undefined, TypeClash, Nonlinear, ClockClash, NotObserver, Memory as NameMemory}
+use Rattle.rv_causality.specs.declared.fault.CauseFault.{CauseFault}
+use Rattle.rv_causality.specs.declared.fault.CauseFault.TheVariants.{Recursive, Cycle, TooLarge, TooWide, Memory as CauseMemory}
+use Rattle.rv_causality.specs.declared.fault.Quantity.{Quantity}
+use Rattle.rv_causality.specs.declared.fault.Quantity.TheVariants as quantity
+use Rattle.rv_causality.specs.declared.source.SourceFault.{SourceFault}
+use Rattle.rv_causality.specs.declared.source.SourceFault.TheVariants.{Text, Names, Cause, Memory as SourceMemory}
+use Rattle.rv_run.specs.declared.report.Report.{Report}
+use Rattle.rv_run.specs.declared.report.Report.TheVariants.{Safe, Unknown, Refused, TooLong, ReadFault, Usage, Memory}
+use Rattle.rv_run.specs.declared.report.Sent.{Sent}
+use Rattle.rv_run.specs.declared.report.Sent.TheVariants.{Whole, Failed, Memory as SentMemory}
+
+-- A record ends with a line feed.
+abbrev pub record_of : List ℕ → List ℕ
+record_of fields = fields ++ 10 ∷ []
+
+-- The record of a fault of text: its number, its name and its offset.
+abbrev pub text_of_fault : TextFault → List ℕ
+text_of_fault (BadText at) = record_of (codes "reaver,refused,1,badtext," ++ decimal at)
+text_of_fault (TooDeep at) = record_of (codes "reaver,refused,2,toodeep," ++ decimal at)
+text_of_fault (LeftOut at) = record_of (codes "reaver,refused,3,leftout," ++ decimal at)
+text_of_fault TextMemory = record_of (codes "reaver,memory")
+
+-- The record of a fault of names, types or clocks: its number, its name and its offset where it has one.
+abbrev pub text_of_name_fault : NameFault → List ℕ
+text_of_name_fault NoNode = record_of (codes "reaver,refused,4,nonode")
+text_of_name_fault (UnknownName at) = record_of (codes "reaver,refused,5,unknownname," ++ decimal at)
+text_of_name_fault (DefinedTwice at) = record_of (codes "reaver,refused,6,definedtwice," ++ decimal at)
+text_of_name_fault (Undefined at) = record_of (codes "reaver,refused,7,undefined," ++ decimal at)
+text_of_name_fault (TypeClash at) = record_of (codes "reaver,refused,8,typeclash," ++ decimal at)
+text_of_name_fault (Nonlinear at) = record_of (codes "reaver,refused,9,nonlinear," ++ decimal at)
+text_of_name_fault (ClockClash at) = record_of (codes "reaver,refused,10,clockclash," ++ decimal at)
+text_of_name_fault (NotObserver at) = record_of (codes "reaver,refused,11,notobserver," ++ decimal at)
+text_of_name_fault NameMemory = record_of (codes "reaver,memory")
+
+-- a place: its numbers, joined by points
+abbrev pub dotted : List ℕ → List ℕ
+dotted [] = []
+dotted (site ∷ sites) = decimal site ++ flat_map (λ s. 46 ∷ decimal s) sites
+
+-- places, a comma before each
+abbrev pub listed : List Place → List ℕ
+listed places = flat_map (λ p. 44 ∷ dotted p.sites) places
+
+-- the name of a quantity
+abbrev pub quantity_name : Quantity → List ℕ
+quantity_name quantity.Instances = codes "instances"
+quantity_name quantity.Expanded = codes "expanded"
+quantity_name quantity.Memories = codes "memories"
+quantity_name quantity.Inputs = codes "inputs"
+quantity_name quantity.Labels = codes "labels"
+quantity_name quantity.Variables = codes "variables"
+
+-- The record of a fault of recursion, sizes, cycles or weights: its number, its name, and its offset, its places, or the
+-- quantity and how large it is.
+abbrev pub text_of_cause : CauseFault → List ℕ
+text_of_cause (Recursive at) = record_of (codes "reaver,refused,12,recursive," ++ decimal at)
+text_of_cause (Cycle places) = record_of (codes "reaver,refused,13,cycle" ++ listed places)
+text_of_cause (TooLarge quantity number) = record_of (codes "reaver,refused,14,toolarge," ++ quantity_name quantity ++ 44 ∷ decimal number)
+text_of_cause (TooWide at) = record_of (codes "reaver,refused,15,toowide," ++ decimal at)
+text_of_cause CauseMemory = record_of (codes "reaver,memory")
+
+-- The record of a refusal.
+abbrev pub text_of_refusal : SourceFault → List ℕ
+text_of_refusal (Text fault) = text_of_fault fault
+text_of_refusal (Names fault) = text_of_name_fault fault
+text_of_refusal (Cause fault) = text_of_cause fault
+text_of_refusal SourceMemory = record_of (codes "reaver,memory")
+
+-- What is printed for a report.
+abbrev pub text_of : Report → List ℕ
+text_of Safe = record_of (codes "reaver,safe")
+text_of Unknown = record_of (codes "reaver,unknown")
+text_of (Refused fault) = text_of_refusal fault
+text_of (TooLong count) = record_of (codes "reaver,toolong," ++ decimal count)
+text_of ReadFault = record_of (codes "reaver,readfault")
+text_of Usage = record_of (codes "reaver,usage")
+text_of Memory = record_of (codes "reaver,memory")
+
+-- The status of a report that was shown whole.
+abbrev pub report_status : Report → ℕ
+report_status Safe = 0
+report_status Unknown = 2
+report_status (Refused fault) = 3
+report_status Usage = 4
+report_status ReadFault = 5
+report_status Memory = 7
+report_status (TooLong count) = 9
+
+-- The status that the program ends with: 6 where the report was not shown for a failure, 7 where it was not shown
+-- for want of memory, else that of the report.
+abbrev pub status_of : Report → Sent → ℕ
+status_of report Whole = report_status report
+status_of report Failed = 6
+status_of report SentMemory = 7

@@ -1,0 +1,193 @@
+//! What the program answers, how it is printed, and the status that it ends with.
+
+ghost use Rattle.std.specs.Prelude.{◌≡◌, ◌++◌, codes, IfOk, OnOk};
+ghost use Rattle.std.specs.String.{string_bytes};
+ghost use Rattle.rv_run.specs.Printed.{text_of, text_of_refusal, text_of_fault, text_of_name_fault, text_of_cause, dotted, listed, quantity_name, status_of, report_status};
+
+use rv_base::{Place, Sites};
+use rv_causality::{CauseFault, Quantity, SourceFault};
+use rv_syntax::TextFault;
+use rv_types::NameFault;
+use std::alloc::{AllocError, Global};
+
+/// What the program answers.
+#[derive(Debug, PartialEq, Eq, Drop)]
+pub enum Report {
+    /// In every run the observer is true at each instant up to which the assertions have held.
+    Safe,
+    /// The program is not one that is judged, or its observer is false at some allowed valuation.
+    Unknown,
+    /// The source is not one that is accepted.
+    Refused(SourceFault),
+    /// The file is longer than a source may be. The number is how many bytes were read of it: one more than that.
+    TooLong(u64),
+    /// The file could not be read.
+    ReadFault,
+    /// The words are no command.
+    Usage,
+    /// There was no memory.
+    Memory,
+}
+
+/// Whether the text of the report was shown.
+#[derive(Clone, Copy, Debug, PartialEq, Eq)]
+pub enum Sent {
+    /// It was shown whole.
+    Whole,
+    /// The sink failed, after a front of it.
+    Failed,
+    /// There was no memory to make or to show it, and nothing was shown.
+    Memory,
+}
+
+/// What a run of the program comes to.
+#[derive(Drop)]
+pub struct Outcome {
+    /// What it answers.
+    pub report: Report,
+    /// Whether that was shown.
+    pub sent: Sent,
+    /// The status that it ends with.
+    pub status: u8,
+}
+
+/// The text of a report: one record, its fields joined by commas, and a line feed.
+pub fn text(alloc: Global, report: &Report) -> Result<String, AllocError>
+    ensures { IfOk result (λ text. string_bytes text ≡ text_of report.now) }
+{
+    match report {
+        Report::Safe => String::from_str(alloc, "reaver,safe\n"),
+        Report::Unknown => String::from_str(alloc, "reaver,unknown\n"),
+        Report::Refused(fault) => refusal_text(alloc, fault),
+        Report::TooLong(count) => format!(in alloc; "reaver,toolong,{count}\n"),
+        Report::ReadFault => String::from_str(alloc, "reaver,readfault\n"),
+        Report::Usage => String::from_str(alloc, "reaver,usage\n"),
+        Report::Memory => String::from_str(alloc, "reaver,memory\n"),
+    }
+}
+
+/// The text of a refusal.
+fn refusal_text(alloc: Global, fault: &SourceFault) -> Result<String, AllocError>
+    ensures { IfOk result (λ text. string_bytes text ≡ text_of_refusal fault.now) }
+{
+    match fault {
+        SourceFault::Text(fault) => fault_text(alloc, *fault),
+        SourceFault::Names(fault) => name_fault_text(alloc, *fault),
+        SourceFault::Cause(fault) => cause_text(alloc, fault),
+        SourceFault::Memory => String::from_str(alloc, "reaver,memory\n"),
+    }
+}
+
+/// The text of a refusal: the number of the fault, its name in lower case letters, and its offset.
+fn fault_text(alloc: Global, fault: TextFault) -> Result<String, AllocError>
+    ensures { IfOk result (λ text. string_bytes text ≡ text_of_fault fault) }
+{
+    match fault {
+        TextFault::BadText(at) => format!(in alloc; "reaver,refused,1,badtext,{at}\n"),
+        TextFault::TooDeep(at) => format!(in alloc; "reaver,refused,2,toodeep,{at}\n"),
+        TextFault::LeftOut(at) => format!(in alloc; "reaver,refused,3,leftout,{at}\n"),
+        TextFault::Memory => String::from_str(alloc, "reaver,memory\n"),
+    }
+}
+
+/// The text of a refusal for names, types or clocks: the number of the fault, its name in lower case letters, and its
+/// offset where it has one.
+fn name_fault_text(alloc: Global, fault: NameFault) -> Result<String, AllocError>
+    ensures { IfOk result (λ text. string_bytes text ≡ text_of_name_fault fault) }
+{
+    match fault {
+        NameFault::NoNode => String::from_str(alloc, "reaver,refused,4,nonode\n"),
+        NameFault::UnknownName(at) => format!(in alloc; "reaver,refused,5,unknownname,{at}\n"),
+        NameFault::DefinedTwice(at) => format!(in alloc; "reaver,refused,6,definedtwice,{at}\n"),
+        NameFault::Undefined(at) => format!(in alloc; "reaver,refused,7,undefined,{at}\n"),
+        NameFault::TypeClash(at) => format!(in alloc; "reaver,refused,8,typeclash,{at}\n"),
+        NameFault::Nonlinear(at) => format!(in alloc; "reaver,refused,9,nonlinear,{at}\n"),
+        NameFault::ClockClash(at) => format!(in alloc; "reaver,refused,10,clockclash,{at}\n"),
+        NameFault::NotObserver(at) => format!(in alloc; "reaver,refused,11,notobserver,{at}\n"),
+        NameFault::Memory => String::from_str(alloc, "reaver,memory\n"),
+    }
+}
+
+/// The text of a refusal for recursion, sizes, cycles or weights: the number of the fault, its name in lower case letters,
+/// and its offset, its places, or the quantity and how large it is.
+fn cause_text(alloc: Global, fault: &CauseFault) -> Result<String, AllocError>
+    ensures { IfOk result (λ text. string_bytes text ≡ text_of_cause fault.now) }
+{
+    match fault {
+        CauseFault::Recursive(at) => format!(in alloc; "reaver,refused,12,recursive,{at}\n"),
+        CauseFault::Cycle(places) => cycle_text(alloc, places.as_slice()),
+        CauseFault::TooLarge(quantity, number) => {
+            let name = name_of(*quantity);
+            format!(in alloc; "reaver,refused,14,toolarge,{name},{number}\n")
+        }
+        CauseFault::TooWide(at) => format!(in alloc; "reaver,refused,15,toowide,{at}\n"),
+        CauseFault::Memory => String::from_str(alloc, "reaver,memory\n"),
+    }
+}
+
+/// The name of a quantity in lower case letters.
+fn name_of(quantity: Quantity) -> &'static str
+    ensures { result.now ≡ quantity_name quantity }
+{
+    match quantity {
+        Quantity::Instances => "instances",
+        Quantity::Expanded => "expanded",
+        Quantity::Memories => "memories",
+        Quantity::Inputs => "inputs",
+        Quantity::Labels => "labels",
+        Quantity::Variables => "variables",
+    }
+}
+
+/// The text of a cycle: its places in turn.
+fn cycle_text(alloc: Global, places: &[Place]) -> Result<String, AllocError>
+    ensures { IfOk result (λ text. string_bytes text ≡ codes "reaver,refused,13,cycle" ++ listed places.now ++ codes "\n") }
+{
+    let mut text = String::from_str(alloc, "reaver,refused,13,cycle")?;
+    for place in places {
+        text.push(',')?;
+        add_sites(&mut text, &place.sites)?;
+    }
+    text.push('\n')?;
+    Ok(text)
+}
+
+/// Adds the numbers of a place, joined by points.
+fn add_sites(text: &mut String, sites: &Sites) -> Result<(), AllocError>
+    ensures { OnOk result (string_bytes text.new ≡ string_bytes text.old ++ dotted sites.now) }
+{
+    let Some(last) = sites.last() else {
+        return Ok(());
+    };
+    for site in sites.front() {
+        write!(text, "{site}.")?;
+    }
+    write!(text, "{last}")?;
+    Ok(())
+}
+
+/// The status that the program ends with.
+pub fn status(report: &Report, sent: Sent) -> u8
+    ensures { result ≡ status_of report.now sent }
+{
+    match sent {
+        Sent::Whole => status_of_report(report),
+        Sent::Failed => 6,
+        Sent::Memory => 7,
+    }
+}
+
+/// The status after a report that was shown whole.
+pub fn status_of_report(report: &Report) -> u8
+    ensures { result ≡ report_status report.now }
+{
+    match report {
+        Report::Safe => 0,
+        Report::Unknown => 2,
+        Report::Refused(_) => 3,
+        Report::Usage => 4,
+        Report::ReadFault => 5,
+        Report::Memory => 7,
+        Report::TooLong(_) => 9,
+    }
+}
