@@ -14,7 +14,7 @@ ghost use Rattle.rv_causality.specs.Listing.{called_instance, all_listed, AreSor
 use crate::answer::Instance;
 use crate::calls::Calling;
 use crate::recursion::Nodes;
-use rv_base::{Many, Memory};
+use rv_base::{Many, Memory, Path};
 use rv_syntax::Program;
 use std::alloc::Global;
 

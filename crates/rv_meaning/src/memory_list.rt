@@ -17,7 +17,7 @@ ghost use Rattle.rv_meaning.specs.Remembered.{AreSites, AreSorted, places_at, si
 
 use crate::calls::{callees_of, node_at};
 use crate::numbers::{Numbers, flow_numbers};
-use rv_base::{Many, Memory, Place};
+use rv_base::{Many, Memory, Path, Place, Sites};
 use rv_syntax::{Assertion, Equation, Expr, ExprForm, Node, Program, bounded_tree};
 use rv_types::{Typed, well_formed_programs};
 use std::alloc::Global;

@@ -12,7 +12,7 @@ use Rattle.rv_syntax.specs.Limited.{counts, limited, Limited}
 use Rattle.rv_syntax.specs.Parse.{Reading}
 use Rattle.rv_syntax.specs.Reads.{expression}
 use Rattle.rv_syntax.proofs.Complete.{IsEnd, complete}
-use Rattle.rv_syntax.proofs.Limits.{IsWithin, IsTooDeep, within-before, Agrees, agrees, first-same, OrDeep, reads-or-deep}
+use Rattle.rv_syntax.proofs.Shallow.{IsWithin, IsTooDeep, within-before, Agrees, agrees, first-same, OrDeep, reads-or-deep}
 use Rattle.rv_syntax.proofs.Sound as machine
 use Rattle.rv_syntax.proofs.Sound.{Wants, Comes, comes, one-token}
 use Rattle.rv_syntax.proofs.Nested.{past_all, from-shallow, to-shallow, to-deep}

@@ -5,7 +5,7 @@ pub mod Marked
 pub mod Steps
 pub mod Singles
 pub mod Complete
-pub mod Limits
+pub mod Shallow
 pub mod Sound
 pub mod Nested
 pub mod Standings

@@ -4,7 +4,7 @@ use Rattle.std.specs.Prelude.{◌<◌}
 use Rattle.rv_syntax.specs.declared.token.Token.{Token}
 use Rattle.rv_syntax.specs.Nesting.{Weight, Operator, Opening, Closing, Parting, Plain, Parts, weight, past, past_weight, nesting, limit, IsShallow}
 use Rattle.rv_syntax.specs.Limited.{Counts, counts, count}
-use Rattle.rv_syntax.proofs.Limits.{IsWithin, IsTooDeep}
+use Rattle.rv_syntax.proofs.Shallow.{IsWithin, IsTooDeep}
 
 abbrev savings : List ℕ → List ℕ
 savings [] = []

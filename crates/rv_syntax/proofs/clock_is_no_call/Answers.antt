@@ -5,7 +5,7 @@ use Rattle.rv_syntax.specs.declared.token.Mark.TheVariants as mark
 use Rattle.rv_syntax.specs.declared.tree.Name.{Name}
 use Rattle.rv_syntax.specs.Grammar.{Called, Just, Sampled, fixed, name_token}
 use Rattle.rv_syntax.specs.Machine.{Want, run}
-use Rattle.rv_syntax.proofs.Limits.{left}
+use Rattle.rv_syntax.proofs.Shallow.{left}
 use Rattle.rv_syntax.proofs.Expressions.{read-whole}
 use Rattle.rv_syntax.proofs.clock_is_no_call.Goals as goal
 
