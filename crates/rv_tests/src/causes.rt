@@ -55,12 +55,7 @@ fn add_path(alloc: Global, instance: &Instance, text: &mut String) -> Result<(),
 }
 
 /// Adds sites, with a mark before them and a full stop between them.
-fn add_sites(
-    alloc: Global,
-    front: &str,
-    sites: &[u32],
-    text: &mut String,
-) -> Result<(), Memory> {
+fn add_sites(alloc: Global, front: &str, sites: &[u32], text: &mut String) -> Result<(), Memory> {
     let mut mark = front;
     for site in sites {
         let more = format!(in alloc; "{mark}{site}")?;

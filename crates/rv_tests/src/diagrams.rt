@@ -131,7 +131,10 @@ fn valued(alloc: Global, store: &mut Store) -> Result<String, StoreFault>
     values.push(false)?;
     values.push(true)?;
     let (one, another) = (store.value_at(either, &values), store.value_at(x, &values));
-    let (some, none) = (store.is_false(either), store.is_false(store.constant(false)));
+    let (some, none) = (
+        store.is_false(either),
+        store.is_false(store.constant(false)),
+    );
     Ok(format!(in alloc; "{one} {another}, {some} {none}")?)
 }
 

@@ -103,9 +103,13 @@ fn ran_with(alloc: Global, fields: &str) -> Result<Option<String>, Memory> {
     let puts = calls_in(alloc, parts.next().unwrap_or(""))?;
     let source = with_line_feeds(alloc, parts.next().unwrap_or(""))?;
     match (loads, puts) {
-        (Some(loads), Some(puts)) => Ok(Some(
-            ran_failing(alloc, &words, &loads, &puts, source.as_bytes())?,
-        )),
+        (Some(loads), Some(puts)) => Ok(Some(ran_failing(
+            alloc,
+            &words,
+            &loads,
+            &puts,
+            source.as_bytes(),
+        )?)),
         _ => Ok(None),
     }
 }

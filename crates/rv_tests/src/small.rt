@@ -124,11 +124,9 @@ fn read_text(alloc: Global, fields: &str) -> Result<Option<String>, Memory> {
     let (same, equal) = (clone.is(&text), clone == text);
     let (other_same, other_equal) = (other.is(&text), other == text);
     let (len, read) = (text.len(), text.as_str());
-    Ok(Some(
-        format!(in alloc;
-            "{read} {len}, clone {same} {equal}, other {other_same} {other_equal}"
-        )?,
-    ))
+    Ok(Some(format!(in alloc;
+        "{read} {len}, clone {same} {equal}, other {other_same} {other_equal}"
+    )?))
 }
 
 fn boxed(alloc: Global, fields: &str) -> Result<Option<String>, Memory> {
@@ -139,9 +137,7 @@ fn boxed(alloc: Global, fields: &str) -> Result<Option<String>, Memory> {
     let clone = boxed.clone()?;
     let (got, reached, equal) = (*boxed.get(), *boxed, clone == boxed);
     let inner = boxed.into_inner();
-    Ok(Some(
-        format!(in alloc; "get {got}, at {reached}, clone {equal}, inner {inner}")?,
-    ))
+    Ok(Some(format!(in alloc; "get {got}, at {reached}, clone {equal}, inner {inner}")?))
 }
 
 fn read_sites(alloc: Global, fields: &str) -> Result<Option<String>, Memory> {
@@ -193,9 +189,7 @@ fn read_path(alloc: Global, fields: &str) -> Result<Option<String>, Memory> {
     let within = Sites::within(&path, site)?;
     let front = sites_text(alloc, within.front())?;
     let last = number_text(alloc, within.last())?;
-    Ok(Some(
-        format!(in alloc; "len {len}, empty {empty}, clone{copied}, within{front} {last}")?,
-    ))
+    Ok(Some(format!(in alloc; "len {len}, empty {empty}, clone{copied}, within{front} {last}")?))
 }
 
 fn compared_places(alloc: Global, fields: &str) -> Result<Option<String>, Memory> {
@@ -213,9 +207,7 @@ fn compared_places(alloc: Global, fields: &str) -> Result<Option<String>, Memory
     };
     let clone = place.clone()?;
     let (equal, other_equal) = (clone == place, other == place);
-    Ok(Some(
-        format!(in alloc; "clone {equal}, other {other_equal}")?,
-    ))
+    Ok(Some(format!(in alloc; "clone {equal}, other {other_equal}")?))
 }
 
 /// A trace by its start values and its instants.
