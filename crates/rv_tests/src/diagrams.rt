@@ -8,8 +8,9 @@ use rv_diagram::{Frozen, Ref, Store, StoreFault};
 use std::alloc::{AllocError, Global};
 
 /// The answer on a row of the kind `diagram`, which names what is made:
-/// `x`, `and`, `or`, `not`, `ite`, `exists`, `restrict`, `compose`, `thaw`: its nodes when frozen, and the reference;
-/// `pick`, `values`, `implies`, `ordered`, `release`, `full`: what these calls answer.
+/// `x`, `and`, `or`, `not`, `ite`, `exists`, `restrict`, `compose`, `and_exists`, `exists_each`, `thaw`: its nodes when
+/// frozen, and the reference;
+/// `pick`, `values`, `implies`, `ordered`, `reads`, `release`, `full`: what these calls answer.
 pub fn diagram(alloc: Global, call: &str) -> Result<Option<String>, Memory> {
     let mut store = Store::new(alloc, 2, 64)?;
     let told = match call {
@@ -17,6 +18,7 @@ pub fn diagram(alloc: Global, call: &str) -> Result<Option<String>, Memory> {
         "values" => valued(alloc, &mut store),
         "implies" => implied(alloc, &mut store),
         "ordered" => ordered(alloc, &mut store),
+        "reads" => read(alloc, &mut store),
         "release" => released(alloc, &mut store),
         "full" => return Ok(Some(filled(alloc)?)),
         _ => made(alloc, &mut store, call),
@@ -86,6 +88,8 @@ fn changed(
             let not_x = store.not(x)?;
             store.compose(both, 1, not_x)?
         }
+        "and_exists" => store.and_exists(x, both, &[true])?,
+        "exists_each" => store.exists_each(both, &[true, true])?,
         _ => {
             let frozen = store.freeze(both)?;
             store.thaw(&frozen)?
@@ -161,6 +165,20 @@ fn ordered(alloc: Global, store: &mut Store) -> Result<String, StoreFault>
     let frozen = store.freeze(both)?;
     let (two, one) = (frozen.ordered(2), frozen.ordered(1));
     Ok(format!(in alloc; "{two} {one}")?)
+}
+
+/// Which variables `y` depends on, and whether it uses only these when frozen, and only the other one.
+fn read(alloc: Global, store: &mut Store) -> Result<String, StoreFault>
+    requires { store.old.variables ≡ 2 }
+{
+    let y = store.variable(1)?;
+    let reads = picked_text(alloc, Some(store.reads(y)?))?;
+    let frozen = store.freeze(y)?;
+    let (own, other) = (
+        frozen.uses_only(&[false, true]),
+        frozen.uses_only(&[true, false]),
+    );
+    Ok(format!(in alloc; "{reads} {own} {other}")?)
 }
 
 /// The reference of `x`, how many nodes are left after it is released, and the reference of `y` then.
