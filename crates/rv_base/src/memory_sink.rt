@@ -103,24 +103,3 @@ impl Sink for MemorySink {
         Ok(())
     }
 }
-
-#[cfg(test)]
-mod tests {
-    use super::*;
-    use std::test::Fail;
-
-    #[test]
-    fn a_failing_put_shows_the_first_half(rt: HostRuntime) -> Result<(), Fail> {
-        let mut sink = MemorySink::new(rt.alloc());
-        sink.fail_calls(&[0, 2])?;
-        assert_eq!(rt; sink.put(b"1234"), Err(PutFault::Failed));
-        assert_eq!(rt; sink.bytes(), b"12".as_slice());
-        assert_eq!(rt; sink.faults, 1);
-        assert_eq!(rt; sink.put(b"abc"), Ok(()));
-        assert_eq!(rt; sink.put(b"xyz"), Err(PutFault::Failed));
-        assert_eq!(rt; sink.bytes(), b"12abcx".as_slice());
-        assert_eq!(rt; sink.faults, 2);
-        assert_eq!(rt; sink.calls, 3);
-        Ok(())
-    }
-}

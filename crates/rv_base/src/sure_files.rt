@@ -55,23 +55,3 @@ impl Files for SureFiles {
         }
     }
 }
-
-#[cfg(test)]
-mod tests {
-    use super::*;
-    use std::test::Fail;
-
-    // What a load gives of five bytes, with the limit 2.
-    fn load_surely(alloc: Global) -> Result<Vec<u8>, LoadFault> {
-        let mut files = SureFiles::new(alloc);
-        files.add("five", b"other")?;
-        files.add("five", b"12345")?;
-        files.load(alloc, "five", 2)
-    }
-
-    #[test]
-    fn a_load_gives_a_byte_more_than_the_limit(rt: HostRuntime) -> Result<(), Fail> {
-        assert_eq!(rt; load_surely(rt.alloc())?.as_slice(), b"123".as_slice());
-        Ok(())
-    }
-}

@@ -49,17 +49,3 @@ impl Sink for SureSink {
         Ok(())
     }
 }
-
-#[cfg(test)]
-mod tests {
-    use super::*;
-
-    #[test]
-    fn shows_each_piece_whole(rt: HostRuntime) {
-        let mut sink = SureSink::new(rt.alloc());
-        assert_eq!(rt; sink.put(b"ab"), Ok(()));
-        assert_eq!(rt; sink.put(b"c"), Ok(()));
-        assert_eq!(rt; sink.bytes(), b"abc".as_slice());
-        assert_eq!(rt; sink.puts, 2);
-    }
-}

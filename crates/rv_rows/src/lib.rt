@@ -10,6 +10,3 @@ mod tighten;
 pub use farkas::{Multipliers, Weight, proves, refutes};
 pub use linear::{Form, Row};
 pub use sums::number_at;
-
-#[cfg(test)]
-mod tests;

@@ -13,6 +13,3 @@ mod sparse;
 mod tableau;
 
 pub use seek::{Bounded, seek_bound, seek_refutation, seek_row};
-
-#[cfg(test)]
-mod tests;

@@ -1,4 +1,6 @@
 // A simplex of two phases. What it finds is checked by its callers.
+ghost use Rattle.std.specs.Prelude.{◌≡◌, Ok, Some, None, true};
+
 use crate::divisors::common_multiple;
 use crate::places::widest;
 use crate::sparse::{Sparse, product_with, sparse_rows};
@@ -124,14 +126,16 @@ fn leaving(tableau: &Tableau, numbers: &[i128]) -> Option<usize> {
     best
 }
 
-/// One step of a phase, which ends it or lets a premise enter.
+/// One step of a phase, which ends it or lets a premise enter. A step that ends it leaves the tableau as it was.
 fn step(
     alloc: Global,
     tableau: &mut Tableau,
     premises: &Many<Sparse>,
     phase: Phase,
     first: bool,
-) -> Result<Option<End>, Memory> {
+) -> Result<Option<End>, Memory>
+    ensures kept { ¬ (result ≡ Ok None) → tableau.new ≡ tableau.old }
+{
     if is_done(tableau, phase) {
         return Ok(Some(End::Done));
     }
@@ -186,13 +190,16 @@ fn some_premise(premises: &Many<Sparse>, line: &[i128]) -> Option<usize> {
     None
 }
 
-/// Lets a premise enter an equation whose right side is 0, where one can.
+/// Lets a premise enter an equation whose right side is 0, where one can. Where a number leaves its type the tableau
+/// is as it was.
 fn fill(
     alloc: Global,
     tableau: &mut Tableau,
     premises: &Many<Sparse>,
     line: usize,
-) -> Result<bool, Memory> {
+) -> Result<bool, Memory>
+    ensures kept { ¬ (result ≡ Ok true) → tableau.new ≡ tableau.old }
+{
     let place = match tableau.lines.get(line) {
         Some(numbers) => some_premise(premises, numbers),
         None => None,
@@ -209,7 +216,8 @@ fn fill(
     Ok(pivot_at(alloc, tableau, &numbers, line, place)?)
 }
 
-/// Lets a premise enter each equation that has none, where one can. The right sides there are 0.
+/// Lets a premise enter each equation that has none, where one can. The right sides there are 0. False where a number
+/// left its type; the weights of the tableau are then the same as before.
 fn fill_basis(
     alloc: Global,
     tableau: &mut Tableau,
@@ -360,7 +368,17 @@ fn along_ray(
     Ok(Some(found))
 }
 
-/// Lets the sum of bounds fall from weights that meet the equations.
+/// The weights of the tableau as it stands.
+fn at_corner(
+    alloc: Global,
+    tableau: &Tableau,
+    premises: &Many<Sparse>,
+) -> Result<Option<Found>, Memory> {
+    read_out(alloc, tableau, premises, &Vec::new(alloc), 0)
+}
+
+/// Lets the sum of bounds fall from weights that meet the equations. Where a number leaves its type, the weights that
+/// it last had are read out.
 fn second_phase(
     alloc: Global,
     tableau: &mut Tableau,
@@ -368,8 +386,11 @@ fn second_phase(
     goal: Goal,
 ) -> Result<Option<Found>, Memory> {
     match solve(alloc, tableau, premises, Phase::Second(goal))? {
-        End::Done | End::GaveUp => read_out(alloc, tableau, premises, &Vec::new(alloc), 0),
-        End::Ray(place) => along_ray(alloc, tableau, premises, place, goal),
+        End::Done | End::GaveUp => at_corner(alloc, tableau, premises),
+        End::Ray(place) => match along_ray(alloc, tableau, premises, place, goal)? {
+            Some(found) => Ok(Some(found)),
+            None => at_corner(alloc, tableau, premises),
+        },
     }
 }
 
@@ -392,7 +413,7 @@ pub fn simplex(
     }
     tableau.lines.truncate(width.saturating_add(1));
     if !fill_basis(alloc, &mut tableau, &premises)? {
-        return Ok(None);
+        return at_corner(alloc, &tableau, &premises);
     }
     second_phase(alloc, &mut tableau, &premises, goal)
 }

@@ -1,4 +1,6 @@
 // The lines of a simplex in whole numbers, checked and of 128 bits.
+ghost use Rattle.std.specs.Prelude.{◌≡◌, Ok, true};
+
 use crate::divisors::{common_divisor, gcd};
 use crate::sparse::{Sparse, product_with};
 use rv_base::{Many, Memory};
@@ -160,19 +162,22 @@ fn cross(a: i128, b: i128, c: i128, d: i128) -> Option<i128> {
     left.checked_sub(right)
 }
 
-/// Takes `down` times the pivot line from `up` times the line. False where a number left its type.
-fn combine(line: &mut [i128], pivot: &[i128], up: i128, down: i128) -> bool {
+/// `up` times the line without `down` times the pivot line; None where a number left its type.
+fn combined(
+    alloc: Global,
+    line: &[i128],
+    pivot: &[i128],
+    up: i128,
+    down: i128,
+) -> Result<Option<Vec<i128>>, Memory> {
+    let mut numbers = Vec::new(alloc);
     for place in 0..line.len() {
-        let number = line[place];
-        let other = at_or_zero(pivot, place);
-        if number != 0 || other != 0 {
-            match cross(number, up, other, down) {
-                Some(combined) => line[place] = combined,
-                None => return false,
-            }
+        match cross(line[place], up, at_or_zero(pivot, place), down) {
+            Some(number) => numbers.push(number)?,
+            None => return Ok(None),
         }
     }
-    true
+    Ok(Some(numbers))
 }
 
 /// Divides each number, rounded to 0.
@@ -193,74 +198,131 @@ fn reduce(line: &mut [i128]) {
     }
 }
 
-/// Clears a premise from a line, where it has the number `own`, by the line where it has the number `lead`. False
+/// The line, where a premise has the number `own`, cleared of it by the line where it has the number `lead`. None
 /// where a number left its type.
-fn clear(line: &mut [i128], pivot: &[i128], lead: i128, own: i128) -> bool {
+fn cleared(
+    alloc: Global,
+    line: &[i128],
+    pivot: &[i128],
+    lead: i128,
+    own: i128,
+) -> Result<Option<Vec<i128>>, Memory> {
     let Ok(common) = i128::try_from(gcd(lead.unsigned_abs(), own.unsigned_abs())) else {
-        return false;
+        return Ok(None);
     };
-    match (lead.checked_div(common), own.checked_div(common)) {
-        (Some(up), Some(down)) => {
-            let fits = combine(line, pivot, up, down);
-            reduce(line);
-            fits
-        }
-        _ => false,
-    }
+    let (Some(up), Some(down)) = (lead.checked_div(common), own.checked_div(common)) else {
+        return Ok(None);
+    };
+    let Some(mut numbers) = combined(alloc, line, pivot, up, down)? else {
+        return Ok(None);
+    };
+    reduce(&mut numbers);
+    Ok(Some(numbers))
 }
 
-/// Negates each number. False where one left its type.
-fn negate(line: &mut [i128]) -> bool {
-    for place in 0..line.len() {
-        match line[place].checked_neg() {
-            Some(negated) => line[place] = negated,
-            None => return false,
+/// The line with each number negated. None where one left its type.
+fn negated(alloc: Global, line: &[i128]) -> Result<Option<Vec<i128>>, Memory> {
+    let mut numbers = Vec::new(alloc);
+    for number in line {
+        match number.checked_neg() {
+            Some(negated) => numbers.push(negated)?,
+            None => return Ok(None),
         }
     }
-    true
+    Ok(Some(numbers))
 }
 
-/// Clears a premise with these numbers from all lines but one. False where a number left its type.
-fn clear_others(
-    tableau: &mut Tableau,
+/// The line of a pivot, where the premise that enters has the number `own`, so that its number is above 0.
+fn pivot_line(alloc: Global, line: &[i128], own: i128) -> Result<Option<Vec<i128>>, Memory> {
+    if own < 0 {
+        return negated(alloc, line);
+    }
+    Ok(Some(line.to_vec(alloc)?))
+}
+
+/// A line as a pivot leaves it.
+#[derive(Drop)]
+struct Changed {
+    line: usize,
+    numbers: Vec<i128>,
+}
+
+/// The lines that change where a premise with these numbers enters the basis in one equation. None where a number
+/// left its type.
+fn changed_lines(
+    alloc: Global,
+    lines: &[Vec<i128>],
+    numbers: &[i128],
+    at: usize,
+) -> Result<Option<Vec<Changed>>, Memory> {
+    let Some(line) = lines.get(at) else {
+        return Ok(None);
+    };
+    let Some(lead) = at_or_zero(numbers, at).checked_abs() else {
+        return Ok(None);
+    };
+    let Some(pivot) = pivot_line(alloc, line, at_or_zero(numbers, at))? else {
+        return Ok(None);
+    };
+    let Some(mut changed) = cleared_lines(alloc, lines, numbers, &pivot, at, lead)? else {
+        return Ok(None);
+    };
+    changed.push(Changed {
+        line: at,
+        numbers: pivot,
+    })?;
+    Ok(Some(changed))
+}
+
+/// The lines but one, where a premise with these numbers has one, cleared of it. None where a number left its type.
+fn cleared_lines(
+    alloc: Global,
+    lines: &[Vec<i128>],
     numbers: &[i128],
     pivot: &[i128],
     at: usize,
     lead: i128,
-) -> bool {
-    for line in 0..tableau.lines.len() {
+) -> Result<Option<Vec<Changed>>, Memory> {
+    let mut changed = Vec::new(alloc);
+    for line in 0..lines.len() {
         let own = at_or_zero(numbers, line);
-        if line != at && own != 0 && !clear(&mut tableau.lines[line], pivot, lead, own) {
-            return false;
+        if line != at && own != 0 {
+            match cleared(alloc, &lines[line], pivot, lead, own)? {
+                Some(numbers) => changed.push(Changed { line, numbers })?,
+                None => return Ok(None),
+            }
         }
     }
-    true
+    Ok(Some(changed))
 }
 
-/// Lets a premise with these numbers enter the basis in one equation. False where a number left its type.
+/// Puts the changed lines in their places.
+fn put(lines: &mut [Vec<i128>], changed: Vec<Changed>) {
+    for one in changed {
+        if one.line < lines.len() {
+            lines[one.line] = one.numbers;
+        }
+    }
+}
+
+/// Lets a premise with these numbers enter the basis in one equation. False where a number left its type; the tableau
+/// is then as it was, so that its multipliers can still be read out.
 pub fn pivot_at(
     alloc: Global,
     tableau: &mut Tableau,
     numbers: &[i128],
     at: usize,
     place: usize,
-) -> Result<bool, Memory> {
-    if at >= tableau.basis.len() || at >= tableau.lines.len() {
+) -> Result<bool, Memory>
+    ensures kept { ¬ (result ≡ Ok true) → tableau.new ≡ tableau.old }
+{
+    if at >= tableau.basis.len() {
         return Ok(false);
     }
-    let own = at_or_zero(numbers, at);
-    if own < 0 && !negate(&mut tableau.lines[at]) {
-        return Ok(false);
-    }
-    let Some(lead) = own.checked_abs() else {
+    let Some(changed) = changed_lines(alloc, &tableau.lines, numbers, at)? else {
         return Ok(false);
     };
-    let pivot = tableau.lines[at].as_slice().to_vec(alloc)?;
-    if !clear_others(tableau, numbers, &pivot, at, lead) {
-        return Ok(false);
-    }
-    if at < tableau.basis.len() {
-        tableau.basis[at] = place;
-    }
+    put(&mut tableau.lines, changed);
+    tableau.basis[at] = place;
     Ok(true)
 }

@@ -1,9 +1,9 @@
 //! What is answered on a whole source: an order of evaluation, or why there is none.
 
-use crate::rows::{MOST, fault_text, name_fault_text};
+use crate::rows::{fault_text, name_fault_text};
 use rv_base::{Memory, Place};
 use rv_causality::{CauseFault, Instance, Order, Quantity, order};
-use rv_syntax::parse;
+use rv_syntax::{SOURCE_LIMIT, parse};
 use rv_types::settle;
 use std::alloc::Global;
 
@@ -13,7 +13,7 @@ const MOST_TOLD: usize = 12;
 /// How many instances, expressions and flows a program has, with the paths of its instances where they are few; or the
 /// first fault, with its places.
 pub fn ordered(alloc: Global, text: &str) -> Result<String, Memory> {
-    if text.len() > MOST {
+    if text.len() > SOURCE_LIMIT {
         return Err(Memory::Memory);
     }
     match parse(alloc, text.as_bytes()) {
@@ -55,17 +55,28 @@ fn add_path(alloc: Global, instance: &Instance, text: &mut String) -> Result<(),
 }
 
 /// Adds sites, with a mark before them and a full stop between them.
-pub fn add_sites(
-    alloc: Global,
-    front: &str,
-    sites: &[u32],
-    text: &mut String,
-) -> Result<(), Memory> {
+fn add_sites(alloc: Global, front: &str, sites: &[u32], text: &mut String) -> Result<(), Memory> {
     let mut mark = front;
     for site in sites {
         let more = format!(in alloc; "{mark}{site}")?;
         text.push_str(more.as_str())?;
         mark = ".";
+    }
+    Ok(())
+}
+
+/// Adds the sites of a place, with a mark before them and a full stop between them.
+pub fn add_place(
+    alloc: Global,
+    front: &str,
+    place: &Place,
+    text: &mut String,
+) -> Result<(), Memory> {
+    add_sites(alloc, front, place.sites.front(), text)?;
+    if let Some(last) = place.sites.last() {
+        let mark = if place.sites.len() == 1 { front } else { "." };
+        let more = format!(in alloc; "{mark}{last}")?;
+        text.push_str(more.as_str())?;
     }
     Ok(())
 }
@@ -86,7 +97,7 @@ pub fn cause_text(alloc: Global, fault: CauseFault) -> Result<String, Memory> {
 fn cycle_text(alloc: Global, places: &[Place]) -> Result<String, Memory> {
     let mut text = String::from_str(alloc, "cycle")?;
     for place in places {
-        add_sites(alloc, " ", place.sites.as_slice(), &mut text)?;
+        add_place(alloc, " ", place, &mut text)?;
     }
     Ok(text)
 }

@@ -1,13 +1,32 @@
-//! Reads a table of texts from standard input, a row a line, and prints each row with what is answered on it: by the
-//! parser, by the rules of names, types and clocks, by those of recursion, sizes, cycles and weights, by the steps of
-//! its flat system, or by the list of its memories. What it is to print was computed from the rules, apart from this code.
+//! Reads a table from standard input, a row a line, and prints each row with what is answered on it. The first field of
+//! a row is its kind. What it is to print was computed by hand, or by another program, apart from this code.
+//!
+//! - texts and parts of programs, answered by the parser, the rules, the order of evaluation and the flat system: `program`,
+//!   `local`, `body`, `right`, `tree`, `nested`, `deep`, `sited`, `counted`, `settle`, `typed`, `several`, `clocked`, `values`,
+//!   `source`, `steps`, `memories` (`rows.rt`);
+//! - lists, texts, boxes, places and traces: `many`, `text`, `box`, `sites`, `path`, `place`, `trace` (`small.rt`);
+//! - files and sinks in memory: `files`, `sure_files`, `sink`, `sure_sink` (`outside.rt`);
+//! - rows, forms, multipliers and the search for them: `proves`, `refutes`, `tighten`, `fits`, `add`, `scale`, `substitute`,
+//!   `seek_row`, `seek_refutation`, `seek_bound` (`linear.rt`);
+//! - decision diagrams: `diagram` (`diagrams.rt`);
+//! - the whole program over files and sinks in memory: `run`, `prove`, `surely`, `long`, `bytes`, `printed` (`runs.rt`).
 #![tactic(auto)]
 
 mod causes;
+mod diagrams;
+mod limits;
+mod linear;
+mod numbers;
+mod outside;
 mod places;
+mod printed;
 mod rows;
+mod runs;
 mod shapes;
+mod sited;
+mod small;
 mod steps;
+mod values;
 
 use rows::answer;
 use std::io;

@@ -4,17 +4,18 @@ ghost use Rattle.std.specs.Prelude.{◌≡◌, map, IfOk};
 ghost use Rattle.rv_syntax.specs.Tree.{program_tree};
 ghost use Rattle.rv_causality.specs.Fitting.{Fits};
 
-use crate::causes::{add_sites, cause_text};
-use crate::rows::{MOST, fault_text, name_fault_text};
+use crate::causes::{add_place, cause_text};
+use crate::rows::{fault_text, name_fault_text};
 use rv_base::{Many, Memory};
 use rv_causality::{Instance, Source, SourceFault, read_source};
 use rv_meaning::{kind_of, memories};
+use rv_syntax::SOURCE_LIMIT;
 use rv_types::Kind;
 use std::alloc::Global;
 
 /// The places of the memories of all instances in order, each with its type; or the first fault.
 pub fn remembered(alloc: Global, text: &str) -> Result<String, Memory> {
-    if text.len() > MOST {
+    if text.len() > SOURCE_LIMIT {
         return Err(Memory::Memory);
     }
     match read_source(alloc, text.as_bytes(), "m") {
@@ -33,7 +34,7 @@ fn memory_text(alloc: Global, source: &Source) -> Result<String, Memory>
     let places = memories(alloc, &source.program, &source.typed, &paths)?;
     let mut text = String::from_str(alloc, "memories")?;
     for place in places.as_slice() {
-        add_sites(alloc, " ", place.sites.as_slice(), &mut text)?;
+        add_place(alloc, " ", place, &mut text)?;
         let kind = kind_of(&source.program, &source.typed, place);
         text.push_str(kind_name(kind))?;
     }

@@ -1,11 +1,17 @@
 //! A row of the table: what kind of text it is, the text, and what is answered on it.
 
 use crate::causes::ordered;
+use crate::diagrams::diagram;
+use crate::linear::linear;
+use crate::outside::outside;
 use crate::places::remembered;
+use crate::runs::ran;
 use crate::shapes::write_shape;
+use crate::sited::{counted, sited};
+use crate::small::small;
 use crate::steps::stepped;
 use rv_base::{Memory, Value};
-use rv_syntax::{Program, TextFault, parse};
+use rv_syntax::{Program, SOURCE_LIMIT, TextFault, parse};
 use rv_types::{NameFault, settle};
 use std::alloc::{AllocError, Global};
 
@@ -22,47 +28,88 @@ const SEVERAL: &str =
 /// The front of a text with one node up to its locals, with inputs that may be clocks.
 const CLOCKED: &str = "node m(a, c, e: bool; i: int) returns (ok: bool); ";
 
-/// The longest text that the parser takes.
-pub const MOST: usize = 1_048_576;
+/// The answer on a row. Its fields stand between `~`, the kind first.
+pub fn answer(alloc: Global, row: &str) -> Result<String, Memory> {
+    let Some((kind, fields)) = row.split_once('~') else {
+        return Ok(String::from_str(alloc, "no row")?);
+    };
+    if let Some(text) = on_text(alloc, kind, fields)? {
+        return Ok(text);
+    }
+    let found = match kind {
+        "diagram" => diagram(alloc, fields)?,
+        _ => on_call(alloc, kind, fields)?,
+    };
+    match found {
+        Some(text) => Ok(text),
+        None => Ok(String::from_str(alloc, "no kind")?),
+    }
+}
 
-/// The answer on a row. Its fields stand between `~`: the kind, and then
+/// The answer on calls of the small crates, and of the whole program.
+fn on_call(alloc: Global, kind: &str, fields: &str) -> Result<Option<String>, Memory> {
+    if let Some(text) = small(alloc, kind, fields)? {
+        return Ok(Some(text));
+    }
+    if let Some(text) = outside(alloc, kind, fields)? {
+        return Ok(Some(text));
+    }
+    if let Some(text) = linear(alloc, kind, fields)? {
+        return Ok(Some(text));
+    }
+    ran(alloc, kind, fields)
+}
+
+/// The answer on a text, or a part of one, of one of these kinds:
 /// `program`: a whole text, in which a backtick stands for a line feed;
 /// `local`: what stands behind `var`, from offset 40 on;
 /// `body`: what stands behind `let`, from offset 40 on;
 /// `right`: the right side of an equation, from offset 45 on;
 /// `tree`: the same, of which the tree is told;
 /// `nested`: a right side by its front, a part, how often it is repeated, and the back;
+/// `deep`: a right side by how many brackets begin chains of left operands;
+/// `sited`: a whole text as `program`, of whose first node the offsets and the sites are told;
+/// `counted`: the same, of which is told how many parts it has;
 /// `settle`: a whole program with the main node `m`, whose names, types and clocks are judged;
+/// `typed`, `several`, `clocked`: as `settle` by what stands behind the header, up to `tel`, of nodes as above;
 /// `values`: whole declarations of types and constants, and what the constants are;
 /// `source`: a whole program with the main node `m`, and its order of evaluation;
 /// `steps`: what the memories start with, what the inputs are at each instant, and a whole program with the main node `m`;
-/// `memories`: a whole program with the main node `m`, and the places of its memories with their types;
-/// `typed`, `several`, `clocked`: as `settle` by what stands behind the header, up to `tel`, of nodes as above.
-pub fn answer(alloc: Global, row: &str) -> Result<String, Memory> {
-    let Some((kind, text)) = row.split_once('~') else {
-        return Ok(String::from_str(alloc, "no row")?);
-    };
-    match kind {
+/// `memories`: a whole program with the main node `m`, and the places of its memories with their types.
+fn on_text(alloc: Global, kind: &str, text: &str) -> Result<Option<String>, Memory> {
+    let told = match kind {
         "program" => verdict(alloc, &with_line_feeds(alloc, text)?),
         "local" => verdict(alloc, &framed(alloc, "var ", text, " let ok = a; tel")?),
         "body" => verdict(alloc, &framed(alloc, "let ", text, " tel")?),
         "right" => verdict(alloc, &framed(alloc, "let ok = ", text, "; tel")?),
         "tree" => shape(alloc, &framed(alloc, "let ok = ", text, "; tel")?),
         "nested" => nested(alloc, text),
+        "deep" => deep(alloc, text),
+        "sited" => sited(alloc, &with_line_feeds(alloc, text)?),
+        "counted" => counted(alloc, &with_line_feeds(alloc, text)?),
+        _ => return on_program(alloc, kind, text),
+    };
+    Ok(Some(told?))
+}
+
+/// The answer on a whole program, or a part of one.
+fn on_program(alloc: Global, kind: &str, text: &str) -> Result<Option<String>, Memory> {
+    let told = match kind {
         "settle" => judged(alloc, &String::from_str(alloc, text)?),
-        "source" => ordered(alloc, text),
-        "steps" => stepped(alloc, text),
-        "memories" => remembered(alloc, text),
-        "values" => values(alloc, &format!(in alloc; "{text}{HEADER}let ok = a; tel")?),
         "typed" => judged(alloc, &format!(in alloc; "{TYPED}{text} tel")?),
         "several" => judged(alloc, &format!(in alloc; "{SEVERAL}{text} tel")?),
         "clocked" => judged(alloc, &format!(in alloc; "{CLOCKED}{text} tel")?),
-        _ => Ok(String::from_str(alloc, "no kind")?),
-    }
+        "values" => values(alloc, &format!(in alloc; "{text}{HEADER}let ok = a; tel")?),
+        "source" => ordered(alloc, text),
+        "steps" => stepped(alloc, text),
+        "memories" => remembered(alloc, text),
+        _ => return Ok(None),
+    };
+    Ok(Some(told?))
 }
 
 /// The text with line feeds in place of backticks.
-fn with_line_feeds(alloc: Global, text: &str) -> Result<String, AllocError> {
+pub fn with_line_feeds(alloc: Global, text: &str) -> Result<String, AllocError> {
     let mut whole = String::new(alloc);
     for c in text.chars() {
         whole.push(if c == '`' { '\n' } else { c })?;
@@ -84,8 +131,8 @@ fn verdict(alloc: Global, text: &String) -> Result<String, Memory> {
 }
 
 /// What the parser answers. A text that is too long is told as a want of memory.
-fn read(alloc: Global, text: &String) -> Result<Program, TextFault> {
-    if text.len() > MOST {
+pub fn read(alloc: Global, text: &String) -> Result<Program, TextFault> {
+    if text.len() > SOURCE_LIMIT {
         return Err(TextFault::Memory);
     }
     parse(alloc, text.as_bytes())
@@ -131,9 +178,34 @@ fn nested(alloc: Global, fields: &str) -> Result<String, Memory> {
     verdict(alloc, &framed(alloc, "let ok = ", right.as_str(), "; tel")?)
 }
 
+/// The answer on a right side of so many brackets, each of which begins a chain of left operands: one more in each chain
+/// than in the one within, and 200 of them in the outermost.
+fn deep(alloc: Global, brackets: &str) -> Result<String, Memory> {
+    let brackets = brackets.parse::<u16>().unwrap_or(0);
+    let mut right = String::new(alloc);
+    for _ in 0..brackets {
+        right.push_str("(")?;
+    }
+    right.push_str("a")?;
+    for operators in 0..brackets {
+        add_operands(operators.saturating_add(1), &mut right)?;
+        right.push_str(")")?;
+    }
+    add_operands(200, &mut right)?;
+    verdict(alloc, &framed(alloc, "let ok = ", right.as_str(), "; tel")?)
+}
+
+/// Adds so many operators with their right operands.
+fn add_operands(count: u16, text: &mut String) -> Result<(), AllocError> {
+    for _ in 0..count {
+        text.push_str(" or a")?;
+    }
+    Ok(())
+}
+
 /// `accepted`, or the first fault of text, names, types or clocks, and its offset.
 fn judged(alloc: Global, text: &String) -> Result<String, Memory> {
-    if text.len() > MOST {
+    if text.len() > SOURCE_LIMIT {
         return Err(Memory::Memory);
     }
     match parse(alloc, text.as_bytes()) {
@@ -147,7 +219,7 @@ fn judged(alloc: Global, text: &String) -> Result<String, Memory> {
 
 /// The values of the constants of a program, or its first fault.
 fn values(alloc: Global, text: &String) -> Result<String, Memory> {
-    if text.len() > MOST {
+    if text.len() > SOURCE_LIMIT {
         return Err(Memory::Memory);
     }
     match parse(alloc, text.as_bytes()) {

@@ -5,11 +5,13 @@ ghost use Rattle.rv_flat.specs.Facts.{constant_fits};
 ghost use Rattle.rv_flat.specs.Lists.{tick_places};
 ghost use Rattle.rv_flat.specs.Steps.{AreValues, IsInRange, label_counts, input_kinds, memory_kinds, IsState};
 
-use crate::causes::{add_sites, cause_text};
-use crate::rows::{MOST, fault_text, name_fault_text};
+use crate::causes::{add_place, cause_text};
+use crate::rows::{fault_text, name_fault_text};
+use crate::values::{add_value, instants_in, values_in};
 use rv_base::{Many, Memory, Place, Value};
 use rv_causality::{SourceFault, read_source};
 use rv_flat::{Bit, Flat, FlatInput, FlatMemory, State, StepFault, Stepped, flatten, start, step};
+use rv_syntax::SOURCE_LIMIT;
 use rv_types::Kind;
 use std::alloc::{AllocError, Global};
 
@@ -23,7 +25,7 @@ pub fn stepped(alloc: Global, fields: &str) -> Result<String, Memory> {
     let Some((inputs, text)) = rest.split_once('~') else {
         return no_values(alloc);
     };
-    if text.len() > MOST {
+    if text.len() > SOURCE_LIMIT {
         return Err(Memory::Memory);
     }
     match read_source(alloc, text.as_bytes(), "m") {
@@ -77,7 +79,7 @@ fn told_from(
             Ok(None) => return no_values(alloc),
             Err(StepFault::Outgrown(place)) => {
                 text.push_str("outgrown")?;
-                add_sites(alloc, " ", place.sites.as_slice(), &mut text)?;
+                add_place(alloc, " ", &place, &mut text)?;
                 return Ok(text);
             }
             Err(StepFault::Memory) => return Err(Memory::Memory),
@@ -211,48 +213,6 @@ fn is_within(number: i128) -> bool
     -9_223_372_036_854_775_808 <= number && number < 9_223_372_036_854_775_808
 }
 
-/// The instants in a text, which are separated by semicolons; none where a value cannot be read.
-fn instants_in(alloc: Global, text: &str) -> Result<Option<Many<Many<Value>>>, Memory> {
-    let mut instants = Many::new(alloc);
-    for part in text.split(';') {
-        match values_in(alloc, part)? {
-            Some(values) => instants.push(values)?,
-            None => return Ok(None),
-        }
-    }
-    Ok(Some(instants))
-}
-
-/// The values in a text, which are separated by spaces; none where one cannot be read.
-fn values_in(alloc: Global, text: &str) -> Result<Option<Many<Value>>, Memory> {
-    let mut values = Many::new(alloc);
-    for word in text.split(' ') {
-        if word.len() > 0 {
-            match value_of(word) {
-                Some(value) => values.push(value)?,
-                None => return Ok(None),
-            }
-        }
-    }
-    Ok(Some(values))
-}
-
-/// A value by its text: `t`, `f`, `L` and the number of a label, or an integer.
-fn value_of(word: &str) -> Option<Value> {
-    match word {
-        "t" => Some(Value::Flag(true)),
-        "f" => Some(Value::Flag(false)),
-        _ => number_of(word),
-    }
-}
-
-fn number_of(word: &str) -> Option<Value> {
-    match word.strip_prefix('L') {
-        Some(number) => Some(Value::Label(number.parse::<u32>().ok()?)),
-        None => Some(Value::Whole(word.parse::<i128>().ok()?)),
-    }
-}
-
 /// Adds an instant.
 fn add_instant(
     alloc: Global,
@@ -263,7 +223,7 @@ fn add_instant(
     add_flows(alloc, flat, stepped.values.as_slice(), text)?;
     text.push_str(if stepped.observer { "ok" } else { "no" })?;
     if let Some(place) = &stepped.broken {
-        add_sites(alloc, " !", place.sites.as_slice(), text)?;
+        add_place(alloc, " !", place, text)?;
     }
     text.push_str(" |")?;
     for value in stepped.next.kept.as_slice() {
@@ -307,18 +267,7 @@ fn flow_at(flat: &Flat, site: usize) -> Option<usize> {
 /// Whether a place is that of the main node's flow at a site.
 fn is_at(place: &Place, site: usize) -> bool {
     match place.sites.get(0) {
-        Some(first) => place.sites.len() == 1 && *first as usize == site,
+        Some(first) => place.sites.len() == 1 && first as usize == site,
         None => false,
     }
-}
-
-/// Adds a value.
-fn add_value(alloc: Global, value: Value, text: &mut String) -> Result<(), Memory> {
-    let more = match value {
-        Value::Flag(flag) => String::from_str(alloc, if flag { "t" } else { "f" })?,
-        Value::Label(number) => format!(in alloc; "L{number}")?,
-        Value::Whole(number) => format!(in alloc; "{number}")?,
-    };
-    text.push_str(more.as_str())?;
-    Ok(())
 }

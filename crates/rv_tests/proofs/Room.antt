@@ -1,5 +1,5 @@
--- Numbers within limits meet the conditions of `add`, `scale` and `substitute`.
-use Rattle.std.proofs.Common.{◌≡◌, ℕ, suc, zero, ◌+◌, ◌*◌, ◌≤◌, ◌<◌, ◌^◌, ℤ, pos, ◌*ℤ◌, List, [], ◌∷◌, All, map, length, take, get_or, zero-le, arith, refl, ◌⊎◌, inl, inr}
+-- Numbers within limits meet the conditions of `substitute`.
+use Rattle.std.proofs.Common.{◌≡◌, ℕ, suc, zero, ◌+◌, ◌*◌, ◌≤◌, ◌<◌, ◌^◌, ℤ, pos, ◌*ℤ◌, List, [], ◌∷◌, All, map, length, take, get_or, zero-le, arith, ◌⊎◌, inl, inr}
 use Rattle.std.proofs.Math.Nat.{mul-le-mul}
 use Rattle.std.proofs.lemmas.Int.{unsigned_abs-mul}
 use Rattle.std.proofs.lemmas.Bool.{cases_lt}
@@ -9,7 +9,7 @@ use Rattle.std.specs.Int.RustNames.{unsigned_abs}
 use Rattle.rv_rows.specs.declared.linear.Row.{Row}
 use Rattle.rv_rows.specs.declared.linear.Form.{Form}
 use Rattle.rv_rows.specs.Rows.{dot, RowWithin}
-use Rattle.rv_rows.specs.Forms.{number, CanAdd, CanScale, CanSubstitute, FormWithin, forms_width}
+use Rattle.rv_rows.specs.Forms.{number, CanSubstitute, FormWithin, forms_width}
 use Rattle.rv_rows.proofs.IntLemmas.{abs-add}
 
 number_within : (n : ℕ) (cs : List ℤ) → All (λ c. unsigned_abs c ≤ n) cs → (k : ℕ) → unsigned_abs (number k cs) ≤ n
@@ -19,33 +19,13 @@ number_within n cs h k = go (cases_lt k (length cs))
     go (inl l) = h k (pos 0) l
     go (inr l) = rw (get_or_past cs k (pos 0) l) zero-le
 
-pub can_add_within : (n : ℕ) (a b : Form) → FormWithin n a → FormWithin n b → n + n < 2 ^ 110 → CanAdd a b
-can_add_within n a b f g room = record {
-  coefficients = λ k.
-      let p = number_within n a.coefficients f.0 k in
-      let q = number_within n b.coefficients g.0 k in
-      let s = abs-add (number k a.coefficients) (number k b.coefficients) in
-      omega arith;
-  constant =
-      let p = f.1 in
-      let q = g.1 in
-      let s = abs-add a.constant b.constant in
-      omega arith;
-}
-
 product_within : (m n : ℕ) (x y : ℤ) → unsigned_abs x ≤ m → unsigned_abs y ≤ n → unsigned_abs (x *ℤ y) ≤ m * n
 product_within m n x y p q =
     let s : unsigned_abs x * unsigned_abs y ≤ m * n = mul-le-mul p q in
     let t = unsigned_abs-mul x y in
     omega arith
 
-pub can_scale_within : (m n : ℕ) (by : ℤ) (a : Form) → unsigned_abs by ≤ m → FormWithin n a → m * n < 2 ^ 110 → CanScale by a
-can_scale_within m n by a p f room = record {
-  coefficients = λ k. let q = product_within m n by (number k a.coefficients) p (number_within n a.coefficients f.0 k) in omega arith;
-  constant = let q = product_within m n by a.constant p f.1 in omega arith;
-}
-
-pub dot_within : (m n : ℕ) (cs xs : List ℤ) → All (λ c. unsigned_abs c ≤ m) cs → All (λ x. unsigned_abs x ≤ n) xs
+dot_within : (m n : ℕ) (cs xs : List ℤ) → All (λ c. unsigned_abs c ≤ m) cs → All (λ x. unsigned_abs x ≤ n) xs
     → (i : ℕ) → unsigned_abs (dot (take i cs) xs) ≤ length cs * (m * n)
 dot_within m n [] xs f g zero = zero-le
 dot_within m n [] xs f g (suc i) = zero-le
@@ -76,13 +56,3 @@ can_substitute_within m n old forms row within columns widths small room = recor
       omega arith;
   bound = let p = row.1 in omega arith;
 }
-
-pub can_substitute_one : (m n : ℕ) (old : Row) (form : Form) → RowWithin m old → FormWithin n form → length old.coefficients ≡ 1
-    → m < 2 ^ 110 → m * n < 2 ^ 110 → CanSubstitute old (form ∷ [])
-can_substitute_one m n old form row within columns small room =
-    can_substitute_within m n old (form ∷ []) row (All-one (FormWithin n) form within) columns (All-one (λ f. length f.coefficients ≡ length form.coefficients) form refl)
-    small (rw columns (omega arith))
-  where
-    All-one : (P : Form → Type 0) (f : Form) → P f → All P (f ∷ [])
-    All-one P f p zero d l = p
-    All-one P f p (suc j) d l = absurd (omega arith)

@@ -1,0 +1,130 @@
+//! Reports by their words, and the texts of them.
+
+use crate::outside::add_bytes;
+use rv_base::{Many, Memory, Place, Sites};
+use rv_causality::{CauseFault, Quantity, SourceFault};
+use rv_run::{Report, text};
+use rv_syntax::TextFault;
+use rv_types::NameFault;
+use std::alloc::{AllocError, Global};
+
+/// The text of a report that is told by its words, as `safe`, `toolong 7`, `typeclash 47`, `toolarge labels 4001` or
+/// `cycle 2.3 4.0.17`.
+pub fn printed(alloc: Global, words: &str) -> Result<Option<String>, Memory> {
+    let (name, rest) = words.split_once(' ').unwrap_or((words, ""));
+    let report = match plain_report(name, rest) {
+        Some(report) => Some(report),
+        None => match fault_in(alloc, name, rest)? {
+            Some(fault) => Some(Report::Refused(fault)),
+            None => None,
+        },
+    };
+    let Some(report) = report else {
+        return Ok(None);
+    };
+    let shown = text(alloc, &report)?;
+    let mut told = String::new(alloc);
+    add_bytes(shown.as_bytes(), &mut told)?;
+    Ok(Some(told))
+}
+
+/// A report that is no refusal.
+fn plain_report(name: &str, rest: &str) -> Option<Report> {
+    match name {
+        "safe" => Some(Report::Safe),
+        "unknown" => Some(Report::Unknown),
+        "toolong" => Some(Report::TooLong(rest.parse::<u64>().ok()?)),
+        "readfault" => Some(Report::ReadFault),
+        "usage" => Some(Report::Usage),
+        "memory" => Some(Report::Memory),
+        _ => None,
+    }
+}
+
+/// A fault by its name, and what it tells.
+fn fault_in(alloc: Global, name: &str, rest: &str) -> Result<Option<SourceFault>, AllocError> {
+    match name {
+        "nonode" => return Ok(Some(SourceFault::Names(NameFault::NoNode))),
+        "cycle" => return cycle_in(alloc, rest),
+        "toolarge" => return Ok(quantity_fault(rest)),
+        _ => {}
+    }
+    match rest.parse::<u32>() {
+        Ok(at) => Ok(fault_at(name, at)),
+        Err(_) => Ok(None),
+    }
+}
+
+/// A fault at an offset.
+fn fault_at(name: &str, at: u32) -> Option<SourceFault> {
+    match text_fault_at(name, at) {
+        Some(fault) => Some(SourceFault::Text(fault)),
+        None => match name {
+            "recursive" => Some(SourceFault::Cause(CauseFault::Recursive(at))),
+            "toowide" => Some(SourceFault::Cause(CauseFault::TooWide(at))),
+            _ => name_fault_at(name, at).map(|fault| SourceFault::Names(fault)),
+        },
+    }
+}
+
+fn text_fault_at(name: &str, at: u32) -> Option<TextFault> {
+    match name {
+        "badtext" => Some(TextFault::BadText(at)),
+        "toodeep" => Some(TextFault::TooDeep(at)),
+        "leftout" => Some(TextFault::LeftOut(at)),
+        _ => None,
+    }
+}
+
+fn name_fault_at(name: &str, at: u32) -> Option<NameFault> {
+    match name {
+        "unknownname" => Some(NameFault::UnknownName(at)),
+        "definedtwice" => Some(NameFault::DefinedTwice(at)),
+        "undefined" => Some(NameFault::Undefined(at)),
+        "typeclash" => Some(NameFault::TypeClash(at)),
+        "nonlinear" => Some(NameFault::Nonlinear(at)),
+        "clockclash" => Some(NameFault::ClockClash(at)),
+        "notobserver" => Some(NameFault::NotObserver(at)),
+        _ => None,
+    }
+}
+
+/// A quantity that is too large, and its number.
+fn quantity_fault(rest: &str) -> Option<SourceFault> {
+    let (name, number) = rest.split_once(' ')?;
+    let quantity = match name {
+        "instances" => Quantity::Instances,
+        "expanded" => Quantity::Expanded,
+        "memories" => Quantity::Memories,
+        "inputs" => Quantity::Inputs,
+        "labels" => Quantity::Labels,
+        "variables" => Quantity::Variables,
+        _ => return None,
+    };
+    let number = number.parse::<u64>().ok()?;
+    Some(SourceFault::Cause(CauseFault::TooLarge(quantity, number)))
+}
+
+/// A cycle by its places, whose sites stand between full stops.
+fn cycle_in(alloc: Global, rest: &str) -> Result<Option<SourceFault>, AllocError> {
+    let mut places = Many::new(alloc);
+    for word in rest.split_whitespace() {
+        match place_in(alloc, word)? {
+            Some(place) => places.push(place)?,
+            None => return Ok(None),
+        }
+    }
+    Ok(Some(SourceFault::Cause(CauseFault::Cycle(places))))
+}
+
+fn place_in(alloc: Global, word: &str) -> Result<Option<Place>, AllocError> {
+    let mut numbers = Vec::new(alloc);
+    for part in word.split('.') {
+        match part.parse::<u32>() {
+            Ok(number) => numbers.push(number)?,
+            Err(_) => return Ok(None),
+        }
+    }
+    let sites = Sites::from_slice(alloc, &numbers)?;
+    Ok(Some(Place { sites }))
+}

@@ -1,0 +1,214 @@
+//! What the whole program does over files and sinks in memory. What cannot be read has no answer.
+
+ghost use Rattle.std.specs.Prelude.{◌≡◌, ◌≢◌, ◌⊎◌, Some, All, IsTrue, IfOk};
+ghost use Rattle.std.specs.String.{string_bytes};
+ghost use Rattle.std.specs.FinMap.{contains_key};
+ghost use Rattle.rv_base.specs.SureFiles.{held_by};
+ghost use Rattle.rv_base.specs.MemoryFiles as memory_files;
+ghost use Rattle.rv_base.specs.MemorySink as memory_sink;
+ghost use Rattle.rv_meaning.specs.Runs.{IsSafe};
+ghost use Rattle.rv_run.specs.Answers.{OnFile};
+ghost use Rattle.rv_run.specs.Programs.{OnProgram};
+ghost use Rattle.rv_run.specs.Words.{texts};
+
+use crate::outside::{add_bytes, calls_in};
+use crate::printed::printed;
+use crate::rows::with_line_feeds;
+use rv_base::{Memory, MemoryFiles, MemorySink, SureFiles, SureSink};
+use rv_run::{Outcome, Report, Sent, run};
+use std::alloc::{AllocError, Global};
+
+/// The words of the command line that proves the node `m` of the file `f`.
+const PROVE: &str = "reaver prove f m";
+
+/// The answer on a row of one of these kinds. It is what is reported, whether it was shown, the status, and what is
+/// shown, with a backtick for its line feed.
+/// `run`: the words, the numbers of the loads and of the puts that fail, and the text of the file `f`;
+/// `prove`: the text of `f`, whose node `m` is proved, where nothing fails;
+/// `surely`: the same over files and a sink that never fail;
+/// `long`: the same of a text by its front, a part, how often it is repeated, and the back. A `%` in the part stands for
+/// how often it stood before;
+/// `bytes`: the same of bytes by their numbers;
+/// `printed`: a report by its words, and its text.
+pub fn ran(alloc: Global, kind: &str, fields: &str) -> Result<Option<String>, Memory> {
+    match kind {
+        "run" => ran_with(alloc, fields),
+        "prove" => {
+            let text = with_line_feeds(alloc, fields)?;
+            Ok(Some(proved(alloc, text.as_bytes())?))
+        }
+        "surely" => Ok(Some(ran_surely(alloc, fields)?)),
+        "long" => {
+            let text = repeated(alloc, fields)?;
+            Ok(Some(proved(alloc, text.as_bytes())?))
+        }
+        "bytes" => match bytes_in(alloc, fields)? {
+            Some(bytes) => Ok(Some(proved(alloc, &bytes)?)),
+            None => Ok(None),
+        },
+        "printed" => printed(alloc, fields),
+        _ => Ok(None),
+    }
+}
+
+/// The words of a line.
+fn words_of(alloc: Global, line: &str) -> Result<Vec<String>, AllocError> {
+    let mut words = Vec::new(alloc);
+    for word in line.split(' ') {
+        words.push(String::from_str(alloc, word)?)?;
+    }
+    Ok(words)
+}
+
+/// A text by its front, a part, how often it is repeated, and the back.
+fn repeated(alloc: Global, fields: &str) -> Result<String, Memory> {
+    let mut parts = fields.split('~');
+    let mut text = String::from_str(alloc, parts.next().unwrap_or(""))?;
+    let part = parts.next().unwrap_or("");
+    let times = parts.next().unwrap_or("").parse::<u32>().unwrap_or(0);
+    for number in 0..times {
+        add_part(alloc, part, number, &mut text)?;
+    }
+    text.push_str(parts.next().unwrap_or(""))?;
+    Ok(text)
+}
+
+/// Adds a part, in which `%` stands for a number.
+fn add_part(alloc: Global, part: &str, number: u32, text: &mut String) -> Result<(), AllocError> {
+    match part.split_once('%') {
+        Some((front, back)) => {
+            let more = format!(in alloc; "{front}{number}{back}")?;
+            text.push_str(more.as_str())
+        }
+        None => text.push_str(part),
+    }
+}
+
+/// Bytes by their numbers.
+fn bytes_in(alloc: Global, text: &str) -> Result<Option<Vec<u8>>, AllocError> {
+    let mut bytes = Vec::new(alloc);
+    for word in text.split_whitespace() {
+        match word.parse::<u8>() {
+            Ok(byte) => bytes.push(byte)?,
+            Err(_) => return Ok(None),
+        }
+    }
+    Ok(Some(bytes))
+}
+
+fn ran_with(alloc: Global, fields: &str) -> Result<Option<String>, Memory> {
+    let mut parts = fields.split('~');
+    let words = words_of(alloc, parts.next().unwrap_or(""))?;
+    let loads = calls_in(alloc, parts.next().unwrap_or(""))?;
+    let puts = calls_in(alloc, parts.next().unwrap_or(""))?;
+    let source = with_line_feeds(alloc, parts.next().unwrap_or(""))?;
+    match (loads, puts) {
+        (Some(loads), Some(puts)) => Ok(Some(ran_failing(
+            alloc,
+            &words,
+            &loads,
+            &puts,
+            source.as_bytes(),
+        )?)),
+        _ => Ok(None),
+    }
+}
+
+/// What is done with these bytes under `f`, where nothing fails.
+fn proved(alloc: Global, source: &[u8]) -> Result<String, Memory> {
+    let words = words_of(alloc, PROVE)?;
+    ran_failing(alloc, &words, &[], &[], source)
+}
+
+/// What is done with these words and these bytes under `f`, where the loads and puts with these numbers fail.
+fn ran_failing(
+    alloc: Global,
+    words: &Vec<String>,
+    loads: &[u32],
+    puts: &[u32],
+    source: &[u8],
+) -> Result<String, Memory> {
+    let mut files = MemoryFiles::new(alloc);
+    files.add("f", b"replaced by what follows")?;
+    files.add("f", source)?;
+    files.fail_calls(loads)?;
+    let mut out = MemorySink::new(alloc);
+    out.fail_calls(puts)?;
+    let outcome = run_in_memory(alloc, words, &mut files, &mut out);
+    outcome_text(alloc, &outcome, out.bytes())
+}
+
+/// Over files in memory Safe means that every run of what they hold is safe, and a fresh sink is given one piece.
+fn run_in_memory(
+    alloc: Global,
+    words: &Vec<String>,
+    files: &mut MemoryFiles,
+    out: &mut MemorySink,
+) -> Outcome
+    requires { memory_sink.calls_of out.old ≡ 0 }
+    ensures safe { result.report ≡ Report.Safe
+        → OnFile (Some (memory_files.held_by files.old)) (texts words.now.items) (OnProgram IsSafe) }
+    ensures one_put { (result.sent ≡ Sent.Whole) ⊎ (result.sent ≡ Sent.Failed) → memory_sink.calls_of out.new ≡ 1 }
+{
+    run(alloc, words, files, out)
+}
+
+/// What is reported, whether it was shown, the status, and what was shown.
+fn outcome_text(alloc: Global, outcome: &Outcome, shown: &[u8]) -> Result<String, Memory> {
+    let report = report_name(&outcome.report);
+    let sent = match outcome.sent {
+        Sent::Whole => "whole",
+        Sent::Failed => "failed",
+        Sent::Memory => "memory",
+    };
+    let status = outcome.status;
+    let mut text = format!(in alloc; "{report} {sent} {status} ")?;
+    add_bytes(shown, &mut text)?;
+    Ok(text)
+}
+
+fn report_name(report: &Report) -> &'static str {
+    match report {
+        Report::Safe => "safe",
+        Report::Unknown => "unknown",
+        Report::Refused(_) => "refused",
+        Report::TooLong(_) => "toolong",
+        Report::ReadFault => "readfault",
+        Report::Usage => "usage",
+        Report::Memory => "memory",
+    }
+}
+
+/// What is done over files and a sink that never fail.
+fn ran_surely(alloc: Global, source: &str) -> Result<String, Memory> {
+    let words = words_of(alloc, PROVE)?;
+    let mut files = sure_files(alloc, &words, source.as_bytes())?;
+    let mut out = SureSink::new(alloc);
+    let outcome = run_surely(alloc, &words, &mut files, &mut out);
+    outcome_text(alloc, &outcome, out.bytes())
+}
+
+/// Files that hold these bytes under each of the words.
+fn sure_files(alloc: Global, words: &Vec<String>, bytes: &[u8]) -> Result<SureFiles, Memory>
+    ensures { IfOk result (λ files. All (λ word. IsTrue (contains_key (held_by files) (string_bytes word))) words.now.items) }
+{
+    let mut files = SureFiles::new(alloc);
+    for word in words {
+        files.add(word.as_str(), bytes)?;
+    }
+    Ok(files)
+}
+
+/// Where nothing can fail, no fault is answered.
+fn run_surely(
+    alloc: Global,
+    words: &Vec<String>,
+    files: &mut SureFiles,
+    out: &mut SureSink,
+) -> Outcome
+    requires { All (λ word. IsTrue (contains_key (held_by files.old) (string_bytes word))) words.now.items }
+    ensures reads { result.report ≢ Report.ReadFault }
+    ensures writes { result.sent ≢ Sent.Failed }
+{
+    run(alloc, words, files, out)
+}
