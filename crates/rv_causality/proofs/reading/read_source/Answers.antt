@@ -39,7 +39,7 @@ returns-in-Err-order-clause-only c p t is =
     c.cause_fault.ensures
     ∙ cause_only c.args.bytes.now c.args.main.now (program_tree c.in-Ok.program) c.in-Ok.ensures.found (λ q text. c.one_tree.ensures c.args.bytes.now q (program_tree c.in-Ok.program) text c.in-Ok.ensures.found)
     (λ g bad. c.one_fault.ensures.no_tree c.args.bytes.now g (program_tree c.in-Ok.program) bad c.in-Ok.ensures.found)
-    c.in-Ok-settle.typed c.in-Ok-settle.ensures.found (λ g first. c.settled_or_refused.ensures (program_tree c.in-Ok.program) c.args.main.now c.in-Ok-settle.typed g c.in-Ok-settle.ensures.found first)
+    c.in-Ok-settle.typed c.in-Ok-settle.ensures.found (λ g first. c.settled_or_refused.ensures.never_both (program_tree c.in-Ok.program) c.args.main.now c.in-Ok-settle.typed g c.in-Ok-settle.ensures.found first)
     p c.in-Err-order.fault is.text is.accepted c.in-Err-order.ensures.only
 
 pub returns-in-Err-order-clause-refused : goal.returns-in-Err-order-clause-refused
@@ -47,7 +47,7 @@ returns-in-Err-order-clause-refused c =
     subst (HasSourceCause c.args.bytes.now c.args.main.now) (sym c.cause_fault.ensures)
     (cause_refused c.args.bytes.now c.args.main.now (program_tree c.in-Ok.program) c.in-Ok.ensures.found (λ q text. c.one_tree.ensures c.args.bytes.now q (program_tree c.in-Ok.program) text c.in-Ok.ensures.found)
     (λ g bad. c.one_fault.ensures.no_tree c.args.bytes.now g (program_tree c.in-Ok.program) bad c.in-Ok.ensures.found)
-    c.in-Ok-settle.typed c.in-Ok-settle.ensures.found (λ g first. c.settled_or_refused.ensures (program_tree c.in-Ok.program) c.args.main.now c.in-Ok-settle.typed g c.in-Ok-settle.ensures.found first)
+    c.in-Ok-settle.typed c.in-Ok-settle.ensures.found (λ g first. c.settled_or_refused.ensures.never_both (program_tree c.in-Ok.program) c.args.main.now c.in-Ok-settle.typed g c.in-Ok-settle.ensures.found first)
     c.in-Err-order.fault c.in-Err-order.ensures.refused)
 
 pub returns-in-Err-order-clause-only_refused : goal.returns-in-Err-order-clause-only_refused
@@ -55,7 +55,7 @@ returns-in-Err-order-clause-only_refused c f h =
     subst (λ e. RefusesSource f (Err e)) (sym c.cause_fault.ensures)
     (cause_only_refused c.args.bytes.now c.args.main.now (program_tree c.in-Ok.program) c.in-Ok.ensures.found (λ q text. c.one_tree.ensures c.args.bytes.now q (program_tree c.in-Ok.program) text c.in-Ok.ensures.found)
     (λ g bad. c.one_fault.ensures.no_tree c.args.bytes.now g (program_tree c.in-Ok.program) bad c.in-Ok.ensures.found)
-    c.in-Ok-settle.typed c.in-Ok-settle.ensures.found (λ g first. c.settled_or_refused.ensures (program_tree c.in-Ok.program) c.args.main.now c.in-Ok-settle.typed g c.in-Ok-settle.ensures.found first)
+    c.in-Ok-settle.typed c.in-Ok-settle.ensures.found (λ g first. c.settled_or_refused.ensures.never_both (program_tree c.in-Ok.program) c.args.main.now c.in-Ok-settle.typed g c.in-Ok-settle.ensures.found first)
     f c.in-Err-order.fault c.in-Err-order.ensures.only_refused h)
 
 pub returns-clause-found : goal.returns-clause-found
@@ -76,5 +76,5 @@ pub returns-clause-only_refused : goal.returns-clause-only_refused
 returns-clause-only_refused c f h =
     not_refused c.args.bytes.now c.args.main.now (program_tree c.in-Ok.program) c.in-Ok.ensures.found (λ q text. c.one_tree.ensures c.args.bytes.now q (program_tree c.in-Ok.program) text c.in-Ok.ensures.found)
     (λ g bad. c.one_fault.ensures.no_tree c.args.bytes.now g (program_tree c.in-Ok.program) bad c.in-Ok.ensures.found)
-    c.in-Ok-settle.typed c.in-Ok-settle.ensures.found (λ g first. c.settled_or_refused.ensures (program_tree c.in-Ok.program) c.args.main.now c.in-Ok-settle.typed g c.in-Ok-settle.ensures.found first)
+    c.in-Ok-settle.typed c.in-Ok-settle.ensures.found (λ g first. c.settled_or_refused.ensures.never_both (program_tree c.in-Ok.program) c.args.main.now c.in-Ok-settle.typed g c.in-Ok-settle.ensures.found first)
     f c.in-Ok-order.ensures.only_refused h
