@@ -1,7 +1,6 @@
 -- How a search in depth goes on, whatever it finds.
-use Rattle.std.proofs.Common.{◌≡◌, ℕ, ◌+◌, ◌-◌, ◌<◌, inl, inr, true, false, List, [], ◌∷◌, ◌++◌, length, get_or, set, take, replicate, refl, sym, ◌∙◌, ap, subst, arith, length-take-le}
+use Rattle.std.proofs.Common.{◌≡◌, ℕ, ◌+◌, ◌-◌, ◌<◌, inl, inr, true, false, List, [], ◌∷◌, ◌++◌, length, get_or, set, take, replicate, sym, ◌∙◌, ap, subst, arith, length-take-le}
 use Rattle.std.proofs.lemmas.List.{length-replicate, length-set}
-use Rattle.std.specs.List.{Contains}
 use Rattle.rv_causality.specs.Graphs.{Graph, falses}
 use Rattle.rv_causality.specs.declared.graph.Walk.{Walk}
 use Rattle.rv_causality.specs.Components.{AreVertices, IsDepth}
@@ -94,11 +93,11 @@ module _ (g : Graph) (w : Walk) (d : IsDepth g w) where
     left_step v new some last new_is = (
       step_left g mid (turned mid is size) v new (top_within v some last) new_is,
       (let p = ap length (ap (λ (m : Walk). m.path) new_is) in
-      let q = length-take-le (length mid.path - 1) mid.path (omega arith) in
-      let r = ap (λ (m : Walk). length m.path) is in
-      let e = ap (λ (m : Walk). falses m.entered) new_is in
-      let f = ap (λ (m : Walk). falses m.entered) is in
-      omega (arith, p, q, r, e, f, some)),
+          let q = length-take-le (length mid.path - 1) mid.path (omega arith) in
+          let r = ap (λ (m : Walk). length m.path) is in
+          let e = ap (λ (m : Walk). falses m.entered) new_is in
+          let f = ap (λ (m : Walk). falses m.entered) is in
+          omega (arith, p, q, r, e, f, some)),
     )
 
     pub went_step : (child : ℕ) (new : Walk) → child < length g → get_or w.entered child false ≡ false
@@ -106,8 +105,8 @@ module _ (g : Graph) (w : Walk) (d : IsDepth g w) where
     went_step child new within free new_is = (
       step_entered g mid (turned mid is size) child new within new_is,
       (let p = ap (λ (m : Walk). length m.path) new_is ∙ snoc_length mid.path child in
-      let r = ap (λ (m : Walk). length m.path) is in
-      let e = ap (λ (m : Walk). falses m.entered) new_is ∙ ap (λ (m : Walk). falses (set m.entered child true)) is in
-      let one = set_falses w.entered child (let n = d.entered in omega (arith, n, within)) free in
-      omega (arith, p, r, e, one)),
+          let r = ap (λ (m : Walk). length m.path) is in
+          let e = ap (λ (m : Walk). falses m.entered) new_is ∙ ap (λ (m : Walk). falses (set m.entered child true)) is in
+          let one = set_falses w.entered child (let n = d.entered in omega (arith, n, within)) free in
+          omega (arith, p, r, e, one)),
     )

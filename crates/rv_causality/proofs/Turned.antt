@@ -1,12 +1,12 @@
 -- The edges of a graph the other way round.
-use Rattle.std.proofs.Common.{◌≡◌, ℕ, zero, suc, ◌+◌, ◌<◌, ◌≤◌, ◌⊎◌, inl, inr, List, [], ◌∷◌, ◌++◌, length, get_or, set, replicate, refl, sym, ◌∙◌, ap, subst, arith}
+use Rattle.std.proofs.Common.{◌≡◌, ℕ, zero, suc, ◌+◌, ◌<◌, ◌⊎◌, inl, inr, List, [], ◌∷◌, ◌++◌, length, get_or, set, replicate, refl, sym, ◌∙◌, ap, subst, arith}
 use Rattle.std.proofs.lemmas.List.{length-set, length-replicate, get_or-set_same}
 use Rattle.std.proofs.lemmas.Bool.{cases_eq}
 use Rattle.std.specs.List.{Contains}
 use Rattle.std.proofs.lemmas.List.Elements.{Contains-append_left, Contains-append_right, Contains-append_cases}
 use Rattle.rv_causality.specs.Graphs.{Graph, edges, IsGraph}
 use Rattle.rv_causality.specs.Components.{IsReversed, IsReversedTo, IsTurned}
-use Rattle.rv_causality.proofs.Walks.{contains_at, at_contains}
+use Rattle.rv_causality.proofs.Walks.{at_contains}
 use Rattle.rv_causality.proofs.Searches.{one, only_one, nothing_there}
 
 pub turned_none : (v : ℕ) (h : Graph) → IsTurned [] v h h

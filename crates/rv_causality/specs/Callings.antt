@@ -1,13 +1,12 @@
 -- The calls of a program by the numbers of its nodes.
-use Rattle.std.specs.Prelude.{◌≡◌, ◌⊎◌, ℕ, ◌+◌, ◌<◌, Bool, true, false, List, map, length, slice_index_or}
-use Rattle.std.specs.List.{Contains}
+use Rattle.std.specs.Prelude.{ℕ, ◌<◌, List, map, length, slice_index_or}
 use Rattle.rv_syntax.specs.declared.tree.Node as declared
 use Rattle.rv_syntax.specs.Tree.{ProgramTree}
 use Rattle.rv_syntax.specs.Places.{Identifier, index_of}
 use Rattle.rv_types.specs.Names.{node_names, texts}
 use Rattle.rv_causality.specs.declared.calls.Calling.{Calling}
 use Rattle.rv_types.specs.Instances.{CallTree, calls}
-use Rattle.rv_causality.specs.Graphs.{Graph, edges, falses}
+use Rattle.rv_causality.specs.Graphs.{Graph, edges}
 
 -- a call, where the nodes have these names
 abbrev pub calling : List Identifier → CallTree → Calling

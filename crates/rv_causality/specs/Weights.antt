@@ -1,5 +1,5 @@
 -- The weight of an integer expression: a bound on its magnitude in terms of what memories and inputs hold.
-use Rattle.std.specs.Prelude.{◌≡◌, ◌⊎◌, ℕ, ◌+◌, ◌*◌, ◌^◌, ◌≤◌, max, cond, nat_lt, nat_abs, List, [], ◌∷◌, ◌++◌, flat_map, unwrap_or, reverse, Option}
+use Rattle.std.specs.Prelude.{◌≡◌, ◌⊎◌, ℕ, ◌+◌, ◌*◌, ◌≤◌, max, cond, nat_lt, nat_abs, List, [], ◌∷◌, ◌++◌, flat_map, unwrap_or, reverse, Option}
 use Rattle.std.specs.List.{Contains}
 use Rattle.rv_syntax.specs.declared.tree.Name.{Name}
 use Rattle.rv_syntax.specs.declared.tree.Op.{Op}

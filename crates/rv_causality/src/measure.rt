@@ -26,7 +26,7 @@ use crate::ticks::tick_total_of;
 use crate::totals::totals;
 use crate::variables::variables_of;
 use rv_base::{Many, Memory};
-use rv_syntax::{Program, HEAVIEST};
+use rv_syntax::{HEAVIEST, Program};
 use rv_types::{Typed, program_tables};
 use std::alloc::Global;
 

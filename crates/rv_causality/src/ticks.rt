@@ -22,7 +22,7 @@ use crate::names::Names;
 use crate::recursion::Nodes;
 use crate::sites::Sites;
 use rv_base::{Many, Memory, Text};
-use rv_syntax::{Assertion, Equation, Expr, ExprForm, Node, Op, Program, HEAVIEST};
+use rv_syntax::{Assertion, Equation, Expr, ExprForm, HEAVIEST, Node, Op, Program};
 use rv_types::{
     Clock, NodeClocks, Pace, called_pace, choice_pace, delayed_pace, joined_pace, kept_pace,
     node_clocks, operator_pace,

@@ -20,7 +20,7 @@ use crate::order_tests::order_tests_of;
 use crate::recursion::Nodes;
 use crate::totals::capped_sum;
 use rv_base::Memory;
-use rv_syntax::{Program, HEAVIEST};
+use rv_syntax::{HEAVIEST, Program};
 use rv_types::{ProgramTables, Typed, program_tables};
 use std::alloc::Global;
 

@@ -15,7 +15,7 @@ ghost use Rattle.rv_causality.specs.Weighing.{weighing, weight_in, form_weight_i
 
 use crate::layout::Layout;
 use rv_base::{Text, Value};
-use rv_syntax::{Expr, ExprForm, Op, HEAVIEST, TOO_HEAVY};
+use rv_syntax::{Expr, ExprForm, HEAVIEST, Op, TOO_HEAVY};
 use rv_types::{
     NamedValues, NodeClocks, Trues, Weighed, constant_binary, constant_flag, constant_if,
     constant_minus, constant_named, constant_not, constant_number, constant_size, lesser_of,

@@ -1,6 +1,6 @@
-use Rattle.std.proofs.Common.{◌≡◌, ◌∙◌, Result, Ok, Err, Some, rules}
+use Rattle.std.proofs.Common.{◌≡◌, ◌∙◌, rules}
 use Rattle.std.proofs.Common.{None as Nothing}
-use Rattle.rv_causality.specs.Components.{mark_of, IsParted}
+use Rattle.rv_causality.specs.Components.{mark_of}
 use Rattle.rv_causality.proofs.Walks.{got}
 use Rattle.rv_causality.proofs.Turned.{reversed_graph}
 use Rattle.rv_causality.proofs.Parting.{seen_fresh, parts_fresh, still, parted_more}

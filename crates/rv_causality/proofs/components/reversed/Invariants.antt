@@ -1,4 +1,3 @@
-use Rattle.std.proofs.Common.{◌≡◌, length}
 use Rattle.rv_causality.specs.Components.{IsReversedTo}
 use Rattle.rv_causality.proofs.components.reversed.Given as goal
 

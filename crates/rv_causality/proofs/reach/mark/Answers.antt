@@ -1,4 +1,4 @@
-use Rattle.std.proofs.Common.{◌≡◌, List, ℕ, ◌∷◌, ◌++◌, [], sym, subst, Some, ◌∙◌}
+use Rattle.std.proofs.Common.{List, ℕ, ◌∷◌, ◌++◌, [], sym, subst, ◌∙◌}
 use Rattle.std.proofs.Common.{None as Nothing}
 use Rattle.rv_causality.specs.Components.{Marks, IsSpread}
 use Rattle.rv_causality.proofs.Walks.{got}

@@ -1,4 +1,4 @@
-use Rattle.std.proofs.Common.{◌≡◌, ◌<◌, ℕ, List, [], ◌∷◌, ◌++◌, length, get_or, set, sym, ◌∙◌, ap, subst, rules, Some, arith}
+use Rattle.std.proofs.Common.{◌≡◌, ◌<◌, ℕ, List, [], ◌∷◌, ◌++◌, length, set, sym, ◌∙◌, ap, subst, rules, Some, arith}
 use Rattle.std.specs.List.{Contains}
 use Rattle.rv_causality.specs.Graphs.{edges}
 use Rattle.rv_causality.specs.Components.{Marks, IsSearch, IsSpread}

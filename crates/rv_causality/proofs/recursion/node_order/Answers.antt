@@ -1,6 +1,6 @@
-use Rattle.std.proofs.Common.{◌≡◌, ◌<◌, length, sym, ◌∙◌, ap, subst, Some}
+use Rattle.std.proofs.Common.{◌<◌, length, sym, ◌∙◌, ap, subst}
 use Rattle.rv_causality.specs.Graphs.{Graph, IsGraph, IsLoop, IsSortedOf}
-use Rattle.rv_causality.specs.Callings.{callees, call_graph}
+use Rattle.rv_causality.specs.Callings.{callees}
 use Rattle.rv_causality.specs.Components.{AreComponents}
 use Rattle.rv_causality.specs.Loops.{IsFirstLoop}
 use Rattle.rv_causality.proofs.Lowering.{callee_within, length_map, first_found, none_found}

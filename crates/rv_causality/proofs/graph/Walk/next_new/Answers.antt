@@ -1,4 +1,4 @@
-use Rattle.std.proofs.Common.{◌≡◌, ◌<◌, ℕ, [], length, get_or, false, sym, ◌∙◌, ap, subst}
+use Rattle.std.proofs.Common.{◌≡◌, ◌<◌, [], length, get_or, false, sym, ◌∙◌, ap, subst}
 use Rattle.rv_causality.specs.Graphs.{edges}
 use Rattle.rv_causality.proofs.Walks.{got}
 use Rattle.rv_causality.proofs.graph.Walk.next_new.Goals as goal
