@@ -21,7 +21,7 @@ use Rattle.rv_types.specs.Instances.{Instance, place, clock_in, IsArgument, head
 use Rattle.rv_meaning.specs.Meaning.{is_true, number, is_equal, held, operate}
 use Rattle.rv_meaning.specs.Runs.{Instant, cell}
 use Rattle.rv_meaning.specs.Instants.{State, now, form_now, trues_now}
-use Rattle.rv_syntax.specs.Limits.{heaviest}
+use Rattle.rv_syntax.specs.Limits.{heaviest, too_heavy}
 use Rattle.rv_causality.specs.Weights.{constant_size, weight, form_weight}
 use Rattle.rv_flat.proofs.Standing.{Stands, as_child, of_not, of_minus, of_left, of_right, of_condition, of_first, of_second, of_operand}
 use Rattle.rv_flat.proofs.TypedParts.{no_flag, both_hold, IsTyped, not_typed, minus_typed, binary_typed, if_typed, most_typed}
@@ -38,14 +38,14 @@ same_number (Label l) = refl
 same_number (Whole z) = refl
 
 -- a light integer counts as itself
-pub counts_as_itself : (w : ℕ) (z : ℤ) → w ≤ 2 ^ 40 → Whole z ≡ counted w z
-counts_as_itself w z le = by (nat_le w (2 ^ 40)) refl
+pub counts_as_itself : (w : ℕ) (z : ℤ) → w ≤ heaviest → Whole z ≡ counted w z
+counts_as_itself w z le = by (nat_le w heaviest) refl
   where
-    by : (b : Bool) → nat_le w (2 ^ 40) ≡ b → Whole z ≡ cond b (Whole z) (Whole (pos (2 ^ 40 + 1)))
+    by : (b : Bool) → nat_le w heaviest ≡ b → Whole z ≡ cond b (Whole z) (Whole (pos too_heavy))
     by true e = refl
-    by false e = no_flag (sym e ∙ (let h : nat_le w (2 ^ 40) ≡ true = grind (arith, nat_tests) in h))
+    by false e = no_flag (sym e ∙ (let h : nat_le w heaviest ≡ true = grind (arith, nat_tests) in h))
 
-part_itself : (w : ℕ) (v : Value) → w ≤ 2 ^ 40 → v ≡ counted_part w v
+part_itself : (w : ℕ) (v : Value) → w ≤ heaviest → v ≡ counted_part w v
 part_itself w (Flag b) le = refl
 part_itself w (Label l) le = refl
 part_itself w (Whole z) le = counts_as_itself w z le
@@ -74,7 +74,7 @@ same_equality (Whole y) (Label m) = refl
 same_equality (Whole y) (Whole z) = same_integers y z
 
 -- an operator between two values that is light, and is no `->`, has the value that it counts as
-operates : (first scaled : Bool) (o : Op) (i j k : Kind) (w : ℕ) (u v : Value) → w ≤ 2 ^ 40 → (o ≡ op.Arrow → ⊥) → kind_in (binary_rule true scaled o i j) ≡ Some k → operate o first u v ≡ value_under w o u v
+operates : (first scaled : Bool) (o : Op) (i j k : Kind) (w : ℕ) (u v : Value) → w ≤ heaviest → (o ≡ op.Arrow → ⊥) → kind_in (binary_rule true scaled o i j) ≡ Some k → operate o first u v ≡ value_under w o u v
 operates first scaled op.Arrow i j k w u v le n t = absurd (n refl)
 operates first scaled op.Implies i j k w u v le n t = λ e. Flag (not (same_truth u e) || same_truth v e)
 operates first scaled op.Or i j k w u v le n t = λ e. Flag (same_truth u e || same_truth v e)
@@ -185,7 +185,7 @@ module _ (program : ProgramTree) (flows : Sites → ℕ) (i : Instance) where
   -- where the parts of what stands in the instance are light
   module _ (state : State) (row : Instant) (light : (e : Tree) → Stands i.node e → weight program flows i e ≤ heaviest) where
     -- so it weighs no more than is counted
-    counted_weight : (e : Tree) → Stands i.node e → IsConstant e → weight_of known e ≤ 2 ^ 40
+    counted_weight : (e : Tree) → Stands i.node e → IsConstant e → weight_of known e ≤ heaviest
     counted_weight e s c = let h = light e s in let w = weighs e c in omega (arith, h, w)
 
     -- a choice, where either part has the value that it counts as

@@ -12,6 +12,7 @@ use Rattle.rv_base.specs.declared.value.Value.TheVariants as value
 use Rattle.rv_syntax.specs.declared.tree.Op.{Op}
 use Rattle.rv_syntax.specs.declared.tree.Op.TheVariants as op
 use Rattle.rv_syntax.specs.Tree.{Tree, Node, Form, True, False, Number, Named, Not, Minus, Pre, Current, When, Binary, If, AtMostOne, Call, ConstantTree, ProgramTree}
+use Rattle.rv_syntax.specs.Limits.{heaviest, too_heavy}
 use Rattle.rv_syntax.specs.Places.{Identifier, is_same}
 use Rattle.rv_types.specs.Kinds.{LabelPlace, label_of}
 use Rattle.rv_types.specs.Scopes.{constant_value_after, constant_values_of, constant_values}
@@ -20,11 +21,11 @@ use Rattle.rv_types.specs.Constants.{flag_in, whole_in, counted, counted_part, v
 
 -- what counts is no larger
 counted_size : (m : ℕ) (z : ℤ) → nat_abs z ≤ m → nat_abs (whole_in (counted m z)) ≤ m
-counted_size m z h = tested (nat_le m (2 ^ 40)) refl
+counted_size m z h = tested (nat_le m heaviest) refl
   where
-    tested : (b : Bool) → nat_le m (2 ^ 40) ≡ b → nat_abs (whole_in (cond b (Whole z) (Whole (pos (2 ^ 40 + 1))))) ≤ m
+    tested : (b : Bool) → nat_le m heaviest ≡ b → nat_abs (whole_in (cond b (Whole z) (Whole (pos too_heavy)))) ≤ m
     tested true e = h
-    tested false e = let l : 2 ^ 40 < m = grind (arith, nat_tests) in omega (arith, l)
+    tested false e = let l : heaviest < m = grind (arith, nat_tests) in omega (arith, l)
 
 sum_size : (y z : ℤ) (v w : ℕ) → nat_abs y ≤ v → nat_abs z ≤ w → nat_abs (y +ℤ z) ≤ v + w
 sum_size y z v w g h = omega (arith, ints)
@@ -90,17 +91,14 @@ module _ (known : Identifier → Value) where
 
 -- Where constants count as no more than 2^40 + 1, so does each expression.
 
-abbrev cap : ℕ
-cap = 2 ^ 40 + 1
-
-counted_cap : (m : ℕ) (z : ℤ) → nat_abs z ≤ m → nat_abs (whole_in (counted m z)) ≤ cap
-counted_cap m z h = tested (nat_le m (2 ^ 40)) refl
+counted_cap : (m : ℕ) (z : ℤ) → nat_abs z ≤ m → nat_abs (whole_in (counted m z)) ≤ too_heavy
+counted_cap m z h = tested (nat_le m heaviest) refl
   where
-    tested : (b : Bool) → nat_le m (2 ^ 40) ≡ b → nat_abs (whole_in (cond b (Whole z) (Whole (pos (2 ^ 40 + 1))))) ≤ cap
-    tested true e = let l : m ≤ 2 ^ 40 = grind (arith, nat_tests) in omega (arith, h, l)
+    tested : (b : Bool) → nat_le m heaviest ≡ b → nat_abs (whole_in (cond b (Whole z) (Whole (pos too_heavy)))) ≤ too_heavy
+    tested true e = let l : m ≤ heaviest = grind (arith, nat_tests) in omega (arith, h, l)
     tested false e = omega arith
 
-operator_cap : (o : Op) (x y : Value) (v w : ℕ) → nat_abs (whole_in x) ≤ v → nat_abs (whole_in y) ≤ w → nat_abs (whole_in (value_under (weight_under o (nat_abs (whole_in x)) v w) o x y)) ≤ cap
+operator_cap : (o : Op) (x y : Value) (v w : ℕ) → nat_abs (whole_in x) ≤ v → nat_abs (whole_in y) ≤ w → nat_abs (whole_in (value_under (weight_under o (nat_abs (whole_in x)) v w) o x y)) ≤ too_heavy
 operator_cap op.Plus x y v w g h = counted_cap (v + w) (whole_in x +ℤ whole_in y) (sum_size (whole_in x) (whole_in y) v w g h)
 operator_cap op.Minus x y v w g h = counted_cap (v + w) (whole_in x -ℤ whole_in y) (difference_size (whole_in x) (whole_in y) v w g h)
 operator_cap op.Times x y v w g h = counted_cap (nat_abs (whole_in x) * w) (whole_in x *ℤ whole_in y) (product_size (whole_in x) (whole_in y) w h)
@@ -119,16 +117,16 @@ operator_cap op.Slash x y v w g h = omega arith
 operator_cap op.Div x y v w g h = omega arith
 operator_cap op.Mod x y v w g h = omega arith
 
-part_cap : (m : ℕ) (v : Value) → nat_abs (whole_in v) ≤ m → nat_abs (whole_in (counted_part m v)) ≤ cap
+part_cap : (m : ℕ) (v : Value) → nat_abs (whole_in v) ≤ m → nat_abs (whole_in (counted_part m v)) ≤ too_heavy
 part_cap m (Whole z) h = counted_cap m z h
 part_cap m (Flag b) h = omega arith
 part_cap m (value.Label k) h = omega arith
 
-module _ (known : Identifier → Value) (capped : (x : Identifier) → nat_abs (whole_in (known x)) ≤ cap) where
-  pub value_cap : (e : Tree) → nat_abs (whole_in (value_of known e)) ≤ cap
+module _ (known : Identifier → Value) (capped : (x : Identifier) → nat_abs (whole_in (known x)) ≤ too_heavy) where
+  pub value_cap : (e : Tree) → nat_abs (whole_in (value_of known e)) ≤ too_heavy
   value_cap (Node at site form) = form_cap form
     where
-      form_cap : (form : Form) → nat_abs (whole_in (form_value known form)) ≤ cap
+      form_cap : (form : Form) → nat_abs (whole_in (form_value known form)) ≤ too_heavy
       form_cap True = omega arith
       form_cap False = omega arith
       form_cap (Number n) = counted_cap n (pos n) (omega (arith, ints))
@@ -146,16 +144,16 @@ module _ (known : Identifier → Value) (capped : (x : Identifier) → nat_abs (
       form_cap (Call f es) = omega arith
 
 module _ (program : ProgramTree) where
-  label_cap : (o : Option LabelPlace) → nat_abs (whole_in (elim o as (λ _. Value) [ Nothing ↦ Flag false | Some l ↦ value.Label l.number ])) ≤ cap
+  label_cap : (o : Option LabelPlace) → nat_abs (whole_in (elim o as (λ _. Value) [ Nothing ↦ Flag false | Some l ↦ value.Label l.number ])) ≤ too_heavy
   label_cap Nothing = omega arith
   label_cap (Some l) = omega arith
 
-  after_cap : (before : List ConstantTree) (x : Identifier) → nat_abs (whole_in (constant_value_after program before x)) ≤ cap
+  after_cap : (before : List ConstantTree) (x : Identifier) → nat_abs (whole_in (constant_value_after program before x)) ≤ too_heavy
   after_cap [] x = label_cap (label_of program x)
   after_cap (c ∷ before) x = by (is_same c.name.text x) (after_cap before)
     where
-      by : (b : Bool) → ((y : Identifier) → nat_abs (whole_in (constant_value_after program before y)) ≤ cap)
-          → nat_abs (whole_in (cond b (value_of (constant_value_after program before) c.body) (constant_value_after program before x))) ≤ cap
+      by : (b : Bool) → ((y : Identifier) → nat_abs (whole_in (constant_value_after program before y)) ≤ too_heavy)
+          → nat_abs (whole_in (cond b (value_of (constant_value_after program before) c.body) (constant_value_after program before x))) ≤ too_heavy
       by true each = value_cap (constant_value_after program before) each c.body
       by false each = each x
 

@@ -28,6 +28,7 @@ pub mod Keeping
 pub mod OneStep
 pub mod Running
 pub mod TickList
+pub mod TickSteps
 pub mod Typing
 pub mod PartsStand
 pub mod ReadTables

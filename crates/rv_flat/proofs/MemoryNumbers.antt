@@ -22,19 +22,10 @@ use Rattle.rv_flat.proofs.KeptMemories.{kept_places}
 use Rattle.rv_flat.proofs.PlaceNumbers.{its_number}
 
 -- the site after a path
-last_of : (path : Sites) (s : ℕ) → last_site (path ++ s ∷ []) ≡ s
+pub last_of : (path : Sites) (s : ℕ) → last_site (path ++ s ∷ []) ≡ s
 last_of [] s = refl
 last_of (x ∷ []) s = refl
 last_of (x ∷ y ∷ rest) s = last_of (y ∷ rest) s
-
--- what is read as the last number of a place
-pub last_read : (q : Sites) (s : ℕ) → slice_get q (length q - 1) ≡ Some s → s ≡ last_site q
-last_read [] s e = absurd (let bad : ⊥ = cc in bad)
-last_read (x ∷ []) s e = let is : x ≡ s = cc in sym is
-last_read (x ∷ y ∷ rest) s e =
-    let long : suc (suc (length rest)) - 1 ≡ suc (length rest) = omega arith in
-    let short : suc (length rest) - 1 ≡ length rest = omega arith in
-    last_read (y ∷ rest) s (ap (slice_get (y ∷ rest)) short ∙ sym (ap (slice_get (x ∷ y ∷ rest)) long) ∙ e)
 
 -- a test of two numbers
 both_same : (a b m s : ℕ) → (nat_eq a m && nat_eq b s) ≡ true → (a ≡ m) × (b ≡ s)

@@ -2,7 +2,7 @@
 use Rattle.std.proofs.Common.{◌≡◌, inl, inr, ℕ, zero, suc, ◌+◌, ◌-◌, ◌<◌, ◌^◌, List, [], ◌∷◌, ◌++◌, map, length, get_or, take, unwrap_or, refl, sym, ◌∙◌, ap, subst, arith}
 use Rattle.std.specs.Prelude.{min}
 use Rattle.std.proofs.lemmas.Bool.{cases_eq}
-use Rattle.std.proofs.lemmas.List.{get_or_default, get_or-map, length-map}
+use Rattle.std.proofs.lemmas.List.{get_or_default, get_or-map, length-map, take_all}
 use Rattle.rv_syntax.specs.Tree.{ProgramTree}
 use Rattle.rv_syntax.specs.Places.{Identifier, Sites, flows, site_of}
 use Rattle.rv_types.specs.Instances.{Instance, callee, main_instance, IsInstance, is_main, is_callee, IsFlow}
@@ -54,11 +54,15 @@ way_more l q s way new is grown =
     ∙ ap (λ k. way_from l 0 q ++ callee_or_main l.callees k s ∷ []) (way_last l 0 q) ∙ sym (way-snoc l 0 q s)
 
 -- back along fewer calls
+back : (l : Layout) (m : ℕ) (q : Sites) (k : ℕ) → take (suc k) (way_from l m q) ≡ way_from l m (take k q)
+back l m [] k =
+    let nothing : take k [] ≡ [] = take_all k [] (omega arith) in
+    ap (λ w. m ∷ w) nothing ∙ ap (way_from l m) (sym nothing)
+back l m (s ∷ q) zero = refl
+back l m (s ∷ q) (suc k) = ap (λ w. m ∷ w) (back l (callee_or_main l.callees m s) q k)
+
 pub way_back : (l : Layout) (m : ℕ) (q : Sites) (k : ℕ) → take (k + 1) (way_from l m q) ≡ way_from l m (take k q)
-way_back l m [] zero = refl
-way_back l m [] (suc k) = refl
-way_back l m (s ∷ q) zero = refl
-way_back l m (s ∷ q) (suc k) = ap (λ w. m ∷ w) (way_back l (callee_or_main l.callees m s) q k)
+way_back l m q k = let one : k + 1 ≡ suc k = omega arith in ap (λ n. take n (way_from l m q)) one ∙ back l m q k
 
 -- the number at the end of the way along a path, and of one site more
 pub number_reached : (l : Layout) (m n : ℕ) (q : Sites) (s : ℕ) (way : List ℕ) → way ≡ way_from l m q → site_number l (get_or way (length way - 1) 0) s ≡ number_from l m n (q ++ s ∷ [])

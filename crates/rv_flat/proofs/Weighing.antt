@@ -15,7 +15,8 @@ use Rattle.rv_types.specs.Types.{same_kind}
 use Rattle.rv_meaning.specs.Meaning.{held, is_true, number, operate}
 use Rattle.rv_flat.specs.FlatTree.{FlatTree, Node, TreeForm, FlatTrees, Constant, Flow, Memory, Ticked, Input, Not, Binary, Scale, If, AtMostOne, None, More}
 use Rattle.rv_flat.specs.FlatInstants.{Row, nth, flat_value, form_flat_value}
-use Rattle.rv_flat.specs.Facts.{Scope, is_of, gives, operands, any_of, fits, form_fits, all_fit, heaviest, constant_weight, weight_under, flat_weight, form_flat_weight, is_light, form_is_light, all_light}
+use Rattle.rv_syntax.specs.Limits.{heaviest}
+use Rattle.rv_flat.specs.Facts.{Scope, is_of, gives, operands, any_of, fits, form_fits, all_fit, constant_weight, weight_under, flat_weight, form_flat_weight, is_light, form_is_light, all_light}
 use Rattle.rv_flat.specs.Tame.{IsTame, HasTame, AreTame}
 use Rattle.rv_flat.proofs.Tested.{both, some_kind}
 
@@ -106,7 +107,7 @@ module _ (s : Scope) (ws : List ℕ) (ticked : List Bool) (kept inputs : List Va
     form_small k (AtMostOne es) fit light = omega arith
 
   held_small : (v : Value) (w : ℕ) → size v ≤ w * 2 ^ 63 → nat_le w heaviest ≡ true → size v < 2 ^ 127
-  held_small v w small light = let le : w ≤ 2 ^ 40 = grind (arith, nat_tests) in omega (arith, small)
+  held_small v w small light = let le : w ≤ heaviest = grind (arith, nat_tests) in omega (arith, small)
 
   mutual
     pub tame : (k : Kind) (e : FlatTree) → fits s n k e ≡ true → is_light ws e ≡ true → IsTame ticked kept inputs row e

@@ -1,17 +1,17 @@
 //! Expressions of instances as flat ones.
 
-ghost use Rattle.std.specs.Prelude.{◌≡◌, [], ℕ, negsuc, pos, map, slice_index_or, Some, IfOk, IsSome, OnOk};
+ghost use Rattle.std.specs.Prelude.{◌≡◌, ◌++◌, ◌∷◌, [], ℕ, negsuc, pos, map, min, slice_index_or, Some, IfOk, IsSome, OnOk};
 ghost use Rattle.std.specs.List.{Contains};
 ghost use Rattle.rv_syntax.specs.Tree as tree;
 ghost use Rattle.rv_syntax.specs.Tree.{Tree, tree_of, trees};
-ghost use Rattle.rv_base.specs.declared.value.Value.{Value as AnyValue};
-ghost use Rattle.rv_syntax.specs.Places.{Identifier, memory_site};
-ghost use Rattle.rv_types.specs.Constants.{whole_in};
+ghost use Rattle.rv_syntax.specs.Limits.{too_heavy};
+ghost use Rattle.rv_syntax.specs.Places.{memory_site};
+ghost use Rattle.rv_types.specs.Constants.{counted, whole_in};
 ghost use Rattle.rv_types.specs.ConstantParts.{IsKnownBound, constant_form};
 ghost use Rattle.rv_types.specs.Instances.{Instance};
 ghost use Rattle.rv_types.specs.Lists.{AreTicks};
 ghost use Rattle.rv_types.specs.Scopes.{node_scope};
-ghost use Rattle.rv_types.specs.Types.{Scope, kind_of};
+ghost use Rattle.rv_types.specs.Types.{kind_of};
 ghost use Rattle.rv_types.specs.ValueTables.{value_by};
 ghost use Rattle.rv_types.specs.Variables.{node_parts};
 ghost use Rattle.rv_causality.specs.Expanded.{main_of, program_of};
@@ -144,7 +144,7 @@ fn flat_number(
     constant: &mut Option<Weighed>,
 ) -> Result<Box<FlatExpr>, Memory>
     ensures flat { IfOk result (λ f. flat_tree f ≡ unplaced (flat.Constant (Value.Whole (pos number)))) }
-    ensures constant { (s : Scope) (known : Identifier → AnyValue) → OnOk result (constant.new ≡ constant_form s known (tree.Number number)) }
+    ensures constant { OnOk result (constant.new ≡ Some (record { value = counted number (pos number); weight = min number too_heavy })) }
     ensures bound { OnOk result (IsKnownBound constant.new) }
 {
     *constant = Some(constant_number(number));
@@ -489,19 +489,31 @@ fn nowhere() -> Place
     }
 }
 
-/// The place of a site of the instance, the empty one where there is no site. It shares the path of the instance.
-#[tactic(auto, using(crate::proofs::Reading::read_nothing))]
+/// The place of a site of the instance, the empty one where there is no site.
 pub fn spot_of(alloc: Global, frame: &Frame, site: Option<u32>) -> Result<Place, Memory>
     ensures { IfOk result (λ p. p.sites ≡ spot (path_read frame.now) site) }
 {
-    let Some(own) = site else {
-        return Ok(nowhere());
-    };
-    let sites = match frame.expanded.instances.get(frame.reader.instance as usize) {
-        Some(instance) => Sites::within(&instance.path, own)?,
-        None => Sites::from_slice(alloc, &[own])?,
-    };
-    Ok(Place { sites })
+    match site {
+        Some(own) => place_at(alloc, frame, own),
+        None => Ok(nowhere()),
+    }
+}
+
+/// The place of a site of the instance. It shares the path of the instance.
+#[tactic(auto, using(crate::proofs::Reading::read_nothing))]
+fn place_at(alloc: Global, frame: &Frame, site: u32) -> Result<Place, Memory>
+    ensures { IfOk result (λ p. p.sites ≡ path_read frame.now ++ site ∷ []) }
+{
+    match frame.expanded.instances.get(frame.reader.instance as usize) {
+        Some(instance) => {
+            let sites = Sites::within(&instance.path, site)?;
+            Ok(Place { sites })
+        }
+        None => {
+            let sites = Sites::from_slice(alloc, &[site])?;
+            Ok(Place { sites })
+        }
+    }
 }
 
 /// A flat expression in memory of its own. This and the functions below stay calls, so that `flat_part`, which calls

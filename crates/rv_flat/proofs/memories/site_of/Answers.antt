@@ -1,9 +1,9 @@
-use Rattle.std.proofs.Common.{◌-◌, length, slice_get, sym, ◌∙◌, ap}
-use Rattle.std.specs.Option.{option_copied}
-use Rattle.rv_flat.proofs.MemoryNumbers.{last_read}
+use Rattle.std.proofs.Common.{◌-◌, length, take, sym, ◌∙◌, ap}
+use Rattle.rv_flat.specs.Remembered.{last_site}
+use Rattle.rv_flat.proofs.MemoryNumbers.{last_of}
 use Rattle.rv_flat.proofs.memories.site_of.Goals as goal
 
 pub returns-in-Some : goal.returns-in-Some
 returns-in-Some c =
-    last_read c.args.memory.now.place.sites c.in-Some.site.now
-    (sym (ap option_copied (sym c.in-Some.is) ∙ c.last.ensures.value ∙ ap (λ q. slice_get q (length q - 1)) c.as_slice.ensures))
+    let q = c.args.memory.now.place.sites in
+    sym (ap last_site c.in-Some.ensures.some ∙ last_of (take (length q - 1) q) c.in-Some.site)
