@@ -149,7 +149,11 @@ mod tests {
             (&[Ok(1), Ok(1), Ok(1)], 9, Ok(3)),
             (&[Ok(2), Err(ErrorKind::Interrupted), Ok(2)], 9, Ok(4)),
             (&[Ok(2), Err(ErrorKind::BrokenPipe), Ok(2)], 9, failed),
-            (&[Ok(2), Err(ErrorKind::OutOfMemory)], 9, Err(LoadFault::Memory)),
+            (
+                &[Ok(2), Err(ErrorKind::OutOfMemory)],
+                9,
+                Err(LoadFault::Memory),
+            ),
             (&[Ok(2), Ok(2), Err(ErrorKind::BrokenPipe)], 2, Ok(3)),
         ] {
             let found = read_some(Told { answers }, rt.alloc(), limit);

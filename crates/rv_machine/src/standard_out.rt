@@ -130,8 +130,16 @@ mod tests {
         for (answers, end, shown) in [
             ([takes(9)].as_slice(), None, "four"),
             (&[takes(1), takes(1), takes(1), takes(1)], None, "four"),
-            (&[interrupted, takes(3), interrupted, takes(1)], None, "four"),
-            (&[takes(3), takes(0), takes(1)], Some(ErrorKind::WriteZero), "fou"),
+            (
+                &[interrupted, takes(3), interrupted, takes(1)],
+                None,
+                "four",
+            ),
+            (
+                &[takes(3), takes(0), takes(1)],
+                Some(ErrorKind::WriteZero),
+                "fou",
+            ),
             (
                 &[takes(2), Answer::Fails(ErrorKind::BrokenPipe), takes(2)],
                 Some(ErrorKind::BrokenPipe),

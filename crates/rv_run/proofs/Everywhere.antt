@@ -1,25 +1,21 @@
 -- What the search over a flat system says of its program.
 use Rattle.std.proofs.Common.{◌≡◌, ℕ, ◌+◌, ◌<◌, ◌⊎◌, inl, inr, Bool, true, false, List, [], ◌∷◌, ◌++◌, map, length, get_or, refl, sym, ◌∙◌, ap, subst, arith, Option, Some, IsSome, slice_get}
 use Rattle.std.proofs.Common.{None as Nothing}
-use Rattle.std.specs.List.{Contains}
 use Rattle.std.proofs.lemmas.List.{length-map, get_or-map}
 use Rattle.rv_base.specs.declared.value.Value.{Value}
 use Rattle.rv_base.specs.declared.value.Value.TheVariants.{Flag, Label, Whole}
-use Rattle.rv_syntax.specs.Tree.{AssertionTree, ProgramTree}
+use Rattle.rv_syntax.specs.Tree.{ProgramTree}
 use Rattle.rv_syntax.specs.Places.{Identifier, Sites}
-use Rattle.rv_syntax.specs.Delays.{Delay, node_delays}
 use Rattle.rv_types.specs.declared.typed.Kind.{Kind}
 use Rattle.rv_types.specs.declared.typed.Kind.TheVariants as kind
-use Rattle.rv_types.specs.declared.typed.Clock.{Clock}
 use Rattle.rv_types.specs.declared.typed.Clock.TheVariants.{Base}
-use Rattle.rv_types.specs.Kinds.{decl_kinds}
 use Rattle.rv_types.specs.Values.{HasKind, operand_kind}
-use Rattle.rv_types.specs.Instances.{Instance, place, absolute, clock_of, node_of, main_instance, IsInstance, is_main, IsNode}
+use Rattle.rv_types.specs.Instances.{place, absolute, clock_of, node_of, main_instance, is_main, IsNode}
 use Rattle.rv_types.specs.WellFormed.{AreWell}
 use Rattle.rv_meaning.specs.Meaning.{held, is_on, is_true, kept_place}
 use Rattle.rv_meaning.specs.Runs.{Instant, cell, observer_place, AreStarts}
 use Rattle.rv_meaning.specs.Instants.{State as Brought, IsInstant, is_on_in, value_now, AllowsAt, AreGiven, observed_in}
-use Rattle.rv_meaning.specs.Valuations.{Valuation, spelled, Spells, IsCoded, IsAllowedAt, HoldsEverywhere, FailsSomewhere, IsControl}
+use Rattle.rv_meaning.specs.Valuations.{Valuation, spelled, Spells, IsCoded, HoldsEverywhere, FailsSomewhere, IsControl}
 use Rattle.rv_flat.specs.declared.parts.FlatFlow.{FlatFlow}
 use Rattle.rv_flat.specs.declared.flat.Flat.{Flat}
 use Rattle.rv_flat.specs.declared.state.State.{State}
@@ -27,7 +23,7 @@ use Rattle.rv_flat.specs.FlatInstants.{Row, nth, places, IsFlatInstant}
 use Rattle.rv_flat.specs.FlatOf.{flat_state, flat_inputs, row_of, instant_of, IsBroken, IsFlatBroken, IsFlatOf}
 use Rattle.rv_flat.specs.Steps.{AreValues, input_kinds, IsState}
 use Rattle.rv_run.specs.Judged.{IsSmallSystem}
-use Rattle.rv_run.specs.Spelled.{HoldsAt, FailsAt, IsAlwaysTrue, IsSometimesFalse}
+use Rattle.rv_run.specs.Spelled.{FailsAt, IsAlwaysTrue, IsSometimesFalse}
 use Rattle.rv_run.proofs.Known.{main_in}
 use Rattle.rv_run.proofs.Coding.{bits_of, spelled_back}
 use Rattle.rv_run.proofs.NoIntegers.{Suits, is_of_some, within_found, flow_suits}

@@ -1,5 +1,5 @@
 -- What holds of each element of a list, and the name of the main node.
-use Rattle.std.proofs.Common.{◌≡◌, ℕ, Bool, true, false, ◌||◌, cond, List, [], ◌∷◌, suc, zero, map, refl, arith, Some, IsTrue, IsSome}
+use Rattle.std.proofs.Common.{Bool, true, false, ◌||◌, cond, List, [], ◌∷◌, suc, zero, map, refl, arith, Some, IsTrue, IsSome}
 use Rattle.std.specs.List.{All, Contains}
 use Rattle.std.proofs.lemmas.List.Elements.{Contains-append_right}
 use Rattle.rv_syntax.specs.Tree.{NodeTree, ProgramTree}

@@ -1,5 +1,5 @@
 -- From the tests to whether a source is judged and safe.
-use Rattle.std.proofs.Common.{◌≡◌, ◌⊎◌, inl, inr, ℕ, ◌<◌, ◌≤◌, Bool, true, false, All, List, length, refl, sym, ◌∙◌, ap, subst, arith, MatchBool}
+use Rattle.std.proofs.Common.{◌≡◌, inl, inr, ℕ, ◌<◌, ◌≤◌, Bool, true, false, List, length, sym, ap, subst, arith, MatchBool}
 use Rattle.std.specs.Prelude.{Result, Ok, Err, IfOk}
 use Rattle.rv_base.specs.declared.value.Value.{Value}
 use Rattle.rv_syntax.specs.Tree.{ProgramTree}
@@ -61,7 +61,7 @@ module _ (p : ProgramTree) (t : Typed) (o : Order) (fits : Fits p t o)
     sequence = sites_of o.sequence;
     ordered = fits.ordered.sequence;
     runs = λ n starts inputs started given. let run = some starts inputs n well is_node fits.ordered.sequence started given in
-    (run.0, run.1, λ other another. one starts inputs n other run.0 well is_node fits.ordered.sequence another run.1);
+        (run.0, run.1, λ other another. one starts inputs n other run.0 well is_node fits.ordered.sequence another run.1);
     holds = holds;
   }
 

@@ -1,5 +1,5 @@
 -- What stands in lists, names by their numbers, and the nodes of a well formed program.
-use Rattle.std.proofs.Common.{◌≡◌, ℕ, zero, suc, ◌+◌, ◌<◌, ◌⊎◌, inl, inr, Bool, true, false, cond, ◌||◌, List, [], ◌∷◌, ◌++◌, map, length, get_or, refl, sym, ◌∙◌, ap, subst, arith, Option, Some, IsSome, IsTrue, unwrap_or}
+use Rattle.std.proofs.Common.{◌≡◌, ℕ, zero, suc, ◌+◌, ◌<◌, ◌⊎◌, inl, inr, Bool, true, false, cond, ◌||◌, List, [], ◌∷◌, map, length, get_or, refl, sym, ◌∙◌, ap, subst, arith, Some, IsSome, IsTrue, unwrap_or}
 use Rattle.std.proofs.Common.{None as Nothing}
 use Rattle.std.specs.List.{Contains, flat_map}
 use Rattle.std.specs.Cmp.Lexicographic.{same_text}

@@ -1,5 +1,5 @@
 -- The main node of a program that keeps every rule.
-use Rattle.std.proofs.Common.{◌≡◌, ℕ, ◌<◌, Bool, true, false, cond, List, [], ◌∷◌, map, length, get_or, refl, sym, ◌∙◌, ap, subst, arith, Option, Some, IsTrue, IsSome, is_some, unwrap_or}
+use Rattle.std.proofs.Common.{◌≡◌, ◌<◌, Bool, true, false, cond, List, [], ◌∷◌, map, length, refl, sym, ◌∙◌, ap, subst, arith, Option, Some, IsTrue, IsSome, unwrap_or}
 use Rattle.std.proofs.Common.{None as Nothing}
 use Rattle.std.proofs.lemmas.List.{length-map}
 use Rattle.rv_syntax.specs.declared.tree.Decl.{Decl}
@@ -8,11 +8,10 @@ use Rattle.rv_syntax.specs.Tree.{NodeTree, ProgramTree}
 use Rattle.rv_syntax.specs.Places.{Identifier, is_among}
 use Rattle.rv_types.specs.declared.fault.NameFault.{NameFault}
 use Rattle.rv_types.specs.declared.fault.NameFault.TheVariants.{NotObserver}
-use Rattle.rv_types.specs.declared.typed.Kind.{Kind}
 use Rattle.rv_types.specs.declared.typed.Typed.{Typed}
 use Rattle.rv_types.specs.Names.{texts, node_names}
 use Rattle.rv_types.specs.Kinds.{decl_kinds, node_named}
-use Rattle.rv_types.specs.Scopes.{is_observer, observer_faults}
+use Rattle.rv_types.specs.Scopes.{is_observer}
 use Rattle.rv_types.specs.Settled.{IsSettled, node_number}
 use Rattle.rv_types.specs.Instances.{no_node, node_of, name_at, IsNode}
 use Rattle.rv_run.proofs.Known.{index_there, text_at}

@@ -1,8 +1,8 @@
 -- Where no flow, memory or input of a flat system is an integer, none comes to have one.
-use Rattle.std.proofs.Common.{◌≡◌, ℕ, zero, suc, ◌+◌, ◌<◌, ◌≤◌, ◌⊎◌, inl, inr, ℤ, Bool, true, false, ◌&&◌, not, cond, nat_lt, List, [], ◌∷◌, map, length, get_or, refl, sym, ◌∙◌, ap, subst, arith, Option, Some, slice_get, IsTrue}
+use Rattle.std.proofs.Common.{◌≡◌, ℕ, zero, suc, ◌+◌, ◌<◌, ◌≤◌, inl, inr, ℤ, Bool, true, false, ◌&&◌, not, cond, nat_lt, List, [], ◌∷◌, map, length, get_or, refl, sym, ◌∙◌, ap, subst, arith, Option, Some, slice_get}
 use Rattle.std.proofs.Common.{None as Nothing}
 use Rattle.std.specs.List.{All}
-use Rattle.std.proofs.lemmas.Bool.{cases_lt, cases_eq, ltb-true}
+use Rattle.std.proofs.lemmas.Bool.{cases_lt, ltb-true}
 use Rattle.std.proofs.lemmas.List.{length-map}
 use Rattle.rv_base.specs.declared.value.Place.{Place}
 use Rattle.rv_base.specs.declared.value.Value.{Value}
@@ -21,10 +21,10 @@ use Rattle.rv_flat.specs.declared.flat.Flat.{Flat}
 use Rattle.rv_flat.specs.declared.state.State.{State}
 use Rattle.rv_flat.specs.declared.state.StepFault.{StepFault}
 use Rattle.rv_flat.specs.declared.state.StepFault.TheVariants.{Outgrown}
-use Rattle.rv_flat.specs.FlatTree.{FlatTree, Node, TreeForm, FlatTrees, Constant, Flow, Memory, Ticked, Input, Not, Binary, Scale, If, AtMostOne, None, More, flat_tree}
+use Rattle.rv_flat.specs.FlatTree.{FlatTree, Node, TreeForm, Constant, Flow, Memory, Ticked, Input, Not, Binary, Scale, If, AtMostOne, flat_tree}
 use Rattle.rv_flat.specs.Facts.{Scope, is_of, constant_fits, gives, operands, any_of, fits, form_fits, all_fit, clock_fits, flows_fit, memories_fit, scope_of}
-use Rattle.rv_flat.specs.FlatInstants.{Row, nth, is_on_at, Item, flow_item, memory_item, flow_items, memory_items, nth_item, flat_value, form_flat_value, flat_trues, value_at, IsFlatInstant}
-use Rattle.rv_flat.specs.Steps.{AreValues, memory_kinds, input_kinds, flow_kinds, label_counts, IsState, IsGrown, flow, memory, IsStepFault}
+use Rattle.rv_flat.specs.FlatInstants.{Row, nth, is_on_at, flow_item, memory_item, flow_items, memory_items, nth_item, flat_value, form_flat_value, value_at, IsFlatInstant}
+use Rattle.rv_flat.specs.Steps.{AreValues, memory_kinds, input_kinds, label_counts, IsState, IsGrown, flow, memory, IsStepFault}
 use Rattle.rv_run.specs.Judged.{IsSmallSystem}
 
 -- A value is none of another kind of type: a Boolean is a Boolean, and a label is no integer.

@@ -1,18 +1,17 @@
 -- What a report says of the bytes of a source, and that no other comes.
-use Rattle.std.proofs.Common.{◌≡◌, ◌⊎◌, inl, inr, ℕ, true, false, true≢false, List, refl, sym, ◌∙◌, ap, subst, Some}
+use Rattle.std.proofs.Common.{◌≡◌, ◌⊎◌, inl, inr, ℕ, true, false, true≢false, List, refl, sym, ◌∙◌, ap, subst}
 use Rattle.rv_syntax.specs.Tree.{ProgramTree, program_tree}
 use Rattle.rv_syntax.specs.Places.{Identifier}
 use Rattle.rv_syntax.specs.ProgramText.{IsTextOf}
 use Rattle.rv_types.specs.declared.typed.Typed.{Typed}
 use Rattle.rv_types.specs.Instances.{name_at}
-use Rattle.std.specs.Prelude.{Result, Ok, Err}
 use Rattle.rv_causality.specs.declared.source.Source.{Source}
 use Rattle.rv_causality.specs.declared.source.SourceFault.{SourceFault}
 use Rattle.rv_causality.specs.declared.source.SourceFault.TheVariants.{Text, Names, Cause, Memory as NoMemory}
-use Rattle.rv_causality.specs.Sources.{IsSource, IsSourceOf, IsSourceFault, HasSourceCause, AreSame, Accepts, RefusesSource}
+use Rattle.rv_causality.specs.Sources.{IsSource, IsSourceOf, HasSourceCause, AreSame}
 use Rattle.rv_meaning.specs.Meaning.{held, is_true}
 use Rattle.rv_meaning.specs.Valuations.{HoldsEverywhere}
-use Rattle.rv_run.specs.Answers.{IsOnSource, IsUnlessCutOff, IsRefusalUnlessCutOff}
+use Rattle.rv_run.specs.Answers.{IsOnSource, IsRefusalUnlessCutOff}
 use Rattle.rv_run.specs.Programs.{OnProgram, IsJudged, IsUndecided, IsRefusedFor}
 use Rattle.rv_run.specs.Refusals.{refusal_of}
 use Rattle.rv_run.specs.declared.report.Report.TheVariants.{Safe, Unknown, Refused, Memory}

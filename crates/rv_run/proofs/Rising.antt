@@ -1,12 +1,11 @@
 -- Lists in rising order of places: they are one where they have the same elements, and no place stands twice.
-use Rattle.std.proofs.Common.{◌≡◌, ℕ, zero, suc, ◌+◌, ◌<◌, ◌⊎◌, inl, inr, List, [], ◌∷◌, map, length, get_or, refl, sym, ◌∙◌, ap, subst, arith}
+use Rattle.std.proofs.Common.{◌≡◌, suc, inl, inr, List, [], ◌∷◌, map, length, get_or, refl, sym, ◌∙◌, ap, subst, arith}
 use Rattle.std.specs.List.{Contains}
-use Rattle.std.proofs.lemmas.List.{length-map, get_or-map, get_or_default}
-use Rattle.std.proofs.lemmas.Bool.{cases_lt}
-use Rattle.rv_syntax.specs.Places.{Sites, index_of}
+use Rattle.std.proofs.lemmas.List.{length-map, get_or-map}
+use Rattle.rv_syntax.specs.Places.{Sites}
 use Rattle.rv_types.specs.Needs.{IsBefore}
 use Rattle.rv_types.specs.Lists.{AreRising}
-use Rattle.rv_run.proofs.Known.{cons_cases, nothing_in, index_at}
+use Rattle.rv_run.proofs.Known.{cons_cases, nothing_in}
 
 -- no place stands before itself, and of two at most one before the other
 not_itself : (p : Sites) → IsBefore p p → ⊥
@@ -63,17 +62,3 @@ module _ {X : Type 0} (key : X → Sites) where
         | inl same ↦ absurd (not_itself (key z) (subst (λ (u : X). IsBefore (key u) (key z)) (sym first ∙ same) (after_first y ys z b w)))
         | inr later ↦ later
       ]
-
--- each place is found at its own number
-pub rising_index : (ps : List Sites) (k : ℕ) → AreRising ps → k < length ps → index_of ps (get_or ps k []) ≡ k
-rising_index ps k rising lt =
-    let r = index_at ps (get_or ps k []) (k, lt, get_or_default ps k (get_or ps k []) [] lt) in
-    let within : index_of ps (get_or ps k []) < length ps = r.0 in
-    let same : get_or ps (index_of ps (get_or ps k [])) [] ≡ get_or ps k [] = r.1 in
-    elim (cases_lt (index_of ps (get_or ps k [])) k) [
-      | inl below ↦ absurd (not_itself (get_or ps k []) (subst (λ (p : Sites). IsBefore p (get_or ps k [])) same (rising (index_of ps (get_or ps k [])) k below lt)))
-      | inr above ↦ elim (cases_lt k (index_of ps (get_or ps k []))) [
-        | inl over ↦ absurd (not_itself (get_or ps k []) (subst (IsBefore (get_or ps k [])) same (rising k (index_of ps (get_or ps k [])) over within)))
-        | inr under ↦ omega arith
-      ]
-    ]

@@ -1,5 +1,5 @@
 -- The flows of a node by their sites: their names are different, inputs come first, and then the outputs.
-use Rattle.std.proofs.Common.{◌≡◌, ℕ, zero, suc, ◌+◌, ◌-◌, ◌<◌, inl, inr, List, [], ◌∷◌, ◌++◌, map, length, get_or, refl, sym, ◌∙◌, ap, arith, Option, Some, slice_get}
+use Rattle.std.proofs.Common.{◌≡◌, ℕ, zero, suc, ◌+◌, ◌-◌, ◌<◌, inl, inr, List, [], ◌∷◌, ◌++◌, map, length, get_or, refl, sym, ◌∙◌, ap, arith, Some, slice_get}
 use Rattle.std.specs.List.{Contains}
 use Rattle.std.proofs.lemmas.Bool.{cases_lt}
 use Rattle.std.proofs.lemmas.List.{length-map, length-append, get_or_default, get_or_append_left, get_or-append_right, append_assoc}
@@ -7,9 +7,7 @@ use Rattle.rv_syntax.specs.declared.tree.Decl.{Decl}
 use Rattle.rv_syntax.specs.Tree.{NodeTree, ProgramTree}
 use Rattle.rv_syntax.specs.Places.{Identifier, names, flows, site_of, index_of}
 use Rattle.rv_types.specs.declared.typed.Kind.{Kind}
-use Rattle.rv_types.specs.declared.typed.Clock.{Clock}
 use Rattle.rv_types.specs.declared.typed.Clock.TheVariants.{Base}
-use Rattle.rv_types.specs.Names.{decls}
 use Rattle.rv_types.specs.Kinds.{decl_kinds, flow_kinds, flow_kind, kind_in_program}
 use Rattle.rv_types.specs.Clocks.{base_clock, declared_clock, flow_clocks}
 use Rattle.rv_types.specs.Instances.{clock_of}

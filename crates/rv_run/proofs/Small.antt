@@ -1,5 +1,5 @@
 -- A flat system without integers and with few bits is that of a small program, and the other way round.
-use Rattle.std.proofs.Common.{◌≡◌, ℕ, zero, suc, ◌+◌, ◌*◌, ◌<◌, ◌≤◌, Bool, true, false, List, [], ◌∷◌, ◌++◌, map, length, get_or, refl, sym, ◌∙◌, ap, subst, arith, Option, Some, slice_get}
+use Rattle.std.proofs.Common.{◌≡◌, ℕ, ◌+◌, ◌*◌, ◌<◌, ◌≤◌, Bool, true, false, List, [], ◌∷◌, map, length, get_or, refl, sym, ◌∙◌, ap, subst, arith, Some, slice_get}
 use Rattle.std.specs.List.{All, Contains}
 use Rattle.std.proofs.lemmas.List.{length-map, map-id, get_or-map, get_or_default}
 use Rattle.std.proofs.lemmas.List.Elements.{All-contains}
@@ -21,7 +21,7 @@ use Rattle.rv_flat.specs.declared.flat.Flat.{Flat}
 use Rattle.rv_flat.specs.Lists.{tick_places, variable_of}
 use Rattle.rv_flat.specs.FlatInstants.{places}
 use Rattle.rv_flat.specs.FlatOf.{memory_of, IsFlatOf}
-use Rattle.rv_flat.specs.Steps.{label_counts, memory_kinds, input_kinds}
+use Rattle.rv_flat.specs.Steps.{memory_kinds, input_kinds}
 use Rattle.rv_run.specs.declared.search.Shape.{Shape}
 use Rattle.rv_run.specs.Judged.{control_bits_of, IsSmallSystem}
 use Rattle.rv_run.specs.Spelled.{bits_of_kinds, IsShapeOf, bits_of_shape}
@@ -155,12 +155,9 @@ module _ (p : ProgramTree) (main : Identifier) (f : Flat) (flat : IsFlatOf p mai
   pub memories_are : flat.variables.memories ≡ map memory_of f.memories
   memories_are = same_memories p main flat.variables.memories (map memory_of f.memories) flat.variables.are_memories flat.memories
 
-  -- the ticks of the variables rise
+  -- the ticks are those of the variables
   pub ticks_are : tick_places f.variables ≡ flat.variables.ticks
   ticks_are = all_ticks p flat.variables.ticks flat.variables.memories (decl_kinds p (node_of p main).inputs) flat.variables.comparisons f.variables flat.variables.list
-
-  pub ticks_rising : AreRising (tick_places f.variables)
-  ticks_rising = subst AreRising (sym ticks_are) flat.variables.are_ticks.rising
 
   -- the bits of the shape are those of the control
   pub shape_bits : (s : Shape) → IsShapeOf f s → bits_of_shape s ≡ control_bits_of f.variables

@@ -1,10 +1,10 @@
 -- Numbers as states and inputs: steps of the loops that write them, and that each list of values of its types has one.
-use Rattle.std.proofs.Common.{◌≡◌, ℕ, zero, suc, ◌+◌, ◌-◌, ◌*◌, ◌/◌, ◌%◌, ◌^◌, ◌<◌, ◌≤◌, ◌==◌, Bool, true, false, cond, nat_le, List, [], ◌∷◌, ◌++◌, length, take, drop, set, get_or, refl, sym, ◌∙◌, ap, subst, arith, slice_index_or}
+use Rattle.std.proofs.Common.{◌≡◌, ℕ, zero, suc, ◌+◌, ◌-◌, ◌*◌, ◌/◌, ◌%◌, ◌^◌, ◌<◌, ◌≤◌, ◌==◌, Bool, true, false, cond, nat_le, List, [], ◌∷◌, ◌++◌, length, take, set, refl, sym, ◌∙◌, ap, subst, arith, slice_index_or}
 use Rattle.std.proofs.Math.Nat.{pow-succ', mul-le-mul, mul-le-mul_left, mul-le-mul_right, le-mul_of_pos_right, mul_assoc}
 use Rattle.std.proofs.lemmas.Bool.{leb-true}
 use Rattle.std.proofs.Math.Pow.{pow_mono}
 use Rattle.std.proofs.lemmas.Nat.{pow_pos, pow-add, one_shl, mul-add-lt, div-mul-add, mod-mul-add}
-use Rattle.std.proofs.lemmas.List.{append_assoc, take_more_set, drop_more}
+use Rattle.std.proofs.lemmas.List.{append_assoc, take_more_set}
 use Rattle.rv_base.specs.declared.value.Value.{Value}
 use Rattle.rv_base.specs.declared.value.Value.TheVariants.{Flag, Label, Whole}
 use Rattle.rv_types.specs.declared.typed.Kind.{Kind}

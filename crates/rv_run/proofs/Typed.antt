@@ -1,8 +1,7 @@
 -- The numbers below the number of states and inputs spell all that have their types, and no other.
-use Rattle.std.proofs.Common.{◌≡◌, ℕ, zero, suc, ◌+◌, ◌*◌, ◌%◌, ◌/◌, ◌^◌, ◌<◌, ◌≤◌, ◌==◌, Bool, true, false, cond, nat_lt, List, [], ◌∷◌, map, length, get_or, refl, sym, ◌∙◌, ap, subst, arith, Option, Some, slice_get, IsTrue}
-use Rattle.std.specs.List.{All}
+use Rattle.std.proofs.Common.{◌≡◌, ℕ, zero, suc, ◌*◌, ◌%◌, ◌/◌, ◌^◌, ◌<◌, Bool, true, false, List, [], ◌∷◌, map, length, get_or, refl, sym, ◌∙◌, ap, subst, arith, Some, slice_get}
 use Rattle.std.proofs.lemmas.Bool.{ltb-true, lt-ltb}
-use Rattle.std.proofs.lemmas.Nat.{mod_below, pow_pos}
+use Rattle.std.proofs.lemmas.Nat.{mod_below}
 use Rattle.std.proofs.lemmas.List.{length-map}
 use Rattle.rv_base.specs.declared.value.Value.{Value}
 use Rattle.rv_base.specs.declared.value.Value.TheVariants.{Flag, Label, Whole}
@@ -16,8 +15,8 @@ use Rattle.rv_flat.specs.declared.flat.Flat.{Flat}
 use Rattle.rv_flat.specs.declared.state.State.{State}
 use Rattle.rv_flat.specs.Lists.{tick_places}
 use Rattle.rv_flat.specs.Facts.{constant_fits}
-use Rattle.rv_flat.specs.FlatInstants.{places, tick_clocks}
-use Rattle.rv_flat.specs.Steps.{IsInRange, label_counts, AreValues, memory_kinds, input_kinds, IsState}
+use Rattle.rv_flat.specs.FlatInstants.{places}
+use Rattle.rv_flat.specs.Steps.{IsInRange, label_counts, AreValues, input_kinds, IsState}
 use Rattle.rv_run.specs.declared.search.Shape.{Shape}
 use Rattle.rv_run.specs.Judged.{IsSmallSystem}
 use Rattle.rv_run.specs.Spelled.{bits_of_code, after_bits, size_of, value_of_digit, sizes, values_of_code, after_values, IsShapeOf, codes_of_shape, state_of_code, inputs_of_code}

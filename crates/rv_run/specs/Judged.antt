@@ -1,11 +1,7 @@
 -- What is tested of a flat system to tell whether a source is judged.
-use Rattle.std.specs.Prelude.{◌≡◌, ℕ, ◌≤◌, Bool, true, false, ◌&&◌, List, map, slice_index_or}
-use Rattle.std.specs.Prelude.{None as Nothing}
+use Rattle.std.specs.Prelude.{◌≡◌, ℕ, ◌≤◌, Bool, true, false, List, map}
 use Rattle.std.specs.List.{All}
-use Rattle.rv_syntax.specs.Tree.{Tree, Node, Form, True, False, Number, Named, Not, Minus, Pre, Current, When, Binary, If, AtMostOne, Call, Trees, None, More, NodeTree}
 use Rattle.rv_types.specs.Variables.{is_integer}
-use Rattle.rv_types.specs.Instances.{no_node}
-use Rattle.rv_causality.specs.declared.answer.Instance.{Instance}
 use Rattle.rv_meaning.specs.Valuations.{control_bits}
 use Rattle.rv_flat.specs.declared.parts.Bit.{Bit}
 use Rattle.rv_flat.specs.declared.parts.Bit.TheVariants as bit

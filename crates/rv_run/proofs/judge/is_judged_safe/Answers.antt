@@ -1,8 +1,6 @@
-use Rattle.std.proofs.Common.{◌≡◌, ◌↔◌, ℕ, ◌<◌, true, false, true≢false, All, List, IsTrue, length, map, sym, ap, ◌∙◌, subst}
-use Rattle.std.proofs.lemmas.List.{length-map}
+use Rattle.std.proofs.Common.{true, false, true≢false, sym, ap, ◌∙◌}
 use Rattle.rv_syntax.specs.declared.tree.Node as declared
-use Rattle.rv_syntax.specs.Tree.{program_tree, node_tree}
-use Rattle.rv_causality.specs.declared.answer.Instance.{Instance}
+use Rattle.rv_syntax.specs.Tree.{program_tree}
 use Rattle.rv_types.specs.Instances.{name_at}
 use Rattle.rv_types.specs.Lists.{sites_of}
 use Rattle.rv_run.proofs.Judging.{not_small, few_bits, decided, carried}

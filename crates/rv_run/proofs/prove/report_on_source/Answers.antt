@@ -1,13 +1,11 @@
-use Rattle.std.proofs.Common.{◌≡◌, true, false, inr, sym, ◌∙◌, ap, subst}
+use Rattle.std.proofs.Common.{true, false, inr, sym, ◌∙◌, subst}
 use Rattle.rv_syntax.specs.Tree.{program_tree}
 use Rattle.rv_types.specs.Instances.{name_at}
 use Rattle.rv_types.specs.Lists.{sites_of}
-use Rattle.rv_causality.specs.declared.source.SourceFault.{SourceFault}
 use Rattle.rv_meaning.specs.Runs.{IsSafe}
 use Rattle.rv_meaning.specs.Valuations.{HoldsEverywhere}
 use Rattle.rv_run.specs.Answers.{IsOnSource, IsRefusalUnlessCutOff}
 use Rattle.rv_run.specs.Programs.{WithRuns, IsJudged, IsUndecided}
-use Rattle.rv_run.specs.declared.report.Report.{Report}
 use Rattle.rv_run.proofs.Judging.{safe, with_runs}
 use Rattle.rv_run.proofs.Reported.{refusal-not_safe, refusal-not_unknown, refusal-on_source, refusal-refused, refused_accepted, refused_same, named, told, told_back, opposed}
 use Rattle.rv_run.proofs.Tried.{when_true, when_false}
