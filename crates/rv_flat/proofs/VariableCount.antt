@@ -30,9 +30,9 @@ use Rattle.rv_flat.specs.declared.parts.Bit.{Bit}
 use Rattle.rv_flat.specs.Compared.{is_test, tests, tests_of_all, tests_in_equations, tests_in_assertions, tests_in}
 use Rattle.rv_flat.specs.Lists.{variable_of}
 use Rattle.rv_flat.proofs.Apart.{IsApart, apart_told, apart_by, apart_map, apart_both, apart_left, apart_right, apart_across, apart_flat}
-use Rattle.rv_flat.proofs.ComparedParts.{IsTest, found_test, own_of, own_is, tests_are, all_are, equations_are, assertions_are, node_is, Marked, marks, marks_of_all, marked_comparison, equation_marks, assertion_marks, node_marks, node_seen, marked, all_marked, equations_marked, assertions_marked, node_marked}
+use Rattle.rv_flat.proofs.ComparedParts.{IsTest, found_test, own_of, own_is, tests_are, all_are, equations_are, assertions_are, node_is, Marked, marks, marks_of_all, marked_comparison, equation_marks, assertion_marks, node_marks, node_seen, marked, all_marked, node_marked}
 use Rattle.rv_flat.proofs.ComparedPlaces.{has_sides}
-use Rattle.rv_flat.proofs.CountedVariables.{total_joined, total_flat_map, total_map, total_same, around, still_there, length_copies, length_memories, length_inputs, length_tests, ones, own_clocks, site, same_places, in_places, ticks_few, memories_few, tests_few}
+use Rattle.rv_flat.proofs.CountedVariables.{total_joined, total_flat_map, total_map, total_same, around, still_there, length_copies, length_memories, length_inputs, length_tests, ones, own_clocks, site, ticks_few, memories_few, tests_few}
 use Rattle.rv_flat.proofs.InstanceNumbers.{of_map, snoc}
 use Rattle.rv_flat.proofs.Members.{none_in, at_head, in_tail, head_or_tail, in_map, in_flat_map, from_flat_map}
 use Rattle.rv_flat.proofs.TypedParts.{no_flag, both_hold}
@@ -107,38 +107,39 @@ module _ (p : ProgramTree) (main : Identifier) (sited_calls : AreSited p) (node_
 -- Memories.
 fresh : (n : NodeTree) (seen : List ℕ) (ds : List Delay) (d : Delay) → Contains (memories_beside n seen ds) d → is_in seen (site n d) ≡ false
 fresh n seen [] d w = none_in d w
-fresh n seen (x ∷ ds) d w = by (is_in seen (site n x)) refl w
+fresh n seen (x ∷ ds) d w = by (is_in seen (site n x)) refl (λ s v. fresh n s ds d v) w
   where
-    by : (b : Bool) → is_in seen (site n x) ≡ b → Contains (cond b (memories_beside n seen ds) (x ∷ memories_beside n (site n x ∷ seen) ds)) d → is_in seen (site n d) ≡ false
-    by true e w = fresh n seen ds d w
-    by false e w = elim (head_or_tail x (memories_beside n (site n x ∷ seen) ds) d w) [
+    by : (b : Bool) → is_in seen (site n x) ≡ b → ((s : List ℕ) → Contains (memories_beside n s ds) d → is_in s (site n d) ≡ false)
+        → Contains (cond b (memories_beside n seen ds) (x ∷ memories_beside n (site n x ∷ seen) ds)) d → is_in seen (site n d) ≡ false
+    by true e again w = again seen w
+    by false e again w = elim (head_or_tail x (memories_beside n (site n x ∷ seen) ds) d w) [
       | inl same ↦ subst (λ (y : Delay). is_in seen (site n y) ≡ false) same e
-      | inr rest ↦ (either_false (nat_eq (site n x) (site n d)) (is_in seen (site n d)) (fresh n (site n x ∷ seen) ds d rest)).1
+      | inr rest ↦ (either_false (nat_eq (site n x) (site n d)) (is_in seen (site n d)) (again (site n x ∷ seen) rest)).1
     ]
 
 among : (n : NodeTree) (seen : List ℕ) (ds : List Delay) (d : Delay) → Contains (memories_beside n seen ds) d → Contains ds d
 among n seen [] d w = none_in d w
-among n seen (x ∷ ds) d w = by (is_in seen (site n x)) w
+among n seen (x ∷ ds) d w = by (is_in seen (site n x)) (λ s v. among n s ds d v) w
   where
-    by : (b : Bool) → Contains (cond b (memories_beside n seen ds) (x ∷ memories_beside n (site n x ∷ seen) ds)) d → Contains (x ∷ ds) d
-    by true w = in_tail x ds d (among n seen ds d w)
-    by false w = elim (head_or_tail x (memories_beside n (site n x ∷ seen) ds) d w) [
+    by : (b : Bool) → ((s : List ℕ) → Contains (memories_beside n s ds) d → Contains ds d) → Contains (cond b (memories_beside n seen ds) (x ∷ memories_beside n (site n x ∷ seen) ds)) d → Contains (x ∷ ds) d
+    by true again w = in_tail x ds d (again seen w)
+    by false again w = elim (head_or_tail x (memories_beside n (site n x ∷ seen) ds) d w) [
       | inl same ↦ subst (λ (y : Delay). Contains (y ∷ ds) d) (sym same) (at_head d ds)
-      | inr rest ↦ in_tail x ds d (among n (site n x ∷ seen) ds d rest)
+      | inr rest ↦ in_tail x ds d (again (site n x ∷ seen) rest)
     ]
 
 memories_apart : (n : NodeTree) (seen : List ℕ) (ds : List Delay) → IsApart (site n) (memories_beside n seen ds)
 memories_apart n seen [] = tt
-memories_apart n seen (x ∷ ds) = by (is_in seen (site n x))
+memories_apart n seen (x ∷ ds) = by (is_in seen (site n x)) (λ s. memories_apart n s ds)
   where
     other : (y : Delay) → Contains (memories_beside n (site n x ∷ seen) ds) y → site n x ≡ site n y → ⊥
     other y w e =
         let not : nat_eq (site n x) (site n y) ≡ false = (either_false (nat_eq (site n x) (site n y)) (is_in seen (site n y)) (fresh n (site n x ∷ seen) ds y w)).0 in
         absurd (grind (arith, nat_tests, not, e))
 
-    by : (b : Bool) → IsApart (site n) (cond b (memories_beside n seen ds) (x ∷ memories_beside n (site n x ∷ seen) ds))
-    by true = memories_apart n seen ds
-    by false = (other, memories_apart n (site n x ∷ seen) ds)
+    by : (b : Bool) → ((s : List ℕ) → IsApart (site n) (memories_beside n s ds)) → IsApart (site n) (cond b (memories_beside n seen ds) (x ∷ memories_beside n (site n x ∷ seen) ds))
+    by true again = again seen
+    by false again = (other, again (site n x ∷ seen))
 
 -- Ticks.
 out_of_places : (qs : List Sites) (q : Sites) → is_place_in qs q ≡ false → Contains qs q → ⊥
@@ -156,22 +157,22 @@ out_of_places (r ∷ qs) q e w =
 
 of_different : (qs : List Sites) (q : Sites) → Contains (different qs) q → Contains qs q
 of_different [] q w = none_in q w
-of_different (r ∷ qs) q w = by (is_place_in qs r) w
+of_different (r ∷ qs) q w = by (is_place_in qs r) (λ v. of_different qs q v) w
   where
-    by : (b : Bool) → Contains (cond b (different qs) (r ∷ different qs)) q → Contains (r ∷ qs) q
-    by true w = in_tail r qs q (of_different qs q w)
-    by false w = elim (head_or_tail r (different qs) q w) [
+    by : (b : Bool) → (Contains (different qs) q → Contains qs q) → Contains (cond b (different qs) (r ∷ different qs)) q → Contains (r ∷ qs) q
+    by true again w = in_tail r qs q (again w)
+    by false again w = elim (head_or_tail r (different qs) q w) [
       | inl same ↦ subst (λ (x : Sites). Contains (x ∷ qs) q) (sym same) (at_head q qs)
-      | inr rest ↦ in_tail r qs q (of_different qs q rest)
+      | inr rest ↦ in_tail r qs q (again rest)
     ]
 
 different_apart : (qs : List Sites) → IsApart (λ (q : Sites). q) (different qs)
 different_apart [] = tt
-different_apart (r ∷ qs) = by (is_place_in qs r) refl
+different_apart (r ∷ qs) = by (is_place_in qs r) refl (different_apart qs)
   where
-    by : (b : Bool) → is_place_in qs r ≡ b → IsApart (λ (q : Sites). q) (cond b (different qs) (r ∷ different qs))
-    by true e = different_apart qs
-    by false e = (λ y w same. out_of_places qs r e (subst (λ (x : Sites). Contains qs x) (sym same) (of_different qs y w)), different_apart qs)
+    by : (b : Bool) → is_place_in qs r ≡ b → IsApart (λ (q : Sites). q) (different qs) → IsApart (λ (q : Sites). q) (cond b (different qs) (r ∷ different qs))
+    by true e again = again
+    by false e again = (λ y w same. out_of_places qs r e (subst (λ (x : Sites). Contains qs x) (sym same) (of_different qs y w)), again)
 
 -- what is among the clocks of arrows
 from_arrow : (i : Instance) (es : List Tree) (q : Sites) → Contains (arrow_clocks i es) q → (e : Tree) × Contains es e × (is_arrow e ≡ true) × (clock_in i Base e ≡ Some q)
