@@ -371,15 +371,16 @@ module _ (p : ProgramTree) (main : Identifier) (counted : (i : Instance) → IsI
 -- no enumeration has more labels than the first that is above the limit
 pub few_labels : (ds : List TypeDecl) → first_above 256 (map label_count ds) ≤ 256 → all_few 256 (map (λ d. texts (labels_of d)) ds) ≡ true
 few_labels [] few = refl
-few_labels (d ∷ ds) few = by (nat_lt 256 (label_count d)) refl few
+few_labels (d ∷ ds) few = by (nat_lt 256 (label_count d)) refl few (few_labels ds)
   where
     long : length (texts (labels_of d)) ≡ label_count d
     long = length-map (labels_of d) (λ x. x.text)
 
     by : (b : Bool) → nat_lt 256 (label_count d) ≡ b → cond b (label_count d) (first_above 256 (map label_count ds)) ≤ 256
+        → (first_above 256 (map label_count ds) ≤ 256 → all_few 256 (map (λ d. texts (labels_of d)) ds) ≡ true)
         → (nat_le (length (texts (labels_of d))) 256 && all_few 256 (map (λ d. texts (labels_of d)) ds)) ≡ true
-    by true e le = let above : 256 < label_count d = grind (arith, nat_tests, e) in absurd (omega (arith, above, le))
-    by false e le =
+    by true e le again = let above : 256 < label_count d = grind (arith, nat_tests, e) in absurd (omega (arith, above, le))
+    by false e le again =
         let below : label_count d ≤ 256 = grind (arith, nat_tests, e) in
         let here : nat_le (length (texts (labels_of d))) 256 ≡ true = le-leb (length (texts (labels_of d))) 256 (omega (arith, below, long)) in
-        ap (λ t. t && all_few 256 (map (λ d. texts (labels_of d)) ds)) here ∙ few_labels ds le
+        ap (λ t. t && all_few 256 (map (λ d. texts (labels_of d)) ds)) here ∙ again le

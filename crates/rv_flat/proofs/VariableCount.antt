@@ -30,9 +30,9 @@ use Rattle.rv_flat.specs.declared.parts.Bit.{Bit}
 use Rattle.rv_flat.specs.Compared.{is_test, tests, tests_of_all, tests_in_equations, tests_in_assertions, tests_in}
 use Rattle.rv_flat.specs.Lists.{variable_of}
 use Rattle.rv_flat.proofs.Apart.{IsApart, apart_told, apart_by, apart_map, apart_both, apart_left, apart_right, apart_across, apart_flat}
-use Rattle.rv_flat.proofs.ComparedParts.{IsTest, found_test, own_of, own_is, tests_are, all_are, equations_are, assertions_are, node_is, Marked, marks, marks_of_all, marked_comparison, equation_marks, assertion_marks, node_marks, node_seen, marked, all_marked, equations_marked, assertions_marked, node_marked}
+use Rattle.rv_flat.proofs.ComparedParts.{IsTest, found_test, own_of, own_is, tests_are, all_are, equations_are, assertions_are, node_is, Marked, marks, marks_of_all, marked_comparison, equation_marks, assertion_marks, node_marks, node_seen, marked, all_marked, node_marked}
 use Rattle.rv_flat.proofs.ComparedPlaces.{has_sides}
-use Rattle.rv_flat.proofs.CountedVariables.{total_joined, total_flat_map, total_map, total_same, around, still_there, length_copies, length_memories, length_inputs, length_tests, ones, own_clocks, site, same_places, in_places, ticks_few, memories_few, tests_few}
+use Rattle.rv_flat.proofs.CountedVariables.{total_joined, total_flat_map, total_map, total_same, around, still_there, length_copies, length_memories, length_inputs, length_tests, ones, own_clocks, site, ticks_few, memories_few, tests_few}
 use Rattle.rv_flat.proofs.InstanceNumbers.{of_map, snoc}
 use Rattle.rv_flat.proofs.Members.{none_in, at_head, in_tail, head_or_tail, in_map, in_flat_map, from_flat_map}
 use Rattle.rv_flat.proofs.TypedParts.{no_flag, both_hold}
@@ -82,10 +82,12 @@ module _ (p : ProgramTree) (main : Identifier) (sited_calls : AreSited p) (node_
 
   unrolled_apart : (levels : ℕ) (i : Instance) → IsInstance p main i → IsApart (λ (x : Instance). x.path) (unrolled p levels i)
   unrolled_apart zero i is = tt
-  unrolled_apart (suc levels) i is =
-      (above, apart_flat (λ (c : CallTree). c.site) (λ (x : Instance). x.path) (λ (c : CallTree). unrolled p levels (callee p i c)) (calls i.node)
-      (apart_told (λ (c : CallTree). c.site) (calls i.node) (sited_calls i.node (node_in i is)).apart)
-      (λ c w. unrolled_apart levels (callee p i c) (is_callee c is w)) beside)
+  unrolled_apart (suc levels) i is = (
+    above,
+    apart_flat (λ (c : CallTree). c.site) (λ (x : Instance). x.path) (λ (c : CallTree). unrolled p levels (callee p i c)) (calls i.node)
+        (apart_told (λ (c : CallTree). c.site) (calls i.node) (sited_calls i.node (node_in i is)).apart)
+        (λ c w. unrolled_apart levels (callee p i c) (is_callee c is w)) beside,
+  )
     where
       beside : (c d : CallTree) (a b : Instance) → Contains (calls i.node) c → Contains (calls i.node) d → Contains (unrolled p levels (callee p i c)) a → Contains (unrolled p levels (callee p i d)) b
           → a.path ≡ b.path → c.site ≡ d.site
@@ -107,38 +109,39 @@ module _ (p : ProgramTree) (main : Identifier) (sited_calls : AreSited p) (node_
 -- Memories.
 fresh : (n : NodeTree) (seen : List ℕ) (ds : List Delay) (d : Delay) → Contains (memories_beside n seen ds) d → is_in seen (site n d) ≡ false
 fresh n seen [] d w = none_in d w
-fresh n seen (x ∷ ds) d w = by (is_in seen (site n x)) refl w
+fresh n seen (x ∷ ds) d w = by (is_in seen (site n x)) refl (λ s v. fresh n s ds d v) w
   where
-    by : (b : Bool) → is_in seen (site n x) ≡ b → Contains (cond b (memories_beside n seen ds) (x ∷ memories_beside n (site n x ∷ seen) ds)) d → is_in seen (site n d) ≡ false
-    by true e w = fresh n seen ds d w
-    by false e w = elim (head_or_tail x (memories_beside n (site n x ∷ seen) ds) d w) [
+    by : (b : Bool) → is_in seen (site n x) ≡ b → ((s : List ℕ) → Contains (memories_beside n s ds) d → is_in s (site n d) ≡ false)
+        → Contains (cond b (memories_beside n seen ds) (x ∷ memories_beside n (site n x ∷ seen) ds)) d → is_in seen (site n d) ≡ false
+    by true e again w = again seen w
+    by false e again w = elim (head_or_tail x (memories_beside n (site n x ∷ seen) ds) d w) [
       | inl same ↦ subst (λ (y : Delay). is_in seen (site n y) ≡ false) same e
-      | inr rest ↦ (either_false (nat_eq (site n x) (site n d)) (is_in seen (site n d)) (fresh n (site n x ∷ seen) ds d rest)).1
+      | inr rest ↦ (either_false (nat_eq (site n x) (site n d)) (is_in seen (site n d)) (again (site n x ∷ seen) rest)).1
     ]
 
 among : (n : NodeTree) (seen : List ℕ) (ds : List Delay) (d : Delay) → Contains (memories_beside n seen ds) d → Contains ds d
 among n seen [] d w = none_in d w
-among n seen (x ∷ ds) d w = by (is_in seen (site n x)) w
+among n seen (x ∷ ds) d w = by (is_in seen (site n x)) (λ s v. among n s ds d v) w
   where
-    by : (b : Bool) → Contains (cond b (memories_beside n seen ds) (x ∷ memories_beside n (site n x ∷ seen) ds)) d → Contains (x ∷ ds) d
-    by true w = in_tail x ds d (among n seen ds d w)
-    by false w = elim (head_or_tail x (memories_beside n (site n x ∷ seen) ds) d w) [
+    by : (b : Bool) → ((s : List ℕ) → Contains (memories_beside n s ds) d → Contains ds d) → Contains (cond b (memories_beside n seen ds) (x ∷ memories_beside n (site n x ∷ seen) ds)) d → Contains (x ∷ ds) d
+    by true again w = in_tail x ds d (again seen w)
+    by false again w = elim (head_or_tail x (memories_beside n (site n x ∷ seen) ds) d w) [
       | inl same ↦ subst (λ (y : Delay). Contains (y ∷ ds) d) (sym same) (at_head d ds)
-      | inr rest ↦ in_tail x ds d (among n (site n x ∷ seen) ds d rest)
+      | inr rest ↦ in_tail x ds d (again (site n x ∷ seen) rest)
     ]
 
 memories_apart : (n : NodeTree) (seen : List ℕ) (ds : List Delay) → IsApart (site n) (memories_beside n seen ds)
 memories_apart n seen [] = tt
-memories_apart n seen (x ∷ ds) = by (is_in seen (site n x))
+memories_apart n seen (x ∷ ds) = by (is_in seen (site n x)) (λ s. memories_apart n s ds)
   where
     other : (y : Delay) → Contains (memories_beside n (site n x ∷ seen) ds) y → site n x ≡ site n y → ⊥
     other y w e =
         let not : nat_eq (site n x) (site n y) ≡ false = (either_false (nat_eq (site n x) (site n y)) (is_in seen (site n y)) (fresh n (site n x ∷ seen) ds y w)).0 in
         absurd (grind (arith, nat_tests, not, e))
 
-    by : (b : Bool) → IsApart (site n) (cond b (memories_beside n seen ds) (x ∷ memories_beside n (site n x ∷ seen) ds))
-    by true = memories_apart n seen ds
-    by false = (other, memories_apart n (site n x ∷ seen) ds)
+    by : (b : Bool) → ((s : List ℕ) → IsApart (site n) (memories_beside n s ds)) → IsApart (site n) (cond b (memories_beside n seen ds) (x ∷ memories_beside n (site n x ∷ seen) ds))
+    by true again = again seen
+    by false again = (other, again (site n x ∷ seen))
 
 -- Ticks.
 out_of_places : (qs : List Sites) (q : Sites) → is_place_in qs q ≡ false → Contains qs q → ⊥
@@ -156,22 +159,22 @@ out_of_places (r ∷ qs) q e w =
 
 of_different : (qs : List Sites) (q : Sites) → Contains (different qs) q → Contains qs q
 of_different [] q w = none_in q w
-of_different (r ∷ qs) q w = by (is_place_in qs r) w
+of_different (r ∷ qs) q w = by (is_place_in qs r) (λ v. of_different qs q v) w
   where
-    by : (b : Bool) → Contains (cond b (different qs) (r ∷ different qs)) q → Contains (r ∷ qs) q
-    by true w = in_tail r qs q (of_different qs q w)
-    by false w = elim (head_or_tail r (different qs) q w) [
+    by : (b : Bool) → (Contains (different qs) q → Contains qs q) → Contains (cond b (different qs) (r ∷ different qs)) q → Contains (r ∷ qs) q
+    by true again w = in_tail r qs q (again w)
+    by false again w = elim (head_or_tail r (different qs) q w) [
       | inl same ↦ subst (λ (x : Sites). Contains (x ∷ qs) q) (sym same) (at_head q qs)
-      | inr rest ↦ in_tail r qs q (of_different qs q rest)
+      | inr rest ↦ in_tail r qs q (again rest)
     ]
 
 different_apart : (qs : List Sites) → IsApart (λ (q : Sites). q) (different qs)
 different_apart [] = tt
-different_apart (r ∷ qs) = by (is_place_in qs r) refl
+different_apart (r ∷ qs) = by (is_place_in qs r) refl (different_apart qs)
   where
-    by : (b : Bool) → is_place_in qs r ≡ b → IsApart (λ (q : Sites). q) (cond b (different qs) (r ∷ different qs))
-    by true e = different_apart qs
-    by false e = (λ y w same. out_of_places qs r e (subst (λ (x : Sites). Contains qs x) (sym same) (of_different qs y w)), different_apart qs)
+    by : (b : Bool) → is_place_in qs r ≡ b → IsApart (λ (q : Sites). q) (different qs) → IsApart (λ (q : Sites). q) (cond b (different qs) (r ∷ different qs))
+    by true e again = again
+    by false e again = (λ y w same. out_of_places qs r e (subst (λ (x : Sites). Contains qs x) (sym same) (of_different qs y w)), again)
 
 -- what is among the clocks of arrows
 from_arrow : (i : Instance) (es : List Tree) (q : Sites) → Contains (arrow_clocks i es) q → (e : Tree) × Contains es e × (is_arrow e ≡ true) × (clock_in i Base e ≡ Some q)
@@ -202,16 +205,20 @@ module _ (s : Scope) where
   test_marked : (e : Tree) (t : Tested) → Contains (tests s e) t → (m : Marked) × Contains (marks e) m × (m.at_site.site ≡ Some t.site)
   test_marked e t w =
       let r = from_flat_map (own_of s) (parts e) t (subst (λ (l : List Tested). Contains l t) (tests_are s e) w) in
-      let v = own_is s r.0 t r.2 in
-      (record { at_site = part v.at (Some t.site); operator = t.operator },
-      marked v.at (Some t.site) t.operator v.left v.right v.compares e (subst (λ (x : Tree). Contains (parts e) x) v.is r.1), refl)
+      let v = own_is s r.0 t r.2 in (
+        record { at_site = part v.at (Some t.site); operator = t.operator },
+        marked v.at (Some t.site) t.operator v.left v.right v.compares e (subst (λ (x : Tree). Contains (parts e) x) v.is r.1),
+        refl,
+      )
 
   tests_marked : (es : Trees) (t : Tested) → Contains (tests_of_all s es) t → (m : Marked) × Contains (marks_of_all es) m × (m.at_site.site ≡ Some t.site)
   tests_marked es t w =
       let r = from_flat_map (own_of s) (parts_of_all es) t (subst (λ (l : List Tested). Contains l t) (all_are s es) w) in
-      let v = own_is s r.0 t r.2 in
-      (record { at_site = part v.at (Some t.site); operator = t.operator },
-      all_marked v.at (Some t.site) t.operator v.left v.right v.compares es (subst (λ (x : Tree). Contains (parts_of_all es) x) v.is r.1), refl)
+      let v = own_is s r.0 t r.2 in (
+        record { at_site = part v.at (Some t.site); operator = t.operator },
+        all_marked v.at (Some t.site) t.operator v.left v.right v.compares es (subst (λ (x : Tree). Contains (parts_of_all es) x) v.is r.1),
+        refl,
+      )
 
   -- two lists of comparisons that are marked in lists whose sites are apart
   tests_both : (xs ys : List Tested) (ms ns : List Marked) → IsApart site_of_mark (ms ++ ns)
@@ -404,110 +411,110 @@ module _ (p : ProgramTree) (main : Identifier) (sited_calls : AreSited p) (numbe
     (node_in : (i : Instance) → IsInstance p main i → Contains p.nodes i.node)
     (all : (i : Instance) → IsInstance p main i → Contains (all_instances p main) i) (only : (i : Instance) → Contains (all_instances p main) i → IsInstance p main i)
   where
-  abbrev instances : List Instance
-  instances = all_instances p main
+    abbrev instances : List Instance
+    instances = all_instances p main
 
-  apart : IsApart (λ (x : Instance). x.path) instances
-  apart = instances_apart p main sited_calls node_in
+    apart : IsApart (λ (x : Instance). x.path) instances
+    apart = instances_apart p main sited_calls node_in
 
-  ticks_many : (qs : List Sites) → AreTicks p main qs → length (ticks p main) ≤ length qs
-  ticks_many qs are =
-      let clocks : Instance → List Sites = λ i. arrow_clocks i (node_parts i.node) in
-      let few = sum_once (λ (q : Sites). 1) (λ (q : Sites). q) (ticks p main) qs (different_apart (flat_map clocks instances))
-      (λ q w. let r = from_flat_map clocks instances q (of_different (flat_map clocks instances) q w) in
-      let s = from_arrow r.0 (node_parts r.0.node) q r.2 in
-      are.all r.0 s.0 q (only r.0 r.1) s.1 s.2 s.3) in
-      let a = ones qs in
-      let b = ones (ticks p main) in
-      omega (arith, few, a, b)
+    ticks_many : (qs : List Sites) → AreTicks p main qs → length (ticks p main) ≤ length qs
+    ticks_many qs are =
+        let clocks : Instance → List Sites = λ i. arrow_clocks i (node_parts i.node) in
+        let few = sum_once (λ (q : Sites). 1) (λ (q : Sites). q) (ticks p main) qs (different_apart (flat_map clocks instances))
+        (λ q w. let r = from_flat_map clocks instances q (of_different (flat_map clocks instances) q w) in
+        let s = from_arrow r.0 (node_parts r.0.node) q r.2 in
+        are.all r.0 s.0 q (only r.0 r.1) s.1 s.2 s.3) in
+        let a = ones qs in
+        let b = ones (ticks p main) in
+        omega (arith, few, a, b)
 
-  abbrev memories_of : Instance → List MemoryAt
-  memories_of i = map (memory_at p i) (memories i.node)
+    abbrev memories_of : Instance → List MemoryAt
+    memories_of i = map (memory_at p i) (memories i.node)
 
-  memories_many : (ms : List MemoryAt) → AreMemories p main IsAny ms → over_instances p main (memory_bits p) ≤ total (λ (m : MemoryAt). kind_bits p m.kind) ms
-  memories_many ms are =
-      let f : MemoryAt → ℕ = λ m. kind_bits p m.kind in
-      let each : IsApart (λ (m : MemoryAt). m.place) (flat_map memories_of instances) =
-      apart_flat (λ (x : Instance). x.path) (λ (m : MemoryAt). m.place) memories_of instances apart
-      (λ i w. apart_map (λ (m : MemoryAt). m.place) (memory_at p i) (memories i.node)
-      (apart_by (site i.node) (λ (d : Delay). (memory_at p i d).place) (memories i.node) (λ d e v u same. (snoc i.path i.path (site i.node d) (site i.node e) same).1) (memories_apart i.node [] (node_delays i.node))))
-      (λ i j a b v w in_a in_b same.
-      let x = of_map (memory_at p i) (memories i.node) a in_a in
-      let y = of_map (memory_at p j) (memories j.node) b in_b in
-      (snoc i.path j.path (site i.node x.0) (site j.node y.0) (ap (λ (m : MemoryAt). m.place) x.2 ∙ same ∙ sym (ap (λ (m : MemoryAt). m.place) y.2))).0) in
-      let few = sum_once f (λ (m : MemoryAt). m.place) (flat_map memories_of instances) ms each
-      (λ m w. let r = from_flat_map memories_of instances m w in
-      let x = of_map (memory_at p r.0) (memories r.0.node) m r.2 in
-      subst (λ (m : MemoryAt). Contains ms m) x.2 (are.all r.0 x.0 (only r.0 r.1) tt (among r.0.node [] (node_delays r.0.node) x.0 x.1))) in
-      let a = total_flat_map f memories_of instances in
-      let b = total_same (λ (i : Instance). total f (memories_of i)) (λ (i : Instance). memory_bits p i.node) instances (λ i. total_map f (memory_at p i) (memories i.node)) in
-      omega (arith, few, a, b)
+    memories_many : (ms : List MemoryAt) → AreMemories p main IsAny ms → over_instances p main (memory_bits p) ≤ total (λ (m : MemoryAt). kind_bits p m.kind) ms
+    memories_many ms are =
+        let f : MemoryAt → ℕ = λ m. kind_bits p m.kind in
+        let each : IsApart (λ (m : MemoryAt). m.place) (flat_map memories_of instances) =
+        apart_flat (λ (x : Instance). x.path) (λ (m : MemoryAt). m.place) memories_of instances apart
+        (λ i w. apart_map (λ (m : MemoryAt). m.place) (memory_at p i) (memories i.node)
+        (apart_by (site i.node) (λ (d : Delay). (memory_at p i d).place) (memories i.node) (λ d e v u same. (snoc i.path i.path (site i.node d) (site i.node e) same).1) (memories_apart i.node [] (node_delays i.node))))
+        (λ i j a b v w in_a in_b same.
+        let x = of_map (memory_at p i) (memories i.node) a in_a in
+        let y = of_map (memory_at p j) (memories j.node) b in_b in
+        (snoc i.path j.path (site i.node x.0) (site j.node y.0) (ap (λ (m : MemoryAt). m.place) x.2 ∙ same ∙ sym (ap (λ (m : MemoryAt). m.place) y.2))).0) in
+        let few = sum_once f (λ (m : MemoryAt). m.place) (flat_map memories_of instances) ms each
+        (λ m w. let r = from_flat_map memories_of instances m w in
+        let x = of_map (memory_at p r.0) (memories r.0.node) m r.2 in
+        subst (λ (m : MemoryAt). Contains ms m) x.2 (are.all r.0 x.0 (only r.0 r.1) tt (among r.0.node [] (node_delays r.0.node) x.0 x.1))) in
+        let a = total_flat_map f memories_of instances in
+        let b = total_same (λ (i : Instance). total f (memories_of i)) (λ (i : Instance). memory_bits p i.node) instances (λ i. total_map f (memory_at p i) (memories i.node)) in
+        omega (arith, few, a, b)
 
-  abbrev tests_at : Instance → List ComparisonAt
-  tests_at i = map (compared.compared_at i.path) (tests_in p i.node)
+    abbrev tests_at : Instance → List ComparisonAt
+    tests_at i = map (compared.compared_at i.path) (tests_in p i.node)
 
-  abbrev sides : ComparisonAt → ℕ
-  sides c = length (sides_of c.operator)
+    abbrev sides : ComparisonAt → ℕ
+    sides c = length (sides_of c.operator)
 
-  sides_many : (o : Op) → tests_of o ≤ length (sides_of o)
-  sides_many op.Equal = omega arith
-  sides_many op.Differs = omega arith
-  sides_many op.Less = omega arith
-  sides_many op.AtMost = omega arith
-  sides_many op.Greater = omega arith
-  sides_many op.AtLeast = omega arith
-  sides_many _ = omega arith
+    sides_many : (o : Op) → tests_of o ≤ length (sides_of o)
+    sides_many op.Equal = omega arith
+    sides_many op.Differs = omega arith
+    sides_many op.Less = omega arith
+    sides_many op.AtMost = omega arith
+    sides_many op.Greater = omega arith
+    sides_many op.AtLeast = omega arith
+    sides_many _ = omega arith
 
-  total_less_in : {X : Type 0} (f g : X → ℕ) (xs : List X) → ((x : X) → Contains xs x → f x ≤ g x) → total f xs ≤ total g xs
-  total_less_in f g [] less = omega arith
-  total_less_in f g (x ∷ xs) less =
-      let h = total_less_in f g xs (λ y w. less y (in_tail x xs y w)) in
-      let a = less x (at_head x xs) in
-      omega (arith, h, a)
+    total_less_in : {X : Type 0} (f g : X → ℕ) (xs : List X) → ((x : X) → Contains xs x → f x ≤ g x) → total f xs ≤ total g xs
+    total_less_in f g [] less = omega arith
+    total_less_in f g (x ∷ xs) less =
+        let h = total_less_in f g xs (λ y w. less y (in_tail x xs y w)) in
+        let a = less x (at_head x xs) in
+        omega (arith, h, a)
 
-  tests_many : (cs : List ComparisonAt) → AreComparisons p main cs → over_instances p main (order_tests p) ≤ total sides cs
-  tests_many cs are =
-      let each : IsApart (λ (c : ComparisonAt). c.place) (flat_map tests_at instances) =
-      apart_flat (λ (x : Instance). x.path) (λ (c : ComparisonAt). c.place) tests_at instances apart
-      (λ i w. apart_map (λ (c : ComparisonAt). c.place) (compared.compared_at i.path) (tests_in p i.node)
-      (apart_by (λ (t : Tested). t.site) (λ (t : Tested). i.path ++ t.site ∷ []) (tests_in p i.node) (λ t u v w same. (snoc i.path i.path t.site u.site same).1)
-      (node_tests_apart p i.node (numbered i.node (node_in i (only i w))))))
-      (λ i j a b v w in_a in_b same.
-      let x = of_map (compared.compared_at i.path) (tests_in p i.node) a in_a in
-      let y = of_map (compared.compared_at j.path) (tests_in p j.node) b in_b in
-      (snoc i.path j.path x.0.site y.0.site (ap (λ (c : ComparisonAt). c.place) x.2 ∙ same ∙ sym (ap (λ (c : ComparisonAt). c.place) y.2))).0) in
-      let few = sum_once sides (λ (c : ComparisonAt). c.place) (flat_map tests_at instances) cs each
-      (λ c w. let r = from_flat_map tests_at instances c w in
-      let x = of_map (compared.compared_at r.0.path) (tests_in p r.0.node) c r.2 in
-      let t = found_test p r.0.node x.0 x.1 in
-      let v = t.2 in
-      subst (λ (c : ComparisonAt). Contains cs c) x.2
-      (are.all r.0 t.0 (compared.compared_at r.0.path x.0) (only r.0 r.1) t.1 (v.at, x.0.site, v.left, v.right, v.is, v.integer, has_sides x.0.operator v.compares, refl {a = r.0.path ++ x.0.site ∷ []}))) in
-      let a = total_flat_map sides tests_at instances in
-      let b = total_less_in (λ (i : Instance). order_tests p i.node) (λ (i : Instance). total sides (tests_at i)) instances
-      (λ i w. let c = order_tests_are p i.node (numbered i.node (node_in i (only i w))) in
-      let d = total_map sides (compared.compared_at i.path) (tests_in p i.node) in
-      let e = total_less_in (λ (t : Tested). tests_of t.operator) (λ (t : Tested). length (sides_of t.operator)) (tests_in p i.node) (λ t v. sides_many t.operator) in
-      omega (arith, c, d, e)) in
-      omega (arith, few, a, b)
+    tests_many : (cs : List ComparisonAt) → AreComparisons p main cs → over_instances p main (order_tests p) ≤ total sides cs
+    tests_many cs are =
+        let each : IsApart (λ (c : ComparisonAt). c.place) (flat_map tests_at instances) =
+        apart_flat (λ (x : Instance). x.path) (λ (c : ComparisonAt). c.place) tests_at instances apart
+        (λ i w. apart_map (λ (c : ComparisonAt). c.place) (compared.compared_at i.path) (tests_in p i.node)
+        (apart_by (λ (t : Tested). t.site) (λ (t : Tested). i.path ++ t.site ∷ []) (tests_in p i.node) (λ t u v w same. (snoc i.path i.path t.site u.site same).1)
+        (node_tests_apart p i.node (numbered i.node (node_in i (only i w))))))
+        (λ i j a b v w in_a in_b same.
+        let x = of_map (compared.compared_at i.path) (tests_in p i.node) a in_a in
+        let y = of_map (compared.compared_at j.path) (tests_in p j.node) b in_b in
+        (snoc i.path j.path x.0.site y.0.site (ap (λ (c : ComparisonAt). c.place) x.2 ∙ same ∙ sym (ap (λ (c : ComparisonAt). c.place) y.2))).0) in
+        let few = sum_once sides (λ (c : ComparisonAt). c.place) (flat_map tests_at instances) cs each
+        (λ c w. let r = from_flat_map tests_at instances c w in
+        let x = of_map (compared.compared_at r.0.path) (tests_in p r.0.node) c r.2 in
+        let t = found_test p r.0.node x.0 x.1 in
+        let v = t.2 in
+        subst (λ (c : ComparisonAt). Contains cs c) x.2
+        (are.all r.0 t.0 (compared.compared_at r.0.path x.0) (only r.0 r.1) t.1 (v.at, x.0.site, v.left, v.right, v.is, v.integer, has_sides x.0.operator v.compares, refl {a = r.0.path ++ x.0.site ∷ []}))) in
+        let a = total_flat_map sides tests_at instances in
+        let b = total_less_in (λ (i : Instance). order_tests p i.node) (λ (i : Instance). total sides (tests_at i)) instances
+        (λ i w. let c = order_tests_are p i.node (numbered i.node (node_in i (only i w))) in
+        let d = total_map sides (compared.compared_at i.path) (tests_in p i.node) in
+        let e = total_less_in (λ (t : Tested). tests_of t.operator) (λ (t : Tested). length (sides_of t.operator)) (tests_in p i.node) (λ t v. sides_many t.operator) in
+        omega (arith, c, d, e)) in
+        omega (arith, few, a, b)
 
-  pub counted_variables : (bs : List Bit) → AreVariables p main (map variable_of bs) → length bs ≡ variable_count p main
-  counted_variables bs are =
-      let state = MainTick ∷ map Tick are.ticks ++ memory_variables p are.memories in
-      let given = input_variables p 0 (decl_kinds p (node_of p main).inputs) in
-      let a = sym (length-map bs variable_of) ∙ ap length are.list in
-      let b = length-append (with_copies state) (given ++ test_variables are.comparisons) in
-      let c = length-append given (test_variables are.comparisons) in
-      let d = length_copies state in
-      let e = length-append (map Tick are.ticks) (memory_variables p are.memories) in
-      let f = length-map are.ticks Tick in
-      let g = length_memories p are.memories in
-      let h = length_inputs p 0 (decl_kinds p (node_of p main).inputs) in
-      let i = length_tests are.comparisons in
-      let j = ticks_few p main all are.ticks are.are_ticks in
-      let k = memories_few p main all are.memories are.are_memories in
-      let l = tests_few p main all are.comparisons are.are_comparisons in
-      let x = ticks_many are.ticks are.are_ticks in
-      let y = memories_many are.memories are.are_memories in
-      let z = tests_many are.comparisons are.are_comparisons in
-      omega (arith, a, b, c, d, e, f, g, h, i, j, k, l, x, y, z)
+    pub counted_variables : (bs : List Bit) → AreVariables p main (map variable_of bs) → length bs ≡ variable_count p main
+    counted_variables bs are =
+        let state = MainTick ∷ map Tick are.ticks ++ memory_variables p are.memories in
+        let given = input_variables p 0 (decl_kinds p (node_of p main).inputs) in
+        let a = sym (length-map bs variable_of) ∙ ap length are.list in
+        let b = length-append (with_copies state) (given ++ test_variables are.comparisons) in
+        let c = length-append given (test_variables are.comparisons) in
+        let d = length_copies state in
+        let e = length-append (map Tick are.ticks) (memory_variables p are.memories) in
+        let f = length-map are.ticks Tick in
+        let g = length_memories p are.memories in
+        let h = length_inputs p 0 (decl_kinds p (node_of p main).inputs) in
+        let i = length_tests are.comparisons in
+        let j = ticks_few p main all are.ticks are.are_ticks in
+        let k = memories_few p main all are.memories are.are_memories in
+        let l = tests_few p main all are.comparisons are.are_comparisons in
+        let x = ticks_many are.ticks are.are_ticks in
+        let y = memories_many are.memories are.are_memories in
+        let z = tests_many are.comparisons are.are_comparisons in
+        omega (arith, a, b, c, d, e, f, g, h, i, j, k, l, x, y, z)

@@ -102,11 +102,7 @@ fn tests_at(tested: &[Many<Tested>], node: u32) -> &[Tested]
 }
 
 /// Adds those of an instance.
-fn push_found(
-    path: &Path,
-    tested: &[Tested],
-    found: &mut Many<Comparison>,
-) -> Result<(), Memory>
+fn push_found(path: &Path, tested: &[Tested], found: &mut Many<Comparison>) -> Result<(), Memory>
     ensures { OnOk result (map found_comparison found.new ≡ map found_comparison found.old ++ map (compared_at path.now) tested.now) }
 {
     for one in tested {

@@ -65,8 +65,12 @@ pub fn giver_item(
 {
     match giver {
         Giver::Input(number) => Ok(input_item(*number)),
-        Giver::Body(body) => body_item(alloc, expanded, layout, tables, owns, values, numbering, body),
-        Giver::Output(output) => output_item(alloc, expanded, layout, tables, owns, values, numbering, output),
+        Giver::Body(body) => body_item(
+            alloc, expanded, layout, tables, owns, values, numbering, body,
+        ),
+        Giver::Output(output) => output_item(
+            alloc, expanded, layout, tables, owns, values, numbering, output,
+        ),
     }
 }
 
@@ -247,12 +251,7 @@ pub fn flat_assertion(
 }
 
 /// What is assumed at a place: the second expression, where the first is true.
-fn assumed(
-    at: Place,
-    there: Box<FlatExpr>,
-    body: Box<FlatExpr>,
-    absent: Box<FlatExpr>,
-) -> FlatExpr
+fn assumed(at: Place, there: Box<FlatExpr>, body: Box<FlatExpr>, absent: Box<FlatExpr>) -> FlatExpr
     ensures { flat_tree result ≡ Node at.sites (If (flat_tree there) (flat_tree body) (flat_tree absent)) }
 {
     FlatExpr {

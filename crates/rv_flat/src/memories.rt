@@ -147,12 +147,7 @@ fn push_of_node<'a>(
     ensures { OnOk result (map kept_seen found.new ≡ map kept_seen found.old ++ map (kept_at instance.now.path number) (map read_seen (slice_index_or read.now instance.now.node []))) }
 {
     if let Some(own) = read.get(instance.node as usize) {
-        push_found(
-            number,
-            &instance.path,
-            own.as_slice(),
-            found,
-        )?;
+        push_found(number, &instance.path, own.as_slice(), found)?;
     }
     Ok(())
 }

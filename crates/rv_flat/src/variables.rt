@@ -80,11 +80,7 @@ fn add_ticks(ticks: &[Place], bits: &mut Many<Bit>) -> Result<(), Memory>
 }
 
 /// Adds the bits of memories.
-fn add_memories(
-    types: &[TypeDecl],
-    kept: &[Kept],
-    bits: &mut Many<Bit>,
-) -> Result<(), Memory>
+fn add_memories(types: &[TypeDecl], kept: &[Kept], bits: &mut Many<Bit>) -> Result<(), Memory>
     requires { (k : ℕ) → labels_of_type types.now k ≤ most }
     ensures { OnOk result (map variable_of bits.new ≡ map variable_of bits.old ++ with_copies (kept_variables types.now (map kept_memory kept.now))) }
 {
@@ -235,11 +231,7 @@ fn add_kept_columns(kept: &[Kept], columns: &mut Many<Column>) -> Result<(), Mem
 }
 
 /// Adds that of a memory, where it is of integers.
-fn add_kept_column(
-    place: &Place,
-    kind: Kind,
-    columns: &mut Many<Column>,
-) -> Result<(), Memory>
+fn add_kept_column(place: &Place, kind: Kind, columns: &mut Many<Column>) -> Result<(), Memory>
     ensures { OnOk result (map column_of columns.new ≡ map column_of columns.old ++ own_columns (lists.KeptColumn place.now.sites) kind) }
 {
     match kind {
