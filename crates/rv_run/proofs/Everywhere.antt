@@ -1,5 +1,5 @@
 -- What the search over a flat system says of its program.
-use Rattle.std.proofs.Common.{◌≡◌, ℕ, ◌+◌, ◌<◌, ◌⊎◌, inl, inr, Bool, true, false, List, [], ◌∷◌, ◌++◌, map, length, get_or, refl, sym, ◌∙◌, ap, subst, arith, Option, Some, IsSome, slice_get}
+use Rattle.std.proofs.Common.{◌≡◌, ℕ, ◌<◌, ◌⊎◌, inl, inr, true, false, List, [], ◌∷◌, ◌++◌, map, length, refl, sym, ◌∙◌, ap, subst, arith, Option, Some, IsSome, slice_get}
 use Rattle.std.proofs.Common.{None as Nothing}
 use Rattle.std.proofs.lemmas.List.{length-map, get_or-map}
 use Rattle.rv_base.specs.declared.value.Value.{Value}
@@ -15,7 +15,7 @@ use Rattle.rv_types.specs.WellFormed.{AreWell}
 use Rattle.rv_meaning.specs.Meaning.{held, is_on, is_true, kept_place}
 use Rattle.rv_meaning.specs.Runs.{Instant, cell, observer_place, AreStarts}
 use Rattle.rv_meaning.specs.Instants.{State as Brought, IsInstant, is_on_in, value_now, AllowsAt, AreGiven, observed_in}
-use Rattle.rv_meaning.specs.Valuations.{Valuation, spelled, Spells, IsCoded, HoldsEverywhere, FailsSomewhere, IsControl}
+use Rattle.rv_meaning.specs.Valuations.{Valuation, Spells, IsCoded, HoldsEverywhere, FailsSomewhere, IsControl}
 use Rattle.rv_flat.specs.declared.parts.FlatFlow.{FlatFlow}
 use Rattle.rv_flat.specs.declared.flat.Flat.{Flat}
 use Rattle.rv_flat.specs.declared.state.State.{State}

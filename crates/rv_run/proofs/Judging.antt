@@ -1,5 +1,5 @@
 -- From the tests to whether a source is judged and safe.
-use Rattle.std.proofs.Common.{◌≡◌, inl, inr, ℕ, ◌<◌, ◌≤◌, Bool, true, false, List, length, sym, ap, subst, arith, MatchBool}
+use Rattle.std.proofs.Common.{◌≡◌, inl, inr, ℕ, ◌<◌, ◌≤◌, Bool, true, false, List, length, sym, subst, arith, MatchBool}
 use Rattle.std.specs.Prelude.{Result, Ok, Err, IfOk}
 use Rattle.rv_base.specs.declared.value.Value.{Value}
 use Rattle.rv_syntax.specs.Tree.{ProgramTree}

@@ -1,5 +1,5 @@
 -- What a report says of the bytes of a source, and that no other comes.
-use Rattle.std.proofs.Common.{◌≡◌, ◌⊎◌, inl, inr, ℕ, true, false, true≢false, List, refl, sym, ◌∙◌, ap, subst}
+use Rattle.std.proofs.Common.{◌≡◌, ◌⊎◌, inl, inr, ℕ, true≢false, List, refl, sym, ◌∙◌, ap, subst}
 use Rattle.rv_syntax.specs.Tree.{ProgramTree, program_tree}
 use Rattle.rv_syntax.specs.Places.{Identifier}
 use Rattle.rv_syntax.specs.ProgramText.{IsTextOf}

@@ -1,5 +1,5 @@
 -- Lists in rising order of places: they are one where they have the same elements, and no place stands twice.
-use Rattle.std.proofs.Common.{◌≡◌, suc, inl, inr, List, [], ◌∷◌, map, length, get_or, refl, sym, ◌∙◌, ap, subst, arith}
+use Rattle.std.proofs.Common.{◌≡◌, suc, inl, inr, List, [], ◌∷◌, map, get_or, refl, sym, ◌∙◌, ap, subst, arith}
 use Rattle.std.specs.List.{Contains}
 use Rattle.std.proofs.lemmas.List.{length-map, get_or-map}
 use Rattle.rv_syntax.specs.Places.{Sites}

@@ -1,5 +1,4 @@
-use Rattle.std.proofs.Common.{true, false, true≢false, sym, ap, ◌∙◌}
-use Rattle.rv_syntax.specs.declared.tree.Node as declared
+use Rattle.std.proofs.Common.{true≢false, sym, ◌∙◌}
 use Rattle.rv_syntax.specs.Tree.{program_tree}
 use Rattle.rv_types.specs.Instances.{name_at}
 use Rattle.rv_types.specs.Lists.{sites_of}

@@ -1,4 +1,4 @@
-use Rattle.std.proofs.Common.{true, false, inr, sym, ◌∙◌, subst}
+use Rattle.std.proofs.Common.{inr, sym, ◌∙◌, subst}
 use Rattle.rv_syntax.specs.Tree.{program_tree}
 use Rattle.rv_types.specs.Instances.{name_at}
 use Rattle.rv_types.specs.Lists.{sites_of}
