@@ -8,7 +8,7 @@ ghost use Rattle.rv_base.specs.MemoryFiles as memory_files;
 ghost use Rattle.rv_base.specs.MemorySink as memory_sink;
 ghost use Rattle.rv_meaning.specs.Runs.{IsSafe};
 ghost use Rattle.rv_run.specs.Answers.{OnFile};
-ghost use Rattle.rv_run.specs.Programs.{OnProgram};
+ghost use Rattle.rv_run.specs.Programs.{OnProgram, WithRuns};
 ghost use Rattle.rv_run.specs.Words.{texts};
 
 use crate::outside::{add_bytes, calls_in};
@@ -138,7 +138,7 @@ fn ran_failing(
     outcome_text(alloc, &outcome, out.bytes())
 }
 
-/// Over files in memory Safe means that every run of what they hold is safe, and a fresh sink is given one piece.
+/// Over files in memory Safe means that what they hold has runs, each of which is safe, and a fresh sink is given one piece.
 fn run_in_memory(
     alloc: Global,
     words: &Vec<String>,
@@ -147,7 +147,7 @@ fn run_in_memory(
 ) -> Outcome
     requires { memory_sink.calls_of out.old ≡ 0 }
     ensures safe { result.report ≡ Report.Safe
-        → OnFile (Some (memory_files.held_by files.old)) (texts words.now.items) (OnProgram IsSafe) }
+        → OnFile (Some (memory_files.held_by files.old)) (texts words.now.items) (OnProgram (WithRuns IsSafe)) }
     ensures one_put { (result.sent ≡ Sent.Whole) ⊎ (result.sent ≡ Sent.Failed) → memory_sink.calls_of out.new ≡ 1 }
 {
     run(alloc, words, files, out)
