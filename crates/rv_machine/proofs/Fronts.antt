@@ -1,5 +1,6 @@
 -- What is written of a piece when a writer stops.
-use Rattle.std.proofs.Common.{◌≡◌, ℕ, ◌-◌, ◌≤◌, List, [], ◌++◌, length, take, drop, Option, Some, None, refl, sym, ap, ◌∙◌, subst, arith, append_assoc, append-nil, take-append-drop}
+use Rattle.std.proofs.Common.{◌≡◌, ℕ, ◌-◌, ◌≤◌, List, [], ◌++◌, length, take, drop, Option, Some, None, refl, sym, ap, ◌∙◌, subst, arith}
+use Rattle.std.proofs.Common.{append_assoc, append-nil, take-append-drop}
 use Rattle.std.proofs.lemmas.List.{take_rest, length-append}
 use Rattle.std.proofs.Math.Seq.{take-append_seam}
 use Rattle.std.specs.Io.KnownBytes.{Appends, Keeps}
@@ -23,12 +24,17 @@ pub more_written : (old now new : Option (List ℕ)) (piece rest : List ℕ) (n 
     → IsFront old new piece (take (length rest - n) (drop n rest))
 more_written old now new piece rest n front more = record {
   done = front.done ++ take n rest;
-  split = front.split ∙ ap (λ l. front.done ++ l) (sym (take-append-drop n rest)) ∙ sym (append_assoc front.done (take n rest) (drop n rest)) ∙ ap (λ l. (front.done ++ take n rest) ++ l) (sym (take_rest rest n));
+  split = front.split ∙ ap (λ l. front.done ++ l) (sym (take-append-drop n rest))
+      ∙ sym (append_assoc front.done (take n rest) (drop n rest)) ∙ ap (λ l. (front.done ++ take n rest) ++ l) (sym (take_rest rest n));
   written = Appends-trans old now new front.done (take n rest) front.written more;
 }
 
 pub same_written : (old now new : Option (List ℕ)) (piece rest : List ℕ) → IsFront old now piece rest → Keeps now new → IsFront old new piece rest
-same_written old now new piece rest front kept = record { done = front.done; split = front.split; written = Appends-kept old now new front.done front.written kept }
+same_written old now new piece rest front kept = record {
+  done = front.done;
+  split = front.split;
+  written = Appends-kept old now new front.done front.written kept;
+}
 
 pub all_written : (old now : Option (List ℕ)) (piece rest : List ℕ) → IsFront old now piece rest → rest ≡ [] → Appends old now piece
 all_written old now piece rest front empty =

@@ -101,7 +101,9 @@ module _ (p : ProgramTree) (main : Identifier) (f : Flat) (flat : IsFlatOf p mai
       let allows : AllowsAt p main state row = allowed.1.4 in
       let starts : AreStarts p main state.kept = λ i d inst w. subst (HasKind p (operand_kind p i.node d.operand)) (sym (spells.memories i d inst w)) (coded.memories i d inst w) in
       let given : AreGiven p main inputs = λ j k e. subst (HasKind p k) (sym (spells.given j k e)) (coded.given j k e) in
-      let h = all (flat_state f state) (flat_inputs f inputs) (brought.back state starts (memories_ranged p main f flat well is_node control state.kept starts)) (brought.given inputs given (inputs_ranged p main f flat well is_node control inputs given)) in
+      let h = all (flat_state f state) (flat_inputs f inputs)
+      (brought.back state starts (memories_ranged p main f flat well is_node control state.kept starts))
+      (brought.given inputs given (inputs_ranged p main f flat well is_node control inputs given)) in
       let same = one_row state inputs row h.0 instant h.1 in
       elim h.2 [
         | inl broken ↦

@@ -13,13 +13,15 @@ moved : (sites : List ℕ) (last : ℕ) → flat_map (λ s. 46 ∷ decimal s) (s
 moved [] last = ap (λ bytes. 46 ∷ bytes) (append-nil (decimal last))
 moved (site ∷ sites) last =
     ap (λ bytes. 46 ∷ (decimal site ++ bytes)) (moved sites last)
-    ∙ ap (λ bytes. 46 ∷ bytes) (sym (append_assoc (decimal site) (46 ∷ []) (flat_map pointed sites ++ decimal last)) ∙ sym (append_assoc (pointed site) (flat_map pointed sites) (decimal last)))
+    ∙ ap (λ bytes. 46 ∷ bytes) (sym (append_assoc (decimal site) (46 ∷ []) (flat_map pointed sites ++ decimal last))
+    ∙ sym (append_assoc (pointed site) (flat_map pointed sites) (decimal last)))
 
 pub dotted_last : (front : List ℕ) (last : ℕ) → dotted (front ++ last ∷ []) ≡ flat_map pointed front ++ decimal last
 dotted_last [] last = append-nil (decimal last)
 dotted_last (site ∷ sites) last =
     ap (λ bytes. decimal site ++ bytes) (moved sites last)
-    ∙ sym (append_assoc (decimal site) (46 ∷ []) (flat_map pointed sites ++ decimal last)) ∙ sym (append_assoc (pointed site) (flat_map pointed sites) (decimal last))
+    ∙ sym (append_assoc (decimal site) (46 ∷ []) (flat_map pointed sites ++ decimal last))
+    ∙ sym (append_assoc (pointed site) (flat_map pointed sites) (decimal last))
 
 -- all but the last, each with its point, and then the last
 pub added : (old front sites between now : List ℕ) (last i : ℕ) → sites ≡ front ++ last ∷ [] → length front ≤ i

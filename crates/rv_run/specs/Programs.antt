@@ -19,7 +19,8 @@ pub record OnProgram (P : ProgramTree → Identifier → Type 0) (bytes : List �
 
 -- These start values and inputs have exactly one run of n instants.
 abbrev pub HasOneRun : ProgramTree → Identifier → (Sites → Value) → (ℕ → ℕ → Value) → ℕ → Type 0
-HasOneRun program node starts inputs n = (h : History) × IsRun program node starts inputs n h × ((other : History) → IsRun program node starts inputs n other → other ≡ h)
+HasOneRun program node starts inputs n = (h : History) × IsRun program node starts inputs n h
+    × ((other : History) → IsRun program node starts inputs n other → other ≡ h)
 
 -- P holds, and not for want of runs: the flows stand in an order of evaluation, and all start values and inputs of their
 -- types have exactly one run of each length.

@@ -94,7 +94,8 @@ pub fn run<F: Files, S: Sink>(
 ) -> Outcome
     requires { All (λ word. IsTrue (F.serves files.old (string_bytes word))) words.now.items }
     ensures safe { result.report ≡ Report.Safe → OnFile (F.held files.old) (texts words.now.items) (OnProgram (WithRuns IsSafe)) }
-    ensures safe_everywhere { result.report ≡ Report.Safe → OnFile (F.held files.old) (texts words.now.items) (OnProgram (WithRuns (IsJudged HoldsEverywhere))) }
+    ensures safe_everywhere { result.report ≡ Report.Safe
+        → OnFile (F.held files.old) (texts words.now.items) (OnProgram (WithRuns (IsJudged HoldsEverywhere))) }
     ensures unknown { result.report ≡ Report.Unknown → OnFile (F.held files.old) (texts words.now.items) (OnProgram (WithRuns IsUndecided)) }
     ensures not_too_long { (result.report ≡ Report.Safe) ⊎ (result.report ≡ Report.Unknown)
         → OnFile (F.held files.old) (texts words.now.items) (λ bytes _. length bytes ≤ SOURCE_LIMIT) }

@@ -31,11 +31,13 @@ returns-in-Ok-eq0-clause-front g c =
     let rest = c.loop.rest.now in
     let n = c.in-Ok-eq0.field-0 in
     let bytes = rw c.in-Ok-eq0.is at c.write.ensures.bytes in
-    front_written old new piece (take (length rest - n) (drop n rest)) (more_written old (g.W.Write.contents c.loop.writer) new piece rest n c.loop.invariant bytes)
+    front_written old new piece (take (length rest - n) (drop n rest))
+    (more_written old (g.W.Write.contents c.loop.writer) new piece rest n c.loop.invariant bytes)
 
 pub returns-in-Err-2-clause-front : goal.returns-in-Err-2-clause-front
 returns-in-Err-2-clause-front g c =
-    let front = same_written (g.W.Write.contents c.args.writer.now) (g.W.Write.contents c.loop.writer) (g.W.Write.contents c.write.new.self) c.args.piece.now c.loop.rest.now c.loop.invariant c.in-Err.ensures.bytes in
+    let front = same_written (g.W.Write.contents c.args.writer.now) (g.W.Write.contents c.loop.writer) (g.W.Write.contents c.write.new.self)
+    c.args.piece.now c.loop.rest.now c.loop.invariant c.in-Err.ensures.bytes in
     front_written (g.W.Write.contents c.args.writer.now) (g.W.Write.contents c.write.new.self) c.args.piece.now c.loop.rest.now front
 
 pub returns-clause-front : goal.returns-clause-front

@@ -47,7 +47,8 @@ returns-in-Ok-true-clause-safe_everywhere c = λ _.
     let p = program_tree s.program in
     let main = name_at p s.typed.main in
     told c.args.bytes.now c.args.node.now s c.in-Ok.ensures.found (WithRuns (IsJudged HoldsEverywhere))
-    (with_runs p s.typed s.order c.in-Ok.ensures.found.fits (λ m text settled. c.well_formed_programs.ensures p m s.typed text settled) (IsJudged HoldsEverywhere)
+    (with_runs p s.typed s.order c.in-Ok.ensures.found.fits (λ m text settled. c.well_formed_programs.ensures p m s.typed text settled)
+    (IsJudged HoldsEverywhere)
     (c.one_run.ensures p main (sites_of s.order.sequence)) (c.some_run.ensures p main (sites_of s.order.sequence))
     (when_true c.in-Ok-true.field-0 (IsJudged HoldsEverywhere p main) (IsUndecided p main) c.in-Ok-true.ensures c.in-Ok-true.field-0-test))
 

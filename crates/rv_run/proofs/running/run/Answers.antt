@@ -9,5 +9,6 @@ use Rattle.rv_run.proofs.running.run.Goals as goal
 
 pub returns-clause-only_refused : goal.returns-clause-only_refused
 returns-clause-only_refused g c = λ fault.
-    subst (λ (ws : List (String Global)). IsTold (g.F.Files.held c.args.files.now) (texts ws) (λ bytes node. (length bytes ≤ source_limit) × IsRefusedFor fault bytes node) → IsRefusalUnlessCutOff fault c.report_on-report.result)
+    subst (λ (ws : List (String Global)). IsTold (g.F.Files.held c.args.files.now) (texts ws)
+    (λ bytes node. (length bytes ≤ source_limit) × IsRefusedFor fault bytes node) → IsRefusalUnlessCutOff fault c.report_on-report.result)
     c.as_slice.ensures.value (c.report_on-report.ensures.only_refused fault)
