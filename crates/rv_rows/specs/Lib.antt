@@ -2,3 +2,4 @@ pub mod Rows
 pub mod Multipliers
 pub mod Tight
 pub mod Forms
+pub mod Arithmetic

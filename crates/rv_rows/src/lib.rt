@@ -3,10 +3,12 @@
 
 mod farkas;
 mod forms;
+mod laws;
 mod linear;
 mod sums;
 mod tighten;
 
 pub use farkas::{Multipliers, Weight, proves, refutes};
+pub use laws::{forms_at_points, rows_of_tests, tightened_rows};
 pub use linear::{Form, Row};
 pub use sums::number_at;

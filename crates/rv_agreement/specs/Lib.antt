@@ -1,0 +1,11 @@
+pub mod Trees
+pub mod Evaluation
+pub mod Valuations
+pub mod Agreement
+pub mod Programs
+pub mod Translation
+pub mod ProgramAgreement
+pub mod FlatRuns
+pub mod Examples
+pub mod Kinding
+pub mod Checks
