@@ -293,7 +293,8 @@ module _ (program : ProgramTree) (n : NodeTree) (well : IsWellTyped program n) w
         by (x ∷ []) e = let r = well.body x.text q.right (alone q w (ap texts e)) in typed_true q.right r.0 r.1 k v
         by (x ∷ y ∷ ys) e = several (λ one. let many = ap length e in omega (arith, many, one))
 
-    node_true : (k : Clock) → Contains (node_arrows n) k → IsTrueClock program n k
+    -- so is each clock of the node on which a `->` stands
+    pub node_true : (k : Clock) → Contains (node_arrows n) k → IsTrueClock program n k
     node_true k w =
         elim (Contains-append_cases (flat_map (λ (q : EquationTree). arrows_in n q.right) n.equations) (flat_map (λ (a : AssertionTree). arrows_in n a.body) n.assertions) k w) [
           | inl v ↦ let r = from_flat_map (λ (q : EquationTree). arrows_in n q.right) n.equations k v in right_true r.0 r.1 k r.2

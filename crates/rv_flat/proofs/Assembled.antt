@@ -3,7 +3,7 @@ use Rattle.std.proofs.Common.{◌≡◌, ℕ, zero, suc, ◌+◌, ◌<◌, ◌�
 use Rattle.std.proofs.Common.{None as Nothing}
 use Rattle.std.proofs.Math.Seq.{take-append_seam}
 use Rattle.std.proofs.lemmas.List.{length-map}
-use Rattle.std.proofs.lemmas.Option.{slice_get-map, slice_get-get_or, slice_get_within, get_or_from_slice_get}
+use Rattle.std.proofs.lemmas.Option.{slice_get-map, slice_get-get_or, slice_get_within}
 use Rattle.std.proofs.lemmas.List.Elements.{Contains-get_or}
 use Rattle.std.specs.List.{Contains}
 use Rattle.std.specs.Option.{option_map}
@@ -44,15 +44,16 @@ use Rattle.rv_flat.specs.declared.parts.FlatFlow.{FlatFlow}
 use Rattle.rv_flat.specs.declared.parts.FlatInput.{FlatInput}
 use Rattle.rv_flat.specs.declared.parts.FlatMemory.{FlatMemory}
 use Rattle.rv_flat.specs.Building.{IsFoundOf, IsGiven, AreMade, AreRemembered, AreAsserted, main_given, numbers_of, program_given}
-use Rattle.rv_flat.specs.Facts.{is_of, ticks_known}
-use Rattle.rv_flat.specs.FlatInstants.{no_item, flow_item, memory_item}
-use Rattle.rv_flat.specs.FlatOf.{memory_of, no_assertion}
-use Rattle.rv_flat.specs.FlatTree.{flat_tree}
+use Rattle.rv_agreement.specs.Checks.{is_of}
+use Rattle.rv_agreement.specs.Translation.{Numbers}
+use Rattle.rv_flat.specs.Facts.{ticks_known}
 use Rattle.rv_flat.specs.Frames.{IsNumbering}
 use Rattle.rv_flat.specs.Kept.{kept_memory}
 use Rattle.rv_flat.specs.Lists.{tick_places}
-use Rattle.rv_flat.specs.Readings.{Numbers, IsRead, AreKinds, places_of, memory_places_of, assertion_of, delay_item, giver_item}
+use Rattle.rv_flat.specs.RawTree.{raw_tree}
+use Rattle.rv_flat.specs.Readings.{IsRead, AreKinds, raw_flow, raw_memory, no_raw, raw_giver, raw_delay, assertion_of, no_assumption}
 use Rattle.rv_flat.specs.Readings as readings
+use Rattle.rv_flat.specs.Systems.{places_of, memory_places_of, memory_of}
 use Rattle.rv_flat.proofs.ArrowClocks.{node_comes, arrow_known}
 use Rattle.rv_flat.proofs.FlowKinds.{HasFlow, is_flow, kinds_many, flow_of_site, base_flow}
 use Rattle.rv_flat.proofs.FlowTotals.{laid_is, some_instance}
@@ -62,16 +63,12 @@ use Rattle.rv_flat.proofs.LabelBits.{few_inputs}
 use Rattle.rv_flat.proofs.MadeItems.{HasNumbers}
 use Rattle.rv_flat.proofs.Members.{at_head, in_tail}
 use Rattle.rv_flat.proofs.PlaceNumbers.{same_text, index_at, is_found}
+use Rattle.rv_flat.proofs.Translated.{some_at, mapped_at}
 use Rattle.rv_flat.proofs.TypedParts.{no_flag, same_kinds}
 use Rattle.rv_flat.proofs.WellInstances.{formed, typed}
 use Rattle.rv_flat.proofs.MainNames as main_names
 
 -- Lists.
-
-some_at : {X : Type 0} (xs : List X) (k : ℕ) → k < length xs → (x : X) × (slice_get xs k ≡ Some x)
-some_at [] k lt = absurd (omega (arith, lt))
-some_at (x ∷ xs) zero lt = (x, refl)
-some_at (x ∷ xs) (suc k) lt = some_at xs k (omega (arith, lt))
 
 map_twice : {X Y Z : Type 0} (f : X → Y) (g : Y → Z) (xs : List X) → map g (map f xs) ≡ map (λ x. g (f x)) xs
 map_twice f g [] = refl
@@ -345,8 +342,8 @@ module _ (g : Given) (d : Found) (given : IsGiven g) (found : IsFoundOf g d)
           let r = made.each k f.0 f.1 in (
             r.giver,
             subst (λ qs. Gives p main (get_or qs k []) r.giver) (sym same_flows) r.gives,
-            get_or_from_slice_get (map flow_item flows) k (flow_item f.0) no_item (slice_get-map flow_item flows k ∙ ap (option_map flow_item) f.1)
-                ∙ r.item ∙ ap (λ n. giver_item p n r.giver) (sym same_numbers),
+            mapped_at raw_flow flows k f.0 no_raw f.1
+                ∙ r.item ∙ ap (λ n. raw_giver p n r.giver) (sym same_numbers),
           );
       memory = λ m lt.
           let f = some_at memories m lt in
@@ -355,16 +352,16 @@ module _ (g : Given) (d : Found) (given : IsGiven g) (found : IsFoundOf g d)
             r.d,
             r.is,
             r.there,
-            get_or_from_slice_get (memory_places_of memories) m f.0.place.sites [] (slice_get-map (λ (x : FlatMemory). x.place.sites) memories m ∙ ap (option_map (λ (x : FlatMemory). x.place.sites)) f.1) ∙ r.at,
-            get_or_from_slice_get (map memory_item memories) m (memory_item f.0) no_item (slice_get-map memory_item memories m ∙ ap (option_map memory_item) f.1)
-                ∙ r.item ∙ ap (λ n. delay_item p n r.i r.d) (sym same_numbers),
+            mapped_at (λ (x : FlatMemory). x.place.sites) memories m f.0 [] f.1 ∙ r.at,
+            mapped_at raw_memory memories m f.0 no_raw f.1
+                ∙ r.item ∙ ap (λ n. raw_delay p n r.i r.d) (sym same_numbers),
           );
       asserts = λ i a is there.
           let w = number_at p main g.expanded.now.instances.now given.known.expanded i is in
-          subst (λ n. Contains (map flat_tree assertions) (assertion_of p n i a)) (sym same_numbers) (asserted.all w.0 i a w.1 is (w.1, w.2) there);
+          subst (λ n. Contains (map raw_tree assertions) (assertion_of p n i a)) (sym same_numbers) (asserted.all w.0 i a w.1 is (w.1, w.2) there);
       asserted = λ k lt.
-          let many = length-map assertions flat_tree in
-          let r = asserted.only (get_or (map flat_tree assertions) k no_assertion) (Contains-get_or (map flat_tree assertions) k no_assertion (omega (arith, lt, many))) in
+          let many = length-map assertions raw_tree in
+          let r = asserted.only (get_or (map raw_tree assertions) k no_assumption) (Contains-get_or (map raw_tree assertions) k no_assumption (omega (arith, lt, many))) in
           (r.0, r.1, r.2, r.3, r.4 ∙ ap (λ n. assertion_of p n r.0 r.1) (sym same_numbers));
     }
 

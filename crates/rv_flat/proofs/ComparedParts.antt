@@ -8,7 +8,6 @@ use Rattle.std.proofs.lemmas.List.Concat.{flat_map-append}
 use Rattle.std.proofs.lemmas.List.Elements.{Contains-append_left, Contains-append_right, Contains-append_cases}
 use Rattle.std.specs.List.{Contains}
 use Rattle.rv_syntax.specs.declared.tree.Op.{Op}
-use Rattle.rv_syntax.specs.declared.tree.Op.TheVariants as op
 use Rattle.rv_syntax.specs.Delays.{IsNumbered}
 use Rattle.rv_syntax.specs.Sites.{is_comparison}
 use Rattle.rv_syntax.specs.SitedParts as sited
@@ -123,14 +122,14 @@ module _ (p : ProgramTree) (n : NodeTree) where
       let r = from_flat_map (own_of (node_scope p n)) (node_parts n) t (subst (λ (l : List Tested). Contains l t) node_is w) in
       (r.0, r.1, own_is (node_scope p n) r.0 t r.2)
 
--- What has a site, with its operator.
+-- What has a site, as a whole.
 
 pub record Marked : Type 0 where
   pub at_site : SitedPart
-  pub operator : Op
+  pub whole : Tree
 
-abbrev pub marked_comparison : Op → ℕ → Option ℕ → List Marked
-marked_comparison o at site = cond (is_comparison o) (record { at_site = part at site; operator = o } ∷ []) []
+abbrev pub marked_comparison : Op → ℕ → Option ℕ → Tree → List Marked
+marked_comparison o at site e = cond (is_comparison o) (record { at_site = part at site; whole = e } ∷ []) []
 
 abbrev mutual
   pub marks : Tree → List Marked
@@ -143,13 +142,13 @@ abbrev mutual
   form_marks at site (Named x) = []
   form_marks at site (Not t) = marks t
   form_marks at site (Minus t) = marks t
-  form_marks at site (Pre t) = record { at_site = part at site; operator = op.Arrow } ∷ marks t
-  form_marks at site (Current t) = record { at_site = part at site; operator = op.Arrow } ∷ marks t
+  form_marks at site (Pre t) = record { at_site = part at site; whole = Node at site (Pre t) } ∷ marks t
+  form_marks at site (Current t) = record { at_site = part at site; whole = Node at site (Current t) } ∷ marks t
   form_marks at site (When t c) = marks t
-  form_marks at site (Binary o a b) = marks a ++ (marked_comparison o at site ++ marks b)
+  form_marks at site (Binary o a b) = marks a ++ (marked_comparison o at site (Node at site (Binary o a b)) ++ marks b)
   form_marks at site (If a b c) = marks a ++ (marks b ++ marks c)
   form_marks at site (AtMostOne ts) = marks_of_all ts
-  form_marks at site (Call f ts) = record { at_site = part at site; operator = op.Arrow } ∷ marks_of_all ts
+  form_marks at site (Call f ts) = record { at_site = part at site; whole = Node at site (Call f ts) } ∷ marks_of_all ts
 
   pub marks_of_all : Trees → List Marked
   marks_of_all None = []
@@ -161,7 +160,7 @@ equation_marks (q ∷ qs) = marks q.right ++ equation_marks qs
 
 abbrev pub assertion_marks : List AssertionTree → List Marked
 assertion_marks [] = []
-assertion_marks (a ∷ rest) = record { at_site = part a.at (Some a.site); operator = op.Arrow } ∷ (marks a.body ++ assertion_marks rest)
+assertion_marks (a ∷ rest) = record { at_site = part a.at (Some a.site); whole = a.body } ∷ (marks a.body ++ assertion_marks rest)
 
 abbrev pub node_marks : NodeTree → List Marked
 node_marks n = equation_marks n.equations ++ assertion_marks n.assertions
@@ -172,10 +171,10 @@ parts_seen ms = map (λ (m : Marked). m.at_site) ms
 seen_both : (xs ys : List Marked) → parts_seen (xs ++ ys) ≡ parts_seen xs ++ parts_seen ys
 seen_both xs ys = map-append (λ (m : Marked). m.at_site) xs ys
 
-comparison_seen : (o : Op) (at : ℕ) (site : Option ℕ) → parts_seen (marked_comparison o at site) ≡ sited.comparison o at site
-comparison_seen o at site = tested (is_comparison o)
+comparison_seen : (o : Op) (at : ℕ) (site : Option ℕ) (e : Tree) → parts_seen (marked_comparison o at site e) ≡ sited.comparison o at site
+comparison_seen o at site e = tested (is_comparison o)
   where
-    tested : (b : Bool) → parts_seen (cond b (record { at_site = part at site; operator = o } ∷ []) []) ≡ cond b (part at site ∷ []) []
+    tested : (b : Bool) → parts_seen (cond b (record { at_site = part at site; whole = e } ∷ []) []) ≡ cond b (part at site ∷ []) []
     tested true = refl
     tested false = refl
 
@@ -191,9 +190,10 @@ mutual
   marks_seen (Node at site (Current t)) = ap (λ l. part at site ∷ l) (marks_seen t)
   marks_seen (Node at site (When t c)) = marks_seen t
   marks_seen (Node at site (Binary o a b)) =
-      seen_both (marks a) (marked_comparison o at site ++ marks b)
-      ∙ ap (λ l. parts_seen (marks a) ++ l) (seen_both (marked_comparison o at site) (marks b))
-      ∙ (λ i. marks_seen a i ++ (comparison_seen o at site i ++ marks_seen b i))
+      let own = marked_comparison o at site (Node at site (Binary o a b)) in
+      seen_both (marks a) (own ++ marks b)
+      ∙ ap (λ l. parts_seen (marks a) ++ l) (seen_both own (marks b))
+      ∙ (λ i. marks_seen a i ++ (comparison_seen o at site (Node at site (Binary o a b)) i ++ marks_seen b i))
   marks_seen (Node at site (If a b c)) =
       seen_both (marks a) (marks b ++ marks c)
       ∙ ap (λ l. parts_seen (marks a) ++ l) (seen_both (marks b) (marks c))
@@ -223,14 +223,14 @@ module _ (at : ℕ) (site : Option ℕ) (o : Op) (a b : Tree) (compares : is_com
   it = Node at site (Binary o a b)
 
   abbrev pub its : Marked
-  its = record { at_site = part at site; operator = o }
+  its = record { at_site = part at site; whole = it }
 
   -- the expression itself
   itself : (e : Tree) → e ≡ it → Contains (marks e) its
   itself e is =
       subst (λ t. Contains (marks t) its) (sym is)
-      (Contains-append_right (marks a) (marked_comparison o at site ++ marks b) its
-      (Contains-append_left (marked_comparison o at site) (marks b) its (subst (λ (t : Bool). Contains (cond t (its ∷ []) []) its) (sym compares) (at_head its []))))
+      (Contains-append_right (marks a) (marked_comparison o at site it ++ marks b) its
+      (Contains-append_left (marked_comparison o at site it) (marks b) its (subst (λ (t : Bool). Contains (cond t (its ∷ []) []) its) (sym compares) (at_head its []))))
 
   mutual
     pub marked : (e : Tree) → Contains (parts e) it → Contains (marks e) its
@@ -246,12 +246,12 @@ module _ (at : ℕ) (site : Option ℕ) (o : Op) (a b : Tree) (compares : is_com
     form_marked k s (Named x) w = none_in it w
     form_marked k s (Not t) w = marked t w
     form_marked k s (Minus t) w = marked t w
-    form_marked k s (Pre t) w = in_tail (record { at_site = part k s; operator = op.Arrow }) (marks t) its (marked t w)
-    form_marked k s (Current t) w = in_tail (record { at_site = part k s; operator = op.Arrow }) (marks t) its (marked t w)
+    form_marked k s (Pre t) w = in_tail (record { at_site = part k s; whole = Node k s (Pre t) }) (marks t) its (marked t w)
+    form_marked k s (Current t) w = in_tail (record { at_site = part k s; whole = Node k s (Current t) }) (marks t) its (marked t w)
     form_marked k s (When t c) w = marked t w
     form_marked k s (Binary q c d) w = elim (Contains-append_cases (parts c) (parts d) it w) [
-      | inl left ↦ Contains-append_left (marks c) (marked_comparison q k s ++ marks d) its (marked c left)
-      | inr right ↦ Contains-append_right (marks c) (marked_comparison q k s ++ marks d) its (Contains-append_right (marked_comparison q k s) (marks d) its (marked d right))
+      | inl left ↦ Contains-append_left (marks c) (marked_comparison q k s (Node k s (Binary q c d)) ++ marks d) its (marked c left)
+      | inr right ↦ Contains-append_right (marks c) (marked_comparison q k s (Node k s (Binary q c d)) ++ marks d) its (Contains-append_right (marked_comparison q k s (Node k s (Binary q c d))) (marks d) its (marked d right))
     ]
     form_marked k s (If c d e) w = elim (Contains-append_cases (parts c) (parts d ++ parts e) it w) [
       | inl first ↦ Contains-append_left (marks c) (marks d ++ marks e) its (marked c first)
@@ -261,7 +261,7 @@ module _ (at : ℕ) (site : Option ℕ) (o : Op) (a b : Tree) (compares : is_com
       ])
     ]
     form_marked k s (AtMostOne ts) w = all_marked ts w
-    form_marked k s (Call f ts) w = in_tail (record { at_site = part k s; operator = op.Arrow }) (marks_of_all ts) its (all_marked ts w)
+    form_marked k s (Call f ts) w = in_tail (record { at_site = part k s; whole = Node k s (Call f ts) }) (marks_of_all ts) its (all_marked ts w)
 
     pub all_marked : (ts : Trees) → Contains (parts_of_all ts) it → Contains (marks_of_all ts) its
     all_marked None w = none_in it w
@@ -280,7 +280,7 @@ module _ (at : ℕ) (site : Option ℕ) (o : Op) (a b : Tree) (compares : is_com
   assertions_marked : (xs : List AssertionTree) → Contains (flat_map (λ (x : AssertionTree). parts x.body) xs) it → Contains (assertion_marks xs) its
   assertions_marked [] w = none_in it w
   assertions_marked (x ∷ xs) w =
-      in_tail (record { at_site = part x.at (Some x.site); operator = op.Arrow }) (marks x.body ++ assertion_marks xs) its
+      in_tail (record { at_site = part x.at (Some x.site); whole = x.body }) (marks x.body ++ assertion_marks xs) its
       (elim (Contains-append_cases (parts x.body) (flat_map (λ (x : AssertionTree). parts x.body) xs) it w) [
         | inl here ↦ Contains-append_left (marks x.body) (assertion_marks xs) its (marked x.body here)
         | inr rest ↦ Contains-append_right (marks x.body) (assertion_marks xs) its (assertions_marked xs rest)
@@ -311,9 +311,15 @@ module _ (n : NodeTree) (numbered : IsNumbered n) where
         ]
       ]
 
-  -- comparisons with one site have one operator
+  -- comparisons with one site are one
+  pub one_tree : (j k : ℕ) (s : ℕ) (o q : Op) (a b c d : Tree) → Contains (node_parts n) (Node j (Some s) (Binary o a b)) → Contains (node_parts n) (Node k (Some s) (Binary q c d))
+      → is_comparison o ≡ true → is_comparison q ≡ true → Node j (Some s) (Binary o a b) ≡ Node k (Some s) (Binary q c d)
+  one_tree j k s o q a b c d w v is are =
+      ap (λ (m : Marked). m.whole)
+      (one_mark (record { at_site = part j (Some s); whole = Node j (Some s) (Binary o a b) }) (record { at_site = part k (Some s); whole = Node k (Some s) (Binary q c d) })
+      (node_marked j (Some s) o a b is n w) (node_marked k (Some s) q c d are n v) refl)
+
+  -- so they have one operator
   pub one_operator : (j k : ℕ) (s : ℕ) (o q : Op) (a b c d : Tree) → Contains (node_parts n) (Node j (Some s) (Binary o a b)) → Contains (node_parts n) (Node k (Some s) (Binary q c d))
       → is_comparison o ≡ true → is_comparison q ≡ true → o ≡ q
-  one_operator j k s o q a b c d w v is are =
-      ap (λ (m : Marked). m.operator)
-      (one_mark (record { at_site = part j (Some s); operator = o }) (record { at_site = part k (Some s); operator = q }) (node_marked j (Some s) o a b is n w) (node_marked k (Some s) q c d are n v) refl)
+  one_operator j k s o q a b c d w v is are = let e = one_tree j k s o q a b c d w v is are in cc

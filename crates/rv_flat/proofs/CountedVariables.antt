@@ -26,8 +26,8 @@ use Rattle.rv_causality.specs.Sizes.{first_above, integer_memories}
 use Rattle.rv_flat.specs.declared.parts.Bit.{Bit}
 use Rattle.rv_flat.specs.declared.parts.FlatMemory.{FlatMemory}
 use Rattle.rv_flat.specs.Facts.{all_few, integers}
-use Rattle.rv_flat.specs.FlatOf.{memory_of}
 use Rattle.rv_flat.specs.Lists.{variable_of}
+use Rattle.rv_flat.specs.Systems.{memory_of}
 use Rattle.rv_flat.proofs.Earliest.{not_itself}
 use Rattle.rv_flat.proofs.Members.{none_in, at_head, in_tail, head_or_tail, in_map, in_flat_map}
 use Rattle.rv_flat.proofs.TypedParts.{no_flag, both_hold}

@@ -1,10 +1,10 @@
 -- What the `pre` and `current` of all instances read, sorted by places, are the memories of the program.
-use Rattle.std.proofs.Common.{◌≡◌, ◌⊎◌, inl, inr, ℕ, ◌<◌, Bool, true, false, cond, List, [], ◌∷◌, ◌++◌, map, length, get_or, refl, sym, ◌∙◌, ap, subst, arith, unwrap_or, Option, Some}
+use Rattle.std.proofs.Common.{◌≡◌, ℕ, List, [], ◌∷◌, map, length, get_or, refl, sym, ◌∙◌, ap, subst}
 use Rattle.std.proofs.Common.{None as Nothing}
 use Rattle.std.specs.List.{Contains}
-use Rattle.rv_syntax.specs.Tree.{Tree, Node, Named, NodeTree, ProgramTree}
-use Rattle.rv_syntax.specs.Places.{Identifier, flows, site_of, is_flow, memory_site}
-use Rattle.rv_syntax.specs.Delays.{Delay, node_delays, IsNumbered}
+use Rattle.rv_syntax.specs.Tree.{Node, Named, ProgramTree}
+use Rattle.rv_syntax.specs.Places.{Identifier}
+use Rattle.rv_syntax.specs.Delays.{Delay, node_delays}
 use Rattle.rv_types.specs.declared.typed.Kind.{Kind}
 use Rattle.rv_types.specs.Instances.{Instance, no_node, IsInstance}
 use Rattle.rv_types.specs.Lists.{AreRising, MemoryAt, memory_at, memory_places, delay_place}
@@ -18,74 +18,9 @@ use Rattle.rv_flat.specs.declared.kept.Kept.{Kept}
 use Rattle.rv_flat.specs.Kept.{kept_memory, AreKept}
 use Rattle.rv_flat.specs.NodeReaders.{lists_to, AreSortedBy}
 use Rattle.rv_flat.specs.Remembered.{read_by, reads_in, KeptAt, kept_seen, kept_at, kept_in}
-use Rattle.rv_flat.proofs.InstanceNumbers.{in_lists, from_lists, made_of, of_map, snoc, node_in, instance_at, number_at, path_is, node_is, same_instance}
+use Rattle.rv_flat.proofs.InstanceNumbers.{in_lists, from_lists, made_of, of_map, is_node, instance_at, number_at, path_is, node_is}
 use Rattle.rv_flat.proofs.Members.{in_map}
-use Rattle.rv_flat.proofs.PlaceNumbers.{index_at}
-
--- Memories of one node.
-
--- the operand is a flow of this name
-abbrev pub IsName : NodeTree → Tree → Identifier → Type 0
-IsName n e x = (at : ℕ) × (s : Option ℕ) × (e ≡ Node at s (Named x)) × (is_flow n x ≡ true)
-
--- a memory has the site of its flow or its own
-memory_of_either : (n : NodeTree) (site : Option ℕ) (e : Tree) → ((x : Identifier) × IsName n e x × (memory_site n site e ≡ site_of n x)) ⊎ (memory_site n site e ≡ unwrap_or site 0)
-memory_of_either n site (Node at s (Named x)) = tested (is_flow n x) refl
-  where
-    tested : (b : Bool) → is_flow n x ≡ b → ((y : Identifier) × IsName n (Node at s (Named x)) y × (cond b (site_of n x) (unwrap_or site 0) ≡ site_of n y)) ⊎ (cond b (site_of n x) (unwrap_or site 0) ≡ unwrap_or site 0)
-    tested true is = inl (x, (at, s, refl, is), refl)
-    tested false is = inr refl
-memory_of_either n site (Node at s _) = inr refl
-
--- the type of a flow's name
-named_kind : ProgramTree → NodeTree → Identifier → Kind
-named_kind p n x = operand_kind p n (Node 0 Nothing (Named x))
-
-module _ (p : ProgramTree) (n : NodeTree) (is_numbered : IsNumbered n) where
-  -- the site of a flow is one of the first
-  flow_site : (x : Identifier) → is_flow n x ≡ true → site_of n x < length (flows n)
-  flow_site x is = (index_at (flows n) x is).0
-
-  -- and that of no other
-  same_flow_site : (x y : Identifier) → is_flow n x ≡ true → is_flow n y ≡ true → site_of n x ≡ site_of n y → x ≡ y
-  same_flow_site x y a b e = sym (index_at (flows n) x a).1 ∙ ap (λ k. get_or (flows n) k []) e ∙ (index_at (flows n) y b).1
-
-  -- no memory with a site of its own has that of a flow
-  own_beyond : (d : Delay) → Contains (node_delays n) d → (x : Identifier) → is_flow n x ≡ true → site_of n x ≡ unwrap_or d.site 0 → ⊥
-  own_beyond d w x is e =
-      let s = is_numbered.beyond d w in
-      let low = flow_site x is in
-      let own : unwrap_or d.site 0 ≡ s.0 = ap (λ o. unwrap_or o 0) s.1 in
-      omega (arith, s.2, low, own, e)
-
-  -- a site of its own belongs to one memory
-  same_own : (d e : Delay) → Contains (node_delays n) d → Contains (node_delays n) e → unwrap_or d.site 0 ≡ unwrap_or e.site 0 → d ≡ e
-  same_own d e w v is =
-      let s = is_numbered.beyond d w in
-      let r = is_numbered.beyond e v in
-      let same : s.0 ≡ r.0 = sym (ap (λ o. unwrap_or o 0) s.1) ∙ is ∙ ap (λ o. unwrap_or o 0) r.1 in
-      is_numbered.own d e w v (s.1 ∙ ap (λ k. Some k) same ∙ sym r.1)
-
-  -- an operand that is a flow has the type of its name
-  is_named : (d : Delay) (x : Identifier) → IsName n d.operand x → operand_kind p n d.operand ≡ named_kind p n x
-  unfolding named_kind
-  is_named d x w = ap (operand_kind p n) w.2
-
-  -- what one memory remembers has one type
-  same_kind : (d e : Delay) → Contains (node_delays n) d → Contains (node_delays n) e → memory_site n d.site d.operand ≡ memory_site n e.site e.operand
-      → operand_kind p n d.operand ≡ operand_kind p n e.operand
-  same_kind d e w v is = elim (memory_of_either n d.site d.operand) [
-    | inl a ↦ elim (memory_of_either n e.site e.operand) [
-      | inl b ↦
-          let x : a.0 ≡ b.0 = same_flow_site a.0 b.0 a.1.3 b.1.3 (sym a.2 ∙ is ∙ b.2) in
-          is_named d a.0 a.1 ∙ ap (named_kind p n) x ∙ sym (is_named e b.0 b.1)
-      | inr b ↦ absurd (own_beyond e v a.0 a.1.3 (sym a.2 ∙ is ∙ b))
-    ]
-    | inr a ↦ elim (memory_of_either n e.site e.operand) [
-      | inl b ↦ absurd (own_beyond d w b.0 b.1.3 (sym b.2 ∙ sym is ∙ a))
-      | inr b ↦ ap (λ (d : Delay). operand_kind p n d.operand) (same_own d e w v (sym a ∙ is ∙ b))
-    ]
-  ]
+use Rattle.rv_flat.proofs.OnePlace.{one_of_place}
 
 -- the places of memories, as they are found
 pub kept_places : (ks : List Kept) → memory_places (map kept_memory ks) ≡ map (λ (k : Kept). k.place.sites) ks
@@ -106,12 +41,10 @@ module _ (p : ProgramTree) (main : Identifier) (instances : List Numbered) (know
   one_memory : (i j : Instance) (d e : Delay) → IsInstance p main i → IsInstance p main j → Contains (node_delays i.node) d → Contains (node_delays j.node) e
       → delay_place i d ≡ delay_place j e → memory_at p i d ≡ memory_at p j e
   one_memory i j d e a b w v same =
-      let r = snoc i.path j.path (memory_site i.node d.site d.operand) (memory_site j.node e.site e.operand) same in
-      let one = same_instance p main instances known i j a b r.0 in
-      let within : Contains (node_delays j.node) d = subst (λ (i : Instance). Contains (node_delays i.node) d) one w in
-      let site : memory_site j.node d.site d.operand ≡ memory_site j.node e.site e.operand = ap (λ (i : Instance). memory_site i.node d.site d.operand) (sym one) ∙ r.1 in
-      let kind = same_kind p j.node (known.well.numbered j.node (node_in p main instances known j b)) d e within v site in
-      ap (λ (i : Instance). memory_at p i d) one ∙ (λ k. record { place = j.path ++ site k ∷ []; kind = kind k })
+      let kind =
+      one_of_place p main known.well (is_node p main instances known) Kind (λ i d. operand_kind p i.node d.operand) (λ i x. operand_kind p i.node (Node 0 Nothing (Named x))) (λ i d x is. ap (operand_kind p i.node) is.2)
+      i j d e a b w v same in
+      λ k. record { place = same k; kind = kind k }
 
   -- what an instance reads
   abbrev own : ℕ → List KeptAt

@@ -27,7 +27,7 @@ use Rattle.rv_types.specs.Types.{kind_in, same_kind, both_are, one_of, binary_ru
 use Rattle.rv_types.specs.Scopes.{value_kind, constant_kind, constant_value}
 use Rattle.rv_types.specs.Values.{HasKind, labels_at}
 use Rattle.rv_types.specs.WellFormed.{AreWell}
-use Rattle.rv_flat.specs.Facts.{Scope, enumerations, kinds, any_of, constant_fits}
+use Rattle.rv_agreement.specs.Checks.{enumerations, all_kinds, any_of, constant_fits}
 use Rattle.rv_flat.proofs.TypedParts.{met_kind, IsTyped, minus_typed, not_typed, pre_typed, current_typed, when_typed, binary_typed, if_typed, most_typed, call_typed}
 use Rattle.rv_flat.proofs.FlowKinds.{signature_is}
 
@@ -169,16 +169,16 @@ among_enumerations test (suc i) (suc n) from lt e =
     or_true true = refl
     or_true false = refl
 
-pub among_kinds : (s : Scope) (test : Kind → Bool) (k : Kind) → IsBelow (length s.labels) k → test k ≡ true → any_of test (kinds s) ≡ true
-among_kinds s test kind.Bool h e = ap (λ b. b || (test kind.Int || any_of test (enumerations 0 (length s.labels)))) e
-among_kinds s test kind.Int h e = ap (λ b. test kind.Bool || (b || any_of test (enumerations 0 (length s.labels)))) e ∙ or_true (test kind.Bool)
+pub among_kinds : (labels : List ℕ) (test : Kind → Bool) (k : Kind) → IsBelow (length labels) k → test k ≡ true → any_of test (all_kinds labels) ≡ true
+among_kinds labels test kind.Bool h e = ap (λ b. b || (test kind.Int || any_of test (enumerations 0 (length labels)))) e
+among_kinds labels test kind.Int h e = ap (λ b. test kind.Bool || (b || any_of test (enumerations 0 (length labels)))) e ∙ or_true (test kind.Bool)
   where
     or_true : (b : Bool) → (b || true) ≡ true
     or_true true = refl
     or_true false = refl
-among_kinds s test (kind.Labels i) h e =
+among_kinds labels test (kind.Labels i) h e =
     let same : 0 + i ≡ i = omega arith in
-    ap (λ b. test kind.Bool || (test kind.Int || b)) (among_enumerations test i (length s.labels) 0 h (ap (λ m. test (kind.Labels m)) same ∙ e))
+    ap (λ b. test kind.Bool || (test kind.Int || b)) (among_enumerations test i (length labels) 0 h (ap (λ m. test (kind.Labels m)) same ∙ e))
     ∙ both (test kind.Bool) (test kind.Int)
   where
     both : (a b : Bool) → (a || (b || true)) ≡ true

@@ -22,7 +22,7 @@ use Rattle.rv_causality.specs.Layouts.{all_places, path_at}
 use Rattle.rv_flat.specs.declared.given.Given.{Given}
 use Rattle.rv_flat.specs.declared.parts.FlatFlow.{FlatFlow}
 use Rattle.rv_flat.specs.Building.{IsGiven, IsMade, kind_at, program_given, main_given}
-use Rattle.rv_flat.specs.Readings.{Numbers}
+use Rattle.rv_agreement.specs.Translation.{Numbers}
 use Rattle.rv_flat.proofs.FlowKinds.{kinds_many}
 use Rattle.rv_flat.proofs.InstanceNumbers.{snoc, instance_at, path_is, node_is, same_instance}
 use Rattle.rv_flat.proofs.PlaceNumbers.{is_found, index_at}

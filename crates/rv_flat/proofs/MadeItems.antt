@@ -25,12 +25,13 @@ use Rattle.rv_causality.specs.Layouts.{IsHere, IsLayout, IsNumberOf, all_places,
 use Rattle.rv_causality.specs.NumberedNeeds.{IsReader, clock_number as number_of_clock, node_read, numbers_of, site_in}
 use Rattle.rv_causality.specs.Weights.{AreLight}
 use Rattle.rv_flat.specs.declared.frame.Frame.{Frame}
-use Rattle.rv_flat.specs.FlatTree.{FlatTree, Node, Constant, Flow, If}
+use Rattle.rv_flat.specs.RawTree.{RawTree, Node, Constant, Flow, If}
 use Rattle.rv_flat.specs.Frames.{IsFrame, IsNumbering}
 use Rattle.rv_flat.specs.NodeReaders.{scope_by}
-use Rattle.rv_flat.specs.Readings.{Numbers, unplaced, presence, clock_number, flow_at, flat_of, giver_item, delay_item, assertion_of}
+use Rattle.rv_flat.specs.Readings.{unplaced, presence, flow_at, raw_of, raw_giver, raw_delay, assertion_of}
+use Rattle.rv_agreement.specs.Translation.{Numbers, clock_number}
 use Rattle.rv_flat.specs.Tables.{path_read, flow_read, clock_read, clock_of_read}
-use Rattle.rv_flat.proofs.ReadFits.{some_is}
+use Rattle.rv_flat.proofs.TypedParts.{some_is}
 use Rattle.rv_flat.proofs.ReadItems.{is_frame, giver_clock, body_given, output_given}
 use Rattle.rv_flat.proofs.ReadTables.{is_node, path_is, clock_read_is, own_clock_is, output_is}
 use Rattle.rv_flat.proofs.Standing.{stands_in, operand_stands, as_assertion}
@@ -63,11 +64,11 @@ module _ (law : HasNumbers) (numbers : Numbers) (x : Frame) (known : IsKnown x.e
     here i of number = law p main instances x.reader.layout.now x.reader.instance i known.expanded layout of number
 
     -- what is made of an expression
-    abbrev pub IsMadeOf : Tree → FlatTree → Type 0
-    IsMadeOf e made = (numbers : Numbers) (i : Instance) → IsFrame numbers i x → AreTicks p main numbers.ticks → Contains (node_parts i.node) e → IsSome (kind_of (node_scope p i.node) e) → made ≡ flat_of p numbers i e
+    abbrev pub IsMadeOf : Tree → RawTree → Type 0
+    IsMadeOf e made = (numbers : Numbers) (i : Instance) → IsFrame numbers i x → AreTicks p main numbers.ticks → Contains (node_parts i.node) e → IsSome (kind_of (node_scope p i.node) e) → made ≡ raw_of p numbers i e
 
-    pub body_made : (b : BodyOf) (q : Sites) (g : Giver) (clock : Option ℕ) (body : FlatTree) → x.reader.instance ≡ b.instance → Gives p main q g → StandsFor p instances (told.Body b) g
-        → clock ≡ clock_read x (number_of_clock (numbers_of x.reader) b.clock) → IsMadeOf (tree_of b.body.now) body → (record { clock = clock; body = body }) ≡ giver_item p numbers g
+    pub body_made : (b : BodyOf) (q : Sites) (g : Giver) (clock : Option ℕ) (body : RawTree) → x.reader.instance ≡ b.instance → Gives p main q g → StandsFor p instances (told.Body b) g
+        → clock ≡ clock_read x (number_of_clock (numbers_of x.reader) b.clock) → IsMadeOf (tree_of b.body.now) body → (record { clock = clock; body = body }) ≡ raw_giver p numbers g
     body_made b q (Given j) clock body same gives stands clocked made = absurd stands
     body_made b q (Of i k (Output c j)) clock body same gives stands clocked made = absurd stands
     body_made b q (Of i k (Body e)) clock body same gives stands clocked made =
@@ -78,14 +79,14 @@ module _ (law : HasNumbers) (numbers : Numbers) (x : Frame) (known : IsKnown x.e
         let clock_is : clock ≡ clock_number numbers (absolute i k) = clocked ∙ ap (λ c. clock_read x (number_of_clock (numbers_of x.reader) c)) stands.1 ∙ clock_read_is numbers i x f (here i g.0 number) k g.1 in
         let own : clock_number numbers (absolute i k) ≡ clock_number numbers (absolute i _) = ap (λ c. clock_number numbers (absolute i c)) (sym r.clock) in
         let t : tree_of b.body.now ≡ e = stands.2 in
-        let body_is : body ≡ flat_of p numbers i e =
-        made numbers i f ticks (subst (Contains (node_parts i.node)) (sym t) r.part) (subst (λ u. IsSome (kind_of (node_scope p i.node) u)) (sym t) r.some) ∙ ap (flat_of p numbers i) t in
+        let body_is : body ≡ raw_of p numbers i e =
+        made numbers i f ticks (subst (Contains (node_parts i.node)) (sym t) r.part) (subst (λ u. IsSome (kind_of (node_scope p i.node) u)) (sym t) r.some) ∙ ap (raw_of p numbers i) t in
         λ j. record { clock = (clock_is ∙ own) j; body = body_is j }
 
-    pub output_made : (o : OutputOf) (q : Sites) (g : Giver) (clock : Option ℕ) (body : FlatTree) → x.reader.instance ≡ o.instance → Gives p main q g → StandsFor p instances (told.Output o) g
+    pub output_made : (o : OutputOf) (q : Sites) (g : Giver) (clock : Option ℕ) (body : RawTree) → x.reader.instance ≡ o.instance → Gives p main q g → StandsFor p instances (told.Output o) g
         → clock ≡ clock_read x (number_of_clock (numbers_of x.reader) o.clock)
         → body ≡ unplaced (Flow (flow_read x ((numbers_of x.reader).output (site_in (tree_of o.call.now)) + o.output)))
-        → (record { clock = clock; body = body }) ≡ giver_item p numbers g
+        → (record { clock = clock; body = body }) ≡ raw_giver p numbers g
     output_made o q (Given j) clock body same gives stands clocked made = absurd stands
     output_made o q (Of i k (Body e)) clock body same gives stands clocked made = absurd stands
     output_made o q (Of i k (Output c j)) clock body same gives stands clocked made =
@@ -102,18 +103,18 @@ module _ (law : HasNumbers) (numbers : Numbers) (x : Frame) (known : IsKnown x.e
         made ∙ (λ t. unplaced (Flow (flow t))) in
         λ t. record { clock = (clock_is ∙ own) t; body = body_is t }
 
-    pub delay_made : (i : Instance) (d : Delay) (e : Tree) (clock : Option ℕ) (body : FlatTree) → IsInstance p main i → IsNumberOf p instances x.reader.instance i → Contains (node_delays i.node) d → e ≡ d.operand
-        → clock ≡ clock_read x (clock_of_read x e) → IsMadeOf e body → (record { clock = clock; body = body }) ≡ delay_item p numbers i d
+    pub delay_made : (i : Instance) (d : Delay) (e : Tree) (clock : Option ℕ) (body : RawTree) → IsInstance p main i → IsNumberOf p instances x.reader.instance i → Contains (node_delays i.node) d → e ≡ d.operand
+        → clock ≡ clock_read x (clock_of_read x e) → IsMadeOf e body → (record { clock = clock; body = body }) ≡ raw_delay p numbers i d
     delay_made i d e clock body of number w same clocked made =
         let t = some_is ((typed p main known.expanded.well (is_node p main known.expanded.declared) i of).delay d w) in
         let f = frame i of number in
         let clock_is : clock ≡ clock_number numbers (clock_in i Base d.operand) = clocked ∙ ap (λ u. clock_read x (clock_of_read x u)) same ∙ own_clock_is numbers i x f (here i of number) d.operand t.0 t.1 in
-        let body_is : body ≡ flat_of p numbers i d.operand =
+        let body_is : body ≡ raw_of p numbers i d.operand =
         made numbers i f ticks (subst (Contains (node_parts i.node)) (sym same) (stands_in i.node d.operand (operand_stands i.node d w))) (subst (λ u. IsSome (kind_of (node_scope p i.node) u)) (sym same) (subst IsSome (sym t.1) refl))
-        ∙ ap (flat_of p numbers i) same in
+        ∙ ap (raw_of p numbers i) same in
         λ j. record { clock = clock_is j; body = body_is j }
 
-    pub assertion_made : (i : Instance) (a : AssertionTree) (clock : Option ℕ) (body made : FlatTree) → IsInstance p main i → IsNumberOf p instances x.reader.instance i → Contains i.node.assertions a
+    pub assertion_made : (i : Instance) (a : AssertionTree) (clock : Option ℕ) (body made : RawTree) → IsInstance p main i → IsNumberOf p instances x.reader.instance i → Contains i.node.assertions a
         → clock ≡ clock_read x (clock_of_read x a.body) → IsMadeOf a.body body
         → made ≡ Node (path_read x ++ a.site ∷ []) (If (unplaced (presence clock)) body (unplaced (Constant (Flag true))))
         → made ≡ assertion_of p numbers i a
@@ -122,6 +123,6 @@ module _ (law : HasNumbers) (numbers : Numbers) (x : Frame) (known : IsKnown x.e
         let f = frame i of number in
         let h = here i of number in
         let clock_is : clock ≡ clock_number numbers (clock_in i Base a.body) = clocked ∙ own_clock_is numbers i x f h a.body kind.Bool t in
-        let body_is : body ≡ flat_of p numbers i a.body = is numbers i f ticks (stands_in i.node a.body (as_assertion a w)) (subst IsSome (sym t) refl) in
+        let body_is : body ≡ raw_of p numbers i a.body = is numbers i f ticks (stands_in i.node a.body (as_assertion a w)) (subst IsSome (sym t) refl) in
         let q = path_is numbers i x f h in
         made_is ∙ (λ j. Node (q j ++ a.site ∷ []) (If (unplaced (presence (clock_is j))) (body_is j) (unplaced (Constant (Flag true)))))

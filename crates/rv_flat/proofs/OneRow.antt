@@ -2,32 +2,45 @@
 use Rattle.std.proofs.Common.{◌≡◌, ℕ, zero, suc, ◌+◌, ◌<◌, ◌≤◌, cond, List, [], ◌∷◌, ◌++◌, length, refl, sym, ◌∙◌, subst, arith, length-append, inl, inr}
 use Rattle.std.proofs.Common.{Option, None as Nothing, Some}
 use Rattle.std.proofs.lemmas.List.{get_or_append_left, get_or_push, ext_get_or}
+use Rattle.std.proofs.Math.ListN.{length-map}
 use Rattle.std.proofs.Math.Nat.{eq-or-lt_of_le}
 use Rattle.rv_base.specs.declared.value.Value.{Value}
+use Rattle.rv_agreement.specs.Agreement.{IsNamed}
+use Rattle.rv_agreement.specs.Trees.{Item, System}
 use Rattle.rv_flat.specs.declared.flat.Flat.{Flat}
 use Rattle.rv_flat.specs.declared.state.State.{State}
-use Rattle.rv_flat.specs.FlatInstants.{Row, nth, Item, is_on_at, flow_items, nth_item, value_at, IsFlatInstant}
-use Rattle.rv_flat.specs.Facts.{Scope, scope_of}
+use Rattle.rv_flat.specs.FlatInstants.{Row, nth, is_on_at, found_at, flow_items, nth_item, system_of, value_at, IsFlatInstant}
 use Rattle.rv_flat.specs.Filling.{IsFilled}
+use Rattle.rv_flat.specs.Systems.{flow_item}
+use Rattle.rv_flat.specs.Tame.{IsOver}
+use Rattle.rv_flat.proofs.NamedTicks.{clock_named, over, same_there, same_value}
 use Rattle.rv_flat.proofs.Tested.{ItemFits, flow_fits}
-use Rattle.rv_flat.proofs.NamedTicks.{same_value, same_clock}
 
 -- what a flow has, or that it is absent
 abbrev pub item_value : State → List Value → Row → Item → Option Value
 item_value now inputs row x = cond (is_on_at row x.clock) (Some (value_at now inputs row x.body)) Nothing
 
+-- an item is over the first flows, its clock too
+abbrev pub IsItemOver : ℕ → Item → Type 0
+IsItemOver n x = IsNamed n x.clock × IsOver n x.body
+
+pub item_over : (s : System) (n : ℕ) (x : Item) → ItemFits s n x → IsItemOver n x
+item_over s n x fit = (clock_named s n x.clock fit.clock, over s n x.clock fit.kind x.body fit.body)
+
 -- an item has the same in two rows that agree on the flows that it is over
-pub same_item : (s : Scope) (now : State) (inputs : List Value) (row other : Row) (n : ℕ) (x : Item) → ItemFits s n x → ((k : ℕ) → k < n → nth row k ≡ nth other k)
+pub same_item : (now : State) (inputs : List Value) (row other : Row) (n : ℕ) (x : Item) → IsItemOver n x → ((k : ℕ) → k < n → nth row k ≡ nth other k)
     → item_value now inputs row x ≡ item_value now inputs other x
-same_item s now inputs row other n x fit agree =
-    λ i. cond (same_clock s now.ticked now.kept inputs row other n agree x.clock fit.clock i) (Some (same_value s now.ticked now.kept inputs row other n agree fit.kind x.body fit.body i)) Nothing
+same_item now inputs row other n x is agree =
+    λ i. cond (same_there (found_at now inputs) row other n agree x.clock is.0 i) (Some (same_value (found_at now inputs) row other n agree x.body is.1 i)) Nothing
 
 module _ (f : Flat) (now : State) (inputs : List Value) where
-  abbrev scope : Scope
-  scope = scope_of f.flows f.memories f.inputs f.variables f.labels
+  pub fits_kth : (k : ℕ) → k < length f.flows → ItemFits (system_of f) k (nth_item (flow_items f) k)
+  fits_kth k lt =
+      subst (λ n. ItemFits (system_of f) n (nth_item (flow_items f) k)) (let e : 0 + k ≡ k = omega arith in e)
+      (flow_fits (system_of f) 0 (flow_items f) k f.flows_fit (omega (arith, length-map f.flows (flow_item f.memories))))
 
-  pub fits_kth : (k : ℕ) → k < length f.flows → ItemFits (scope_of f.flows f.memories f.inputs f.variables f.labels) k (nth_item (flow_items f) k)
-  fits_kth k lt = subst (λ n. ItemFits scope n (nth_item (flow_items f) k)) (let e : 0 + k ≡ k = omega arith in e) (flow_fits scope 0 f.flows k f.flows_fit lt)
+  pub over_kth : (k : ℕ) → k < length f.flows → IsItemOver k (nth_item (flow_items f) k)
+  over_kth k lt = item_over (system_of f) k (nth_item (flow_items f) k) (fits_kth k lt)
 
   pub none_filled : IsFilled f now inputs 0 []
   none_filled = record { flows = refl; holds = λ k lt. absurd (omega arith) }
@@ -42,9 +55,9 @@ module _ (f : Flat) (now : State) (inputs : List Value) where
         holds = λ k less. elim (eq-or-lt_of_le {n = k} {m = n} (omega arith)) [
           | inl at_end ↦ subst (λ j. nth (row ++ value ∷ []) j ≡ item_value now inputs (row ++ value ∷ []) (nth_item (flow_items f) j)) (sym at_end)
               (get_or_push row value Nothing n filled.flows ∙ is
-              ∙ same_item scope now inputs row (row ++ value ∷ []) n (nth_item (flow_items f) n) (fits_kth n lt) agree)
+              ∙ same_item now inputs row (row ++ value ∷ []) n (nth_item (flow_items f) n) (over_kth n lt) agree)
           | inr below ↦ sym (agree k below) ∙ filled.holds k below
-              ∙ same_item scope now inputs row (row ++ value ∷ []) k (nth_item (flow_items f) k) (fits_kth k (omega arith)) (λ j less. agree j (omega arith))
+              ∙ same_item now inputs row (row ++ value ∷ []) k (nth_item (flow_items f) k) (over_kth k (omega arith)) (λ j less. agree j (omega arith))
         ];
       }
 
@@ -70,7 +83,7 @@ module _ (f : Flat) (now : State) (inputs : List Value) where
       let before = first_agree row other a b n (omega arith) in
       elim (eq-or-lt_of_le {n = k} {m = n} (omega arith)) [
         | inl same ↦ subst (λ j. nth row j ≡ nth other j) (sym same)
-            (a.holds n (omega arith) ∙ same_item scope now inputs row other n (nth_item (flow_items f) n) (fits_kth n (omega arith)) before ∙ sym (b.holds n (omega arith)))
+            (a.holds n (omega arith) ∙ same_item now inputs row other n (nth_item (flow_items f) n) (over_kth n (omega arith)) before ∙ sym (b.holds n (omega arith)))
         | inr below ↦ before k below
       ]
 

@@ -12,10 +12,9 @@ use Rattle.rv_types.specs.declared.typed.Kind.{Kind}
 use Rattle.rv_meaning.specs.Meaning.{is_true}
 use Rattle.rv_flat.specs.declared.flat.Flat.{Flat}
 use Rattle.rv_flat.specs.declared.state.State.{State}
-use Rattle.rv_flat.specs.FlatTree.{flat_tree}
-use Rattle.rv_flat.specs.FlatInstants.{Row, nth, is_on_at, nth_item, memory_items, memory_places, tick_clocks, value_at, IsFlatNext}
+use Rattle.rv_flat.specs.FlatInstants.{Row, nth, is_on_at, nth_item, memory_items, memory_places, assertion_trees, tick_clocks, value_at, IsFlatNext}
 use Rattle.rv_flat.specs.FlatOf.{no_assertion, IsFlatBroken}
-use Rattle.rv_flat.specs.Facts.{constant_fits}
+use Rattle.rv_agreement.specs.Checks.{constant_fits}
 use Rattle.rv_flat.specs.Steps.{IsWithin, IsInRange, label_counts, memory_kinds, IsState, IsGrown, flow, memory, AreTaken, IsLeastOf}
 use Rattle.rv_flat.specs.Earliest.{IsPicked}
 use Rattle.rv_flat.specs.Filling.{IsKept, ticks_from, is_broken}
@@ -77,7 +76,7 @@ module _ (f : Flat) (now : State) (inputs : List Value) (row : Row) where
   pub broken_places : (p : Option Place) → IsLeastOf (IsPicked (is_broken f now inputs row) (map (λ e. e.at.sites) f.assertions) (length f.assertions)) p → IsLeastOf (IsFlatBroken f now inputs row) p
   broken_places p least =
       least_same (IsPicked (is_broken f now inputs row) (map (λ e. e.at.sites) f.assertions) (length f.assertions)) (IsFlatBroken f now inputs row) p
-      (λ q w. (w.0, w.1, sym w.3, no_truth (is_true (value_at now inputs row (get_or (map flat_tree f.assertions) w.0 no_assertion))) w.2))
+      (λ q w. (w.0, w.1, sym w.3, no_truth (is_true (value_at now inputs row (get_or (assertion_trees f) w.0 no_assertion))) w.2))
       (λ q w. (w.0, w.1, ap not w.3, sym w.2))
       least
 

@@ -33,7 +33,7 @@ use Rattle.rv_causality.specs.Weights.{AreLight}
 use Rattle.rv_flat.specs.declared.frame.Frame.{Frame}
 use Rattle.rv_flat.specs.Frames.{IsFrame, IsNumbering}
 use Rattle.rv_flat.specs.NodeReaders.{scope_by}
-use Rattle.rv_flat.specs.Readings.{Numbers}
+use Rattle.rv_agreement.specs.Translation.{Numbers}
 use Rattle.rv_flat.proofs.PlaceNumbers.{same_text}
 use Rattle.rv_flat.proofs.Standing.{stands_in, body_stands, argument_stands, output_call}
 use Rattle.rv_flat.proofs.TypedParts.{no_flag}

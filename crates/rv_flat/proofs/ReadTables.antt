@@ -1,10 +1,9 @@
 -- What is made of an expression by the tables of a frame is the flat expression of the program.
-use Rattle.std.proofs.Common.{◌≡◌, ℕ, suc, ◌+◌, ◌<◌, min, Bool, true, false, ◌||◌, cond, negsuc, pos, List, [], ◌∷◌, map, length, refl, sym, ◌∙◌, ap, subst, arith, length-append, unwrap_or, Option, Some, IsSome}
+use Rattle.std.proofs.Common.{◌≡◌, ℕ, suc, ◌+◌, ◌<◌, min, Bool, true, false, ◌||◌, cond, negsuc, List, [], ◌∷◌, map, length, refl, sym, ◌∙◌, ap, subst, arith, length-append, unwrap_or, Option, Some, IsSome}
 use Rattle.std.proofs.Common.{None as Nothing}
 use Rattle.std.proofs.lemmas.List.{length-map}
 use Rattle.std.proofs.lemmas.Option.{none-some, slice_get_within}
 use Rattle.std.specs.List.{Contains}
-use Rattle.rv_base.specs.declared.value.Value.TheVariants.{Flag, Whole}
 use Rattle.rv_syntax.specs.declared.tree.Op.{Op}
 use Rattle.rv_syntax.specs.declared.tree.Op.TheVariants as op
 use Rattle.rv_syntax.specs.declared.tree.Expr.{Expr}
@@ -19,7 +18,7 @@ use Rattle.rv_types.specs.declared.typed.Clock.TheVariants.{Base, On}
 use Rattle.rv_types.specs.declared.fault.Verdict.TheVariants.{Has, Clashes, Multiplies}
 use Rattle.rv_types.specs.declared.weighing.Weighed.{Weighed}
 use Rattle.rv_types.specs.Clocks.{pace}
-use Rattle.rv_types.specs.Kinds.{decl_kinds, flow_kinds, kind_in_program}
+use Rattle.rv_types.specs.Kinds.{decl_kinds, flow_kind, flow_kinds, kind_in_program}
 use Rattle.rv_types.specs.Types.{kind_in, kind_of, both_are, binary_rule, is_constant}
 use Rattle.rv_types.specs.Constants.{whole_in, value_of, weight_of}
 use Rattle.rv_types.specs.ConstantParts.{constant_part}
@@ -35,24 +34,24 @@ use Rattle.rv_causality.specs.Callees.{callee_in}
 use Rattle.rv_causality.specs.Callings.{names_of}
 use Rattle.rv_causality.specs.Expanded.{program_of, main_of}
 use Rattle.rv_causality.specs.Layouts.{Here, IsPlaced, IsClockPlaced, IsHere, all_places}
-use Rattle.rv_causality.specs.NumberedNeeds.{clock_number as number_of_clock, clock_of_expression, numbers_of}
+use Rattle.rv_causality.specs.NumberedNeeds.{flow_number, clock_number as number_of_clock, clock_of_expression, numbers_of}
 use Rattle.rv_flat.specs.declared.frame.Frame.{Frame}
-use Rattle.rv_flat.specs.FlatTree.{FlatTree, Node, TreeForm, Constant, Flow, Memory, Ticked, Not, Binary, Scale, If, AtMostOne, More, flat_trees}
-use Rattle.rv_flat.specs.Compared.{is_test}
+use Rattle.rv_flat.specs.RawTree.{RawTree, Node, RawForm, Constant, Flow, Memory, Ticked, Not, Binary, Scale, If, AtMostOne, When, Current, More, raw_trees}
+use Rattle.rv_agreement.specs.Programs.{is_test, spot, operator_place, coefficient}
 use Rattle.rv_flat.specs.Frames.{IsFrame}
-use Rattle.rv_flat.specs.Readings.{Numbers, clock_number, tick_number, spot, unplaced, operator_place, presence, product, operator, flow_at, kept_at, named, coefficient, flat_of, flat_form, flats_of}
-use Rattle.rv_flat.specs.Tables.{product_read, path_read, operator_place_read, flow_read, clock_read, tick_read, clock_of_read, kept_read, named_read, constant_read, output_read, tree_read, form_read, trees_read}
-use Rattle.rv_flat.proofs.Standing.{Stands, as_child, of_not, of_minus, of_current, of_when, of_left, of_right, of_condition, of_first, of_second, of_operand, own_delay, own_current, own_call, stands_in}
+use Rattle.rv_flat.specs.Readings.{unplaced, product, operator, flow_at, kept_number, named, raw_of, raw_form, raws_of}
+use Rattle.rv_agreement.specs.Translation.{Numbers, clock_number, tick_number}
+use Rattle.rv_flat.specs.Tables.{product_read, path_read, operator_place_read, flow_read, clock_read, tick_read, clock_of_read, kept_read, flow_named, named_read, constant_read, output_read, tree_read, form_read, trees_read}
+use Rattle.rv_flat.proofs.Standing.{Stands, as_child, of_not, of_minus, of_when, of_left, of_right, of_condition, of_first, of_second, of_operand, own_delay, own_current, own_call, stands_in}
 use Rattle.rv_flat.proofs.PartsStand.{standing, calling, part_is}
-use Rattle.rv_flat.proofs.TypedParts.{no_flag, IsTyped, not_typed, minus_typed, current_typed, when_typed, binary_typed, if_typed, most_typed, call_typed}
-use Rattle.rv_flat.proofs.PlaceNumbers.{index_at}
+use Rattle.rv_flat.proofs.TypedParts.{some_is, no_flag, IsTyped, not_typed, minus_typed, when_typed, binary_typed, if_typed, most_typed, call_typed}
+use Rattle.rv_flat.proofs.PlaceNumbers.{index_at, index_past}
 use Rattle.rv_flat.proofs.WellInstances.{typed}
 use Rattle.rv_flat.proofs.ClockKinds.{IsTrueClock, clock_taken, pace_is_true}
 use Rattle.rv_flat.proofs.FlowKinds.{kinds_many, signature_is}
-use Rattle.rv_flat.proofs.ReadFits.{some_is}
 
 -- the expressions of a list, each made flat
-pub each_read : (x : Frame) (es : List Expr) → flat_trees (map (λ e. tree_read x (tree_of e)) es) ≡ trees_read x (trees (map tree_of es))
+pub each_read : (x : Frame) (es : List Expr) → raw_trees (map (λ e. tree_read x (tree_of e)) es) ≡ trees_read x (trees (map tree_of es))
 each_read x [] = refl
 each_read x (e ∷ es) = ap (More (tree_read x (tree_of e))) (each_read x es)
 
@@ -70,12 +69,12 @@ scaled_product true true k e = refl
 scaled_product true false k e = absurd (none-some k e)
 scaled_product false scaled k e = absurd (none-some k e)
 
-product_is : (b c : Bool) (v w : Weighed) (f g : FlatTree) → (b || c) ≡ true → product_read (cond b (Some v) Nothing) (cond c (Some w) Nothing) f g ≡ product b (whole_in v.value) (whole_in w.value) f g
+product_is : (b c : Bool) (v w : Weighed) (f g : RawTree) → (b || c) ≡ true → product_read (cond b (Some v) Nothing) (cond c (Some w) Nothing) f g ≡ product b (whole_in v.value) (whole_in w.value) f g
 product_is true c v w f g e = refl
 product_is false true v w f g e = refl
 product_is false false v w f g e = no_flag e
 
-operator_is : (o : Op) (c d m n : TreeForm) (f g u v : FlatTree) → (o ≡ op.Arrow → c ≡ d) → (o ≡ op.Times → m ≡ n) → f ≡ u → g ≡ v → operator o c m f g ≡ operator o d n u v
+operator_is : (o : Op) (c d m n : RawForm) (f g u v : RawTree) → (o ≡ op.Arrow → c ≡ d) → (o ≡ op.Times → m ≡ n) → f ≡ u → g ≡ v → operator o c m f g ≡ operator o d n u v
 operator_is op.Arrow c d m n f g u v choice times p q = choice refl
 operator_is op.Times c d m n f g u v choice times p q = times refl
 operator_is op.Implies c d m n f g u v choice times p q = λ j. Binary op.Implies (p j) (q j)
@@ -94,12 +93,20 @@ operator_is op.Slash c d m n f g u v choice times p q = λ j. Binary op.Slash (p
 operator_is op.Div c d m n f g u v choice times p q = λ j. Binary op.Div (p j) (q j)
 operator_is op.Mod c d m n f g u v choice times p q = λ j. Binary op.Mod (p j) (q j)
 
-at_place : (q r : Sites) (f g : TreeForm) → q ≡ r → f ≡ g → Node q f ≡ Node r g
+at_place : (q r : Sites) (f g : RawForm) → q ≡ r → f ≡ g → Node q f ≡ Node r g
 at_place q r f g p e = λ j. Node (p j) (e j)
 
 -- a clock that is that of a flow is one of the node
 pub clock_known : (p : ProgramTree) (n : NodeTree) (s : ℕ) → IsTrueClock p n (On s) → s < length (flows_of n)
 clock_known p n s t = let lt = slice_get_within (flow_kinds p n) s kind.Bool t in let many = kinds_many p n in omega (arith, lt, many)
+
+-- a name with the type of a flow is a flow
+a_flow : (p : ProgramTree) (n : NodeTree) (y : Identifier) → flow_kind p n y ≡ Some kind.Bool → is_flow n y ≡ true
+a_flow p n y t = by (is_flow n y) refl
+  where
+    by : (b : Bool) → is_flow n y ≡ b → b ≡ true
+    by true e = refl
+    by false e = let lt = clock_known p n (site_of n y) t in let past = index_past (flows_of n) y e in absurd (omega (arith, lt, past))
 
 -- where the outputs of a node stand among its flows
 output_within : (n : NodeTree) (j : ℕ) → j < length n.outputs → length n.inputs + j < length (flows_of n)
@@ -129,7 +136,7 @@ module _ (numbers : Numbers) (i : Instance) (x : Frame) (is : IsFrame numbers i 
     path_is = ap (λ (m : Numbered). m.path) is.number.1
 
     -- the place of an operator
-    place_is : (site : Option ℕ) (o : Op) (a : Tree) → operator_place_read x site o a ≡ operator_place program numbers i site o a
+    place_is : (site : Option ℕ) (o : Op) (a : Tree) → operator_place_read x site o a ≡ operator_place program i site o a
     place_is site o a = λ j. cond (is_test (is.scope j) o a) (spot (path_is j) site) []
 
     flow_is : (k : ℕ) (q : Sites) → IsPlaced places k q → flow_read x k ≡ index_of numbers.flows q
@@ -193,10 +200,17 @@ module _ (numbers : Numbers) (i : Instance) (x : Frame) (is : IsFrame numbers i 
         by true e = ap Flow (flow_is (h.offset + site_of i.node y) (place i y) (here.flow (site_of i.node y) (index_at (flows_of i.node) y e).0))
         by false e = refl
 
-    kept_is : (site : Option ℕ) (e : Tree) → Contains (node_delays i.node) (record { site = site; operand = e }) → Memory (kept_read x site e) ≡ kept_at program numbers i site e
+    kept_is : (site : Option ℕ) (e : Tree) → Contains (node_delays i.node) (record { site = site; operand = e }) → kept_read x site e ≡ kept_number program numbers i site e
     kept_is site e w =
-        ap Memory ((λ j. unwrap_or (callee_in x.numbering.now.memories x.reader.instance (memory_site (is.node j) site e)) 0)
-        ∙ ap (λ o. unwrap_or o 0) (is.numbering.memories x.reader.instance i (record { site = site; operand = e }) is.instance is.number w))
+        (λ j. unwrap_or (callee_in x.numbering.now.memories x.reader.instance (memory_site (is.node j) site e)) 0)
+        ∙ ap (λ o. unwrap_or o 0) (is.numbering.memories x.reader.instance i (record { site = site; operand = e }) is.instance is.number w)
+
+    -- the flow of a `when`
+    named_flow_is : (y : Identifier) → flow_kind program i.node y ≡ Some kind.Bool → flow_named x y ≡ index_of numbers.flows (place i y)
+    named_flow_is y t =
+        (λ j. flow_read x (unwrap_or (flow_number (is.node j) h y) 0))
+        ∙ ap (λ b. flow_read x (unwrap_or (cond b (Some (h.offset + site_of i.node y)) Nothing) 0)) (a_flow program i.node y t)
+        ∙ flow_is (h.offset + site_of i.node y) (place i y) (here.flow (site_of i.node y) (clock_known program i.node (site_of i.node y) t))
 
     -- what is known of an expression where it is constant
     abbrev weighed : Tree → Weighed
@@ -205,8 +219,8 @@ module _ (numbers : Numbers) (i : Instance) (x : Frame) (is : IsFrame numbers i 
     constant_is : (e : Tree) → constant_read x e ≡ cond (is_constant (node_scope program i.node) e) (Some (weighed e)) Nothing
     constant_is (tree.Node at site form) = λ j. constant_part (node_scope program (is.node j)) (is.values j) (tree.Node at site form)
 
-    product_read_is : (a b : Tree) (f g u v : FlatTree) → (is_constant (node_scope program i.node) a || is_constant (node_scope program i.node) b) ≡ true → f ≡ u → g ≡ v
-        → product_read (constant_read x a) (constant_read x b) f g ≡ product (is_constant (node_scope program i.node) a) (coefficient program numbers i a) (coefficient program numbers i b) u v
+    product_read_is : (a b : Tree) (f g u v : RawTree) → (is_constant (node_scope program i.node) a || is_constant (node_scope program i.node) b) ≡ true → f ≡ u → g ≡ v
+        → product_read (constant_read x a) (constant_read x b) f g ≡ product (is_constant (node_scope program i.node) a) (coefficient program a) (coefficient program b) u v
     product_read_is a b f g u v e p q =
         (λ j. product_read (constant_is a j) (constant_is b j) (p j) (q j))
         ∙ product_is (is_constant (node_scope program i.node) a) (is_constant (node_scope program i.node) b) (weighed a) (weighed b) u v e
@@ -221,10 +235,10 @@ module _ (numbers : Numbers) (i : Instance) (x : Frame) (is : IsFrame numbers i 
 
       mutual
         -- an expression that stands in the instance and has a type
-        pub expression_is : (e : Tree) (k : Kind) → Stands i.node e → IsTyped program i.node e k → tree_read x e ≡ flat_of program numbers i e
+        pub expression_is : (e : Tree) (k : Kind) → Stands i.node e → IsTyped program i.node e k → tree_read x e ≡ raw_of program numbers i e
         expression_is (tree.Node at site form) k s t = form_is at site form k s t
 
-        form_is : (at : ℕ) (site : Option ℕ) (form : Form) (k : Kind) → Stands i.node (tree.Node at site form) → IsTyped program i.node (tree.Node at site form) k → form_read x site form ≡ flat_form program numbers i site form
+        form_is : (at : ℕ) (site : Option ℕ) (form : Form) (k : Kind) → Stands i.node (tree.Node at site form) → IsTyped program i.node (tree.Node at site form) k → form_read x site form ≡ raw_form program numbers i site form
         form_is at site tree.True k s t = refl
         form_is at site tree.False k s t = refl
         form_is at site (tree.Number n) k s t = refl
@@ -233,21 +247,20 @@ module _ (numbers : Numbers) (i : Instance) (x : Frame) (is : IsFrame numbers i 
             ap (λ f. unplaced (Not f)) (expression_is e kind.Bool (as_child at site (tree.Not e) e s of_not) (not_typed program i.node at site e k t).0)
         form_is at site (tree.Minus e) k s t =
             ap (λ f. unplaced (Scale (negsuc 0) f)) (expression_is e kind.Int (as_child at site (tree.Minus e) e s of_minus) (minus_typed program i.node at site e k t).0)
-        form_is at site (tree.Pre e) k s t = ap unplaced (kept_is site e (own_delay i.node at site e s))
-        form_is at site (tree.Current e) k s t =
-            let r = current_typed program i.node at site e k t in
-            let clock = own_clock_is e k r in
-            let kept = kept_is site e (own_current i.node at site e s) in
-            let body = expression_is e k (as_child at site (tree.Current e) e s of_current) r in
-            λ j. unplaced (If (unplaced (presence (clock j))) (body j) (unplaced (kept j)))
-        form_is at site (tree.When e y) k s t = expression_is e k (as_child at site (tree.When e y) e s (of_when y)) (when_typed program i.node at site e y k t).0
+        form_is at site (tree.Pre e) k s t = ap (λ m. unplaced (Memory m)) (kept_is site e (own_delay i.node at site e s))
+        form_is at site (tree.Current e) k s t = ap (λ m. unplaced (Current m)) (kept_is site e (own_current i.node at site e s))
+        form_is at site (tree.When e y) k s t =
+            let r = when_typed program i.node at site e y k t in
+            let clock = named_flow_is y.text r.1 in
+            let body = expression_is e k (as_child at site (tree.When e y) e s (of_when y)) r.0 in
+            λ j. unplaced (When (clock j) (body j))
         form_is at site (tree.Binary o a b) k s t =
             let r = binary_typed program i.node at site o a b k t in
             let left = expression_is a r.left (as_child at site (tree.Binary o a b) a s of_left) r.left_is in
             let right = expression_is b r.right (as_child at site (tree.Binary o a b) b s of_right) r.right_is in
-            at_place _ _ _ _ (place_is site o a) (operator_is o _ _ _ _ (tree_read x a) (tree_read x b) (flat_of program numbers i a) (flat_of program numbers i b)
+            at_place _ _ _ _ (place_is site o a) (operator_is o _ _ _ _ (tree_read x a) (tree_read x b) (raw_of program numbers i a) (raw_of program numbers i b)
             (λ arrow. let tick = arrow_is at site o a b k s t arrow in λ j. If (unplaced (Ticked (tick j))) (right j) (left j))
-            (λ times. product_read_is a b (tree_read x a) (tree_read x b) (flat_of program numbers i a) (flat_of program numbers i b)
+            (λ times. product_read_is a b (tree_read x a) (tree_read x b) (raw_of program numbers i a) (raw_of program numbers i b)
             (scaled_product (both_are kind.Int r.left r.right) (is_constant (node_scope program i.node) a || is_constant (node_scope program i.node) b) k
             (sym (ap (λ u. kind_in (binary_rule true (is_constant (node_scope program i.node) a || is_constant (node_scope program i.node) b) u r.left r.right)) times) ∙ r.rule))
             left right)
@@ -262,7 +275,7 @@ module _ (numbers : Numbers) (i : Instance) (x : Frame) (is : IsFrame numbers i 
             ap (λ fs. unplaced (AtMostOne fs)) (all_are es (λ j e arg. as_child at site (tree.AtMostOne es) e s (of_operand j arg)) (most_typed program i.node at site es k t).0)
         form_is at site (tree.Call f args) k s t = ap unplaced (call_is at site f args k (own_call i.node at site f args s) t)
 
-        all_are : (es : Trees) → ((j : ℕ) (e : Tree) → IsArgument es j e → Stands i.node e) → ((j : ℕ) (e : Tree) → IsArgument es j e → IsTyped program i.node e kind.Bool) → trees_read x es ≡ flats_of program numbers i es
+        all_are : (es : Trees) → ((j : ℕ) (e : Tree) → IsArgument es j e → Stands i.node e) → ((j : ℕ) (e : Tree) → IsArgument es j e → IsTyped program i.node e kind.Bool) → trees_read x es ≡ raws_of program numbers i es
         all_are tree.None s t = refl
         all_are (tree.More e es) s t =
             let first = expression_is e kind.Bool (s 0 e head) (t 0 e head) in
@@ -270,12 +283,12 @@ module _ (numbers : Numbers) (i : Instance) (x : Frame) (is : IsFrame numbers i 
             λ j. More (first j) (rest j)
 
       -- So is each expression of the instance that has a type.
-      pub part_read_is : (e : Tree) → Contains (node_parts i.node) e → IsSome (kind_of (node_scope program i.node) e) → tree_read x e ≡ flat_of program numbers i e
+      pub part_read_is : (e : Tree) → Contains (node_parts i.node) e → IsSome (kind_of (node_scope program i.node) e) → tree_read x e ≡ raw_of program numbers i e
       part_read_is e w some =
           let t = some_is some in
           elim (part_is i.node e w) [
             | standing s ↦ expression_is e t.0 s t.1
             | calling at site f args same there ↦
-                subst (λ u. tree_read x u ≡ flat_of program numbers i u) (sym same)
+                subst (λ u. tree_read x u ≡ raw_of program numbers i u) (sym same)
                 (ap unplaced (call_is at site f args t.0 there (subst (λ u. IsTyped program i.node u t.0) same t.1)))
           ]

@@ -1,12 +1,10 @@
 -- What is read of a program has the weights of the program, so no part of it is above the limit.
-use Rattle.std.proofs.Common.{◌≡◌, ℕ, zero, suc, ◌+◌, ◌*◌, ◌<◌, ◌≤◌, max, Bool, true, false, ◌&&◌, ◌||◌, cond, nat_lt, nat_le, pos, negsuc, nat_abs, List, [], ◌∷◌, ◌++◌, map, length, get_or, slice_get, refl, sym, ◌∙◌, ap, subst, arith, unwrap_or, Option, Some}
-use Rattle.std.proofs.Common.{None as Nothing}
+use Rattle.std.proofs.Common.{◌≡◌, ℕ, zero, suc, ◌+◌, ◌*◌, ◌<◌, ◌≤◌, max, Bool, true, false, ◌&&◌, ◌||◌, cond, nat_lt, nat_le, pos, negsuc, nat_abs, List, [], ◌∷◌, ◌++◌, length, get_or, slice_get, refl, sym, ◌∙◌, ap, subst, arith, unwrap_or, Option, Some}
 use Rattle.std.proofs.lemmas.Bool.Decides.{nat_tests}
 use Rattle.std.proofs.lemmas.Int.{ints}
-use Rattle.std.proofs.lemmas.List.{length-map, get_or_append_left, get_or_push, length_push}
+use Rattle.std.proofs.lemmas.List.{length-map, get_or_default, get_or_append_left, get_or_push, length_push}
 use Rattle.std.proofs.lemmas.List.Elements.{Contains-append_left, Contains-append_right, All-contains}
-use Rattle.std.proofs.lemmas.Option.{none-some, slice_get-map, slice_get_within, get_or_from_slice_get}
-use Rattle.std.specs.Option.{option_map}
+use Rattle.std.proofs.lemmas.Option.{none-some, slice_get_within, get_or_from_slice_get}
 use Rattle.std.specs.List.{All, Contains}
 use Rattle.rv_base.specs.declared.value.Value.{Value}
 use Rattle.rv_base.specs.declared.value.Value.TheVariants.{Flag, Label, Whole}
@@ -20,7 +18,6 @@ use Rattle.rv_types.specs.declared.typed.Kind.TheVariants as kind
 use Rattle.rv_types.specs.declared.typed.Clock.{Clock}
 use Rattle.rv_types.specs.declared.typed.Clock.TheVariants.{Base}
 use Rattle.rv_types.specs.declared.fault.Verdict.TheVariants.{Has, Clashes, Multiplies}
-use Rattle.rv_types.specs.Clocks.{pace}
 use Rattle.rv_types.specs.Types.{kind_in, both_are, binary_rule, is_constant}
 use Rattle.rv_types.specs.Constants.{whole_in}
 use Rattle.rv_types.specs.Scopes.{node_scope, constant_value}
@@ -29,26 +26,19 @@ use Rattle.rv_types.specs.Needs.{flow_of, needs, form_needs, needs_of, Giver, Gi
 use Rattle.rv_types.specs.WellFormed.{AreWell}
 use Rattle.rv_syntax.specs.Limits.{heaviest}
 use Rattle.rv_causality.specs.Weights.{constant_size, weight, form_weight, weight_of_giver, IsTooWide, AreWeights}
-use Rattle.rv_flat.specs.declared.parts.Bit.{Bit}
-use Rattle.rv_flat.specs.declared.parts.FlatExpr.{FlatExpr}
-use Rattle.rv_flat.specs.declared.parts.FlatFlow.{FlatFlow}
-use Rattle.rv_flat.specs.declared.parts.FlatInput.{FlatInput}
-use Rattle.rv_flat.specs.declared.parts.FlatMemory.{FlatMemory}
-use Rattle.rv_flat.specs.FlatTree.{FlatTree, TreeForm, Constant, Flow, Ticked, If, flat_tree}
-use Rattle.rv_flat.specs.Facts.{constant_weight, flat_weight, form_flat_weight, is_light, form_is_light, all_light, weights_after, flow_weights, flows_light, memories_light, assertions_light}
-use Rattle.rv_flat.specs.FlatOf.{no_assertion}
-use Rattle.rv_flat.specs.FlatInstants.{no_item, flow_item, memory_item}
-use Rattle.rv_flat.specs.Readings.{Numbers, numbers_of, places_of, clock_number, tick_number, presence, product, operator, unplaced, coefficient, flat_of, flat_form, flats_of, giver_item, delay_item, assertion_of, IsRead}
-use Rattle.rv_flat.proofs.Members.{at_head}
+use Rattle.rv_agreement.specs.Programs.{coefficient, operation}
+use Rattle.rv_agreement.specs.Translation.{Numbers, tick_number, unplaced, flat_of, flat_form, flats_of, giver_item, IsTranslated}
+use Rattle.rv_agreement.specs.Trees.{FlatTree, TreeForm, Constant, Flow, Ticked, Scale, If, Binary, Item, Kept, System, no_item, nth_item, memory_items}
+use Rattle.rv_flat.specs.Facts.{constant_weight, flat_weight, form_flat_weight, is_light, form_is_light, all_light, weights_after, flow_weights, items_light}
+use Rattle.rv_flat.proofs.ItemClocks.{number_at, number_within}
+use Rattle.rv_flat.proofs.Members.{at_head, in_tail}
 use Rattle.rv_flat.proofs.Standing.{Stands, as_child, of_not, of_minus, of_current, of_when, of_left, of_right, of_condition, of_first, of_second, of_operand, own_call, body_stands, argument_stands, operand_stands, as_assertion, output_call}
-use Rattle.rv_flat.proofs.TypedParts.{no_flag, IsTyped, not_typed, minus_typed, current_typed, when_typed, binary_typed, if_typed, most_typed, call_typed}
-use Rattle.rv_flat.proofs.PlaceNumbers.{found, is_found, index_at, its_number}
+use Rattle.rv_flat.proofs.TypedParts.{some_is, no_flag, IsTyped, not_typed, minus_typed, current_typed, when_typed, binary_typed, if_typed, most_typed, call_typed}
+use Rattle.rv_flat.proofs.PlaceNumbers.{found, its_number}
 use Rattle.rv_flat.proofs.WellInstances.{typed, is_light as stands_light}
 use Rattle.rv_flat.proofs.ConstantOperands.{weighs}
 use Rattle.rv_flat.proofs.ConstantSizes.{value_size}
-use Rattle.rv_flat.proofs.ClockKinds.{clock_taken, pace_is_true}
-use Rattle.rv_flat.proofs.FlowKinds.{HasFlow, is_flow as flow_there, signature_is, clock_flow, output_flow}
-use Rattle.rv_flat.proofs.ReadFits.{some_is}
+use Rattle.rv_flat.proofs.FlowKinds.{HasFlow, is_flow as flow_there, signature_is, output_flow}
 
 -- both tests hold
 both : (a b : Bool) → a ≡ true → b ≡ true → (a && b) ≡ true
@@ -73,28 +63,21 @@ scaled_product true false k e = absurd (none-some k e)
 scaled_product false scaled k e = absurd (none-some k e)
 
 module _ (program : ProgramTree) (main : Identifier) (well : AreWell program) (named : IsNode program main)
-    (flows : List FlatFlow) (memories : List FlatMemory) (inputs : List FlatInput) (variables : List Bit) (assertions : List FlatExpr)
-    (read : IsRead program main flows memories inputs variables assertions)
+    (numbers : Numbers) (s : System) (read : IsTranslated program main numbers s)
     (wf : Sites → ℕ) (are_weights : AreWeights program main wf) (none_wide : (at : ℕ) → IsTooWide program main wf at → ⊥)
   where
-    abbrev numbers : Numbers
-    numbers = numbers_of flows memories variables
-
     abbrev number : Sites → ℕ
-    number q = index_of (places_of flows) q
+    number q = index_of numbers.flows q
 
-    number_within : (q : Sites) → IsFlow program main q → number q < length flows
-    number_within q w =
-        let at = index_at (places_of flows) q (is_found (places_of flows) q (read.sequence.flows q w)) in
-        let many = length-map flows (λ x. x.place.sites) in
-        omega (arith, at.0, many)
+    within : (q : Sites) → IsFlow program main q → number q < length s.flows
+    within = number_within program main well named numbers s read
 
-    place_number : (k : ℕ) → k < length (places_of flows) → number (get_or (places_of flows) k []) ≡ k
-    place_number k lt = its_number (places_of flows) read.sequence.once k lt
+    place_number : (k : ℕ) → k < length numbers.flows → number (get_or numbers.flows k []) ≡ k
+    place_number k lt = its_number numbers.flows read.sequence.once k lt
 
-    among_first : (k : ℕ) (qs : List Sites) → k < length (places_of flows) → All (IsAmongFirst program main (places_of flows) k) qs → (q : Sites) → Contains qs q → IsFlow program main q → number q < k
+    among_first : (k : ℕ) (qs : List Sites) → k < length numbers.flows → All (IsAmongFirst program main numbers.flows k) qs → (q : Sites) → Contains qs q → IsFlow program main q → number q < k
     among_first k qs lt all q w is =
-        let r = All-contains (IsAmongFirst program main (places_of flows) k) qs q all w in
+        let r = All-contains (IsAmongFirst program main numbers.flows k) qs q all w in
         let same : number q ≡ r.0 = ap number (sym r.2) ∙ place_number r.0 (omega (arith, r.1, lt)) in
         omega (arith, r.1, same)
 
@@ -115,7 +98,7 @@ module _ (program : ProgramTree) (main : Identifier) (well : AreWell program) (n
       name_weighs c at site x false is early = constant_weighs (constant_value program x)
 
       product_weighs : (left : Bool) (a b : Tree) (f g : FlatTree) → flat_weight ws f ≡ weight program wf i a → flat_weight ws g ≡ weight program wf i b
-          → form_flat_weight ws (product left (coefficient program numbers i a) (coefficient program numbers i b) f g) ≡ cond left (constant_size program a * weight program wf i b) (constant_size program b * weight program wf i a)
+          → form_flat_weight ws (cond left (Scale (coefficient program a) g) (Scale (coefficient program b) f)) ≡ cond left (constant_size program a * weight program wf i b) (constant_size program b * weight program wf i a)
       product_weighs true a b f g p q = ap (λ w. constant_size program a * w) q
       product_weighs false a b f g p q = ap (λ w. constant_size program b * w) p
 
@@ -123,7 +106,7 @@ module _ (program : ProgramTree) (main : Identifier) (well : AreWell program) (n
       turned m n = omega arith
 
       operator_weighs : (site : Option ℕ) (o : Op) (a b : Tree) (tick : TreeForm) (f g : FlatTree) → flat_weight ws f ≡ weight program wf i a → flat_weight ws g ≡ weight program wf i b
-          → form_flat_weight ws (operator o (If (unplaced tick) g f) (product (is_constant (node_scope program i.node) a) (coefficient program numbers i a) (coefficient program numbers i b) f g) f g) ≡ form_weight program wf i site (tree.Binary o a b)
+          → form_flat_weight ws (operation o (If (unplaced tick) g f) (cond (is_constant (node_scope program i.node) a) (Scale (coefficient program a) g) (Scale (coefficient program b) f)) (Binary o f g)) ≡ form_weight program wf i site (tree.Binary o a b)
       operator_weighs site op.Arrow a b tick f g p q = (λ j. max (q j) (p j)) ∙ turned (weight program wf i a) (weight program wf i b)
       operator_weighs site op.Times a b tick f g p q = product_weighs (is_constant (node_scope program i.node) a) a b f g p q
       operator_weighs site op.Plus a b tick f g p q = λ j. p j + q j
@@ -204,71 +187,70 @@ module _ (program : ProgramTree) (main : Identifier) (well : AreWell program) (n
         expression_weighs before ws weighed i of (taken_clock i (clock_of_arguments i c.args) e) e t.0 (argument_stands i.node c j e called arg) t.1 early
 
     -- what gives the flow with a number
-    giver_at : (k : ℕ) (f : FlatFlow) → slice_get flows k ≡ Some f → (g : Giver) × Gives program main (get_or (places_of flows) k []) g × (flow_item f ≡ giver_item program numbers g)
+    giver_at : (k : ℕ) (x : Item) → slice_get s.flows k ≡ Some x → (g : Giver) × Gives program main (get_or numbers.flows k []) g × (x ≡ giver_item program numbers g)
         × ((q : Sites) → Contains (needs_of program g) q → IsFlow program main q → number q < k)
-    giver_at k f at =
-        let lt : k < length flows = slice_get_within flows k f at in
-        let many = length-map flows (λ x. x.place.sites) in
-        let within : k < length (places_of flows) = omega (arith, lt, many) in
+    giver_at k x at =
+        let lt : k < length s.flows = slice_get_within s.flows k x at in
+        let less : k < length numbers.flows = omega (arith, lt, read.many) in
         let r = read.flow k lt in (
           r.0,
           r.1,
-          sym (get_or_from_slice_get (map flow_item flows) k (flow_item f) no_item (slice_get-map flow_item flows k ∙ ap (option_map flow_item) at)) ∙ r.2,
-          among_first k (needs_of program r.0) within (read.sequence.after k r.0 within r.1),
+          sym (get_or_from_slice_get s.flows k x no_item at) ∙ r.2,
+          among_first k (needs_of program r.0) less (read.sequence.after k r.0 less r.1),
         )
 
     -- one flow more has its weight
-    one_weighed : (k : ℕ) (ws : List ℕ) (f : FlatFlow) → length ws ≡ k → ((q : Sites) → IsFlow program main q → number q < k → get_or ws (number q) 0 ≡ wf q) → slice_get flows k ≡ Some f
-        → (q : Sites) → IsFlow program main q → number q < k + 1 → get_or (ws ++ flat_weight ws (flat_tree f.body) ∷ []) (number q) 0 ≡ wf q
+    one_weighed : (k : ℕ) (ws : List ℕ) (f : Item) → length ws ≡ k → ((q : Sites) → IsFlow program main q → number q < k → get_or ws (number q) 0 ≡ wf q) → slice_get s.flows k ≡ Some f
+        → (q : Sites) → IsFlow program main q → number q < k + 1 → get_or (ws ++ flat_weight ws f.body ∷ []) (number q) 0 ≡ wf q
     one_weighed k ws f long weighed at q is lt = by (nat_lt (number q) k) refl
       where
-        by : (b : Bool) → nat_lt (number q) k ≡ b → get_or (ws ++ flat_weight ws (flat_tree f.body) ∷ []) (number q) 0 ≡ wf q
+        by : (b : Bool) → nat_lt (number q) k ≡ b → get_or (ws ++ flat_weight ws f.body ∷ []) (number q) 0 ≡ wf q
         by true e =
             let less : number q < k = lesser (number q) k e in
-            get_or_append_left ws (flat_weight ws (flat_tree f.body) ∷ []) 0 (number q) (omega (arith, less, long)) ∙ weighed q is less
+            get_or_append_left ws (flat_weight ws f.body ∷ []) 0 (number q) (omega (arith, less, long)) ∙ weighed q is less
           where
             lesser : (m n : ℕ) → nat_lt m n ≡ true → m < n
             lesser m n e = grind (arith, nat_tests, e)
         by false e =
             let same : number q ≡ k = equal (number q) k e lt in
-            let at_place : get_or (places_of flows) k [] ≡ q = ap (λ n. get_or (places_of flows) n []) (sym same) ∙ (index_at (places_of flows) q (is_found (places_of flows) q (read.sequence.flows q is))).1 in
+            let at_place : get_or numbers.flows k [] ≡ q = ap (λ n. get_or numbers.flows n []) (sym same) ∙ (number_at program main well named numbers s read q is).1 in
             let r = giver_at k f at in
-            get_or_push ws (flat_weight ws (flat_tree f.body)) 0 (number q) (long ∙ sym same)
+            get_or_push ws (flat_weight ws f.body) 0 (number q) (long ∙ sym same)
             ∙ ap (λ item. flat_weight ws item.body) r.2
-            ∙ giver_weighs k ws weighed (get_or (places_of flows) k []) r.0 r.1 r.3
-            ∙ sym (are_weights (get_or (places_of flows) k []) r.0 r.1)
+            ∙ giver_weighs k ws weighed (get_or numbers.flows k []) r.0 r.1 r.3
+            ∙ sym (are_weights (get_or numbers.flows k []) r.0 r.1)
             ∙ ap wf at_place
           where
             equal : (m n : ℕ) → nat_lt m n ≡ false → m < n + 1 → m ≡ n
             equal m n e lt = grind (arith, nat_tests, e, lt)
 
-    weighed_from : (before : ℕ) (ws : List ℕ) (fs : List FlatFlow) → length ws ≡ before → ((q : Sites) → IsFlow program main q → number q < before → get_or ws (number q) 0 ≡ wf q)
-        → ((j : ℕ) (f : FlatFlow) → slice_get fs j ≡ Some f → slice_get flows (before + j) ≡ Some f)
+    weighed_from : (before : ℕ) (ws : List ℕ) (fs : List Item) → length ws ≡ before → ((q : Sites) → IsFlow program main q → number q < before → get_or ws (number q) 0 ≡ wf q)
+        → ((j : ℕ) (f : Item) → slice_get fs j ≡ Some f → slice_get s.flows (before + j) ≡ Some f)
         → (q : Sites) → IsFlow program main q → number q < before + length fs → get_or (weights_after ws fs) (number q) 0 ≡ wf q
     weighed_from before ws [] long weighed from q is lt = weighed q is (omega (arith, lt))
     weighed_from before ws (f ∷ fs) long weighed from q is lt =
         let here : before + 0 ≡ before = omega arith in
-        let at : slice_get flows before ≡ Some f = ap (slice_get flows) (sym here) ∙ from 0 f refl in
-        weighed_from (before + 1) (ws ++ flat_weight ws (flat_tree f.body) ∷ []) fs (length_push ws (flat_weight ws (flat_tree f.body)) ∙ ap (λ n. n + 1) long)
+        let at : slice_get s.flows before ≡ Some f = ap (slice_get s.flows) (sym here) ∙ from 0 f refl in
+        weighed_from (before + 1) (ws ++ flat_weight ws f.body ∷ []) fs (length_push ws (flat_weight ws f.body) ∙ ap (λ n. n + 1) long)
         (one_weighed before ws f long weighed at)
-        (λ j g e. let next : (before + 1) + j ≡ before + suc j = omega arith in ap (slice_get flows) next ∙ from (suc j) g e)
+        (λ j g e. let next : (before + 1) + j ≡ before + suc j = omega arith in ap (slice_get s.flows) next ∙ from (suc j) g e)
         q is (omega (arith, lt))
 
     abbrev all_weights : List ℕ
-    all_weights = flow_weights flows
+    all_weights = flow_weights s.flows
 
     -- The flows have the weights of the program.
     pub flow_weighs : (q : Sites) → IsFlow program main q → get_or all_weights (number q) 0 ≡ wf q
     flow_weighs q is =
-        weighed_from 0 [] flows refl (λ p w lt. absurd (omega (arith, lt))) (λ j f e. let same : 0 + j ≡ j = omega arith in ap (slice_get flows) same ∙ e) q is
-        (let lt = number_within q is in omega (arith, lt))
+        weighed_from 0 [] s.flows refl (λ p w lt. absurd (omega (arith, lt))) (λ j f e. let same : 0 + j ≡ j = omega arith in ap (slice_get s.flows) same ∙ e) q is
+        (let lt = within q is in omega (arith, lt))
 
     -- No flow is above the limit.
     flow_light_below : (n : ℕ) (q : Sites) → IsFlow program main q → number q < n → wf q ≤ heaviest
     flow_light_below zero q is lt = absurd (omega (arith, lt))
     flow_light_below (suc n) q is lt =
-        let at = index_at (places_of flows) q (is_found (places_of flows) q (read.sequence.flows q is)) in
-        let r = read.flow (number q) (number_within q is) in
+        let at = number_at program main well named numbers s read q is in
+        let r = read.flow (number q) (within q is) in
         let gives : Gives program main q r.0 = subst (λ p. Gives program main p r.0) at.1 r.1 in
         let early = among_first (number q) (needs_of program r.0) at.0 (read.sequence.after (number q) r.0 at.0 r.1) in
         subst (λ w. w ≤ heaviest) (sym (are_weights q r.0 gives))
@@ -285,44 +267,33 @@ module _ (program : ProgramTree) (main : Identifier) (well : AreWell program) (n
         by _ (by_call i c j e of called arg at) below = light i e of (argument_stands i.node c j e called arg)
 
     flow_light : (q : Sites) → IsFlow program main q → wf q ≤ heaviest
-    flow_light q is = flow_light_below (length flows) q is (number_within q is)
+    flow_light q is = flow_light_below (length s.flows) q is (within q is)
 
     module _ (i : Instance) (of : IsInstance program main i) where
       abbrev IsLightHere : FlatTree → Type 0
       IsLightHere f = is_light all_weights f ≡ true
 
-      -- the presence of the clock of an expression that has a type
-      presence_light : (k : Option Sites) → ((q : Sites) → k ≡ Some q → IsFlow program main q) → IsLightHere (unplaced (presence (clock_number numbers k)))
-      presence_light Nothing flow = refl
-      presence_light (Some q) flow =
-          let is = flow q refl in
-          both (nat_le (get_or all_weights (number q) 0) heaviest) true (within_told _ heaviest (subst (λ w. w ≤ heaviest) (sym (flow_weighs q is)) (flow_light q is))) refl
-
-      own_clock : (e : Tree) (k : Kind) → IsTyped program i.node e k → (q : Sites) → clock_in i Base e ≡ Some q → IsFlow program main q
-      own_clock e k t q at =
-          flow_there (clock_flow program main well named i (taken_clock i Base e) q of (clock_taken program i.node (pace i.node e) (pace_is_true program i.node (typed program main well named i of) e k t)) at)
-
       root_light : (e : Tree) (k : Kind) → Stands i.node e → IsTyped program i.node e k → nat_le (flat_weight all_weights (flat_of program numbers i e)) heaviest ≡ true
-      root_light e k s t =
+      root_light e k there t =
           within_told _ heaviest (subst (λ w. w ≤ heaviest)
-          (sym (expression_weighs (length flows) all_weights (λ q is lt. flow_weighs q is) i of Base e k s t (λ q w is. number_within q is)))
-          (light i e of s))
+          (sym (expression_weighs (length s.flows) all_weights (λ q is lt. flow_weighs q is) i of Base e k there t (λ q w is. within q is)))
+          (light i e of there))
 
       -- the constant operand of a product
-      coefficient_light : (e : Tree) → Stands i.node e → is_constant (node_scope program i.node) e ≡ true → nat_le (nat_abs (coefficient program numbers i e)) heaviest ≡ true
+      coefficient_light : (e : Tree) → Stands i.node e → is_constant (node_scope program i.node) e ≡ true → nat_le (nat_abs (coefficient program e)) heaviest ≡ true
       coefficient_light e s c =
           let size = value_size (constant_value program) e in
           let weight_is = weighs program wf i e c in
           let le = light i e of s in
-          within_told (nat_abs (coefficient program numbers i e)) heaviest (omega (arith, size, weight_is, le))
+          within_told (nat_abs (coefficient program e)) heaviest (omega (arith, size, weight_is, le))
 
-      product_light : (left : Bool) (a b : Tree) (f g : FlatTree) → (left ≡ true → nat_le (nat_abs (coefficient program numbers i a)) heaviest ≡ true) → (left ≡ false → nat_le (nat_abs (coefficient program numbers i b)) heaviest ≡ true)
-          → IsLightHere f → IsLightHere g → form_is_light all_weights (product left (coefficient program numbers i a) (coefficient program numbers i b) f g) ≡ true
-      product_light true a b f g l r p q = both (nat_le (nat_abs (coefficient program numbers i a)) heaviest) (is_light all_weights g) (l refl) q
-      product_light false a b f g l r p q = both (nat_le (nat_abs (coefficient program numbers i b)) heaviest) (is_light all_weights f) (r refl) p
+      product_light : (left : Bool) (a b : Tree) (f g : FlatTree) → (left ≡ true → nat_le (nat_abs (coefficient program a)) heaviest ≡ true) → (left ≡ false → nat_le (nat_abs (coefficient program b)) heaviest ≡ true)
+          → IsLightHere f → IsLightHere g → form_is_light all_weights (cond left (Scale (coefficient program a) g) (Scale (coefficient program b) f)) ≡ true
+      product_light true a b f g l r p q = both (nat_le (nat_abs (coefficient program a)) heaviest) (is_light all_weights g) (l refl) q
+      product_light false a b f g l r p q = both (nat_le (nat_abs (coefficient program b)) heaviest) (is_light all_weights f) (r refl) p
 
       operator_light : (o : Op) (t : ℕ) (times : TreeForm) (f g : FlatTree) → (o ≡ op.Times → form_is_light all_weights times ≡ true) → IsLightHere f → IsLightHere g
-          → form_is_light all_weights (operator o (If (unplaced (Ticked t)) g f) times f g) ≡ true
+          → form_is_light all_weights (operation o (If (unplaced (Ticked t)) g f) times (Binary o f g)) ≡ true
       operator_light op.Arrow t times f g h p q = both (is_light all_weights g) (is_light all_weights f) q p
       operator_light op.Times t times f g h p q = h refl
       operator_light op.Implies t times f g h p q = both (is_light all_weights f) (is_light all_weights g) p q
@@ -361,11 +332,9 @@ module _ (program : ProgramTree) (main : Identifier) (well : AreWell program) (n
             both _ (is_light all_weights (flat_of program numbers i e)) root (expression_light e kind.Int (as_child at site (tree.Minus e) e s of_minus) (minus_typed program i.node at site e k t).0)
         form_light at site (tree.Pre e) k s t root = refl
         form_light at site (tree.Current e) k s t root =
-            let r = current_typed program i.node at site e k t in
-            both _ (is_light all_weights (unplaced (presence (clock_number numbers (clock_in i Base e)))) && (is_light all_weights (flat_of program numbers i e) && true)) root
-            (both _ (is_light all_weights (flat_of program numbers i e) && true) (presence_light (clock_in i Base e) (own_clock e k r))
-            (both (is_light all_weights (flat_of program numbers i e)) true (expression_light e k (as_child at site (tree.Current e) e s of_current) r) refl))
-        form_light at site (tree.When e x) k s t root = expression_light e k (as_child at site (tree.When e x) e s (of_when x)) (when_typed program i.node at site e x k t).0
+            both _ (is_light all_weights (flat_of program numbers i e)) root (expression_light e k (as_child at site (tree.Current e) e s of_current) (current_typed program i.node at site e k t))
+        form_light at site (tree.When e x) k s t root =
+            both _ (is_light all_weights (flat_of program numbers i e)) root (expression_light e k (as_child at site (tree.When e x) e s (of_when x)) (when_typed program i.node at site e x k t).0)
         form_light at site (tree.Binary o a b) k s t root =
             let r = binary_typed program i.node at site o a b k t in
             let left = as_child at site (tree.Binary o a b) a s of_left in
@@ -373,7 +342,7 @@ module _ (program : ProgramTree) (main : Identifier) (well : AreWell program) (n
             let p = expression_light a r.left left r.left_is in
             let q = expression_light b r.right right r.right_is in
             both _ _ root (operator_light o (tick_number numbers (clock_in i Base (tree.Node 0 site (tree.Binary o a b))))
-            (product (is_constant (node_scope program i.node) a) (coefficient program numbers i a) (coefficient program numbers i b) (flat_of program numbers i a) (flat_of program numbers i b))
+            (cond (is_constant (node_scope program i.node) a) (Scale (coefficient program a) (flat_of program numbers i b)) (Scale (coefficient program b) (flat_of program numbers i a)))
             (flat_of program numbers i a) (flat_of program numbers i b)
             (λ times. product_light (is_constant (node_scope program i.node) a) a b (flat_of program numbers i a) (flat_of program numbers i b)
             (λ c. coefficient_light a left c)
@@ -407,62 +376,34 @@ module _ (program : ProgramTree) (main : Identifier) (well : AreWell program) (n
         both (nat_le (get_or all_weights (number q) 0) heaviest) true (within_told _ heaviest (subst (λ w. w ≤ heaviest) (sym (flow_weighs q is)) (flow_light q is))) refl
     giver_light p _ (by_call i c j e of called arg at) = let t = (typed program main well named i of).argument c j e called arg in expression_light i of e t.0 (argument_stands i.node c j e called arg) t.1
 
-    flows_light_from : (done : ℕ) (fs : List FlatFlow) → ((j : ℕ) (f : FlatFlow) → slice_get fs j ≡ Some f → slice_get flows (done + j) ≡ Some f) → flows_light all_weights fs ≡ true
-    flows_light_from done [] from = refl
-    flows_light_from done (f ∷ fs) from =
-        let here : done + 0 ≡ done = omega arith in
-        let r = giver_at done f (ap (slice_get flows) (sym here) ∙ from 0 f refl) in
-        both (is_light all_weights (flat_tree f.body)) (flows_light all_weights fs)
-        (ap (λ item. is_light all_weights item.body) r.2 ∙ giver_light (get_or (places_of flows) done []) r.0 r.1)
-        (flows_light_from (done + 1) fs (λ j g e. let next : (done + 1) + j ≡ done + suc j = omega arith in ap (slice_get flows) next ∙ from (suc j) g e))
+    items_light_from : (xs : List Item) → ((x : Item) → Contains xs x → is_light all_weights x.body ≡ true) → items_light all_weights xs ≡ true
+    items_light_from [] each = refl
+    items_light_from (x ∷ xs) each = both (is_light all_weights x.body) (items_light all_weights xs) (each x (at_head x xs)) (items_light_from xs (λ y w. each y (in_tail x xs y w)))
+
+    -- what is in a list stands at a number
+    at_number : (xs : List Item) (x : Item) → Contains xs x → (k : ℕ) × (k < length xs) × (nth_item xs k ≡ x)
+    at_number xs x w = (w.0, w.1, get_or_default xs w.0 no_item x w.1 ∙ w.2)
 
     -- The flows are light.
-    pub all_flows_light : flows_light all_weights flows ≡ true
-    all_flows_light = flows_light_from 0 flows (λ j f e. let same : 0 + j ≡ j = omega arith in ap (slice_get flows) same ∙ e)
-
-    memory_light : (m : ℕ) (f : FlatMemory) → slice_get memories m ≡ Some f → is_light all_weights (flat_tree f.body) ≡ true
-    memory_light m f at =
-        let r = read.memory m (slice_get_within memories m f at) in
-        let is : memory_item f ≡ delay_item program numbers r.0 r.1 =
-        sym (get_or_from_slice_get (map memory_item memories) m (memory_item f) no_item (slice_get-map memory_item memories m ∙ ap (option_map memory_item) at)) ∙ r.5 in
-        let t = some_is ((typed program main well named r.0 r.2).delay r.1 r.3) in
-        ap (λ item. is_light all_weights item.body) is ∙ expression_light r.0 r.2 r.1.operand t.0 (operand_stands r.0.node r.1 r.3) t.1
-
-    memories_light_from : (done : ℕ) (ms : List FlatMemory) → ((j : ℕ) (f : FlatMemory) → slice_get ms j ≡ Some f → slice_get memories (done + j) ≡ Some f) → memories_light all_weights ms ≡ true
-    memories_light_from done [] from = refl
-    memories_light_from done (f ∷ fs) from =
-        let here : done + 0 ≡ done = omega arith in
-        both (is_light all_weights (flat_tree f.body)) (memories_light all_weights fs)
-        (memory_light done f (ap (slice_get memories) (sym here) ∙ from 0 f refl))
-        (memories_light_from (done + 1) fs (λ j g e. let next : (done + 1) + j ≡ done + suc j = omega arith in ap (slice_get memories) next ∙ from (suc j) g e))
+    pub all_flows_light : items_light all_weights s.flows ≡ true
+    all_flows_light = items_light_from s.flows (λ x w.
+        let a = at_number s.flows x w in
+        let r = read.flow a.0 a.1 in
+        ap (λ (item : Item). is_light all_weights item.body) (sym a.2 ∙ r.2) ∙ giver_light (get_or numbers.flows a.0 []) r.0 r.1)
 
     -- The memories are light.
-    pub all_memories_light : memories_light all_weights memories ≡ true
-    all_memories_light = memories_light_from 0 memories (λ j f e. let same : 0 + j ≡ j = omega arith in ap (slice_get memories) same ∙ e)
-
-    assertion_light : (k : ℕ) (a : FlatExpr) → slice_get assertions k ≡ Some a → is_light all_weights (flat_tree a) ≡ true
-    assertion_light k a at =
-        let r = read.asserted k (slice_get_within assertions k a at) in
-        let i : Instance = r.0 in
-        let t : IsTyped program i.node r.1.body kind.Bool = (typed program main well named i r.2).assertion r.1 r.3 in
-        let body = flat_of program numbers i r.1.body in
-        let is : flat_tree a ≡ assertion_of program numbers i r.1 =
-        sym (get_or_from_slice_get (map flat_tree assertions) k (flat_tree a) no_assertion (slice_get-map flat_tree assertions k ∙ ap (option_map flat_tree) at)) ∙ r.4 in
-        let parts = both (is_light all_weights (unplaced (presence (clock_number numbers (clock_in i Base r.1.body))))) (is_light all_weights body && true)
-        (presence_light i r.2 (clock_in i Base r.1.body) (own_clock i r.2 r.1.body kind.Bool t))
-        (both (is_light all_weights body) true (expression_light i r.2 r.1.body kind.Bool (as_assertion r.1 r.3) t) refl) in
-        ap (is_light all_weights) is
-        ∙ both (nat_le (max (flat_weight all_weights body) 0) heaviest) _
-        (subst (λ w. nat_le w heaviest ≡ true) (let same : flat_weight all_weights body ≡ max (flat_weight all_weights body) 0 = omega arith in same) (root_light i r.2 r.1.body kind.Bool (as_assertion r.1 r.3) t)) parts
-
-    assertions_light_from : (done : ℕ) (es : List FlatExpr) → ((j : ℕ) (a : FlatExpr) → slice_get es j ≡ Some a → slice_get assertions (done + j) ≡ Some a) → assertions_light all_weights es ≡ true
-    assertions_light_from done [] from = refl
-    assertions_light_from done (a ∷ es) from =
-        let here : done + 0 ≡ done = omega arith in
-        both (is_light all_weights (flat_tree a)) (assertions_light all_weights es)
-        (assertion_light done a (ap (slice_get assertions) (sym here) ∙ from 0 a refl))
-        (assertions_light_from (done + 1) es (λ j g e. let next : (done + 1) + j ≡ done + suc j = omega arith in ap (slice_get assertions) next ∙ from (suc j) g e))
+    pub all_memories_light : items_light all_weights (memory_items s) ≡ true
+    all_memories_light = items_light_from (memory_items s) (λ x w.
+        let a = at_number (memory_items s) x w in
+        let many = length-map s.memories (λ (m : Kept). m.item) in
+        let r = read.memory_only a.0 (let lt = a.1 in omega (arith, lt, many)) in
+        let t = some_is ((typed program main well named r.0 r.2).delay r.1 r.3) in
+        ap (λ (item : Item). is_light all_weights item.body) (sym a.2 ∙ r.4) ∙ expression_light r.0 r.2 r.1.operand t.0 (operand_stands r.0.node r.1 r.3) t.1)
 
     -- The assertions are light.
-    pub all_assertions_light : assertions_light all_weights assertions ≡ true
-    all_assertions_light = assertions_light_from 0 assertions (λ j a e. let same : 0 + j ≡ j = omega arith in ap (slice_get assertions) same ∙ e)
+    pub all_assertions_light : items_light all_weights s.assertions ≡ true
+    all_assertions_light = items_light_from s.assertions (λ x w.
+        let a = at_number s.assertions x w in
+        let r = read.asserted a.0 a.1 in
+        ap (λ (item : Item). is_light all_weights item.body) (sym a.2 ∙ r.4)
+        ∙ expression_light r.0 r.2 r.1.body kind.Bool (as_assertion r.1 r.3) ((typed program main well named r.0 r.2).assertion r.1 r.3))

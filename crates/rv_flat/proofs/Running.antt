@@ -22,10 +22,11 @@ use Rattle.rv_flat.specs.declared.flat.Flat.{Flat}
 use Rattle.rv_flat.specs.declared.parts.FlatMemory.{FlatMemory}
 use Rattle.rv_flat.specs.declared.state.State.{State}
 use Rattle.rv_flat.specs.FlatInstants.{Row, nth, places, memory_places, tick_clocks, IsFlatInstant, IsFlatNext}
-use Rattle.rv_flat.specs.FlatOf.{IsBroken, IsFlatBroken, flat_state, flat_inputs, row_of, memory_of}
+use Rattle.rv_flat.specs.FlatOf.{IsBroken, IsFlatBroken, flat_state, flat_inputs, row_of}
 use Rattle.rv_flat.specs.FlatRuns.{AreStepsOf, IsBrokenAt}
 use Rattle.rv_flat.specs.Lists.{tick_places}
-use Rattle.rv_flat.specs.Steps.{IsFlatStart, IsLeastOf}
+use Rattle.rv_flat.specs.Steps.{IsLeastOf}
+use Rattle.rv_flat.specs.Systems.{memory_of}
 use Rattle.rv_flat.proofs.Earliest.{least_same}
 use Rattle.rv_flat.proofs.OneRow.{only_row}
 
@@ -65,7 +66,7 @@ one_next f now inputs row a b p q = same_state a b
     (λ m lt. p.kept m (omega (arith, p.memories)) ∙ sym (q.kept m (omega (arith, p.memories))))
 
 -- two functions that agree on the places of memories give the same values
-same_kept : (g h : Sites → Value) (ms : List FlatMemory) → ((m : MemoryAt) → Contains (map memory_of ms) m → g m.place ≡ h m.place)
+pub same_kept : (g h : Sites → Value) (ms : List FlatMemory) → ((m : MemoryAt) → Contains (map memory_of ms) m → g m.place ≡ h m.place)
     → map g (map (λ m. m.place.sites) ms) ≡ map h (map (λ m. m.place.sites) ms)
 same_kept g h [] all = refl
 same_kept g h (x ∷ ms) all =
@@ -73,7 +74,7 @@ same_kept g h (x ∷ ms) all =
     let rest = same_kept g h ms (λ m w. all m (suc w.0, omega (arith, w.1), w.2)) in
     λ i. head i ∷ rest i
 
-all_false : (g : Option Sites → Bool) (ks : List (Option Sites)) → ((k : Option Sites) → g k ≡ false) → (k : ℕ) → get_or (map g ks) k false ≡ false
+pub all_false : (g : Option Sites → Bool) (ks : List (Option Sites)) → ((k : Option Sites) → g k ≡ false) → (k : ℕ) → get_or (map g ks) k false ≡ false
 all_false g [] none k = refl
 all_false g (x ∷ ks) none zero = none x
 all_false g (x ∷ ks) none (suc k) = all_false g ks none k
@@ -94,7 +95,7 @@ not_both o (Label l) (inr holds) is h = cc
 not_both o (Whole z) (inr holds) is h = cc
 
 -- what stands at a number is something only below the end
-within_places : (ps : List Sites) (k s : ℕ) → get_or ps k [] ≡ s ∷ [] → k < length ps
+pub within_places : (ps : List Sites) (k s : ℕ) → get_or ps k [] ≡ s ∷ [] → k < length ps
 within_places [] k s e = cc
 within_places (p ∷ ps) zero s e = omega arith
 within_places (p ∷ ps) (suc k) s e = let h = within_places ps k s e in omega (arith, h)

@@ -1,5 +1,5 @@
 -- The parts of an expression that has a type have types.
-use Rattle.std.proofs.Common.{◌≡◌, ℕ, Bool, true, false, ◌&&◌, ◌||◌, cond, List, [], ◌∷◌, refl, sym, ◌∙◌, ap, Option, Some}
+use Rattle.std.proofs.Common.{◌≡◌, ℕ, Bool, true, false, ◌&&◌, ◌||◌, cond, List, [], ◌∷◌, refl, sym, ◌∙◌, ap, Option, Some, IsSome}
 use Rattle.std.proofs.Common.{None as Nothing}
 use Rattle.std.proofs.lemmas.Bool.{eqb-true}
 use Rattle.std.proofs.lemmas.Option.{none-some, same_Some}
@@ -18,6 +18,14 @@ use Rattle.rv_types.specs.Instances.{IsArgument, head, tail}
 -- false is not true
 pub no_flag : {G : Type 0} → false ≡ true → G
 no_flag e = absurd (let b : ⊥ = cc in b)
+
+-- what is there
+pub some_is : {X : Type 0} {o : Option X} → IsSome o → (x : X) × (o ≡ Some x)
+some_is {X = X} {o = o} h = by o h
+  where
+    by : (o : Option X) → IsSome o → (x : X) × (o ≡ Some x)
+    by Nothing h = no_flag h
+    by (Some x) h = (x, refl)
 
 -- of two tests that both hold
 pub both_hold : (a b : Bool) → (a && b) ≡ true → (a ≡ true) × (b ≡ true)

@@ -29,10 +29,11 @@ use Rattle.rv_flat.specs.declared.flat.Flat.{Flat}
 use Rattle.rv_flat.specs.declared.parts.FlatMemory.{FlatMemory}
 use Rattle.rv_flat.specs.declared.state.State.{State}
 use Rattle.rv_flat.specs.FlatInstants.{Row, places, memory_places, nth_item, memory_items, value_at, IsFlatInstant, IsFlatNext}
-use Rattle.rv_flat.specs.FlatOf.{IsFlatOf, flat_state, flat_inputs, first_values, row_of, instant_of, memory_of}
-use Rattle.rv_flat.specs.Facts.{constant_fits}
+use Rattle.rv_flat.specs.FlatOf.{IsFlatOf, flat_state, flat_inputs, first_values, row_of, instant_of}
+use Rattle.rv_agreement.specs.Checks.{constant_fits}
 use Rattle.rv_flat.specs.Lists.{tick_places}
 use Rattle.rv_flat.specs.Steps.{IsInRange, IsState, AreValues, AreTaken, label_counts, memory_kinds, input_kinds}
+use Rattle.rv_flat.specs.Systems.{memory_of}
 use Rattle.rv_flat.proofs.TickList.{number_at, ticks_rising}
 
 -- What is taken from the meaning: memories of their types stay so, and there is a state after each row.
@@ -46,7 +47,7 @@ abbrev pub SomeNext : Type 0
 SomeNext = (program : ProgramTree) (main : Identifier) (state : Brought) (row : Instant) → AreWell program → IsNode program main → (next : Brought) × IsNext program main state row next
 
 -- the labels of the enumerations
-counted : (ds : List TypeDecl) (i : ℕ) → get_or (map (λ ls. length ls) (map (λ d. texts (labels_of d)) ds)) i 0 ≡ labels_at ds i
+pub counted : (ds : List TypeDecl) (i : ℕ) → get_or (map (λ ls. length ls) (map (λ d. texts (labels_of d)) ds)) i 0 ≡ labels_at ds i
 counted [] i = refl
 counted (d ∷ ds) zero = length-map (labels_of d) (λ x. x.text)
 counted (d ∷ ds) (suc i) = counted ds i
@@ -76,11 +77,11 @@ module _ (program : ProgramTree) (counts : List ℕ) (same : (i : ℕ) → get_o
   fits_kind (kind.Labels i) (Whole z) h = absurd h
 
 -- the inputs as a function and back
-length-values : (g : ℕ → Value) (n : ℕ) → length (first_values g n) ≡ n
+pub length-values : (g : ℕ → Value) (n : ℕ) → length (first_values g n) ≡ n
 length-values g zero = refl
 length-values g (suc n) = omega (arith, length-append (first_values g n) (g n ∷ []), length-values g n)
 
-value_kth : (g : ℕ → Value) (n k : ℕ) → k < n → get_or (first_values g n) k (Flag false) ≡ g k
+pub value_kth : (g : ℕ → Value) (n k : ℕ) → k < n → get_or (first_values g n) k (Flag false) ≡ g k
 value_kth g zero k lt = absurd (omega arith)
 value_kth g (suc n) k lt = elim (eq-or-lt_of_le {n = k} {m = n} (omega arith)) [
   | inl same ↦ subst (λ j. get_or (first_values g (suc n)) j (Flag false) ≡ g j) (sym same) (get_or_push (first_values g n) (g n) (Flag false) n (length-values g n))
@@ -88,14 +89,14 @@ value_kth g (suc n) k lt = elim (eq-or-lt_of_le {n = k} {m = n} (omega arith)) [
 ]
 
 -- a memory by its place and type, at a number
-memory_kth : (ms : List FlatMemory) (m : ℕ) (j : Kind) → slice_get (map (λ x. x.kind) ms) m ≡ Some j
+pub memory_kth : (ms : List FlatMemory) (m : ℕ) (j : Kind) → slice_get (map (λ x. x.kind) ms) m ≡ Some j
     → Contains (map memory_of ms) (record { place = get_or (map (λ x. x.place.sites) ms) m []; kind = j })
 memory_kth [] m j e = absurd (grind arith)
 memory_kth (x ∷ ms) zero j e = let same : x.kind ≡ j = grind arith in (0, omega arith, λ i. record { place = x.place.sites; kind = same i })
 memory_kth (x ∷ ms) (suc m) j e = let w = memory_kth ms m j e in (suc w.0, omega (arith, w.1), w.2)
 
 -- and back
-memory_found : (ms : List FlatMemory) (a : MemoryAt) → Contains (map memory_of ms) a
+pub memory_found : (ms : List FlatMemory) (a : MemoryAt) → Contains (map memory_of ms) a
     → (m : ℕ) × (m < length ms) × (slice_get (map (λ x. x.kind) ms) m ≡ Some a.kind) × (get_or (map (λ x. x.place.sites) ms) m [] ≡ a.place)
 memory_found [] a w = absurd (let lt = w.1 in omega (arith, lt))
 memory_found (x ∷ ms) a (zero, lt, is) = (0, omega arith, ap (λ (b : MemoryAt). Some b.kind) is, ap (λ (b : MemoryAt). b.place) is)
@@ -129,10 +130,10 @@ module _ (program : ProgramTree) (main : Identifier) (f : Flat) (well : AreWell 
   abbrev kept_places : List Sites
   kept_places = memory_places f
 
-  memories_rising : AreRising kept_places
+  pub memories_rising : AreRising kept_places
   memories_rising = subst AreRising (places_same f.memories) flat.memories.rising
 
-  counts_same : (i : ℕ) → get_or (label_counts f) i 0 ≡ labels_at program.types i
+  pub counts_same : (i : ℕ) → get_or (label_counts f) i 0 ≡ labels_at program.types i
   counts_same i = ap (λ ls. get_or (map (λ l. length l) ls) i 0) flat.labels ∙ counted program.types i
 
   count : length kept_places ≡ length f.memories

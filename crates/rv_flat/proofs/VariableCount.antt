@@ -1,5 +1,5 @@
 -- A program has as many diagram variables as are counted, and no fewer.
-use Rattle.std.proofs.Common.{◌≡◌, inl, inr, ℕ, zero, suc, ◌+◌, ◌*◌, ◌<◌, ◌≤◌, Bool, true, false, ◌&&◌, ◌||◌, cond, nat_eq, List, [], ◌∷◌, ◌++◌, map, flat_map, length, get_or, refl, sym, ◌∙◌, ap, subst, arith, unwrap_or, append_assoc, length-append, Option, Some}
+use Rattle.std.proofs.Common.{◌≡◌, inl, inr, ℕ, zero, suc, ◌≤◌, Bool, true, false, ◌&&◌, ◌||◌, cond, nat_eq, List, [], ◌∷◌, ◌++◌, map, flat_map, length, get_or, refl, sym, ◌∙◌, ap, subst, arith, unwrap_or, append_assoc, length-append, Option, Some}
 use Rattle.std.proofs.Common.{None as Nothing}
 use Rattle.std.proofs.lemmas.Bool.Decides.{nat_tests}
 use Rattle.std.proofs.lemmas.List.{length-map}
@@ -8,12 +8,11 @@ use Rattle.std.specs.List.{Contains}
 use Rattle.rv_syntax.specs.declared.tree.Op.{Op}
 use Rattle.rv_syntax.specs.declared.tree.Op.TheVariants as op
 use Rattle.rv_syntax.specs.Delays.{Delay, node_delays, IsNumbered}
-use Rattle.rv_syntax.specs.Places.{Identifier, Sites, memory_site}
+use Rattle.rv_syntax.specs.Places.{Identifier, Sites}
 use Rattle.rv_syntax.specs.Sites.{is_comparison}
 use Rattle.rv_syntax.specs.SitedParts as sited
 use Rattle.rv_syntax.specs.SitedParts.{SitedPart, part}
-use Rattle.rv_syntax.specs.Tree.{Tree, Node, Form, True, False, Number, Named, Not, Minus, Pre, Current, When, Binary, If, AtMostOne, Call, Trees, None, More, EquationTree, AssertionTree, NodeTree, ProgramTree}
-use Rattle.rv_types.specs.declared.typed.Kind.{Kind}
+use Rattle.rv_syntax.specs.Tree.{Tree, Node, True, False, Number, Named, Not, Minus, Pre, Current, When, Binary, If, AtMostOne, Call, Trees, None, More, EquationTree, AssertionTree, NodeTree, ProgramTree}
 use Rattle.rv_types.specs.declared.typed.Kind.TheVariants as kind
 use Rattle.rv_types.specs.declared.typed.Clock.TheVariants.{Base}
 use Rattle.rv_types.specs.Kinds.{decl_kinds}
@@ -21,21 +20,22 @@ use Rattle.rv_types.specs.Scopes.{node_scope}
 use Rattle.rv_types.specs.Types.{Scope, kind_of}
 use Rattle.rv_types.specs.Values.{operand_kind}
 use Rattle.rv_types.specs.Instances.{CallTree, calls, Instance, callee, unrolled, main_instance, IsInstance, is_main, is_callee, all_instances, clock_in, node_of}
-use Rattle.rv_types.specs.Lists.{AreTicks, AreMemories, AreComparisons, AreVariables, IsAny, MemoryAt, ComparisonAt, Compares, MainTick, Tick, Kept, Input, Test, with_copies, memory_variables, input_variables, test_variables, sides_of, memory_at}
-use Rattle.rv_types.specs.Variables.{total, is_integer, is_in, memories, memories_beside, node_parts, parts, form_parts, parts_of_all, kind_bits, memory_bits, tests_of, own_tests, order_tests, is_arrow, arrow_clocks, same_place, is_place_in, different, over_instances, ticks, variable_count}
+use Rattle.rv_types.specs.Lists.{AreTicks, AreMemories, AreComparisons, AreVariables, IsAny, MemoryAt, ComparisonAt, MainTick, Tick, with_copies, memory_variables, input_variables, test_variables, sides_of, memory_at}
+use Rattle.rv_types.specs.Variables.{total, is_integer, is_in, memories, memories_beside, node_parts, parts, parts_of_all, kind_bits, memory_bits, tests_of, own_tests, order_tests, is_arrow, arrow_clocks, same_place, is_place_in, different, over_instances, ticks, variable_count}
 use Rattle.rv_types.specs.WellFormed.{AreSited}
+use Rattle.rv_agreement.specs.Programs.{is_test}
 use Rattle.rv_flat.specs.Compared as compared
 use Rattle.rv_flat.specs.declared.comparisons.Tested.{Tested}
 use Rattle.rv_flat.specs.declared.parts.Bit.{Bit}
-use Rattle.rv_flat.specs.Compared.{is_test, tests, tests_of_all, tests_in_equations, tests_in_assertions, tests_in}
+use Rattle.rv_flat.specs.Compared.{tests, tests_of_all, tests_in_equations, tests_in_assertions, tests_in}
 use Rattle.rv_flat.specs.Lists.{variable_of}
 use Rattle.rv_flat.proofs.Apart.{IsApart, apart_told, apart_by, apart_map, apart_both, apart_left, apart_right, apart_across, apart_flat}
-use Rattle.rv_flat.proofs.ComparedParts.{IsTest, found_test, own_of, own_is, tests_are, all_are, equations_are, assertions_are, node_is, Marked, marks, marks_of_all, marked_comparison, equation_marks, assertion_marks, node_marks, node_seen, marked, all_marked, node_marked}
+use Rattle.rv_flat.proofs.ComparedParts.{found_test, own_of, own_is, tests_are, all_are, node_is, Marked, marks, marks_of_all, marked_comparison, equation_marks, assertion_marks, node_marks, node_seen, marked, all_marked, node_marked}
 use Rattle.rv_flat.proofs.ComparedPlaces.{has_sides}
 use Rattle.rv_flat.proofs.CountedVariables.{total_joined, total_flat_map, total_map, total_same, around, still_there, length_copies, length_memories, length_inputs, length_tests, ones, own_clocks, site, ticks_few, memories_few, tests_few}
 use Rattle.rv_flat.proofs.InstanceNumbers.{of_map, snoc}
-use Rattle.rv_flat.proofs.Members.{none_in, at_head, in_tail, head_or_tail, in_map, in_flat_map, from_flat_map}
-use Rattle.rv_flat.proofs.TypedParts.{no_flag, both_hold}
+use Rattle.rv_flat.proofs.Members.{none_in, at_head, in_tail, head_or_tail, in_map, from_flat_map}
+use Rattle.rv_flat.proofs.TypedParts.{no_flag}
 
 -- A sum over elements that are told apart, all of which are in a list, is no more than that over the list.
 sum_once : {X K : Type 0} (f : X → ℕ) (key : X → K) (xs ys : List X) → IsApart key xs → ((x : X) → Contains xs x → Contains ys x) → total f xs ≤ total f ys
@@ -206,7 +206,7 @@ module _ (s : Scope) where
   test_marked e t w =
       let r = from_flat_map (own_of s) (parts e) t (subst (λ (l : List Tested). Contains l t) (tests_are s e) w) in
       let v = own_is s r.0 t r.2 in (
-        record { at_site = part v.at (Some t.site); operator = t.operator },
+        record { at_site = part v.at (Some t.site); whole = Node v.at (Some t.site) (Binary t.operator v.left v.right) },
         marked v.at (Some t.site) t.operator v.left v.right v.compares e (subst (λ (x : Tree). Contains (parts e) x) v.is r.1),
         refl,
       )
@@ -215,7 +215,7 @@ module _ (s : Scope) where
   tests_marked es t w =
       let r = from_flat_map (own_of s) (parts_of_all es) t (subst (λ (l : List Tested). Contains l t) (all_are s es) w) in
       let v = own_is s r.0 t r.2 in (
-        record { at_site = part v.at (Some t.site); operator = t.operator },
+        record { at_site = part v.at (Some t.site); whole = Node v.at (Some t.site) (Binary t.operator v.left v.right) },
         all_marked v.at (Some t.site) t.operator v.left v.right v.compares es (subst (λ (x : Tree). Contains (parts_of_all es) x) v.is r.1),
         refl,
       )
@@ -228,14 +228,14 @@ module _ (s : Scope) where
       apart_both site_of_test xs ys p q
       (λ t u v w e. let a = in_ms t v in let b = in_ns u w in apart_across site_of_mark ms ns apart a.0 b.0 a.1 b.1 (a.2 ∙ ap Some e ∙ sym b.2))
 
-  own_marked : (at : ℕ) (k : Option ℕ) (o : Op) (a : Tree) (t : Tested) → Contains (compared.own_tests s k o a) t → (m : Marked) × Contains (marked_comparison o at k) m × (m.at_site.site ≡ Some t.site)
-  own_marked at Nothing o a t w = none_in t w
-  own_marked at (Some k) o a t w = by (is_comparison o) (is_integer (unwrap_or (kind_of s a) kind.Bool)) w
+  own_marked : (at : ℕ) (k : Option ℕ) (o : Op) (a e : Tree) (t : Tested) → Contains (compared.own_tests s k o a) t → (m : Marked) × Contains (marked_comparison o at k e) m × (m.at_site.site ≡ Some t.site)
+  own_marked at Nothing o a e t w = none_in t w
+  own_marked at (Some k) o a e t w = by (is_comparison o) (is_integer (unwrap_or (kind_of s a) kind.Bool)) w
     where
       by : (b c : Bool) → Contains {X = Tested} (cond (b && c) (record { site = k; operator = o } ∷ []) []) t
-          → (m : Marked) × Contains (cond b (record { at_site = part at (Some k); operator = o } ∷ []) []) m × (m.at_site.site ≡ Some t.site)
+          → (m : Marked) × Contains (cond b (record { at_site = part at (Some k); whole = e } ∷ []) []) m × (m.at_site.site ≡ Some t.site)
       by true true w = elim (head_or_tail (record { site = k; operator = o }) [] t w) [
-        | inl same ↦ (record { at_site = part at (Some k); operator = o }, at_head (record { at_site = part at (Some k); operator = o }) [], ap (λ (t : Tested). Some t.site) same)
+        | inl same ↦ (record { at_site = part at (Some k); whole = e }, at_head (record { at_site = part at (Some k); whole = e }) [], ap (λ (t : Tested). Some t.site) same)
         | inr none ↦ none_in t none
       ]
       by true false w = none_in t w
@@ -250,19 +250,19 @@ module _ (s : Scope) where
       by false = tt
 
   -- both sides of an operator, and the operator itself
-  own_first : (at : ℕ) (k : Option ℕ) (o : Op) (a b : Tree) → IsApart site_of_mark (marks a ++ (marked_comparison o at k ++ marks b)) → IsApart site_of_test (tests s a) → IsApart site_of_test (tests s b)
+  own_first : (at : ℕ) (k : Option ℕ) (o : Op) (a b : Tree) → IsApart site_of_mark (marks a ++ (marked_comparison o at k (Node at k (Binary o a b)) ++ marks b)) → IsApart site_of_test (tests s a) → IsApart site_of_test (tests s b)
       → IsApart site_of_test (compared.own_tests s k o a ++ (tests s a ++ tests s b))
   own_first at k o a b apart p q =
-      let right = apart_right site_of_mark (marks a) (marked_comparison o at k ++ marks b) apart in
-      let across = apart_across site_of_mark (marks a) (marked_comparison o at k ++ marks b) apart in
+      let right = apart_right site_of_mark (marks a) (marked_comparison o at k (Node at k (Binary o a b)) ++ marks b) apart in
+      let across = apart_across site_of_mark (marks a) (marked_comparison o at k (Node at k (Binary o a b)) ++ marks b) apart in
       let both = apart_both site_of_test (tests s a) (tests s b) p q
       (λ t u v w e. let m = test_marked a t v in let n = test_marked b u w in
-      across m.0 n.0 m.1 (Contains-append_right (marked_comparison o at k) (marks b) n.0 n.1) (m.2 ∙ ap Some e ∙ sym n.2)) in
+      across m.0 n.0 m.1 (Contains-append_right (marked_comparison o at k (Node at k (Binary o a b))) (marks b) n.0 n.1) (m.2 ∙ ap Some e ∙ sym n.2)) in
       apart_both site_of_test (compared.own_tests s k o a) (tests s a ++ tests s b) (own_apart k o a) both
-      (λ t u v w e. let m = own_marked at k o a t v in
+      (λ t u v w e. let m = own_marked at k o a (Node at k (Binary o a b)) t v in
       elim (Contains-append_cases (tests s a) (tests s b) u w) [
-        | inl left ↦ let n = test_marked a u left in across n.0 m.0 n.1 (Contains-append_left (marked_comparison o at k) (marks b) m.0 m.1) (n.2 ∙ sym (m.2 ∙ ap Some e))
-        | inr below ↦ let n = test_marked b u below in apart_across site_of_mark (marked_comparison o at k) (marks b) right m.0 n.0 m.1 n.1 (m.2 ∙ ap Some e ∙ sym n.2)
+        | inl left ↦ let n = test_marked a u left in across n.0 m.0 n.1 (Contains-append_left (marked_comparison o at k (Node at k (Binary o a b))) (marks b) m.0 m.1) (n.2 ∙ sym (m.2 ∙ ap Some e))
+        | inr below ↦ let n = test_marked b u below in apart_across site_of_mark (marked_comparison o at k (Node at k (Binary o a b))) (marks b) right m.0 n.0 m.1 n.1 (m.2 ∙ ap Some e ∙ sym n.2)
       ])
 
   mutual
@@ -277,8 +277,8 @@ module _ (s : Scope) where
     tests_apart (Node at k (Current e)) h = tests_apart e h.1
     tests_apart (Node at k (When e c)) h = tests_apart e h
     tests_apart (Node at k (Binary o a b)) h =
-        own_first at k o a b h (tests_apart a (apart_left site_of_mark (marks a) (marked_comparison o at k ++ marks b) h))
-        (tests_apart b (apart_right site_of_mark (marked_comparison o at k) (marks b) (apart_right site_of_mark (marks a) (marked_comparison o at k ++ marks b) h)))
+        own_first at k o a b h (tests_apart a (apart_left site_of_mark (marks a) (marked_comparison o at k (Node at k (Binary o a b)) ++ marks b) h))
+        (tests_apart b (apart_right site_of_mark (marked_comparison o at k (Node at k (Binary o a b))) (marks b) (apart_right site_of_mark (marks a) (marked_comparison o at k (Node at k (Binary o a b)) ++ marks b) h)))
     tests_apart (Node at k (If a b c)) h =
         let right = apart_right site_of_mark (marks a) (marks b ++ marks c) h in
         tests_both (tests s a) (tests s b ++ tests s c) (marks a) (marks b ++ marks c) h (test_marked a)
@@ -314,8 +314,8 @@ module _ (s : Scope) where
   assertion_marked : (xs : List AssertionTree) (t : Tested) → Contains (tests_in_assertions s xs) t → (m : Marked) × Contains (assertion_marks xs) m × (m.at_site.site ≡ Some t.site)
   assertion_marked [] t w = none_in t w
   assertion_marked (x ∷ xs) t w = elim (Contains-append_cases (tests s x.body) (tests_in_assertions s xs) t w) [
-    | inl v ↦ let m = test_marked x.body t v in (m.0, in_tail (record { at_site = part x.at (Some x.site); operator = op.Arrow }) (marks x.body ++ assertion_marks xs) m.0 (Contains-append_left (marks x.body) (assertion_marks xs) m.0 m.1), m.2)
-    | inr v ↦ let m = assertion_marked xs t v in (m.0, in_tail (record { at_site = part x.at (Some x.site); operator = op.Arrow }) (marks x.body ++ assertion_marks xs) m.0 (Contains-append_right (marks x.body) (assertion_marks xs) m.0 m.1), m.2)
+    | inl v ↦ let m = test_marked x.body t v in (m.0, in_tail (record { at_site = part x.at (Some x.site); whole = x.body }) (marks x.body ++ assertion_marks xs) m.0 (Contains-append_left (marks x.body) (assertion_marks xs) m.0 m.1), m.2)
+    | inr v ↦ let m = assertion_marked xs t v in (m.0, in_tail (record { at_site = part x.at (Some x.site); whole = x.body }) (marks x.body ++ assertion_marks xs) m.0 (Contains-append_right (marks x.body) (assertion_marks xs) m.0 m.1), m.2)
   ]
 
   assertions_apart : (xs : List AssertionTree) → IsApart site_of_mark (assertion_marks xs) → IsApart site_of_test (tests_in_assertions s xs)
@@ -368,7 +368,7 @@ module _ (p : ProgramTree) (n : NodeTree) (numbered : IsNumbered n) where
   has_site : (at : ℕ) (o : Op) (a b : Tree) → Contains (node_parts n) (Node at Nothing (Binary o a b)) → is_comparison o ≡ true → ⊥
   has_site at o a b w e =
       let mark = node_marked at Nothing o a b e n w in
-      let there = subst (λ (l : List SitedPart). Contains l (part at Nothing)) (node_seen n) (in_map (λ (m : Marked). m.at_site) (node_marks n) (record { at_site = part at Nothing; operator = o }) mark) in
+      let there = subst (λ (l : List SitedPart). Contains l (part at Nothing)) (node_seen n) (in_map (λ (m : Marked). m.at_site) (node_marks n) (record { at_site = part at Nothing; whole = Node at Nothing (Binary o a b) }) mark) in
       let next = numbered.next (part at Nothing) there in
       let no : Nothing ≡ Some next.0 = next.1 in
       cc

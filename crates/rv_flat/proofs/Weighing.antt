@@ -1,5 +1,5 @@
 -- No integer of a flat expression is larger than its weight times 2^63, so an `i128` holds each.
-use Rattle.std.proofs.Common.{◌≡◌, ℕ, ◌+◌, ◌*◌, ◌^◌, ◌<◌, ◌≤◌, max, Bool, true, false, ◌&&◌, cond, ℤ, ◌+ℤ◌, ◌-ℤ◌, ◌*ℤ◌, nat_abs, List, get_or, arith}
+use Rattle.std.proofs.Common.{◌≡◌, ℕ, ◌+◌, ◌*◌, ◌^◌, ◌<◌, ◌≤◌, max, Bool, true, false, ◌&&◌, cond, ℤ, ◌+ℤ◌, ◌-ℤ◌, ◌*ℤ◌, nat_abs, List, get_or, arith, Option, Some}
 use Rattle.std.specs.Prelude.{nat_lt, nat_le, slice_get}
 use Rattle.std.proofs.Math.Nat.{mul-le-mul_left, mul_assoc}
 use Rattle.std.proofs.lemmas.Bool.{ltb-true}
@@ -9,16 +9,19 @@ use Rattle.rv_base.specs.declared.value.Value.{Value}
 use Rattle.rv_base.specs.declared.value.Value.TheVariants.{Flag, Label, Whole}
 use Rattle.rv_syntax.specs.declared.tree.Op.{Op}
 use Rattle.rv_syntax.specs.declared.tree.Op.TheVariants as op
+use Rattle.rv_syntax.specs.Limits.{heaviest}
+use Rattle.rv_syntax.specs.Places.{Sites}
 use Rattle.rv_types.specs.declared.typed.Kind.{Kind}
 use Rattle.rv_types.specs.declared.typed.Kind.TheVariants as kind
 use Rattle.rv_types.specs.Types.{same_kind}
-use Rattle.rv_meaning.specs.Meaning.{held, is_true, number, operate}
-use Rattle.rv_flat.specs.FlatTree.{FlatTree, Node, TreeForm, FlatTrees, Constant, Flow, Memory, Ticked, Input, Not, Binary, Scale, If, AtMostOne, None, More}
-use Rattle.rv_flat.specs.FlatInstants.{Row, nth, flat_value, form_flat_value}
-use Rattle.rv_syntax.specs.Limits.{heaviest}
-use Rattle.rv_flat.specs.Facts.{Scope, is_of, gives, operands, any_of, fits, form_fits, all_fit, constant_weight, weight_under, flat_weight, form_flat_weight, is_light, form_is_light, all_light}
-use Rattle.rv_flat.specs.Tame.{IsTame, HasTame, AreTame}
-use Rattle.rv_flat.proofs.Tested.{both, some_kind}
+use Rattle.rv_meaning.specs.Meaning.{is_true, number, operate}
+use Rattle.rv_agreement.specs.Checks.{same_clock, is_of, gives, clock_fits, fits, form_fits, all_fit}
+use Rattle.rv_agreement.specs.Evaluation.{Found, value, form_value, integers}
+use Rattle.rv_agreement.specs.Trees.{FlatTree, Node, TreeForm, FlatTrees, Constant, Flow, Memory, Ticked, Input, Not, Binary, Scale, If, AtMostOne, When, Current, None, More, System, memory_kinds, nth_item}
+use Rattle.rv_flat.specs.FlatInstants.{Row, nth, held, is_on_at}
+use Rattle.rv_flat.specs.Facts.{constant_weight, weight_under, flat_weight, form_flat_weight, is_light, form_is_light, all_light}
+use Rattle.rv_flat.specs.Tame.{IsHeld, IsTame, HasTame, AreTame}
+use Rattle.rv_flat.proofs.Tested.{both, operator_fits}
 
 -- how far from 0 the integer of a value is
 abbrev pub size : Value → ℕ
@@ -65,81 +68,96 @@ chosen_small : (c : Bool) (x y : Value) (v w : ℕ) → size x ≤ v * 2 ^ 63 �
 chosen_small true x y v w g h = omega arith
 chosen_small false x y v w g h = omega arith
 
+pub held_small : (v : Value) (w : ℕ) → size v ≤ w * 2 ^ 63 → nat_le w heaviest ≡ true → size v < 2 ^ 127
+held_small v w small light = let le : w ≤ heaviest = grind (arith, nat_tests) in omega (arith, small)
+
 -- where the flows have these weights, and the first of them, as many as are said, keep to them
-module _ (s : Scope) (ws : List ℕ) (ticked : List Bool) (kept inputs : List Value) (row : Row) (n : ℕ)
-    (kept_small : (m : ℕ) → size (get_or kept m (Flag false)) ≤ 2 ^ 63) (inputs_small : (j : ℕ) → size (get_or inputs j (Flag false)) ≤ 2 ^ 63)
+module _ (s : System) (ws : List ℕ) (found : Found Value) (row : Row) (n : ℕ)
+    (kept_small : (m : ℕ) → size (found.kept m) ≤ 2 ^ 63) (inputs_small : (j : ℕ) → size (found.given j) ≤ 2 ^ 63)
     (row_small : (k : ℕ) → k < n → size (held (nth row k)) ≤ get_or ws k 0 * 2 ^ 63) where
-  abbrev value : FlatTree → Value
-  value e = flat_value ticked kept inputs row e
+  abbrev worth : FlatTree → Value
+  worth e = value Value integers found row e
 
-  -- what an expression says of its parts
-  fit_pair : (o : Op) (k : Kind) (a b : FlatTree) → form_fits s n k (Binary o a b) ≡ true → (j : Kind) × ((fits s n j a && fits s n j b) ≡ true)
-  fit_pair o k a b fit = some_kind (λ j. fits s n j a && fits s n j b) (operands s o) (both (gives o k) (any_of (λ j. fits s n j a && fits s n j b) (operands s o)) fit).1
+  -- the operand of a `when`, and what a `current` shows
+  when_fits : (k : Option ℕ) (j : Kind) (at : Sites) (c : ℕ) (e : FlatTree) → form_fits s n k j at (When c e) ≡ true → fits s n (nth_item s.flows c).clock j e ≡ true
+  when_fits k j at c e fit =
+      let outer = both (same_clock k (Some c)) (clock_fits s n (Some c) && fits s n (nth_item s.flows c).clock j e) fit in
+      (both (clock_fits s n (Some c)) (fits s n (nth_item s.flows c).clock j e) outer.1).1
+
+  current_fits : (k : Option ℕ) (j : Kind) (at : Sites) (m : ℕ) (i : Option ℕ) (e : FlatTree) → form_fits s n k j at (Current m i e) ≡ true → fits s n i j e ≡ true
+  current_fits k j at m i e fit =
+      let outer = both (is_of j (slice_get (memory_kinds s) m)) (clock_fits s n i && fits s n i j e) fit in
+      (both (clock_fits s n i) (fits s n i j e) outer.1).1
 
   mutual
-    pub value_small : (k : Kind) (e : FlatTree) → fits s n k e ≡ true → is_light ws e ≡ true → size (flat_value ticked kept inputs row e) ≤ flat_weight ws e * 2 ^ 63
-    value_small k (Node at form) fit light = form_small k form fit (both (nat_le (form_flat_weight ws form) heaviest) (form_is_light ws form) light).1
+    pub value_small : (k : Option ℕ) (j : Kind) (e : FlatTree) → fits s n k j e ≡ true → is_light ws e ≡ true → size (value Value integers found row e) ≤ flat_weight ws e * 2 ^ 63
+    value_small k j (Node at form) fit light = form_small k j at form fit (both (nat_le (form_flat_weight ws form) heaviest) (form_is_light ws form) light).1
 
-    form_small : (k : Kind) (form : TreeForm) → form_fits s n k form ≡ true → form_is_light ws form ≡ true → size (form_flat_value ticked kept inputs row form) ≤ form_flat_weight ws form * 2 ^ 63
-    form_small k (Constant c) fit light = constant_small c
-    form_small k (Flow j) fit light = row_small j (ltb-true j n (both (nat_lt j n) (is_of k (slice_get s.flows j)) fit).0)
-    form_small k (Memory m) fit light = omega (arith, kept_small m)
-    form_small k (Ticked j) fit light = omega arith
-    form_small k (Input j) fit light = omega (arith, inputs_small j)
-    form_small k (Not e) fit light = omega arith
-    form_small k (Binary o a b) fit light =
-        let found = fit_pair o k a b fit in
-        let fits_both = both (fits s n found.0 a) (fits s n found.0 b) found.1 in
+    form_small : (k : Option ℕ) (j : Kind) (at : Sites) (form : TreeForm) → form_fits s n k j at form ≡ true → form_is_light ws form ≡ true
+        → size (form_value Value integers found row at form) ≤ form_flat_weight ws form * 2 ^ 63
+    form_small k j at (Constant c) fit light = constant_small c
+    form_small k j at (Flow c) fit light = row_small c (ltb-true c n (both (nat_lt c n) (is_of j (slice_get s.kinds c) && same_clock k (nth_item s.flows c).clock) fit).0)
+    form_small k j at (Memory m) fit light = omega (arith, kept_small m)
+    form_small k j at (Ticked t) fit light = omega arith
+    form_small k j at (Input i) fit light = omega (arith, inputs_small i)
+    form_small k j at (Not e) fit light = omega arith
+    form_small k j at (Binary o a b) fit light =
+        let told = operator_fits s n k j at o a b fit in
         let light_both = both (is_light ws a) (is_light ws b) light in
-        operated_small o k (value a) (value b) (flat_weight ws a) (flat_weight ws b)
-        (both (gives o k) (any_of (λ j. fits s n j a && fits s n j b) (operands s o)) fit).0
-        (value_small found.0 a fits_both.0 light_both.0) (value_small found.0 b fits_both.1 light_both.1)
-    form_small k (Scale z e) fit light =
-        product_small z (number (value e)) (flat_weight ws e)
-        (value_small kind.Int e (both (same_kind k kind.Int) (fits s n kind.Int e) fit).1 (both (nat_le (nat_abs z) heaviest) (is_light ws e) light).1)
-    form_small k (If c a b) fit light =
-        let outer = both (fits s n kind.Bool c) (fits s n k a && fits s n k b) fit in
-        let parts = both (fits s n k a) (fits s n k b) outer.1 in
+        operated_small o j (worth a) (worth b) (flat_weight ws a) (flat_weight ws b) told.0
+        (value_small k told.1.0 a told.1.1 light_both.0) (value_small k told.1.0 b told.1.2 light_both.1)
+    form_small k j at (Scale z e) fit light =
+        product_small z (number (worth e)) (flat_weight ws e)
+        (value_small k kind.Int e (both (same_kind j kind.Int) (fits s n k kind.Int e) fit).1 (both (nat_le (nat_abs z) heaviest) (is_light ws e) light).1)
+    form_small k j at (If c a b) fit light =
+        let outer = both (fits s n k kind.Bool c) (fits s n k j a && fits s n k j b) fit in
+        let parts = both (fits s n k j a) (fits s n k j b) outer.1 in
         let light_outer = both (is_light ws c) (is_light ws a && is_light ws b) light in
         let light_parts = both (is_light ws a) (is_light ws b) light_outer.1 in
-        chosen_small (is_true (value c)) (value a) (value b) (flat_weight ws a) (flat_weight ws b)
-        (value_small k a parts.0 light_parts.0) (value_small k b parts.1 light_parts.1)
-    form_small k (AtMostOne es) fit light = omega arith
-
-  held_small : (v : Value) (w : ℕ) → size v ≤ w * 2 ^ 63 → nat_le w heaviest ≡ true → size v < 2 ^ 127
-  held_small v w small light = let le : w ≤ heaviest = grind (arith, nat_tests) in omega (arith, small)
+        chosen_small (is_true (worth c)) (worth a) (worth b) (flat_weight ws a) (flat_weight ws b)
+        (value_small k j a parts.0 light_parts.0) (value_small k j b parts.1 light_parts.1)
+    form_small k j at (AtMostOne es) fit light = omega arith
+    form_small k j at (When c e) fit light = value_small (nth_item s.flows c).clock j e (when_fits k j at c e fit) light
+    form_small k j at (Current m i e) fit light =
+        chosen_small (is_on_at row i) (worth e) (found.kept m) (flat_weight ws e) 1
+        (value_small i j e (current_fits k j at m i e fit) light) (omega (arith, kept_small m))
 
   mutual
-    pub tame : (k : Kind) (e : FlatTree) → fits s n k e ≡ true → is_light ws e ≡ true → IsTame ticked kept inputs row e
-    tame k (Node at form) fit light =
+    pub tame : (k : Option ℕ) (j : Kind) (e : FlatTree) → fits s n k j e ≡ true → is_light ws e ≡ true → IsTame found row e
+    tame k j (Node at form) fit light =
         let parts = both (nat_le (form_flat_weight ws form) heaviest) (form_is_light ws form) light in
-        (held_small (form_flat_value ticked kept inputs row form) (form_flat_weight ws form) (form_small k form fit parts.1) parts.0, tame_form k form fit parts.1)
+        (held_small (form_value Value integers found row at form) (form_flat_weight ws form) (form_small k j at form fit parts.1) parts.0, tame_form k j at form fit parts.1)
 
-    tame_form : (k : Kind) (form : TreeForm) → form_fits s n k form ≡ true → form_is_light ws form ≡ true → HasTame ticked kept inputs row form
-    tame_form k (Constant c) fit light = tt
-    tame_form k (Flow j) fit light = tt
-    tame_form k (Memory m) fit light = tt
-    tame_form k (Ticked j) fit light = tt
-    tame_form k (Input j) fit light = tt
-    tame_form k (Not e) fit light = tame kind.Bool e (both (same_kind k kind.Bool) (fits s n kind.Bool e) fit).1 light
-    tame_form k (Binary o a b) fit light =
-        let found = fit_pair o k a b fit in
-        let fits_both = both (fits s n found.0 a) (fits s n found.0 b) found.1 in
+    tame_form : (k : Option ℕ) (j : Kind) (at : Sites) (form : TreeForm) → form_fits s n k j at form ≡ true → form_is_light ws form ≡ true → HasTame found row form
+    tame_form k j at (Constant c) fit light = tt
+    tame_form k j at (Flow c) fit light = tt
+    tame_form k j at (Memory m) fit light = tt
+    tame_form k j at (Ticked t) fit light = tt
+    tame_form k j at (Input i) fit light = tt
+    tame_form k j at (Not e) fit light = tame k kind.Bool e (both (same_kind j kind.Bool) (fits s n k kind.Bool e) fit).1 light
+    tame_form k j at (Binary o a b) fit light =
+        let told = operator_fits s n k j at o a b fit in
         let light_both = both (is_light ws a) (is_light ws b) light in
-        (tame found.0 a fits_both.0 light_both.0, tame found.0 b fits_both.1 light_both.1)
-    tame_form k (Scale z e) fit light =
-        tame kind.Int e (both (same_kind k kind.Int) (fits s n kind.Int e) fit).1 (both (nat_le (nat_abs z) heaviest) (is_light ws e) light).1
-    tame_form k (If c a b) fit light =
-        let outer = both (fits s n kind.Bool c) (fits s n k a && fits s n k b) fit in
-        let parts = both (fits s n k a) (fits s n k b) outer.1 in
+        (tame k told.1.0 a told.1.1 light_both.0, tame k told.1.0 b told.1.2 light_both.1)
+    tame_form k j at (Scale z e) fit light =
+        tame k kind.Int e (both (same_kind j kind.Int) (fits s n k kind.Int e) fit).1 (both (nat_le (nat_abs z) heaviest) (is_light ws e) light).1
+    tame_form k j at (If c a b) fit light =
+        let outer = both (fits s n k kind.Bool c) (fits s n k j a && fits s n k j b) fit in
+        let parts = both (fits s n k j a) (fits s n k j b) outer.1 in
         let light_outer = both (is_light ws c) (is_light ws a && is_light ws b) light in
         let light_parts = both (is_light ws a) (is_light ws b) light_outer.1 in
-        (tame kind.Bool c outer.0 light_outer.0, (tame k a parts.0 light_parts.0, tame k b parts.1 light_parts.1))
-    tame_form k (AtMostOne es) fit light = all_tame es (both (same_kind k kind.Bool) (all_fit s n es) fit).1 light
+        (tame k kind.Bool c outer.0 light_outer.0, (tame k j a parts.0 light_parts.0, tame k j b parts.1 light_parts.1))
+    tame_form k j at (AtMostOne es) fit light = all_tame k es (both (same_kind j kind.Bool) (all_fit s n k es) fit).1 light
+    tame_form k j at (When c e) fit light = tame (nth_item s.flows c).clock j e (when_fits k j at c e fit) light
+    tame_form k j at (Current m i e) fit light = tame i j e (current_fits k j at m i e fit) light
 
-    all_tame : (es : FlatTrees) → all_fit s n es ≡ true → all_light ws es ≡ true → AreTame ticked kept inputs row es
-    all_tame None fit light = tt
-    all_tame (More e es) fit light =
-        let parts = both (fits s n kind.Bool e) (all_fit s n es) fit in
+    all_tame : (k : Option ℕ) (es : FlatTrees) → all_fit s n k es ≡ true → all_light ws es ≡ true → AreTame found row es
+    all_tame k None fit light = tt
+    all_tame k (More e es) fit light =
+        let parts = both (fits s n k kind.Bool e) (all_fit s n k es) fit in
         let light_parts = both (is_light ws e) (all_light ws es) light in
-        (tame kind.Bool e parts.0 light_parts.0, all_tame es parts.1 light_parts.1)
+        (tame k kind.Bool e parts.0 light_parts.0, all_tame k es parts.1 light_parts.1)
+
+-- the integer of what is tame is held
+pub tame_held : (found : Found Value) (row : Row) (e : FlatTree) → IsTame found row e → IsHeld (value Value integers found row e)
+tame_held found row (Node at form) is = is.0

@@ -25,14 +25,14 @@ use Rattle.rv_flat.specs.declared.parts.FlatExpr.{FlatExpr}
 use Rattle.rv_flat.specs.declared.parts.FlatFlow.{FlatFlow}
 use Rattle.rv_flat.specs.declared.parts.FlatMemory.{FlatMemory}
 use Rattle.rv_flat.specs.Facts.{numbers_among}
-use Rattle.rv_flat.specs.FlatInstants.{flow_item, memory_item}
-use Rattle.rv_flat.specs.FlatTree.{FlatTree, flat_tree}
-use Rattle.rv_flat.specs.FlatOf.{memory_of}
+use Rattle.rv_flat.specs.RawTree.{RawTree, raw_tree}
 use Rattle.rv_flat.specs.Frames.{IsNumbering}
 use Rattle.rv_flat.specs.Kept.{AreKept, kept_memory, found_comparison}
 use Rattle.rv_flat.specs.NodeReaders.{AreOwnTables}
 use Rattle.rv_flat.specs.Positions.{AreNumbersOf}
-use Rattle.rv_flat.specs.Readings.{Numbers, giver_item, delay_item, assertion_of}
+use Rattle.rv_flat.specs.Readings.{raw_flow, raw_memory, raw_giver, raw_delay, assertion_of}
+use Rattle.rv_flat.specs.Systems.{memory_of}
+use Rattle.rv_agreement.specs.Translation.{Numbers}
 
 -- the places of the flows, memories and ticks, by their numbers
 abbrev pub numbers_found : List Sites → Found → Numbers
@@ -84,7 +84,7 @@ pub record IsMade (p : ProgramTree) (main : Identifier) (numbers : Numbers) (q :
   pub at : f.place.sites ≡ q
   pub giver : Giver
   pub gives : Gives p main q giver
-  pub item : flow_item f ≡ giver_item p numbers giver
+  pub item : raw_flow f ≡ raw_giver p numbers giver
   pub kind : (i : Instance) (x : Identifier) → IsInstance p main i → Contains (flows i.node) x → q ≡ place i x → Some f.kind ≡ flow_kind p i.node x
 
 -- The flows are made so, in this order.
@@ -99,7 +99,7 @@ pub record IsRemembered (p : ProgramTree) (main : Identifier) (numbers : Numbers
   pub is : IsInstance p main i
   pub there : Contains (node_delays i.node) d
   pub at : m.place.sites ≡ delay_place i d
-  pub item : memory_item m ≡ delay_item p numbers i d
+  pub item : raw_memory m ≡ raw_delay p numbers i d
 
 -- The memories are made so.
 pub record AreRemembered (x : Expanded) (sequence : List Sites) (f : Found) (ms : List FlatMemory) : Type 0 where
@@ -107,11 +107,11 @@ pub record AreRemembered (x : Expanded) (sequence : List Sites) (f : Found) (ms 
   pub each : (k : ℕ) (m : FlatMemory) → slice_get ms k ≡ Some m → IsRemembered (program_of x) (main_of x) (numbers_found sequence f) m
 
 -- an assertion of an instance is made so
-abbrev pub IsAsserted : ProgramTree → Identifier → Numbers → FlatTree → Type 0
+abbrev pub IsAsserted : ProgramTree → Identifier → Numbers → RawTree → Type 0
 IsAsserted p main numbers e = (i : Instance) × (a : AssertionTree) × IsInstance p main i × Contains i.node.assertions a × (e ≡ assertion_of p numbers i a)
 
 -- The assertions of the first instances are made so, and no others.
 pub record AreAsserted (x : Expanded) (numbers : Numbers) (first : ℕ) (es : List FlatExpr) : Type 0 where
   pub all : (m : ℕ) (i : Instance) (a : AssertionTree) → m < first → IsInstance (program_of x) (main_of x) i → IsNumberOf (program_of x) x.instances.now m i → Contains i.node.assertions a
-      → Contains (map flat_tree es) (assertion_of (program_of x) numbers i a)
-  pub only : (e : FlatTree) → Contains (map flat_tree es) e → IsAsserted (program_of x) (main_of x) numbers e
+      → Contains (map raw_tree es) (assertion_of (program_of x) numbers i a)
+  pub only : (e : RawTree) → Contains (map raw_tree es) e → IsAsserted (program_of x) (main_of x) numbers e

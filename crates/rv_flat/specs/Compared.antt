@@ -1,23 +1,17 @@
 -- The comparisons of integers in nodes, and those that they are in instances.
-use Rattle.std.specs.Prelude.{ℕ, Bool, ◌&&◌, cond, List, [], ◌∷◌, ◌++◌, map, unwrap_or, Option, Some, slice_index_or}
+use Rattle.std.specs.Prelude.{ℕ, cond, List, [], ◌∷◌, ◌++◌, map, Option, Some, slice_index_or}
 use Rattle.std.specs.Prelude.{None as Nothing}
 use Rattle.rv_syntax.specs.declared.tree.Op.{Op}
-use Rattle.rv_syntax.specs.Sites.{is_comparison}
 use Rattle.rv_syntax.specs.Tree.{Tree, Node, Form, True, False, Number, Named, Not, Minus, Pre, Current, When, Binary, If, AtMostOne, Call, Trees, None, More, EquationTree, AssertionTree, NodeTree, ProgramTree}
 use Rattle.rv_syntax.specs.Places.{Sites}
-use Rattle.rv_types.specs.declared.typed.Kind.TheVariants as kind
 use Rattle.rv_types.specs.Lists.{ComparisonAt}
 use Rattle.rv_types.specs.Scopes.{node_scope}
-use Rattle.rv_types.specs.Types.{Scope, kind_of}
-use Rattle.rv_types.specs.Variables.{is_integer}
+use Rattle.rv_types.specs.Types.{Scope}
+use Rattle.rv_agreement.specs.Programs.{is_test}
 use Rattle.rv_causality.specs.declared.answer.Instance.{Instance as Numbered}
 use Rattle.rv_causality.specs.Expanded.{no_instance}
 use Rattle.rv_causality.specs.Layouts.{path_at}
 use Rattle.rv_flat.specs.declared.comparisons.Tested.{Tested}
-
--- whether an operator with this left operand compares integers
-abbrev pub is_test : Scope → Op → Tree → Bool
-is_test s o a = is_comparison o && is_integer (unwrap_or (kind_of s a) kind.Bool)
 
 module _ (s : Scope) where
   -- an operator with this site and left operand, where it compares integers

@@ -1,13 +1,16 @@
 -- What one instant gives, flow by flow, memory by memory and tick by tick.
-use Rattle.std.specs.Prelude.{◌≡◌, ℕ, ◌+◌, ◌<◌, Bool, false, not, ◌||◌, cond, List, [], ◌∷◌, map, length, Option, Some, slice_index_or}
+use Rattle.std.specs.Prelude.{◌≡◌, ℕ, ◌+◌, ◌<◌, Bool, false, not, ◌||◌, cond, List, [], ◌∷◌, length, Option, Some, slice_index_or}
 use Rattle.std.specs.Prelude.{None as Nothing}
 use Rattle.rv_base.specs.declared.value.Value.{Value}
 use Rattle.rv_base.specs.declared.value.Value.TheVariants.{Flag}
 use Rattle.rv_meaning.specs.Meaning.{is_true}
+use Rattle.rv_agreement.specs.Evaluation.{Found, value, integers}
 use Rattle.rv_flat.specs.declared.flat.Flat.{Flat}
 use Rattle.rv_flat.specs.declared.state.State.{State}
-use Rattle.rv_flat.specs.FlatInstants.{Row, nth, is_on_at, nth_item, flow_items, memory_items, value_at}
-use Rattle.rv_flat.specs.FlatTree.{flat_tree}
+use Rattle.rv_flat.specs.FlatInstants.{Row, nth, is_on_at, nth_item, flow_items, memory_items, assertion_trees, value_at}
+use Rattle.rv_flat.specs.declared.parts.FlatMemory.{FlatMemory}
+use Rattle.rv_flat.specs.Inlined.{table_of}
+use Rattle.rv_flat.specs.Tame.{IsOver}
 use Rattle.rv_flat.specs.FlatOf.{no_assertion}
 
 -- The row of the first flows, as many as are said: each has what its expression has where its clock is there, and is absent
@@ -31,4 +34,10 @@ ticks_from row ticked k (c ∷ cs) = (slice_index_or ticked k false || is_on_at 
 
 -- whether the assertion with a number is false
 abbrev pub is_broken : Flat → State → List Value → Row → ℕ → Bool
-is_broken f now inputs row k = not (is_true (value_at now inputs row (slice_index_or (map flat_tree f.assertions) k no_assertion)))
+is_broken f now inputs row k = not (is_true (value_at now inputs row (slice_index_or (assertion_trees f) k no_assertion)))
+
+-- What the memories take that have been asked for at an instant, by their numbers: each is over the first flows, and has its value.
+pub record AreShown (memories : List FlatMemory) (found : Found Value) (row : Row) (shown : List (Option Value)) : Type 0 where
+  pub many : length shown ≡ length memories
+  pub each : (m : ℕ) (v : Value) → slice_index_or shown m Nothing ≡ Some v
+      → IsOver (length row) (table_of memories m).body × (v ≡ value Value integers found row (table_of memories m).body)

@@ -1,16 +1,21 @@
 -- One instant of a flat system: what its flows have, from the state before it and the inputs, and the state after it.
-use Rattle.std.specs.Prelude.{◌≡◌, ℕ, ◌+◌, ◌<◌, ◌*ℤ◌, Bool, true, false, not, ◌||◌, cond, nat_le, List, [], ◌∷◌, map, length, Option, Some, slice_index_or}
+use Rattle.std.specs.Prelude.{◌≡◌, ℕ, ◌<◌, Bool, false, ◌||◌, cond, List, [], ◌∷◌, map, length, Option, Some, slice_index_or}
 use Rattle.std.specs.Prelude.{None as Nothing}
 use Rattle.rv_base.specs.declared.value.Value.{Value}
-use Rattle.rv_base.specs.declared.value.Value.TheVariants.{Flag, Whole}
-use Rattle.rv_syntax.specs.Places.{Sites, index_of}
-use Rattle.rv_meaning.specs.Meaning.{held, is_on, is_true, number, operate}
-use Rattle.rv_flat.specs.declared.parts.FlatFlow.{FlatFlow}
-use Rattle.rv_flat.specs.declared.parts.FlatMemory.{FlatMemory}
+use Rattle.rv_base.specs.declared.value.Value.TheVariants.{Flag}
+use Rattle.rv_syntax.specs.Places.{Sites}
+use Rattle.rv_agreement.specs.Evaluation.{Found, value, integers}
+use Rattle.rv_agreement.specs.Evaluation as evaluation
+use Rattle.rv_agreement.specs.Trees.{FlatTree, Item, System}
+use Rattle.rv_agreement.specs.Trees as trees
 use Rattle.rv_flat.specs.declared.flat.Flat.{Flat}
 use Rattle.rv_flat.specs.declared.state.State.{State}
-use Rattle.rv_flat.specs.FlatTree.{FlatTree, Node, TreeForm, FlatTrees, Constant, Flow, Memory, Ticked, Input, Not, Binary, Scale, If, AtMostOne, None, More, flat_tree}
-use Rattle.rv_flat.specs.Lists.{tick_places}
+use Rattle.rv_flat.specs.Inlined.{tree_among}
+use Rattle.rv_flat.specs.Systems.{system_from, flow_item, memory_item, places_of, memory_places_of, tick_clocks_of}
+
+-- the system of a flat system: its parts by what an instant asks of them
+abbrev pub system_of : Flat → System
+system_of f = system_from f.flows f.memories f.inputs f.assertions f.variables f.labels f.observer
 
 -- what the flows have, in their order, none where one is absent
 abbrev pub Row : Type 0
@@ -19,72 +24,52 @@ Row = List (Option Value)
 abbrev pub nth : Row → ℕ → Option Value
 nth row k = slice_index_or row k Nothing
 
+-- what a flow has, of no meaning where it is absent, and whether it is there and true
+abbrev pub held : Option Value → Value
+held = evaluation.held Value integers
+
+abbrev pub is_on : Option Value → Bool
+is_on = evaluation.is_on Value integers
+
 -- whether the flow of a clock is there and true; the main node's base clock always is
 abbrev pub is_on_at : Row → Option ℕ → Bool
-is_on_at row Nothing = true
-is_on_at row (Some k) = is_on (nth row k)
+is_on_at row k = evaluation.is_there Value integers row k
 
--- What an expression has, where these clocks have ticked, the memories hold these values and the inputs have these. (No
--- `->` stands in a flat system: it is a choice by a tick.)
-module _ (ticked : List Bool) (kept : List Value) (inputs : List Value) (row : Row) where
-  abbrev mutual
-    pub flat_value : FlatTree → Value
-    flat_value (Node at form) = form_flat_value form
-
-    pub form_flat_value : TreeForm → Value
-    form_flat_value (Constant c) = c
-    form_flat_value (Flow k) = held (nth row k)
-    form_flat_value (Memory m) = slice_index_or kept m (Flag false)
-    form_flat_value (Ticked k) = Flag (slice_index_or ticked k false)
-    form_flat_value (Input j) = slice_index_or inputs j (Flag false)
-    form_flat_value (Not e) = Flag (not (is_true (flat_value e)))
-    form_flat_value (Binary o a b) = operate o false (flat_value a) (flat_value b)
-    form_flat_value (Scale n e) = Whole (n *ℤ number (flat_value e))
-    form_flat_value (If c a b) = cond (is_true (flat_value c)) (flat_value a) (flat_value b)
-    form_flat_value (AtMostOne es) = Flag (nat_le (flat_trues es) 1)
-
-    -- how many are true
-    pub flat_trues : FlatTrees → ℕ
-    flat_trues None = 0
-    flat_trues (More e es) = cond (is_true (flat_value e)) 1 0 + flat_trues es
+-- what an instant finds at a state, with these inputs
+abbrev pub found_at : State → List Value → Found Value
+found_at now inputs = record {
+  ticked = λ k. slice_index_or now.ticked k false;
+  kept = λ m. slice_index_or now.kept m (Flag false);
+  given = λ j. slice_index_or inputs j (Flag false);
+}
 
 -- what an expression has at a state
 abbrev pub value_at : State → List Value → Row → FlatTree → Value
-value_at now inputs row e = flat_value now.ticked now.kept inputs row e
-
--- a flow or a memory by what an instant asks of it: the number of its clock's flow, and its expression
-pub record Item : Type 0 where
-  pub clock : Option ℕ
-  pub body : FlatTree
-
-abbrev pub flow_item : FlatFlow → Item
-flow_item f = record { clock = f.clock; body = flat_tree f.body }
-
-abbrev pub memory_item : FlatMemory → Item
-memory_item m = record { clock = m.clock; body = flat_tree m.body }
+value_at now inputs row e = value Value integers (found_at now inputs) row e
 
 abbrev pub flow_items : Flat → List Item
-flow_items f = map flow_item f.flows
+flow_items f = map (flow_item f.memories) f.flows
 
 abbrev pub memory_items : Flat → List Item
-memory_items f = map memory_item f.memories
+memory_items f = map (memory_item f.memories) f.memories
 
-abbrev pub no_item : Item
-no_item = record { clock = Nothing; body = Node [] (Constant (Flag false)) }
+-- the whole expressions of the assertions
+abbrev pub assertion_trees : Flat → List FlatTree
+assertion_trees f = map (tree_among f.memories) f.assertions
 
 abbrev pub nth_item : List Item → ℕ → Item
-nth_item items k = slice_index_or items k no_item
+nth_item items k = trees.nth_item items k
 
 -- the places of the flows, and of the memories, in their order
 abbrev pub places : Flat → List Sites
-places f = map (λ x. x.place.sites) f.flows
+places f = places_of f.flows
 
 abbrev pub memory_places : Flat → List Sites
-memory_places f = map (λ m. m.place.sites) f.memories
+memory_places f = memory_places_of f.memories
 
 -- the numbers of the flows of the ticks, in order; the main tick has none
 abbrev pub tick_clocks : Flat → List (Option ℕ)
-tick_clocks f = Nothing ∷ map (λ p. Some (index_of (places f) p)) (tick_places f.variables)
+tick_clocks f = tick_clocks_of f.flows f.variables
 
 -- An instant of a flat system: each flow has what its expression has where its clock is there, and is absent elsewhere.
 pub record IsFlatInstant (f : Flat) (now : State) (inputs : List Value) (row : Row) : Type 0 where

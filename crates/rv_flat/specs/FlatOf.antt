@@ -1,29 +1,37 @@
 -- A flat system is that of a program: both have the same instants at every state, and the same states after them.
-use Rattle.std.specs.Prelude.{◌≡◌, ℕ, suc, zero, ◌<◌, ◌↔◌, true, false, List, [], ◌∷◌, ◌++◌, map, length, Some, slice_get, slice_index_or}
+use Rattle.std.specs.Prelude.{◌≡◌, ℕ, suc, zero, ◌<◌, ◌↔◌, ◌⊎◌, true, false, List, [], ◌∷◌, ◌++◌, map, length, Option, Some, slice_get, slice_index_or}
 use Rattle.std.specs.Prelude.{None as Nothing}
 use Rattle.std.specs.FinMap.{empty, insert}
 use Rattle.std.specs.List.{Contains}
 use Rattle.rv_base.specs.declared.value.Value.{Value}
 use Rattle.rv_base.specs.declared.value.Value.TheVariants.{Flag}
 use Rattle.rv_syntax.specs.Tree.{AssertionTree, ProgramTree}
-use Rattle.rv_syntax.specs.Places.{Identifier, Sites, names, flows}
+use Rattle.rv_syntax.specs.Places.{Identifier, Sites, names, flows, index_of}
 use Rattle.rv_types.specs.declared.typed.Clock.TheVariants.{Base}
 use Rattle.rv_types.specs.Kinds.{decl_kinds, flow_kind}
 use Rattle.rv_types.specs.Names.{labels_of, texts}
-use Rattle.rv_types.specs.Instances.{Instance, place, node_of, IsInstance}
+use Rattle.rv_types.specs.Instances.{Instance, place, node_of, IsInstance, IsFlow}
 use Rattle.rv_types.specs.Needs.{IsSequence}
-use Rattle.rv_types.specs.Lists.{IsAny, MemoryAt, AreMemories, AreVariables, AreColumns}
+use Rattle.rv_types.specs.Lists.{IsAny, AreMemories, AreVariables, AreColumns}
 use Rattle.rv_types.specs.Variables.{variable_count}
 use Rattle.rv_meaning.specs.Meaning.{is_true}
+use Rattle.rv_agreement.specs.ProgramAgreement.{IsSystemOf, KeepsProducts}
+use Rattle.rv_agreement.specs.Programs.{Compared, IsComparison, IsSymbolicOf}
+use Rattle.rv_agreement.specs.Translation.{Numbers, flat_compared}
+use Rattle.rv_agreement.specs.Valuations.{Valuation, Reading, IsSymbolic, Comparison, all_comparisons}
 use Rattle.rv_meaning.specs.Runs.{Instant, cell, observer_place}
 use Rattle.rv_meaning.specs.Instants.{State as Brought, IsInstant, IsNext, value_now}
 use Rattle.rv_flat.specs.declared.flat.Flat.{Flat}
-use Rattle.rv_flat.specs.declared.parts.FlatMemory.{FlatMemory}
 use Rattle.rv_flat.specs.declared.state.State.{State}
-use Rattle.rv_flat.specs.FlatTree.{FlatTree, Node, Constant, flat_tree}
+use Rattle.rv_agreement.specs.Trees.{FlatTree, Node, Constant}
 use Rattle.rv_flat.specs.Lists.{tick_places, variable_of, column_of}
-use Rattle.rv_flat.specs.FlatInstants.{Row, places, memory_places, value_at, IsFlatInstant, IsFlatNext}
+use Rattle.rv_flat.specs.FlatInstants.{Row, places, memory_places, assertion_trees, system_of, value_at, IsFlatInstant, IsFlatNext}
+use Rattle.rv_flat.specs.Systems.{memory_of}
 use Rattle.rv_flat.specs.Thresholds.{AreThresholds}
+
+-- the places of the flows, of the memories, and of the flows of the ticks but the main one, by their numbers
+abbrev pub numbers_of : Flat → Numbers
+numbers_of f = record { flows = places f; memories = memory_places f; ticks = tick_places f.variables }
 
 -- what a state of the program is to the flat system: by the ticks and memories in their order
 abbrev pub flat_state : Flat → Brought → State
@@ -51,10 +59,6 @@ instant_of [] row = empty
 instant_of (p ∷ ps) [] = empty
 instant_of (p ∷ ps) (x ∷ row) = insert (instant_of ps row) p x
 
--- a memory by its place and type
-abbrev pub memory_of : FlatMemory → MemoryAt
-memory_of m = record { place = m.place.sites; kind = m.kind }
-
 -- the assertion at a place is there and not true, in the program
 abbrev pub IsBroken : ProgramTree → Identifier → Brought → Instant → Sites → Type 0
 IsBroken program main state row q = (i : Instance) × (a : AssertionTree) × (v : Value) × IsInstance program main i × Contains i.node.assertions a
@@ -66,7 +70,7 @@ no_assertion = Node [] (Constant (Flag true))
 -- and in the flat system
 abbrev pub IsFlatBroken : Flat → State → List Value → Row → Sites → Type 0
 IsFlatBroken f now inputs row q = (k : ℕ) × (k < length f.assertions) × (q ≡ slice_index_or (map (λ e. e.at.sites) f.assertions) k [])
-    × (is_true (value_at now inputs row (slice_index_or (map flat_tree f.assertions) k no_assertion)) ≡ false)
+    × (is_true (value_at now inputs row (slice_index_or (assertion_trees f) k no_assertion)) ≡ false)
 
 module _ (program : ProgramTree) (main : Identifier) where
   -- What a flat system has of its program beside the instants: names, types, memories, variables, as many as are counted,
@@ -95,3 +99,15 @@ module _ (program : ProgramTree) (main : Identifier) where
         → IsFlatNext f (flat_state f state) (flat_inputs f inputs) (row_of (places f) row) (flat_state f next)
     pub assertions : (state : Brought) (inputs : ℕ → Value) (row : Instant) (q : Sites) → IsInstant program main state inputs row
         → IsBroken program main state row q ↔ IsFlatBroken f (flat_state f state) (flat_inputs f inputs) (row_of (places f) row) q
+    -- the system: it is well formed, and read from the program with all that it names
+    pub system : IsSystemOf program main (numbers_of f) (system_of f)
+    -- the constant operand of each product has its value
+    pub products : KeepsProducts program main
+    -- the symbolic instants
+    pub symbolic : (v : Valuation) (cells : Sites → Option Reading) → IsSymbolicOf program main (map memory_of f.memories) v cells
+        → ((q : Sites) → IsFlow program main q ⊎ (cells q ≡ Nothing)) → IsSymbolic (system_of f) v (map cells (places f))
+    pub symbolic_rows : (v : Valuation) (row : List (Option Reading)) → IsSymbolic (system_of f) v row
+        → IsSymbolicOf program main (map memory_of f.memories) v (λ q. slice_index_or row (index_of (places f) q) Nothing)
+    -- the comparisons, each on its clock
+    pub compares : (c : Compared) → IsComparison program main c → Contains (all_comparisons (system_of f)) (flat_compared program (numbers_of f) c)
+    pub compares_only : (d : Comparison) → Contains (all_comparisons (system_of f)) d → (c : Compared) × IsComparison program main c × (d ≡ flat_compared program (numbers_of f) c)

@@ -18,7 +18,7 @@ use Rattle.rv_causality.specs.Weights.{AreLight}
 use Rattle.rv_flat.specs.declared.frame.Frame.{Frame}
 use Rattle.rv_flat.specs.declared.numbering.Numbering.{Numbering}
 use Rattle.rv_flat.specs.NodeReaders.{scope_by}
-use Rattle.rv_flat.specs.Readings.{Numbers}
+use Rattle.rv_agreement.specs.Translation.{Numbers}
 
 -- These are the numbers of the flows, ticks and memories at these places.
 pub record IsNumbering (p : ProgramTree) (main : Identifier) (instances : List Numbered) (numbers : Numbers) (n : Numbering) : Type 0 where

@@ -1,5 +1,7 @@
-pub mod FlatTree
+pub mod RawTree
+pub mod Inlined
 pub mod Lists
+pub mod Systems
 pub mod FlatInstants
 pub mod Facts
 pub mod FlatOf
@@ -10,6 +12,7 @@ pub mod Readings
 pub mod Literals
 pub mod Filling
 pub mod Tame
+pub mod Surroundings
 pub mod Earliest
 pub mod Ranges
 pub mod Frames
@@ -23,3 +26,5 @@ pub mod Remembered
 pub mod Compared
 pub mod VariableLists
 pub mod Arrows
+pub mod Kinded
+pub mod SystemRuns

@@ -7,14 +7,13 @@ use Rattle.rv_base.specs.declared.value.Value.TheVariants.{Flag, Label, Whole}
 use Rattle.rv_syntax.specs.Places.{Sites}
 use Rattle.rv_types.specs.declared.typed.Kind.{Kind}
 use Rattle.rv_types.specs.Needs.{IsBefore}
-use Rattle.rv_meaning.specs.Meaning.{is_on}
 use Rattle.rv_flat.specs.declared.flat.Flat.{Flat}
 use Rattle.rv_flat.specs.declared.state.State.{State}
 use Rattle.rv_flat.specs.declared.state.Stepped.{Stepped}
 use Rattle.rv_flat.specs.declared.state.StepFault.{StepFault}
 use Rattle.rv_flat.specs.declared.state.StepFault.TheVariants.{Outgrown, Memory}
-use Rattle.rv_flat.specs.Facts.{constant_fits}
-use Rattle.rv_flat.specs.FlatInstants.{Row, nth, is_on_at, nth_item, memory_items, places, memory_places, tick_clocks, value_at, IsFlatInstant, IsFlatNext}
+use Rattle.rv_agreement.specs.Checks.{constant_fits}
+use Rattle.rv_flat.specs.FlatInstants.{Row, nth, is_on, is_on_at, nth_item, memory_items, places, memory_places, tick_clocks, value_at, IsFlatInstant, IsFlatNext}
 use Rattle.rv_flat.specs.FlatOf.{IsFlatBroken}
 
 -- the integers from -2^63 to 2^63 - 1

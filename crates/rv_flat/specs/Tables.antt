@@ -1,5 +1,5 @@
 -- An expression of an instance as a flat one, by the tables of a frame.
-use Rattle.std.specs.Prelude.{ℕ, ◌+◌, pos, negsuc, true, false, cond, unwrap_or, [], Option, Some, slice_index_or}
+use Rattle.std.specs.Prelude.{ℕ, ◌+◌, pos, negsuc, Bool, true, false, cond, unwrap_or, [], Option, Some, slice_index_or}
 use Rattle.std.specs.Prelude.{None as Nothing}
 use Rattle.std.specs.Option.{option_map}
 use Rattle.rv_base.specs.declared.value.Value.TheVariants.{Flag, Whole}
@@ -17,18 +17,24 @@ use Rattle.rv_types.specs.ValueTables.{value_by}
 use Rattle.rv_causality.specs.Callees.{callee_in}
 use Rattle.rv_causality.specs.Expanded.{program_of}
 use Rattle.rv_causality.specs.Layouts.{path_at}
-use Rattle.rv_causality.specs.NumberedNeeds.{clock_number, clock_of_expression, node_read, numbers_of}
+use Rattle.rv_causality.specs.NumberedNeeds.{flow_number, clock_number, clock_of_expression, node_read, numbers_of}
 use Rattle.rv_flat.specs.declared.frame.Frame.{Frame}
-use Rattle.rv_flat.specs.FlatTree.{FlatTree, Node, TreeForm, FlatTrees, Constant, Flow, Memory, Ticked, Not, Scale, If, AtMostOne, None, More}
-use Rattle.rv_flat.specs.Compared.{is_test}
+use Rattle.rv_flat.specs.RawTree.{RawTree, Node, RawForm, RawTrees, Constant, Flow, Memory, Ticked, Not, Scale, If, AtMostOne, When, Current, None, More}
+use Rattle.rv_agreement.specs.Programs.{is_test, spot}
 use Rattle.rv_flat.specs.NodeReaders.{scope_by}
-use Rattle.rv_flat.specs.Readings.{spot, unplaced, presence, operator}
+use Rattle.rv_flat.specs.Readings.{unplaced, operator}
 
 -- a product, by what is known of the operands where they are constant, as one is in each accepted program
-abbrev pub product_read : (a b : Option Weighed) → FlatTree → FlatTree → TreeForm
+abbrev pub product_read : (a b : Option Weighed) → RawTree → RawTree → RawForm
 product_read (Some v) b f g = Scale (whole_in v.value) g
 product_read Nothing (Some v) f g = Scale (whole_in v.value) f
 product_read Nothing Nothing f g = Scale (pos 0) f
+
+-- whether an expression is an operator between two operands, or a `when`
+abbrev pub is_chained : Tree → Bool
+is_chained (tree.Node at site (tree.Binary o a b)) = true
+is_chained (tree.Node at site (tree.When e c)) = true
+is_chained _ = false
 
 module _ (x : Frame) where
   -- the path of the instance
@@ -56,8 +62,12 @@ module _ (x : Frame) where
   abbrev pub kept_read : Option ℕ → Tree → ℕ
   kept_read site e = unwrap_or (callee_in x.numbering.now.memories x.reader.instance (memory_site (node_read x.reader) site e)) 0
 
+  -- the number of the flow of a `when`
+  abbrev pub flow_named : Identifier → ℕ
+  flow_named y = flow_read (unwrap_or (flow_number (node_read x.reader) (numbers_of x.reader) y) 0)
+
   -- a name
-  abbrev pub named_read : Identifier → TreeForm
+  abbrev pub named_read : Identifier → RawForm
   named_read y = cond (is_flow (node_read x.reader) y)
       (Flow (flow_read ((numbers_of x.reader).offset + site_of (node_read x.reader) y)))
       (Constant (value_by x.values.now y))
@@ -88,10 +98,10 @@ module _ (x : Frame) where
   place_read _ = []
 
   abbrev mutual
-    pub tree_read : Tree → FlatTree
+    pub tree_read : Tree → RawTree
     tree_read (tree.Node at site form) = form_read site form
 
-    pub form_read : Option ℕ → Form → FlatTree
+    pub form_read : Option ℕ → Form → RawTree
     form_read site tree.True = unplaced (Constant (Flag true))
     form_read site tree.False = unplaced (Constant (Flag false))
     form_read site (tree.Number n) = unplaced (Constant (Whole (pos n)))
@@ -99,8 +109,8 @@ module _ (x : Frame) where
     form_read site (tree.Not e) = unplaced (Not (tree_read e))
     form_read site (tree.Minus e) = unplaced (Scale (negsuc 0) (tree_read e))
     form_read site (tree.Pre e) = unplaced (Memory (kept_read site e))
-    form_read site (tree.Current e) = unplaced (If (unplaced (presence (clock_read (clock_of_read e)))) (tree_read e) (unplaced (Memory (kept_read site e))))
-    form_read site (tree.When e c) = tree_read e
+    form_read site (tree.Current e) = unplaced (Current (kept_read site e))
+    form_read site (tree.When e c) = unplaced (When (flow_named c.text) (tree_read e))
     form_read site (tree.Binary o a b) = Node (operator_place_read site o a) (operator o
         (If (unplaced (Ticked (tick_read (clock_of_read (tree.Node 0 site (tree.Binary o a b)))))) (tree_read b) (tree_read a))
         (product_read (constant_read a) (constant_read b) (tree_read a) (tree_read b))
@@ -109,6 +119,6 @@ module _ (x : Frame) where
     form_read site (tree.AtMostOne es) = unplaced (AtMostOne (trees_read es))
     form_read site (tree.Call f args) = unplaced (Flow (output_read site))
 
-    pub trees_read : Trees → FlatTrees
+    pub trees_read : Trees → RawTrees
     trees_read tree.None = None
     trees_read (tree.More e es) = More (tree_read e) (trees_read es)

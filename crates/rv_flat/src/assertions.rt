@@ -6,7 +6,7 @@ ghost use Rattle.rv_syntax.specs.Tree.{assertion_tree};
 ghost use Rattle.rv_types.specs.Instances.{Instance, IsInstance};
 ghost use Rattle.rv_causality.specs.Layouts.{IsNumberOf, node_at};
 ghost use Rattle.rv_flat.specs.Building.{AreAsserted, IsFoundOf, IsGiven, main_given, numbers_of, program_given};
-ghost use Rattle.rv_flat.specs.FlatTree.{flat_tree};
+ghost use Rattle.rv_flat.specs.RawTree.{raw_tree};
 ghost use Rattle.rv_flat.specs.Readings.{assertion_of};
 
 use crate::found::Found;
@@ -46,7 +46,7 @@ fn push_assertions(
     requires found { IsFoundOf given.now found.now }
     requires within { instance < length given.now.expanded.now.instances.now }
     ensures { OnOk result ((i : Instance) → IsInstance (program_given given.now) (main_given given.now) i → IsNumberOf (program_given given.now) given.now.expanded.now.instances.now instance i
-        → map flat_tree made.new ≡ map flat_tree made.old ++ map (assertion_of (program_given given.now) (numbers_of given.now found.now) i) i.node.assertions) }
+        → map raw_tree made.new ≡ map raw_tree made.old ++ map (assertion_of (program_given given.now) (numbers_of given.now found.now) i) i.node.assertions) }
 {
     let node = given.expanded.node(instance);
     for assertion in node.assertions.as_slice() {
@@ -68,7 +68,7 @@ fn push_assertion(
     requires found { IsFoundOf given.now found.now }
     requires within { instance < length given.now.expanded.now.instances.now }
     ensures { OnOk result ((i : Instance) → IsInstance (program_given given.now) (main_given given.now) i → IsNumberOf (program_given given.now) given.now.expanded.now.instances.now instance i → Contains i.node.assertions (assertion_tree assertion.now)
-        → map flat_tree made.new ≡ map flat_tree made.old ++ assertion_of (program_given given.now) (numbers_of given.now found.now) i (assertion_tree assertion.now) ∷ []) }
+        → map raw_tree made.new ≡ map raw_tree made.old ++ assertion_of (program_given given.now) (numbers_of given.now found.now) i (assertion_tree assertion.now) ∷ []) }
 {
     let flat = flat_assertion(
         alloc,

@@ -28,6 +28,7 @@ use crate::node_reader::own_tables;
 use crate::remembered::flat_memories;
 use crate::thresholds::thresholds_of;
 use crate::variables::{columns_of, variables_of};
+use rv_agreement::{checked_is_well, one_meaning, translated_expressions, translated_systems};
 use rv_base::{Many, Memory, Place};
 use rv_causality::{
     Expanded, Order, Source, counted_instances, expanded_program, flows_in, givers_of,
@@ -108,6 +109,10 @@ fn flat_by(
     defined_flows();
     counted_instances();
     instance_numbers();
+    one_meaning();
+    translated_expressions();
+    translated_systems();
+    checked_is_well();
     let program = given.expanded.program;
     let main = given.expanded.node(0);
     let kinds = given.kinds.at(typed.main as usize).as_slice();

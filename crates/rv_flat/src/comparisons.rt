@@ -13,7 +13,8 @@ ghost use Rattle.rv_types.specs.Readings.{AreTables, view_of};
 ghost use Rattle.rv_types.specs.Tables.{scope_of};
 ghost use Rattle.rv_types.specs.Variables.{is_integer};
 ghost use Rattle.rv_causality.specs.Expanded.{IsKnown, program_of, main_of};
-ghost use Rattle.rv_flat.specs.Compared.{is_test as tests_integers, own_tests, tests, tests_of_all, tests_in_equations, tests_in_assertions, tests_in, compared_at, compared_in};
+ghost use Rattle.rv_agreement.specs.Programs.{is_test as tests_integers};
+ghost use Rattle.rv_flat.specs.Compared.{own_tests, tests, tests_of_all, tests_in_equations, tests_in_assertions, tests_in, compared_at, compared_in};
 ghost use Rattle.rv_flat.specs.Kept.{found_comparison};
 ghost use Rattle.rv_flat.specs.NodeReaders.{scope_read, lists_to, AreSortedBy};
 

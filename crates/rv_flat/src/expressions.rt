@@ -1,6 +1,6 @@
 //! Expressions of instances as flat ones.
 
-ghost use Rattle.std.specs.Prelude.{◌≡◌, ◌++◌, ◌∷◌, [], ℕ, negsuc, pos, map, min, slice_index_or, Some, IfOk, IsSome, OnOk};
+ghost use Rattle.std.specs.Prelude.{◌≡◌, false, ◌++◌, ◌∷◌, [], ℕ, negsuc, pos, map, min, slice_index_or, Some, IfOk, IsSome, OnOk};
 ghost use Rattle.std.specs.List.{Contains};
 ghost use Rattle.rv_syntax.specs.Tree as tree;
 ghost use Rattle.rv_syntax.specs.Tree.{Tree, tree_of, trees};
@@ -16,13 +16,15 @@ ghost use Rattle.rv_types.specs.ValueTables.{value_by};
 ghost use Rattle.rv_types.specs.Variables.{node_parts};
 ghost use Rattle.rv_causality.specs.Expanded.{main_of, program_of};
 ghost use Rattle.rv_causality.specs.NumberedNeeds.{IsReader, node_read};
-ghost use Rattle.rv_flat.specs.FlatTree as flat;
-ghost use Rattle.rv_flat.specs.FlatTree.{flat_tree, flat_trees};
+ghost use Rattle.rv_flat.specs.RawTree as raw;
+ghost use Rattle.rv_flat.specs.RawTree.{raw_tree, raw_trees};
 ghost use Rattle.rv_flat.specs.Frames.{IsFrame};
 ghost use Rattle.rv_flat.specs.Readings as readings;
-ghost use Rattle.rv_flat.specs.Readings.{Numbers, presence, spot, unplaced};
+ghost use Rattle.rv_agreement.specs.Programs.{spot};
+ghost use Rattle.rv_agreement.specs.Translation.{Numbers};
+ghost use Rattle.rv_flat.specs.Readings.{presence, unplaced};
 ghost use Rattle.rv_flat.specs.Tables as tables;
-ghost use Rattle.rv_flat.specs.Tables.{constant_read, form_read, kept_read, named_read, operator_place_read, path_read, place_read, product_read, scope_read, tick_read, tree_read};
+ghost use Rattle.rv_flat.specs.Tables.{constant_read, form_read, is_chained, kept_read, named_read, operator_place_read, path_read, place_read, product_read, scope_read, tick_read, tree_read};
 
 use crate::comparisons::is_test;
 use crate::frame::Frame;
@@ -36,12 +38,12 @@ use rv_types::{
 };
 use std::alloc::Global;
 
-/// An expression of an instance as a flat one. Time grows with the number of its parts, up to look-ups; what stands under a
-/// `current` or `->`, or left of a comparison, is looked at once more for each of them, of which there are no more than a text
-/// is nested deep.
+/// An expression of an instance as a flat one. Time grows with the number of its parts, up to look-ups; what stands under
+/// a `->`, or left of a comparison, is looked at once more for each of them, of which there are no more than a text is nested
+/// deep.
 pub fn flat_of(alloc: Global, frame: &Frame, e: &Expr) -> Result<FlatExpr, Memory>
     requires { IsReader frame.now.reader }
-    ensures { (numbers : Numbers) (i : Instance) → IsFrame numbers i frame.now → AreTicks (program_of frame.now.expanded.now) (main_of frame.now.expanded.now) numbers.ticks → Contains (node_parts i.node) (tree_of e.now) → IsSome (kind_of (node_scope (program_of frame.now.expanded.now) i.node) (tree_of e.now)) → IfOk result (λ f. flat_tree f ≡ readings.flat_of (program_of frame.now.expanded.now) numbers i (tree_of e.now)) }
+    ensures { (numbers : Numbers) (i : Instance) → IsFrame numbers i frame.now → AreTicks (program_of frame.now.expanded.now) (main_of frame.now.expanded.now) numbers.ticks → Contains (node_parts i.node) (tree_of e.now) → IsSome (kind_of (node_scope (program_of frame.now.expanded.now) i.node) (tree_of e.now)) → IfOk result (λ f. raw_tree f ≡ readings.raw_of (program_of frame.now.expanded.now) numbers i (tree_of e.now)) }
 {
     instance_numbers();
     let mut constant = None;
@@ -50,8 +52,8 @@ pub fn flat_of(alloc: Global, frame: &Frame, e: &Expr) -> Result<FlatExpr, Memor
 }
 
 /// The same, and the value of the expression where it is constant. It calls itself for each operand, so as deep as the
-/// tree is: 20,101 levels at most, all but 200 of them left operands and operands of `when`. So little else stands in
-/// its frame: it hands on boxes, and the value is written over and over.
+/// tree is: 20,301 levels at most, all but 200 of them left operands and operands of `when`. So little else stands in
+/// its frame: it hands on boxes, the value is written over and over, and all other forms are another function's.
 #[cycle(flat_part)]
 fn flat_part(
     alloc: Global,
@@ -60,7 +62,7 @@ fn flat_part(
     constant: &mut Option<Weighed>,
 ) -> Result<Box<FlatExpr>, Memory>
     requires { IsReader frame.now.reader }
-    ensures flat { IfOk result (λ f. flat_tree f ≡ tree_read frame.now (tree_of e.now)) }
+    ensures flat { IfOk result (λ f. raw_tree f ≡ tree_read frame.now (tree_of e.now)) }
     ensures constant { OnOk result (constant.new ≡ constant_read frame.now (tree_of e.now)) }
     ensures bound { OnOk result (IsKnownBound constant.new) }
 {
@@ -69,11 +71,30 @@ fn flat_part(
             let left = flat_part(alloc, frame, left, constant)?;
             flat_right(alloc, frame, e, *op, left, right, constant)
         }
-        ExprForm::When(operand, _) => {
+        ExprForm::When(operand, clock) => {
             let operand = flat_part(alloc, frame, operand, constant)?;
-            *constant = None;
-            Ok(operand)
+            flat_when(alloc, frame, &clock.text, operand, constant)
         }
+        _ => flat_other(alloc, frame, e, constant),
+    }
+}
+
+/// An expression that is no operator between two operands and no `when`.
+#[cycle(flat_part)]
+#[inline(never)]
+fn flat_other(
+    alloc: Global,
+    frame: &Frame,
+    e: &Expr,
+    constant: &mut Option<Weighed>,
+) -> Result<Box<FlatExpr>, Memory>
+    requires reader { IsReader frame.now.reader }
+    requires other { is_chained (tree_of e.now) ≡ false }
+    ensures flat { IfOk result (λ f. raw_tree f ≡ tree_read frame.now (tree_of e.now)) }
+    ensures constant { OnOk result (constant.new ≡ constant_read frame.now (tree_of e.now)) }
+    ensures bound { OnOk result (IsKnownBound constant.new) }
+{
+    match &e.form {
         ExprForm::True => flat_flag(alloc, true, constant),
         ExprForm::False => flat_flag(alloc, false, constant),
         ExprForm::Number(number) => flat_number(alloc, *number, constant),
@@ -89,7 +110,27 @@ fn flat_part(
             flat_at_most_one(alloc, frame, operands.as_slice(), constant)
         }
         ExprForm::Call(_, _) => flat_call(alloc, frame, e.site, constant),
+        ExprForm::Binary(_, _, _) => unreachable!(),
+        ExprForm::When(_, _) => unreachable!(),
     }
+}
+
+/// `when`, of its operand and the name of its clock.
+#[inline(never)]
+fn flat_when(
+    alloc: Global,
+    frame: &Frame,
+    clock: &Text,
+    operand: Box<FlatExpr>,
+    constant: &mut Option<Weighed>,
+) -> Result<Box<FlatExpr>, Memory>
+    requires { IsReader frame.now.reader }
+    ensures flat { IfOk result (λ f. raw_tree f ≡ unplaced (raw.When (tables.flow_named frame.now clock.now) (raw_tree operand))) }
+    ensures constant { OnOk result (constant.new ≡ None) }
+    ensures bound { OnOk result (IsKnownBound constant.new) }
+{
+    *constant = None;
+    made_when(alloc, flow_named(frame, clock), operand)
 }
 
 /// An operator, of its left operand, what is known of that, and the expression of its right operand.
@@ -106,7 +147,7 @@ fn flat_right(
 ) -> Result<Box<FlatExpr>, Memory>
     requires reader { IsReader frame.now.reader }
     requires bound { IsKnownBound constant.old }
-    ensures flat { (x : Tree) → tree_of e.now ≡ tree.Node e.now.at e.now.site (tree.Binary op x (tree_of right.now)) → flat_tree left ≡ tree_read frame.now x → constant.old ≡ constant_read frame.now x → IfOk result (λ f. flat_tree f ≡ form_read frame.now e.now.site (tree.Binary op x (tree_of right.now))) }
+    ensures flat { (x : Tree) → tree_of e.now ≡ tree.Node e.now.at e.now.site (tree.Binary op x (tree_of right.now)) → raw_tree left ≡ tree_read frame.now x → constant.old ≡ constant_read frame.now x → IfOk result (λ f. raw_tree f ≡ form_read frame.now e.now.site (tree.Binary op x (tree_of right.now))) }
     ensures constant { (x : Tree) → constant.old ≡ constant_read frame.now x → OnOk result (constant.new ≡ constant_form (scope_read frame.now) (value_by frame.now.values.now) (tree.Binary op x (tree_of right.now))) }
     ensures bound { OnOk result (IsKnownBound constant.new) }
 {
@@ -128,7 +169,7 @@ fn flat_flag(
     flag: bool,
     constant: &mut Option<Weighed>,
 ) -> Result<Box<FlatExpr>, Memory>
-    ensures flat { IfOk result (λ f. flat_tree f ≡ unplaced (flat.Constant (Value.Flag flag))) }
+    ensures flat { IfOk result (λ f. raw_tree f ≡ unplaced (raw.Constant (Value.Flag flag))) }
     ensures constant { OnOk result (constant.new ≡ Some (record { value = Value.Flag flag; weight = 0 })) }
     ensures bound { OnOk result (IsKnownBound constant.new) }
 {
@@ -143,7 +184,7 @@ fn flat_number(
     number: u64,
     constant: &mut Option<Weighed>,
 ) -> Result<Box<FlatExpr>, Memory>
-    ensures flat { IfOk result (λ f. flat_tree f ≡ unplaced (flat.Constant (Value.Whole (pos number)))) }
+    ensures flat { IfOk result (λ f. raw_tree f ≡ unplaced (raw.Constant (Value.Whole (pos number)))) }
     ensures constant { OnOk result (constant.new ≡ Some (record { value = counted number (pos number); weight = min number too_heavy })) }
     ensures bound { OnOk result (IsKnownBound constant.new) }
 {
@@ -160,7 +201,7 @@ fn flat_name(
     constant: &mut Option<Weighed>,
 ) -> Result<Box<FlatExpr>, Memory>
     requires { IsReader frame.now.reader }
-    ensures flat { IfOk result (λ f. flat_tree f ≡ unplaced (named_read frame.now name.now)) }
+    ensures flat { IfOk result (λ f. raw_tree f ≡ unplaced (named_read frame.now name.now)) }
     ensures constant { OnOk result (constant.new ≡ constant_form (scope_read frame.now) (value_by frame.now.values.now) (tree.Named name.now)) }
     ensures bound { OnOk result (IsKnownBound constant.new) }
 {
@@ -188,7 +229,7 @@ fn flat_not(
     constant: &mut Option<Weighed>,
 ) -> Result<Box<FlatExpr>, Memory>
     requires { IsReader frame.now.reader }
-    ensures flat { IfOk result (λ f. flat_tree f ≡ unplaced (flat.Not (tree_read frame.now (tree_of operand.now)))) }
+    ensures flat { IfOk result (λ f. raw_tree f ≡ unplaced (raw.Not (tree_read frame.now (tree_of operand.now)))) }
     ensures constant { OnOk result (constant.new ≡ constant_form (scope_read frame.now) (value_by frame.now.values.now) (tree.Not (tree_of operand.now))) }
     ensures bound { OnOk result (IsKnownBound constant.new) }
 {
@@ -208,7 +249,7 @@ fn flat_minus(
     constant: &mut Option<Weighed>,
 ) -> Result<Box<FlatExpr>, Memory>
     requires { IsReader frame.now.reader }
-    ensures flat { IfOk result (λ f. flat_tree f ≡ unplaced (flat.Scale (negsuc 0) (tree_read frame.now (tree_of operand.now)))) }
+    ensures flat { IfOk result (λ f. raw_tree f ≡ unplaced (raw.Scale (negsuc 0) (tree_read frame.now (tree_of operand.now)))) }
     ensures constant { OnOk result (constant.new ≡ constant_form (scope_read frame.now) (value_by frame.now.values.now) (tree.Minus (tree_of operand.now))) }
     ensures bound { OnOk result (IsKnownBound constant.new) }
 {
@@ -227,7 +268,7 @@ fn flat_pre(
     operand: &Expr,
     constant: &mut Option<Weighed>,
 ) -> Result<Box<FlatExpr>, Memory>
-    ensures flat { IfOk result (λ f. flat_tree f ≡ unplaced (flat.Memory (kept_read frame.now site (tree_of operand.now)))) }
+    ensures flat { IfOk result (λ f. raw_tree f ≡ unplaced (raw.Memory (kept_read frame.now site (tree_of operand.now)))) }
     ensures constant { OnOk result (constant.new ≡ None) }
     ensures bound { OnOk result (IsKnownBound constant.new) }
 {
@@ -236,8 +277,7 @@ fn flat_pre(
     made_memory(alloc, kept)
 }
 
-/// `current`.
-#[cycle(flat_part)]
+/// `current`. What it shows stands in its memory, and is not looked at here.
 #[inline(never)]
 fn flat_current(
     alloc: Global,
@@ -246,17 +286,12 @@ fn flat_current(
     operand: &Expr,
     constant: &mut Option<Weighed>,
 ) -> Result<Box<FlatExpr>, Memory>
-    requires { IsReader frame.now.reader }
-    ensures flat { IfOk result (λ f. flat_tree f ≡ form_read frame.now site (tree.Current (tree_of operand.now))) }
+    ensures flat { IfOk result (λ f. raw_tree f ≡ form_read frame.now site (tree.Current (tree_of operand.now))) }
     ensures constant { OnOk result (constant.new ≡ None) }
     ensures bound { OnOk result (IsKnownBound constant.new) }
 {
-    let made = flat_part(alloc, frame, operand, constant)?;
     *constant = None;
-    let clock = frame.reader.clock_of(operand);
-    let there = made_presence(alloc, clock_number(frame, clock))?;
-    let kept = made_memory(alloc, kept_number(frame, site, operand))?;
-    made_if(alloc, there, made, kept)
+    made_current(alloc, kept_number(frame, site, operand))
 }
 
 /// `if`.
@@ -271,7 +306,7 @@ fn flat_if(
     constant: &mut Option<Weighed>,
 ) -> Result<Box<FlatExpr>, Memory>
     requires { IsReader frame.now.reader }
-    ensures flat { IfOk result (λ f. flat_tree f ≡ unplaced (flat.If (tree_read frame.now (tree_of condition.now)) (tree_read frame.now (tree_of first.now)) (tree_read frame.now (tree_of second.now)))) }
+    ensures flat { IfOk result (λ f. raw_tree f ≡ unplaced (raw.If (tree_read frame.now (tree_of condition.now)) (tree_read frame.now (tree_of first.now)) (tree_read frame.now (tree_of second.now)))) }
     ensures constant { OnOk result (constant.new ≡ constant_form (scope_read frame.now) (value_by frame.now.values.now) (tree.If (tree_of condition.now) (tree_of first.now) (tree_of second.now))) }
     ensures bound { OnOk result (IsKnownBound constant.new) }
 {
@@ -295,7 +330,7 @@ fn flat_at_most_one(
     constant: &mut Option<Weighed>,
 ) -> Result<Box<FlatExpr>, Memory>
     requires { IsReader frame.now.reader }
-    ensures flat { IfOk result (λ f. flat_tree f ≡ unplaced (flat.AtMostOne (tables.trees_read frame.now (trees (map tree_of operands.now))))) }
+    ensures flat { IfOk result (λ f. raw_tree f ≡ unplaced (raw.AtMostOne (tables.trees_read frame.now (trees (map tree_of operands.now))))) }
     ensures constant { OnOk result (constant.new ≡ constant_form (scope_read frame.now) (value_by frame.now.values.now) (tree.AtMostOne (trees (map tree_of operands.now)))) }
     ensures bound { OnOk result (IsKnownBound constant.new) }
 {
@@ -316,7 +351,7 @@ fn flat_all(
     trues: &mut Trues,
 ) -> Result<Many<FlatExpr>, Memory>
     requires { IsReader frame.now.reader }
-    ensures flat { IfOk result (λ all. map flat_tree all ≡ map (λ e. tree_read frame.now (tree_of e)) operands.now) }
+    ensures flat { IfOk result (λ all. map raw_tree all ≡ map (λ e. tree_read frame.now (tree_of e)) operands.now) }
     ensures trues { OnOk result (trues.new ≡ tables.trues_read frame.now trues.old (trees (map tree_of operands.now))) }
 {
     let mut all = Many::new(alloc);
@@ -337,7 +372,7 @@ fn flat_call(
     constant: &mut Option<Weighed>,
 ) -> Result<Box<FlatExpr>, Memory>
     requires { IsReader frame.now.reader }
-    ensures flat { IfOk result (λ f. flat_tree f ≡ unplaced (flat.Flow (tables.output_read frame.now site))) }
+    ensures flat { IfOk result (λ f. raw_tree f ≡ unplaced (raw.Flow (tables.output_read frame.now site))) }
     ensures constant { OnOk result (constant.new ≡ None) }
     ensures bound { OnOk result (IsKnownBound constant.new) }
 {
@@ -345,6 +380,18 @@ fn flat_call(
     let output = frame.reader.output(site.unwrap_or(0));
     let flow = number_at(&frame.numbering.flows, output as usize);
     made_flow(alloc, flow)
+}
+
+/// The number of the flow of a `when`.
+#[inline(never)]
+fn flow_named(frame: &Frame, name: &Text) -> u32
+    requires { IsReader frame.now.reader }
+    ensures { result ≡ tables.flow_named frame.now name.now }
+{
+    number_at(
+        &frame.numbering.flows,
+        frame.reader.flow(name).unwrap_or(0) as usize,
+    )
 }
 
 /// `E -> F`: a choice by whether its clock has ticked.
@@ -357,7 +404,7 @@ fn made_arrow(
     right: Box<FlatExpr>,
 ) -> Result<Box<FlatExpr>, Memory>
     requires { IsReader frame.now.reader }
-    ensures { IfOk result (λ f. flat_tree f ≡ unplaced (flat.If (unplaced (flat.Ticked (tick_read frame.now (tables.clock_of_read frame.now (tree_of e.now))))) (flat_tree right) (flat_tree left))) }
+    ensures { IfOk result (λ f. raw_tree f ≡ unplaced (raw.If (unplaced (raw.Ticked (tick_read frame.now (tables.clock_of_read frame.now (tree_of e.now))))) (raw_tree right) (raw_tree left))) }
 {
     let clock = frame.reader.clock_of(e);
     let ticked = made_ticked(alloc, tick_number(frame, clock))?;
@@ -374,7 +421,7 @@ fn made_product(
     second: &Option<Weighed>,
     right: Box<FlatExpr>,
 ) -> Result<Box<FlatExpr>, Memory>
-    ensures { IfOk result (λ f. flat_tree f ≡ unplaced (product_read first.now second.now (flat_tree left) (flat_tree right))) }
+    ensures { IfOk result (λ f. raw_tree f ≡ unplaced (product_read first.now second.now (raw_tree left) (raw_tree right))) }
 {
     match first {
         Some(known) => made_scale(alloc, whole(&known.value), right),
@@ -516,7 +563,7 @@ fn place_at(alloc: Global, frame: &Frame, site: u32) -> Result<Place, Memory>
     }
 }
 
-/// A flat expression in memory of its own. This and the functions below stay calls, so that `flat_part`, which calls
+/// A flat expression in memory of its own. The functions below are asked to stay calls, so that `flat_part`, which calls
 /// itself, has none of their values on the stack.
 fn made(alloc: Global, at: Place, form: FlatForm) -> Result<Box<FlatExpr>, Memory>
     ensures { IfOk result (λ f. f ≡ record { at = at; form = form }) }
@@ -535,7 +582,7 @@ fn made_unplaced(alloc: Global, form: FlatForm) -> Result<Box<FlatExpr>, Memory>
 /// A constant.
 #[inline(never)]
 pub fn made_constant(alloc: Global, value: Value) -> Result<Box<FlatExpr>, Memory>
-    ensures { IfOk result (λ f. flat_tree f ≡ unplaced (flat.Constant value)) }
+    ensures { IfOk result (λ f. raw_tree f ≡ unplaced (raw.Constant value)) }
 {
     made_unplaced(alloc, FlatForm::Constant(value))
 }
@@ -543,7 +590,7 @@ pub fn made_constant(alloc: Global, value: Value) -> Result<Box<FlatExpr>, Memor
 /// A flow, by its number.
 #[inline(never)]
 pub fn made_flow(alloc: Global, number: u32) -> Result<Box<FlatExpr>, Memory>
-    ensures { IfOk result (λ f. flat_tree f ≡ unplaced (flat.Flow number)) }
+    ensures { IfOk result (λ f. raw_tree f ≡ unplaced (raw.Flow number)) }
 {
     made_unplaced(alloc, FlatForm::Flow(number))
 }
@@ -551,7 +598,7 @@ pub fn made_flow(alloc: Global, number: u32) -> Result<Box<FlatExpr>, Memory>
 /// Whether a clock is there, by the number of its flow.
 #[inline(never)]
 pub fn made_presence(alloc: Global, clock: Option<u32>) -> Result<Box<FlatExpr>, Memory>
-    ensures { IfOk result (λ f. flat_tree f ≡ unplaced (presence clock)) }
+    ensures { IfOk result (λ f. raw_tree f ≡ unplaced (presence clock)) }
 {
     match clock {
         Some(number) => made_flow(alloc, number),
@@ -561,21 +608,21 @@ pub fn made_presence(alloc: Global, clock: Option<u32>) -> Result<Box<FlatExpr>,
 
 #[inline(never)]
 fn made_memory(alloc: Global, number: u32) -> Result<Box<FlatExpr>, Memory>
-    ensures { IfOk result (λ f. flat_tree f ≡ unplaced (flat.Memory number)) }
+    ensures { IfOk result (λ f. raw_tree f ≡ unplaced (raw.Memory number)) }
 {
     made_unplaced(alloc, FlatForm::Memory(number))
 }
 
 #[inline(never)]
 fn made_ticked(alloc: Global, number: u32) -> Result<Box<FlatExpr>, Memory>
-    ensures { IfOk result (λ f. flat_tree f ≡ unplaced (flat.Ticked number)) }
+    ensures { IfOk result (λ f. raw_tree f ≡ unplaced (raw.Ticked number)) }
 {
     made_unplaced(alloc, FlatForm::Ticked(number))
 }
 
 #[inline(never)]
 fn made_not(alloc: Global, operand: Box<FlatExpr>) -> Result<Box<FlatExpr>, Memory>
-    ensures { IfOk result (λ f. flat_tree f ≡ unplaced (flat.Not (flat_tree operand))) }
+    ensures { IfOk result (λ f. raw_tree f ≡ unplaced (raw.Not (raw_tree operand))) }
 {
     made_unplaced(alloc, FlatForm::Not(operand))
 }
@@ -588,14 +635,14 @@ fn made_binary(
     left: Box<FlatExpr>,
     right: Box<FlatExpr>,
 ) -> Result<Box<FlatExpr>, Memory>
-    ensures { IfOk result (λ f. flat_tree f ≡ flat.Node at.sites (flat.Binary op (flat_tree left) (flat_tree right))) }
+    ensures { IfOk result (λ f. raw_tree f ≡ raw.Node at.sites (raw.Binary op (raw_tree left) (raw_tree right))) }
 {
     made(alloc, at, FlatForm::Binary(op, left, right))
 }
 
 #[inline(never)]
 fn made_scale(alloc: Global, by: i128, operand: Box<FlatExpr>) -> Result<Box<FlatExpr>, Memory>
-    ensures { IfOk result (λ f. flat_tree f ≡ unplaced (flat.Scale by (flat_tree operand))) }
+    ensures { IfOk result (λ f. raw_tree f ≡ unplaced (raw.Scale by (raw_tree operand))) }
 {
     made_unplaced(alloc, FlatForm::Scale(by, operand))
 }
@@ -608,14 +655,28 @@ fn made_if(
     first: Box<FlatExpr>,
     second: Box<FlatExpr>,
 ) -> Result<Box<FlatExpr>, Memory>
-    ensures { IfOk result (λ f. flat_tree f ≡ unplaced (flat.If (flat_tree condition) (flat_tree first) (flat_tree second))) }
+    ensures { IfOk result (λ f. raw_tree f ≡ unplaced (raw.If (raw_tree condition) (raw_tree first) (raw_tree second))) }
 {
     made_unplaced(alloc, FlatForm::If(condition, first, second))
 }
 
 #[inline(never)]
 fn made_at_most_one(alloc: Global, operands: Many<FlatExpr>) -> Result<Box<FlatExpr>, Memory>
-    ensures { IfOk result (λ f. flat_tree f ≡ unplaced (flat.AtMostOne (flat_trees (map flat_tree operands)))) }
+    ensures { IfOk result (λ f. raw_tree f ≡ unplaced (raw.AtMostOne (raw_trees (map raw_tree operands)))) }
 {
     made_unplaced(alloc, FlatForm::AtMostOne(operands))
+}
+
+#[inline(never)]
+fn made_when(alloc: Global, number: u32, operand: Box<FlatExpr>) -> Result<Box<FlatExpr>, Memory>
+    ensures { IfOk result (λ f. raw_tree f ≡ unplaced (raw.When number (raw_tree operand))) }
+{
+    made_unplaced(alloc, FlatForm::When(number, operand))
+}
+
+#[inline(never)]
+fn made_current(alloc: Global, number: u32) -> Result<Box<FlatExpr>, Memory>
+    ensures { IfOk result (λ f. raw_tree f ≡ unplaced (raw.Current number)) }
+{
+    made_unplaced(alloc, FlatForm::Current(number))
 }

@@ -18,11 +18,11 @@ ghost use Rattle.rv_causality.specs.Layouts.{IsLayout, IsNumberOf};
 ghost use Rattle.rv_causality.specs.NumberedNeeds.{IsGiver, site_in};
 ghost use Rattle.rv_causality.specs.Weights.{AreLight};
 ghost use Rattle.rv_flat.specs.Frames.{IsNumbering};
-ghost use Rattle.rv_flat.specs.FlatTree.{Node, If, flat_tree};
+ghost use Rattle.rv_flat.specs.RawTree.{Node, If, raw_tree};
 ghost use Rattle.rv_flat.specs.Items.{made_item};
 ghost use Rattle.rv_flat.specs.NodeReaders.{AreOwnTables};
 ghost use Rattle.rv_flat.specs.Readings as readings;
-ghost use Rattle.rv_flat.specs.Readings.{Numbers};
+ghost use Rattle.rv_agreement.specs.Translation.{Numbers};
 
 use crate::expressions::{
     clock_number, flat_of, made_constant, made_flow, made_presence, number_at, spot_of,
@@ -61,7 +61,7 @@ pub fn giver_item(
     requires owns { AreOwnTables (program_of expanded.now) tables.now owns.now }
     requires values { value_by values.now ≡ constant_value (program_of expanded.now) }
     requires giver { IsGiver (program_of expanded.now) (main_of expanded.now) expanded.now.instances.now giver.now }
-    ensures { (numbers : Numbers) (q : Sites) (g : GiverTree) → AreLight (program_of expanded.now) (main_of expanded.now) → AreTicks (program_of expanded.now) (main_of expanded.now) numbers.ticks → IsNumbering (program_of expanded.now) (main_of expanded.now) expanded.now.instances.now numbers numbering.now → Gives (program_of expanded.now) (main_of expanded.now) q g → StandsFor (program_of expanded.now) expanded.now.instances.now giver.now g → IfOk result (λ x. made_item x ≡ readings.giver_item (program_of expanded.now) numbers g) }
+    ensures { (numbers : Numbers) (q : Sites) (g : GiverTree) → AreLight (program_of expanded.now) (main_of expanded.now) → AreTicks (program_of expanded.now) (main_of expanded.now) numbers.ticks → IsNumbering (program_of expanded.now) (main_of expanded.now) expanded.now.instances.now numbers numbering.now → Gives (program_of expanded.now) (main_of expanded.now) q g → StandsFor (program_of expanded.now) expanded.now.instances.now giver.now g → IfOk result (λ x. made_item x ≡ readings.raw_giver (program_of expanded.now) numbers g) }
 {
     match giver {
         Giver::Input(number) => Ok(input_item(*number)),
@@ -76,7 +76,7 @@ pub fn giver_item(
 
 /// An input of the main node.
 fn input_item(number: u32) -> FlatItem
-    ensures { (p : ProgramTree) (instances : List Numbered) (numbers : Numbers) (g : GiverTree) → StandsFor p instances (giver.Input number) g → made_item result ≡ readings.giver_item p numbers g }
+    ensures { (p : ProgramTree) (instances : List Numbered) (numbers : Numbers) (g : GiverTree) → StandsFor p instances (giver.Input number) g → made_item result ≡ readings.raw_giver p numbers g }
 {
     FlatItem {
         clock: None,
@@ -105,7 +105,7 @@ fn body_item(
     requires owns { AreOwnTables (program_of expanded.now) tables.now owns.now }
     requires values { value_by values.now ≡ constant_value (program_of expanded.now) }
     requires giver { IsGiver (program_of expanded.now) (main_of expanded.now) expanded.now.instances.now (giver.Body body.now) }
-    ensures { (numbers : Numbers) (q : Sites) (g : GiverTree) → AreLight (program_of expanded.now) (main_of expanded.now) → AreTicks (program_of expanded.now) (main_of expanded.now) numbers.ticks → IsNumbering (program_of expanded.now) (main_of expanded.now) expanded.now.instances.now numbers numbering.now → Gives (program_of expanded.now) (main_of expanded.now) q g → StandsFor (program_of expanded.now) expanded.now.instances.now (giver.Body body.now) g → IfOk result (λ x. made_item x ≡ readings.giver_item (program_of expanded.now) numbers g) }
+    ensures { (numbers : Numbers) (q : Sites) (g : GiverTree) → AreLight (program_of expanded.now) (main_of expanded.now) → AreTicks (program_of expanded.now) (main_of expanded.now) numbers.ticks → IsNumbering (program_of expanded.now) (main_of expanded.now) expanded.now.instances.now numbers numbering.now → Gives (program_of expanded.now) (main_of expanded.now) q g → StandsFor (program_of expanded.now) expanded.now.instances.now (giver.Body body.now) g → IfOk result (λ x. made_item x ≡ readings.raw_giver (program_of expanded.now) numbers g) }
 {
     instance_numbers();
     let reader = Reader::new(expanded, layout, body.instance);
@@ -142,7 +142,7 @@ fn output_item(
     requires owns { AreOwnTables (program_of expanded.now) tables.now owns.now }
     requires values { value_by values.now ≡ constant_value (program_of expanded.now) }
     requires giver { IsGiver (program_of expanded.now) (main_of expanded.now) expanded.now.instances.now (giver.Output output.now) }
-    ensures { (numbers : Numbers) (q : Sites) (g : GiverTree) → AreLight (program_of expanded.now) (main_of expanded.now) → AreTicks (program_of expanded.now) (main_of expanded.now) numbers.ticks → IsNumbering (program_of expanded.now) (main_of expanded.now) expanded.now.instances.now numbers numbering.now → Gives (program_of expanded.now) (main_of expanded.now) q g → StandsFor (program_of expanded.now) expanded.now.instances.now (giver.Output output.now) g → IfOk result (λ x. made_item x ≡ readings.giver_item (program_of expanded.now) numbers g) }
+    ensures { (numbers : Numbers) (q : Sites) (g : GiverTree) → AreLight (program_of expanded.now) (main_of expanded.now) → AreTicks (program_of expanded.now) (main_of expanded.now) numbers.ticks → IsNumbering (program_of expanded.now) (main_of expanded.now) expanded.now.instances.now numbers numbering.now → Gives (program_of expanded.now) (main_of expanded.now) q g → StandsFor (program_of expanded.now) expanded.now.instances.now (giver.Output output.now) g → IfOk result (λ x. made_item x ≡ readings.raw_giver (program_of expanded.now) numbers g) }
 {
     instance_numbers();
     let reader = Reader::new(expanded, layout, output.instance);
@@ -190,7 +190,7 @@ pub fn delay_item(
     requires owns { AreOwnTables (program_of expanded.now) tables.now owns.now }
     requires values { value_by values.now ≡ constant_value (program_of expanded.now) }
     requires within { instance < length expanded.now.instances.now }
-    ensures { (numbers : Numbers) (i : Instance) (d : Delay) → AreLight (program_of expanded.now) (main_of expanded.now) → AreTicks (program_of expanded.now) (main_of expanded.now) numbers.ticks → IsNumbering (program_of expanded.now) (main_of expanded.now) expanded.now.instances.now numbers numbering.now → IsInstance (program_of expanded.now) (main_of expanded.now) i → IsNumberOf (program_of expanded.now) expanded.now.instances.now instance i → Contains (node_delays i.node) d → tree_of operand.now ≡ d.operand → IfOk result (λ x. made_item x ≡ readings.delay_item (program_of expanded.now) numbers i d) }
+    ensures { (numbers : Numbers) (i : Instance) (d : Delay) → AreLight (program_of expanded.now) (main_of expanded.now) → AreTicks (program_of expanded.now) (main_of expanded.now) numbers.ticks → IsNumbering (program_of expanded.now) (main_of expanded.now) expanded.now.instances.now numbers numbering.now → IsInstance (program_of expanded.now) (main_of expanded.now) i → IsNumberOf (program_of expanded.now) expanded.now.instances.now instance i → Contains (node_delays i.node) d → tree_of operand.now ≡ d.operand → IfOk result (λ x. made_item x ≡ readings.raw_delay (program_of expanded.now) numbers i d) }
 {
     instance_numbers();
     let reader = Reader::new(expanded, layout, instance);
@@ -228,7 +228,7 @@ pub fn flat_assertion(
     requires owns { AreOwnTables (program_of expanded.now) tables.now owns.now }
     requires values { value_by values.now ≡ constant_value (program_of expanded.now) }
     requires within { instance < length expanded.now.instances.now }
-    ensures { (numbers : Numbers) (i : Instance) → AreLight (program_of expanded.now) (main_of expanded.now) → AreTicks (program_of expanded.now) (main_of expanded.now) numbers.ticks → IsNumbering (program_of expanded.now) (main_of expanded.now) expanded.now.instances.now numbers numbering.now → IsInstance (program_of expanded.now) (main_of expanded.now) i → IsNumberOf (program_of expanded.now) expanded.now.instances.now instance i → Contains i.node.assertions (assertion_tree assertion.now) → IfOk result (λ f. flat_tree f ≡ readings.assertion_of (program_of expanded.now) numbers i (assertion_tree assertion.now)) }
+    ensures { (numbers : Numbers) (i : Instance) → AreLight (program_of expanded.now) (main_of expanded.now) → AreTicks (program_of expanded.now) (main_of expanded.now) numbers.ticks → IsNumbering (program_of expanded.now) (main_of expanded.now) expanded.now.instances.now numbers numbering.now → IsInstance (program_of expanded.now) (main_of expanded.now) i → IsNumberOf (program_of expanded.now) expanded.now.instances.now instance i → Contains i.node.assertions (assertion_tree assertion.now) → IfOk result (λ f. raw_tree f ≡ readings.assertion_of (program_of expanded.now) numbers i (assertion_tree assertion.now)) }
 {
     instance_numbers();
     let reader = Reader::new(expanded, layout, instance);
@@ -252,7 +252,7 @@ pub fn flat_assertion(
 
 /// What is assumed at a place: the second expression, where the first is true.
 fn assumed(at: Place, there: Box<FlatExpr>, body: Box<FlatExpr>, absent: Box<FlatExpr>) -> FlatExpr
-    ensures { flat_tree result ≡ Node at.sites (If (flat_tree there) (flat_tree body) (flat_tree absent)) }
+    ensures { raw_tree result ≡ Node at.sites (If (raw_tree there) (raw_tree body) (raw_tree absent)) }
 {
     FlatExpr {
         at,

@@ -1,6 +1,6 @@
 //! Laws of flat systems, each the contract of a function that does nothing.
 
-ghost use Rattle.std.specs.Prelude.{◌≡◌, ℕ, ◌<◌, ◌≤◌, ◌↔◌, List, Option, length, slice_index_or};
+ghost use Rattle.std.specs.Prelude.{◌≡◌, ℕ, ◌<◌, ◌≤◌, ◌↔◌, ℤ, Bool, List, Option, length, slice_index_or};
 ghost use Rattle.std.specs.FinMap.{empty};
 ghost use Rattle.std.specs.List.{Contains};
 ghost use Rattle.rv_base.specs.declared.value.Place.{Place as PlaceModel};
@@ -9,17 +9,22 @@ ghost use Rattle.rv_syntax.specs.Tree.{ProgramTree};
 ghost use Rattle.rv_syntax.specs.Places.{Identifier, Sites};
 ghost use Rattle.rv_types.specs.Instances.{IsNode};
 ghost use Rattle.rv_types.specs.WellFormed.{AreWell};
-ghost use Rattle.rv_meaning.specs.Runs.{History, AreStarts, AssertionsHold, cells, observed};
+ghost use Rattle.rv_meaning.specs.Runs.{History, AreStarts, AssertionsHold, IsRun, IsSafe, cells, observed};
 ghost use Rattle.rv_meaning.specs.Instants.{State as Brought, AreGiven};
 ghost use Rattle.rv_meaning.specs.Following.{IsStateAt};
+ghost use Rattle.rv_agreement.specs.Agreement.{State as SystemState};
+ghost use Rattle.rv_agreement.specs.FlatRuns.{IsFlatRun, IsInductive};
+ghost use Rattle.rv_agreement.specs.Valuations.{Valuation};
 ghost use Rattle.rv_flat.specs.declared.flat.Flat.{Flat as FlatModel};
 ghost use Rattle.rv_flat.specs.declared.state.State.{State as StateModel};
-ghost use Rattle.rv_flat.specs.FlatInstants.{Row, nth, places, memory_places, IsFlatInstant};
+ghost use Rattle.rv_flat.specs.FlatInstants.{Row, nth, places, memory_places, system_of, IsFlatInstant};
 ghost use Rattle.rv_flat.specs.FlatOf.{IsFlatBroken, IsFlatOf, flat_inputs, flat_state, row_of};
 ghost use Rattle.rv_flat.specs.FlatRuns.{AreStepsOf, IsBrokenAt};
+ghost use Rattle.rv_flat.specs.SystemRuns.{HasRun, IsRunOf};
 ghost use Rattle.rv_flat.specs.Steps.{AreTaken, AreValues, IsInRange, IsLeastOf, IsState, input_kinds};
 
-use rv_meaning::{run_is_instants, some_next, states_of_run, typed_instants};
+use rv_agreement::inductive_is_safe as inductive_systems;
+use rv_meaning::{run_is_instants, some_next, states_of_run, steps_are_run, typed_instants};
 
 /// A flat system has exactly one instant at each state and inputs.
 pub fn one_flat_instant()
@@ -75,4 +80,34 @@ pub fn typed_steps()
 {
     typed_instants();
     some_next();
+}
+
+/// A run of a well formed program is a run of its flat system, in whole numbers of any size, with its states, rows, starts,
+/// assertions and observer; and a run of the flat system that has an instant is one of the program.
+pub fn runs_are_one()
+    ensures flat { (program : ProgramTree) (main : Identifier) (f : FlatModel) (starts : Sites → Value) (inputs : ℕ → ℕ → Value) (n : ℕ) (h : History)
+        → AreWell program → IsNode program main → IsFlatOf program main f → IsRun program main starts inputs n h
+        → (states : ℕ → SystemState) × (rows : ℕ → Row) × IsRunOf program main f starts inputs n h states rows }
+    ensures back { (program : ProgramTree) (main : Identifier) (f : FlatModel) (n : ℕ) (states : ℕ → SystemState) (inputs : ℕ → List Value) (rows : ℕ → Row)
+        → AreWell program → IsNode program main → IsFlatOf program main f → IsFlatRun (system_of f) n states inputs rows → 0 < n
+        → HasRun program main f n states inputs rows }
+{
+    run_is_instants();
+    states_of_run();
+    steps_are_run();
+    some_next();
+    typed_instants();
+}
+
+/// Where something is inductive over the valuations of a flat system, its program is safe: a property of the control state and of
+/// the integer memories that is initial, that makes the observer true at each allowed valuation whose rows are met, and that is
+/// kept there.
+pub fn inductive_is_safe()
+    ensures { (program : ProgramTree) (main : Identifier) (f : FlatModel) (holds : Valuation → List ℤ → Bool)
+        → AreWell program → IsNode program main → IsFlatOf program main f → IsInductive (system_of f) holds → IsSafe program main }
+{
+    inductive_systems();
+    run_is_instants();
+    states_of_run();
+    typed_instants();
 }

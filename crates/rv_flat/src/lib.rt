@@ -34,7 +34,9 @@ mod variables;
 
 pub use build::flatten;
 pub use flat::Flat;
-pub use laws::{flat_states, one_flat_instant, steps_give_run, typed_steps};
+pub use laws::{
+    flat_states, inductive_is_safe, one_flat_instant, runs_are_one, steps_give_run, typed_steps,
+};
 pub use parts::{Bit, Column, FlatExpr, FlatFlow, FlatForm, FlatInput, FlatMemory, Side};
 pub use state::{State, StepFault, Stepped};
 pub use stepping::{start, step};

@@ -64,7 +64,9 @@ pub struct FlatFlow {
     pub body: FlatExpr,
 }
 
-/// An expression over the flows before it. A comparison of integers has the place by which its order tests name it, and the
+/// An expression over the flows before it. It tells where each part of it is present: an operator hands its clock on to its
+/// operands, the operand of `When` is on the clock of the flow that it names, and what `Current` shows is on the clock of its
+/// memory. A comparison of integers has the place by which its order tests name it, and the
 /// whole of an assertion that by which a false one is told; every other expression has the empty place.
 #[cycle(flat_expr)]
 #[derive(Debug, Drop)]
@@ -89,4 +91,8 @@ pub enum FlatForm {
     Scale(i128, Box<FlatExpr>),
     If(Box<FlatExpr>, Box<FlatExpr>, Box<FlatExpr>),
     AtMostOne(Many<FlatExpr>),
+    /// The operand, which is on the clock of the flow with this number, where that flow is true.
+    When(u32, Box<FlatExpr>),
+    /// What the memory with this number takes where its clock is there, and what it holds elsewhere.
+    Current(u32),
 }

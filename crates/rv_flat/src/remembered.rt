@@ -2,7 +2,7 @@
 
 ghost use Rattle.std.specs.Prelude.{◌≡◌, IfOk};
 ghost use Rattle.rv_flat.specs.Building.{AreRemembered, IsFoundOf, IsGiven, IsRemembered, main_given, numbers_of, program_given};
-ghost use Rattle.rv_flat.specs.FlatOf.{memory_of};
+ghost use Rattle.rv_flat.specs.Systems.{memory_of};
 ghost use Rattle.rv_flat.specs.Kept.{IsKept, kept_memory};
 ghost use Rattle.rv_types.specs.Lists.{sites_of};
 

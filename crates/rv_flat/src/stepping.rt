@@ -5,7 +5,8 @@ ghost use Rattle.std.specs.Option.{option_copied};
 ghost use Rattle.rv_flat.specs.Steps.{AreValues, memory_kinds, input_kinds, IsState, IsFlatStart, IsStepped, IsStepFault};
 ghost use Rattle.rv_flat.specs.declared.state.StepFault.TheVariants.{Memory as NoMemory};
 
-use crate::filling::{broken_place, is_flow_on, kept_after, row_of};
+use crate::evaluate::is_flow_on;
+use crate::filling::{broken_place, kept_after, none_shown, row_of};
 use crate::flat::Flat;
 use crate::least::copy_of;
 use crate::ranges::grown_place;
@@ -46,7 +47,7 @@ fn told(place: Option<&Place>) -> Result<Option<Place>, Memory>
 
 /// One instant from a state, with one value for each input of the main node, of its type and within the range. `Outgrown`
 /// comes where an integer flow, or what an integer memory takes, leaves the range, with the least place. Time grows with
-/// the flat system.
+/// the flat system: what a memory takes is evaluated once.
 pub fn step(
     alloc: Global,
     flat: &Flat,
@@ -58,13 +59,14 @@ pub fn step(
     ensures stepped { IfOk result (IsStepped flat.now now.now input.now) }
     ensures fault { IfErr result (IsStepFault flat.now now.now input.now) }
 {
-    let values = row_of(alloc, flat, now, input)?;
-    let kept = kept_after(alloc, flat, now, input, &values)?;
+    let mut shown = none_shown(alloc, flat)?;
+    let values = row_of(alloc, flat, now, input, &mut shown)?;
+    let kept = kept_after(alloc, flat, now, input, &values, &mut shown)?;
     if let Some(place) = grown_place(flat, &values, &kept) {
         return Err(StepFault::Outgrown(copy_of(place)?));
     }
     let ticked = ticked_after(alloc, flat, now, &values)?;
-    let broken = told(broken_place(flat, now, input, &values))?;
+    let broken = told(broken_place(flat, now, input, &values, &mut shown))?;
     Ok(Stepped {
         next: State { ticked, kept },
         observer: is_flow_on(&values, flat.observer as usize),

@@ -5,7 +5,7 @@ ghost use Rattle.rv_flat.specs.Filling.{ticks_from};
 ghost use Rattle.rv_flat.specs.FlatInstants.{tick_clocks};
 ghost use Rattle.rv_flat.specs.Lists.{tick_places};
 
-use crate::filling::is_flow_on;
+use crate::evaluate::is_flow_on;
 use crate::flat::Flat;
 use crate::parts::Bit;
 use crate::state::State;

@@ -12,14 +12,14 @@ use Rattle.rv_types.specs.declared.typed.Clock.TheVariants.{Base}
 use Rattle.rv_types.specs.Values.{HasKind, operand_kind}
 use Rattle.rv_types.specs.Instances.{place, absolute, clock_of, node_of, main_instance, is_main, IsNode}
 use Rattle.rv_types.specs.WellFormed.{AreWell}
-use Rattle.rv_meaning.specs.Meaning.{held, is_on, is_true, kept_place}
+use Rattle.rv_meaning.specs.Meaning.{is_true, kept_place}
 use Rattle.rv_meaning.specs.Runs.{Instant, cell, observer_place, AreStarts}
 use Rattle.rv_meaning.specs.Instants.{State as Brought, IsInstant, is_on_in, value_now, AllowsAt, AreGiven, observed_in}
 use Rattle.rv_meaning.specs.Valuations.{Valuation, Spells, IsCoded, HoldsEverywhere, FailsSomewhere, IsControl}
 use Rattle.rv_flat.specs.declared.parts.FlatFlow.{FlatFlow}
 use Rattle.rv_flat.specs.declared.flat.Flat.{Flat}
 use Rattle.rv_flat.specs.declared.state.State.{State}
-use Rattle.rv_flat.specs.FlatInstants.{Row, nth, places, IsFlatInstant}
+use Rattle.rv_flat.specs.FlatInstants.{Row, nth, held, is_on, places, IsFlatInstant}
 use Rattle.rv_flat.specs.FlatOf.{flat_state, flat_inputs, row_of, instant_of, IsBroken, IsFlatBroken, IsFlatOf}
 use Rattle.rv_flat.specs.Steps.{AreValues, input_kinds, IsState}
 use Rattle.rv_run.specs.Judged.{IsSmallSystem}

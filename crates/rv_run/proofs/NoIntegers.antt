@@ -4,6 +4,7 @@ use Rattle.std.proofs.Common.{None as Nothing}
 use Rattle.std.specs.List.{All}
 use Rattle.std.proofs.lemmas.Bool.{cases_lt, ltb-true}
 use Rattle.std.proofs.lemmas.List.{length-map}
+use Rattle.std.proofs.lemmas.Option.{get_or_from_slice_get}
 use Rattle.rv_base.specs.declared.value.Place.{Place}
 use Rattle.rv_base.specs.declared.value.Value.{Value}
 use Rattle.rv_base.specs.declared.value.Value.TheVariants.{Flag, Label, Whole}
@@ -14,16 +15,19 @@ use Rattle.rv_types.specs.declared.typed.Kind.{Kind}
 use Rattle.rv_types.specs.declared.typed.Kind.TheVariants as kind
 use Rattle.rv_types.specs.Types.{same_kind}
 use Rattle.rv_types.specs.Variables.{is_integer}
-use Rattle.rv_meaning.specs.Meaning.{held, is_true, operate}
+use Rattle.rv_meaning.specs.Meaning.{is_true, operate}
+use Rattle.rv_agreement.specs.Checks.{is_of, constant_fits, gives, operands, any_of, is_placed_for, same_clock, fits, form_fits, all_fit, clock_fits, item_fits, flows_fit, memories_fit}
+use Rattle.rv_agreement.specs.Evaluation.{Found, value, form_value, is_there, integers}
+use Rattle.rv_agreement.specs.Trees.{FlatTree, Node, TreeForm, Constant, Flow, Memory, Ticked, Input, Not, Binary, Scale, If, AtMostOne, When, Current, Item, Kept, System, kind_at}
+use Rattle.rv_agreement.specs.Trees as trees
 use Rattle.rv_flat.specs.declared.parts.FlatFlow.{FlatFlow}
 use Rattle.rv_flat.specs.declared.parts.FlatMemory.{FlatMemory}
 use Rattle.rv_flat.specs.declared.flat.Flat.{Flat}
 use Rattle.rv_flat.specs.declared.state.State.{State}
 use Rattle.rv_flat.specs.declared.state.StepFault.{StepFault}
 use Rattle.rv_flat.specs.declared.state.StepFault.TheVariants.{Outgrown}
-use Rattle.rv_flat.specs.FlatTree.{FlatTree, Node, TreeForm, Constant, Flow, Memory, Ticked, Input, Not, Binary, Scale, If, AtMostOne, flat_tree}
-use Rattle.rv_flat.specs.Facts.{Scope, is_of, constant_fits, gives, operands, any_of, fits, form_fits, all_fit, clock_fits, flows_fit, memories_fit, scope_of}
-use Rattle.rv_flat.specs.FlatInstants.{Row, nth, is_on_at, flow_item, memory_item, flow_items, memory_items, nth_item, flat_value, form_flat_value, value_at, IsFlatInstant}
+use Rattle.rv_flat.specs.FlatInstants.{Row, nth, held, is_on_at, flow_items, memory_items, nth_item, found_at, system_of, value_at, IsFlatInstant}
+use Rattle.rv_flat.specs.Systems.{flow_item, memory_item, kept_of}
 use Rattle.rv_flat.specs.Steps.{AreValues, memory_kinds, input_kinds, label_counts, IsState, IsGrown, flow, memory, IsStepFault}
 use Rattle.rv_run.specs.Judged.{IsSmallSystem}
 
@@ -113,54 +117,72 @@ operator_suits op.Div k a b h = cc
 operator_suits op.Mod k a b h = cc
 
 -- What an expression has suits its type, where what it names does.
-module _ (s : Scope) (before : ℕ) (ticked : List Bool) (kept inputs : List Value) (row : Row)
-    (flows : (n : ℕ) (k : Kind) → n < before → slice_get s.flows n ≡ Some k → Suits k (held (nth row n)))
-    (memories : (m : ℕ) (k : Kind) → slice_get s.memories m ≡ Some k → Suits k (get_or kept m (Flag false)))
-    (given : (j : ℕ) (k : Kind) → slice_get s.inputs j ≡ Some k → Suits k (get_or inputs j (Flag false))) where
+module _ (s : System) (before : ℕ) (found : Found Value) (row : Row)
+    (flows : (n : ℕ) (k : Kind) → n < before → slice_get s.kinds n ≡ Some k → Suits k (held (nth row n)))
+    (memories : (m : ℕ) (k : Kind) → slice_get (trees.memory_kinds s) m ≡ Some k → Suits k (found.kept m))
+    (given : (j : ℕ) (k : Kind) → slice_get s.inputs j ≡ Some k → Suits k (found.given j)) where
   mutual
-    pub suits : (k : Kind) (e : FlatTree) → fits s before k e ≡ true → Suits k (flat_value ticked kept inputs row e)
-    suits k (Node at form) h = form_suits k form h
+    pub suits : (c : Option ℕ) (k : Kind) (e : FlatTree) → fits s before c k e ≡ true → Suits k (value Value integers found row e)
+    suits c k (Node at form) h = form_suits c k at form h
 
-    form_suits : (k : Kind) (form : TreeForm) → form_fits s before k form ≡ true → Suits k (form_flat_value ticked kept inputs row form)
-    form_suits k (Constant v) h = constant_suits s.labels k v h
-    form_suits k (Flow n) h = flows n k (ltb-true n before (and_left (nat_lt n before) (is_of k (slice_get s.flows n)) h)) (is_of_some k (slice_get s.flows n) (and_right (nat_lt n before) (is_of k (slice_get s.flows n)) h))
-    form_suits k (Memory m) h = memories m k (is_of_some k (slice_get s.memories m) h)
-    form_suits k (Ticked t) h = flag_suits k _ (and_left (same_kind k kind.Bool) (nat_lt t s.ticks) h)
-    form_suits k (Input j) h = given j k (is_of_some k (slice_get s.inputs j) h)
-    form_suits k (Not e) h = flag_suits k _ (and_left (same_kind k kind.Bool) (fits s before kind.Bool e) h)
-    form_suits k (Binary o a b) h =
-        operator_suits o k (flat_value ticked kept inputs row a) (flat_value ticked kept inputs row b) (and_left (gives o k) (any_of (λ j. fits s before j a && fits s before j b) (operands s o)) h)
-    form_suits k (Scale n e) h = whole_suits k _ (and_left (same_kind k kind.Int) (fits s before kind.Int e) h)
-    form_suits k (If c a b) h =
-        let both = and_right (fits s before kind.Bool c) (fits s before k a && fits s before k b) h in
-        cond_suits k (is_true (flat_value ticked kept inputs row c)) (flat_value ticked kept inputs row a) (flat_value ticked kept inputs row b)
-        (suits k a (and_left (fits s before k a) (fits s before k b) both)) (suits k b (and_right (fits s before k a) (fits s before k b) both))
-    form_suits k (AtMostOne es) h = flag_suits k _ (and_left (same_kind k kind.Bool) (all_fit s before es) h)
+    form_suits : (c : Option ℕ) (k : Kind) (at : Sites) (form : TreeForm) → form_fits s before c k at form ≡ true → Suits k (form_value Value integers found row at form)
+    form_suits c k at (Constant v) h = constant_suits s.labels k v h
+    form_suits c k at (Flow n) h =
+        let rest = and_right (nat_lt n before) (is_of k (slice_get s.kinds n) && same_clock c (trees.nth_item s.flows n).clock) h in
+        flows n k (ltb-true n before (and_left (nat_lt n before) (is_of k (slice_get s.kinds n) && same_clock c (trees.nth_item s.flows n).clock) h))
+        (is_of_some k (slice_get s.kinds n) (and_left (is_of k (slice_get s.kinds n)) (same_clock c (trees.nth_item s.flows n).clock) rest))
+    form_suits c k at (Memory m) h = memories m k (is_of_some k (slice_get (trees.memory_kinds s) m) h)
+    form_suits c k at (Ticked t) h = flag_suits k _ (and_left (same_kind k kind.Bool) (nat_lt t (length s.ticks)) h)
+    form_suits c k at (Input j) h = given j k (is_of_some k (slice_get s.inputs j) h)
+    form_suits c k at (Not e) h = flag_suits k _ (and_left (same_kind k kind.Bool) (fits s before c kind.Bool e) h)
+    form_suits c k at (Binary o a b) h =
+        operator_suits o k (value Value integers found row a) (value Value integers found row b)
+        (and_left (gives o k) (any_of (λ i. is_placed_for at o i && (fits s before c i a && fits s before c i b)) (operands s.labels o)) h)
+    form_suits c k at (Scale n e) h = whole_suits k _ (and_left (same_kind k kind.Int) (fits s before c kind.Int e) h)
+    form_suits c k at (If d a b) h =
+        let both = and_right (fits s before c kind.Bool d) (fits s before c k a && fits s before c k b) h in
+        cond_suits k (is_true (value Value integers found row d)) (value Value integers found row a) (value Value integers found row b)
+        (suits c k a (and_left (fits s before c k a) (fits s before c k b) both)) (suits c k b (and_right (fits s before c k a) (fits s before c k b) both))
+    form_suits c k at (AtMostOne es) h = flag_suits k _ (and_left (same_kind k kind.Bool) (all_fit s before c es) h)
+    form_suits c k at (When n e) h =
+        let rest = and_right (same_clock c (Some n)) (clock_fits s before (Some n) && fits s before (trees.nth_item s.flows n).clock k e) h in
+        suits (trees.nth_item s.flows n).clock k e (and_right (clock_fits s before (Some n)) (fits s before (trees.nth_item s.flows n).clock k e) rest)
+    form_suits c k at (Current m i e) h =
+        let rest = and_right (is_of k (slice_get (trees.memory_kinds s) m)) (clock_fits s before i && fits s before i k e) h in
+        cond_suits k (is_there Value integers row i) (value Value integers found row e) (found.kept m)
+        (suits i k e (and_right (clock_fits s before i) (fits s before i k e) rest))
+        (memories m k (is_of_some k (slice_get (trees.memory_kinds s) m) (and_left (is_of k (slice_get (trees.memory_kinds s) m)) (clock_fits s before i && fits s before i k e) h)))
 
 -- each flow fits, over those before it
-flow_fits : (s : Scope) (start : ℕ) (fs : List FlatFlow) (k : ℕ) (j : Kind) → flows_fit s start fs ≡ true → slice_get (map (λ f. f.kind) fs) k ≡ Some j
-    → fits s (start + k) j (nth_item (map flow_item fs) k).body ≡ true
-flow_fits s start [] k j h is = cc
-flow_fits s start (f ∷ fs) zero j h is =
-    let here = and_left (clock_fits s start f.clock && fits s start f.kind (flat_tree f.body)) (flows_fit s (start + 1) fs) h in
+flow_fits : (s : System) (start : ℕ) (xs : List Item) (k : ℕ) → flows_fit s start xs ≡ true → k < length xs
+    → fits s (start + k) (trees.nth_item xs k).clock (kind_at s.kinds (start + k)) (trees.nth_item xs k).body ≡ true
+flow_fits s start [] k h lt = absurd (omega arith)
+flow_fits s start (x ∷ xs) zero h lt =
+    let here = and_left (item_fits s start (kind_at s.kinds start) x) (flows_fit s (start + 1) xs) h in
     let whole : start + 0 ≡ start = omega arith in
-    let same : f.kind ≡ j = cc in
-    ap (λ (n : ℕ). fits s n j (flat_tree f.body)) whole ∙ ap (λ (x : Kind). fits s start x (flat_tree f.body)) (sym same)
-    ∙ and_right (clock_fits s start f.clock) (fits s start f.kind (flat_tree f.body)) here
-flow_fits s start (f ∷ fs) (suc k) j h is =
+    ap (λ (n : ℕ). fits s n x.clock (kind_at s.kinds n) x.body) whole ∙ and_right (clock_fits s start x.clock) (fits s start x.clock (kind_at s.kinds start) x.body) here
+flow_fits s start (x ∷ xs) (suc k) h lt =
     let next : start + suc k ≡ (start + 1) + k = omega arith in
-    ap (λ (n : ℕ). fits s n j (nth_item (map flow_item fs) k).body) next
-    ∙ flow_fits s (start + 1) fs k j (and_right (clock_fits s start f.clock && fits s start f.kind (flat_tree f.body)) (flows_fit s (start + 1) fs) h) is
+    ap (λ (n : ℕ). fits s n (trees.nth_item xs k).clock (kind_at s.kinds n) (trees.nth_item xs k).body) next
+    ∙ flow_fits s (start + 1) xs k (and_right (item_fits s start (kind_at s.kinds start) x) (flows_fit s (start + 1) xs) h) (omega arith)
 
-memory_fits : (s : Scope) (ms : List FlatMemory) (m : ℕ) (j : Kind) → memories_fit s ms ≡ true → slice_get (map (λ f. f.kind) ms) m ≡ Some j
-    → fits s (length s.flows) j (nth_item (map memory_item ms) m).body ≡ true
+memory_fits : (s : System) (ms : List Kept) (m : ℕ) (j : Kind) → memories_fit s ms ≡ true → slice_get (map (λ x. x.kind) ms) m ≡ Some j
+    → fits s (length s.flows) (trees.nth_item (map (λ x. x.item) ms) m).clock j (trees.nth_item (map (λ x. x.item) ms) m).body ≡ true
 memory_fits s [] m j h is = cc
 memory_fits s (x ∷ ms) zero j h is =
-    let here = and_left (clock_fits s (length s.flows) x.clock && fits s (length s.flows) x.kind (flat_tree x.body)) (memories_fit s ms) h in
+    let here = and_left (item_fits s (length s.flows) x.kind x.item) (memories_fit s ms) h in
     let same : x.kind ≡ j = cc in
-    ap (λ (k : Kind). fits s (length s.flows) k (flat_tree x.body)) (sym same) ∙ and_right (clock_fits s (length s.flows) x.clock) (fits s (length s.flows) x.kind (flat_tree x.body)) here
-memory_fits s (x ∷ ms) (suc m) j h is =
-    memory_fits s ms m j (and_right (clock_fits s (length s.flows) x.clock && fits s (length s.flows) x.kind (flat_tree x.body)) (memories_fit s ms) h) is
+    ap (λ (k : Kind). fits s (length s.flows) x.item.clock k x.item.body) (sym same) ∙ and_right (clock_fits s (length s.flows) x.item.clock) (fits s (length s.flows) x.item.clock x.kind x.item.body) here
+memory_fits s (x ∷ ms) (suc m) j h is = memory_fits s ms m j (and_right (item_fits s (length s.flows) x.kind x.item) (memories_fit s ms) h) is
+
+-- the types and items of the memories of a flat system are those of its system
+kept_kinds : (all ms : List FlatMemory) → map (λ x. x.kind) (map (kept_of all) ms) ≡ map (λ m. m.kind) ms
+kept_kinds all [] = refl
+kept_kinds all (m ∷ ms) = ap (λ l. m.kind ∷ l) (kept_kinds all ms)
+
+kept_items : (all ms : List FlatMemory) → map (λ x. x.item) (map (kept_of all) ms) ≡ map (memory_item all) ms
+kept_items all [] = refl
+kept_items all (m ∷ ms) = ap (λ l. memory_item all m ∷ l) (kept_items all ms)
 
 -- one of a list
 pub found : {X : Type 0} (xs : List X) (k : ℕ) (d : X) → k < length xs → slice_get xs k ≡ Some (get_or xs k d)
@@ -188,49 +210,61 @@ held_suits k true v s = s
 held_suits k false v s = default_suits k
 
 module _ (f : Flat) (now : State) (inputs : List Value) (row : Row) (state : IsState f now) (given : AreValues f (input_kinds f) inputs) (instant : IsFlatInstant f now inputs row) where
-  abbrev scope : Scope
-  scope = scope_of f.flows f.memories f.inputs f.variables f.labels
+  abbrev system : System
+  system = system_of f
+
+  memories_suit : (m : ℕ) (k : Kind) → slice_get (trees.memory_kinds system) m ≡ Some k → Suits k (get_or now.kept m (Flag false))
+  memories_suit m k is = values_suit f (memory_kinds f) now.kept state.kept m k (ap (λ ks. slice_get ks m) (sym (kept_kinds f.memories f.memories)) ∙ is)
 
   -- the first flows suit their types
-  first_suit : (n : ℕ) → n ≤ length f.flows → (k : ℕ) (j : Kind) → k < n → slice_get scope.flows k ≡ Some j → Suits j (held (nth row k))
+  first_suit : (n : ℕ) → n ≤ length f.flows → (k : ℕ) (j : Kind) → k < n → slice_get system.kinds k ≡ Some j → Suits j (held (nth row k))
   first_suit zero le k j lt is = absurd (omega arith)
   first_suit (suc n) le k j lt is = elim (cases_lt k n) [
     | inl below ↦ first_suit n (omega arith) k j below is
     | inr above ↦
         let same : k ≡ n = omega arith in
-        let here : slice_get scope.flows n ≡ Some j = ap (λ (i : ℕ). slice_get scope.flows i) (sym same) ∙ is in
+        let here : slice_get system.kinds n ≡ Some j = ap (λ (i : ℕ). slice_get system.kinds i) (sym same) ∙ is in
         let item = nth_item (flow_items f) n in
-        let body = suits scope n now.ticked now.kept inputs row (λ i kd below. first_suit n (omega arith) i kd below)
-        (values_suit f (memory_kinds f) now.kept state.kept) (values_suit f (input_kinds f) inputs given) j item.body
-        (let start : 0 + n ≡ n = omega arith in ap (λ (i : ℕ). fits scope i j item.body) (sym start) ∙ flow_fits scope 0 f.flows n j f.flows_fit here) in
+        let many = length-map f.flows (flow_item f.memories) in
+        let kind_is : kind_at system.kinds n ≡ j = get_or_from_slice_get system.kinds n j kind.Bool here in
+        let start : 0 + n ≡ n = omega arith in
+        let fit : fits system n item.clock j item.body ≡ true =
+        ap (λ (x : Kind). fits system n item.clock x item.body) (sym kind_is)
+        ∙ ap (λ (i : ℕ). fits system i item.clock (kind_at system.kinds i) item.body) (sym start)
+        ∙ flow_fits system 0 system.flows n f.flows_fit (omega (arith, many)) in
+        let body = suits system n (found_at now inputs) row (λ i kd below. first_suit n (omega arith) i kd below)
+        memories_suit (values_suit f (input_kinds f) inputs given) item.clock j item.body fit in
         subst (λ (i : ℕ). Suits j (held (nth row i))) (sym same)
         (subst (λ (o : Option Value). Suits j (held o)) (sym (instant.holds n (omega arith))) (held_suits j (is_on_at row item.clock) (value_at now inputs row item.body) body))
   ]
 
   -- and so do all flows
-  pub flow_suits : (k : ℕ) (j : Kind) → slice_get scope.flows k ≡ Some j → Suits j (held (nth row k))
+  pub flow_suits : (k : ℕ) (j : Kind) → slice_get system.kinds k ≡ Some j → Suits j (held (nth row k))
   flow_suits k j is =
-      let lt = within_found scope.flows k j is in
+      let lt = within_found system.kinds k j is in
       let long = length-map f.flows (λ (g : FlatFlow). g.kind) in
       first_suit (length f.flows) (omega arith) k j (omega (arith, lt, long)) is
 
   -- and what the memories take
-  pub memory_suits : (m : ℕ) (j : Kind) → slice_get scope.memories m ≡ Some j → Suits j (value_at now inputs row (nth_item (memory_items f) m).body)
+  pub memory_suits : (m : ℕ) (j : Kind) → slice_get (memory_kinds f) m ≡ Some j → Suits j (value_at now inputs row (nth_item (memory_items f) m).body)
   memory_suits m j is =
-      suits scope (length scope.flows) now.ticked now.kept inputs row (λ i kd lt at. flow_suits i kd at)
-      (values_suit f (memory_kinds f) now.kept state.kept) (values_suit f (input_kinds f) inputs given) j (nth_item (memory_items f) m).body (memory_fits scope f.memories m j f.memories_fit is)
+      let fit = memory_fits system system.memories m j f.memories_fit (ap (λ ks. slice_get ks m) (kept_kinds f.memories f.memories) ∙ is) in
+      let items = kept_items f.memories f.memories in
+      suits system (length system.flows) (found_at now inputs) row (λ i kd lt at. flow_suits i kd at)
+      memories_suit (values_suit f (input_kinds f) inputs given) (nth_item (memory_items f) m).clock j (nth_item (memory_items f) m).body
+      (ap (λ xs. fits system (length system.flows) (trees.nth_item xs m).clock j (trees.nth_item xs m).body) (sym items) ∙ fit)
 
   -- so no integer is there to leave the range
   pub none_grown : IsSmallSystem f → (q : Sites) → IsGrown f now inputs row q → ⊥
   none_grown small q (flow k z lt is out at) =
       let long = length-map f.flows (λ (g : FlatFlow). g.kind) in
-      let kd = get_or scope.flows k kind.Bool in
-      let is_kind = found scope.flows k kind.Bool (omega (arith, long, lt)) in
+      let kd = get_or system.kinds k kind.Bool in
+      let is_kind = found system.kinds k kind.Bool (omega (arith, long, lt)) in
       no_whole kd z (not_integer (λ (g : FlatFlow). g.kind) f.flows small.flows k kd is_kind) (subst (λ (o : Option Value). Suits kd (held o)) is (flow_suits k kd is_kind))
   none_grown small q (memory m z lt on is out at) =
       let long = length-map f.memories (λ (x : FlatMemory). x.kind) in
-      let kd = get_or scope.memories m kind.Bool in
-      let is_kind = found scope.memories m kind.Bool (omega (arith, long, lt)) in
+      let kd = get_or (memory_kinds f) m kind.Bool in
+      let is_kind = found (memory_kinds f) m kind.Bool (omega (arith, long, lt)) in
       no_whole kd z (not_integer (λ (x : FlatMemory). x.kind) f.memories small.memories m kd is_kind) (subst (Suits kd) is (memory_suits m kd is_kind))
 
 pub never_outgrown : (f : Flat) (now : State) (inputs : List Value) → IsState f now → AreValues f (input_kinds f) inputs → IsSmallSystem f

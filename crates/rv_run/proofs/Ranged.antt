@@ -22,7 +22,8 @@ use Rattle.rv_flat.specs.declared.parts.FlatMemory.{FlatMemory}
 use Rattle.rv_flat.specs.declared.flat.Flat.{Flat}
 use Rattle.rv_flat.specs.declared.state.State.{State}
 use Rattle.rv_flat.specs.FlatInstants.{memory_places}
-use Rattle.rv_flat.specs.FlatOf.{flat_state, flat_inputs, memory_of, IsFlatOf}
+use Rattle.rv_flat.specs.FlatOf.{flat_state, flat_inputs, IsFlatOf}
+use Rattle.rv_flat.specs.Systems.{memory_of}
 use Rattle.rv_flat.specs.Steps.{IsInRange, AreValues, input_kinds, IsState}
 use Rattle.rv_run.proofs.Known.{in_map, of_map}
 use Rattle.rv_run.proofs.NoIntegers.{found}

@@ -20,7 +20,8 @@ use Rattle.rv_flat.specs.declared.parts.FlatMemory.{FlatMemory}
 use Rattle.rv_flat.specs.declared.flat.Flat.{Flat}
 use Rattle.rv_flat.specs.Lists.{tick_places, variable_of}
 use Rattle.rv_flat.specs.FlatInstants.{places}
-use Rattle.rv_flat.specs.FlatOf.{memory_of, IsFlatOf}
+use Rattle.rv_flat.specs.FlatOf.{IsFlatOf}
+use Rattle.rv_flat.specs.Systems.{memory_of}
 use Rattle.rv_flat.specs.Steps.{memory_kinds, input_kinds}
 use Rattle.rv_run.specs.declared.search.Shape.{Shape}
 use Rattle.rv_run.specs.Judged.{control_bits_of, IsSmallSystem}

@@ -4,11 +4,10 @@ use Rattle.std.proofs.Common.{None as Nothing}
 use Rattle.rv_base.specs.declared.value.Place.{Place}
 use Rattle.rv_base.specs.declared.value.Value.{Value}
 use Rattle.rv_syntax.specs.Places.{Sites}
-use Rattle.rv_meaning.specs.Meaning.{is_on}
 use Rattle.rv_flat.specs.declared.flat.Flat.{Flat}
 use Rattle.rv_flat.specs.declared.state.State.{State}
 use Rattle.rv_flat.specs.declared.state.Stepped.{Stepped}
-use Rattle.rv_flat.specs.FlatInstants.{nth}
+use Rattle.rv_flat.specs.FlatInstants.{nth, is_on}
 use Rattle.rv_flat.specs.FlatOf.{IsFlatBroken}
 use Rattle.rv_flat.specs.Steps.{IsStepped, IsLeastOf}
 use Rattle.rv_run.specs.Spelled.{HoldsAt, FailsAt}

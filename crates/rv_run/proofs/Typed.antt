@@ -14,7 +14,7 @@ use Rattle.rv_flat.specs.declared.parts.FlatMemory.{FlatMemory}
 use Rattle.rv_flat.specs.declared.flat.Flat.{Flat}
 use Rattle.rv_flat.specs.declared.state.State.{State}
 use Rattle.rv_flat.specs.Lists.{tick_places}
-use Rattle.rv_flat.specs.Facts.{constant_fits}
+use Rattle.rv_agreement.specs.Checks.{constant_fits}
 use Rattle.rv_flat.specs.FlatInstants.{places}
 use Rattle.rv_flat.specs.Steps.{IsInRange, label_counts, AreValues, input_kinds, IsState}
 use Rattle.rv_run.specs.declared.search.Shape.{Shape}

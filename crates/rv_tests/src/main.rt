@@ -3,7 +3,7 @@
 //!
 //! - texts and parts of programs, answered by the parser, the rules, the order of evaluation and the flat system: `program`,
 //!   `local`, `body`, `right`, `tree`, `nested`, `deep`, `sited`, `counted`, `settle`, `typed`, `several`, `clocked`, `values`,
-//!   `source`, `steps`, `memories` (`rows.rt`);
+//!   `source`, `steps`, `presence`, `memories` (`rows.rt`);
 //! - lists, texts, boxes, places and traces: `many`, `text`, `box`, `sites`, `path`, `place`, `trace` (`small.rt`);
 //! - files and sinks in memory: `files`, `sure_files`, `sink`, `sure_sink` (`outside.rt`);
 //! - rows, forms, multipliers and the search for them: `proves`, `refutes`, `tighten`, `fits`, `add`, `scale`, `substitute`,
@@ -19,6 +19,7 @@ mod linear;
 mod numbers;
 mod outside;
 mod places;
+mod presence;
 mod printed;
 mod rows;
 mod runs;

@@ -9,7 +9,7 @@ use crate::runs::ran;
 use crate::shapes::write_shape;
 use crate::sited::{counted, sited};
 use crate::small::small;
-use crate::steps::stepped;
+use crate::steps::{Telling, stepped};
 use rv_base::{Memory, Value};
 use rv_syntax::{Program, SOURCE_LIMIT, TextFault, parse};
 use rv_types::{NameFault, settle};
@@ -75,6 +75,7 @@ fn on_call(alloc: Global, kind: &str, fields: &str) -> Result<Option<String>, Me
 /// `values`: whole declarations of types and constants, and what the constants are;
 /// `source`: a whole program with the main node `m`, and its order of evaluation;
 /// `steps`: what the memories start with, what the inputs are at each instant, and a whole program with the main node `m`;
+/// `presence`: the same, told by the comparisons that are present at each instant;
 /// `memories`: a whole program with the main node `m`, and the places of its memories with their types.
 fn on_text(alloc: Global, kind: &str, text: &str) -> Result<Option<String>, Memory> {
     let told = match kind {
@@ -101,7 +102,8 @@ fn on_program(alloc: Global, kind: &str, text: &str) -> Result<Option<String>, M
         "clocked" => judged(alloc, &format!(in alloc; "{CLOCKED}{text} tel")?),
         "values" => values(alloc, &format!(in alloc; "{text}{HEADER}let ok = a; tel")?),
         "source" => ordered(alloc, text),
-        "steps" => stepped(alloc, text),
+        "steps" => stepped(alloc, text, Telling::Values),
+        "presence" => stepped(alloc, text, Telling::Presence),
         "memories" => remembered(alloc, text),
         _ => return Ok(None),
     };

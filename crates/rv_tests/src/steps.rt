@@ -1,11 +1,12 @@
 //! What is answered on a whole source with start values and inputs: the instants of its flat system.
 
 ghost use Rattle.std.specs.Prelude.{◌≡◌, ◌≤◌, length, map, IsTrue, IfOk, slice_index_or};
-ghost use Rattle.rv_flat.specs.Facts.{constant_fits};
+ghost use Rattle.rv_agreement.specs.Checks.{constant_fits};
 ghost use Rattle.rv_flat.specs.Lists.{tick_places};
 ghost use Rattle.rv_flat.specs.Steps.{AreValues, IsInRange, label_counts, input_kinds, memory_kinds, IsState};
 
 use crate::causes::{add_place, cause_text};
+use crate::presence::add_presence;
 use crate::rows::{fault_text, name_fault_text};
 use crate::values::{add_value, instants_in, values_in};
 use rv_base::{Many, Memory, Place, Value};
@@ -15,10 +16,17 @@ use rv_syntax::SOURCE_LIMIT;
 use rv_types::Kind;
 use std::alloc::{AllocError, Global};
 
+/// What is told of an instant: the values and memories, or which comparisons are present.
+#[derive(Clone, Copy)]
+pub enum Telling {
+    Values,
+    Presence,
+}
+
 /// The answer on start values, inputs and a source, which stand between `~`. Values are separated by spaces and instants
-/// by semicolons. Each instant is told by the values of the main node's flows, whether the observer is true, the place of
+/// by semicolons. As values, each instant is told by the values of the main node's flows, whether the observer is true, the place of
 /// an assertion that is false, and the memories after it; or by the place of an integer that leaves the range.
-pub fn stepped(alloc: Global, fields: &str) -> Result<String, Memory> {
+pub fn stepped(alloc: Global, fields: &str, telling: Telling) -> Result<String, Memory> {
     let Some((starts, rest)) = fields.split_once('~') else {
         return no_values(alloc);
     };
@@ -31,7 +39,7 @@ pub fn stepped(alloc: Global, fields: &str) -> Result<String, Memory> {
     match read_source(alloc, text.as_bytes(), "m") {
         Ok(source) => {
             let flat = flatten(alloc, &source)?;
-            told_instants(alloc, &flat, starts, inputs)
+            told_instants(alloc, &flat, starts, inputs, telling)
         }
         Err(SourceFault::Text(fault)) => fault_text(alloc, fault),
         Err(SourceFault::Names(fault)) => name_fault_text(alloc, fault),
@@ -45,7 +53,13 @@ fn no_values(alloc: Global) -> Result<String, Memory> {
 }
 
 /// The answer on a flat system.
-fn told_instants(alloc: Global, flat: &Flat, starts: &str, inputs: &str) -> Result<String, Memory> {
+fn told_instants(
+    alloc: Global,
+    flat: &Flat,
+    starts: &str,
+    inputs: &str,
+    telling: Telling,
+) -> Result<String, Memory> {
     let Some(starts) = values_in(alloc, starts)? else {
         return no_values(alloc);
     };
@@ -56,7 +70,7 @@ fn told_instants(alloc: Global, flat: &Flat, starts: &str, inputs: &str) -> Resu
         return no_values(alloc);
     }
     let state = start(alloc, flat, &starts)?;
-    told_from(alloc, flat, state, instants.as_slice())
+    told_from(alloc, flat, state, instants.as_slice(), telling)
 }
 
 /// The instants from a state.
@@ -65,6 +79,7 @@ fn told_from(
     flat: &Flat,
     first: State,
     instants: &[Many<Value>],
+    telling: Telling,
 ) -> Result<String, Memory> {
     let mut state = first;
     let mut text = String::new(alloc);
@@ -73,7 +88,12 @@ fn told_from(
         text.push_str(mark)?;
         match instant(alloc, flat, &state, inputs) {
             Ok(Some(stepped)) => {
-                add_instant(alloc, flat, &stepped, &mut text)?;
+                match telling {
+                    Telling::Values => add_instant(alloc, flat, &stepped, &mut text)?,
+                    Telling::Presence => {
+                        add_presence(alloc, flat, stepped.values.as_slice(), &mut text)?
+                    }
+                }
                 state = stepped.next;
             }
             Ok(None) => return no_values(alloc),

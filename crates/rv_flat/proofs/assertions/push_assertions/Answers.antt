@@ -3,7 +3,7 @@ use Rattle.std.specs.List.{Contains}
 use Rattle.rv_syntax.specs.declared.tree.Assertion.{Assertion}
 use Rattle.rv_syntax.specs.Tree.{assertion_tree, AssertionTree}
 use Rattle.rv_flat.specs.Building.{numbers_of, program_given}
-use Rattle.rv_flat.specs.FlatTree.{flat_tree}
+use Rattle.rv_flat.specs.RawTree.{raw_tree}
 use Rattle.rv_flat.specs.Readings.{assertion_of}
 use Rattle.rv_flat.proofs.AssertedParts.{assertions_at, made_of_trees}
 use Rattle.rv_flat.proofs.Gathered.{gathered_more, gathered_all}
@@ -20,7 +20,7 @@ loop-assertion-preserved c i is at =
     let same = assertions_at g.expanded.now c.requires.given.known c.args.instance i c.node-node.result.now items is at c.as_slice-assertion-items.ensures c.node-node.ensures in
     let there : Contains i.node.assertions (assertion_tree item) =
     subst (λ (l : List AssertionTree). Contains l (assertion_tree item)) same (in_map assertion_tree items item (k, c.loop-assertion-test.true, sym c.assertion-item.is)) in
-    gathered_more (λ a. f a ∷ []) (map f) (λ a l. refl) items k item (map flat_tree c.loop-assertion.made) (map flat_tree c.push_assertion.new.made) (map flat_tree c.args.made.now ++ map f items) c.loop-assertion-test.true c.assertion-item.is
+    gathered_more (λ a. f a ∷ []) (map f) (λ a l. refl) items k item (map raw_tree c.loop-assertion.made) (map raw_tree c.push_assertion.new.made) (map raw_tree c.args.made.now ++ map f items) c.loop-assertion-test.true c.assertion-item.is
     (c.in_ok-push_assertion.ensures i is at there)
     (c.loop-assertion.invariant i is at)
 
@@ -31,5 +31,5 @@ returns c i is at =
     let own = assertion_of (program_given g) (numbers_of g c.args.found.now) i in
     let f = λ (a : Assertion). own (assertion_tree a) in
     let same = assertions_at g.expanded.now c.requires.given.known c.args.instance i c.node-node.result.now items is at c.as_slice-assertion-items.ensures c.node-node.ensures in
-    gathered_all (map f) refl items c.loop-assertion.assertion-index (map flat_tree c.loop-assertion.made) (map flat_tree c.args.made.now ++ map f items) c.loop-assertion-test.false (c.loop-assertion.invariant i is at)
-    ∙ ap (λ l. map flat_tree c.args.made.now ++ l) (made_of_trees own items ∙ ap (map own) same)
+    gathered_all (map f) refl items c.loop-assertion.assertion-index (map raw_tree c.loop-assertion.made) (map raw_tree c.args.made.now ++ map f items) c.loop-assertion-test.false (c.loop-assertion.invariant i is at)
+    ∙ ap (λ l. map raw_tree c.args.made.now ++ l) (made_of_trees own items ∙ ap (map own) same)

@@ -4,11 +4,11 @@ use Rattle.rv_syntax.specs.Tree.{assertion_tree}
 use Rattle.rv_types.specs.Instances.{Instance, IsInstance}
 use Rattle.rv_causality.specs.Layouts.{IsNumberOf}
 use Rattle.rv_flat.specs.Building.{main_given, numbers_of, program_given}
-use Rattle.rv_flat.specs.FlatTree.{flat_tree}
+use Rattle.rv_flat.specs.RawTree.{raw_tree}
 use Rattle.rv_flat.specs.Readings.{assertion_of}
 use Rattle.rv_flat.proofs.assertions.push_assertions.Given as goal
 
 abbrev pub invariant-loop-assertion : goal.invariant-loop-assertion
 invariant-loop-assertion l = (i : Instance) → IsInstance (program_given l.given) (main_given l.given) i → IsNumberOf (program_given l.given) l.given.expanded.now.instances.now l.instance i
-    → map flat_tree l.made ++ map (λ (a : Assertion). assertion_of (program_given l.given) (numbers_of l.given l.found) i (assertion_tree a)) (drop l.assertion-index l.assertion-items)
-    ≡ map flat_tree l.fn.made ++ map (λ (a : Assertion). assertion_of (program_given l.given) (numbers_of l.given l.found) i (assertion_tree a)) l.assertion-items
+    → map raw_tree l.made ++ map (λ (a : Assertion). assertion_of (program_given l.given) (numbers_of l.given l.found) i (assertion_tree a)) (drop l.assertion-index l.assertion-items)
+    ≡ map raw_tree l.fn.made ++ map (λ (a : Assertion). assertion_of (program_given l.given) (numbers_of l.given l.found) i (assertion_tree a)) l.assertion-items

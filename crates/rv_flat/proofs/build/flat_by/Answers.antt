@@ -9,7 +9,7 @@ use Rattle.rv_types.specs.Names.{labels_of, texts}
 use Rattle.rv_flat.specs.Kept.{kept_memory, found_comparison}
 use Rattle.rv_flat.specs.Facts.{all_few, integers, numbers_among}
 use Rattle.rv_flat.specs.Lists.{tick_places, variable_of}
-use Rattle.rv_flat.specs.Readings.{places_of}
+use Rattle.rv_flat.specs.Systems.{places_of}
 use Rattle.rv_flat.specs.Building.{program_given, main_given, numbers_of}
 use Rattle.rv_flat.proofs.Assembled.{taken_kinds, inputs_within, kinds_within, main_kinds, main_name, few_given, first_node, is_named, is_read, are_kinds, main_number, observer_there, observer_kind, observer_within, all_ticks_known, same_flows}
 use Rattle.rv_flat.proofs.CountedVariables.{few_integers, few_variables}
@@ -18,9 +18,9 @@ use Rattle.rv_flat.proofs.FlowTotals.{some_instance}
 use Rattle.rv_flat.proofs.InstanceNumbers.{node_in}
 use Rattle.rv_flat.proofs.LabelBits.{few_labels}
 use Rattle.rv_flat.proofs.PlaceNumbers.{text_itself}
+use Rattle.rv_flat.proofs.AgreedLaws.{Laws}
 use Rattle.rv_flat.proofs.ReadFlat.{is_flat_of}
-use Rattle.rv_flat.proofs.ReadFits.{all_flows_fit, all_memories_fit, all_assertions_fit}
-use Rattle.rv_flat.proofs.ReadWeights.{all_flows_light, all_memories_light, all_assertions_light}
+use Rattle.rv_flat.proofs.ReadKeeps.{ends, flows_are, memories_are, assertions_are, clocks_are, ticks_are_apart, memories_are_apart, comparisons_are_apart, flows_are_light, memories_are_light, assertions_are_light}
 use Rattle.rv_flat.proofs.VariableCount.{counted_variables}
 use Rattle.rv_flat.proofs.build.flat_by.Goals as goal
 
@@ -105,15 +105,20 @@ invariant_of-result c =
     let tick_flows : c.in_ok-tick_flows.tick_flows ≡ numbers_among (places_of fl) (tick_places vs) =
     c.in_ok-tick_flows.ensures ∙ c.requires.found.tick_flows ∙ (λ i. numbers_among (sym flows i) (sym ticks i)) in
     record {
-      flows_fit = all_flows_fit p main known.well named fl ms is vs as_ ls read types;
-      memories_fit = all_memories_fit p main known.well named fl ms is vs as_ ls read types;
-      assertions_fit = all_assertions_fit p main known.well named fl ms is vs as_ ls read types;
+      ends = ends p main known.well named light fl ms is vs as_ ls c.number_at.result read types;
+      flows_fit = flows_are p main known.well named light fl ms is vs as_ ls c.number_at.result read types;
+      memories_fit = memories_are p main known.well named light fl ms is vs as_ ls c.number_at.result read types;
+      assertions_fit = assertions_are p main known.well named light fl ms is vs as_ ls c.number_at.result read types;
       observed = observer_kind c.args.given.now c.args.found.now given c.requires.found fl ms is vs as_ c.in_ok-flows.ensures c.in_ok-memories.ensures c.in_ok-assertions.ensures kinds ticks c.requires.observer c.number_at.result number;
       ticks = all_ticks_known p main instances known (places_of fl) (tick_places vs) read.sequence read.ticks;
       tick_numbers = subst (λ l. is_same l (numbers_among (places_of fl) (tick_places vs)) ≡ true) (sym tick_flows) (text_itself (numbers_among (places_of fl) (tick_places vs)));
-      flows_light = all_flows_light p main known.well named fl ms is vs as_ read light.0 light.1 light.2;
-      memories_light = all_memories_light p main known.well named fl ms is vs as_ read light.0 light.1 light.2;
-      assertions_light = all_assertions_light p main known.well named fl ms is vs as_ read light.0 light.1 light.2;
+      tick_clocks = clocks_are p main known.well named light fl ms is vs as_ ls c.number_at.result read types;
+      ticks_apart = ticks_are_apart p main known.well named light fl ms is vs as_ ls c.number_at.result read types;
+      memories_apart = memories_are_apart p main known.well named light fl ms is vs as_ ls c.number_at.result read types;
+      comparisons_apart = ∣ comparisons_are_apart p main known.well named light fl ms is vs as_ ls c.number_at.result read types ∣₁;
+      flows_light = flows_are_light p main known.well named light fl ms is vs as_ ls c.number_at.result read types;
+      memories_light = memories_are_light p main known.well named light fl ms is vs as_ ls c.number_at.result read types;
+      assertions_light = assertions_are_light p main known.well named light fl ms is vs as_ ls c.number_at.result read types;
       few_variables = few_variables p main (λ i of. c.counted_instances.ensures.all p main i known.named c.requires.accepted.recursion known.declared of) vs variables c.requires.accepted.sizes.1.1.1.1.1.0;
       few_memories = few_integers p main (λ i of. c.counted_instances.ensures.all p main i known.named c.requires.accepted.recursion known.declared of) ms read.list c.requires.accepted.sizes.1.1.0;
       few_inputs = subst (λ ks. integers ks ≤ 64) (sym kinds) c.requires.accepted.sizes.1.1.1.0;
@@ -151,7 +156,16 @@ returns-clause-flat c =
           ∙ (λ i. with_copies (MainTick ∷ map Tick (sites_of (c.as_slice-3.ensures i)) ++ memory_variables p (map kept_memory (c.as_slice-4.ensures i)))
           ++ (input_variables p 0 (taken_kinds p (node_of p main) c.len.result c.as_slice-kinds.result.now (c.len.ensures ∙ many) own i) ++ test_variables (map found_comparison (c.as_slice-5.ensures i))));
     } in
-    is_flat_of p main known.well named given.light (c.defined_flows.ensures p main known.well named) _ read types (record {
+    let laws : Laws = record {
+      whole = c.translated_expressions.ensures.whole;
+      meaning = c.one_meaning.ensures;
+      instants = c.translated_systems.ensures.instants;
+      rows = c.translated_systems.ensures.rows;
+      comparisons = c.translated_systems.ensures.comparisons;
+      only = c.translated_systems.ensures.only;
+      well = c.checked_is_well.ensures;
+    } in
+    is_flat_of laws p main known.well named given.light (c.defined_flows.ensures p main known.well named) _ read types (record {
       name = sym c.in_ok-name.ensures.cases ∙ ap (λ (n : NodeTree). n.name.text) (c.node-main.ensures ∙ first_node p main instances known) ∙ main_name p main instances known;
       inputs = c.in_ok-inputs.ensures.names ∙ ap names (c.as_slice.ensures ∙ node);
       variables = variables;

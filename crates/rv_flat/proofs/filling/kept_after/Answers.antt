@@ -1,33 +1,43 @@
-use Rattle.std.proofs.Common.{◌≡◌, ◌+◌, false, cond, ap, sym, ◌∙◌, subst, arith, length, get_or}
+use Rattle.std.proofs.Common.{◌≡◌, ◌+◌, false, cond, get_or, sym, ◌∙◌, subst, arith, length}
 use Rattle.rv_base.specs.declared.value.Value.TheVariants.{Flag}
+use Rattle.rv_agreement.specs.Trees.{Item}
 use Rattle.rv_flat.specs.Filling.{IsKept}
-use Rattle.rv_flat.specs.FlatInstants.{is_on_at, memory_item, memory_items, nth_item, no_item, value_at}
-use Rattle.rv_flat.specs.Tame.{IsTame}
+use Rattle.rv_flat.specs.FlatInstants.{is_on_at, found_at, memory_items, nth_item, value_at}
+use Rattle.rv_flat.specs.Inlined.{table_of}
+use Rattle.rv_flat.specs.Tame.{IsOver, IsTame}
+use Rattle.rv_flat.proofs.Inlining.{is_table, item_at}
 use Rattle.rv_flat.proofs.Keeping.{one_kept}
-use Rattle.rv_flat.proofs.Reading.{read_at}
-use Rattle.rv_flat.proofs.Taming.{memory_tame}
+use Rattle.rv_flat.proofs.Taming.{memory_over, memory_tame}
 use Rattle.rv_flat.proofs.filling.kept_after.Goals as goal
-use Rattle.std.proofs.lemmas.Option.{get_or_from_slice_get}
 
-pub memory_value-requires : goal.memory_value-requires
-memory_value-requires c =
+pub current_of-requires-clause-table : goal.current_of-requires-clause-table
+current_of-requires-clause-table c = is_table c.args.flat.now.memories c.args.flat.now.ends
+
+pub current_of-requires-clause-ready : goal.current_of-requires-clause-ready
+current_of-requires-clause-ready c =
     let f = c.args.flat.now in
+    let now = c.args.now.now in
+    let inputs = c.args.input.now in
+    let row = c.args.row.now in
     let m = c.loop-number.number in
-    let items = c.as_slice-memory-items.result.now in
-    let long = ap length c.as_slice-memory-items.ensures in
-    let here : nth_item (memory_items f) m ≡ memory_item c.memory-item.result = read_at memory_item f.memories items m c.memory-item.result no_item c.as_slice-memory-items.ensures c.loop-number-test.true c.memory-item.is in
-    subst (λ x. IsTame c.args.now.now.ticked c.args.now.now.kept c.args.input.now c.args.row.now x.body) here
-    (memory_tame f c.args.now.now c.args.input.now c.requires.state c.requires.inputs c.args.row.now c.requires.row m (omega (arith, long)))
+    let here : nth_item (memory_items f) m ≡ table_of f.memories m = item_at f.memories f.ends m in
+    record {
+      tame = subst (λ (x : Item). IsTame (found_at now inputs) row x.body) here (memory_tame f now inputs c.requires.state c.requires.inputs row c.requires.row m (omega arith));
+      over = subst (λ (x : Item). IsOver (length row) x.body) here (memory_over f now inputs c.requires.state c.requires.inputs row c.requires.row m (omega arith));
+    }
 
 pub loop-number-preserved : goal.loop-number-preserved
 loop-number-preserved c =
     let f = c.args.flat.now in
+    let now = c.args.now.now in
+    let inputs = c.args.input.now in
+    let row = c.args.row.now in
     let m = c.loop-number.number in
-    let items = c.as_slice-memory-items.result.now in
-    let here : nth_item (memory_items f) m ≡ memory_item c.memory-item.result = read_at memory_item f.memories items m c.memory-item.result no_item c.as_slice-memory-items.ensures c.loop-number-test.true c.memory-item.is in
-    let held : get_or c.args.now.now.kept m (Flag false) ≡ c.at-held.result.now = get_or_from_slice_get c.args.now.now.kept m c.at-held.result.now (Flag false) c.at-held.ensures.value in
-    subst (IsKept f c.args.now.now c.args.input.now c.args.row.now (m + 1)) (sym c.in_ok-push.ensures.ok)
-    (one_kept f c.args.now.now c.args.input.now c.args.row.now m c.loop-number.kept c.memory_value.result
-    (c.memory_value.ensures
-    ∙ (λ i. cond (is_on_at c.args.row.now (sym here i).clock) (value_at c.args.now.now c.args.input.now c.args.row.now (sym here i).body) (sym held i)))
-    c.loop-number.invariant)
+    let here : nth_item (memory_items f) m ≡ table_of f.memories m = item_at f.memories f.ends m in
+    record {
+      kept = subst (IsKept f now inputs row (m + 1)) (sym c.in_ok-push.ensures.ok)
+          (one_kept f now inputs row m c.loop-number.kept c.current_of.result
+          (c.current_of.ensures.value ∙ (λ i. cond (is_on_at row (sym here i).clock) (value_at now inputs row (sym here i).body) (get_or now.kept m (Flag false))))
+          c.loop-number.invariant.kept);
+      shown = c.current_of.ensures.shown;
+    }

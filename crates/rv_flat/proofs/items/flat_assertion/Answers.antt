@@ -4,7 +4,7 @@ use Rattle.rv_causality.specs.Expanded.{program_of, main_of}
 use Rattle.rv_causality.specs.Layouts.{IsLayout, IsNumberOf, node_at}
 use Rattle.rv_types.specs.Scopes.{node_scope}
 use Rattle.rv_flat.specs.declared.frame.Frame.{Frame}
-use Rattle.rv_flat.specs.FlatTree.{Node, If, flat_tree}
+use Rattle.rv_flat.specs.RawTree.{Node, If, raw_tree}
 use Rattle.rv_flat.specs.Tables.{clock_read}
 use Rattle.rv_flat.proofs.MadeItems.{assertion_made}
 use Rattle.rv_flat.proofs.items.flat_assertion.Goals as goal
@@ -22,4 +22,4 @@ returns c numbers i light ticks numbering of number there =
     c.requires.values numbering i (assertion_tree c.args.assertion.now) _ _ _ of
     (subst (λ m. IsNumberOf p x.instances.now m i) (sym reader.instance) number) there
     (c.clock_number.ensures ∙ ap (clock_read frame) c.clock_of-clock.ensures) c.in_ok-made.ensures
-    (c.assumed.ensures ∙ (λ t. Node (c.in_ok-at.ensures t) (If (c.in_ok-there.ensures t) (flat_tree (c.in_ok-body.ensures t)) (c.in_ok-absent.ensures t))))
+    (c.assumed.ensures ∙ (λ t. Node (c.in_ok-at.ensures t) (If (c.in_ok-there.ensures t) (raw_tree (c.in_ok-body.ensures t)) (c.in_ok-absent.ensures t))))

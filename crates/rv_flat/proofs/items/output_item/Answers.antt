@@ -4,7 +4,7 @@ use Rattle.rv_causality.specs.Layouts.{IsLayout, node_at}
 use Rattle.rv_types.specs.Scopes.{node_scope}
 use Rattle.rv_flat.specs.declared.frame.Frame.{Frame}
 use Rattle.rv_causality.specs.NumberedNeeds.{numbers_of}
-use Rattle.rv_flat.specs.FlatTree.{Flow, flat_tree}
+use Rattle.rv_flat.specs.RawTree.{Flow, raw_tree}
 use Rattle.rv_flat.specs.Readings.{unplaced}
 use Rattle.rv_flat.specs.Tables.{flow_read, clock_read}
 use Rattle.rv_flat.proofs.ReadItems.{output_instance, output_within, output_few}
@@ -40,5 +40,5 @@ returns c numbers q g light ticks numbering gives stands =
     (subst (IsLayout p (main_of x) x.instances.now) (sym reader.layout) c.requires.layout)
     c.requires.values numbering c.args.output.now q g _ _ reader.instance gives stands
     (c.clock_number.ensures ∙ ap (clock_read frame) c.clock-clock.ensures)
-    (ap flat_tree c.into_inner.ensures ∙ c.in_ok-made.ensures
+    (ap raw_tree c.into_inner.ensures ∙ c.in_ok-made.ensures
     ∙ ap (λ k. unplaced (Flow k)) (c.number_at-flow.ensures ∙ ap (λ k. flow_read frame (k + o.output)) (c.output-first.ensures ∙ ap (numbers_of c.new-reader.result).output c.site_of-site.ensures)))

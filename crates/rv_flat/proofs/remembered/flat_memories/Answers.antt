@@ -3,7 +3,7 @@ use Rattle.std.proofs.lemmas.List.{map-append, take_all}
 use Rattle.std.specs.List.{Contains}
 use Rattle.rv_flat.specs.declared.parts.FlatMemory.{FlatMemory}
 use Rattle.rv_flat.specs.Building.{IsRemembered, main_given, numbers_of, program_given}
-use Rattle.rv_flat.specs.FlatOf.{memory_of}
+use Rattle.rv_flat.specs.Systems.{memory_of}
 use Rattle.rv_flat.specs.Kept.{kept_memory}
 use Rattle.rv_flat.proofs.ClockedNodes.{one_more}
 use Rattle.rv_flat.proofs.KeptParts.{and_one_more, there}

@@ -2,7 +2,7 @@ use Rattle.std.proofs.Common.{◌≡◌, map, take}
 use Rattle.std.specs.List.{Contains}
 use Rattle.rv_flat.specs.declared.parts.FlatMemory.{FlatMemory}
 use Rattle.rv_flat.specs.Building.{IsRemembered, main_given, numbers_of, program_given}
-use Rattle.rv_flat.specs.FlatOf.{memory_of}
+use Rattle.rv_flat.specs.Systems.{memory_of}
 use Rattle.rv_flat.specs.Kept.{kept_memory}
 use Rattle.rv_flat.proofs.remembered.flat_memories.Given as goal
 

@@ -10,9 +10,9 @@ returns-in-Some-clause-fault c =
     let f = c.args.flat.now in
     let row = c.in_ok-values.values in (
       row,
-      c.in_ok-values.ensures,
+      c.in_ok-values.ensures.instant,
       subst (λ p. IsLeast (IsGrown f c.args.now.now c.args.input.now row) p.sites) (sym c.in_ok-copy_of.ensures)
-          (grown_places f c.args.now.now c.args.input.now row c.requires.state c.in_ok-kept.kept c.in_ok-kept.ensures (Some c.in-Some.place.now) c.in-Some.ensures),
+          (grown_places f c.args.now.now c.args.input.now row c.requires.state c.in_ok-kept.kept c.in_ok-kept.ensures.kept (Some c.in-Some.place.now) c.in-Some.ensures),
     )
 
 pub returns-clause-stepped : goal.returns-clause-stepped
@@ -23,10 +23,10 @@ returns-clause-stepped c =
     let row = c.in_ok-values.values in
     let kept = c.in_ok-kept.kept in
     record {
-      instant = c.in_ok-values.ensures;
-      next = next f now inputs row c.requires.state kept c.in_ok-kept.ensures c.in_ok-ticked.ticked c.in_ok-ticked.ensures;
+      instant = c.in_ok-values.ensures.instant;
+      next = next f now inputs row c.requires.state kept c.in_ok-kept.ensures.kept c.in_ok-ticked.ticked c.in_ok-ticked.ensures;
       observer = c.is_flow_on.ensures;
       broken = subst (IsLeastOf (IsFlatBroken f now inputs row)) (sym c.in_ok-broken.ensures) (broken_places f now inputs row (option_copied c.broken_place.result) c.broken_place.ensures);
-      within = grown_places f now inputs row c.requires.state kept c.in_ok-kept.ensures None c.in_default.ensures;
-      state = next_state f now inputs row c.requires.state kept c.in_ok-kept.ensures c.in_ok-ticked.ticked c.in_ok-ticked.ensures c.in_default.ensures;
+      within = grown_places f now inputs row c.requires.state kept c.in_ok-kept.ensures.kept None c.in_default.ensures;
+      state = next_state f now inputs row c.requires.state kept c.in_ok-kept.ensures.kept c.in_ok-ticked.ticked c.in_ok-ticked.ensures c.in_default.ensures;
     }

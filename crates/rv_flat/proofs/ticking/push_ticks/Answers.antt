@@ -1,4 +1,4 @@
-use Rattle.std.proofs.Common.{◌≡◌, ◌||◌, Bool, true, false, length, get_or, sym, ◌∙◌, ap, Some}
+use Rattle.std.proofs.Common.{◌≡◌, ◌||◌, Bool, false, length, get_or, sym, ◌∙◌, ap, Some}
 use Rattle.rv_flat.specs.FlatInstants.{is_on_at}
 use Rattle.rv_flat.proofs.TickSteps.{one_tick}
 use Rattle.rv_flat.proofs.ticking.push_ticks.Goals as goal

@@ -1,7 +1,7 @@
 use Rattle.std.proofs.Common.{◌≡◌, ℕ, ◌<◌, Some, slice_get, IsTrue, get_or, false}
 use Rattle.rv_base.specs.declared.value.Value.TheVariants.{Flag}
 use Rattle.rv_types.specs.declared.typed.Kind.{Kind}
-use Rattle.rv_flat.specs.Facts.{constant_fits}
+use Rattle.rv_agreement.specs.Checks.{constant_fits}
 use Rattle.rv_flat.specs.Steps.{IsInRange, label_counts}
 use Rattle.rv_tests.proofs.steps.are_values.Given as goal
 
