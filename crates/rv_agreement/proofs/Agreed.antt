@@ -5,8 +5,8 @@ use Rattle.std.specs.Prelude.{int_le, slice_index_or}
 use Rattle.std.specs.List.{Contains}
 use Rattle.rv_base.specs.declared.value.Value.{Value}
 use Rattle.rv_base.specs.declared.value.Value.TheVariants.{Flag, Whole}
-use Rattle.rv_syntax.specs.declared.tree.Op.{Op}
-use Rattle.rv_syntax.specs.declared.tree.Op.TheVariants as op
+use Rattle.rv_tree.specs.declared.tree.Op.{Op}
+use Rattle.rv_tree.specs.declared.tree.Op.TheVariants as op
 use Rattle.rv_types.specs.Lists.{Side}
 use Rattle.rv_meaning.specs.Meaning.{number}
 use Rattle.rv_rows.specs.Forms as forms

@@ -3,7 +3,7 @@ use Rattle.std.proofs.Common.{ap, ◌≡◌, ℕ, zero, suc, ◌<◌, [], ◌∷
 use Rattle.std.specs.Prelude.{slice_index_or}
 use Rattle.std.proofs.Common.{None as Nothing}
 use Rattle.std.specs.List.{Contains}
-use Rattle.rv_syntax.specs.declared.tree.Op.TheVariants as op
+use Rattle.rv_tree.specs.declared.tree.Op.TheVariants as op
 use Rattle.rv_types.specs.declared.typed.Kind.TheVariants as kind
 use Rattle.rv_agreement.specs.Trees.{FlatTree, Node, Binary, When, nth_item, kind_at}
 use Rattle.rv_agreement.specs.Valuations.{Comparison, all_comparisons}

@@ -9,7 +9,7 @@ use Rattle.std.specs.Ordering.{is_eq, nat_cmp}
 use Rattle.std.specs.Cmp.Lexicographic.{slice_cmp, texts_ties}
 use Rattle.std.specs.List.{Contains}
 use Rattle.std.specs.FinMap.{slice_cmp-IsAntisymmetric, nat_cmp-IsAntisymmetric}
-use Rattle.rv_syntax.specs.Places.{Sites, is_same, index_of}
+use Rattle.rv_tree.specs.Places.{Sites, is_same, index_of}
 use Rattle.rv_agreement.specs.Translation.{AreIndexed}
 use Rattle.rv_agreement.proofs.Controls.{no_flag}
 use Rattle.rv_agreement.proofs.Matching.{none_in, head_or_tail}

@@ -5,11 +5,11 @@ use Rattle.std.specs.Prelude.{nat_le}
 use Rattle.std.proofs.Math.IntN.{*ℤ_comm}
 use Rattle.rv_base.specs.declared.value.Value.{Value}
 use Rattle.rv_base.specs.declared.value.Value.TheVariants.{Flag, Whole}
-use Rattle.rv_syntax.specs.declared.tree.Op.{Op}
-use Rattle.rv_syntax.specs.declared.tree.Op.TheVariants as op
-use Rattle.rv_syntax.specs.Tree as tree
-use Rattle.rv_syntax.specs.Tree.{Tree, Form, Trees, ProgramTree}
-use Rattle.rv_syntax.specs.Places.{Identifier, Sites, is_flow}
+use Rattle.rv_tree.specs.declared.tree.Op.{Op}
+use Rattle.rv_tree.specs.declared.tree.Op.TheVariants as op
+use Rattle.rv_tree.specs.Tree as tree
+use Rattle.rv_tree.specs.Tree.{Tree, Form, Trees, ProgramTree}
+use Rattle.rv_tree.specs.Places.{Identifier, Sites, is_flow}
 use Rattle.rv_types.specs.declared.typed.Clock.TheVariants.{Base}
 use Rattle.rv_types.specs.Types.{is_constant}
 use Rattle.rv_types.specs.Scopes.{node_scope, constant_value}

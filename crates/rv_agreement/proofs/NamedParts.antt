@@ -2,9 +2,9 @@
 use Rattle.std.proofs.Common.{inl, inr, ℕ, ◌++◌, subst, Option}
 use Rattle.std.specs.List.{Contains}
 use Rattle.std.proofs.lemmas.List.Elements.{Contains-append_cases}
-use Rattle.rv_syntax.specs.Tree as tree
-use Rattle.rv_syntax.specs.Tree.{Tree, Form, Trees, ProgramTree}
-use Rattle.rv_syntax.specs.Places.{Identifier, Sites}
+use Rattle.rv_tree.specs.Tree as tree
+use Rattle.rv_tree.specs.Tree.{Tree, Form, Trees, ProgramTree}
+use Rattle.rv_tree.specs.Places.{Identifier, Sites}
 use Rattle.rv_types.specs.Instances.{Instance, absolute, clock_of}
 use Rattle.rv_agreement.specs.Programs.{Compared, compared, form_compared, compared_all}
 use Rattle.rv_agreement.specs.Translation.{Names, FormNames, AllNames}

@@ -3,11 +3,11 @@ use Rattle.std.proofs.Common.{◌≡◌, ◌⊎◌, inl, inr, ℕ, Bool, true, f
 use Rattle.std.specs.List.{Contains}
 use Rattle.std.proofs.lemmas.Bool.{eqb-true}
 use Rattle.std.proofs.lemmas.List.Elements.{Contains-append_cases}
-use Rattle.rv_syntax.specs.declared.tree.Op.{Op}
-use Rattle.rv_syntax.specs.declared.tree.Op.TheVariants as op
-use Rattle.rv_syntax.specs.Tree as tree
-use Rattle.rv_syntax.specs.Tree.{Tree, Form, Trees, NodeTree, ProgramTree}
-use Rattle.rv_syntax.specs.Places.{Sites, site_of}
+use Rattle.rv_tree.specs.declared.tree.Op.{Op}
+use Rattle.rv_tree.specs.declared.tree.Op.TheVariants as op
+use Rattle.rv_tree.specs.Tree as tree
+use Rattle.rv_tree.specs.Tree.{Tree, Form, Trees, NodeTree, ProgramTree}
+use Rattle.rv_tree.specs.Places.{Sites, site_of}
 use Rattle.rv_types.specs.declared.typed.Clock.{Clock}
 use Rattle.rv_types.specs.declared.typed.Clock.TheVariants.{Base, On}
 use Rattle.rv_types.specs.declared.fault.Pace.{Pace}

@@ -5,8 +5,8 @@ use Rattle.std.specs.Prelude.{slice_index_or}
 use Rattle.std.specs.List.{Contains}
 use Rattle.std.proofs.lemmas.List.{length-map, get_or-map}
 use Rattle.std.proofs.lemmas.List.Elements.{Contains-get_or, Contains-append_left, Contains-append_right, Contains-append_cases}
-use Rattle.rv_syntax.specs.Tree.{Tree, ProgramTree}
-use Rattle.rv_syntax.specs.Places.{Identifier, Sites, index_of}
+use Rattle.rv_tree.specs.Tree.{Tree, ProgramTree}
+use Rattle.rv_tree.specs.Places.{Identifier, Sites, index_of}
 use Rattle.rv_types.specs.declared.typed.Clock.{Clock}
 use Rattle.rv_types.specs.declared.typed.Clock.TheVariants.{Base}
 use Rattle.rv_types.specs.Instances.{Body, Output, Instance, absolute, clock_in, clock_of_arguments, output_place}

@@ -3,11 +3,11 @@ use Rattle.std.proofs.Common.{◌≡◌, ℕ, ◌+◌, ℤ, negsuc, Bool, true, 
 use Rattle.std.proofs.Common.{None as Nothing}
 use Rattle.std.specs.Prelude.{nat_le, nat_eq}
 use Rattle.std.proofs.lemmas.List.{map-append}
-use Rattle.rv_syntax.specs.declared.tree.Op.{Op}
-use Rattle.rv_syntax.specs.declared.tree.Op.TheVariants as op
-use Rattle.rv_syntax.specs.Tree as tree
-use Rattle.rv_syntax.specs.Tree.{Tree, Form, Trees, ProgramTree}
-use Rattle.rv_syntax.specs.Places.{Identifier, Sites, is_flow, index_of}
+use Rattle.rv_tree.specs.declared.tree.Op.{Op}
+use Rattle.rv_tree.specs.declared.tree.Op.TheVariants as op
+use Rattle.rv_tree.specs.Tree as tree
+use Rattle.rv_tree.specs.Tree.{Tree, Form, Trees, ProgramTree}
+use Rattle.rv_tree.specs.Places.{Identifier, Sites, is_flow, index_of}
 use Rattle.rv_types.specs.declared.typed.Clock.TheVariants.{Base}
 use Rattle.rv_types.specs.Types.{is_constant}
 use Rattle.rv_types.specs.Lists.{sides_of}

@@ -5,9 +5,9 @@ use Rattle.std.specs.Prelude.{None as Nothing}
 use Rattle.std.specs.List.{Contains}
 use Rattle.rv_base.specs.declared.value.Value.{Value}
 use Rattle.rv_base.specs.declared.value.Value.TheVariants.{Flag}
-use Rattle.rv_syntax.specs.Tree.{Tree, AssertionTree, ProgramTree}
-use Rattle.rv_syntax.specs.Places.{Identifier, Sites, index_of}
-use Rattle.rv_syntax.specs.Delays.{Delay, node_delays}
+use Rattle.rv_tree.specs.Tree.{Tree, AssertionTree, ProgramTree}
+use Rattle.rv_tree.specs.Places.{Identifier, Sites, index_of}
+use Rattle.rv_tree.specs.Delays.{Delay, node_delays}
 use Rattle.rv_types.specs.declared.typed.Kind.{Kind}
 use Rattle.rv_types.specs.declared.typed.Clock.{Clock}
 use Rattle.rv_types.specs.declared.typed.Clock.TheVariants.{Base}

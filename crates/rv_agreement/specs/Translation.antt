@@ -4,11 +4,11 @@ use Rattle.std.specs.Prelude.{None as Nothing}
 use Rattle.std.specs.List.{Contains}
 use Rattle.std.specs.Option.{option_map}
 use Rattle.rv_base.specs.declared.value.Value.TheVariants.{Flag, Whole}
-use Rattle.rv_syntax.specs.declared.tree.Op.TheVariants as op
-use Rattle.rv_syntax.specs.Tree as tree
-use Rattle.rv_syntax.specs.Tree.{Tree, Form, Trees, AssertionTree, ProgramTree}
-use Rattle.rv_syntax.specs.Places.{Identifier, Sites, is_flow, index_of}
-use Rattle.rv_syntax.specs.Delays.{Delay, node_delays}
+use Rattle.rv_tree.specs.declared.tree.Op.TheVariants as op
+use Rattle.rv_tree.specs.Tree as tree
+use Rattle.rv_tree.specs.Tree.{Tree, Form, Trees, AssertionTree, ProgramTree}
+use Rattle.rv_tree.specs.Places.{Identifier, Sites, is_flow, index_of}
+use Rattle.rv_tree.specs.Delays.{Delay, node_delays}
 use Rattle.rv_types.specs.declared.typed.Clock.{Clock}
 use Rattle.rv_types.specs.declared.typed.Clock.TheVariants.{Base}
 use Rattle.rv_types.specs.Types.{is_constant}

@@ -3,8 +3,8 @@ use Rattle.std.specs.Prelude.{ℕ, ℤ, false, List, [], Option, map, slice_inde
 use Rattle.std.specs.Prelude.{None as Nothing}
 use Rattle.rv_base.specs.declared.value.Value.{Value}
 use Rattle.rv_base.specs.declared.value.Value.TheVariants.{Flag}
-use Rattle.rv_syntax.specs.declared.tree.Op.{Op}
-use Rattle.rv_syntax.specs.Places.{Sites}
+use Rattle.rv_tree.specs.declared.tree.Op.{Op}
+use Rattle.rv_tree.specs.Places.{Sites}
 use Rattle.rv_types.specs.declared.typed.Kind.{Kind}
 use Rattle.rv_types.specs.declared.typed.Kind.TheVariants as kind
 
@@ -44,7 +44,7 @@ pub record Kept : Type 0 where
 
 -- A flat system: flows in an order of evaluation and their types, memories by place, types of the inputs, assertions, the clocks
 -- of the ticks by the places and by the numbers of their flows (none for main's), the number of labels of each enumeration, the
--- observer. A comparison of integers has a place, and so has the whole of an assertion; nothing else has one.
+-- observer. A comparison of integers has a place; nothing else has one.
 pub record System : Type 0 where
   pub flows : List Item
   pub kinds : List Kind

@@ -5,7 +5,7 @@ ghost use Rattle.rv_base.specs.declared.value.Value.{Value};
 ghost use Rattle.rv_base.specs.declared.value.Value.TheVariants.{Flag};
 ghost use Rattle.rv_types.specs.declared.typed.Kind.{Kind};
 ghost use Rattle.rv_types.specs.Variables.{is_integer};
-ghost use Rattle.rv_syntax.specs.Places.{Sites};
+ghost use Rattle.rv_tree.specs.Places.{Sites};
 ghost use Rattle.rv_types.specs.Lists.{Side};
 ghost use Rattle.rv_rows.specs.declared.linear.Row.{Row};
 ghost use Rattle.rv_rows.specs.Tight.{IsTightened};

@@ -4,9 +4,9 @@ ghost use Rattle.std.specs.Prelude.{◌≡◌, ◌↔◌, ◌<◌, ◌+◌, ℕ,
 ghost use Rattle.std.specs.FinMap.{empty};
 ghost use Rattle.std.specs.List.{Contains};
 ghost use Rattle.rv_base.specs.declared.value.Value.{Value};
-ghost use Rattle.rv_syntax.specs.Delays.{Delay};
-ghost use Rattle.rv_syntax.specs.Tree.{Tree, Binary, ProgramTree};
-ghost use Rattle.rv_syntax.specs.Places.{Identifier, Sites, index_of};
+ghost use Rattle.rv_tree.specs.Delays.{Delay};
+ghost use Rattle.rv_tree.specs.Tree.{Tree, Binary, ProgramTree};
+ghost use Rattle.rv_tree.specs.Places.{Identifier, Sites, index_of};
 ghost use Rattle.rv_types.specs.WellFormed.{AreWell, Suits};
 ghost use Rattle.rv_types.specs.Instances.{IsNode, Instance, place, absolute, clock_of};
 ghost use Rattle.rv_types.specs.Lists.{memory_places, delay_place, Side};

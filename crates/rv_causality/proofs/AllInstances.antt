@@ -3,15 +3,15 @@ use Rattle.std.proofs.Common.{◌≡◌, ℕ, zero, suc, ◌-◌, ◌<◌, ◌�
 use Rattle.std.specs.List.{Contains, flat_map}
 use Rattle.std.proofs.lemmas.List.{length-set, length-replicate, get_or-set_other, get_or-replicate}
 use Rattle.std.proofs.lemmas.List.Elements.{Contains-append_left, Contains-append_right, Contains-append_cases, Contains-get_or}
-use Rattle.rv_syntax.specs.Tree.{NodeTree, ProgramTree}
-use Rattle.rv_syntax.specs.Places.{Identifier, is_among, index_of}
+use Rattle.rv_tree.specs.Tree.{NodeTree, ProgramTree}
+use Rattle.rv_tree.specs.Places.{Identifier, is_among, index_of}
 use Rattle.rv_types.specs.Names.{name_faults}
 use Rattle.rv_types.specs.Instances.{CallTree, calls, Instance, no_node, node_of, callee, unrolled, all_instances, main_instance, IsInstance, is_main, is_callee}
 use Rattle.rv_causality.specs.Reach.{Reaches, itself, by_call, HasNoRecursion}
 use Rattle.rv_causality.specs.Graphs.{falses}
-use Rattle.rv_causality.specs.Callings.{names_of}
+use Rattle.rv_instances.specs.AllInstances.{names_of}
 use Rattle.rv_causality.proofs.Walks.{snoc_at, snoc_front, snoc_length, set_falses}
-use Rattle.rv_causality.proofs.Known.{cons_cases, nothing_in, called, calls_declared, node_of_number}
+use Rattle.rv_instances.proofs.Known.{cons_cases, nothing_in, called, calls_declared, node_of_number}
 
 -- different numbers below a bound are no more than the bound
 pigeons : (xs : List ℕ) (bs : List Bool) → ((i : ℕ) → i < length xs → get_or xs i 0 < length bs) → ((i : ℕ) → i < length xs → get_or bs (get_or xs i 0) false ≡ false)

@@ -1,11 +1,11 @@
 -- What the answer of the rules of names, types and clocks gives.
 use Rattle.std.proofs.Common.{◌≡◌, [], ◌<◌, length, map, sym, subst}
-use Rattle.rv_syntax.specs.Tree.{ProgramTree}
+use Rattle.rv_tree.specs.Tree.{ProgramTree}
 use Rattle.rv_types.specs.declared.typed.Typed.{Typed}
 use Rattle.rv_types.specs.Kinds.{flow_kinds}
 use Rattle.rv_types.specs.Names.{name_faults}
 use Rattle.rv_types.specs.Settled.{IsAnswer}
-use Rattle.rv_causality.proofs.Known.{called}
+use Rattle.rv_instances.proofs.Known.{called}
 
 pub answer_named : (p : ProgramTree) (t : Typed) → IsAnswer p t → name_faults p ≡ []
 answer_named p t a = a.1.names

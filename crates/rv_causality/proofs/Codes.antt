@@ -2,11 +2,11 @@
 use Rattle.std.proofs.Common.{◌≡◌, ℕ, zero, suc, ◌+◌, ◌-◌, ◌*◌, ◌^◌, ◌<◌, ◌≤◌, cond, List, [], ◌∷◌, length, get_or, refl, sym, ◌∙◌, ap, arith}
 use Rattle.std.proofs.Math.Nat.{pow-suc}
 use Rattle.std.proofs.lemmas.Bool.{le-leb, lt-leb}
-use Rattle.rv_syntax.specs.declared.tree.TypeDecl.{TypeDecl}
+use Rattle.rv_tree.specs.declared.tree.TypeDecl.{TypeDecl}
 use Rattle.rv_types.specs.declared.typed.Kind.{Kind}
 use Rattle.rv_types.specs.declared.typed.Kind.TheVariants as kind
-use Rattle.rv_syntax.specs.Tree.{ProgramTree}
-use Rattle.rv_causality.specs.Bits.{bits_of}
+use Rattle.rv_tree.specs.Tree.{ProgramTree}
+use Rattle.rv_instances.specs.Bits.{bits_of}
 use Rattle.rv_types.specs.Variables.{bits_from, kind_bits}
 use Rattle.rv_types.specs.Values.{label_count, labels_at}
 

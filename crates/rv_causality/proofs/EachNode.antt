@@ -2,9 +2,9 @@
 use Rattle.std.proofs.Common.{◌≡◌, ℕ, ◌+◌, ◌<◌, List, [], ◌∷◌, ◌++◌, map, length, get_or, drop, sym, ◌∙◌, ap}
 use Rattle.std.proofs.lemmas.List.{append_assoc}
 use Rattle.std.specs.List.{Contains}
-use Rattle.rv_syntax.specs.declared.tree.Node as declared
-use Rattle.rv_syntax.specs.Tree.{NodeTree, node_tree}
-use Rattle.rv_causality.proofs.Known.{in_map}
+use Rattle.rv_tree.specs.declared.tree.Node as declared
+use Rattle.rv_tree.specs.Tree.{NodeTree, node_tree}
+use Rattle.rv_instances.proofs.Known.{in_map}
 use Rattle.rv_causality.proofs.Turns.{turn}
 
 module _ (xs : List declared.Node) (k : ℕ) (x : declared.Node) (within : k < length xs) (is : x ≡ get_or xs k x) where

@@ -3,15 +3,15 @@ use Rattle.std.proofs.Common.{◌≡◌, ℕ, zero, suc, ◌+◌, ◌<◌, inl, 
 use Rattle.std.specs.List.{Contains, flat_map}
 use Rattle.std.proofs.lemmas.List.{append_assoc, append-nil, reverse-append}
 use Rattle.std.proofs.lemmas.List.Elements.{Contains-append_left, Contains-append_right, Contains-append_cases, Contains-push}
-use Rattle.rv_causality.specs.declared.answer.Instance.{Instance}
+use Rattle.rv_instances.specs.declared.answer.Instance.{Instance}
 use Rattle.rv_causality.specs.declared.calls.Calling.{Calling}
 use Rattle.rv_causality.specs.Graphs.{IsGraph, IsOrdered}
 use Rattle.rv_causality.specs.Callings.{callees, call_graph}
 use Rattle.rv_causality.specs.Listing.{called_instance, listed, all_listed, ahead, IsExpansion}
-use Rattle.rv_causality.proofs.Walks.{contains_at}
+use Rattle.rv_instances.proofs.Lists.{contains_at, length_map}
 use Rattle.rv_causality.proofs.Turns.{turn}
-use Rattle.rv_causality.proofs.Lowering.{edge_of, length_map}
-use Rattle.rv_causality.proofs.Known.{cons_cases, nothing_in, of_map}
+use Rattle.rv_causality.proofs.Lowering.{edge_of}
+use Rattle.rv_instances.proofs.Known.{cons_cases, nothing_in, of_map}
 
 pub flat_map_same : {X Y : Type 0} (f g : X → List Y) (xs : List X) → ((x : X) → Contains xs x → f x ≡ g x) → flat_map f xs ≡ flat_map g xs
 flat_map_same f g [] each = refl

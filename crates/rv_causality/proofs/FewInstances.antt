@@ -3,25 +3,22 @@ use Rattle.std.proofs.Common.{◌≡◌, ℕ, zero, suc, ◌<◌, ◌≤◌, tru
 use Rattle.std.specs.List.{Contains}
 use Rattle.std.proofs.lemmas.List.{get_or_default}
 use Rattle.std.proofs.lemmas.List.Elements.{Contains-append_right}
-use Rattle.rv_syntax.specs.Bounded.{IsBounded}
-use Rattle.rv_syntax.specs.Tree.{ProgramTree}
-use Rattle.rv_syntax.specs.Places.{Identifier, is_among}
-use Rattle.rv_types.specs.Instances.{all_instances}
+use Rattle.rv_tree.specs.Bounded.{IsBounded}
+use Rattle.rv_tree.specs.Tree.{ProgramTree}
+use Rattle.rv_tree.specs.Places.{Identifier, is_among}
+use Rattle.rv_types.specs.Instances.{all_instances, name_at}
 use Rattle.rv_types.specs.Names.{name_faults}
 use Rattle.rv_types.specs.Needs.{IsBefore}
-use Rattle.rv_types.specs.WellFormed.{AreWell}
-use Rattle.rv_causality.specs.declared.answer.Instance.{Instance as Numbered}
-use Rattle.rv_causality.specs.Callings.{names_of}
-use Rattle.rv_causality.specs.Causes.{AreInstances, numbered}
-use Rattle.rv_types.specs.WellFormed.{AreSited}
-use Rattle.rv_types.specs.Instances.{name_at}
-use Rattle.rv_causality.specs.Expanded.{IsExpanded}
+use Rattle.rv_types.specs.WellFormed.{AreWell, AreSited}
+use Rattle.rv_instances.specs.declared.answer.Instance.{Instance as Numbered}
+use Rattle.rv_instances.specs.AllInstances.{names_of, AreInstances, numbered}
+use Rattle.rv_instances.specs.Expanded.{IsExpanded}
 use Rattle.rv_causality.specs.Reach.{HasNoRecursion}
-use Rattle.rv_causality.specs.Sizes.{instance_count}
+use Rattle.rv_instances.specs.Counts.{instance_count}
 use Rattle.rv_causality.proofs.AllInstances.{all_found, pigeonhole}
-use Rattle.rv_causality.proofs.ExpandedLaws.{not_itself}
-use Rattle.rv_causality.proofs.Known.{in_map, name_declared}
-use Rattle.rv_causality.proofs.Lowering.{length_map}
+use Rattle.rv_instances.proofs.ExpandedLaws.{not_itself}
+use Rattle.rv_instances.proofs.Known.{in_map, name_declared}
+use Rattle.rv_instances.proofs.Lists.{length_map}
 
 -- where the elements of a list stand in another
 places_in : (xs ys : List Numbered) → ((x : Numbered) → Contains xs x → Contains ys x) → List ℕ

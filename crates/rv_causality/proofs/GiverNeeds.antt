@@ -2,9 +2,9 @@
 use Rattle.std.proofs.Common.{◌≡◌, ℕ, zero, suc, ◌+◌, ◌<◌, ◌^◌, List, [], ◌∷◌, ◌++◌, length, Some, refl, sym, ap, subst, arith, slice_get}
 use Rattle.std.specs.List.{Contains}
 use Rattle.std.proofs.lemmas.List.Elements.{Contains-append_left}
-use Rattle.rv_syntax.specs.Bounded.{most}
-use Rattle.rv_syntax.specs.Tree.{Tree, EquationTree, NodeTree, ProgramTree, tree_of}
-use Rattle.rv_syntax.specs.Places.{Identifier, Sites, is_flow, site_of}
+use Rattle.rv_tree.specs.Bounded.{most}
+use Rattle.rv_tree.specs.Tree.{Tree, EquationTree, NodeTree, ProgramTree, tree_of}
+use Rattle.rv_tree.specs.Places.{Identifier, Sites, is_flow, site_of}
 use Rattle.rv_types.specs.declared.typed.Clock.{Clock}
 use Rattle.rv_types.specs.declared.fault.Pace.{Pace}
 use Rattle.rv_types.specs.declared.fault.Pace.TheVariants.{Free, At, Mute, Differ}
@@ -18,25 +18,25 @@ use Rattle.rv_types.specs.WellFormed.{Suits}
 use Rattle.rv_types.specs.Instances.{CallTree, calls, calls_in, calls_in_equations, calls_in_assertions, Right, IsRight, alone, in_order, IsArgument, Instance, absolute, clock_of, clock_of_args, taken, clock_taken, node_of, IsInstance}
 use Rattle.rv_types.specs.Instances as right
 use Rattle.rv_types.specs.Needs.{Giver, Given, Of, Gives, by_equation, by_call, flow_of, needs, needs_of}
-use Rattle.rv_causality.specs.declared.answer.Instance.{Instance as Numbered}
-use Rattle.rv_causality.specs.declared.givers.BodyOf.{BodyOf}
-use Rattle.rv_causality.specs.declared.givers.OutputOf.{OutputOf}
-use Rattle.rv_causality.specs.declared.givers.Giver.{Giver as Told}
-use Rattle.rv_causality.specs.declared.givers.Giver.TheVariants.{Input, Body, Output}
-use Rattle.rv_causality.specs.declared.layout.Laid.{Laid}
-use Rattle.rv_causality.specs.declared.layout.Layout.{Layout}
-use Rattle.rv_causality.specs.Expanded.{IsExpanded}
-use Rattle.rv_causality.specs.Flowing.{IsKnownClock, flow_count}
-use Rattle.rv_causality.specs.Givers.{StandsFor}
-use Rattle.rv_causality.specs.Layouts.{IsPlaced, IsLayout, IsWithin, IsNumberOf, here_of, all_places}
-use Rattle.rv_causality.specs.NumberedNeeds.{listed, clock_number, numbers_needed, site_in, giver_numbers, IsGiver}
-use Rattle.rv_causality.proofs.ArgumentClocks.{flow_clock_known, arguments_clock_known}
-use Rattle.rv_causality.proofs.BaseClocks.{clock_within}
-use Rattle.rv_causality.proofs.CallsInside.{right_known, call_known, argument_known, in_right, in_argument, calls_nested}
-use Rattle.rv_causality.proofs.ExpandedLaws.{node_in, node_is, node_few}
-use Rattle.rv_causality.proofs.LaidFlows.{few_before, places_size}
-use Rattle.rv_causality.proofs.LayoutLaws.{laid_there, is_here}
-use Rattle.rv_causality.proofs.Lowering.{length_map}
+use Rattle.rv_instances.specs.declared.answer.Instance.{Instance as Numbered}
+use Rattle.rv_instances.specs.declared.givers.BodyOf.{BodyOf}
+use Rattle.rv_instances.specs.declared.givers.OutputOf.{OutputOf}
+use Rattle.rv_instances.specs.declared.givers.Giver.{Giver as Told}
+use Rattle.rv_instances.specs.declared.givers.Giver.TheVariants.{Input, Body, Output}
+use Rattle.rv_instances.specs.declared.layout.Laid.{Laid}
+use Rattle.rv_instances.specs.declared.layout.Layout.{Layout}
+use Rattle.rv_instances.specs.Expanded.{IsExpanded}
+use Rattle.rv_instances.specs.Flowing.{IsKnownClock, flow_count}
+use Rattle.rv_instances.specs.Givers.{StandsFor}
+use Rattle.rv_instances.specs.Layouts.{IsPlaced, IsLayout, IsWithin, IsNumberOf, here_of, all_places}
+use Rattle.rv_instances.specs.NumberedNeeds.{listed, clock_number, numbers_needed, site_in, giver_numbers, IsGiver}
+use Rattle.rv_instances.proofs.ArgumentClocks.{flow_clock_known, arguments_clock_known}
+use Rattle.rv_instances.proofs.BaseClocks.{clock_within}
+use Rattle.rv_instances.proofs.CallsInside.{right_known, call_known, argument_known, in_right, in_argument, calls_nested}
+use Rattle.rv_instances.proofs.ExpandedLaws.{node_in, node_is, node_few}
+use Rattle.rv_instances.proofs.LaidFlows.{few_before, places_size}
+use Rattle.rv_instances.proofs.LayoutLaws.{laid_there, is_here}
+use Rattle.rv_instances.proofs.Lists.{length_map}
 use Rattle.rv_causality.proofs.NumbersNeeded.{AreAt, at_append, needs_at, clock_flow, output_flow}
 use Rattle.rv_causality.proofs.TypedCalls.{typed_calls, sole_output}
 

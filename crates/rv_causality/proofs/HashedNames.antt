@@ -4,7 +4,7 @@ use Rattle.std.proofs.Common.{None as Nothing}
 use Rattle.std.specs.List.{list_any, position_or_len}
 use Rattle.std.specs.Cmp.{nat_eq_equiv, partial_equiv_from_equiv}
 use Rattle.std.specs.Cmp.Lexicographic.{pointwise, lists_per}
-use Rattle.rv_syntax.specs.Places.{Identifier, is_same, is_among, index_of}
+use Rattle.rv_tree.specs.Places.{Identifier, is_same, is_among, index_of}
 use Rattle.rv_causality.specs.Numbering.{with_name}
 use Rattle.indexmap.specs.IndexSet.{insert_key}
 

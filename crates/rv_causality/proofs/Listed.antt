@@ -6,22 +6,20 @@ use Rattle.std.proofs.lemmas.Bool.{cases_eq}
 use Rattle.std.proofs.lemmas.List.Sums.{sum_by-cons}
 use Rattle.std.proofs.lemmas.List.Elements.{Contains-append_right, Contains-append_cases, Contains-get_or}
 use Rattle.std.proofs.lemmas.List.Sorted.{Contains-permutation, IsPermutation-sym, sum_by-IsPermutation}
-use Rattle.rv_syntax.specs.Tree.{None, NodeTree, ProgramTree}
-use Rattle.rv_syntax.specs.Places.{Identifier, index_of}
+use Rattle.rv_tree.specs.Tree.{None, NodeTree, ProgramTree}
+use Rattle.rv_tree.specs.Places.{Identifier, index_of}
 use Rattle.rv_types.specs.Names.{name_faults}
-use Rattle.rv_causality.specs.declared.answer.Instance.{Instance as Numbered}
+use Rattle.rv_instances.specs.declared.answer.Instance.{Instance as Numbered}
 use Rattle.rv_causality.specs.declared.calls.Calling.{Calling}
-use Rattle.rv_types.specs.Instances.{CallTree, calls, Instance, no_node, callee, unrolled, main_instance, IsInstance, is_main, is_callee}
+use Rattle.rv_types.specs.Instances.{CallTree, calls, Instance, no_node, callee, unrolled, main_instance, IsInstance, is_main, is_callee, name_at}
 use Rattle.rv_types.specs.Needs.{IsBefore}
 use Rattle.rv_causality.specs.Reach.{HasNoRecursion}
-use Rattle.rv_causality.specs.Callings.{calling, callings, callings_of, names_of}
-use Rattle.rv_causality.specs.Causes.{AreInstances, numbered}
+use Rattle.rv_causality.specs.Callings.{calling, callings, callings_of}
+use Rattle.rv_instances.specs.AllInstances.{names_of, AreInstances, numbered}
 use Rattle.rv_types.specs.WellFormed.{AreSited, HasSites}
-use Rattle.rv_types.specs.Instances.{name_at}
 use Rattle.rv_causality.specs.Listing.{listed, all_listed, AreSorted, AreAllSorted}
-use Rattle.rv_causality.proofs.Walks.{nat_split}
-use Rattle.rv_causality.proofs.Known.{cons_cases, nothing_in, map_at, called, calls_declared, number_of_node, node_of_number, name_declared}
-use Rattle.rv_causality.proofs.Lowering.{length_map}
+use Rattle.rv_instances.proofs.Lists.{nat_split, length_map, beside}
+use Rattle.rv_instances.proofs.Known.{cons_cases, nothing_in, map_at, called, calls_declared, number_of_node, node_of_number, name_declared}
 use Rattle.rv_causality.proofs.Recursions.{table_at, table_size, tabled, untabled}
 use Rattle.rv_causality.proofs.AllInstances.{in_flat_map, of_flat_map, all_found}
 
@@ -30,10 +28,6 @@ use Rattle.rv_causality.proofs.AllInstances.{in_flat_map, of_flat_map, all_found
 under_is_after : (path : List ℕ) (x : ℕ) (rest : List ℕ) → IsBefore path (path ++ x ∷ rest)
 under_is_after [] x rest = tt
 under_is_after (y ∷ path) x rest = inr (refl, under_is_after path x rest)
-
-pub beside : (path : List ℕ) (x y : ℕ) (more rest : List ℕ) → x < y → IsBefore (path ++ x ∷ more) (path ++ y ∷ rest)
-beside [] x y more rest lt = inl lt
-beside (z ∷ path) x y more rest lt = inr (refl, beside path x y more rest lt)
 
 -- each path stands before those of the rest
 abbrev AreRising : List Numbered → Type 0

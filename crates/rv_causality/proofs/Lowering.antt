@@ -1,6 +1,5 @@
 -- Calls that lead back to their node, and the least offset of them.
-use Rattle.std.proofs.Common.{◌≡◌, ℕ, zero, suc, ◌+◌, ◌<◌, ◌≤◌, inl, inr, List, [], ◌∷◌, ◌++◌, map, length, get_or, refl, sym, ◌∙◌, ap, subst, arith, Option, Some}
-use Rattle.std.proofs.Common.{None as Nothing}
+use Rattle.std.proofs.Common.{◌≡◌, ℕ, zero, suc, ◌+◌, ◌<◌, ◌≤◌, inl, inr, List, [], ◌∷◌, ◌++◌, length, get_or, refl, sym, ◌∙◌, ap, subst, arith, Option, Some, None as Nothing}
 use Rattle.std.specs.List.{Contains}
 use Rattle.std.proofs.lemmas.List.{get_or_default}
 use Rattle.std.proofs.lemmas.List.Elements.{Contains-append_left, Contains-append_right, Contains-append_cases}
@@ -10,7 +9,7 @@ use Rattle.rv_causality.specs.Graphs.{Graph, edges, IsGraph, IsOrdered, Follows,
 use Rattle.rv_causality.specs.Callings.{LeadsTo, there, over, callees, call_graph}
 use Rattle.rv_causality.specs.Components.{Marks, mark_of, AreComponents}
 use Rattle.rv_causality.specs.Loops.{AtMost, IsLowered, IsLoweredTo, HasNoLoop, IsFirstLoop}
-use Rattle.rv_causality.proofs.Walks.{contains_at}
+use Rattle.rv_instances.proofs.Lists.{contains_at, length_map}
 
 pub lowered_none : (parts : Marks) (k : ℕ) (old : Option ℕ) → IsLowered parts k [] old old
 lowered_none parts k old = record {
@@ -60,10 +59,6 @@ pub callee_at : (cs : List Calling) (c : Calling) (j : ℕ) → j < length cs �
 callee_at [] c j lt = absurd (omega arith)
 callee_at (d ∷ cs) c zero lt = refl
 callee_at (d ∷ cs) c (suc j) lt = callee_at cs c j (omega (arith, lt))
-
-pub length_map : {X Y : Type 0} (f : X → Y) (xs : List X) → length (map f xs) ≡ length xs
-length_map f [] = refl
-length_map f (x ∷ xs) = ap suc (length_map f xs)
 
 -- a call of a node is an edge of it
 pub edge_of : (t : List (List Calling)) (k : ℕ) (c : Calling) → Contains (get_or t k []) c → (j : ℕ) × (j < length (edges (call_graph t) k)) × (get_or (edges (call_graph t) k) j 0 ≡ c.callee)

@@ -1,22 +1,21 @@
 -- What the sums over nodes say of a program.
-use Rattle.std.proofs.Common.{◌≡◌, ℕ, zero, suc, cond, ◌<◌, min, List, [], ◌∷◌, map, length, get_or, replicate, refl, sym, ◌∙◌, ap, arith, Result, Ok, Err, IfOk}
+use Rattle.std.proofs.Common.{◌≡◌, ℕ, zero, suc, cond, ◌<◌, min, List, [], ◌∷◌, map, length, get_or, replicate, refl, sym, ◌∙◌, ap, arith}
 use Rattle.std.proofs.lemmas.List.{length-replicate, get_or-replicate}
-use Rattle.rv_syntax.specs.Tree.{NodeTree, ProgramTree}
-use Rattle.rv_syntax.specs.Delays.{Delay}
+use Rattle.rv_tree.specs.Tree.{NodeTree, ProgramTree}
+use Rattle.rv_tree.specs.Delays.{Delay}
 use Rattle.rv_types.specs.declared.typed.Kind.{Kind}
 use Rattle.rv_types.specs.Names.{name_faults}
 use Rattle.rv_causality.specs.declared.calls.Calling.{Calling}
-use Rattle.rv_types.specs.Instances.{Instance, main_instance, all_instances}
-use Rattle.rv_causality.specs.Sizes.{node_size, instance_count, expanded, integer_memories}
+use Rattle.rv_types.specs.Instances.{Instance, main_instance, all_instances, name_at}
+use Rattle.rv_instances.specs.Counts.{node_size, instance_count, expanded, integer_memories}
 use Rattle.rv_types.specs.Variables.{total, over_instances, is_integer, memories}
 use Rattle.rv_types.specs.Values.{operand_kind}
 use Rattle.rv_causality.specs.Callings.{callings_of}
-use Rattle.rv_syntax.specs.Limits.{heaviest}
+use Rattle.rv_tree.specs.Limits.{heaviest}
 use Rattle.rv_causality.specs.Totals.{total_at, AreTotals, AreCapped}
 use Rattle.rv_causality.specs.Capped.{capped, capped_sizes}
-use Rattle.rv_types.specs.Instances.{name_at}
 use Rattle.rv_causality.specs.Memories.{integers, memory_kinds}
-use Rattle.rv_causality.proofs.Known.{node_of_number}
+use Rattle.rv_instances.proofs.Known.{node_of_number}
 use Rattle.rv_causality.proofs.Recursions.{table_size}
 use Rattle.rv_causality.proofs.Unrolling.{unrolled_total, total_map, total_ones, capped_total}
 
@@ -62,11 +61,6 @@ total_read p named own totals t k sum within table sums read =
     let size : length t ≡ length p.nodes = ap length table ∙ table_size p named in
     sym read ∙ sums.value k (omega (arith, size, within))
     ∙ (λ i. min (total_at own (table i) (size i) k) heaviest)
-
--- what is found of a result holds of it in other words
-pub if_ok : {A E : Type 0} (r : Result A E) (P Q : A → Type 0) → ((x : A) → P x → Q x) → IfOk r P → IfOk r Q
-if_ok (Ok x) P Q f h = f x h
-if_ok (Err e) P Q f h = tt
 
 pub numbers_capped : (f : NodeTree → ℕ) (ns : List NodeTree) → AreCapped (map (λ (n : NodeTree). capped (f n)) ns)
 numbers_capped f [] k lt = absurd (omega (arith, lt))

@@ -3,23 +3,24 @@ use Rattle.std.proofs.Common.{◌≡◌, ℕ, ◌<◌, List, [], map, length, ge
 use Rattle.std.specs.List.{Contains, All}
 use Rattle.std.proofs.lemmas.List.{get_or_default}
 use Rattle.std.proofs.lemmas.List.Elements.{Contains-get_or}
-use Rattle.rv_syntax.specs.Tree.{ProgramTree}
-use Rattle.rv_syntax.specs.Places.{Identifier}
+use Rattle.rv_tree.specs.Tree.{ProgramTree}
+use Rattle.rv_tree.specs.Places.{Identifier}
 use Rattle.rv_types.specs.Needs.{Giver, Gives, needs_of}
-use Rattle.rv_causality.specs.declared.answer.Instance.{Instance as Numbered}
-use Rattle.rv_causality.specs.declared.givers.Giver.{Giver as Told}
-use Rattle.rv_causality.specs.declared.givers.Giver.TheVariants.{Input}
-use Rattle.rv_causality.specs.declared.layout.Layout.{Layout}
-use Rattle.rv_causality.specs.Expanded.{IsExpanded}
-use Rattle.rv_causality.specs.Flowing.{IsFlowGraph, place_at}
-use Rattle.rv_causality.specs.Givers.{AreGivers, StandsFor}
+use Rattle.rv_instances.specs.declared.answer.Instance.{Instance as Numbered}
+use Rattle.rv_instances.specs.declared.givers.Giver.{Giver as Told}
+use Rattle.rv_instances.specs.declared.givers.Giver.TheVariants.{Input}
+use Rattle.rv_instances.specs.declared.layout.Layout.{Layout}
+use Rattle.rv_instances.specs.Expanded.{IsExpanded}
+use Rattle.rv_causality.specs.FlowGraphs.{IsFlowGraph}
+use Rattle.rv_instances.specs.Flowing.{place_at}
+use Rattle.rv_instances.specs.Givers.{AreGivers, StandsFor}
 use Rattle.rv_causality.specs.Graphs.{Graph, IsGraph, edges}
-use Rattle.rv_causality.specs.Layouts.{IsLayout, all_places}
-use Rattle.rv_causality.specs.NumberedNeeds.{giver_numbers, IsGiver}
-use Rattle.rv_causality.proofs.AllGiven.{flow_places}
+use Rattle.rv_instances.specs.Layouts.{IsLayout, all_places}
+use Rattle.rv_instances.specs.NumberedNeeds.{giver_numbers, IsGiver}
+use Rattle.rv_instances.proofs.AllGiven.{flow_places}
 use Rattle.rv_causality.proofs.GiverNeeds.{giver_needs}
-use Rattle.rv_causality.proofs.Known.{map_at}
-use Rattle.rv_causality.proofs.Lowering.{length_map}
+use Rattle.rv_instances.proofs.Known.{map_at}
+use Rattle.rv_instances.proofs.Lists.{length_map}
 use Rattle.rv_causality.proofs.NumbersNeeded.{AreAt, at_place, at_number}
 
 all_from : {X : Type 0} (P : X → Type 0) (xs : List X) → ((x : X) → Contains xs x → P x) → All P xs

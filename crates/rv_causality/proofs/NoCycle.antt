@@ -2,13 +2,12 @@
 use Rattle.std.proofs.Common.{◌≡◌, ℕ, ◌<◌, true, List, [], ◌∷◌, length, sym, ◌∙◌, subst, arith, get_or}
 use Rattle.std.proofs.lemmas.List.{get_or_default}
 use Rattle.std.proofs.lemmas.List.Elements.{All-contains}
-use Rattle.rv_syntax.specs.Tree.{ProgramTree}
-use Rattle.rv_syntax.specs.Places.{Identifier, Sites, is_among}
+use Rattle.rv_tree.specs.Tree.{ProgramTree}
+use Rattle.rv_tree.specs.Places.{Identifier, Sites, is_among}
 use Rattle.rv_types.specs.Names.{name_faults}
 use Rattle.rv_types.specs.Needs.{Giver, Gives, needs_of, IsAmongFirst, IsSequence, NeedsFlow, Leads, IsCycle}
-use Rattle.rv_causality.specs.Callings.{names_of}
-use Rattle.rv_causality.specs.Causes.{AreFed}
-use Rattle.rv_causality.proofs.Flowing.{flow_of_giver}
+use Rattle.rv_instances.specs.AllInstances.{names_of, AreFed}
+use Rattle.rv_instances.proofs.Flowing.{flow_of_giver}
 
 module _ (p : ProgramTree) (main : Identifier) (sequence : List Sites) (ordered : IsSequence p main sequence) where
   earlier : (k : ℕ) → k < length sequence → (a b : Sites) → get_or sequence k [] ≡ a → NeedsFlow p main a b → IsAmongFirst p main sequence k b

@@ -1,11 +1,10 @@
 -- The numbers of what is needed are those of the places that are.
-use Rattle.std.proofs.Common.{◌≡◌, ℕ, ◌+◌, ◌<◌, ◌≤◌, inl, inr, Bool, true, false, cond, List, [], ◌∷◌, ◌++◌, length, unwrap_or, Option, Some, refl, subst, arith, length-append, add-zero}
-use Rattle.std.proofs.Common.{None as Nothing}
+use Rattle.std.proofs.Common.{◌≡◌, ℕ, ◌+◌, ◌<◌, ◌≤◌, inl, inr, Bool, true, false, cond, List, [], ◌∷◌, ◌++◌, length, unwrap_or, Option, Some, refl, subst, arith, length-append, add-zero, None as Nothing}
 use Rattle.std.specs.List.{Contains}
 use Rattle.std.proofs.lemmas.List.Elements.{Contains-append_left, Contains-append_right}
-use Rattle.rv_syntax.specs.declared.tree.Decl.{Decl}
-use Rattle.rv_syntax.specs.Tree.{Tree, Node, Form, True, False, Number, Named, Not, Minus, Pre, Current, When, Binary, If, AtMostOne, Call, Trees, None, More, NodeTree, ProgramTree}
-use Rattle.rv_syntax.specs.Places.{Identifier, Sites, flows, names, is_flow, site_of}
+use Rattle.rv_tree.specs.declared.tree.Decl.{Decl}
+use Rattle.rv_tree.specs.Tree.{Tree, Node, Form, True, False, Number, Named, Not, Minus, Pre, Current, When, Binary, If, AtMostOne, Call, Trees, None, More, NodeTree, ProgramTree}
+use Rattle.rv_tree.specs.Places.{Identifier, Sites, flows, names, is_flow, site_of}
 use Rattle.rv_types.specs.declared.typed.Clock.{Clock}
 use Rattle.rv_types.specs.declared.typed.Clock.TheVariants.{Base, On}
 use Rattle.rv_types.specs.Clocks.{clock_at, pace}
@@ -13,13 +12,13 @@ use Rattle.rv_types.specs.Names.{is_declared, node_names, is_value, own_uses, no
 use Rattle.rv_types.specs.Parts.{faults_of_all}
 use Rattle.rv_types.specs.Instances.{CallTree, calls, calls_in, form_calls, calls_in_all, Instance, place, absolute, clock_of, node_of}
 use Rattle.rv_types.specs.Needs.{flow_of, needs, form_needs, needs_all}
-use Rattle.rv_causality.specs.Flowing.{IsKnownClock}
-use Rattle.rv_causality.specs.Layouts.{Here, IsPlaced, IsClockPlaced, IsHere}
-use Rattle.rv_causality.specs.NumberedNeeds.{listed, clock_number, clock_of_expression, numbers_needed, form_numbers, numbers_of_all}
-use Rattle.rv_causality.proofs.ArgumentClocks.{taken_known}
-use Rattle.rv_causality.proofs.ClockFlows.{pace_known}
-use Rattle.rv_causality.proofs.Known.{cons_cases, nothing_in, split_nil, index_there}
-use Rattle.rv_causality.proofs.Lowering.{length_map}
+use Rattle.rv_instances.specs.Flowing.{IsKnownClock}
+use Rattle.rv_instances.specs.Layouts.{Here, IsPlaced, IsClockPlaced, IsHere}
+use Rattle.rv_instances.specs.NumberedNeeds.{listed, clock_number, clock_of_expression, numbers_needed, form_numbers, numbers_of_all}
+use Rattle.rv_instances.proofs.ArgumentClocks.{taken_known}
+use Rattle.rv_instances.proofs.ClockFlows.{pace_known}
+use Rattle.rv_instances.proofs.Known.{cons_cases, nothing_in, split_nil, index_there}
+use Rattle.rv_instances.proofs.Lists.{length_map}
 
 -- one number after the other is that of a place
 abbrev pub AreAt : List Sites → List ℕ → List Sites → Type 0

@@ -3,13 +3,13 @@ use Rattle.std.proofs.Common.{◌≡◌, ℕ, zero, suc, ◌<◌, inl, inr, Bool
 use Rattle.std.specs.List.{Contains, flat_map}
 use Rattle.std.proofs.lemmas.List.{append_assoc, append-nil}
 use Rattle.std.proofs.lemmas.List.Elements.{Contains-append_right, Contains-append_cases, Contains-get_or}
-use Rattle.rv_syntax.specs.Tree.{NodeTree, ProgramTree}
-use Rattle.rv_syntax.specs.Places.{Identifier, index_of, is_among}
+use Rattle.rv_tree.specs.Tree.{NodeTree, ProgramTree}
+use Rattle.rv_tree.specs.Places.{Identifier, index_of, is_among}
 use Rattle.rv_types.specs.Names.{name_faults}
 use Rattle.rv_types.specs.Instances.{CallTree, calls, Instance, no_node, node_of, callee, unrolled, all_instances, main_instance}
 use Rattle.rv_types.specs.WellFormed.{AreSited}
-use Rattle.rv_causality.specs.Callings.{names_of}
-use Rattle.rv_causality.proofs.Known.{cons_cases, nothing_in, called, node_missing}
+use Rattle.rv_instances.specs.AllInstances.{names_of}
+use Rattle.rv_instances.proofs.Known.{cons_cases, nothing_in, called, node_missing}
 use Rattle.rv_causality.proofs.AllInstances.{of_flat_map}
 
 -- Paths that differ.

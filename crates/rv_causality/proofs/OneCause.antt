@@ -1,7 +1,7 @@
 -- A program has one cause of refusal at most, and none where it is accepted.
 use Rattle.std.proofs.Common.{◌≡◌, ◌⊎◌, inl, inr, ℕ, List, [], ◌∷◌, refl, sym, ◌∙◌, ap, arith}
-use Rattle.rv_syntax.specs.Tree.{ProgramTree}
-use Rattle.rv_syntax.specs.Places.{Identifier}
+use Rattle.rv_tree.specs.Tree.{ProgramTree}
+use Rattle.rv_tree.specs.Places.{Identifier}
 use Rattle.rv_causality.specs.declared.fault.Quantity.{Quantity}
 use Rattle.rv_causality.specs.declared.fault.CauseFault.{CauseFault}
 use Rattle.rv_causality.specs.declared.fault.CauseFault.TheVariants.{Recursive, Cycle, TooLarge, TooWide, Memory}

@@ -1,12 +1,11 @@
 -- How roots get their components.
-use Rattle.std.proofs.Common.{◌≡◌, ℕ, zero, suc, ◌<◌, ◌⊎◌, inl, inr, [], length, get_or, replicate, refl, sym, ◌∙◌, ap, subst, arith, Option, Some}
-use Rattle.std.proofs.Common.{None as Nothing}
+use Rattle.std.proofs.Common.{◌≡◌, ℕ, zero, suc, ◌<◌, ◌⊎◌, inl, inr, [], length, get_or, replicate, refl, sym, ◌∙◌, ap, subst, arith, Option, Some, None as Nothing}
 use Rattle.std.proofs.lemmas.List.{length-replicate, get_or_past}
 use Rattle.std.specs.List.{Contains}
 use Rattle.rv_causality.specs.Graphs.{Graph, edges}
 use Rattle.rv_causality.specs.Callings.{LeadsTo, there, over}
 use Rattle.rv_causality.specs.Components.{Marks, mark_of, HasMark, AreComponents, IsReversed, IsReached, IsParted}
-use Rattle.rv_causality.proofs.Walks.{at_contains, nat_split}
+use Rattle.rv_instances.proofs.Lists.{at_contains, nat_split}
 use Rattle.rv_causality.proofs.Searches.{lead_on}
 
 -- what leads to a vertex leads to what that leads to

@@ -3,20 +3,22 @@ use Rattle.std.proofs.Common.{◌≡◌, ℕ, ◌<◌, Bool, true, false, List, 
 use Rattle.std.specs.List.{Contains}
 use Rattle.std.proofs.lemmas.List.{get_or_default}
 use Rattle.std.proofs.lemmas.List.Elements.{Contains-get_or}
-use Rattle.rv_syntax.specs.Tree.{NodeTree, ProgramTree}
-use Rattle.rv_syntax.specs.Places.{Identifier, is_among, index_of}
+use Rattle.rv_tree.specs.Tree.{NodeTree, ProgramTree}
+use Rattle.rv_tree.specs.Places.{Identifier, is_among, index_of}
 use Rattle.rv_types.specs.Names.{name_faults}
 use Rattle.rv_causality.specs.declared.calls.Calling.{Calling}
 use Rattle.rv_types.specs.Instances.{CallTree, calls, no_node}
 use Rattle.rv_causality.specs.Reach.{Reaches, itself, by_call, IsRecursive, HasNoRecursion, IsFirstRecursion}
 use Rattle.rv_causality.specs.Graphs.{edges, IsGraph}
-use Rattle.rv_causality.specs.Callings.{calling, callings, callings_of, callees, call_graph, names_of, LeadsTo, there, over}
+use Rattle.rv_causality.specs.Callings.{calling, callings, callings_of, callees, call_graph, LeadsTo, there, over}
+use Rattle.rv_instances.specs.AllInstances.{names_of}
 use Rattle.rv_causality.specs.declared.fault.CauseFault.{CauseFault}
 use Rattle.rv_causality.specs.declared.fault.CauseFault.TheVariants.{Recursive, Cycle, TooLarge, TooWide, Memory}
 use Rattle.rv_causality.specs.Loops.{HasNoLoop, IsFirstLoop, IsRecursion}
 use Rattle.rv_causality.specs.Nodes.{IsRecursionOf}
-use Rattle.rv_causality.proofs.Known.{map_at, in_map, of_map, nothing_in, number_of_node, node_of_number, called, calls_declared, node_missing}
-use Rattle.rv_causality.proofs.Lowering.{length_map, edge_of, call_of}
+use Rattle.rv_instances.proofs.Known.{map_at, in_map, of_map, nothing_in, number_of_node, node_of_number, called, calls_declared, node_missing}
+use Rattle.rv_instances.proofs.Lists.{length_map}
+use Rattle.rv_causality.proofs.Lowering.{edge_of, call_of}
 
 module _ (p : ProgramTree) (named : name_faults p ≡ []) where
   -- the calls of the node with a number, in the table

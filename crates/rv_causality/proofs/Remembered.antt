@@ -3,9 +3,9 @@ use Rattle.std.proofs.Common.{◌≡◌, ℕ, Bool, true, false, cond, ◌||◌,
 use Rattle.std.specs.List.{Contains, list_any}
 use Rattle.std.specs.Cmp.{nat_eq_equiv, partial_equiv_from_equiv}
 use Rattle.indexmap.specs.IndexSet.{insert_key}
-use Rattle.rv_syntax.specs.Tree.{Tree, Node, Named, NodeTree, ProgramTree}
-use Rattle.rv_syntax.specs.Places.{Identifier, flows, memory_site}
-use Rattle.rv_syntax.specs.Delays.{Delay, node_delays}
+use Rattle.rv_tree.specs.Tree.{Tree, Node, Named, NodeTree, ProgramTree}
+use Rattle.rv_tree.specs.Places.{Identifier, flows, memory_site}
+use Rattle.rv_tree.specs.Delays.{Delay, node_delays}
 use Rattle.rv_types.specs.declared.typed.Kind.{Kind}
 use Rattle.rv_types.specs.declared.typed.Kind.TheVariants as kind
 use Rattle.rv_types.specs.declared.reading.ProgramTables.{ProgramTables}
@@ -19,7 +19,7 @@ use Rattle.rv_causality.specs.declared.memories.MemoryRead.{MemoryRead}
 use Rattle.rv_types.specs.Variables.{is_in, memories_beside}
 use Rattle.rv_types.specs.Values.{operand_kind}
 use Rattle.rv_causality.specs.Memories.{site_in, read_of, reads, with_site, kinds_beside, memory_kinds}
-use Rattle.rv_causality.proofs.Known.{split_nil, each_nil}
+use Rattle.rv_instances.proofs.Known.{split_nil, each_nil}
 
 -- a site is among some where one of them equals it
 pub any_in : (xs : List ℕ) (k : ℕ) → list_any (nat_eq k) xs ≡ is_in xs k

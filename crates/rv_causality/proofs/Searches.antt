@@ -1,6 +1,5 @@
 -- How marks spread over the vertices of a graph that are allowed.
-use Rattle.std.proofs.Common.{◌≡◌, ℕ, zero, suc, ◌+◌, ◌<◌, ◌⊎◌, inl, inr, List, [], ◌∷◌, ◌++◌, length, get_or, set, cond, nat_eq, refl, sym, ◌∙◌, ap, subst, arith, rules, true, false, Option, Some}
-use Rattle.std.proofs.Common.{None as Nothing}
+use Rattle.std.proofs.Common.{◌≡◌, ℕ, zero, suc, ◌+◌, ◌<◌, ◌⊎◌, inl, inr, List, [], ◌∷◌, ◌++◌, length, get_or, set, cond, nat_eq, refl, sym, ◌∙◌, ap, subst, arith, rules, true, false, Option, Some, None as Nothing}
 use Rattle.std.proofs.lemmas.List.{length-set, get_or-set_same}
 use Rattle.std.proofs.lemmas.Bool.Decides.{nat_tests}
 use Rattle.std.specs.List.{Contains}
@@ -8,7 +7,8 @@ use Rattle.std.proofs.lemmas.List.Elements.{Contains-append_left, Contains-appen
 use Rattle.rv_causality.specs.Graphs.{Graph, edges, IsGraph}
 use Rattle.rv_causality.specs.Callings.{LeadsTo, there, over}
 use Rattle.rv_causality.specs.Components.{Marks, mark_of, IsReached, IsSearch, IsSpread, unmarked}
-use Rattle.rv_causality.proofs.Walks.{contains_at, snoc_length}
+use Rattle.rv_instances.proofs.Lists.{contains_at}
+use Rattle.rv_causality.proofs.Walks.{snoc_length}
 
 -- a vertex leads on to what another leads to
 pub lead_on : (g : Graph) (v a b : ℕ) → LeadsTo g v a → Contains (edges g v) b → LeadsTo g b a

@@ -1,20 +1,21 @@
 -- What a program whose instances are known is refused for, and that it is accepted where it is not.
 use Rattle.std.proofs.Common.{◌≡◌, ◌⊎◌, inl, inr, ℕ, List, refl, ap}
 use Rattle.rv_base.specs.declared.value.Place.{Place}
-use Rattle.rv_syntax.specs.Bounded.{IsBounded}
-use Rattle.rv_syntax.specs.Tree.{ProgramTree}
-use Rattle.rv_syntax.specs.Places.{Identifier, Sites}
+use Rattle.rv_tree.specs.Bounded.{IsBounded}
+use Rattle.rv_tree.specs.Tree.{ProgramTree}
+use Rattle.rv_tree.specs.Places.{Identifier, Sites}
 use Rattle.rv_types.specs.declared.typed.Typed.{Typed}
 use Rattle.rv_types.specs.Instances.{name_at}
 use Rattle.rv_types.specs.Lists.{sites_of}
 use Rattle.rv_types.specs.Needs.{IsSequence}
 use Rattle.rv_types.specs.Settled.{IsAnswer}
 use Rattle.rv_types.specs.WellFormed.{AreSited, AreWell}
-use Rattle.rv_causality.specs.declared.answer.Instance.{Instance as Numbered}
+use Rattle.rv_instances.specs.declared.answer.Instance.{Instance as Numbered}
 use Rattle.rv_causality.specs.declared.fault.CauseFault.{CauseFault}
 use Rattle.rv_causality.specs.declared.fault.CauseFault.TheVariants.{Recursive, Cycle, TooLarge, TooWide, Memory}
-use Rattle.rv_causality.specs.Causes.{AreFed, AreInstances, HasNoCycle, IsAccepted, IsOrder, IsCause, HasCause, Matches}
-use Rattle.rv_causality.specs.Expanded.{IsExpanded}
+use Rattle.rv_instances.specs.AllInstances.{AreFed, AreInstances}
+use Rattle.rv_causality.specs.Causes.{HasNoCycle, IsAccepted, IsOrder, IsCause, HasCause, Matches}
+use Rattle.rv_instances.specs.Expanded.{IsExpanded}
 use Rattle.rv_causality.specs.Nodes.{IsSized}
 use Rattle.rv_causality.specs.Reach.{HasNoRecursion}
 use Rattle.rv_causality.specs.Sequenced.{AreSequenced, IsSequenceFault}

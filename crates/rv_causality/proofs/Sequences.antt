@@ -1,24 +1,20 @@
 -- An order of the graph of flows is a sequence, and a loop in it is a cycle.
-use Rattle.std.proofs.Common.{◌≡◌, ℕ, zero, suc, ◌+◌, ◌-◌, ◌<◌, ◌≤◌, inl, inr, List, [], ◌∷◌, ◌++◌, map, length, length-drop, get_or, take, drop, refl, sym, ◌∙◌, ap, subst, arith, slice_get, Some}
+use Rattle.std.proofs.Common.{◌≡◌, ℕ, zero, suc, ◌+◌, ◌-◌, ◌<◌, ◌≤◌, inl, inr, List, [], ◌∷◌, ◌++◌, map, length, length-drop, get_or, take, drop, refl, sym, ◌∙◌, ap, subst, arith}
 use Rattle.std.specs.List.{Contains}
-use Rattle.std.proofs.lemmas.List.{append-nil, get_or_default, map-append, take_more, take-append-drop}
+use Rattle.std.proofs.lemmas.List.{append-nil, get_or_default, take-append-drop}
 use Rattle.std.proofs.lemmas.List.Elements.{Contains-append_cases, Contains-append_left, Contains-append_right}
 use Rattle.std.proofs.lemmas.Bool.{cases_eq}
-use Rattle.rv_base.specs.declared.value.Place.{Place}
-use Rattle.rv_syntax.specs.Tree.{ProgramTree}
-use Rattle.rv_syntax.specs.Places.{Identifier, Sites}
+use Rattle.rv_tree.specs.Tree.{ProgramTree}
+use Rattle.rv_tree.specs.Places.{Identifier, Sites}
 use Rattle.rv_types.specs.Instances.{IsFlow}
 use Rattle.rv_types.specs.Needs.{Gives, needs_of, IsSequence, IsAmongFirst, Leads, IsCycle, IsBefore, StartsWithLeast}
 use Rattle.rv_causality.specs.Graphs.{Graph, edges, IsGraph, IsOrdered, Follows, IsLoop}
-use Rattle.rv_causality.specs.declared.answer.Instance.{Instance as Numbered}
-use Rattle.rv_causality.specs.declared.sequence.Flow.{Flow}
 use Rattle.rv_causality.specs.Causes.{IsCycleFromLeast}
-use Rattle.rv_types.specs.Lists.{sites_of}
-use Rattle.rv_causality.specs.Flowing.{place_at, flow_sites, flow_places, IsFlowGraph, AreTurned}
-use Rattle.rv_causality.proofs.Walks.{nat_split, contains_at, got}
+use Rattle.rv_instances.specs.Flowing.{place_at}
+use Rattle.rv_causality.specs.FlowGraphs.{IsFlowGraph, AreTurned}
+use Rattle.rv_instances.proofs.Lists.{nat_split, contains_at, length_map}
 use Rattle.rv_causality.proofs.Turns.{turn}
-use Rattle.rv_causality.proofs.Known.{nothing_in, cons_cases, map_at, of_map}
-use Rattle.rv_causality.proofs.Lowering.{length_map}
+use Rattle.rv_instances.proofs.Known.{nothing_in, cons_cases, map_at, of_map}
 
 -- of two places one is not before and after the other
 pub not_both : (a b : Sites) → IsBefore a b → IsBefore b a → ⊥
@@ -181,20 +177,6 @@ turned_from numbers new k lt least is =
           let e = v.2 in
           omega (arith, le, e, head);
     }
-
--- one more place
-pub placed_more : (f : ℕ → Sites) (numbers : List ℕ) (old new : List Place) (i : ℕ) (place : Place) → i < length numbers → sites_of old ≡ map f (take i numbers) → new ≡ old ++ place ∷ [] → place.sites ≡ f (get_or numbers i 0)
-    → sites_of new ≡ map f (take (i + 1) numbers)
-placed_more f numbers old new i place lt inv is at =
-    ap sites_of is
-    ∙ map-append (λ (q : Place). q.sites) old (place ∷ [])
-    ∙ ap (λ l. l ++ place.sites ∷ []) inv
-    ∙ ap (λ q. map f (take i numbers) ++ q ∷ []) at
-    ∙ sym (map-append f (take i numbers) (get_or numbers i 0 ∷ []))
-    ∙ ap (map f) (sym (take_more numbers i 0 lt))
-
-pub placed_at : (instances : List Numbered) (flows : List Flow) (k : ℕ) (flow : Flow) → slice_get flows k ≡ Some flow → k < length flows → flow_sites instances flow ≡ place_at (flow_places instances flows) k
-placed_at instances flows k flow is lt = ap (flow_sites instances) (sym (got flows k flow flow is)) ∙ sym (map_at (flow_sites instances) flows k [] flow lt)
 
 take_whole : (n : ℕ) (xs : List ℕ) → length xs ≤ n → take n xs ≡ xs
 take_whole zero [] le = refl

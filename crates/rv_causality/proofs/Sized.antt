@@ -1,13 +1,14 @@
 -- Which quantity is the first that is too large, from capped sums.
 use Rattle.std.proofs.Common.{◌≡◌, inl, inr, ℕ, ◌<◌, ◌≤◌, min, map, refl, arith}
-use Rattle.rv_syntax.specs.Tree.{ProgramTree}
-use Rattle.rv_syntax.specs.Places.{Identifier}
+use Rattle.rv_tree.specs.Tree.{ProgramTree}
+use Rattle.rv_tree.specs.Places.{Identifier}
 use Rattle.rv_causality.specs.declared.fault.Quantity.TheVariants as quantity
-use Rattle.rv_causality.specs.Sizes.{instance_count, expanded, integer_memories, integer_inputs, first_above, measures, IsFirstAbove}
+use Rattle.rv_instances.specs.Counts.{instance_count, expanded, integer_memories, integer_inputs}
+use Rattle.rv_causality.specs.Sizes.{first_above, measures, IsFirstAbove}
 use Rattle.rv_types.specs.Variables.{over_instances, variable_count}
 use Rattle.rv_types.specs.Values.{label_count}
 use Rattle.rv_types.specs.Instances.{node_of}
-use Rattle.rv_syntax.specs.Limits.{heaviest}
+use Rattle.rv_tree.specs.Limits.{heaviest}
 use Rattle.rv_causality.specs.Capped.{capped}
 use Rattle.rv_causality.specs.Nodes.{IsSmall, IsSized}
 

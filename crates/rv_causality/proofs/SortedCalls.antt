@@ -5,7 +5,8 @@ use Rattle.rv_causality.specs.declared.calls.Calling.{Calling}
 use Rattle.rv_causality.specs.Graphs.{edges, IsGraph, IsOrdered}
 use Rattle.rv_causality.specs.Callings.{callees, call_graph}
 use Rattle.rv_causality.specs.Listing.{AreAllSorted}
-use Rattle.rv_causality.proofs.Lowering.{length_map, edge_of, call_of}
+use Rattle.rv_instances.proofs.Lists.{length_map}
+use Rattle.rv_causality.proofs.Lowering.{edge_of, call_of}
 
 module _ (t sorted : List (List Calling)) (are : AreAllSorted t sorted) where
   pub same_size : length (call_graph sorted) ≡ length (call_graph t)

@@ -7,10 +7,10 @@ use Rattle.rv_causality.specs.declared.calls.Calling.{Calling}
 use Rattle.rv_types.specs.Variables.{total}
 use Rattle.rv_causality.specs.Graphs.{IsOrdered}
 use Rattle.rv_causality.specs.Callings.{callees, call_graph}
-use Rattle.rv_syntax.specs.Limits.{heaviest}
+use Rattle.rv_tree.specs.Limits.{heaviest}
 use Rattle.rv_causality.specs.Totals.{total_at, AreTotals, called_total, AreSummed}
-use Rattle.rv_causality.proofs.Walks.{contains_at, got}
-use Rattle.rv_causality.proofs.Lowering.{edge_of, length_map}
+use Rattle.rv_instances.proofs.Lists.{contains_at, got, length_map}
+use Rattle.rv_causality.proofs.Lowering.{edge_of}
 
 pub total_append : {X : Type 0} (f : X → ℕ) (xs ys : List X) → total f (xs ++ ys) ≡ total f xs + total f ys
 total_append f [] ys = omega arith

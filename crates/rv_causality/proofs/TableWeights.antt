@@ -2,32 +2,32 @@
 use Rattle.std.proofs.Common.{◌≡◌, ℕ, ◌+◌, ◌<◌, ◌≤◌, inl, inr, List, [], ◌++◌, map, length, get_or, set, refl, sym, ◌∙◌, ap, subst, arith, Some, slice_get, length-append}
 use Rattle.std.proofs.lemmas.List.{get_or_default, get_or-set_same, get_or-set_other, length-set}
 use Rattle.std.proofs.lemmas.Bool.{cases_eq}
-use Rattle.rv_syntax.specs.declared.tree.Decl.{Decl}
-use Rattle.rv_syntax.specs.Tree.{Tree, NodeTree, ProgramTree, tree_of}
-use Rattle.rv_syntax.specs.Places.{Identifier, Sites, flows, names, site_of}
+use Rattle.rv_tree.specs.declared.tree.Decl.{Decl}
+use Rattle.rv_tree.specs.Tree.{Tree, NodeTree, ProgramTree, tree_of}
+use Rattle.rv_tree.specs.Places.{Identifier, Sites, flows, names, site_of}
 use Rattle.rv_types.specs.Instances.{Body, Output, Instance, callee, node_of, IsInstance, is_callee}
 use Rattle.rv_types.specs.Needs.{Giver, Given, Of, Gives, needs_of, IsBefore, IsAmongFirst}
 use Rattle.rv_types.specs.Scopes.{constant_value, is_fixed}
 use Rattle.rv_types.specs.ValueTables.{NamedTables, value_by}
-use Rattle.rv_causality.specs.declared.answer.Instance.{Instance as Numbered}
-use Rattle.rv_causality.specs.declared.givers.Giver.{Giver as Told}
-use Rattle.rv_causality.specs.declared.givers.Giver.TheVariants as told
-use Rattle.rv_causality.specs.declared.layout.Layout.{Layout}
-use Rattle.rv_causality.specs.Expanded.{IsExpanded}
-use Rattle.rv_causality.specs.Flowing.{place_at, AreFlowPlaces, IsFlowGraph}
-use Rattle.rv_causality.specs.Givers.{StandsFor, AreGivers}
+use Rattle.rv_instances.specs.declared.answer.Instance.{Instance as Numbered}
+use Rattle.rv_instances.specs.declared.givers.Giver.{Giver as Told}
+use Rattle.rv_instances.specs.declared.givers.Giver.TheVariants as told
+use Rattle.rv_instances.specs.declared.layout.Layout.{Layout}
+use Rattle.rv_instances.specs.Expanded.{IsExpanded}
+use Rattle.rv_instances.specs.Flowing.{place_at, AreFlowPlaces}
+use Rattle.rv_causality.specs.FlowGraphs.{IsFlowGraph}
+use Rattle.rv_instances.specs.Givers.{StandsFor, AreGivers}
 use Rattle.rv_causality.specs.Graphs.{Graph, IsOrdered}
-use Rattle.rv_causality.specs.Layouts.{IsPlaced, IsLayout, IsNumberOf, here_of, all_places}
-use Rattle.rv_causality.specs.Weights.{weight, weight_of_giver, AreWeights}
+use Rattle.rv_instances.specs.Layouts.{IsPlaced, IsLayout, IsNumberOf, here_of, all_places}
+use Rattle.rv_instances.specs.Weights.{weight, weight_of_giver, AreWeights}
 use Rattle.rv_causality.specs.Weighing.{weight_in}
 use Rattle.rv_causality.specs.WeightTables.{weighing_at, site_in, told_weight, IsToldWithin, IsNumbered, counted_weight, AreFlowWeights, AreFirstWeights}
-use Rattle.rv_causality.proofs.ExpandedLaws.{not_itself, node_in, node_is}
-use Rattle.rv_causality.proofs.FlowPlaces.{are_flow_places}
-use Rattle.rv_causality.proofs.Known.{map_at, index_there}
-use Rattle.rv_causality.proofs.LayoutLaws.{is_here}
-use Rattle.rv_causality.proofs.Lowering.{length_map}
+use Rattle.rv_instances.proofs.ExpandedLaws.{not_itself, node_in, node_is}
+use Rattle.rv_instances.proofs.FlowPlaces.{are_flow_places}
+use Rattle.rv_instances.proofs.Known.{map_at, index_there}
+use Rattle.rv_instances.proofs.LayoutLaws.{is_here}
+use Rattle.rv_instances.proofs.Lists.{length_map, nat_split, got}
 use Rattle.rv_causality.proofs.Sequences.{ordered_sequence}
-use Rattle.rv_causality.proofs.Walks.{nat_split, got}
 use Rattle.rv_causality.proofs.WeightFlows.{giver_output, instance_of, ReadsGiver, giver_reads, giver_flows}
 use Rattle.rv_causality.proofs.WeightReads.{Reads, capped_weight}
 

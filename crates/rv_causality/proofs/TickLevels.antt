@@ -2,20 +2,21 @@
 use Rattle.std.proofs.Common.{◌≡◌, ℕ, zero, suc, ◌+◌, ◌<◌, true, cond, List, [], ◌∷◌, ◌++◌, length, get_or, refl, sym, ◌∙◌, ap, subst, arith}
 use Rattle.std.specs.List.{Contains}
 use Rattle.std.proofs.lemmas.List.Elements.{Contains-get_or}
-use Rattle.rv_syntax.specs.Tree.{NodeTree, ProgramTree}
-use Rattle.rv_syntax.specs.Places.{Identifier, is_among, index_of}
+use Rattle.rv_tree.specs.Tree.{NodeTree, ProgramTree}
+use Rattle.rv_tree.specs.Places.{Identifier, is_among, index_of}
 use Rattle.rv_types.specs.declared.typed.Clock.{Clock}
 use Rattle.rv_types.specs.declared.typed.Clock.TheVariants.{Base}
 use Rattle.rv_types.specs.Clocks.{pace_of_all}
 use Rattle.rv_types.specs.Names.{name_faults}
 use Rattle.rv_types.specs.Instances.{CallTree, calls, Instance, taken, no_node, node_of, callee, unrolled, main_instance}
 use Rattle.rv_causality.specs.Graphs.{IsOrdered}
-use Rattle.rv_causality.specs.Callings.{calling, callings_of, call_graph, names_of}
+use Rattle.rv_causality.specs.Callings.{calling, callings_of, call_graph}
+use Rattle.rv_instances.specs.AllInstances.{names_of}
 use Rattle.rv_types.specs.WellFormed.{AreSited}
 use Rattle.rv_types.specs.Variables.{total, node_parts, over_instances, ticks}
 use Rattle.rv_causality.specs.Ticks.{arrows, has_base, sites_of_clocks, ticking, tick_total, own_ticks}
-use Rattle.rv_causality.proofs.Walks.{contains_at}
-use Rattle.rv_causality.proofs.Known.{called, calls_declared}
+use Rattle.rv_instances.proofs.Lists.{contains_at}
+use Rattle.rv_instances.proofs.Known.{called, calls_declared}
 use Rattle.rv_causality.proofs.Recursions.{tabled, graph_size}
 use Rattle.rv_causality.proofs.Lowering.{edge_of}
 use Rattle.rv_causality.proofs.Unrolling.{total_same, total_flat_map}

@@ -3,12 +3,12 @@ use Rattle.std.proofs.Common.{◌≡◌, ℕ, suc, ◌≤◌, ◌⊎◌, inl, in
 use Rattle.std.specs.List.{Contains, flat_map}
 use Rattle.std.proofs.lemmas.Bool.{eqb-true, eq-eqb}
 use Rattle.std.proofs.lemmas.List.Elements.{Contains-append_right, Contains-append_cases}
-use Rattle.rv_syntax.specs.Places.{Sites}
+use Rattle.rv_tree.specs.Places.{Sites}
 use Rattle.rv_types.specs.declared.typed.Clock.{Clock}
 use Rattle.rv_types.specs.declared.typed.Clock.TheVariants.{Base, On}
 use Rattle.rv_types.specs.Variables.{is_in, same_place, is_place_in, different}
 use Rattle.rv_causality.specs.Ticks.{has_base, sites_of_clocks}
-use Rattle.rv_causality.proofs.Known.{cons_cases, nothing_in, in_map, of_map}
+use Rattle.rv_instances.proofs.Known.{cons_cases, nothing_in, in_map, of_map}
 use Rattle.rv_causality.proofs.AllInstances.{of_flat_map}
 
 -- no two elements are equal

@@ -1,11 +1,10 @@
 -- The places of ticks, counted along calls.
-use Rattle.std.proofs.Common.{◌≡◌, ℕ, zero, suc, ◌+◌, ◌<◌, ◌⊎◌, inl, inr, Bool, true, false, cond, List, [], ◌∷◌, ◌++◌, map, length, get_or, refl, sym, ◌∙◌, ap, subst, arith, Option, Some, unwrap_or, length-append}
-use Rattle.std.proofs.Common.{None as Nothing}
+use Rattle.std.proofs.Common.{◌≡◌, ℕ, zero, suc, ◌+◌, ◌<◌, ◌⊎◌, inl, inr, Bool, true, false, cond, List, [], ◌∷◌, ◌++◌, map, length, get_or, refl, sym, ◌∙◌, ap, subst, arith, Option, Some, unwrap_or, length-append, None as Nothing}
 use Rattle.std.specs.List.{Contains, flat_map}
 use Rattle.std.proofs.lemmas.List.{append_assoc}
 use Rattle.std.proofs.lemmas.List.Elements.{Contains-append_left, Contains-append_right, Contains-append_cases}
-use Rattle.rv_syntax.specs.Tree.{Tree, NodeTree, ProgramTree}
-use Rattle.rv_syntax.specs.Places.{Identifier, Sites, is_same}
+use Rattle.rv_tree.specs.Tree.{Tree, NodeTree, ProgramTree}
+use Rattle.rv_tree.specs.Places.{Identifier, Sites, is_same}
 use Rattle.rv_types.specs.declared.typed.Clock.{Clock}
 use Rattle.rv_types.specs.declared.typed.Clock.TheVariants.{Base, On}
 use Rattle.rv_types.specs.Clocks.{pace, pace_of_all}
@@ -14,8 +13,8 @@ use Rattle.rv_types.specs.Instances.{CallTree, calls, Instance, absolute, taken,
 use Rattle.rv_types.specs.WellFormed.{HasSites, AreSited}
 use Rattle.rv_types.specs.Variables.{total, node_parts, is_arrow, arrow_clocks, ticks}
 use Rattle.rv_causality.specs.Ticks.{arrows, has_base, sites_of_clocks, ticking, tick_total}
-use Rattle.rv_causality.proofs.Known.{cons_cases, nothing_in, in_map, of_map}
-use Rattle.rv_causality.proofs.Lowering.{length_map}
+use Rattle.rv_instances.proofs.Known.{cons_cases, nothing_in, in_map, of_map}
+use Rattle.rv_instances.proofs.Lists.{length_map}
 use Rattle.rv_causality.proofs.AllInstances.{in_flat_map, of_flat_map}
 use Rattle.rv_causality.proofs.TickLists.{Apart, first_in, later_in, same_length, apart_append, apart_map, apart_flat_map, different_in, in_different, different_apart, base_there, there_base, site_is, site_comes, sites_apart}
 

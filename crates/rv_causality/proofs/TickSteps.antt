@@ -3,20 +3,20 @@ use Rattle.std.proofs.Common.{◌≡◌, ℕ, zero, suc, ◌+◌, ◌<◌, ◌�
 use Rattle.std.specs.List.{Contains}
 use Rattle.std.proofs.lemmas.Bool.{cases_eq}
 use Rattle.std.proofs.lemmas.List.{length-set, length-replicate, get_or-set_same, get_or-set_other}
-use Rattle.rv_syntax.specs.declared.tree.Node as declared
-use Rattle.rv_syntax.specs.Places.{Identifier}
-use Rattle.rv_syntax.specs.Tree.{NodeTree, ProgramTree, node_tree}
+use Rattle.rv_tree.specs.declared.tree.Node as declared
+use Rattle.rv_tree.specs.Places.{Identifier}
+use Rattle.rv_tree.specs.Tree.{NodeTree, ProgramTree, node_tree}
 use Rattle.rv_types.specs.declared.typed.Clock.{Clock}
 use Rattle.rv_types.specs.Names.{name_faults}
 use Rattle.rv_types.specs.Instances.{calls, no_node}
 use Rattle.rv_causality.specs.Capped.{capped}
-use Rattle.rv_causality.specs.Callings.{callings_of, call_graph, names_of}
+use Rattle.rv_causality.specs.Callings.{callings_of, call_graph}
+use Rattle.rv_instances.specs.AllInstances.{names_of}
 use Rattle.rv_causality.specs.Graphs.{IsOrdered}
 use Rattle.rv_causality.specs.Ticks.{has_base, sites_of_clocks, ticking, own_ticks}
 use Rattle.rv_causality.specs.TickWalk.{ticks_on_base, walked_node, AreTicked}
-use Rattle.rv_causality.proofs.Walks.{contains_at, got}
-use Rattle.rv_causality.proofs.Known.{map_at}
-use Rattle.rv_causality.proofs.Lowering.{length_map}
+use Rattle.rv_instances.proofs.Lists.{contains_at, got, length_map}
+use Rattle.rv_instances.proofs.Known.{map_at}
 use Rattle.rv_causality.proofs.Recursions.{graph_size}
 use Rattle.rv_causality.proofs.TickLevels.{at_is, among, number_within, enough, earlier, steady}
 use Rattle.rv_causality.proofs.TickWalks.{Same, walk_same, same_base, same_sites}

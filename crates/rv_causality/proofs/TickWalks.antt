@@ -4,17 +4,18 @@ use Rattle.std.specs.List.{Contains, flat_map}
 use Rattle.std.proofs.lemmas.Grind.{flat_map-append}
 use Rattle.std.proofs.lemmas.List.{append_assoc}
 use Rattle.std.proofs.lemmas.List.Elements.{Contains-append_left, Contains-append_right, Contains-append_cases}
-use Rattle.rv_syntax.specs.declared.tree.Op.{Op}
-use Rattle.rv_syntax.specs.declared.tree.Op.TheVariants as op
-use Rattle.rv_syntax.specs.Places.{Identifier}
-use Rattle.rv_syntax.specs.Tree.{Tree, Node, True, False, Number, Named, Not, Minus, Pre, Current, When, Binary, If, AtMostOne, Call, Trees, None, More, EquationTree, AssertionTree, NodeTree, ProgramTree}
+use Rattle.rv_tree.specs.declared.tree.Op.{Op}
+use Rattle.rv_tree.specs.declared.tree.Op.TheVariants as op
+use Rattle.rv_tree.specs.Places.{Identifier}
+use Rattle.rv_tree.specs.Tree.{Tree, Node, True, False, Number, Named, Not, Minus, Pre, Current, When, Binary, If, AtMostOne, Call, Trees, None, More, EquationTree, AssertionTree, NodeTree, ProgramTree}
 use Rattle.rv_types.specs.declared.typed.Clock.{Clock}
 use Rattle.rv_types.specs.declared.typed.Clock.TheVariants.{Base, On}
 use Rattle.rv_types.specs.Clocks.{seen, binary_pace, pace, pace_of_all}
 use Rattle.rv_types.specs.Instances.{CallTree, calls, calls_in, calls_in_all, calls_in_equations, calls_in_assertions, taken, node_of}
 use Rattle.rv_types.specs.Variables.{is_in, is_arrow, parts, parts_of_all, node_parts}
 use Rattle.rv_causality.specs.Ticks.{arrows, has_base, sites_of_clocks, ticking}
-use Rattle.rv_causality.specs.TickWalk.{arrow_clock, handed_clock, is_new_site, with_clock, walked, walked_all, walked_node}
+use Rattle.rv_instances.specs.ArrowClocks.{arrow_clock}
+use Rattle.rv_causality.specs.TickWalk.{handed_clock, is_new_site, with_clock, walked, walked_all, walked_node}
 use Rattle.rv_causality.proofs.TickLists.{flat_map_same, same_length, base_there, there_base, site_is, site_comes, sites_apart}
 
 -- Different sites, counted one after the other.

@@ -6,7 +6,7 @@ use Rattle.std.specs.List.{Contains}
 use Rattle.std.proofs.lemmas.List.Elements.{Contains-append_left, Contains-append_right, Contains-append_cases}
 use Rattle.rv_causality.specs.Graphs.{Graph, edges, IsGraph}
 use Rattle.rv_causality.specs.Components.{IsReversed, IsReversedTo, IsTurned}
-use Rattle.rv_causality.proofs.Walks.{at_contains}
+use Rattle.rv_instances.proofs.Lists.{at_contains}
 use Rattle.rv_causality.proofs.Searches.{one, only_one, nothing_there}
 
 pub turned_none : (v : ℕ) (h : Graph) → IsTurned [] v h h

@@ -1,17 +1,18 @@
 -- Sums over all instances, by the numbers of nodes.
 use Rattle.std.proofs.Common.{◌≡◌, ℕ, zero, suc, ◌+◌, ◌<◌, min, List, [], ◌∷◌, map, length, get_or, refl, sym, ◌∙◌, ap, arith}
 use Rattle.std.specs.List.{Contains, flat_map}
-use Rattle.rv_syntax.specs.Tree.{NodeTree, ProgramTree}
-use Rattle.rv_syntax.specs.Places.{index_of}
+use Rattle.rv_tree.specs.Tree.{NodeTree, ProgramTree}
+use Rattle.rv_tree.specs.Places.{index_of}
 use Rattle.rv_types.specs.Names.{name_faults}
 use Rattle.rv_causality.specs.declared.calls.Calling.{Calling}
 use Rattle.rv_types.specs.Instances.{CallTree, calls, Instance, no_node, callee, unrolled}
 use Rattle.rv_types.specs.Variables.{total}
-use Rattle.rv_causality.specs.Callings.{calling, callings_of, names_of}
-use Rattle.rv_syntax.specs.Limits.{heaviest}
+use Rattle.rv_causality.specs.Callings.{calling, callings_of}
+use Rattle.rv_instances.specs.AllInstances.{names_of}
+use Rattle.rv_tree.specs.Limits.{heaviest}
 use Rattle.rv_causality.specs.Totals.{total_at}
 use Rattle.rv_causality.specs.Capped.{capped}
-use Rattle.rv_causality.proofs.Known.{map_at, called, calls_declared}
+use Rattle.rv_instances.proofs.Known.{map_at, called, calls_declared}
 use Rattle.rv_causality.proofs.Recursions.{table_at}
 use Rattle.rv_causality.proofs.Summing.{total_append, total_min}
 use Rattle.std.proofs.lemmas.List.Elements.{Contains-get_or}

@@ -1,21 +1,20 @@
 -- The variables of diagrams, summed from capped numbers.
 use Rattle.std.proofs.Common.{◌≡◌, ℕ, zero, suc, ◌+◌, ◌*◌, ◌≤◌, List, [], ◌∷◌, map, length, get_or, take, refl, ◌∙◌, ap, arith}
 use Rattle.std.specs.List.{Contains}
-use Rattle.rv_syntax.specs.Bounded.{IsBounded, most}
-use Rattle.rv_syntax.specs.Delays.{Delay}
-use Rattle.rv_syntax.specs.declared.tree.Name.{Name}
-use Rattle.rv_syntax.specs.declared.tree.TypeBody.{TypeBody}
-use Rattle.rv_syntax.specs.declared.tree.TypeBody.TheVariants.{Alias, Labels}
-use Rattle.rv_syntax.specs.declared.tree.TypeDecl.{TypeDecl}
-use Rattle.rv_syntax.specs.Tree.{NodeTree, ProgramTree}
+use Rattle.rv_tree.specs.Bounded.{IsBounded, most}
+use Rattle.rv_tree.specs.Delays.{Delay}
+use Rattle.rv_tree.specs.declared.tree.Name.{Name}
+use Rattle.rv_tree.specs.declared.tree.TypeBody.{TypeBody}
+use Rattle.rv_tree.specs.declared.tree.TypeBody.TheVariants.{Alias, Labels}
+use Rattle.rv_tree.specs.declared.tree.TypeDecl.{TypeDecl}
+use Rattle.rv_tree.specs.Tree.{NodeTree, ProgramTree}
 use Rattle.rv_types.specs.declared.typed.Kind.{Kind}
-use Rattle.rv_causality.specs.Bits.{bits_of_all}
+use Rattle.rv_instances.specs.Bits.{bits_of_all}
 use Rattle.rv_causality.specs.Capped.{capped}
 use Rattle.rv_causality.specs.Memories.{memory_kinds}
 use Rattle.rv_types.specs.Variables.{total, memories, memory_bits, kind_bits}
-use Rattle.rv_types.specs.Values.{operand_kind}
-use Rattle.rv_types.specs.Values.{labels_at, label_count}
-use Rattle.rv_syntax.specs.Limits.{heaviest}
+use Rattle.rv_types.specs.Values.{operand_kind, labels_at, label_count}
+use Rattle.rv_tree.specs.Limits.{heaviest}
 use Rattle.rv_causality.proofs.Codes.{bits_same}
 use Rattle.rv_causality.proofs.Unrolling.{total_map}
 

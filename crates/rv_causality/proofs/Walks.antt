@@ -1,18 +1,11 @@
 -- How a search in depth goes on.
-use Rattle.std.proofs.Common.{◌≡◌, ℕ, zero, suc, ◌+◌, ◌-◌, ◌<◌, ◌≤◌, ◌⊎◌, inl, inr, Bool, true, false, List, [], ◌∷◌, ◌++◌, length, get_or, set, take, drop, replicate, refl, sym, ◌∙◌, ap, subst, arith, length-append, length-take-le, slice_get, Some}
-use Rattle.std.proofs.Common.{None as Nothing}
-use Rattle.std.proofs.lemmas.List.{get_or_default, length-replicate, length-set, get_or-set_same, get_or-set_other, get_or-replicate, get_or_append_left, get_or_past}
+use Rattle.std.proofs.Common.{◌≡◌, ℕ, zero, suc, ◌+◌, ◌-◌, ◌<◌, ◌≤◌, ◌⊎◌, inl, inr, Bool, true, false, List, [], ◌∷◌, ◌++◌, length, get_or, set, take, drop, replicate, refl, sym, ◌∙◌, ap, subst, arith, length-append, length-take-le, Some, None as Nothing}
+use Rattle.std.proofs.lemmas.List.{length-replicate, length-set, get_or-set_same, get_or-set_other, get_or-replicate, get_or_append_left, get_or_past}
 use Rattle.std.proofs.lemmas.Bool.{cases_eq}
 use Rattle.std.specs.List.{Contains}
 use Rattle.rv_causality.specs.Graphs.{Graph, edges, IsGraph, IsOrdered, Follows, IsLoop, IsWalk, IsNext, Keeps, falses}
 use Rattle.rv_causality.specs.declared.graph.Walk.{Walk}
-
--- an element of a list stands at a number
-pub contains_at : (xs : List ℕ) (x : ℕ) → Contains xs x → (k : ℕ) × (k < length xs) × (get_or xs k 0 ≡ x)
-contains_at xs x w = (w.0, w.1, get_or_default xs w.0 0 x w.1 ∙ w.2)
-
-pub at_contains : (xs : List ℕ) (x k : ℕ) → k < length xs → get_or xs k 0 ≡ x → Contains xs x
-at_contains xs x k lt e = (k, lt, get_or_default xs k x 0 lt ∙ e)
+use Rattle.rv_instances.proofs.Lists.{contains_at, at_contains, nat_split}
 
 -- a list with one more
 pub snoc_at : (xs : List ℕ) (y i : ℕ) → i < length (xs ++ y ∷ []) → ((i < length xs) × (get_or (xs ++ y ∷ []) i 0 ≡ get_or xs i 0)) ⊎ ((i ≡ length xs) × (get_or (xs ++ y ∷ []) i 0 ≡ y))
@@ -30,12 +23,6 @@ snoc_last (x ∷ xs) y = snoc_last xs y
 
 pub snoc_length : (xs : List ℕ) (y : ℕ) → length (xs ++ y ∷ []) ≡ length xs + 1
 snoc_length xs y = length-append xs (y ∷ [])
-
--- a number is below another or not
-pub nat_split : (a b : ℕ) → (a < b) ⊎ (b ≤ a)
-nat_split a zero = inr (omega arith)
-nat_split zero (suc b) = inl (omega arith)
-nat_split (suc a) (suc b) = elim (nat_split a b) [ inl h ↦ inl (omega (arith, h)) | inr h ↦ inr (omega (arith, h)) ]
 
 -- the front of a list
 pub get_or-take_below : (xs : List ℕ) (n i d : ℕ) → i < n → get_or (take n xs) i d ≡ get_or xs i d
@@ -149,12 +136,6 @@ module _ (g : Graph) (w : Walk) (walk : IsWalk g w) where
         | true ↦ λ e. no_bool (get_or w.entered v false) (walk.finished_entered v within e) not
         | false ↦ λ e. refl
       ] refl
-
--- what a list has at a number
-pub got : {X : Type 0} (xs : List X) (k : ℕ) (x d : X) → slice_get xs k ≡ Some x → get_or xs k d ≡ x
-got [] k x d e = cc
-got (y ∷ ys) zero x d e = cc
-got (y ∷ ys) (suc k) x d e = got ys k x d e
 
 module _ (g : Graph) (w : Walk) (walk : IsWalk g w) where
   -- The path goes on from its last vertex to the next unfinished one.

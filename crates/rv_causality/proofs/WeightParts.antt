@@ -2,13 +2,13 @@
 use Rattle.std.proofs.Common.{◌≡◌, ℕ, min, Bool, true, false, cond, Option, Some, refl, ap, arith, nat_abs}
 use Rattle.std.proofs.Common.{None as Nothing}
 use Rattle.rv_base.specs.declared.value.Value.{Value}
-use Rattle.rv_syntax.specs.Tree.{Named}
-use Rattle.rv_syntax.specs.Places.{Identifier}
+use Rattle.rv_tree.specs.Tree.{Named}
+use Rattle.rv_tree.specs.Places.{Identifier}
 use Rattle.rv_types.specs.declared.weighing.Weighed.{Weighed}
 use Rattle.rv_types.specs.Constants.{whole_in}
 use Rattle.rv_types.specs.ConstantParts.{constant_form}
 use Rattle.rv_types.specs.Types.{Scope}
-use Rattle.rv_syntax.specs.Limits.{too_heavy}
+use Rattle.rv_tree.specs.Limits.{too_heavy}
 use Rattle.rv_types.specs.WideConstants.{lesser}
 
 -- what is known of a constant or label is its value

@@ -2,24 +2,24 @@
 use Rattle.std.proofs.Common.{◌≡◌, ℕ, suc, inl, inr, cond, nat_lt, List, [], ◌∷◌, ◌++◌, length, refl, sym, ap, subst, arith, Option, unwrap_or}
 use Rattle.std.specs.List.{Contains, flat_map}
 use Rattle.std.proofs.lemmas.List.Elements.{Contains-append_left, Contains-append_right, Contains-append_cases}
-use Rattle.rv_syntax.specs.declared.tree.Name.{Name}
-use Rattle.rv_syntax.specs.Tree.{Tree, Node, Form, True, False, Number, Named, Not, Minus, Pre, Current, When, Binary, If, AtMostOne, Call, Trees, None, More, EquationTree, AssertionTree, ProgramTree}
-use Rattle.rv_syntax.specs.Places.{Identifier, Sites}
+use Rattle.rv_tree.specs.declared.tree.Name.{Name}
+use Rattle.rv_tree.specs.Tree.{Tree, Node, Form, True, False, Number, Named, Not, Minus, Pre, Current, When, Binary, If, AtMostOne, Call, Trees, None, More, EquationTree, AssertionTree, ProgramTree}
+use Rattle.rv_tree.specs.Places.{Identifier, Sites}
 use Rattle.rv_types.specs.declared.typed.Kind.TheVariants as kind
 use Rattle.rv_types.specs.Names.{texts}
 use Rattle.rv_types.specs.Instances.{CallTree, calls, calls_in, form_calls, calls_in_all, calls_in_equations, calls_in_assertions, alone, IsArgument, head, tail, Instance, IsInstance, IsFlow}
 use Rattle.rv_types.specs.Needs.{IsSequence}
 use Rattle.rv_types.specs.Scopes.{node_scope}
-use Rattle.rv_causality.specs.declared.answer.Instance.{Instance as Numbered}
-use Rattle.rv_causality.specs.Expanded.{IsExpanded}
+use Rattle.rv_instances.specs.declared.answer.Instance.{Instance as Numbered}
+use Rattle.rv_instances.specs.Expanded.{IsExpanded}
 use Rattle.rv_causality.specs.Sided.{AreSided}
 use Rattle.rv_types.specs.Variables.{parts, form_parts, parts_of_all}
-use Rattle.rv_syntax.specs.Limits.{heaviest}
-use Rattle.rv_causality.specs.Weights.{weight, too_wide, weighed_of_several, weighed_under, weighed, AreWeights, IsTooWide, AreLight, IsFirstTooWide}
+use Rattle.rv_tree.specs.Limits.{heaviest}
+use Rattle.rv_instances.specs.Weights.{weight, too_wide, weighed_of_several, weighed_under, weighed, AreWeights, IsTooWide, AreLight, IsFirstTooWide}
 use Rattle.rv_causality.proofs.AllInstances.{of_flat_map}
-use Rattle.rv_causality.proofs.CallsInside.{in_argument, in_right, in_body, calls_nested}
-use Rattle.rv_causality.proofs.ExpandedLaws.{node_in}
-use Rattle.rv_causality.proofs.Known.{cons_cases, nothing_in}
+use Rattle.rv_instances.proofs.CallsInside.{in_argument, in_right, in_body, calls_nested}
+use Rattle.rv_instances.proofs.ExpandedLaws.{node_in}
+use Rattle.rv_instances.proofs.Known.{cons_cases, nothing_in}
 use Rattle.rv_causality.proofs.TypedParts.{IsTyped, parts_typed}
 use Rattle.rv_causality.proofs.WeightFlows.{IsInside, reads_flows, one_weight}
 use Rattle.rv_causality.proofs.WeightReads.{same_weight}

@@ -1,38 +1,36 @@
 -- The least offset of what is too wide.
-use Rattle.std.proofs.Common.{◌≡◌, ℕ, zero, suc, ◌<◌, ◌≤◌, ◌⊎◌, inl, inr, min, Bool, true, false, cond, nat_lt, List, [], ◌∷◌, ◌++◌, length, reverse, refl, sym, ◌∙◌, ap, subst, arith, Option, Some}
-use Rattle.std.proofs.Common.{None as Nothing}
+use Rattle.std.proofs.Common.{◌≡◌, ℕ, zero, suc, ◌<◌, ◌≤◌, ◌⊎◌, inl, inr, min, Bool, true, false, cond, nat_lt, List, [], ◌∷◌, ◌++◌, length, reverse, refl, sym, ◌∙◌, ap, subst, arith, Option, Some, None as Nothing}
 use Rattle.std.specs.List.{Contains, flat_map}
 use Rattle.std.proofs.lemmas.Bool.{cases_eq}
 use Rattle.std.proofs.lemmas.Bool.Decides.{nat_tests}
 use Rattle.std.proofs.lemmas.List.{append_assoc}
 use Rattle.std.proofs.lemmas.List.Elements.{Contains-append_right}
 use Rattle.rv_base.specs.declared.value.Value.{Value}
-use Rattle.rv_syntax.specs.declared.tree.Name.{Name}
-use Rattle.rv_syntax.specs.Tree.{Tree, Node, Form, True, False, Number, Named, Not, Minus, Pre, Current, When, Binary, If, AtMostOne, Call, Trees, None, More, EquationTree, AssertionTree, ConstantTree, NodeTree, ProgramTree}
-use Rattle.rv_syntax.specs.Places.{Identifier, Sites}
+use Rattle.rv_tree.specs.declared.tree.Name.{Name}
+use Rattle.rv_tree.specs.Tree.{Tree, Node, Form, True, False, Number, Named, Not, Minus, Pre, Current, When, Binary, If, AtMostOne, Call, Trees, None, More, EquationTree, AssertionTree, ConstantTree, NodeTree, ProgramTree}
+use Rattle.rv_tree.specs.Places.{Identifier, Sites}
 use Rattle.rv_types.specs.Constants.{weight_of, form_weight}
 use Rattle.rv_types.specs.Instances.{Instance, IsInstance}
 use Rattle.rv_types.specs.Needs.{IsSequence}
 use Rattle.rv_types.specs.Scopes.{constant_value, constant_value_after}
-use Rattle.rv_syntax.specs.Limits.{too_heavy}
+use Rattle.rv_tree.specs.Limits.{too_heavy, heaviest}
 use Rattle.rv_types.specs.ValueTables.{NamedTables, value_by}
 use Rattle.rv_types.specs.WideConstants.{lesser, wide_at, first_wide, wide_below, first_wide_of_all, first_wide_constant}
-use Rattle.rv_causality.specs.declared.answer.Instance.{Instance as Numbered}
-use Rattle.rv_causality.specs.declared.layout.Layout.{Layout}
-use Rattle.rv_causality.specs.Expanded.{IsExpanded}
-use Rattle.rv_causality.specs.Layouts.{IsNumberOf, IsLayout, node_at}
+use Rattle.rv_instances.specs.declared.answer.Instance.{Instance as Numbered}
+use Rattle.rv_instances.specs.declared.layout.Layout.{Layout}
+use Rattle.rv_instances.specs.Expanded.{IsExpanded}
+use Rattle.rv_instances.specs.Layouts.{IsNumberOf, IsLayout, node_at}
 use Rattle.rv_causality.specs.Loops.{AtMost}
 use Rattle.rv_causality.specs.Sided.{AreSided}
 use Rattle.rv_types.specs.Variables.{parts, form_parts, parts_of_all}
-use Rattle.rv_syntax.specs.Limits.{heaviest}
-use Rattle.rv_causality.specs.Weights.{weight, too_wide, weighed_of_several, weighed_under, weighed, too_wide_constants, AreWeights, IsTooWide, AreLight, IsFirstTooWide}
+use Rattle.rv_instances.specs.Weights.{weight, too_wide, weighed_of_several, weighed_under, weighed, too_wide_constants, AreWeights, IsTooWide, AreLight, IsFirstTooWide}
 use Rattle.rv_causality.specs.Weighing.{Weighing, weight_in, form_weight_in, first_in, first_below, first_in_all}
 use Rattle.rv_causality.specs.WeightTables.{weighing_at, counted_weight, AreFlowWeights}
 use Rattle.rv_causality.specs.WideNodes.{wide_in_several, wide_in_side, wide_in_equations, wide_in_assertions, wide_in_node, wide_in_first}
-use Rattle.rv_causality.proofs.ExpandedLaws.{instance_at, number_at, node_is}
-use Rattle.rv_causality.proofs.Known.{cons_cases, nothing_in}
+use Rattle.rv_instances.proofs.ExpandedLaws.{instance_at, number_at, node_is}
+use Rattle.rv_instances.proofs.Known.{cons_cases, nothing_in}
 use Rattle.rv_causality.proofs.TableWeights.{HasWeight, part_weight}
-use Rattle.rv_causality.proofs.Walks.{nat_split}
+use Rattle.rv_instances.proofs.Lists.{nat_split}
 use Rattle.rv_causality.proofs.WeightFlows.{flows_read, are_weights}
 use Rattle.rv_causality.proofs.WeightParts.{lesser_more}
 use Rattle.rv_causality.proofs.WideFlows.{is_weighed}

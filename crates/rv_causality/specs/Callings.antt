@@ -1,12 +1,12 @@
 -- The calls of a program by the numbers of its nodes.
 use Rattle.std.specs.Prelude.{ℕ, ◌<◌, List, map, length, slice_index_or}
-use Rattle.rv_syntax.specs.declared.tree.Node as declared
-use Rattle.rv_syntax.specs.Tree.{ProgramTree}
-use Rattle.rv_syntax.specs.Places.{Identifier, index_of}
-use Rattle.rv_types.specs.Names.{node_names, texts}
+use Rattle.rv_tree.specs.declared.tree.Node as declared
+use Rattle.rv_tree.specs.Tree.{ProgramTree}
+use Rattle.rv_tree.specs.Places.{Identifier, index_of}
 use Rattle.rv_causality.specs.declared.calls.Calling.{Calling}
 use Rattle.rv_types.specs.Instances.{CallTree, calls}
 use Rattle.rv_causality.specs.Graphs.{Graph, edges}
+use Rattle.rv_instances.specs.AllInstances.{names_of}
 
 -- a call, where the nodes have these names
 abbrev pub calling : List Identifier → CallTree → Calling
@@ -15,10 +15,6 @@ calling names c = record { at = c.at; site = c.site; callee = index_of names c.n
 -- some calls
 abbrev pub callings : List Identifier → List CallTree → List Calling
 callings names cs = map (calling names) cs
-
--- the names of the nodes of a program
-abbrev pub names_of : ProgramTree → List Identifier
-names_of p = texts (node_names p)
 
 -- the calls of each node
 abbrev pub callings_of : ProgramTree → List (List Calling)

@@ -1,8 +1,8 @@
 -- Numbers that stop at 2^40.
 use Rattle.std.specs.Prelude.{ℕ, min, List, map}
-use Rattle.rv_syntax.specs.Tree.{NodeTree}
-use Rattle.rv_causality.specs.Sizes.{node_size}
-use Rattle.rv_syntax.specs.Limits.{heaviest}
+use Rattle.rv_tree.specs.Tree.{NodeTree}
+use Rattle.rv_instances.specs.Counts.{node_size}
+use Rattle.rv_tree.specs.Limits.{heaviest}
 
 -- a number, or 2^40 where that is less
 abbrev pub capped : ℕ → ℕ

@@ -1,34 +1,18 @@
 -- Which settled programs have one run for all starts and inputs, in which order their flows can be evaluated, and
 -- why another is refused.
-use Rattle.std.specs.Prelude.{◌≡◌, ◌⊎◌, ℕ, ◌<◌, List, length, Result, Ok, Err, slice_index_or}
-use Rattle.std.specs.List.{Contains}
-use Rattle.rv_syntax.specs.Tree.{Tree, NodeTree, ProgramTree}
-use Rattle.rv_syntax.specs.Places.{Identifier, Sites}
-use Rattle.rv_types.specs.Settled.{node_number}
+use Rattle.std.specs.Prelude.{◌≡◌, ◌⊎◌, List, Result, Ok, Err}
+use Rattle.rv_tree.specs.Tree.{ProgramTree}
+use Rattle.rv_tree.specs.Places.{Identifier, Sites}
 use Rattle.rv_types.specs.Lists.{sites_of}
-use Rattle.rv_causality.specs.declared.answer.Instance.{Instance as Numbered}
-use Rattle.rv_causality.specs.declared.answer.Order.{Order}
+use Rattle.rv_instances.specs.declared.answer.Order.{Order}
 use Rattle.rv_causality.specs.declared.fault.CauseFault.{CauseFault}
 use Rattle.rv_causality.specs.declared.fault.CauseFault.TheVariants.{Recursive, Cycle, TooLarge, TooWide, Memory}
-use Rattle.rv_types.specs.Instances.{CallTree, calls, IsArgument, node_of, Instance, IsInstance}
-use Rattle.rv_types.specs.Needs.{IsSequence, IsCycle, IsBefore, StartsWithLeast}
+use Rattle.rv_types.specs.Needs.{IsSequence, IsCycle, StartsWithLeast}
 use Rattle.rv_causality.specs.Reach.{HasNoRecursion, IsFirstRecursion}
-use Rattle.rv_causality.specs.Sizes.{expanded, measures, AreWithin, IsFirstAbove}
-use Rattle.rv_causality.specs.Weights.{AreLight, IsFirstTooWide}
-
--- No call has more arguments than its node has inputs.
-abbrev pub AreFed : ProgramTree → Type 0
-AreFed p = (n : NodeTree) (c : CallTree) (j : ℕ) (e : Tree) → Contains p.nodes n → Contains (calls n) c → IsArgument c.args j e → j < length (node_of p c.name).inputs
-
--- an instance by the number of its node
-abbrev pub numbered : ProgramTree → Instance → Numbered
-numbered p i = record { path = i.path; node = node_number p i.node.name.text }
-
--- The instances of a program, by their paths: those that stand in front of others come first, and none is missing.
-pub record AreInstances (p : ProgramTree) (main : Identifier) (list : List Numbered) : Type 0 where
-  pub rising : (j k : ℕ) (x : Numbered) → j < k → k < length list → IsBefore (slice_index_or list j x).path (slice_index_or list k x).path
-  pub all : (i : Instance) → IsInstance p main i → Contains list (numbered p i)
-  pub only : (x : Numbered) → Contains list x → (i : Instance) × IsInstance p main i × (x ≡ numbered p i)
+use Rattle.rv_instances.specs.Counts.{expanded}
+use Rattle.rv_causality.specs.Sizes.{measures, AreWithin, IsFirstAbove}
+use Rattle.rv_instances.specs.Weights.{AreLight, IsFirstTooWide}
+use Rattle.rv_instances.specs.AllInstances.{AreInstances}
 
 -- no list of flows is a cycle
 abbrev pub HasNoCycle : ProgramTree → Identifier → Type 0

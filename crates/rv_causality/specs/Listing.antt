@@ -2,7 +2,7 @@
 use Rattle.std.specs.Prelude.{◌≡◌, ℕ, zero, suc, ◌<◌, List, [], ◌∷◌, ◌++◌, flat_map, length, slice_index_or}
 use Rattle.std.specs.List.{Contains}
 use Rattle.std.specs.List.Sorted.{IsPermutation, IsNonDecreasingBy}
-use Rattle.rv_causality.specs.declared.answer.Instance.{Instance}
+use Rattle.rv_instances.specs.declared.answer.Instance.{Instance}
 use Rattle.rv_causality.specs.declared.calls.Calling.{Calling}
 
 -- the instance that a call of the instance with this path gives

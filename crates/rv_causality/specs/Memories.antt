@@ -1,8 +1,8 @@
 -- The memories of a node, by the tables of its expressions.
 use Rattle.std.specs.Prelude.{ℕ, cond, List, [], ◌∷◌, ◌++◌, map, unwrap_or, Option}
-use Rattle.rv_syntax.specs.Tree.{Tree, Node, Form, Named, NodeTree, ProgramTree}
-use Rattle.rv_syntax.specs.Places.{Identifier, index_of, is_among}
-use Rattle.rv_syntax.specs.Delays.{Delay}
+use Rattle.rv_tree.specs.Tree.{Tree, Node, Form, Named, NodeTree, ProgramTree}
+use Rattle.rv_tree.specs.Places.{Identifier, index_of, is_among}
+use Rattle.rv_tree.specs.Delays.{Delay}
 use Rattle.rv_types.specs.declared.typed.Kind.{Kind}
 use Rattle.rv_types.specs.declared.typed.Kind.TheVariants as kind
 use Rattle.rv_types.specs.declared.reading.ProgramTables.{ProgramTables}

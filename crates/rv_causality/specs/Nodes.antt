@@ -1,17 +1,19 @@
 -- The nodes of a program without recursion, in order.
 use Rattle.std.specs.Prelude.{◌≡◌, ◌≤◌, ℕ, map}
-use Rattle.rv_syntax.specs.Tree.{ProgramTree}
-use Rattle.rv_syntax.specs.Places.{Identifier}
+use Rattle.rv_tree.specs.Tree.{ProgramTree}
+use Rattle.rv_tree.specs.Places.{Identifier}
 use Rattle.rv_causality.specs.declared.recursion.Nodes.{Nodes}
 use Rattle.rv_causality.specs.declared.fault.CauseFault.{CauseFault}
 use Rattle.rv_causality.specs.declared.fault.CauseFault.TheVariants.{Recursive, Cycle, TooLarge, TooWide, Memory}
 use Rattle.rv_causality.specs.Reach.{HasNoRecursion, IsFirstRecursion}
-use Rattle.rv_causality.specs.Sizes.{instance_count, expanded, integer_memories, integer_inputs, first_above, measures, IsFirstAbove}
+use Rattle.rv_instances.specs.Counts.{instance_count, expanded, integer_memories, integer_inputs}
+use Rattle.rv_causality.specs.Sizes.{first_above, measures, IsFirstAbove}
 use Rattle.rv_types.specs.Variables.{over_instances, variable_count}
 use Rattle.rv_types.specs.Values.{label_count}
 use Rattle.rv_types.specs.Instances.{node_of}
 use Rattle.rv_causality.specs.Graphs.{IsOrdered}
-use Rattle.rv_causality.specs.Callings.{names_of, callings_of, call_graph}
+use Rattle.rv_instances.specs.AllInstances.{names_of}
+use Rattle.rv_causality.specs.Callings.{callings_of, call_graph}
 
 -- No node reaches itself. The names and calls are those of the nodes, and each stands after those that it calls.
 pub record AreOrderedNodes (p : ProgramTree) (n : Nodes) : Type 0 where

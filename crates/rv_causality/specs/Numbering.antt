@@ -1,6 +1,6 @@
 -- Lists of different names.
 use Rattle.std.specs.Prelude.{cond, List, [], ◌∷◌, ◌++◌}
-use Rattle.rv_syntax.specs.Places.{Identifier, is_among}
+use Rattle.rv_tree.specs.Places.{Identifier, is_among}
 
 -- the names with one more, where it is not among them
 abbrev pub with_name : List Identifier → Identifier → List Identifier

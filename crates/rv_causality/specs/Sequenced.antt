@@ -1,14 +1,14 @@
 -- What is answered of a program whose instances are known: a sequence of its flows, or a cycle, or what is too wide.
 use Rattle.std.specs.Prelude.{List}
 use Rattle.rv_base.specs.declared.value.Place.{Place}
-use Rattle.rv_syntax.specs.Tree.{ProgramTree}
-use Rattle.rv_syntax.specs.Places.{Identifier, Sites}
+use Rattle.rv_tree.specs.Tree.{ProgramTree}
+use Rattle.rv_tree.specs.Places.{Identifier, Sites}
 use Rattle.rv_types.specs.Lists.{sites_of}
 use Rattle.rv_types.specs.Needs.{IsSequence}
 use Rattle.rv_causality.specs.declared.fault.CauseFault.{CauseFault}
 use Rattle.rv_causality.specs.declared.fault.CauseFault.TheVariants.{Recursive, Cycle, TooLarge, TooWide, Memory}
 use Rattle.rv_causality.specs.Causes.{IsCycleFromLeast}
-use Rattle.rv_causality.specs.Weights.{AreLight, IsFirstTooWide}
+use Rattle.rv_instances.specs.Weights.{AreLight, IsFirstTooWide}
 
 -- The places are those of a sequence, and no expression is too wide.
 pub record AreSequenced (p : ProgramTree) (main : Identifier) (places : List Place) : Type 0 where

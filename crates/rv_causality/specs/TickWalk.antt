@@ -1,10 +1,8 @@
 -- The clocks that tick in a node, in the order in which a walk over its expressions comes to them, and what is known
 -- of the nodes that have been walked over.
 use Rattle.std.specs.Prelude.{◌≡◌, ℕ, ◌<◌, Bool, false, not, cond, List, [], ◌∷◌, ◌++◌, flat_map, length, slice_index_or}
-use Rattle.rv_syntax.specs.declared.tree.Op.{Op}
-use Rattle.rv_syntax.specs.declared.tree.Op.TheVariants as op
-use Rattle.rv_syntax.specs.Tree.{Tree, Node, Form, True, False, Number, Named, Not, Minus, Pre, Current, When, Binary, If, AtMostOne, Call, Trees, None, More, NodeTree, ProgramTree}
-use Rattle.rv_syntax.specs.Places.{Identifier, index_of}
+use Rattle.rv_tree.specs.Tree.{Tree, Node, Form, True, False, Number, Named, Not, Minus, Pre, Current, When, Binary, If, AtMostOne, Call, Trees, None, More, NodeTree, ProgramTree}
+use Rattle.rv_tree.specs.Places.{Identifier, index_of}
 use Rattle.rv_types.specs.declared.typed.Clock.{Clock}
 use Rattle.rv_types.specs.declared.typed.Clock.TheVariants.{Base, On}
 use Rattle.rv_types.specs.declared.fault.Pace.{Pace}
@@ -14,11 +12,7 @@ use Rattle.rv_causality.specs.Capped.{capped}
 use Rattle.rv_causality.specs.Memories.{with_site}
 use Rattle.rv_types.specs.Variables.{is_in}
 use Rattle.rv_causality.specs.Ticks.{has_base, ticking, own_ticks}
-
--- the clock of an operator of this pace, where it is a `->`
-abbrev pub arrow_clock : Op → Pace → List Clock
-arrow_clock op.Arrow p = taken Base p ∷ []
-arrow_clock _ p = []
+use Rattle.rv_instances.specs.ArrowClocks.{arrow_clock}
 
 -- whether the node of a name has a tick on its base clock, by the numbers of nodes
 abbrev pub ticks_on_base : List Identifier → List Bool → Identifier → Bool

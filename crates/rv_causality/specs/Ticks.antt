@@ -1,6 +1,6 @@
 -- The ticks of a node: the clocks on which a `->` stands in it, or in a copy of a node that it calls on that clock.
 use Rattle.std.specs.Prelude.{ℕ, zero, suc, ◌+◌, Bool, true, false, cond, List, [], ◌∷◌, ◌++◌, flat_map, length}
-use Rattle.rv_syntax.specs.Tree.{Tree, NodeTree, ProgramTree}
+use Rattle.rv_tree.specs.Tree.{Tree, NodeTree, ProgramTree}
 use Rattle.rv_types.specs.declared.typed.Clock.{Clock}
 use Rattle.rv_types.specs.declared.typed.Clock.TheVariants.{Base, On}
 use Rattle.rv_types.specs.Clocks.{pace, pace_of_all}

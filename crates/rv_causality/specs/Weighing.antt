@@ -1,11 +1,10 @@
 -- The weights of the expressions of an instance by tables, and the least offset of what is too wide.
-use Rattle.std.specs.Prelude.{ℕ, ◌+◌, ◌*◌, max, Bool, true, cond, nat_abs, unwrap_or, Option, Some, slice_index_or}
-use Rattle.std.specs.Prelude.{None as Nothing}
+use Rattle.std.specs.Prelude.{ℕ, ◌+◌, ◌*◌, max, Bool, true, cond, nat_abs, unwrap_or, Option, Some, slice_index_or, None as Nothing}
 use Rattle.rv_base.specs.declared.value.Value.{Value}
-use Rattle.rv_syntax.specs.declared.tree.Op.{Op}
-use Rattle.rv_syntax.specs.declared.tree.Op.TheVariants as op
-use Rattle.rv_syntax.specs.Tree.{Tree, Node, Form, True, False, Number, Named, Not, Minus, Pre, Current, When, Binary, If, AtMostOne, Call, Trees, None, More, node_tree}
-use Rattle.rv_syntax.specs.Places.{Identifier, site_of}
+use Rattle.rv_tree.specs.declared.tree.Op.{Op}
+use Rattle.rv_tree.specs.declared.tree.Op.TheVariants as op
+use Rattle.rv_tree.specs.Tree.{Tree, Node, Form, True, False, Number, Named, Not, Minus, Pre, Current, When, Binary, If, AtMostOne, Call, Trees, None, More, node_tree}
+use Rattle.rv_tree.specs.Places.{Identifier, site_of}
 use Rattle.rv_types.specs.declared.weighing.Weighed.{Weighed}
 use Rattle.rv_types.specs.Constants.{whole_in}
 use Rattle.rv_types.specs.ConstantParts.{constant_part}
@@ -14,8 +13,8 @@ use Rattle.rv_types.specs.Types.{Scope}
 use Rattle.rv_types.specs.ValueTables.{value_by}
 use Rattle.rv_types.specs.WideConstants.{lesser, wide_at}
 use Rattle.rv_causality.specs.declared.weights.Weigher.{Weigher}
-use Rattle.rv_causality.specs.Layouts.{here_of}
-use Rattle.rv_causality.specs.Weights.{weight_under}
+use Rattle.rv_instances.specs.Layouts.{here_of}
+use Rattle.rv_instances.specs.Weights.{weight_under}
 
 -- What the weights in an instance depend on: which names are constants and labels, what these stand for, and the
 -- weights of flows and, by the sites of calls, of outputs.

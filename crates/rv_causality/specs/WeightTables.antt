@@ -1,18 +1,18 @@
 -- The weights of the flows of all instances by their numbers.
 use Rattle.std.specs.Prelude.{◌≡◌, ℕ, ◌+◌, ◌^◌, ◌<◌, min, List, length, map, unwrap_or, slice_index_or}
-use Rattle.rv_syntax.specs.Tree.{Tree, Node, ProgramTree, tree_of}
-use Rattle.rv_syntax.specs.Places.{Identifier, Sites, site_of}
+use Rattle.rv_tree.specs.Tree.{Tree, Node, ProgramTree, tree_of}
+use Rattle.rv_tree.specs.Places.{Identifier, Sites, site_of}
 use Rattle.rv_types.specs.Needs.{IsSequence}
 use Rattle.rv_types.specs.Scopes.{is_fixed}
-use Rattle.rv_syntax.specs.Limits.{too_heavy}
+use Rattle.rv_tree.specs.Limits.{too_heavy}
 use Rattle.rv_types.specs.ValueTables.{NamedTables, value_by}
-use Rattle.rv_causality.specs.declared.answer.Instance.{Instance as Numbered}
-use Rattle.rv_causality.specs.declared.givers.Giver.{Giver as Told}
-use Rattle.rv_causality.specs.declared.givers.Giver.TheVariants.{Input, Body, Output}
-use Rattle.rv_causality.specs.declared.layout.Layout.{Layout}
-use Rattle.rv_causality.specs.Flowing.{place_at}
-use Rattle.rv_causality.specs.Layouts.{here_of, node_at, all_places}
-use Rattle.rv_causality.specs.Weights.{AreWeights}
+use Rattle.rv_instances.specs.declared.answer.Instance.{Instance as Numbered}
+use Rattle.rv_instances.specs.declared.givers.Giver.{Giver as Told}
+use Rattle.rv_instances.specs.declared.givers.Giver.TheVariants.{Input, Body, Output}
+use Rattle.rv_instances.specs.declared.layout.Layout.{Layout}
+use Rattle.rv_instances.specs.Flowing.{place_at}
+use Rattle.rv_instances.specs.Layouts.{here_of, node_at, all_places}
+use Rattle.rv_instances.specs.Weights.{AreWeights}
 use Rattle.rv_causality.specs.Weighing.{Weighing, fixing, weight_in}
 
 -- what the tables say of the instance with a number

@@ -1,17 +1,16 @@
 -- The least offset of what is too wide in a node and in all instances.
-use Rattle.std.specs.Prelude.{ℕ, zero, suc, true, List, [], ◌∷◌, Option}
-use Rattle.std.specs.Prelude.{None as Nothing}
-use Rattle.rv_syntax.specs.declared.tree.Name.{Name}
-use Rattle.rv_syntax.specs.Tree.{Tree, Node, Call, EquationTree, AssertionTree, NodeTree, ProgramTree}
-use Rattle.rv_syntax.specs.Places.{Identifier}
+use Rattle.std.specs.Prelude.{ℕ, zero, suc, true, List, [], ◌∷◌, Option, None as Nothing}
+use Rattle.rv_tree.specs.declared.tree.Name.{Name}
+use Rattle.rv_tree.specs.Tree.{Tree, Node, Call, EquationTree, AssertionTree, NodeTree, ProgramTree}
+use Rattle.rv_tree.specs.Places.{Identifier}
 use Rattle.rv_types.specs.ValueTables.{NamedTables}
 use Rattle.rv_types.specs.WideConstants.{lesser}
-use Rattle.rv_causality.specs.declared.answer.Instance.{Instance as Numbered}
+use Rattle.rv_instances.specs.declared.answer.Instance.{Instance as Numbered}
 use Rattle.rv_causality.specs.declared.fault.CauseFault.{CauseFault}
 use Rattle.rv_causality.specs.declared.fault.CauseFault.TheVariants.{Recursive, Cycle, TooLarge, TooWide, Memory}
-use Rattle.rv_causality.specs.declared.layout.Layout.{Layout}
-use Rattle.rv_causality.specs.Layouts.{node_at}
-use Rattle.rv_causality.specs.Weights.{IsFirstTooWide}
+use Rattle.rv_instances.specs.declared.layout.Layout.{Layout}
+use Rattle.rv_instances.specs.Layouts.{node_at}
+use Rattle.rv_instances.specs.Weights.{IsFirstTooWide}
 use Rattle.rv_causality.specs.Weighing.{Weighing, first_in, first_in_all}
 use Rattle.rv_causality.specs.WeightTables.{weighing_at}
 

@@ -1,16 +1,16 @@
 //! The bits of control memories and inputs.
 
 ghost use Rattle.std.specs.Prelude.{◌≡◌, ◌≤◌, ℕ, map, IfOk};
-ghost use Rattle.rv_causality.specs.Bits.{bits_of as bits_of_type, bits_of_all};
+ghost use Rattle.rv_instances.specs.Bits.{bits_of as bits_of_type, bits_of_all};
 ghost use Rattle.rv_causality.specs.Capped.{capped};
 ghost use Rattle.rv_types.specs.Variables.{bits_for as least_bits};
 ghost use Rattle.rv_types.specs.Values.{labels_at as labels_of_type};
-ghost use Rattle.rv_syntax.specs.Limits.{heaviest};
+ghost use Rattle.rv_tree.specs.Limits.{heaviest};
 
 use crate::declared_sizes::labels_in;
 use crate::totals::capped_sum;
 use rv_base::{Many, Memory};
-use rv_syntax::TypeDecl;
+use rv_tree::TypeDecl;
 use rv_types::Kind;
 use std::alloc::Global;
 

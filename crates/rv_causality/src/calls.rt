@@ -1,16 +1,17 @@
 //! The calls of the nodes of a program.
 
 ghost use Rattle.std.specs.Prelude.{◌≡◌, ◌++◌, ◌∷◌, ◌≤◌, [], map, length, unwrap_or, IfOk, OnOk};
-ghost use Rattle.rv_syntax.specs.Limits.{source_limit};
-ghost use Rattle.rv_syntax.specs.Places.{index_of};
-ghost use Rattle.rv_syntax.specs.Tree.{tree_of, trees, node_tree, equation_tree, assertion_tree, program_tree};
+ghost use Rattle.rv_tree.specs.Limits.{source_limit};
+ghost use Rattle.rv_tree.specs.Places.{index_of};
+ghost use Rattle.rv_tree.specs.Tree.{tree_of, trees, node_tree, equation_tree, assertion_tree, program_tree};
 ghost use Rattle.rv_types.specs.Names.{name_faults};
 ghost use Rattle.rv_types.specs.Instances.{calls, calls_in, calls_in_all, calls_in_equations, calls_in_assertions};
-ghost use Rattle.rv_causality.specs.Callings.{callings, callings_of, callees, call_graph, names_of};
+ghost use Rattle.rv_causality.specs.Callings.{callings, callings_of, callees, call_graph};
+ghost use Rattle.rv_instances.specs.AllInstances.{names_of};
 
 use crate::names::Names;
 use rv_base::{Many, Memory, Text};
-use rv_syntax::{Assertion, Equation, Expr, ExprForm, Node, Program};
+use rv_tree::{Assertion, Equation, Expr, ExprForm, Node, Program};
 use std::alloc::Global;
 
 /// A call: its offset, its site in its node, and the number of the node that is called.

@@ -6,9 +6,9 @@ ghost use Rattle.rv_causality.specs.Graphs.{IsGraph};
 ghost use Rattle.rv_causality.specs.Components.{mark_of, AreComponents, HasMark, IsParted, IsReversed, IsTurned};
 
 use crate::finishing::finishing_order;
-use crate::graph::all_equal;
 use crate::reach::reach;
 use rv_base::{Many, Memory};
+use rv_instances::all_equal;
 use std::alloc::Global;
 
 /// For each vertex the number of a vertex of its component. From each root that has no component yet it searches twice:

@@ -1,13 +1,14 @@
 //! What declarations alone tell of the size of a program: its inputs and its enumerations.
 
 ghost use Rattle.std.specs.Prelude.{◌≡◌, ◌≤◌, cond, length, map};
-ghost use Rattle.rv_syntax.specs.Tree.{ProgramTree, node_tree};
+ghost use Rattle.rv_tree.specs.Tree.{ProgramTree, node_tree};
 ghost use Rattle.rv_types.specs.Kinds.{flow_kinds};
-ghost use Rattle.rv_causality.specs.Sizes.{integer_inputs, first_above};
+ghost use Rattle.rv_instances.specs.Counts.{integer_inputs};
+ghost use Rattle.rv_causality.specs.Sizes.{first_above};
 ghost use Rattle.rv_types.specs.Variables.{total, is_integer};
 ghost use Rattle.rv_types.specs.Values.{label_count};
 
-use rv_syntax::{Node, TypeBody, TypeDecl};
+use rv_tree::{Node, TypeBody, TypeDecl};
 use rv_types::Kind;
 
 /// The most labels of an enumeration.

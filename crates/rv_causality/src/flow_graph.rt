@@ -1,22 +1,19 @@
 //! Which flow needs which at the same instant.
 
 ghost use Rattle.std.specs.Prelude.{◌≡◌, ◌++◌, IfOk, OnOk};
-ghost use Rattle.rv_syntax.specs.Tree.{tree_of};
-ghost use Rattle.rv_causality.specs.declared.givers.Giver.TheVariants as giver;
-ghost use Rattle.rv_causality.specs.Expanded.{IsKnown, program_of, main_of};
-ghost use Rattle.rv_causality.specs.Flowing.{IsFlowGraph};
-ghost use Rattle.rv_causality.specs.Givers.{AreGivers};
+ghost use Rattle.rv_tree.specs.Tree.{tree_of};
+ghost use Rattle.rv_instances.specs.declared.givers.Giver.TheVariants as giver;
+ghost use Rattle.rv_instances.specs.Expanded.{IsKnown, program_of, main_of};
+ghost use Rattle.rv_causality.specs.FlowGraphs.{IsFlowGraph};
+ghost use Rattle.rv_instances.specs.Givers.{AreGivers};
 ghost use Rattle.rv_causality.specs.Graphs.{IsGraph};
-ghost use Rattle.rv_causality.specs.Layouts.{IsLayout, all_places};
-ghost use Rattle.rv_causality.specs.NumberedNeeds.{IsGiver, giver_numbers, site_in};
+ghost use Rattle.rv_instances.specs.Layouts.{IsLayout, all_places};
+ghost use Rattle.rv_instances.specs.NumberedNeeds.{IsGiver, giver_numbers, site_in};
 
-use crate::expanded::Expanded;
-use crate::givers::{BodyOf, Giver, OutputOf};
-use crate::layout::Layout;
 use crate::needs::{add_flow, add_needs};
-use crate::reader::Reader;
 use rv_base::{Many, Memory};
-use rv_syntax::Expr;
+use rv_instances::{BodyOf, Expanded, Giver, Layout, OutputOf, Reader};
+use rv_tree::Expr;
 use std::alloc::Global;
 
 /// For each flow, by its number, the numbers of the flows that it needs at the same instant. Time grows with the number

@@ -1,21 +1,18 @@
 //! The weights of the flows of all instances.
 
 ghost use Rattle.std.specs.Prelude.{◌≡◌, ◌<◌, length, IfOk};
-ghost use Rattle.rv_syntax.specs.Tree.{node_tree};
+ghost use Rattle.rv_tree.specs.Tree.{node_tree};
 ghost use Rattle.rv_types.specs.Scopes.{constant_value};
 ghost use Rattle.rv_types.specs.ValueTables.{value_by};
-ghost use Rattle.rv_causality.specs.Expanded.{IsKnown, program_of, main_of};
-ghost use Rattle.rv_causality.specs.Givers.{AreGivers};
-ghost use Rattle.rv_causality.specs.Layouts.{IsLayout, node_at};
+ghost use Rattle.rv_instances.specs.Expanded.{IsKnown, program_of, main_of};
+ghost use Rattle.rv_instances.specs.Givers.{AreGivers};
+ghost use Rattle.rv_instances.specs.Layouts.{IsLayout, node_at};
 ghost use Rattle.rv_causality.specs.Weighing.{weighing};
 ghost use Rattle.rv_causality.specs.WeightTables.{weighing_at, told_weight, counted_weight, IsToldWithin, IsNumbered, AreFlowWeights};
 
-use crate::expanded::Expanded;
-use crate::givers::Giver;
-use crate::graph::all_equal;
-use crate::layout::Layout;
 use crate::weights::{Weigher, output_number, weigh, weight_at};
 use rv_base::{Many, Memory};
+use rv_instances::{Expanded, Giver, Layout, all_equal};
 use rv_types::NamedValues;
 use std::alloc::Global;
 

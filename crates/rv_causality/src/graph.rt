@@ -5,6 +5,7 @@ ghost use Rattle.std.specs.List.{Contains};
 ghost use Rattle.rv_causality.specs.Graphs.{IsGraph, IsSortedOf, IsOrdered, IsLoop, IsWalk, IsNext, Keeps, edges};
 
 use rv_base::{Many, Memory};
+use rv_instances::all_equal;
 use std::alloc::Global;
 
 /// All vertices, each after those that it points to, or some of which each points to the next, and the last to the
@@ -227,15 +228,4 @@ fn first_unmarked(targets: &[u32], start: usize, marked: &[bool]) -> Option<usiz
         k += 1;
     }
     None
-}
-
-/// As many equal values.
-pub fn all_equal<T: Copy + Drop>(alloc: Global, count: usize, value: T) -> Result<Many<T>, Memory>
-    ensures { IfOk result (λ xs. xs ≡ replicate count value) }
-{
-    let mut all = Many::new(alloc);
-    for _ in 0..count {
-        all.push(value)?;
-    }
-    Ok(all)
 }

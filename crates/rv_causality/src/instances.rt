@@ -1,21 +1,21 @@
 //! The instances of a program, in the order of their paths.
 
 ghost use Rattle.std.specs.Prelude.{◌≡◌, ◌<◌, ◌++◌, ◌∷◌, [], ℕ, List, length, map, reverse, IfOk, OnOk};
-ghost use Rattle.rv_syntax.specs.Tree.{program_tree};
+ghost use Rattle.rv_tree.specs.Tree.{program_tree};
 ghost use Rattle.rv_types.specs.Names.{name_faults};
 ghost use Rattle.rv_causality.specs.Graphs.{IsGraph, IsOrdered};
 ghost use Rattle.rv_causality.specs.Callings.{call_graph};
-ghost use Rattle.rv_causality.specs.Causes.{AreInstances};
+ghost use Rattle.rv_instances.specs.AllInstances.{AreInstances};
 ghost use Rattle.rv_types.specs.WellFormed.{AreSited};
 ghost use Rattle.rv_types.specs.Instances.{name_at};
 ghost use Rattle.rv_causality.specs.Nodes.{AreOrderedNodes};
 ghost use Rattle.rv_causality.specs.Listing.{called_instance, all_listed, AreSorted, AreAllSorted};
 
-use crate::answer::Instance;
 use crate::calls::Calling;
 use crate::recursion::Nodes;
 use rv_base::{Many, Memory, Path};
-use rv_syntax::Program;
+use rv_instances::Instance;
+use rv_tree::Program;
 use std::alloc::Global;
 
 /// The instances of a program, by their paths.

@@ -1,24 +1,23 @@
-//! Which instances a Lustre program has, whether each of its flows can be evaluated at an instant, and in which order.
+//! Whether a program can be run: recursion, sizes, cycles and weights.
+//!
+//! It promises that `order` answers an order of evaluation exactly for the accepted programs, and the first fault of the others:
+//! a node that reaches itself by calls, a quantity above its limit, flows that need each other at one instant, or an expression
+//! that is too wide (`IsAccepted` and `IsCause` of specs/Causes.antt). By `ordered_fits` what is answered fits the program, which
+//! is all that the builder of flat systems takes. It stands on `rv_instances` for instances, layout and givers. Begin with
+//! ordering.rt, then specs/Causes.antt.
 #![tactic(auto)]
 
-mod answer;
 mod bits;
-mod callees;
 mod calls;
-mod clocked_calls;
 mod components;
 mod declared_sizes;
-mod expanded;
 mod fault;
 mod finishing;
 mod flow_graph;
 mod flow_weights;
-mod flows;
-mod givers;
 mod graph;
 mod instances;
 mod laws;
-mod layout;
 mod measure;
 mod memories;
 mod memory_sizes;
@@ -27,13 +26,10 @@ mod needs;
 mod order_tests;
 mod ordering;
 mod reach;
-mod reader;
-mod reading;
 mod recursion;
 mod sequence;
 mod sites;
 mod sizes;
-mod source;
 mod ticks;
 mod totals;
 mod variables;
@@ -41,19 +37,7 @@ mod weight_check;
 mod weight_laws;
 mod weights;
 
-pub use answer::{Instance, Order};
-pub use callees::Callees;
-pub use expanded::Expanded;
 pub use fault::{CauseFault, Quantity};
-pub use flows::flows_in;
-pub use givers::{BodyOf, Giver, OutputOf, givers_of};
-pub use laws::{
-    counted_instances, expanded_program, flow_places, instance_numbers, no_cycle,
-    numbered_instances, one_giver,
-};
-pub use layout::{Laid, Layout, layout_of, number_of_clock};
+pub use laws::{counted_instances, expanded_program, no_cycle, ordered_fits};
 pub use ordering::order;
-pub use reader::Reader;
-pub use reading::read_source;
-pub use sequence::{Flow, places_of};
-pub use source::{Source, SourceFault};
+pub use rv_instances::{Instance, Order, Source};

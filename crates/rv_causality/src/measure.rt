@@ -1,23 +1,22 @@
 //! How large a program is.
 
 ghost use Rattle.std.specs.Prelude.{◌≡◌, ◌<◌, ◌≤◌, [], length, map, IfOk, IfErr};
-ghost use Rattle.rv_syntax.specs.Bounded.{IsBounded};
-ghost use Rattle.rv_syntax.specs.Tree.{program_tree};
+ghost use Rattle.rv_tree.specs.Bounded.{IsBounded};
+ghost use Rattle.rv_tree.specs.Tree.{program_tree};
 ghost use Rattle.rv_types.specs.Kinds.{flow_kinds};
 ghost use Rattle.rv_types.specs.Names.{name_faults};
-ghost use Rattle.rv_types.specs.Instances.{node_of};
-ghost use Rattle.rv_causality.specs.Sizes.{instance_count, expanded, integer_memories, integer_inputs, measures, AreWithin};
+ghost use Rattle.rv_types.specs.Instances.{node_of, name_at};
+ghost use Rattle.rv_instances.specs.Counts.{instance_count, expanded, integer_memories, integer_inputs};
+ghost use Rattle.rv_causality.specs.Sizes.{measures, AreWithin};
 ghost use Rattle.rv_types.specs.Variables.{over_instances, variable_count};
 ghost use Rattle.rv_causality.specs.Capped.{capped};
 ghost use Rattle.rv_causality.specs.Callings.{callings_of};
 ghost use Rattle.rv_causality.specs.Totals.{AreCapped, total_at};
 ghost use Rattle.rv_types.specs.WellFormed.{AreSited};
-ghost use Rattle.rv_types.specs.Instances.{name_at};
 ghost use Rattle.rv_causality.specs.Nodes.{AreOrderedNodes, IsSizeFault, IsSmall, IsSized};
 
 use crate::declared_sizes::{integer_inputs_of, labels_above};
 use crate::fault::{CauseFault, Quantity};
-use crate::graph::all_equal;
 use crate::memories::memories_of;
 use crate::memory_sizes::integer_memories_of;
 use crate::recursion::Nodes;
@@ -26,7 +25,8 @@ use crate::ticks::tick_total_of;
 use crate::totals::totals;
 use crate::variables::variables_of;
 use rv_base::{Many, Memory};
-use rv_syntax::{HEAVIEST, Program};
+use rv_instances::all_equal;
+use rv_tree::{HEAVIEST, Program};
 use rv_types::{Typed, program_tables};
 use std::alloc::Global;
 

@@ -1,8 +1,8 @@
 //! The memories of nodes: what `pre` and `current` read.
 
 ghost use Rattle.std.specs.Prelude.{◌≡◌, ◌++◌, ◌∷◌, [], cond, map, unwrap_or, IfOk, OnOk};
-ghost use Rattle.rv_syntax.specs.Delays.{delays, delays_of_all, delays_in_equations, delays_in_assertions};
-ghost use Rattle.rv_syntax.specs.Tree.{ProgramTree, tree_of, trees, node_tree, equation_tree, assertion_tree, program_tree};
+ghost use Rattle.rv_tree.specs.Delays.{delays, delays_of_all, delays_in_equations, delays_in_assertions};
+ghost use Rattle.rv_tree.specs.Tree.{ProgramTree, tree_of, trees, node_tree, equation_tree, assertion_tree, program_tree};
 ghost use Rattle.rv_types.specs.Names.{name_faults, texts, repeated, decl_names, decls};
 ghost use Rattle.rv_types.specs.Readings.{AreTables, view_of};
 ghost use Rattle.rv_types.specs.Tables.{scope_of};
@@ -11,7 +11,7 @@ ghost use Rattle.rv_causality.specs.Memories.{site_in, read_of, reads, with_site
 
 use crate::sites::Sites;
 use rv_base::{Many, Memory};
-use rv_syntax::{Assertion, Equation, Expr, ExprForm, Node, Program};
+use rv_tree::{Assertion, Equation, Expr, ExprForm, Node, Program};
 use rv_types::{Kind, NodeTables, ProgramTables, flow_site, node_tables, operand_kind};
 use std::alloc::Global;
 

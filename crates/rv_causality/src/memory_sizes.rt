@@ -6,7 +6,7 @@ ghost use Rattle.rv_causality.specs.Memories.{integers};
 
 use crate::declared_sizes::integers_among;
 use rv_base::{Many, Memory};
-use rv_syntax::HEAVIEST;
+use rv_tree::HEAVIEST;
 use rv_types::Kind;
 use std::alloc::Global;
 

@@ -1,7 +1,7 @@
 //! Names and their numbers.
 
 ghost use Rattle.std.specs.Prelude.{◌≡◌, ◌<◌, [], length, IfOk, IfSome, OnErr, is_some, not};
-ghost use Rattle.rv_syntax.specs.Places.{is_among, index_of};
+ghost use Rattle.rv_tree.specs.Places.{is_among, index_of};
 ghost use Rattle.rv_causality.specs.Numbering.{with_name};
 
 use indexmap::IndexSet;

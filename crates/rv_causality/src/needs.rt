@@ -1,12 +1,12 @@
 //! What flows need at the same instant.
 
 ghost use Rattle.std.specs.Prelude.{◌≡◌, ◌++◌, ◌∷◌, [], map, unwrap_or, OnOk};
-ghost use Rattle.rv_syntax.specs.Tree.{tree_of, trees};
-ghost use Rattle.rv_causality.specs.NumberedNeeds.{IsReader, listed, numbers_needed, numbers_of_all, node_read, numbers_of};
+ghost use Rattle.rv_tree.specs.Tree.{tree_of, trees};
+ghost use Rattle.rv_instances.specs.NumberedNeeds.{IsReader, listed, numbers_needed, numbers_of_all, node_read, numbers_of};
 
-use crate::reader::Reader;
 use rv_base::{Many, Memory};
-use rv_syntax::{Expr, ExprForm};
+use rv_instances::Reader;
+use rv_tree::{Expr, ExprForm};
 
 /// Adds the numbers of the flows that an expression needs, which stands on the clock of a flow. It calls itself for
 /// each operand, so as deep as the tree is: 20,101 levels at most.

@@ -1,7 +1,7 @@
 //! How many order tests the comparisons of integers in a node are.
 
 ghost use Rattle.std.specs.Prelude.{◌≡◌, ◌≤◌, [], cond, map, IfOk};
-ghost use Rattle.rv_syntax.specs.Tree.{ProgramTree, tree_of, trees, node_tree, equation_tree, assertion_tree, program_tree};
+ghost use Rattle.rv_tree.specs.Tree.{ProgramTree, tree_of, trees, node_tree, equation_tree, assertion_tree, program_tree};
 ghost use Rattle.rv_types.specs.Names.{name_faults, repeated, decl_names, decls};
 ghost use Rattle.rv_types.specs.Readings.{AreTables, view_of};
 ghost use Rattle.rv_types.specs.Tables.{scope_of};
@@ -11,7 +11,7 @@ ghost use Rattle.rv_causality.specs.Tests.{tests, tests_of_all, tests_under};
 
 use crate::totals::capped_sum;
 use rv_base::{Many, Memory};
-use rv_syntax::{Assertion, Equation, Expr, ExprForm, Node, Op, Program};
+use rv_tree::{Assertion, Equation, Expr, ExprForm, Node, Op, Program};
 use rv_types::{Kind, NodeTables, ProgramTables, node_tables, operand_kind};
 use std::alloc::Global;
 

@@ -1,47 +1,46 @@
 //! The rules of recursion, size, cycles and weights, in turn.
 
 ghost use Rattle.std.specs.Prelude.{◌≡◌, IfOk, IfErr};
-ghost use Rattle.rv_syntax.specs.Bounded.{IsTreeOfText};
-ghost use Rattle.rv_syntax.specs.Tree.{program_tree};
+ghost use Rattle.rv_tree.specs.SourceTrees.{IsSourceTree};
+ghost use Rattle.rv_tree.specs.Tree.{program_tree};
 ghost use Rattle.rv_types.specs.Instances.{name_at};
 ghost use Rattle.rv_types.specs.Scopes.{constant_values};
 ghost use Rattle.rv_types.specs.Settled.{IsAnswer};
 ghost use Rattle.rv_causality.specs.declared.fault.CauseFault.{CauseFault};
 ghost use Rattle.rv_causality.specs.Causes.{IsAccepted, IsOrder, IsCause, HasCause, Orders, Refuses};
-ghost use Rattle.rv_causality.specs.Expanded.{IsExpanded, IsKnown, program_of, main_of};
-ghost use Rattle.rv_causality.specs.Flowing.{all_flows, IsCycleFault};
-ghost use Rattle.rv_causality.specs.Givers.{AreGivers};
-ghost use Rattle.rv_causality.specs.Layouts.{IsLayout};
+ghost use Rattle.rv_instances.specs.Expanded.{IsExpanded, IsKnown, program_of, main_of};
+ghost use Rattle.rv_instances.specs.Flowing.{all_flows};
+ghost use Rattle.rv_causality.specs.FlowGraphs.{IsCycleFault};
+ghost use Rattle.rv_instances.specs.Givers.{AreGivers};
+ghost use Rattle.rv_instances.specs.Layouts.{IsLayout};
 ghost use Rattle.rv_causality.specs.Sequenced.{AreSequenced, IsSequenceFault};
 ghost use Rattle.rv_causality.specs.WeightTables.{IsNumbered};
-ghost use Rattle.rv_causality.specs.Weights.{AreLight};
+ghost use Rattle.rv_instances.specs.Weights.{AreLight};
 ghost use Rattle.rv_causality.specs.WideNodes.{IsWideFault};
 
-use crate::answer::{Instance, Order};
-use crate::expanded::Expanded;
 use crate::fault::CauseFault;
 use crate::flow_graph::flow_graph;
-use crate::flows::flows_in;
-use crate::givers::{Giver, givers_of};
 use crate::instances::instances;
-use crate::layout::{Layout, layout_of};
 use crate::measure::check_sizes;
 use crate::recursion::check;
-use crate::sequence::{Flow, evaluation, places_of};
+use crate::sequence::evaluation;
 use crate::weight_check::check_weights;
 use rv_base::{Many, Place, Value};
-use rv_syntax::{Program, bounded_tree};
+use rv_instances::{
+    Expanded, Flow, Giver, Instance, Layout, Order, flows_in, givers_of, layout_of, places_of,
+};
+use rv_tree::Program;
 use rv_types::{Typed, program_tables, sited_programs, well_formed_programs};
 use std::alloc::Global;
 
 /// Expands the instances of the main node of a program whose names, types and clocks are right, checks that it can be
-/// evaluated, and answers an order of evaluation. The program is to be the tree of a text within the limit.
+/// evaluated, and answers an order of evaluation. The program is to be the tree of a source.
 ///
 /// Otherwise it answers the first fault: recursion of nodes, then sizes, cycles and weights. `Memory` comes where
 /// memory runs out. Time grows with the number of expressions of all instances and with the length of the places in
 /// the answer, up to look-ups of names.
 pub fn order(alloc: Global, p: &Program, t: &Typed) -> Result<Order, CauseFault>
-    requires text { IsTreeOfText (program_tree p.now) }
+    requires tree { IsSourceTree (program_tree p.now) }
     requires settled { IsAnswer (program_tree p.now) t.now }
     // What is answered is an order of an accepted program.
     ensures found { IfOk result (IsOrder (program_tree p.now) (name_at (program_tree p.now) t.now.main)) }
@@ -52,7 +51,6 @@ pub fn order(alloc: Global, p: &Program, t: &Typed) -> Result<Order, CauseFault>
     // Where a fault is the first it is answered, or another cycle where it is one, unless memory runs out.
     ensures only_refused { (f : CauseFault) → IsCause (program_tree p.now) (name_at (program_tree p.now) t.now.main) f → Refuses f result }
 {
-    bounded_tree();
     sited_programs();
     well_formed_programs();
     let nodes = match check(alloc, p) {

@@ -3,8 +3,8 @@
 ghost use Rattle.std.specs.Prelude.{◌≡◌, ◌<◌, ◌^◌, [], ◌∷◌, ℕ, length, slice_index_or, IfOk, IfErr};
 ghost use Rattle.std.specs.Bool.{MatchBool};
 ghost use Rattle.std.specs.List.{Contains};
-ghost use Rattle.rv_syntax.specs.Bounded.{IsBounded};
-ghost use Rattle.rv_syntax.specs.Tree.{program_tree};
+ghost use Rattle.rv_tree.specs.Bounded.{IsBounded};
+ghost use Rattle.rv_tree.specs.Tree.{program_tree};
 ghost use Rattle.rv_types.specs.Names.{name_faults};
 ghost use Rattle.rv_causality.specs.Nodes.{AreOrderedNodes, IsRecursionOf};
 ghost use Rattle.rv_causality.specs.declared.calls.Calling.{Calling as CallingModel};
@@ -19,7 +19,7 @@ use crate::graph::{Sorted, sort};
 use crate::names::Names;
 use crate::reach::are_same;
 use rv_base::Many;
-use rv_syntax::Program;
+use rv_tree::Program;
 use std::alloc::Global;
 
 /// The names of the nodes, their calls, and an order in which each stands after those that it calls.

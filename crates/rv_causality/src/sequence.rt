@@ -1,26 +1,18 @@
 //! Sequences of flows in which each stands after those that it needs, and cycles.
 
-ghost use Rattle.std.specs.Prelude.{◌≡◌, ◌<◌, ◌≤◌, ◌^◌, ℕ, List, length, map, IfOk, IfErr, slice_index_or};
-ghost use Rattle.std.specs.List.{Contains};
-ghost use Rattle.rv_syntax.specs.Tree.{ProgramTree};
-ghost use Rattle.rv_syntax.specs.Places.{Identifier};
+ghost use Rattle.std.specs.Prelude.{◌≡◌, ◌<◌, ◌≤◌, ◌^◌, ℕ, length, map, IfOk, IfErr, slice_index_or};
+ghost use Rattle.rv_tree.specs.Tree.{ProgramTree};
+ghost use Rattle.rv_tree.specs.Places.{Identifier};
 ghost use Rattle.rv_causality.specs.Graphs.{IsGraph};
 ghost use Rattle.rv_types.specs.Needs.{IsSequence};
-ghost use Rattle.rv_types.specs.Lists.{sites_of};
-ghost use Rattle.rv_causality.specs.Flowing.{flow_sites, flow_places, place_at, AreOf, IsFlowGraph, AreTurned, IsCycleFault};
+ghost use Rattle.rv_instances.specs.Flowing.{flow_places, place_at, AreOf};
+ghost use Rattle.rv_causality.specs.FlowGraphs.{IsFlowGraph, AreTurned, IsCycleFault};
 
-use crate::answer::Instance;
 use crate::fault::CauseFault;
 use crate::graph::{Sorted, sort};
-use rv_base::{Many, Memory, Place, Sites};
+use rv_base::{Many, Memory};
+use rv_instances::{Flow, Instance, places_of};
 use std::alloc::Global;
-
-/// A flow: the number of its instance and its site in the node.
-#[derive(Clone, Copy, Debug, PartialEq, Eq)]
-pub struct Flow {
-    pub instance: u32,
-    pub site: u32,
-}
 
 /// A sequence of all flows by their numbers, each after those that it needs, or a cycle from its least place on. The graph
 /// says which flow needs which; places are made for the cycle alone.
@@ -45,34 +37,6 @@ pub fn evaluation(
             Err(CauseFault::Cycle(places_of(alloc, instances, flows, turned.as_slice())?))
         }
     }
-}
-
-/// The places of flows by their numbers.
-pub fn places_of(
-    alloc: Global,
-    instances: &Many<Instance>,
-    flows: &Many<Flow>,
-    numbers: &[u32],
-) -> Result<Many<Place>, Memory>
-    requires instances { AreOf instances.now flows.now }
-    requires numbers { (k : ℕ) → Contains numbers.now k → k < length flows.now }
-    ensures { IfOk result (λ places. sites_of places ≡ map (place_at (flow_places instances.now flows.now)) numbers.now) }
-{
-    let mut places = Many::new(alloc);
-    for number in numbers {
-        places.push(place_of(instances, *flows.at(*number as usize))?)?;
-    }
-    Ok(places)
-}
-
-/// The place of a flow.
-fn place_of(instances: &Many<Instance>, flow: Flow) -> Result<Place, Memory>
-    requires { flow.instance < length instances.now }
-    ensures { IfOk result (λ place. place.sites ≡ flow_sites instances.now flow) }
-{
-    let instance = instances.at(flow.instance as usize);
-    let sites = Sites::within(&instance.path, flow.site)?;
-    Ok(Place { sites })
 }
 
 /// Numbers turned so that they begin with the least.

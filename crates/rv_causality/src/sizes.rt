@@ -1,14 +1,14 @@
 //! How many expressions there are in a node.
 
 ghost use Rattle.std.specs.Prelude.{◌≡◌, map, IfOk};
-ghost use Rattle.rv_syntax.specs.Tree.{tree_of, trees, node_tree, equation_tree, assertion_tree, program_tree};
-ghost use Rattle.rv_causality.specs.Sizes.{size, size_of_all, node_size};
+ghost use Rattle.rv_tree.specs.Tree.{tree_of, trees, node_tree, equation_tree, assertion_tree, program_tree};
+ghost use Rattle.rv_instances.specs.Counts.{size, size_of_all, node_size};
 ghost use Rattle.rv_types.specs.Variables.{total};
 ghost use Rattle.rv_causality.specs.Capped.{capped, capped_sizes};
 
 use crate::totals::capped_sum;
 use rv_base::{Many, Memory};
-use rv_syntax::{Assertion, Equation, Expr, ExprForm, Node, Program};
+use rv_tree::{Assertion, Equation, Expr, ExprForm, Node, Program};
 use std::alloc::Global;
 
 /// For each node the number of its expressions, or 2^40 where that is less.

@@ -1,28 +1,28 @@
 //! The ticks of a program: the clocks on which `->` stand.
 
 ghost use Rattle.std.specs.Prelude.{◌≡◌, ◌<◌, ◌^◌, ◌++◌, [], length, map, flat_map, slice_set, IfOk, OnOk};
-ghost use Rattle.rv_syntax.specs.Bounded.{IsBounded};
-ghost use Rattle.rv_syntax.specs.Places.{Identifier, flows, index_of};
-ghost use Rattle.rv_syntax.specs.Tree.{ProgramTree, tree_of, trees, node_tree, equation_tree, assertion_tree, program_tree};
+ghost use Rattle.rv_tree.specs.Bounded.{IsBounded};
+ghost use Rattle.rv_tree.specs.Places.{Identifier, flows, index_of};
+ghost use Rattle.rv_tree.specs.Tree.{ProgramTree, tree_of, trees, node_tree, equation_tree, assertion_tree, program_tree};
 ghost use Rattle.rv_types.specs.Clocks.{pace, pace_of_all, binary_pace, current_pace, seen, grounded, meet};
-ghost use Rattle.rv_types.specs.Instances.{node_of, taken};
+ghost use Rattle.rv_types.specs.Instances.{node_of, taken, name_at};
 ghost use Rattle.rv_types.specs.declared.typed.Clock.TheVariants.{Base};
 ghost use Rattle.rv_types.specs.Names.{name_faults, repeated, decl_names, decls};
 ghost use Rattle.rv_causality.specs.Capped.{capped};
 ghost use Rattle.rv_types.specs.WellFormed.{AreSited};
-ghost use Rattle.rv_types.specs.Instances.{name_at};
 ghost use Rattle.rv_causality.specs.Nodes.{AreOrderedNodes};
 ghost use Rattle.rv_types.specs.Variables.{ticks as tick_places};
 ghost use Rattle.rv_causality.specs.Ticks.{has_base, sites_of_clocks, tick_total, own_ticks};
-ghost use Rattle.rv_causality.specs.TickWalk.{arrow_clock, handed_clock, is_new_site, with_clock, ticks_on_base, walked, walked_all, walked_node};
+ghost use Rattle.rv_instances.specs.ArrowClocks.{arrow_clock};
+ghost use Rattle.rv_causality.specs.TickWalk.{handed_clock, is_new_site, with_clock, ticks_on_base, walked, walked_all, walked_node};
 
-use crate::graph::all_equal;
 use crate::measure::total_of;
 use crate::names::Names;
 use crate::recursion::Nodes;
 use crate::sites::Sites;
 use rv_base::{Many, Memory, Text};
-use rv_syntax::{Assertion, Equation, Expr, ExprForm, HEAVIEST, Node, Op, Program};
+use rv_instances::all_equal;
+use rv_tree::{Assertion, Equation, Expr, ExprForm, HEAVIEST, Node, Op, Program};
 use rv_types::{
     Clock, NodeClocks, Pace, called_pace, choice_pace, delayed_pace, joined_pace, kept_pace,
     node_clocks, operator_pace,

@@ -5,13 +5,13 @@ ghost use Rattle.std.specs.List.{Contains};
 ghost use Rattle.rv_causality.specs.declared.calls.Calling.{Calling as CallingModel};
 ghost use Rattle.rv_causality.specs.Graphs.{IsGraph, IsOrdered};
 ghost use Rattle.rv_causality.specs.Callings.{call_graph};
-ghost use Rattle.rv_syntax.specs.Limits.{heaviest};
+ghost use Rattle.rv_tree.specs.Limits.{heaviest};
 ghost use Rattle.rv_causality.specs.Totals.{AreTotals, AreCapped, called_total};
 
 use crate::calls::Calling;
-use crate::graph::all_equal;
 use rv_base::{Many, Memory};
-use rv_syntax::HEAVIEST;
+use rv_instances::all_equal;
+use rv_tree::HEAVIEST;
 use std::alloc::Global;
 
 /// For each node the sum of what it and all copies of nodes below it have of their own, or 2^40 where that is less.

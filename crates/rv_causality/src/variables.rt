@@ -1,8 +1,8 @@
 //! The variables of decision diagrams.
 
 ghost use Rattle.std.specs.Prelude.{◌≡◌, ◌<◌, ◌≤◌, ◌+◌, ◌*◌, [], length, map, IfOk};
-ghost use Rattle.rv_syntax.specs.Bounded.{IsBounded};
-ghost use Rattle.rv_syntax.specs.Tree.{program_tree};
+ghost use Rattle.rv_tree.specs.Bounded.{IsBounded};
+ghost use Rattle.rv_tree.specs.Tree.{program_tree};
 ghost use Rattle.rv_types.specs.Kinds.{flow_kinds};
 ghost use Rattle.rv_types.specs.Names.{name_faults};
 ghost use Rattle.rv_types.specs.Readings.{AreTables};
@@ -11,7 +11,7 @@ ghost use Rattle.rv_types.specs.Variables.{over_instances, memory_bits, order_te
 ghost use Rattle.rv_causality.specs.Capped.{capped};
 ghost use Rattle.rv_types.specs.Instances.{name_at};
 ghost use Rattle.rv_causality.specs.Nodes.{AreOrderedNodes};
-ghost use Rattle.rv_syntax.specs.Limits.{heaviest};
+ghost use Rattle.rv_tree.specs.Limits.{heaviest};
 
 use crate::bits::{bits_of_kinds, memory_bits_of};
 use crate::measure::total_of;
@@ -20,7 +20,7 @@ use crate::order_tests::order_tests_of;
 use crate::recursion::Nodes;
 use crate::totals::capped_sum;
 use rv_base::Memory;
-use rv_syntax::{HEAVIEST, Program};
+use rv_tree::{HEAVIEST, Program};
 use rv_types::{ProgramTables, Typed, program_tables};
 use std::alloc::Global;
 

@@ -1,26 +1,24 @@
 //! Whether an expression is too wide, and the least offset of one.
 
 ghost use Rattle.std.specs.Prelude.{◌≡◌, length, map, IfOk, IfErr};
-ghost use Rattle.rv_syntax.specs.Tree.{tree_of, node_tree, equation_tree, assertion_tree};
+ghost use Rattle.rv_tree.specs.Tree.{tree_of, node_tree, equation_tree, assertion_tree};
 ghost use Rattle.rv_types.specs.Readings.{AreTables};
 ghost use Rattle.rv_types.specs.Scopes.{constant_values};
-ghost use Rattle.rv_causality.specs.Expanded.{IsKnown, program_of, main_of};
-ghost use Rattle.rv_causality.specs.Givers.{AreGivers};
-ghost use Rattle.rv_causality.specs.Layouts.{IsLayout, node_at};
+ghost use Rattle.rv_instances.specs.Expanded.{IsKnown, program_of, main_of};
+ghost use Rattle.rv_instances.specs.Givers.{AreGivers};
+ghost use Rattle.rv_instances.specs.Layouts.{IsLayout, node_at};
 ghost use Rattle.rv_causality.specs.Sided.{AreSided};
-ghost use Rattle.rv_causality.specs.Weights.{AreLight};
+ghost use Rattle.rv_instances.specs.Weights.{AreLight};
 ghost use Rattle.rv_causality.specs.Weighing.{weighing, first_in};
 ghost use Rattle.rv_causality.specs.WeightTables.{weighing_at, IsNumbered};
 ghost use Rattle.rv_causality.specs.WideNodes.{wide_in_several, wide_in_side, wide_in_equations, wide_in_assertions, wide_in_node, wide_in_first, IsWideFault};
 
-use crate::expanded::Expanded;
 use crate::fault::CauseFault;
 use crate::flow_weights::{flow_weights, weigher};
-use crate::givers::Giver;
-use crate::layout::Layout;
 use crate::weights::{Weigher, weigh, weigh_all};
 use rv_base::{Many, Value};
-use rv_syntax::{Assertion, Equation, Expr, ExprForm};
+use rv_instances::{Expanded, Giver, Layout};
+use rv_tree::{Assertion, Equation, Expr, ExprForm};
 use rv_types::{NamedValues, ProgramTables, lesser_of, named_values, wide_constant};
 use std::alloc::Global;
 

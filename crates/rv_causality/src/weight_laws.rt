@@ -1,14 +1,14 @@
 //! What follows from the definitions of weights.
 
 ghost use Rattle.std.specs.Prelude.{◌≡◌, ℕ, List};
-ghost use Rattle.rv_syntax.specs.Places.{Identifier, Sites};
-ghost use Rattle.rv_syntax.specs.Tree.{ProgramTree};
+ghost use Rattle.rv_tree.specs.Places.{Identifier, Sites};
+ghost use Rattle.rv_tree.specs.Tree.{ProgramTree};
 ghost use Rattle.rv_types.specs.Instances.{IsFlow};
 ghost use Rattle.rv_types.specs.Needs.{IsSequence};
-ghost use Rattle.rv_causality.specs.declared.answer.Instance.{Instance as InstanceModel};
-ghost use Rattle.rv_causality.specs.Expanded.{IsExpanded};
+ghost use Rattle.rv_instances.specs.declared.answer.Instance.{Instance as InstanceModel};
+ghost use Rattle.rv_instances.specs.Expanded.{IsExpanded};
 ghost use Rattle.rv_causality.specs.Sided.{AreSided};
-ghost use Rattle.rv_causality.specs.Weights.{AreWeights, AreLight, IsFirstTooWide};
+ghost use Rattle.rv_instances.specs.Weights.{AreWeights, AreLight, IsFirstTooWide};
 
 /// Where there is a sequence, the flows have weights, each of them one.
 pub(crate) fn weights_of_flows()

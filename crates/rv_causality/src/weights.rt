@@ -2,20 +2,20 @@
 
 ghost use Rattle.std.specs.Prelude.{◌≡◌, ◌≤◌, ◌+◌, ℕ, min, max, pos, cond, map, unwrap_or, slice_index_or, IfSome};
 ghost use Rattle.rv_base.specs.declared.value.Value.{Value as AnyValue};
-ghost use Rattle.rv_syntax.specs.Places.{Identifier};
-ghost use Rattle.rv_syntax.specs.Tree.{Tree, tree_of, trees, Named, Not, Minus, Pre, Current, When, Binary, If, AtMostOne, Call};
+ghost use Rattle.rv_tree.specs.Places.{Identifier};
+ghost use Rattle.rv_tree.specs.Tree.{Tree, tree_of, trees, Named, Not, Minus, Pre, Current, When, Binary, If, AtMostOne, Call};
 ghost use Rattle.std.proofs.Props.{props};
 ghost use Rattle.rv_types.specs.Constants.{counted};
 ghost use Rattle.rv_types.specs.ConstantParts.{IsBound, IsKnownBound, constant_part, constant_form, no_trues, trues_over};
 ghost use Rattle.rv_types.specs.Types.{Scope};
-ghost use Rattle.rv_syntax.specs.Limits.{too_heavy};
+ghost use Rattle.rv_tree.specs.Limits.{too_heavy};
 ghost use Rattle.rv_types.specs.WideConstants.{lesser, wide_at};
-ghost use Rattle.rv_causality.specs.Layouts.{here_of};
+ghost use Rattle.rv_instances.specs.Layouts.{here_of};
 ghost use Rattle.rv_causality.specs.Weighing.{weighing, weight_in, form_weight_in, first_in, first_below, first_in_all, product_of, weight_of_operator};
 
-use crate::layout::Layout;
 use rv_base::{Text, Value};
-use rv_syntax::{Expr, ExprForm, HEAVIEST, Op, TOO_HEAVY};
+use rv_instances::Layout;
+use rv_tree::{Expr, ExprForm, HEAVIEST, Op, TOO_HEAVY};
 use rv_types::{
     NamedValues, NodeClocks, Trues, Weighed, constant_binary, constant_flag, constant_if,
     constant_minus, constant_named, constant_not, constant_number, constant_size, lesser_of,

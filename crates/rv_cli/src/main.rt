@@ -1,9 +1,17 @@
 //! `reaver prove FILE NODE` tells whether the observer of a Lustre node is true in every run.
 #![tactic(auto)]
 
-use rv_machine::act;
+use rv_machine::{DiskFiles, StandardOut, ended_by, words};
+use rv_run::run;
 use std::process::ExitCode;
 
 fn main(rt: HostRuntime) -> ExitCode {
-    act(&rt)
+    let words = match words(&rt) {
+        Ok(words) => words,
+        Err(report) => return ended_by(&report),
+    };
+    let mut files = DiskFiles::new(&rt);
+    let mut out = StandardOut::new(&rt);
+    let outcome = run(rt.alloc(), &words, &mut files, &mut out);
+    ExitCode::from(outcome.status)
 }

@@ -11,7 +11,7 @@ use Rattle.std.specs.List.{Contains}
 use Rattle.std.specs.FinMap as finite
 use Rattle.std.specs.FinMap.{slice_cmp-IsAntisymmetric, nat_cmp-IsAntisymmetric, get-insert, get-empty}
 use Rattle.rv_base.specs.declared.value.Value.{Value}
-use Rattle.rv_syntax.specs.Places.{Identifier, Sites, is_same, is_among, index_of}
+use Rattle.rv_tree.specs.Places.{Identifier, Sites, is_same, is_among, index_of}
 use Rattle.rv_meaning.specs.Runs.{Instant, flat, cell}
 use Rattle.rv_flat.specs.FlatInstants.{Row, nth}
 use Rattle.rv_flat.specs.FlatOf.{row_of, instant_of}

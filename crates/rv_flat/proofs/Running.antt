@@ -8,8 +8,8 @@ use Rattle.std.proofs.Math.ListN.{length-map}
 use Rattle.rv_base.specs.declared.value.Value.{Value}
 use Rattle.rv_base.specs.declared.value.Place.{Place}
 use Rattle.rv_base.specs.declared.value.Value.TheVariants.{Flag, Label, Whole}
-use Rattle.rv_syntax.specs.Tree.{AssertionTree, ProgramTree}
-use Rattle.rv_syntax.specs.Places.{Identifier, Sites, index_of}
+use Rattle.rv_tree.specs.Tree.{AssertionTree, ProgramTree}
+use Rattle.rv_tree.specs.Places.{Identifier, Sites, index_of}
 use Rattle.rv_types.specs.declared.typed.Clock.TheVariants.{Base}
 use Rattle.rv_types.specs.Instances.{Instance, node_of, IsInstance, IsNode}
 use Rattle.rv_types.specs.Lists.{MemoryAt}

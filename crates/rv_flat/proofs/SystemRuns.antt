@@ -9,8 +9,8 @@ use Rattle.std.proofs.lemmas.Option.{slice_get-map, get_or_from_slice_get}
 use Rattle.std.proofs.Math.ListN.{length-map}
 use Rattle.rv_base.specs.declared.value.Value.{Value}
 use Rattle.rv_base.specs.declared.value.Value.TheVariants.{Flag, Label, Whole}
-use Rattle.rv_syntax.specs.Tree.{AssertionTree, ProgramTree}
-use Rattle.rv_syntax.specs.Places.{Identifier, Sites, index_of}
+use Rattle.rv_tree.specs.Tree.{AssertionTree, ProgramTree}
+use Rattle.rv_tree.specs.Places.{Identifier, Sites, index_of}
 use Rattle.rv_types.specs.declared.typed.Kind.{Kind}
 use Rattle.rv_types.specs.declared.typed.Kind.TheVariants as kind
 use Rattle.rv_types.specs.Instances.{node_of, Instance, IsInstance, IsNode}

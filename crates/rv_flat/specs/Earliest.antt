@@ -4,7 +4,7 @@ use Rattle.std.specs.Prelude.{None as Nothing}
 use Rattle.std.specs.Ordering.{nat_cmp, is_lt}
 use Rattle.std.specs.Cmp.Lexicographic.{slice_cmp}
 use Rattle.rv_base.specs.declared.value.Place.{Place}
-use Rattle.rv_syntax.specs.Places.{Sites}
+use Rattle.rv_tree.specs.Places.{Sites}
 
 -- whether a place stands before another
 abbrev pub is_before : Sites → Sites → Bool

@@ -3,7 +3,7 @@ use Rattle.std.specs.Prelude.{◌≡◌, ℕ, ◌<◌, Bool, false, ◌||◌, co
 use Rattle.std.specs.Prelude.{None as Nothing}
 use Rattle.rv_base.specs.declared.value.Value.{Value}
 use Rattle.rv_base.specs.declared.value.Value.TheVariants.{Flag}
-use Rattle.rv_syntax.specs.Places.{Sites}
+use Rattle.rv_tree.specs.Places.{Sites}
 use Rattle.rv_agreement.specs.Evaluation.{Found, value, integers}
 use Rattle.rv_agreement.specs.Evaluation as evaluation
 use Rattle.rv_agreement.specs.Trees.{FlatTree, Item, System}

@@ -5,8 +5,8 @@ use Rattle.std.specs.FinMap.{empty, insert}
 use Rattle.std.specs.List.{Contains}
 use Rattle.rv_base.specs.declared.value.Value.{Value}
 use Rattle.rv_base.specs.declared.value.Value.TheVariants.{Flag}
-use Rattle.rv_syntax.specs.Tree.{AssertionTree, ProgramTree}
-use Rattle.rv_syntax.specs.Places.{Identifier, Sites, names, flows, index_of}
+use Rattle.rv_tree.specs.Tree.{AssertionTree, ProgramTree}
+use Rattle.rv_tree.specs.Places.{Identifier, Sites, names, flows, index_of}
 use Rattle.rv_types.specs.declared.typed.Clock.TheVariants.{Base}
 use Rattle.rv_types.specs.Kinds.{decl_kinds, flow_kind}
 use Rattle.rv_types.specs.Names.{labels_of, texts}

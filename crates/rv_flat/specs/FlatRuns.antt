@@ -2,8 +2,8 @@
 use Rattle.std.specs.Prelude.{◌≡◌, ℕ, ◌+◌, ◌<◌, false, [], ◌∷◌, ◌++◌, map, Some}
 use Rattle.std.specs.List.{Contains}
 use Rattle.rv_base.specs.declared.value.Value.{Value}
-use Rattle.rv_syntax.specs.Tree.{AssertionTree, ProgramTree}
-use Rattle.rv_syntax.specs.Places.{Identifier, Sites}
+use Rattle.rv_tree.specs.Tree.{AssertionTree, ProgramTree}
+use Rattle.rv_tree.specs.Places.{Identifier, Sites}
 use Rattle.rv_types.specs.declared.typed.Clock.TheVariants.{Base}
 use Rattle.rv_types.specs.Instances.{Instance, IsInstance, IsNode}
 use Rattle.rv_types.specs.WellFormed.{AreWell}

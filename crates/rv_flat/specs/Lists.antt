@@ -1,6 +1,6 @@
 -- The variables and columns of a flat system, as those of its program.
 use Rattle.std.specs.Prelude.{List, [], ◌∷◌}
-use Rattle.rv_syntax.specs.Places.{Sites}
+use Rattle.rv_tree.specs.Places.{Sites}
 use Rattle.rv_types.specs.Lists.{Variable, Side}
 use Rattle.rv_types.specs.Lists as lists
 use Rattle.rv_flat.specs.declared.parts.Bit.{Bit}

@@ -1,20 +1,16 @@
--- What a step of a flat system answers.
+-- The states of a flat system in whole numbers within the range of traces, and where one leaves it.
 use Rattle.std.specs.Prelude.{◌≡◌, ℕ, ◌<◌, ◌^◌, ℤ, pos, ◌-ℤ◌, ◌≤ℤ◌, ◌<ℤ◌, true, false, List, [], map, length, Option, Some, IsTrue, slice_get, slice_index_or}
 use Rattle.std.specs.Prelude.{None as Nothing}
 use Rattle.rv_base.specs.declared.value.Place.{Place}
 use Rattle.rv_base.specs.declared.value.Value.{Value}
 use Rattle.rv_base.specs.declared.value.Value.TheVariants.{Flag, Label, Whole}
-use Rattle.rv_syntax.specs.Places.{Sites}
+use Rattle.rv_tree.specs.Places.{Sites}
 use Rattle.rv_types.specs.declared.typed.Kind.{Kind}
 use Rattle.rv_types.specs.Needs.{IsBefore}
 use Rattle.rv_flat.specs.declared.flat.Flat.{Flat}
 use Rattle.rv_flat.specs.declared.state.State.{State}
-use Rattle.rv_flat.specs.declared.state.Stepped.{Stepped}
-use Rattle.rv_flat.specs.declared.state.StepFault.{StepFault}
-use Rattle.rv_flat.specs.declared.state.StepFault.TheVariants.{Outgrown, Memory}
 use Rattle.rv_agreement.specs.Checks.{constant_fits}
-use Rattle.rv_flat.specs.FlatInstants.{Row, nth, is_on, is_on_at, nth_item, memory_items, places, memory_places, tick_clocks, value_at, IsFlatInstant, IsFlatNext}
-use Rattle.rv_flat.specs.FlatOf.{IsFlatBroken}
+use Rattle.rv_flat.specs.FlatInstants.{Row, nth, is_on_at, nth_item, memory_items, places, memory_places, tick_clocks, value_at}
 
 -- the integers from -2^63 to 2^63 - 1
 abbrev pub IsWithin : ℤ → Type 0
@@ -74,18 +70,3 @@ IsLeast Is q = Is q × ((other : Sites) → Is other → IsBefore other q → �
 abbrev pub IsLeastOf : (Sites → Type 0) → Option Place → Type 0
 IsLeastOf Is Nothing = (q : Sites) → Is q → ⊥
 IsLeastOf Is (Some p) = IsLeast Is p.sites
-
--- An instant: what the flows have, the state after it, the observer, the least place of an assertion that is false; no
--- integer leaves the range. The state after it is one where the memories take values of their types.
-pub record IsStepped (f : Flat) (now : State) (inputs : List Value) (s : Stepped) : Type 0 where
-  pub instant : IsFlatInstant f now inputs s.values
-  pub next : IsFlatNext f now inputs s.values s.next
-  pub observer : s.observer ≡ is_on (nth s.values f.observer)
-  pub broken : IsLeastOf (IsFlatBroken f now inputs s.values) s.broken
-  pub within : (q : Sites) → IsGrown f now inputs s.values q → ⊥
-  pub state : AreTaken f now inputs s.values → IsState f s.next
-
--- The fault of an instant: the least place at which an integer leaves the range. Want of memory needs no cause.
-abbrev pub IsStepFault : Flat → State → List Value → StepFault → Type 0
-IsStepFault f now inputs (Outgrown p) = (row : Row) × IsFlatInstant f now inputs row × IsLeast (IsGrown f now inputs row) p.sites
-IsStepFault f now inputs Memory = Unit {0}

@@ -2,8 +2,8 @@
 use Rattle.std.specs.Prelude.{◌≡◌, ℕ, ◌<◌, ◌≤◌, ◌↔◌, List, map, slice_index_or}
 use Rattle.std.specs.FinMap.{empty}
 use Rattle.rv_base.specs.declared.value.Value.{Value}
-use Rattle.rv_syntax.specs.Tree.{ProgramTree}
-use Rattle.rv_syntax.specs.Places.{Identifier, Sites}
+use Rattle.rv_tree.specs.Tree.{ProgramTree}
+use Rattle.rv_tree.specs.Places.{Identifier, Sites}
 use Rattle.rv_meaning.specs.Runs.{History, AssertionsHold, IsRun, cells, observed}
 use Rattle.rv_meaning.specs.Instants.{State as Brought}
 use Rattle.rv_meaning.specs.Following.{IsStateAt}

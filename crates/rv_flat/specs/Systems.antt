@@ -2,7 +2,7 @@
 use Rattle.std.specs.Prelude.{ℕ, true, List, ◌∷◌, map, length, Option, Some}
 use Rattle.std.specs.Prelude.{None as Nothing}
 use Rattle.rv_base.specs.declared.value.Value.TheVariants.{Flag}
-use Rattle.rv_syntax.specs.Places.{Sites, index_of}
+use Rattle.rv_tree.specs.Places.{Sites, index_of}
 use Rattle.rv_types.specs.declared.typed.Kind.{Kind}
 use Rattle.rv_types.specs.Lists.{MemoryAt}
 use Rattle.rv_agreement.specs.Trees.{Item, Kept, System}

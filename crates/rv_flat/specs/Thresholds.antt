@@ -2,7 +2,7 @@
 use Rattle.std.specs.Prelude.{◌≡◌, ◌⊎◌, ℕ, ◌<◌, ℤ, pos, ◌+ℤ◌, ◌-ℤ◌, neg_ℤ, ◌<ℤ◌, List, [], ◌∷◌, length, Option, slice_index_or}
 use Rattle.std.specs.List.{Contains}
 use Rattle.rv_base.specs.declared.value.Value.TheVariants.{Whole}
-use Rattle.rv_syntax.specs.Tree.{Node, Number, ConstantTree, NodeTree, ProgramTree}
+use Rattle.rv_tree.specs.Tree.{Node, Number, ConstantTree, NodeTree, ProgramTree}
 use Rattle.rv_types.specs.Scopes.{constant_values}
 use Rattle.rv_types.specs.Variables.{parts, node_parts}
 

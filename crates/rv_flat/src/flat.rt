@@ -1,7 +1,7 @@
 //! The flat system: the flows of a program by numbers, each given by an expression over earlier ones.
 
 ghost use Rattle.std.specs.Prelude.{◌≡◌, ◌<◌, ◌≤◌, length, map, IsTrue, Option, slice_get};
-ghost use Rattle.rv_syntax.specs.Places.{Sites, is_same};
+ghost use Rattle.rv_tree.specs.Places.{Sites, is_same};
 ghost use Rattle.rv_types.specs.declared.typed.Kind.TheVariants as kind;
 ghost use Rattle.rv_agreement.specs.Agreement.{AreApart};
 ghost use Rattle.rv_agreement.specs.Checks.{are_distinct, assertions_fit, clocks_fit, flows_fit, is_of, memories_fit, same_flow, same_sites};

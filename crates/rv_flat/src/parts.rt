@@ -1,7 +1,7 @@
 //! The parts of a flat system.
 
 use rv_base::{Box, Many, Place, Text, Value};
-use rv_syntax::Op;
+use rv_tree::Op;
 use rv_types::Kind;
 
 /// An order test of a comparison of `a` and `b`.

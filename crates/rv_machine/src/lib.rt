@@ -1,10 +1,13 @@
-//! The files and the standard output of the machine, and what the program does with them.
+//! The files, the standard output and the words of the machine.
+//!
+//! It promises that `DiskFiles` and `StandardOut` meet `Files` and `Sink` of `rv_base`, which say nothing of content here: they
+//! are the trusted edge, with a test each. The programs above make them, and call `run` themselves.
 #![tactic(auto)]
 
+mod command_line;
 mod disk_files;
-mod entry;
 mod standard_out;
 
+pub use command_line::{ended_by, words};
 pub use disk_files::DiskFiles;
-pub use entry::act;
 pub use standard_out::StandardOut;

@@ -2,8 +2,8 @@
 use Rattle.std.proofs.Common.{◌≡◌, ℕ, ◌<◌, List, get_or, refl, sym, ◌∙◌, ap, subst, arith, Some, slice_get}
 use Rattle.std.specs.FinMap as map
 use Rattle.rv_base.specs.declared.value.Value.{Value}
-use Rattle.rv_syntax.specs.Tree.{ProgramTree}
-use Rattle.rv_syntax.specs.Places.{Identifier, Sites}
+use Rattle.rv_tree.specs.Tree.{ProgramTree}
+use Rattle.rv_tree.specs.Places.{Identifier, Sites}
 use Rattle.rv_types.specs.declared.typed.Kind.{Kind}
 use Rattle.rv_types.specs.declared.typed.Kind.TheVariants as kind
 use Rattle.rv_types.specs.Kinds.{decl_kinds}

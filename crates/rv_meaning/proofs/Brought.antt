@@ -4,9 +4,9 @@ use Rattle.std.proofs.Common.{◌≡◌, ℕ, cond, refl, ap, ◌||◌, Option}
 use Rattle.std.proofs.Common.{None as Nothing}
 use Rattle.std.specs.List.{Contains}
 use Rattle.rv_base.specs.declared.value.Value.{Value}
-use Rattle.rv_syntax.specs.Tree.{Node, Named, NodeTree, ProgramTree}
-use Rattle.rv_syntax.specs.Places.{Identifier, Sites}
-use Rattle.rv_syntax.specs.Delays.{Delay, node_delays, IsNumbered}
+use Rattle.rv_tree.specs.Tree.{Node, Named, NodeTree, ProgramTree}
+use Rattle.rv_tree.specs.Places.{Identifier, Sites}
+use Rattle.rv_tree.specs.Delays.{Delay, node_delays, IsNumbered}
 use Rattle.rv_types.specs.declared.typed.Clock.TheVariants.{Base}
 use Rattle.rv_types.specs.Instances.{Instance, clock_in, main_instance, IsInstance, IsNode}
 use Rattle.rv_types.specs.WellFormed.{AreWell}

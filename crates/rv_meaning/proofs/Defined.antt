@@ -4,8 +4,8 @@ use Rattle.std.proofs.lemmas.List.{get_or_append_left, get_or_default, append_as
 use Rattle.std.proofs.lemmas.Bool.{cases_order}
 use Rattle.std.specs.List.{Contains}
 use Rattle.rv_base.specs.declared.value.Value.{Value}
-use Rattle.rv_syntax.specs.Tree.{ProgramTree}
-use Rattle.rv_syntax.specs.Places.{Identifier, Sites, names, flows, site_of}
+use Rattle.rv_tree.specs.Tree.{ProgramTree}
+use Rattle.rv_tree.specs.Places.{Identifier, Sites, names, flows, site_of}
 use Rattle.rv_types.specs.Instances.{CallTree, calls, Right, Body, Output, IsRight, Instance, place, absolute, clock_of, clock_of_arguments, node_of, main_instance, callee, IsInstance, is_main, is_callee, IsFlow, IsNode}
 use Rattle.rv_types.specs.Clocks.{pace}
 use Rattle.rv_types.specs.Needs.{Giver, Given, Of, Gives, given, by_equation, by_call}

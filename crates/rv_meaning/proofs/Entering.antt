@@ -4,8 +4,8 @@ use Rattle.std.proofs.Common.{None as Nothing}
 use Rattle.std.specs.HashMap as hash
 use Rattle.std.specs.HashMap.{HashMap}
 use Rattle.std.specs.Option.{option_map}
-use Rattle.rv_syntax.specs.Tree.{NodeTree}
-use Rattle.rv_syntax.specs.Places.{Identifier, is_same, index_of}
+use Rattle.rv_tree.specs.Tree.{NodeTree}
+use Rattle.rv_tree.specs.Places.{Identifier, is_same, index_of}
 use Rattle.rv_types.specs.Instances.{CallTree, calls}
 use Rattle.rv_meaning.specs.declared.numbers.Numbers.{Numbers}
 use Rattle.rv_meaning.specs.Callings.{callings, first_callee, callee_in}

@@ -6,12 +6,12 @@ use Rattle.std.specs.List.{Contains}
 use Rattle.std.proofs.lemmas.List.Elements.{Contains-append_left, Contains-append_right}
 use Rattle.rv_base.specs.declared.value.Value.{Value}
 use Rattle.rv_base.specs.declared.value.Value.TheVariants.{Flag, Whole}
-use Rattle.rv_syntax.specs.Tree.{Tree, Node, Form, True, False, Number, Named, Not, Minus, Pre, Current, When, Binary, If, AtMostOne, Call, Trees, None, More, AssertionTree, ProgramTree}
-use Rattle.rv_syntax.specs.Places.{Identifier, Sites}
+use Rattle.rv_tree.specs.Tree.{Tree, Node, Form, True, False, Number, Named, Not, Minus, Pre, Current, When, Binary, If, AtMostOne, Call, Trees, None, More, AssertionTree, ProgramTree}
+use Rattle.rv_tree.specs.Places.{Identifier, Sites}
 use Rattle.rv_types.specs.declared.typed.Clock.{Clock}
 use Rattle.rv_types.specs.declared.typed.Clock.TheVariants.{Base}
 use Rattle.rv_types.specs.Instances.{Right, IsRight, alone, in_order, Instance, absolute, clock_in, clock_of, clock_of_arguments, output_place, IsInstance}
-use Rattle.rv_syntax.specs.Delays.{Delay, delays, form_delays, delays_of_all, node_delays}
+use Rattle.rv_tree.specs.Delays.{Delay, delays, form_delays, delays_of_all, node_delays}
 use Rattle.rv_meaning.specs.Meaning.{is_true, number, held, operate, was_there, kept_place, content, form_content, trues, value, right_value}
 use Rattle.rv_meaning.specs.Runs.{History, cells, IsRun, AssertionsHold}
 use Rattle.rv_meaning.specs.Instants.{State, now, form_now, trues_now, value_now, right_now, IsInstant, AllowsAt}

@@ -6,9 +6,9 @@ use Rattle.std.proofs.lemmas.List.{append_assoc}
 use Rattle.std.specs.List.{Contains}
 use Rattle.rv_base.specs.declared.value.Value.{Value}
 use Rattle.rv_base.specs.declared.value.Value.TheVariants.{Flag}
-use Rattle.rv_syntax.specs.Tree.{NodeTree, ProgramTree}
-use Rattle.rv_syntax.specs.Places.{Identifier, Sites, memory_site}
-use Rattle.rv_syntax.specs.Delays.{Delay, node_delays, IsNumbered}
+use Rattle.rv_tree.specs.Tree.{NodeTree, ProgramTree}
+use Rattle.rv_tree.specs.Places.{Identifier, Sites, memory_site}
+use Rattle.rv_tree.specs.Delays.{Delay, node_delays, IsNumbered}
 use Rattle.rv_types.specs.Instances.{CallTree, calls, Instance, main_instance, callee, IsInstance, is_main, is_callee, IsNode}
 use Rattle.rv_types.specs.WellFormed.{AreWell}
 use Rattle.rv_meaning.specs.Meaning.{kept_place}

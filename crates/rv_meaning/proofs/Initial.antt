@@ -3,8 +3,8 @@ use Rattle.std.proofs.Common.{◌≡◌, ℕ, ◌<◌, false, [], ◌∷◌, ref
 use Rattle.std.specs.FinMap.{empty}
 use Rattle.rv_base.specs.declared.value.Value.{Value}
 use Rattle.rv_base.specs.declared.value.Value.TheVariants.{Flag}
-use Rattle.rv_syntax.specs.Tree.{ProgramTree}
-use Rattle.rv_syntax.specs.Places.{Identifier, Sites}
+use Rattle.rv_tree.specs.Tree.{ProgramTree}
+use Rattle.rv_tree.specs.Places.{Identifier, Sites}
 use Rattle.rv_meaning.specs.Runs.{Instant, History, cells, AreStarts, AreInputs, AssertionsHold, Falsifies}
 use Rattle.rv_meaning.specs.Instants.{State, IsInstant, IsStart, AllowsAt, observed_in}
 use Rattle.rv_meaning.specs.Following.{IsStateAt}

@@ -4,9 +4,9 @@ use Rattle.std.proofs.Common.{None as Nothing}
 use Rattle.std.proofs.lemmas.Option.{none-some, same_Some, slice_get-map, get_or_from_slice_get, unwrap_or-slice_get}
 use Rattle.std.specs.List.{Contains}
 use Rattle.std.specs.Option.{option_map}
-use Rattle.rv_syntax.specs.Tree.{Tree, NodeTree, ProgramTree}
-use Rattle.rv_syntax.specs.Places.{Identifier, Sites, flows}
-use Rattle.rv_syntax.specs.Delays.{Delay, node_delays}
+use Rattle.rv_tree.specs.Tree.{Tree, NodeTree, ProgramTree}
+use Rattle.rv_tree.specs.Places.{Identifier, Sites, flows}
+use Rattle.rv_tree.specs.Delays.{Delay, node_delays}
 use Rattle.rv_types.specs.declared.typed.Kind.{Kind}
 use Rattle.rv_types.specs.declared.typed.Kind.TheVariants as kind
 use Rattle.rv_types.specs.Kinds.{flow_kinds}

@@ -6,8 +6,8 @@ use Rattle.std.proofs.lemmas.List.{append_assoc, append-nil}
 use Rattle.std.proofs.lemmas.Option.{none-some, same_Some}
 use Rattle.std.specs.List.{Contains}
 use Rattle.std.specs.Option.{option_map}
-use Rattle.rv_syntax.specs.Tree.{NodeTree, ProgramTree}
-use Rattle.rv_syntax.specs.Places.{Identifier, Sites, is_same, index_of, is_among}
+use Rattle.rv_tree.specs.Tree.{NodeTree, ProgramTree}
+use Rattle.rv_tree.specs.Places.{Identifier, Sites, is_same, index_of, is_among}
 use Rattle.rv_types.specs.declared.typed.Typed.{Typed}
 use Rattle.rv_types.specs.Names.{texts}
 use Rattle.rv_types.specs.Kinds.{node_among}

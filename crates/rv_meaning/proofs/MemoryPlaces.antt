@@ -2,9 +2,9 @@
 use Rattle.std.proofs.Common.{◌≡◌, ℕ, List, [], ◌∷◌, ◌++◌, refl, sym, ◌∙◌, ap, subst, Option, Some, get_or, inl, inr}
 use Rattle.std.proofs.Common.{None as Nothing}
 use Rattle.std.specs.List.{Contains, flat_map}
-use Rattle.rv_syntax.specs.Tree.{Node, Named, NodeTree, ProgramTree}
-use Rattle.rv_syntax.specs.Places.{Identifier, Sites, memory_site}
-use Rattle.rv_syntax.specs.Delays.{Delay, node_delays, IsNumbered}
+use Rattle.rv_tree.specs.Tree.{Node, Named, NodeTree, ProgramTree}
+use Rattle.rv_tree.specs.Places.{Identifier, Sites, memory_site}
+use Rattle.rv_tree.specs.Delays.{Delay, node_delays, IsNumbered}
 use Rattle.rv_types.specs.declared.typed.Kind.{Kind}
 use Rattle.rv_types.specs.Instances.{Instance, node_of, IsInstance, IsNode}
 use Rattle.rv_types.specs.Lists.{AreRising, delay_place, MemoryAt, memory_at, memory_places}

@@ -4,8 +4,8 @@ use Rattle.std.proofs.Common.{None as Nothing}
 use Rattle.std.specs.Cmp.Lexicographic.{texts_ties}
 use Rattle.std.specs.List.{Contains}
 use Rattle.rv_base.specs.declared.value.Value.{Value}
-use Rattle.rv_syntax.specs.Tree.{Tree, Trees}
-use Rattle.rv_syntax.specs.Places.{Identifier, is_same, index_of}
+use Rattle.rv_tree.specs.Tree.{Tree, Trees}
+use Rattle.rv_tree.specs.Places.{Identifier, is_same, index_of}
 use Rattle.rv_types.specs.Instances.{IsArgument, head, tail}
 use Rattle.rv_meaning.proofs.Rows.{same_place, ties_itself, no_flag}
 

@@ -4,8 +4,8 @@ use Rattle.std.proofs.Common.{None as Nothing}
 use Rattle.std.specs.FinMap as map
 use Rattle.rv_base.specs.declared.value.Value.{Value}
 use Rattle.rv_base.specs.declared.value.Value.TheVariants.{Flag}
-use Rattle.rv_syntax.specs.Tree.{ProgramTree}
-use Rattle.rv_syntax.specs.Places.{Identifier, Sites}
+use Rattle.rv_tree.specs.Tree.{ProgramTree}
+use Rattle.rv_tree.specs.Places.{Identifier, Sites}
 use Rattle.rv_types.specs.Instances.{Body, Output, absolute, clock_in, clock_of, clock_of_arguments, IsFlow}
 use Rattle.rv_types.specs.Needs.{Giver, Given, Of, Gives, given, by_equation, by_call}
 use Rattle.rv_meaning.specs.Meaning.{is_there}

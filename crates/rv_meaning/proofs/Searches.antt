@@ -1,6 +1,6 @@
 -- Where a name stands in two lists, one after the other.
 use Rattle.std.proofs.Common.{◌≡◌, ◌+◌, ◌<◌, ◌≤◌, Bool, true, false, cond, List, [], ◌∷◌, ◌++◌, length, refl, sym, ◌∙◌, ap, arith, zero-add, length-append}
-use Rattle.rv_syntax.specs.Places.{Identifier, is_same, index_of}
+use Rattle.rv_tree.specs.Places.{Identifier, is_same, index_of}
 
 -- a name has a number no greater than there are names
 pub index_most : (xs : List Identifier) (x : Identifier) → index_of xs x ≤ length xs

@@ -11,7 +11,7 @@ use Rattle.std.specs.Ordering.{nat_cmp, ordering_then, eq_by_cmp, MatchOrdering}
 use Rattle.std.specs.declared.cmp.Ordering.{Ordering}
 use Rattle.std.specs.declared.cmp.Ordering.TheVariants.{Less, Equal, Greater}
 use Rattle.rv_base.specs.declared.value.Place.{Place}
-use Rattle.rv_syntax.specs.Places.{Sites}
+use Rattle.rv_tree.specs.Places.{Sites}
 use Rattle.rv_types.specs.Lists.{AreRising}
 use Rattle.rv_types.specs.Needs.{IsBefore}
 use Rattle.rv_types.specs.Lists.{sites_of}

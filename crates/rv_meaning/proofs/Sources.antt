@@ -1,8 +1,8 @@
 -- What a giver expects depends only on the earlier instants and on what it needs; a run is a solution of it.
 use Rattle.std.proofs.Common.{◌≡◌, ℕ, ◌<◌, ◌↔◌, true, refl, sym, ◌∙◌, ap, subst, IsSome}
 use Rattle.rv_base.specs.declared.value.Value.{Value}
-use Rattle.rv_syntax.specs.Tree.{ProgramTree}
-use Rattle.rv_syntax.specs.Places.{Identifier, Sites}
+use Rattle.rv_tree.specs.Tree.{ProgramTree}
+use Rattle.rv_tree.specs.Places.{Identifier, Sites}
 use Rattle.rv_types.specs.Instances.{absolute, clock_of}
 use Rattle.rv_types.specs.Needs.{Giver, Given, Of, Gives, given, by_equation, by_call}
 use Rattle.rv_meaning.specs.Meaning.{is_there}

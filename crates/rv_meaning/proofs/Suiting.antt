@@ -1,9 +1,9 @@
 -- A clock that suits an expression suits its operands.
 use Rattle.std.proofs.Common.{◌≡◌, ℕ, Bool, true, false, cond, refl, ap}
 use Rattle.std.proofs.lemmas.Bool.{eqb-true}
-use Rattle.rv_syntax.specs.declared.tree.Op.{Op}
-use Rattle.rv_syntax.specs.declared.tree.Op.TheVariants as op
-use Rattle.rv_syntax.specs.Tree.{NodeTree}
+use Rattle.rv_tree.specs.declared.tree.Op.{Op}
+use Rattle.rv_tree.specs.declared.tree.Op.TheVariants as op
+use Rattle.rv_tree.specs.Tree.{NodeTree}
 use Rattle.rv_types.specs.declared.typed.Clock.{Clock}
 use Rattle.rv_types.specs.declared.typed.Clock.TheVariants.{Base, On}
 use Rattle.rv_types.specs.declared.fault.Pace.{Pace}

@@ -8,9 +8,9 @@ use Rattle.std.proofs.lemmas.List.Elements.{All-weaker}
 use Rattle.std.proofs.lemmas.Option.{same_Some, cond_some, slice_get-get_or}
 use Rattle.std.specs.List.{All, Contains}
 use Rattle.rv_base.specs.declared.value.Value.{Value}
-use Rattle.rv_syntax.specs.Tree.{ProgramTree}
-use Rattle.rv_syntax.specs.Places.{Identifier, Sites, flows, site_of}
-use Rattle.rv_syntax.specs.Delays.{Delay, node_delays}
+use Rattle.rv_tree.specs.Tree.{ProgramTree}
+use Rattle.rv_tree.specs.Places.{Identifier, Sites, flows, site_of}
+use Rattle.rv_tree.specs.Delays.{Delay, node_delays}
 use Rattle.rv_types.specs.declared.typed.Kind.{Kind}
 use Rattle.rv_types.specs.declared.typed.Kind.TheVariants as kind
 use Rattle.rv_types.specs.declared.typed.Clock.TheVariants.{Base}

@@ -3,9 +3,9 @@ use Rattle.std.proofs.Common.{◌≡◌, ℕ, zero, suc, ◌+◌, ◌≤◌, Lis
 use Rattle.std.specs.FinMap as map
 use Rattle.std.specs.List.{Contains}
 use Rattle.rv_base.specs.declared.value.Value.{Value}
-use Rattle.rv_syntax.specs.Tree.{NodeTree, ProgramTree}
-use Rattle.rv_syntax.specs.Places.{Identifier, Sites}
-use Rattle.rv_syntax.specs.Delays.{Delay, node_delays, IsNumbered}
+use Rattle.rv_tree.specs.Tree.{NodeTree, ProgramTree}
+use Rattle.rv_tree.specs.Places.{Identifier, Sites}
+use Rattle.rv_tree.specs.Delays.{Delay, node_delays, IsNumbered}
 use Rattle.rv_types.specs.declared.typed.Clock.TheVariants.{Base}
 use Rattle.rv_types.specs.Clocks.{pace}
 use Rattle.rv_types.specs.Values.{HasKind, operand_kind}

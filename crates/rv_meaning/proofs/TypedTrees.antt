@@ -8,9 +8,9 @@ use Rattle.std.specs.List.{All, Contains}
 use Rattle.std.specs.Option.{option_map}
 use Rattle.rv_base.specs.declared.value.Value.{Value}
 use Rattle.rv_base.specs.declared.value.Value.TheVariants.{Flag, Whole}
-use Rattle.rv_syntax.specs.Tree.{Tree, Node, Form, True, False, Number, Named, Not, Minus, Pre, Current, When, Binary, If, AtMostOne, Call, ProgramTree}
-use Rattle.rv_syntax.specs.Places.{Identifier, Sites, flows, is_flow, site_of}
-use Rattle.rv_syntax.specs.Delays.{node_delays}
+use Rattle.rv_tree.specs.Tree.{Tree, Node, Form, True, False, Number, Named, Not, Minus, Pre, Current, When, Binary, If, AtMostOne, Call, ProgramTree}
+use Rattle.rv_tree.specs.Places.{Identifier, Sites, flows, is_flow, site_of}
+use Rattle.rv_tree.specs.Delays.{node_delays}
 use Rattle.rv_types.specs.declared.typed.Kind.{Kind}
 use Rattle.rv_types.specs.declared.typed.Kind.TheVariants as kind
 use Rattle.rv_types.specs.declared.typed.Clock.{Clock}

@@ -1,9 +1,9 @@
 -- What stands at a place of a program, and whose memories are asked for.
 use Rattle.std.specs.Prelude.{◌≡◌, ℕ, List, [], ◌∷◌, ◌++◌, Some}
 use Rattle.std.specs.List.{Contains}
-use Rattle.rv_syntax.specs.Tree.{ProgramTree}
-use Rattle.rv_syntax.specs.Places.{Identifier, Sites, flows}
-use Rattle.rv_syntax.specs.Delays.{Delay, node_delays}
+use Rattle.rv_tree.specs.Tree.{ProgramTree}
+use Rattle.rv_tree.specs.Places.{Identifier, Sites, flows}
+use Rattle.rv_tree.specs.Delays.{Delay, node_delays}
 use Rattle.rv_types.specs.declared.typed.Kind.{Kind}
 use Rattle.rv_types.specs.Kinds.{flow_kind}
 use Rattle.rv_types.specs.Values.{operand_kind}

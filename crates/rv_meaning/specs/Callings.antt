@@ -3,7 +3,7 @@ use Rattle.std.specs.Prelude.{◌≡◌, ℕ, cond, nat_eq, List, [], ◌∷◌,
 use Rattle.std.specs.Prelude.{None as Nothing}
 use Rattle.std.specs.HashMap as hash
 use Rattle.std.specs.HashMap.{HashMap}
-use Rattle.rv_syntax.specs.Tree.{NodeTree}
+use Rattle.rv_tree.specs.Tree.{NodeTree}
 use Rattle.rv_types.specs.Instances.{CallTree}
 use Rattle.rv_meaning.specs.declared.calls.Calling.{Calling}
 use Rattle.rv_meaning.specs.declared.numbers.Numbers.{Numbers}

@@ -2,8 +2,8 @@
 use Rattle.std.specs.Prelude.{◌≡◌, ℕ, ◌↔◌, true, Option, Some, IsSome}
 use Rattle.std.specs.List.{Contains}
 use Rattle.rv_base.specs.declared.value.Value.{Value}
-use Rattle.rv_syntax.specs.Tree.{ProgramTree}
-use Rattle.rv_syntax.specs.Places.{Identifier, Sites, flows}
+use Rattle.rv_tree.specs.Tree.{ProgramTree}
+use Rattle.rv_tree.specs.Places.{Identifier, Sites, flows}
 use Rattle.rv_types.specs.Instances.{Instance, place, absolute, clock_of, IsInstance, IsFlow}
 use Rattle.rv_types.specs.Needs.{Giver, Given, Of, Gives}
 use Rattle.rv_meaning.specs.Meaning.{Cells, is_there, right_value}

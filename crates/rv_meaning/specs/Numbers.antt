@@ -1,7 +1,7 @@
 -- Names by their numbers, and what goes by them.
 use Rattle.std.specs.Prelude.{◌≡◌, ℕ, ◌+◌, cond, unwrap_or, List, [], ◌∷◌, length, Option, Some}
 use Rattle.std.specs.HashMap as hash
-use Rattle.rv_syntax.specs.Places.{Identifier, is_same, index_of}
+use Rattle.rv_tree.specs.Places.{Identifier, is_same, index_of}
 use Rattle.rv_meaning.specs.declared.numbers.Numbers.{Numbers}
 
 -- what a table has for a name once names were entered from the last to the first, each with its number from a number on

@@ -3,9 +3,9 @@ use Rattle.std.specs.Prelude.{ℕ, cond, nat_lt, List, [], ◌∷◌, ◌++◌, 
 use Rattle.std.specs.Prelude.{None as Nothing}
 use Rattle.std.specs.List.{Contains}
 use Rattle.rv_base.specs.declared.value.Place.{Place}
-use Rattle.rv_syntax.specs.Tree.{Tree, Node, Form, Named, NodeTree}
-use Rattle.rv_syntax.specs.Places.{Sites}
-use Rattle.rv_syntax.specs.Delays.{Delay, node_delays, delay_sites}
+use Rattle.rv_tree.specs.Tree.{Tree, Node, Form, Named, NodeTree}
+use Rattle.rv_tree.specs.Places.{Sites}
+use Rattle.rv_tree.specs.Delays.{Delay, node_delays, delay_sites}
 use Rattle.rv_types.specs.Lists.{AreRising}
 use Rattle.rv_meaning.specs.declared.numbers.Numbers.{Numbers}
 use Rattle.rv_types.specs.Lists.{sites_of}

@@ -5,11 +5,11 @@ use Rattle.std.specs.Prelude.{None as Nothing}
 use Rattle.std.specs.List.{Contains}
 use Rattle.rv_base.specs.declared.value.Value.{Value}
 use Rattle.rv_base.specs.declared.value.Value.TheVariants.{Flag, Label, Whole}
-use Rattle.rv_syntax.specs.declared.tree.Decl.{Decl}
-use Rattle.rv_syntax.specs.declared.tree.Name.{Name}
-use Rattle.rv_syntax.specs.Tree.{Tree, Node, Current, When, ProgramTree}
-use Rattle.rv_syntax.specs.Places.{Identifier, Sites, flows}
-use Rattle.rv_syntax.specs.Delays.{Delay, node_delays}
+use Rattle.rv_tree.specs.declared.tree.Decl.{Decl}
+use Rattle.rv_tree.specs.declared.tree.Name.{Name}
+use Rattle.rv_tree.specs.Tree.{Tree, Node, Current, When, ProgramTree}
+use Rattle.rv_tree.specs.Places.{Identifier, Sites, flows}
+use Rattle.rv_tree.specs.Delays.{Delay, node_delays}
 use Rattle.rv_types.specs.declared.typed.Kind.{Kind}
 use Rattle.rv_types.specs.declared.typed.Kind.TheVariants as kind
 use Rattle.rv_types.specs.Kinds.{decl_kinds, flow_kind}

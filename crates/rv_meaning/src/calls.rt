@@ -2,8 +2,8 @@
 
 ghost use Rattle.std.specs.Prelude.{◌≡◌, ◌≤◌, ◌++◌, ◌∷◌, [], ℕ, map, length, nat_eq, unwrap_or, IfOk, OnOk};
 ghost use Rattle.std.specs.HashMap.{get};
-ghost use Rattle.rv_syntax.specs.Bounded.{most};
-ghost use Rattle.rv_syntax.specs.Tree.{tree_of, trees, node_tree, equation_tree, assertion_tree};
+ghost use Rattle.rv_tree.specs.Bounded.{most};
+ghost use Rattle.rv_tree.specs.Tree.{tree_of, trees, node_tree, equation_tree, assertion_tree};
 ghost use Rattle.rv_types.specs.Instances.{calls, calls_in, calls_in_all, calls_in_equations, calls_in_assertions};
 ghost use Rattle.rv_meaning.specs.Callings.{callings, first_callee, AreCallees, callee_in};
 ghost use Rattle.rv_meaning.specs.Leading.{led_by};
@@ -11,7 +11,7 @@ ghost use Rattle.rv_meaning.specs.Numbers.{number_in};
 
 use crate::numbers::{Numbers, node_numbers};
 use rv_base::{Many, Memory, Text};
-use rv_syntax::{Assertion, Equation, Expr, ExprForm, Node};
+use rv_tree::{Assertion, Equation, Expr, ExprForm, Node};
 use std::alloc::Global;
 use std::collections::HashMap;
 

@@ -2,12 +2,12 @@
 
 ghost use Rattle.std.specs.Prelude.{◌≡◌, map};
 ghost use Rattle.std.specs.Option.{option_copied, option_map};
-ghost use Rattle.rv_syntax.specs.Tree.{tree_of, trees, node_tree, equation_tree, assertion_tree};
-ghost use Rattle.rv_syntax.specs.Places.{index_of};
+ghost use Rattle.rv_tree.specs.Tree.{tree_of, trees, node_tree, equation_tree, assertion_tree};
+ghost use Rattle.rv_tree.specs.Places.{index_of};
 ghost use Rattle.rv_meaning.specs.Leading.{callee_within, callee_within_all, callee_in_equations as found_in_equations, callee_in_assertions as found_in_assertions, callee_in_node, operand_within, operand_within_all, operand_in_equations as operand_of_equations, operand_in_assertions as operand_of_assertions, operand_in_node, node_texts, callee_at, led_by};
 
 use rv_base::Text;
-use rv_syntax::{Assertion, Equation, Expr, ExprForm, Node};
+use rv_tree::{Assertion, Equation, Expr, ExprForm, Node};
 
 /// The number of the node to which call sites lead from the node with a number, none where they lead nowhere.
 pub fn node_at(nodes: &[Node], from: usize, path: &[u32]) -> Option<usize>

@@ -1,9 +1,10 @@
 //! The type of what stands at a place.
 
 ghost use Rattle.std.specs.Prelude.{◌≡◌, ◌≤◌, map, reverse, unwrap_or, length, slice_get, IfSome, IfNone};
-ghost use Rattle.rv_syntax.specs.Bounded.{IsBounded, IsTreeOfText, most};
-ghost use Rattle.rv_syntax.specs.Places.{index_of, names, site_of};
-ghost use Rattle.rv_syntax.specs.Tree.{ProgramTree, tree_of, node_tree, constant_tree, program_tree};
+ghost use Rattle.rv_tree.specs.Bounded.{IsBounded, most};
+ghost use Rattle.rv_tree.specs.SourceTrees.{IsSourceTree};
+ghost use Rattle.rv_tree.specs.Places.{index_of, names, site_of};
+ghost use Rattle.rv_tree.specs.Tree.{ProgramTree, tree_of, node_tree, constant_tree, program_tree};
 ghost use Rattle.rv_types.specs.declared.typed.Kind.{Kind as KindModel};
 ghost use Rattle.rv_types.specs.declared.typed.Kind.TheVariants as kind;
 ghost use Rattle.rv_types.specs.Instances.{name_at};
@@ -14,7 +15,7 @@ ghost use Rattle.rv_meaning.specs.Telling.{telling_of, telling, result_kind as r
 
 use crate::finding::{node_at, number_of, operand_at_site};
 use rv_base::{Place, Text};
-use rv_syntax::{Decl, Expr, ExprForm, Name, Node, Op, Program, TypeBody, TypeDecl, bounded_tree};
+use rv_tree::{Decl, Expr, ExprForm, Name, Node, Op, Program, TypeBody, TypeDecl};
 use rv_types::{Kind, Typed, well_formed_programs};
 
 /// What tells the type of an expression that has one.
@@ -64,14 +65,13 @@ fn result_kind(operator: Op) -> Option<Kind>
 /// The type of the flow, `pre` or `current` at a place of a program that keeps all rules; none exactly where no such
 /// thing is there. It takes no memory: each name is found by going through the declarations.
 pub fn kind_of(p: &Program, t: &Typed, place: &Place) -> Option<Kind>
-    requires text { IsTreeOfText (program_tree p.now) }
+    requires tree { IsSourceTree (program_tree p.now) }
     requires settled { IsAnswer (program_tree p.now) t.now }
     // What is answered is the type of what stands there.
     ensures found { IfSome result (IsKindAt (program_tree p.now) (name_at (program_tree p.now) t.now.main) place.now.sites) }
     // Where nothing is answered nothing stands there.
     ensures none { IfNone result ((k : KindModel) → IsKindAt (program_tree p.now) (name_at (program_tree p.now) t.now.main) place.now.sites k → ⊥) }
 {
-    bounded_tree();
     well_formed_programs();
     match place.sites.last() {
         None => None,

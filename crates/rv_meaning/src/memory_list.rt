@@ -4,10 +4,11 @@ ghost use Rattle.std.specs.Prelude.{◌≡◌, ◌≤◌, ◌<◌, ◌++◌, ◌
 ghost use Rattle.std.specs.List.{Contains};
 ghost use Rattle.std.specs.Cmp.Lexicographic.{slice_cmp};
 ghost use Rattle.std.specs.Ordering.{nat_cmp};
-ghost use Rattle.rv_syntax.specs.Bounded.{most, IsBounded, IsTreeOfText};
-ghost use Rattle.rv_syntax.specs.Delays.{delays, delays_of_all, delays_in_equations, delays_in_assertions, node_delays};
-ghost use Rattle.rv_syntax.specs.Places.{flows};
-ghost use Rattle.rv_syntax.specs.Tree.{NodeTree as NodeModel, tree_of, trees, node_tree, equation_tree, assertion_tree, program_tree};
+ghost use Rattle.rv_tree.specs.Bounded.{most, IsBounded};
+ghost use Rattle.rv_tree.specs.SourceTrees.{IsSourceTree};
+ghost use Rattle.rv_tree.specs.Delays.{delays, delays_of_all, delays_in_equations, delays_in_assertions, node_delays};
+ghost use Rattle.rv_tree.specs.Places.{flows};
+ghost use Rattle.rv_tree.specs.Tree.{NodeTree as NodeModel, tree_of, trees, node_tree, equation_tree, assertion_tree, program_tree};
 ghost use Rattle.rv_types.specs.Instances.{name_at, no_node};
 ghost use Rattle.rv_types.specs.Settled.{IsAnswer};
 ghost use Rattle.rv_meaning.specs.Accessors.{ArePaths, AreMemoryPlaces};
@@ -18,7 +19,7 @@ ghost use Rattle.rv_meaning.specs.Remembered.{AreSites, AreSorted, places_at, si
 use crate::calls::{callees_of, node_at};
 use crate::numbers::{Numbers, flow_numbers};
 use rv_base::{Many, Memory, Path, Place, Sites};
-use rv_syntax::{Assertion, Equation, Expr, ExprForm, Node, Program, bounded_tree};
+use rv_tree::{Assertion, Equation, Expr, ExprForm, Node, Program};
 use rv_types::{Typed, well_formed_programs};
 use std::alloc::Global;
 use std::cmp::Ordering;
@@ -33,12 +34,11 @@ pub fn memories(
     t: &Typed,
     paths: &Many<Many<u32>>,
 ) -> Result<Many<Place>, Memory>
-    requires text { IsTreeOfText (program_tree p.now) }
+    requires tree { IsSourceTree (program_tree p.now) }
     requires settled { IsAnswer (program_tree p.now) t.now }
     requires paths { ArePaths (program_tree p.now) (name_at (program_tree p.now) t.now.main) paths.now }
     ensures { IfOk result (λ ps. AreMemoryPlaces (program_tree p.now) (name_at (program_tree p.now) t.now.main) paths.now (sites_of ps)) }
 {
-    bounded_tree();
     well_formed_programs();
     let callees = callees_of(alloc, p.nodes.as_slice())?;
     let sites = sites_of_nodes(alloc, p.nodes.as_slice())?;

@@ -2,14 +2,14 @@
 
 ghost use Rattle.std.specs.Prelude.{◌≡◌, ◌≤◌, ◌+◌, ◌^◌, ◌<◌, ℕ, List, length, map, OnOk, IfOk};
 ghost use Rattle.std.specs.HashMap.{get};
-ghost use Rattle.rv_syntax.specs.Bounded.{most};
-ghost use Rattle.rv_syntax.specs.Places.{flows, is_same, names};
-ghost use Rattle.rv_syntax.specs.Tree.{node_tree};
+ghost use Rattle.rv_tree.specs.Bounded.{most};
+ghost use Rattle.rv_tree.specs.Places.{flows, is_same, names};
+ghost use Rattle.rv_tree.specs.Tree.{node_tree};
 ghost use Rattle.rv_meaning.specs.Leading.{node_texts};
 ghost use Rattle.rv_meaning.specs.Numbers.{entered, number_in, AreNumbers};
 
 use rv_base::{Memory, Text};
-use rv_syntax::{Decl, Node};
+use rv_tree::{Decl, Node};
 use std::alloc::Global;
 use std::collections::HashMap;
 

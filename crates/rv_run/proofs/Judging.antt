@@ -2,17 +2,17 @@
 use Rattle.std.proofs.Common.{◌≡◌, inl, inr, ℕ, ◌<◌, ◌≤◌, Bool, true, false, List, length, sym, subst, arith, MatchBool}
 use Rattle.std.specs.Prelude.{Result, Ok, Err, IfOk}
 use Rattle.rv_base.specs.declared.value.Value.{Value}
-use Rattle.rv_syntax.specs.Tree.{ProgramTree}
-use Rattle.rv_syntax.specs.Places.{Identifier, Sites}
+use Rattle.rv_tree.specs.Tree.{ProgramTree}
+use Rattle.rv_tree.specs.Places.{Identifier, Sites}
 use Rattle.rv_types.specs.declared.typed.Typed.{Typed}
 use Rattle.rv_types.specs.Settled.{IsSettled}
 use Rattle.rv_types.specs.Instances.{name_at, node_of, IsNode}
 use Rattle.rv_types.specs.Needs.{IsSequence}
 use Rattle.rv_types.specs.WellFormed.{AreWell}
 use Rattle.rv_types.specs.Lists.{sites_of}
-use Rattle.rv_causality.specs.declared.answer.Order.{Order}
-use Rattle.rv_causality.specs.Fitting.{Fits}
-use Rattle.rv_syntax.specs.Bounded.{IsTreeOfText}
+use Rattle.rv_instances.specs.declared.answer.Order.{Order}
+use Rattle.rv_instances.specs.Fitting.{Fits}
+use Rattle.rv_tree.specs.SourceTrees.{IsSourceTree}
 use Rattle.rv_meaning.specs.Runs.{Instant, History, AreStarts, AreInputs, IsRun, IsSafe}
 use Rattle.rv_meaning.specs.Instants.{State as Brought, IsInstant}
 use Rattle.rv_meaning.specs.Valuations.{IsSmall, IsControl, HoldsEverywhere}
@@ -29,7 +29,7 @@ use Rattle.rv_run.proofs.Small.{small_system, system_small, shape_bits}
 
 -- Where the programs that keep every rule are well formed, and at each state and inputs there is one instant.
 module _ (p : ProgramTree) (t : Typed) (o : Order) (fits : Fits p t o)
-    (well_formed : (main : Identifier) → IsTreeOfText p → IsSettled p main t → AreWell p) where
+    (well_formed : (main : Identifier) → IsSourceTree p → IsSettled p main t → AreWell p) where
   abbrev pub main : Identifier
   main = name_at p t.main
 
@@ -37,7 +37,7 @@ module _ (p : ProgramTree) (t : Typed) (o : Order) (fits : Fits p t o)
   settled = subst (λ (x : Identifier). IsSettled p x t) (sym (main_named p fits.settled.0 t fits.settled.1)) fits.settled.1
 
   pub well : AreWell p
-  well = well_formed main fits.text settled
+  well = well_formed main fits.tree settled
 
   pub is_node : IsNode p main
   is_node = main_is_node p main t settled
@@ -48,7 +48,7 @@ module _ (p : ProgramTree) (t : Typed) (o : Order) (fits : Fits p t o)
 
   -- what holds at every allowed valuation is safe, where that is a law
   pub safe : ((sequence : List Sites) → AreWell p → IsNode p main → IsSequence p main sequence → IsControl p main → HoldsEverywhere p main → IsSafe p main) → IsJudged HoldsEverywhere p main → IsSafe p main
-  safe law judged = law (sites_of o.sequence) well is_node fits.ordered.sequence judged.0.control judged.1
+  safe law judged = law (sites_of o.sequence) well is_node fits.sequence judged.0.control judged.1
 
   -- and what holds does so with runs, where that there is exactly one is a law
   pub with_runs : (P : ProgramTree → Identifier → Type 0)
@@ -59,9 +59,9 @@ module _ (p : ProgramTree) (t : Typed) (o : Order) (fits : Fits p t o)
       → P p main → WithRuns P p main
   with_runs P one some holds = record {
     sequence = sites_of o.sequence;
-    ordered = fits.ordered.sequence;
-    runs = λ n starts inputs started given. let run = some starts inputs n well is_node fits.ordered.sequence started given in
-        (run.0, run.1, λ other another. one starts inputs n other run.0 well is_node fits.ordered.sequence another run.1);
+    ordered = fits.sequence;
+    runs = λ n starts inputs started given. let run = some starts inputs n well is_node fits.sequence started given in
+        (run.0, run.1, λ other another. one starts inputs n other run.0 well is_node fits.sequence another run.1);
     holds = holds;
   }
 
@@ -74,7 +74,7 @@ module _ (p : ProgramTree) (t : Typed) (o : Order) (fits : Fits p t o)
       → (row : Instant) × IsInstant p main state inputs row × ((other : Instant) → IsInstant p main state inputs other → other ≡ row))
       (bring : AreWell p → IsNode p main → AreBrought p main f) where
     one_instant : (state : Brought) (inputs : ℕ → Value) → (row : Instant) × IsInstant p main state inputs row × ((other : Instant) → IsInstant p main state inputs other → other ≡ row)
-    one_instant state inputs = one state inputs well is_node fits.ordered.sequence
+    one_instant state inputs = one state inputs well is_node fits.sequence
 
     is_small : IsSmall p main
     is_small = system_small p main f flat well is_node small

@@ -6,8 +6,8 @@ use Rattle.std.specs.Cmp.Lexicographic.{same_text}
 use Rattle.std.proofs.lemmas.Cmp.{nat_list_eq_equiv}
 use Rattle.std.proofs.lemmas.List.{length-map}
 use Rattle.std.proofs.lemmas.List.Elements.{Contains-append_cases, Contains-append_left, Contains-append_right}
-use Rattle.rv_syntax.specs.Tree.{NodeTree, ProgramTree}
-use Rattle.rv_syntax.specs.Places.{Identifier, is_same, is_among, index_of}
+use Rattle.rv_tree.specs.Tree.{NodeTree, ProgramTree}
+use Rattle.rv_tree.specs.Places.{Identifier, is_same, is_among, index_of}
 use Rattle.rv_types.specs.Names.{texts}
 use Rattle.rv_types.specs.Kinds.{node_among, node_named}
 use Rattle.rv_types.specs.Instances.{no_node, node_of, IsInstance, Instance, is_main, is_callee, IsNode}

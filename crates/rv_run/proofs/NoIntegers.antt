@@ -8,9 +8,9 @@ use Rattle.std.proofs.lemmas.Option.{get_or_from_slice_get}
 use Rattle.rv_base.specs.declared.value.Place.{Place}
 use Rattle.rv_base.specs.declared.value.Value.{Value}
 use Rattle.rv_base.specs.declared.value.Value.TheVariants.{Flag, Label, Whole}
-use Rattle.rv_syntax.specs.declared.tree.Op.{Op}
-use Rattle.rv_syntax.specs.declared.tree.Op.TheVariants as op
-use Rattle.rv_syntax.specs.Places.{Sites}
+use Rattle.rv_tree.specs.declared.tree.Op.{Op}
+use Rattle.rv_tree.specs.declared.tree.Op.TheVariants as op
+use Rattle.rv_tree.specs.Places.{Sites}
 use Rattle.rv_types.specs.declared.typed.Kind.{Kind}
 use Rattle.rv_types.specs.declared.typed.Kind.TheVariants as kind
 use Rattle.rv_types.specs.Types.{same_kind}
@@ -24,11 +24,12 @@ use Rattle.rv_flat.specs.declared.parts.FlatFlow.{FlatFlow}
 use Rattle.rv_flat.specs.declared.parts.FlatMemory.{FlatMemory}
 use Rattle.rv_flat.specs.declared.flat.Flat.{Flat}
 use Rattle.rv_flat.specs.declared.state.State.{State}
-use Rattle.rv_flat.specs.declared.state.StepFault.{StepFault}
-use Rattle.rv_flat.specs.declared.state.StepFault.TheVariants.{Outgrown}
+use Rattle.rv_step.specs.declared.stepped.StepFault.{StepFault}
+use Rattle.rv_step.specs.declared.stepped.StepFault.TheVariants.{Outgrown}
 use Rattle.rv_flat.specs.FlatInstants.{Row, nth, held, is_on_at, flow_items, memory_items, nth_item, found_at, system_of, value_at, IsFlatInstant}
 use Rattle.rv_flat.specs.Systems.{flow_item, memory_item, kept_of}
-use Rattle.rv_flat.specs.Steps.{AreValues, memory_kinds, input_kinds, label_counts, IsState, IsGrown, flow, memory, IsStepFault}
+use Rattle.rv_flat.specs.Steps.{AreValues, memory_kinds, input_kinds, label_counts, IsState, IsGrown, flow, memory}
+use Rattle.rv_step.specs.Stepping.{IsStepFault}
 use Rattle.rv_run.specs.Judged.{IsSmallSystem}
 
 -- A value is none of another kind of type: a Boolean is a Boolean, and a label is no integer.

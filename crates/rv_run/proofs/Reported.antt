@@ -1,14 +1,14 @@
 -- What a report says of the bytes of a source, and that no other comes.
 use Rattle.std.proofs.Common.{◌≡◌, ◌⊎◌, inl, inr, ℕ, true≢false, List, refl, sym, ◌∙◌, ap, subst}
-use Rattle.rv_syntax.specs.Tree.{ProgramTree, program_tree}
-use Rattle.rv_syntax.specs.Places.{Identifier}
+use Rattle.rv_tree.specs.Tree.{ProgramTree, program_tree}
+use Rattle.rv_tree.specs.Places.{Identifier}
 use Rattle.rv_syntax.specs.ProgramText.{IsTextOf}
 use Rattle.rv_types.specs.declared.typed.Typed.{Typed}
 use Rattle.rv_types.specs.Instances.{name_at}
-use Rattle.rv_causality.specs.declared.source.Source.{Source}
-use Rattle.rv_causality.specs.declared.source.SourceFault.{SourceFault}
-use Rattle.rv_causality.specs.declared.source.SourceFault.TheVariants.{Text, Names, Cause, Memory as NoMemory}
-use Rattle.rv_causality.specs.Sources.{IsSource, IsSourceOf, HasSourceCause, AreSame}
+use Rattle.rv_instances.specs.declared.source.Source.{Source}
+use Rattle.rv_source.specs.declared.fault.SourceFault.{SourceFault}
+use Rattle.rv_source.specs.declared.fault.SourceFault.TheVariants.{Text, Names, Cause, Memory as NoMemory}
+use Rattle.rv_source.specs.Sources.{IsSource, IsSourceOf, HasSourceCause, AreSame}
 use Rattle.rv_meaning.specs.Meaning.{held, is_true}
 use Rattle.rv_meaning.specs.Valuations.{HoldsEverywhere}
 use Rattle.rv_run.specs.Answers.{IsOnSource, IsRefusalUnlessCutOff}

@@ -3,13 +3,14 @@ use Rattle.std.proofs.Common.{◌≡◌, ◌⊎◌, inl, inr, ◌↔◌, Bool, t
 use Rattle.std.proofs.Common.{None as Nothing}
 use Rattle.rv_base.specs.declared.value.Place.{Place}
 use Rattle.rv_base.specs.declared.value.Value.{Value}
-use Rattle.rv_syntax.specs.Places.{Sites}
+use Rattle.rv_tree.specs.Places.{Sites}
 use Rattle.rv_flat.specs.declared.flat.Flat.{Flat}
 use Rattle.rv_flat.specs.declared.state.State.{State}
-use Rattle.rv_flat.specs.declared.state.Stepped.{Stepped}
+use Rattle.rv_step.specs.declared.stepped.Stepped.{Stepped}
 use Rattle.rv_flat.specs.FlatInstants.{nth, is_on}
 use Rattle.rv_flat.specs.FlatOf.{IsFlatBroken}
-use Rattle.rv_flat.specs.Steps.{IsStepped, IsLeastOf}
+use Rattle.rv_flat.specs.Steps.{IsLeastOf}
+use Rattle.rv_step.specs.Stepping.{IsStepped}
 use Rattle.rv_run.specs.Spelled.{HoldsAt, FailsAt}
 
 -- the side of a test that came

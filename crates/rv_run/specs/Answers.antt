@@ -2,8 +2,8 @@
 use Rattle.std.specs.Prelude.{◌≡◌, ◌⊎◌, ℕ, List, Option, Some, None, IsSomeAnd}
 use Rattle.std.specs.FinMap.{get}
 use Rattle.rv_base.specs.Shelf.{Shelf, HoldsUnder}
-use Rattle.rv_causality.specs.declared.source.SourceFault.{SourceFault}
-use Rattle.rv_causality.specs.Sources.{AreSame}
+use Rattle.rv_source.specs.declared.fault.SourceFault.{SourceFault}
+use Rattle.rv_source.specs.Sources.{AreSame}
 use Rattle.rv_run.specs.Words.{command}
 use Rattle.rv_run.specs.declared.report.Report.{Report}
 use Rattle.rv_run.specs.declared.report.Report.TheVariants.{Refused, TooLong, ReadFault, Usage, Memory}

@@ -10,8 +10,8 @@ use Rattle.rv_causality.specs.declared.fault.CauseFault.{CauseFault}
 use Rattle.rv_causality.specs.declared.fault.CauseFault.TheVariants.{Recursive, Cycle, TooLarge, TooWide, Memory as CauseMemory}
 use Rattle.rv_causality.specs.declared.fault.Quantity.{Quantity}
 use Rattle.rv_causality.specs.declared.fault.Quantity.TheVariants as quantity
-use Rattle.rv_causality.specs.declared.source.SourceFault.{SourceFault}
-use Rattle.rv_causality.specs.declared.source.SourceFault.TheVariants.{Text, Names, Cause, Memory as SourceMemory}
+use Rattle.rv_source.specs.declared.fault.SourceFault.{SourceFault}
+use Rattle.rv_source.specs.declared.fault.SourceFault.TheVariants.{Text, Names, Cause, Memory as SourceMemory}
 use Rattle.rv_run.specs.declared.report.Report.{Report}
 use Rattle.rv_run.specs.declared.report.Report.TheVariants.{Safe, Unknown, Refused, TooLong, ReadFault, Usage, Memory}
 use Rattle.rv_run.specs.declared.report.Sent.{Sent}

@@ -1,12 +1,12 @@
 -- What an answer says of the bytes of a source and the name of its main node.
 use Rattle.std.specs.Prelude.{◌≡◌, ◌⊎◌, ℕ, List}
 use Rattle.rv_base.specs.declared.value.Value.{Value}
-use Rattle.rv_syntax.specs.Tree.{ProgramTree}
-use Rattle.rv_syntax.specs.Places.{Identifier, Sites}
+use Rattle.rv_tree.specs.Tree.{ProgramTree}
+use Rattle.rv_tree.specs.Places.{Identifier, Sites}
 use Rattle.rv_types.specs.declared.typed.Typed.{Typed}
 use Rattle.rv_types.specs.Needs.{IsSequence}
-use Rattle.rv_causality.specs.declared.source.SourceFault.{SourceFault}
-use Rattle.rv_causality.specs.Sources.{IsSource, IsSourceFault}
+use Rattle.rv_source.specs.declared.fault.SourceFault.{SourceFault}
+use Rattle.rv_source.specs.Sources.{IsSource, IsSourceFault}
 use Rattle.rv_meaning.specs.Runs.{History, AreStarts, AreInputs, IsRun}
 use Rattle.rv_meaning.specs.Valuations.{IsSmall, FailsSomewhere}
 

@@ -1,6 +1,6 @@
 -- The report on a source that is not accepted.
-use Rattle.rv_causality.specs.declared.source.SourceFault.{SourceFault}
-use Rattle.rv_causality.specs.declared.source.SourceFault.TheVariants.{Text, Names, Cause, Memory as NoMemory}
+use Rattle.rv_source.specs.declared.fault.SourceFault.{SourceFault}
+use Rattle.rv_source.specs.declared.fault.SourceFault.TheVariants.{Text, Names, Cause, Memory as NoMemory}
 use Rattle.rv_run.specs.declared.report.Report.{Report}
 use Rattle.rv_run.specs.declared.report.Report.TheVariants.{Refused, Memory}
 

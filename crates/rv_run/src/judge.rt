@@ -2,18 +2,19 @@
 
 ghost use Rattle.std.specs.Prelude.{◌≡◌, ◌<◌, ◌↔◌, true, false, length, map, IsTrue, IfOk, MatchBool};
 ghost use Rattle.std.specs.List.{All};
-ghost use Rattle.rv_syntax.specs.Tree.{program_tree};
+ghost use Rattle.rv_tree.specs.Tree.{program_tree};
 ghost use Rattle.rv_types.specs.Instances.{name_at};
 ghost use Rattle.rv_types.specs.Variables.{is_integer};
-ghost use Rattle.rv_causality.specs.Fitting.{Fits};
+ghost use Rattle.rv_instances.specs.Fitting.{Fits};
 ghost use Rattle.rv_meaning.specs.Valuations.{HoldsEverywhere};
 ghost use Rattle.rv_run.specs.Programs.{IsJudged, IsUndecided};
 ghost use Rattle.rv_run.specs.Judged.{is_test, is_control, control_bits_of, IsSmallSystem};
 
 use crate::search::{is_always_true, shape_of};
 use rv_base::Memory;
-use rv_causality::Source;
-use rv_flat::{Bit, Flat, flat_states, flatten};
+use rv_flat::{Bit, Flat, flat_states};
+use rv_flatten::flatten;
+use rv_instances::Source;
 use rv_meaning::one_instant;
 use rv_types::{Kind, well_formed_programs};
 use std::alloc::Global;

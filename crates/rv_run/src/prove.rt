@@ -1,7 +1,7 @@
 //! The report on the bytes of a source.
 
 ghost use Rattle.std.specs.Prelude.{◌≡◌, ◌≤◌, ◌⊎◌, length};
-ghost use Rattle.rv_causality.specs.declared.source.SourceFault.{SourceFault as FaultModel};
+ghost use Rattle.rv_source.specs.declared.fault.SourceFault.{SourceFault as FaultModel};
 ghost use Rattle.rv_meaning.specs.Runs.{IsSafe};
 ghost use Rattle.rv_meaning.specs.Valuations.{HoldsEverywhere};
 ghost use Rattle.rv_run.specs.Answers.{IsOnSource, IsUnlessCutOff, IsRefusalUnlessCutOff};
@@ -10,8 +10,8 @@ ghost use Rattle.rv_run.specs.Refusals.{refusal_of};
 
 use crate::judge::is_judged_safe;
 use crate::report::Report;
-use rv_causality::{SourceFault, read_source};
 use rv_meaning::{everywhere_is_safe, one_run, some_run};
+use rv_source::{SourceFault, read_source};
 use rv_syntax::{SOURCE_LIMIT, one_tree};
 use rv_types::well_formed_programs;
 use std::alloc::Global;

@@ -5,7 +5,8 @@ ghost use Rattle.std.specs.String.{string_bytes};
 ghost use Rattle.rv_run.specs.Printed.{text_of, text_of_refusal, text_of_fault, text_of_name_fault, text_of_cause, dotted, listed, quantity_name, status_of, report_status};
 
 use rv_base::{Place, Sites};
-use rv_causality::{CauseFault, Quantity, SourceFault};
+use rv_causality::{CauseFault, Quantity};
+use rv_source::SourceFault;
 use rv_syntax::TextFault;
 use rv_types::NameFault;
 use std::alloc::{AllocError, Global};

@@ -11,7 +11,7 @@ ghost use Rattle.rv_run.specs.Words.{texts, command};
 ghost use Rattle.rv_run.specs.Answers.{OnFile, IsTold, IsUnlessCutOff, IsRefusalUnlessCutOff};
 ghost use Rattle.rv_run.specs.Programs.{OnProgram, WithRuns, IsJudged, IsUndecided, IsRefusedFor};
 ghost use Rattle.rv_run.specs.Printed.{text_of, status_of};
-ghost use Rattle.rv_causality.specs.declared.source.SourceFault.{SourceFault};
+ghost use Rattle.rv_source.specs.declared.fault.SourceFault.{SourceFault};
 
 use crate::load::{WholeFault, load_whole};
 use crate::prove::report_on_source;

@@ -7,7 +7,8 @@ ghost use Rattle.rv_run.specs.Judged.{IsSmallSystem};
 ghost use Rattle.rv_run.specs.Spelled.{bits_of_code, after_bits, size_of, sizes, bits_of_kinds, value_of_digit, values_of_code, after_values, bits_of_shape, codes_of_shape, state_of_code, inputs_of_code, IsShapeOf, HoldsAt, FailsAt, IsAlwaysTrue, IsSometimesFalse};
 
 use rv_base::{Many, Memory, Text, Value};
-use rv_flat::{Bit, Flat, FlatInput, FlatMemory, State, StepFault, Stepped, step};
+use rv_flat::{Bit, Flat, FlatInput, FlatMemory, State};
+use rv_step::{StepFault, Stepped, step};
 use rv_types::Kind;
 use std::alloc::{AllocError, Global};
 

@@ -4,13 +4,14 @@ use Rattle.std.specs.Prelude.{Option, Some, None}
 use Rattle.std.specs.List.{All, Contains}
 use Rattle.std.proofs.lemmas.List.{length-map}
 use Rattle.std.proofs.lemmas.Bool.Decides.{nat_tests}
-use Rattle.rv_syntax.specs.Limits.{source_limit}
+use Rattle.rv_tree.specs.Limits.{source_limit}
 use Rattle.rv_syntax.specs.declared.token.Kind.{Kind}
 use Rattle.rv_syntax.specs.declared.token.Token.{Token}
-use Rattle.rv_syntax.specs.Tree.{NodeTree, ProgramTree}
-use Rattle.rv_syntax.specs.Places.{flows}
-use Rattle.rv_syntax.specs.Sites.{equation_offsets, assertion_offsets, node_offsets, site_count, with_sites}
-use Rattle.rv_syntax.specs.Bounded.{IsBounded, IsTreeOfText}
+use Rattle.rv_tree.specs.Tree.{NodeTree, ProgramTree}
+use Rattle.rv_tree.specs.Places.{flows}
+use Rattle.rv_tree.specs.Sites.{equation_offsets, assertion_offsets, node_offsets, site_count, with_sites}
+use Rattle.rv_tree.specs.Bounded.{IsBounded}
+use Rattle.rv_syntax.specs.TextTrees.{IsTreeOfText}
 use Rattle.rv_syntax.specs.Lexing.{cut, kind_of, emitted, ends_in_tel, lex, tokens}
 use Rattle.rv_syntax.specs.ProgramText.{IsProgram}
 use Rattle.rv_syntax.proofs.Earlier.{length-flows}

@@ -5,10 +5,10 @@ use Rattle.std.specs.List.Sorted.{IsPermutation}
 use Rattle.std.proofs.lemmas.List.Sorted.{sum_by-IsPermutation}
 use Rattle.std.proofs.lemmas.List.Recursion.{is_sum_by}
 use Rattle.std.proofs.lemmas.List.{length-map}
-use Rattle.rv_syntax.specs.declared.tree.Decl.{Decl}
-use Rattle.rv_syntax.specs.Tree.{EquationTree, AssertionTree, NodeTree}
-use Rattle.rv_syntax.specs.Places.{flows}
-use Rattle.rv_syntax.specs.Sites.{earlier, numbered_from, equation_offsets, assertion_offsets, node_offsets, site_at}
+use Rattle.rv_tree.specs.declared.tree.Decl.{Decl}
+use Rattle.rv_tree.specs.Tree.{EquationTree, AssertionTree, NodeTree}
+use Rattle.rv_tree.specs.Places.{flows}
+use Rattle.rv_tree.specs.Sites.{earlier, numbered_from, equation_offsets, assertion_offsets, node_offsets, site_at}
 
 pub earlier-place : (at : ℕ) (xs : List ℕ) (i : ℕ) → i ≤ length xs → AllWithin (λ y. ltb y at ≡ true) xs 0 i → AllWithin (λ y. ltb y at ≡ false) xs i (length xs) → earlier at xs ≡ i
 earlier-place at [] i le low high = omega arith

@@ -7,19 +7,20 @@ use Rattle.rv_syntax.specs.declared.token.Mark.TheVariants as mark
 use Rattle.rv_syntax.specs.declared.token.Kind.{Kind}
 use Rattle.rv_syntax.specs.declared.token.Kind.TheVariants as kind
 use Rattle.rv_syntax.specs.declared.token.Token.{Token}
-use Rattle.rv_syntax.specs.declared.tree.Name.{Name}
-use Rattle.rv_syntax.specs.declared.tree.Decl.{Decl}
-use Rattle.rv_syntax.specs.declared.tree.TypeName.{TypeName}
-use Rattle.rv_syntax.specs.declared.tree.TypeName.TheVariants as type_name
-use Rattle.rv_syntax.specs.declared.tree.TypeBody.{TypeBody}
-use Rattle.rv_syntax.specs.declared.tree.TypeBody.TheVariants as body_of
-use Rattle.rv_syntax.specs.declared.tree.TypeDecl.{TypeDecl}
+use Rattle.rv_tree.specs.declared.tree.Name.{Name}
+use Rattle.rv_tree.specs.declared.tree.Decl.{Decl}
+use Rattle.rv_tree.specs.declared.tree.TypeName.{TypeName}
+use Rattle.rv_tree.specs.declared.tree.TypeName.TheVariants as type_name
+use Rattle.rv_tree.specs.declared.tree.TypeBody.{TypeBody}
+use Rattle.rv_tree.specs.declared.tree.TypeBody.TheVariants as body_of
+use Rattle.rv_tree.specs.declared.tree.TypeDecl.{TypeDecl}
 use Rattle.rv_syntax.specs.Grammar.{fixed}
-use Rattle.rv_syntax.specs.Tree.{Tree, ConstantTree, NodeTree}
+use Rattle.rv_tree.specs.Tree.{Tree, ConstantTree, NodeTree}
 use Rattle.rv_syntax.specs.Nesting.{Standing, Outside, Inside, opened_by, outside, behind, depth, limit, IsExprOf}
 use Rattle.rv_syntax.specs.Marks.{kind_is, kind_named, is_mark, is_name, mark_at, kind_name, name_of}
 use Rattle.rv_syntax.specs.Rules.{Gives, Word, Only, Marked, Maybe, Part, OneOf, Each}
-use Rattle.rv_syntax.specs.ProgramText.{IsName, IsNames, IsKind, IsEnumeration, IsTypeBody, type_of, IsType, IsTypes, IsRight, constant_of, IsConstant, IsConstants, Group, IsGroup, flows_of, all_flows, IsDecls, IsClock, IsLocal, joined, IsVar, IsLefts, Item, Equates, Assumes, equation_of, assertion_of, IsItem, IsTitle, IsInputs, IsOutputs, IsBody, node_of, IsNode, Section, Types, Constants, OneNode, IsSection, program_of, IsProgram}
+use Rattle.rv_syntax.specs.ProgramText.{IsName, IsNames, IsKind, IsEnumeration, IsTypeBody, type_of, IsType, IsTypes, IsRight, constant_of, IsConstant, IsConstants, IsGroup, all_flows, IsDecls, IsClock, IsLocal, joined, IsVar, IsLefts, Item, Equates, Assumes, equation_of, assertion_of, IsItem, IsTitle, IsInputs, IsOutputs, IsBody, node_of, IsNode, Section, Types, Constants, OneNode, IsSection, program_of, IsProgram}
+use Rattle.rv_tree.specs.Groups.{Group, flows_of}
 use Rattle.rv_syntax.specs.Parse.{Parse, done, then, one, starts, choose, many, maybe}
 use Rattle.rv_syntax.specs.Reads.{expression}
 use Rattle.rv_syntax.specs.Reading as read

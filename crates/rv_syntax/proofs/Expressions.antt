@@ -4,7 +4,7 @@ use Rattle.std.specs.Prelude.{Ok, Err, ◌<◌}
 use Rattle.std.proofs.lemmas.List.{append-nil, append_cancel_right}
 use Rattle.rv_syntax.specs.declared.token.Token.{Token}
 use Rattle.rv_syntax.specs.declared.fault.Why.TheVariants.{Offends, TooDeep}
-use Rattle.rv_syntax.specs.Tree.{Tree}
+use Rattle.rv_tree.specs.Tree.{Tree}
 use Rattle.rv_syntax.specs.Grammar.{Atom, Yes, spelling, syntax_of, Just}
 use Rattle.rv_syntax.specs.Nesting.{Parts, outside, limit, IsExprOf, Standing, Inside, behind_all, depth, IsShallowText}
 use Rattle.rv_syntax.specs.Machine.{Want, following, run}

@@ -7,8 +7,8 @@ use Rattle.rv_syntax.specs.declared.fault.Why.{Why}
 use Rattle.rv_syntax.specs.declared.fault.Why.TheVariants as why
 use Rattle.rv_syntax.specs.declared.fault.TextFault.{TextFault}
 use Rattle.rv_syntax.specs.declared.fault.TextFault.TheVariants as fault
-use Rattle.rv_syntax.specs.declared.tree.Program.{Program}
-use Rattle.rv_syntax.specs.Tree.{ProgramTree, program_tree}
+use Rattle.rv_tree.specs.declared.tree.Program.{Program}
+use Rattle.rv_tree.specs.Tree.{ProgramTree, program_tree}
 use Rattle.rv_syntax.specs.Lexing.{tokens}
 use Rattle.rv_syntax.specs.Nesting.{Standing, Outside, behind_all, depth, limit, IsShallowText}
 use Rattle.rv_syntax.specs.ProgramText.{IsProgram, IsTextOf, program_with_sites}

@@ -1,9 +1,9 @@
 -- Offsets that are collected one element after the other, and expressions that get their sites so.
 use Rattle.std.proofs.Common.{◌≡◌, ℕ, suc, ◌+◌, ◌<◌, ◌≤◌, ◌∷◌, [], ◌++◌, List, map, length, get_or, drop, refl, sym, ap, ◌∙◌, append_assoc, drop-cons, add-one}
 use Rattle.std.proofs.lemmas.List.{append-nil, map_push, drop_all}
-use Rattle.rv_syntax.specs.declared.tree.Expr.{Expr}
-use Rattle.rv_syntax.specs.Tree.{Tree, Trees, None, More, trees, tree_of}
-use Rattle.rv_syntax.specs.Sites.{sited, sited_trees}
+use Rattle.rv_tree.specs.declared.tree.Expr.{Expr}
+use Rattle.rv_tree.specs.Tree.{Tree, Trees, None, More, trees, tree_of}
+use Rattle.rv_tree.specs.Sites.{sited, sited_trees}
 
 -- the next element of a list that is gone through
 next-of : {X : Type 0} (xs : List X) (i : ℕ) (x : X) → i < length xs → x ≡ get_or xs i x → drop i xs ≡ x ∷ drop (i + 1) xs

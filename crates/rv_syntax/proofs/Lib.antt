@@ -21,8 +21,6 @@ pub mod Ordered
 pub mod Joined
 pub mod Numbered
 pub mod Earlier
-pub mod MemorySites
 pub mod OneFault
 pub mod FirstFault
 pub mod Placed
-pub mod Grouped

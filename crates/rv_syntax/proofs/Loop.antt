@@ -1,17 +1,17 @@
 -- A loop over parts, a turn at a time.
 use Rattle.std.proofs.Common.{◌≡◌, ◌<◌, Bool, true, false, cond, List, [], ◌∷◌, ◌++◌, length, refl, sym, ap, ◌∙◌, append_assoc}
 use Rattle.std.proofs.lemmas.List.{append-nil}
-use Rattle.rv_syntax.specs.declared.tree.Name.{Name}
+use Rattle.rv_tree.specs.declared.tree.Name.{Name}
 use Rattle.std.specs.Prelude.{Ok, Err, Option, Some, None, IsTrue, ◌↔◌}
 use Rattle.rv_syntax.specs.declared.token.Mark.{Mark}
 use Rattle.rv_syntax.specs.declared.token.Mark.TheVariants as mark
-use Rattle.rv_syntax.specs.declared.tree.Decl.{Decl}
-use Rattle.rv_syntax.specs.declared.tree.TypeDecl.{TypeDecl}
-use Rattle.rv_syntax.specs.declared.tree.Equation.{Equation}
-use Rattle.rv_syntax.specs.declared.tree.Assertion.{Assertion}
-use Rattle.rv_syntax.specs.declared.tree.ConstDecl.{ConstDecl}
-use Rattle.rv_syntax.specs.declared.tree.Node.{Node}
-use Rattle.rv_syntax.specs.Tree.{ConstantTree, NodeTree, ProgramTree, program_tree}
+use Rattle.rv_tree.specs.declared.tree.Decl.{Decl}
+use Rattle.rv_tree.specs.declared.tree.TypeDecl.{TypeDecl}
+use Rattle.rv_tree.specs.declared.tree.Equation.{Equation}
+use Rattle.rv_tree.specs.declared.tree.Assertion.{Assertion}
+use Rattle.rv_tree.specs.declared.tree.ConstDecl.{ConstDecl}
+use Rattle.rv_tree.specs.declared.tree.Node.{Node}
+use Rattle.rv_tree.specs.Tree.{ConstantTree, NodeTree, ProgramTree, program_tree}
 use Rattle.rv_syntax.specs.declared.token.Token.{Token}
 use Rattle.rv_syntax.specs.declared.fault.Why.{Why}
 use Rattle.rv_syntax.specs.declared.fault.Stop.{Stop}
@@ -19,7 +19,8 @@ use Rattle.rv_syntax.specs.declared.fault.Stop.TheVariants as stop
 use Rattle.rv_syntax.specs.Nesting.{Outside}
 use Rattle.rv_syntax.specs.Marks.{is_mark, is_name, has_mark}
 use Rattle.rv_syntax.specs.Rules.{Word}
-use Rattle.rv_syntax.specs.ProgramText.{IsName, IsType, IsConstant, Group, flows_of, all_flows, joined, IsLocal, IsVar, Item, Equates, Assumes, equations_of, assertions_of, IsItem, node_of, Section, Types, Constants, OneNode, types_of, constants_of, nodes_of, program_of, IsSection}
+use Rattle.rv_syntax.specs.ProgramText.{IsName, IsType, IsConstant, all_flows, joined, IsLocal, IsVar, Item, Equates, Assumes, equations_of, assertions_of, IsItem, node_of, Section, Types, Constants, OneNode, types_of, constants_of, nodes_of, program_of, IsSection}
+use Rattle.rv_tree.specs.Groups.{Group, flows_of}
 use Rattle.rv_syntax.specs.Parse.{Reading, Parse, bind, then, done, one, starts, choose, many, found}
 use Rattle.rv_syntax.specs.Reads.{Reads}
 use Rattle.rv_syntax.specs.Reading as read

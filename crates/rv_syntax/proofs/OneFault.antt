@@ -5,7 +5,7 @@ use Rattle.std.specs.Prelude.{◌<◌, ◌⊎◌}
 use Rattle.rv_syntax.specs.declared.token.Token.{Token}
 use Rattle.rv_syntax.specs.declared.fault.TextFault.{TextFault}
 use Rattle.rv_syntax.specs.declared.fault.TextFault.TheVariants as fault
-use Rattle.rv_syntax.specs.Tree.{ProgramTree}
+use Rattle.rv_tree.specs.Tree.{ProgramTree}
 use Rattle.rv_syntax.specs.Lexing.{tokens}
 use Rattle.rv_syntax.specs.Nesting.{Standing, Outside, behind, behind_all, depth, limit, IsShallowText}
 use Rattle.rv_syntax.specs.ProgramText.{IsProgram, IsTextOf}

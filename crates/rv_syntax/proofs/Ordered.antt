@@ -5,8 +5,8 @@ use Rattle.std.specs.List.{All}
 use Rattle.rv_syntax.specs.declared.token.Mark.TheVariants as mark
 use Rattle.rv_syntax.specs.declared.token.Kind.{Kind}
 use Rattle.rv_syntax.specs.declared.token.Token.{Token}
-use Rattle.rv_syntax.specs.Tree.{ConstantTree, ProgramTree}
-use Rattle.rv_syntax.specs.Bounded.{IsTreeOfText}
+use Rattle.rv_tree.specs.Tree.{ConstantTree, ProgramTree}
+use Rattle.rv_syntax.specs.TextTrees.{IsTreeOfText}
 use Rattle.rv_syntax.specs.Grammar.{fixed, name_token}
 use Rattle.rv_syntax.specs.Lexing.{cut, kind_of, emitted, ends_in_tel, lex, tokens}
 use Rattle.rv_syntax.specs.Rules.{Each}

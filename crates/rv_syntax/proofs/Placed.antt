@@ -8,11 +8,11 @@ use Rattle.rv_syntax.specs.declared.token.Mark.TheVariants as mark
 use Rattle.rv_syntax.specs.declared.token.Kind.{Kind}
 use Rattle.rv_syntax.specs.declared.token.Kind.TheVariants as kind
 use Rattle.rv_syntax.specs.declared.token.Token.{Token}
-use Rattle.rv_syntax.specs.declared.tree.Op.{Op}
-use Rattle.rv_syntax.specs.declared.tree.Op.TheVariants as op
+use Rattle.rv_tree.specs.declared.tree.Op.{Op}
+use Rattle.rv_tree.specs.declared.tree.Op.TheVariants as op
 use Rattle.rv_syntax.specs.declared.operator.Prefix.{Prefix}
 use Rattle.rv_syntax.specs.declared.operator.Prefix.TheVariants as prefixed
-use Rattle.rv_syntax.specs.declared.tree.Decl.{Decl}
+use Rattle.rv_tree.specs.declared.tree.Decl.{Decl}
 use Rattle.rv_syntax.specs.Grammar.{Leaf, Yes, No, Count, Called, Callee, Function, Hash, Written, Atom, InBrackets, Before, Between, Gated, If, Given, Front, NoneBefore, Then, fixed, name_token, leaf_token, callee_token, prefix_mark, op_mark, spelling, front_spelling}
 use Rattle.rv_syntax.specs.Nesting.{IsExprOf}
 use Rattle.rv_syntax.specs.Rules.{Gives, Word, Only, Marked, Maybe, Part, OneOf, Each}

@@ -4,7 +4,7 @@ use Rattle.std.specs.Prelude.{◌⊎◌, nat_le, Ok, Err, ◌<◌}
 use Rattle.std.proofs.lemmas.Bool.{leb-true, leb-false}
 use Rattle.rv_syntax.specs.declared.token.Token.{Token}
 use Rattle.rv_syntax.specs.declared.fault.Why.TheVariants.{Offends, TooDeep}
-use Rattle.rv_syntax.specs.Tree.{Tree}
+use Rattle.rv_tree.specs.Tree.{Tree}
 use Rattle.rv_syntax.specs.Nesting.{weight, limit}
 use Rattle.rv_syntax.specs.Machine.{State, Move, To, Ends, Fails, step, finish, Reading, run}
 use Rattle.rv_syntax.specs.Machine as free

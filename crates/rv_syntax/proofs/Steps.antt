@@ -7,8 +7,8 @@ use Rattle.rv_syntax.specs.declared.token.Mark.TheVariants as mark
 use Rattle.rv_syntax.specs.declared.token.Kind.{Kind}
 use Rattle.rv_syntax.specs.declared.token.Kind.TheVariants as kind
 use Rattle.rv_syntax.specs.declared.token.Token.{Token}
-use Rattle.rv_syntax.specs.declared.tree.Name.{Name}
-use Rattle.rv_syntax.specs.declared.tree.Op.TheVariants as op
+use Rattle.rv_tree.specs.declared.tree.Name.{Name}
+use Rattle.rv_tree.specs.declared.tree.Op.TheVariants as op
 use Rattle.rv_syntax.specs.declared.parser.Start.{Start}
 use Rattle.rv_syntax.specs.declared.parser.Start.TheVariants as start
 use Rattle.rv_syntax.specs.declared.parser.Next.{Next}
@@ -18,7 +18,7 @@ use Rattle.rv_syntax.specs.declared.parser.Link.TheVariants as link
 use Rattle.rv_syntax.specs.declared.fault.Stop.{Stop}
 use Rattle.rv_syntax.specs.declared.fault.Stop.TheVariants as stop
 use Rattle.rv_syntax.specs.declared.fault.Why.TheVariants.{Offends, TooDeep}
-use Rattle.rv_syntax.specs.Tree.{Tree}
+use Rattle.rv_tree.specs.Tree.{Tree}
 use Rattle.rv_syntax.specs.Grammar.{Yes, Called, Callee, Function, Hash, fixed, name_token, Just, Sampled, Invoked}
 use Rattle.rv_syntax.specs.Nesting.{Weight, Operator, Opening, Plain, mark_weight, weight, limit}
 use Rattle.rv_syntax.specs.Marks.{is_mark, is_name, kind_is, kind_name}

@@ -6,13 +6,13 @@ use Rattle.rv_syntax.specs.declared.token.Mark.TheVariants as mark
 use Rattle.rv_syntax.specs.declared.token.Kind.{Kind}
 use Rattle.rv_syntax.specs.declared.token.Kind.TheVariants as kind
 use Rattle.rv_syntax.specs.declared.token.Token.{Token}
-use Rattle.rv_syntax.specs.declared.tree.Name.{Name}
-use Rattle.rv_syntax.specs.declared.tree.Op.{Op}
-use Rattle.rv_syntax.specs.declared.tree.Op.TheVariants as op
+use Rattle.rv_tree.specs.declared.tree.Name.{Name}
+use Rattle.rv_tree.specs.declared.tree.Op.{Op}
+use Rattle.rv_tree.specs.declared.tree.Op.TheVariants as op
 use Rattle.rv_syntax.specs.declared.operator.Prefix.{Prefix}
 use Rattle.rv_syntax.specs.declared.operator.Prefix.TheVariants as prefixed
-use Rattle.rv_syntax.specs.Tree.{Tree, Node, Form, trees}
-use Rattle.rv_syntax.specs.Tree as tree
+use Rattle.rv_tree.specs.Tree.{Tree, Node, Form, trees}
+use Rattle.rv_tree.specs.Tree as tree
 
 -- a literal or a name
 pub data Leaf : Type 0 where

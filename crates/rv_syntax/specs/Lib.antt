@@ -1,15 +1,9 @@
-pub mod Limits
-pub mod Tree
-pub mod Groups
-pub mod Places
-pub mod Delays
-pub mod Sites
-pub mod SitedParts
 pub mod Lexing
 pub mod Grammar
 pub mod Nesting
 pub mod Rules
 pub mod ProgramText
+pub mod TextTrees
 pub mod Marks
 pub mod Machine
 pub mod Limited
@@ -20,4 +14,3 @@ pub mod Correct
 pub mod Longest
 pub mod Faults
 pub mod Stopped
-pub mod Bounded

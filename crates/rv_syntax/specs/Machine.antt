@@ -5,17 +5,17 @@ use Rattle.rv_syntax.specs.declared.token.Mark.TheVariants as mark
 use Rattle.rv_syntax.specs.declared.token.Kind.{Kind}
 use Rattle.rv_syntax.specs.declared.token.Kind.TheVariants as kind
 use Rattle.rv_syntax.specs.declared.token.Token.{Token}
-use Rattle.rv_syntax.specs.declared.tree.Name.{Name}
-use Rattle.rv_syntax.specs.declared.tree.Op.{Op}
-use Rattle.rv_syntax.specs.declared.tree.Op.TheVariants as op
+use Rattle.rv_tree.specs.declared.tree.Name.{Name}
+use Rattle.rv_tree.specs.declared.tree.Op.{Op}
+use Rattle.rv_tree.specs.declared.tree.Op.TheVariants as op
 use Rattle.rv_syntax.specs.declared.operator.Prefix.{Prefix}
 use Rattle.rv_syntax.specs.declared.operator.Prefix.TheVariants as prefixed
 use Rattle.rv_syntax.specs.declared.parser.Start.{Start}
 use Rattle.rv_syntax.specs.declared.parser.Start.TheVariants as start
 use Rattle.rv_syntax.specs.declared.parser.Next.{Next}
 use Rattle.rv_syntax.specs.declared.parser.Next.TheVariants as next
-use Rattle.rv_syntax.specs.Tree.{Tree, Node, Form}
-use Rattle.rv_syntax.specs.Tree as tree
+use Rattle.rv_tree.specs.Tree.{Tree, Node, Form}
+use Rattle.rv_tree.specs.Tree as tree
 use Rattle.rv_syntax.specs.Marks.{name_of}
 use Rattle.rv_syntax.specs.Grammar.{Leaf, Yes, No, Count, Called, Callee, Function, Hash, Just, Applied, Joined, Sampled, Chosen, Invoked, leaf_level, level_of, left_level, right_level}
 

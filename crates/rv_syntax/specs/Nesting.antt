@@ -5,7 +5,7 @@ use Rattle.rv_syntax.specs.declared.token.Mark.TheVariants as mark
 use Rattle.rv_syntax.specs.declared.token.Kind.{Kind}
 use Rattle.rv_syntax.specs.declared.token.Kind.TheVariants as kind
 use Rattle.rv_syntax.specs.declared.token.Token.{Token}
-use Rattle.rv_syntax.specs.Tree.{Tree}
+use Rattle.rv_tree.specs.Tree.{Tree}
 use Rattle.rv_syntax.specs.Grammar.{Written, spelling, syntax_of, IsGrammatical}
 
 -- What a token is to the nesting: an operator token, a bracket that opens or closes, a comma, or nothing. The operator

@@ -17,17 +17,18 @@ use Rattle.std.specs.Prelude.{None as Nothing}
 use Rattle.rv_syntax.specs.declared.token.Mark.TheVariants as mark
 use Rattle.rv_syntax.specs.declared.token.Kind.TheVariants as kind
 use Rattle.rv_syntax.specs.declared.token.Token.{Token}
-use Rattle.rv_syntax.specs.declared.tree.Name.{Name}
-use Rattle.rv_syntax.specs.declared.tree.Decl.{Decl}
-use Rattle.rv_syntax.specs.declared.tree.TypeName.{TypeName}
-use Rattle.rv_syntax.specs.declared.tree.TypeName.TheVariants as type_name
-use Rattle.rv_syntax.specs.declared.tree.TypeBody.{TypeBody}
-use Rattle.rv_syntax.specs.declared.tree.TypeBody.TheVariants as type_body
-use Rattle.rv_syntax.specs.declared.tree.TypeDecl.{TypeDecl}
-use Rattle.rv_syntax.specs.Tree.{Tree, EquationTree, AssertionTree, ConstantTree, NodeTree, ProgramTree}
+use Rattle.rv_tree.specs.declared.tree.Name.{Name}
+use Rattle.rv_tree.specs.declared.tree.Decl.{Decl}
+use Rattle.rv_tree.specs.declared.tree.TypeName.{TypeName}
+use Rattle.rv_tree.specs.Groups.{Group, flows_of}
+use Rattle.rv_tree.specs.declared.tree.TypeName.TheVariants as type_name
+use Rattle.rv_tree.specs.declared.tree.TypeBody.{TypeBody}
+use Rattle.rv_tree.specs.declared.tree.TypeBody.TheVariants as type_body
+use Rattle.rv_tree.specs.declared.tree.TypeDecl.{TypeDecl}
+use Rattle.rv_tree.specs.Tree.{Tree, EquationTree, AssertionTree, ConstantTree, NodeTree, ProgramTree}
 use Rattle.rv_syntax.specs.Lexing.{tokens}
 use Rattle.rv_syntax.specs.Nesting.{IsExprOf, Outside, IsShallowText}
-use Rattle.rv_syntax.specs.Sites.{with_sites}
+use Rattle.rv_tree.specs.Sites.{with_sites}
 use Rattle.rv_syntax.specs.Rules.{Gives, Word, Only, Marked, Maybe, Part, OneOf, Each}
 
 -- a name, with the offset of its token
@@ -76,21 +77,9 @@ IsConstant = Part IsName (λ x. Part (Maybe (Word mark.Colon IsKind)) (λ k. Par
 abbrev pub IsConstants : List ConstantTree → List Token → Type 0
 IsConstants = Word mark.Const (Part IsConstant (λ c. Part (Each IsConstant) (λ more. Gives (c ∷ more))))
 
--- the declaration of a flow of this type, on this clock where it has one
-abbrev pub flow : TypeName → Option Name → Name → Decl
-flow k clock x = record { name = x; kind = k; clock = clock }
-
--- the names of some flows, and their type
-abbrev pub Group : Type 0
-Group = List Name × TypeName
-
 -- group = NAME { ',' NAME } ':' kind
 abbrev pub IsGroup : Group → List Token → Type 0
 IsGroup = Part IsNames (λ xs. Word mark.Colon (Part IsKind (λ k. Gives (xs, k))))
-
--- the flows of a group, on this clock where it has one
-abbrev pub flows_of : Group → Option Name → List Decl
-flows_of group clock = map (flow group.1 clock) group.0
 
 abbrev pub all_flows : List Group → List Decl
 all_flows [] = []

@@ -3,8 +3,8 @@ use Rattle.std.specs.Prelude.{◌≡◌, ◌≤◌, ◌<◌, ◌+◌, ℕ, Bool,
 use Rattle.rv_syntax.specs.declared.token.Mark.{Mark}
 use Rattle.rv_syntax.specs.declared.token.Mark.TheVariants as mark
 use Rattle.rv_syntax.specs.declared.token.Token.{Token}
-use Rattle.rv_syntax.specs.declared.tree.Name.{Name}
-use Rattle.rv_syntax.specs.declared.tree.Expr.{Expr}
+use Rattle.rv_tree.specs.declared.tree.Name.{Name}
+use Rattle.rv_tree.specs.declared.tree.Expr.{Expr}
 use Rattle.rv_syntax.specs.declared.parser.Start.TheVariants as start
 use Rattle.rv_syntax.specs.declared.parser.Next.{Next}
 use Rattle.rv_syntax.specs.declared.parser.Next.TheVariants as next
@@ -14,7 +14,7 @@ use Rattle.rv_syntax.specs.declared.parser.Operand.{Operand}
 use Rattle.rv_syntax.specs.declared.fault.Stop.{Stop}
 use Rattle.rv_syntax.specs.declared.fault.Stop.TheVariants as stop
 use Rattle.rv_syntax.specs.declared.fault.Why.TheVariants.{Offends, TooDeep}
-use Rattle.rv_syntax.specs.Tree.{Tree, tree_of}
+use Rattle.rv_tree.specs.Tree.{Tree, tree_of}
 use Rattle.rv_syntax.specs.Grammar.{name_token, Callee, Invoked}
 use Rattle.rv_syntax.specs.Nesting.{limit}
 use Rattle.rv_syntax.specs.Marks.{is_mark, is_name}

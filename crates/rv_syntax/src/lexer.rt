@@ -4,11 +4,11 @@ ghost use Rattle.std.specs.Prelude.{◌≡◌, ◌≤◌, ◌<◌, ◌++◌, ℕ
 ghost use Rattle.std.specs.Str.{bytes_eq, IsAscii};
 ghost use Rattle.std.specs.Str.Parse.{digits_value};
 ghost use Rattle.rv_syntax.specs.Lexing as spec;
-ghost use Rattle.rv_syntax.specs.Limits.{source_limit};
+ghost use Rattle.rv_tree.specs.Limits.{source_limit};
 
-use crate::limits::TOO_HEAVY;
 use crate::token::{Kind, Mark, Token};
 use rv_base::{Memory, Text};
+use rv_tree::TOO_HEAVY;
 use std::alloc::{AllocError, Global};
 
 /// What the bytes at the front of a text are: a byte of white space or a comment, a name, a number, a word or

@@ -1,54 +1,54 @@
 //! From the bytes of a Lustre source to its syntax tree.
+//!
+//! It promises that `parse` answers the one tree of a text, or the fault of its first offending token, and that the tree has
+//! what the crates above take of one (`tree`). It stands on `rv_tree`; nothing but the reader of sources stands on it. Begin
+//! with `parse` below, then specs/ProgramText.antt for the grammar.
 #![tactic(auto)]
 
 ghost use Rattle.std.specs.Prelude.{true, ◌≡◌, ◌⊎◌, ◌<◌, ◌≤◌, [], ◌∷◌, ◌++◌, ℕ, List, length, slice_index_or, IfOk, IfErr};
 ghost use Rattle.std.specs.List.{All, Contains};
 ghost use Rattle.rv_syntax.specs.Correct.{Finds, Explains, Refuses};
-ghost use Rattle.rv_syntax.specs.Delays.{Delay, node_delays, memory_sites, IsNumbered};
+ghost use Rattle.rv_tree.specs.Delays.{IsNumbered};
 ghost use Rattle.rv_syntax.specs.Lexing.{cut, tokens};
 ghost use Rattle.rv_syntax.specs.Faults.{IsDead, IsFault, is_left_out};
 ghost use Rattle.rv_syntax.specs.Reading as reading;
 ghost use Rattle.rv_syntax.specs.Stopped.{Tells};
-ghost use Rattle.rv_syntax.specs.Bounded.{IsBounded, IsTreeOfText};
+ghost use Rattle.rv_tree.specs.Bounded.{IsBounded};
+ghost use Rattle.rv_tree.specs.SourceTrees.{IsSourceTree};
+ghost use Rattle.rv_syntax.specs.TextTrees.{IsTreeOfText};
 ghost use Rattle.rv_syntax.specs.declared.fault.TextFault.{TextFault as FaultModel};
-ghost use Rattle.rv_syntax.specs.Limits.{source_limit};
+ghost use Rattle.rv_tree.specs.Limits.{source_limit};
 ghost use Rattle.rv_syntax.specs.Longest.{AreTokens, IsLongest};
-ghost use Rattle.rv_syntax.specs.Places.{memory_site};
 ghost use Rattle.rv_syntax.specs.ProgramText.{IsTextOf};
 ghost use Rattle.rv_syntax.specs.Grammar.{fixed, name_token};
 ghost use Rattle.rv_syntax.specs.Nesting.{IsExprOf};
-ghost use Rattle.rv_syntax.specs.Tree.{ConstantTree, NodeTree, ProgramTree, Tree, program_tree};
+ghost use Rattle.rv_tree.specs.Tree.{ConstantTree, NodeTree, ProgramTree, Tree, program_tree};
 ghost use Rattle.rv_syntax.specs.declared.token.Mark.TheVariants as mark;
 ghost use Rattle.rv_syntax.specs.declared.token.Token.{Token as TokenModel};
-ghost use Rattle.rv_syntax.specs.declared.tree.Name.{Name as NameAt};
+ghost use Rattle.rv_tree.specs.declared.tree.Name.{Name as NameAt};
 
-mod decls;
 mod fault;
 mod lexer;
-mod limits;
 mod offending;
 mod operator;
 mod parser;
 mod rules;
 mod sites;
 mod token;
-mod tree;
 
-pub use decls::Decls;
 use fault::Stop;
 pub use fault::TextFault;
 use lexer::tokens_of;
-pub use limits::{HEAVIEST, SOURCE_LIMIT, TOO_HEAVY};
 use offending::fault_of;
 use parser::Parser;
 use rules::read_program;
+pub use rv_tree::{
+    Assertion, ConstDecl, Decl, Decls, Equation, Expr, ExprForm, HEAVIEST, Name, Node, Op, Program,
+    SOURCE_LIMIT, TOO_HEAVY, TypeBody, TypeDecl, TypeName,
+};
 use sites::with_program_sites;
 use std::alloc::Global;
 use token::Token;
-pub use tree::{
-    Assertion, ConstDecl, Decl, Equation, Expr, ExprForm, Name, Node, Op, Program, TypeBody,
-    TypeDecl, TypeName,
-};
 
 /// Reads the bytes of a source of at most 1,048,576 bytes. It answers the tree of the text where the text is a
 /// program whose expressions are nested at most 200 deep. Otherwise it answers the fault of the first offending
@@ -60,6 +60,8 @@ pub fn parse(alloc: Global, bytes: &[u8]) -> Result<Program, TextFault>
     requires { length bytes.now ≤ source_limit }
     // What is answered is the tree of the text.
     ensures found { IfOk result (λ p. IsTextOf bytes.now (program_tree p)) }
+    // It has what the rules of names, types, clocks and order take of a tree.
+    ensures tree { IfOk result (λ p. IsSourceTree (program_tree p)) }
     // The tree of the text is answered, unless memory runs out.
     ensures only { (t : ProgramTree) → IsTextOf bytes.now t → Finds program_tree t result }
     // A fault that is answered is that of the first offending token.
@@ -67,6 +69,7 @@ pub fn parse(alloc: Global, bytes: &[u8]) -> Result<Program, TextFault>
     // The fault of the first offending token is answered, unless memory runs out.
     ensures only_offending { (f : FaultModel) → IsFault bytes.now f → Refuses f result }
 {
+    source_trees();
     let tokens = tokens_of(alloc, bytes)?;
     let program = whole_program(alloc, &tokens, bytes.len() as u32)?;
     let sited = with_program_sites(alloc, program)?;
@@ -106,6 +109,16 @@ pub fn ordered_constants()
     ensures after { (t : ProgramTree) (front back : List ConstantTree) (c : ConstantTree) → IsTreeOfText t → t.constants ≡ front ++ c ∷ back → All (λ d. c.name.at < d.name.at) back }
 {}
 
+/// The tree of a text within the limit has no list longer than the text may be, numbered sites, and constants in the order of
+/// their offsets.
+pub fn source_trees()
+    ensures { (t : ProgramTree) → IsTreeOfText t → IsSourceTree t }
+{
+    bounded_tree();
+    numbered_sites();
+    ordered_constants();
+}
+
 /// Tokens are at most one expression.
 pub fn one_expression()
     ensures { (ts : List TokenModel) (t u : Tree) → IsExprOf t ts → IsExprOf u ts → t ≡ u }
@@ -133,13 +146,6 @@ pub fn whole_text()
 /// call, comparison and assertion has a later site of its own, in the order of their offsets.
 pub fn numbered_sites()
     ensures { (bytes : List ℕ) (t : ProgramTree) (n : NodeTree) → length bytes ≤ source_limit → IsTextOf bytes t → Contains t.nodes n → IsNumbered n }
-{}
-
-/// The memories of a node stand at the sites that its `pre` and `current` read, each once and in rising order.
-pub fn memories_in_order()
-    ensures rising { (n : NodeTree) (j k : ℕ) → j < k → k < length (memory_sites n) → slice_index_or (memory_sites n) j 0 < slice_index_or (memory_sites n) k 0 }
-    ensures all { (n : NodeTree) (d : Delay) → Contains (node_delays n) d → Contains (memory_sites n) (memory_site n d.site d.operand) }
-    ensures only { (n : NodeTree) (s : ℕ) → Contains (memory_sites n) s → (d : Delay) × Contains (node_delays n) d × (memory_site n d.site d.operand ≡ s) }
 {}
 
 /// The program that all the tokens of a text of this length are. Its parts have no sites yet.

@@ -3,7 +3,7 @@
 ghost use Rattle.std.specs.Prelude.{◌≡◌};
 ghost use Rattle.rv_syntax.specs.Grammar as grammar;
 
-use crate::tree::Op;
+use rv_tree::Op;
 
 /// An operator before its operand.
 #[derive(Clone, Copy, Debug)]

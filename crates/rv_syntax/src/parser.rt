@@ -8,13 +8,13 @@ ghost use Rattle.rv_syntax.specs.Marks as marks;
 ghost use Rattle.rv_syntax.specs.Marks.{name_of};
 ghost use Rattle.rv_syntax.specs.Parse.{one, starts};
 ghost use Rattle.rv_syntax.specs.Reads as spec;
-ghost use Rattle.rv_syntax.specs.Tree.{tree_of};
+ghost use Rattle.rv_tree.specs.Tree.{tree_of};
 
 use crate::fault::{Stop, Why};
 use crate::operator::{Prefix, left_need, level, right_need};
 use crate::token::{Kind, Mark, Token};
-use crate::tree::{Expr, ExprForm, Name, Op};
 use rv_base::{Box, Many};
+use rv_tree::{Expr, ExprForm, Name, Op};
 use std::alloc::Global;
 use std::marker::Model;
 

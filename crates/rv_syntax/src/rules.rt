@@ -3,20 +3,20 @@
 ghost use Rattle.std.specs.Prelude.{⊤, ◌≡◌, ◌++◌, [], ◌∷◌, List, Option, None, IfOk, OnOk, map};
 ghost use Rattle.rv_syntax.specs.Parse.{maybe, starts};
 ghost use Rattle.rv_syntax.specs.Marks.{is_mark};
-ghost use Rattle.rv_syntax.specs.ProgramText.{all_flows, flows_of, joined};
-ghost use Rattle.rv_syntax.specs.declared.tree.Decl.{Decl as DeclModel};
+ghost use Rattle.rv_syntax.specs.ProgramText.{all_flows, joined};
+ghost use Rattle.rv_tree.specs.Groups.{flows_of};
+ghost use Rattle.rv_tree.specs.declared.tree.Decl.{Decl as DeclModel};
 ghost use Rattle.rv_syntax.specs.Reading as spec;
 ghost use Rattle.rv_syntax.specs.Reads.{Reads, same};
-ghost use Rattle.rv_syntax.specs.Tree.{assertion_tree, constant_tree, equation_tree, node_tree, program_tree, tree_of};
+ghost use Rattle.rv_tree.specs.Tree.{assertion_tree, constant_tree, equation_tree, node_tree, program_tree, tree_of};
 
-use crate::decls::Decls;
 use crate::fault::Stop;
 use crate::parser::Parser;
 use crate::token::Mark;
-use crate::tree::{
-    Assertion, ConstDecl, Equation, Expr, Name, Node, Program, TypeBody, TypeDecl, TypeName,
-};
 use rv_base::Many;
+use rv_tree::{
+    Assertion, ConstDecl, Decls, Equation, Expr, Name, Node, Program, TypeBody, TypeDecl, TypeName,
+};
 use std::alloc::{AllocError, Global};
 
 /// Names of flows, and their type.

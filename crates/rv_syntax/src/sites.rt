@@ -4,14 +4,14 @@
 ghost use Rattle.std.specs.Prelude.{◌≡◌, ◌+◌, ◌≤◌, ◌++◌, ℕ, length, map, IsTrue, IfOk, OnOk, Some, None};
 ghost use Rattle.std.specs.List.{All};
 ghost use Rattle.std.specs.List.Sorted.{IsNonDecreasing};
-ghost use Rattle.rv_syntax.specs.Limits.{source_limit};
+ghost use Rattle.rv_tree.specs.Limits.{source_limit};
 ghost use Rattle.rv_syntax.specs.ProgramText.{program_with_sites};
-ghost use Rattle.rv_syntax.specs.Sites as spec;
-ghost use Rattle.rv_syntax.specs.Tree.{assertion_tree, equation_tree, node_tree, program_tree, tree_of, trees};
-ghost use Rattle.rv_syntax.specs.Tree as tree;
+ghost use Rattle.rv_tree.specs.Sites as spec;
+ghost use Rattle.rv_tree.specs.Tree.{assertion_tree, equation_tree, node_tree, program_tree, tree_of, trees};
+ghost use Rattle.rv_tree.specs.Tree as tree;
 
-use crate::tree::{Assertion, Equation, Expr, ExprForm, Name, Node, Op, Program};
 use rv_base::{Box, Many, Text};
+use rv_tree::{Assertion, Equation, Expr, ExprForm, Name, Node, Op, Program};
 use std::alloc::{AllocError, Global};
 
 /// Whether an operator is a comparison, one of level 5.

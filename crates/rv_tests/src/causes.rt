@@ -2,7 +2,8 @@
 
 use crate::rows::{fault_text, name_fault_text};
 use rv_base::{Memory, Place};
-use rv_causality::{CauseFault, Instance, Order, Quantity, order};
+use rv_causality::{CauseFault, Quantity, order};
+use rv_instances::{Instance, Order};
 use rv_syntax::{SOURCE_LIMIT, parse};
 use rv_types::settle;
 use std::alloc::Global;

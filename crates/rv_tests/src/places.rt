@@ -1,14 +1,15 @@
 //! What is answered on a whole source: the places of its memories, with their types.
 
 ghost use Rattle.std.specs.Prelude.{◌≡◌, map, IfOk};
-ghost use Rattle.rv_syntax.specs.Tree.{program_tree};
-ghost use Rattle.rv_causality.specs.Fitting.{Fits};
+ghost use Rattle.rv_tree.specs.Tree.{program_tree};
+ghost use Rattle.rv_instances.specs.Fitting.{Fits};
 
 use crate::causes::{add_place, cause_text};
 use crate::rows::{fault_text, name_fault_text};
 use rv_base::{Many, Memory};
-use rv_causality::{Instance, Source, SourceFault, read_source};
+use rv_instances::{Instance, Source};
 use rv_meaning::{kind_of, memories};
+use rv_source::{SourceFault, read_source};
 use rv_syntax::SOURCE_LIMIT;
 use rv_types::Kind;
 use std::alloc::Global;

@@ -2,8 +2,9 @@
 
 use crate::outside::add_bytes;
 use rv_base::{Many, Memory, Place, Sites};
-use rv_causality::{CauseFault, Quantity, SourceFault};
+use rv_causality::{CauseFault, Quantity};
 use rv_run::{Report, text};
+use rv_source::SourceFault;
 use rv_syntax::TextFault;
 use rv_types::NameFault;
 use std::alloc::{AllocError, Global};

@@ -3,7 +3,7 @@ use Rattle.std.proofs.Common.{◌≡◌, ℕ, zero, suc, ◌+◌, ◌-◌, ◌<�
 use Rattle.std.proofs.lemmas.Bool.{cases_lt}
 use Rattle.std.proofs.Math.Nat.{suc-add, add-suc}
 use Rattle.std.proofs.Math.ListN.{get_or-map}
-use Rattle.rv_syntax.specs.Tree.{NodeTree}
+use Rattle.rv_tree.specs.Tree.{NodeTree}
 use Rattle.rv_types.specs.declared.typed.Clock.{Clock}
 use Rattle.rv_types.specs.declared.typed.Clock.TheVariants.{Base, On}
 use Rattle.rv_types.specs.Clocks.{IsGrounded, at_base, through, ends, flow_clocks, clock_at}

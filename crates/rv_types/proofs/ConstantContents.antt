@@ -5,14 +5,14 @@ use Rattle.std.specs.Prelude.{ℤ, pos, nat_le}
 use Rattle.std.proofs.lemmas.Bool.{eqb-true}
 use Rattle.rv_base.specs.declared.value.Value.{Value}
 use Rattle.rv_base.specs.declared.value.Value.TheVariants.{Flag, Label, Whole}
-use Rattle.rv_syntax.specs.Limits.{heaviest, too_heavy}
-use Rattle.rv_syntax.specs.declared.tree.Name.{Name}
-use Rattle.rv_syntax.specs.declared.tree.Op.{Op}
-use Rattle.rv_syntax.specs.declared.tree.Op.TheVariants as op
-use Rattle.rv_syntax.specs.declared.tree.TypeDecl.{TypeDecl}
-use Rattle.rv_syntax.specs.declared.tree.TypeName.{TypeName}
-use Rattle.rv_syntax.specs.Tree.{Tree, Node, Form, True, False, Number, Named, Not, Minus, Pre, Current, When, Binary, If, AtMostOne, Call, ConstantTree, ProgramTree}
-use Rattle.rv_syntax.specs.Places.{Identifier, is_same}
+use Rattle.rv_tree.specs.Limits.{heaviest, too_heavy}
+use Rattle.rv_tree.specs.declared.tree.Name.{Name}
+use Rattle.rv_tree.specs.declared.tree.Op.{Op}
+use Rattle.rv_tree.specs.declared.tree.Op.TheVariants as op
+use Rattle.rv_tree.specs.declared.tree.TypeDecl.{TypeDecl}
+use Rattle.rv_tree.specs.declared.tree.TypeName.{TypeName}
+use Rattle.rv_tree.specs.Tree.{Tree, Node, Form, True, False, Number, Named, Not, Minus, Pre, Current, When, Binary, If, AtMostOne, Call, ConstantTree, ProgramTree}
+use Rattle.rv_tree.specs.Places.{Identifier, is_same}
 use Rattle.rv_types.specs.declared.typed.Kind.{Kind}
 use Rattle.rv_types.specs.declared.typed.Kind.TheVariants as kind
 use Rattle.rv_types.specs.declared.fault.Verdict.{Verdict}

@@ -7,10 +7,10 @@ use Rattle.std.proofs.lemmas.Bool.Decides.{nat_tests}
 use Rattle.rv_base.specs.declared.value.Value.{Value}
 use Rattle.rv_base.specs.declared.value.Value.TheVariants.{Flag}
 use Rattle.rv_base.specs.declared.value.Value.TheVariants as value
-use Rattle.rv_syntax.specs.declared.tree.Name.{Name}
-use Rattle.rv_syntax.specs.declared.tree.TypeName.{TypeName}
-use Rattle.rv_syntax.specs.Tree.{ConstantTree, ProgramTree}
-use Rattle.rv_syntax.specs.Places.{Identifier, is_same, index_of}
+use Rattle.rv_tree.specs.declared.tree.Name.{Name}
+use Rattle.rv_tree.specs.declared.tree.TypeName.{TypeName}
+use Rattle.rv_tree.specs.Tree.{ConstantTree, ProgramTree}
+use Rattle.rv_tree.specs.Places.{Identifier, is_same, index_of}
 use Rattle.rv_types.specs.declared.typed.Kind.{Kind}
 use Rattle.rv_types.specs.declared.typed.Kind.TheVariants.{Labels}
 use Rattle.rv_types.specs.declared.view.Label.{Label}
@@ -24,7 +24,7 @@ use Rattle.rv_types.specs.Scopes.{label_kind, label_value, constant_scope, as_de
 use Rattle.rv_types.specs.Earliest.{first, sooner}
 use Rattle.rv_types.specs.Tables.{entry_in, type_of_label, constant_or, value_in}
 use Rattle.rv_types.specs.TypeTables.{declared_kinds, places_from}
-use Rattle.rv_syntax.specs.Limits.{too_heavy}
+use Rattle.rv_tree.specs.Limits.{too_heavy}
 use Rattle.rv_types.specs.ValueTables.{value_of_label, value_or, known_in, AreSmall}
 use Rattle.rv_types.specs.ConstantTables.{AreTablesOf, as_declared_by, declared_clash, constant_types_by}
 use Rattle.rv_types.proofs.Joined.{first_append}

@@ -6,17 +6,17 @@ use Rattle.std.proofs.lemmas.Int.{ints}
 use Rattle.rv_base.specs.declared.value.Value.{Value}
 use Rattle.rv_base.specs.declared.value.Value.TheVariants.{Flag, Whole}
 use Rattle.rv_base.specs.declared.value.Value.TheVariants as value
-use Rattle.rv_syntax.specs.declared.tree.Op.{Op}
-use Rattle.rv_syntax.specs.declared.tree.Op.TheVariants as op
-use Rattle.rv_syntax.specs.Tree.{Tree, Form, Trees, Node, True, False, Number, Named, Not, Minus, Pre, Current, When, Binary, If, AtMostOne, Call, None, More, ConstantTree, ProgramTree}
-use Rattle.rv_syntax.specs.Places.{Identifier, is_same}
+use Rattle.rv_tree.specs.declared.tree.Op.{Op}
+use Rattle.rv_tree.specs.declared.tree.Op.TheVariants as op
+use Rattle.rv_tree.specs.Tree.{Tree, Form, Trees, Node, True, False, Number, Named, Not, Minus, Pre, Current, When, Binary, If, AtMostOne, Call, None, More, ConstantTree, ProgramTree}
+use Rattle.rv_tree.specs.Places.{Identifier, is_same}
 use Rattle.rv_types.specs.declared.weighing.Weighed.{Weighed}
 use Rattle.rv_types.specs.declared.reading_values.Trues.{Trues}
 use Rattle.rv_types.specs.Kinds.{LabelPlace, label_of}
 use Rattle.rv_types.specs.Types.{Scope, is_constant, is_constant_form, are_constant}
 use Rattle.rv_types.specs.Constants.{flag_in, whole_in, counted_part, value_of, form_value, weight_of, form_weight, flags_of_all}
 use Rattle.rv_types.specs.Scopes.{constant_value, constant_value_after}
-use Rattle.rv_syntax.specs.Limits.{too_heavy}
+use Rattle.rv_tree.specs.Limits.{too_heavy}
 use Rattle.rv_types.specs.ValueTables.{AreSmall, at_most_after}
 use Rattle.rv_types.specs.ConstantParts.{constant_form, constant_part, trues_after, trues_over}
 use Rattle.rv_types.proofs.Weights.{counted_small, under_small}

@@ -2,8 +2,8 @@
 use Rattle.std.proofs.Common.{◌≡◌, ℕ, ◌≤◌, zero, suc, ◌&&◌, nat_le, List, [], ◌∷◌, map, drop, length, Option, Some, is_some, refl, ◌∙◌, arith}
 use Rattle.std.proofs.Common.{None as Nothing}
 use Rattle.std.proofs.lemmas.Bool.Decides.{nat_tests}
-use Rattle.rv_syntax.specs.declared.tree.Expr.{Expr}
-use Rattle.rv_syntax.specs.Tree.{tree_of, trees}
+use Rattle.rv_tree.specs.declared.tree.Expr.{Expr}
+use Rattle.rv_tree.specs.Tree.{tree_of, trees}
 use Rattle.rv_types.specs.declared.typed.Kind.{Kind}
 use Rattle.rv_types.specs.Types.{all_typed, fit}
 use Rattle.rv_types.specs.Tables.{suits_at}

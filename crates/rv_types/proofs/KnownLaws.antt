@@ -2,12 +2,12 @@
 use Rattle.std.proofs.Common.{◌≡◌, ℕ, cond, ◌||◌, List, [], ◌∷◌, ◌++◌, flat_map, Option, Some, refl, ap, ◌∙◌}
 use Rattle.std.proofs.Common.{None as Nothing}
 use Rattle.std.proofs.lemmas.List.{map-append}
-use Rattle.rv_syntax.specs.declared.tree.Name.{Name}
-use Rattle.rv_syntax.specs.declared.tree.Decl.{Decl}
-use Rattle.rv_syntax.specs.declared.tree.TypeName.{TypeName}
-use Rattle.rv_syntax.specs.declared.tree.TypeBody.TheVariants.{Alias, Labels}
-use Rattle.rv_syntax.specs.Tree.{NodeTree, ProgramTree}
-use Rattle.rv_syntax.specs.Places.{names, flows, is_among, is_flow}
+use Rattle.rv_tree.specs.declared.tree.Name.{Name}
+use Rattle.rv_tree.specs.declared.tree.Decl.{Decl}
+use Rattle.rv_tree.specs.declared.tree.TypeName.{TypeName}
+use Rattle.rv_tree.specs.declared.tree.TypeBody.TheVariants.{Alias, Labels}
+use Rattle.rv_tree.specs.Tree.{NodeTree, ProgramTree}
+use Rattle.rv_tree.specs.Places.{names, flows, is_among, is_flow}
 use Rattle.rv_types.specs.declared.fault.NameFault.{NameFault}
 use Rattle.rv_types.specs.declared.fault.NameFault.TheVariants.{Undefined}
 use Rattle.rv_types.specs.declared.uses.Reach.TheVariants.{Before, Everywhere}

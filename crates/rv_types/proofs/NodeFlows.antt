@@ -1,8 +1,8 @@
 -- The flows of nodes in which no rule of names is broken.
 use Rattle.std.proofs.Common.{◌≡◌, ℕ, zero, suc, ◌<◌, ◌^◌, List, [], ◌∷◌, map, flat_map, length, get_or, Contains, sym, ap, subst, ◌∙◌, arith}
 use Rattle.std.proofs.lemmas.List.{length-map, get_or-map}
-use Rattle.rv_syntax.specs.Tree.{NodeTree, ProgramTree}
-use Rattle.rv_syntax.specs.Places.{flows}
+use Rattle.rv_tree.specs.Tree.{NodeTree, ProgramTree}
+use Rattle.rv_tree.specs.Places.{flows}
 use Rattle.rv_types.specs.Names.{texts, repeated, names_in_node, name_faults}
 use Rattle.rv_types.specs.Firsts.{firsts}
 use Rattle.rv_types.specs.Known.{flow_names}

@@ -8,11 +8,11 @@ use Rattle.std.proofs.lemmas.Bool.{and_parts}
 use Rattle.std.proofs.lemmas.List.{length-map, length-append}
 use Rattle.std.proofs.lemmas.List.Elements.{Contains-append_cases}
 use Rattle.std.proofs.lemmas.Option.{slice_get-get_or}
-use Rattle.rv_syntax.specs.declared.tree.Name.{Name}
-use Rattle.rv_syntax.specs.declared.tree.Decl.{Decl}
-use Rattle.rv_syntax.specs.Tree.{Tree, Node, Call, Trees, None, More, EquationTree, AssertionTree, NodeTree, ProgramTree}
-use Rattle.rv_syntax.specs.Places.{Identifier, flows, site_of, is_flow, is_same, is_among}
-use Rattle.rv_syntax.specs.Delays.{Delay, delays, delays_in_equations, delays_in_assertions, node_delays}
+use Rattle.rv_tree.specs.declared.tree.Name.{Name}
+use Rattle.rv_tree.specs.declared.tree.Decl.{Decl}
+use Rattle.rv_tree.specs.Tree.{Tree, Node, Call, Trees, None, More, EquationTree, AssertionTree, NodeTree, ProgramTree}
+use Rattle.rv_tree.specs.Places.{Identifier, flows, site_of, is_flow, is_same, is_among}
+use Rattle.rv_tree.specs.Delays.{Delay, delays, delays_in_equations, delays_in_assertions, node_delays}
 use Rattle.rv_types.specs.declared.typed.Kind.{Kind}
 use Rattle.rv_types.specs.declared.typed.Kind.TheVariants as kind
 use Rattle.rv_types.specs.declared.fault.NameFault.{NameFault}

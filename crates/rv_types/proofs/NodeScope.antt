@@ -4,13 +4,13 @@ use Rattle.std.proofs.lemmas.List.{length-map, map-append, get_or-map}
 use Rattle.std.proofs.lemmas.Grind.{flat_map-append}
 use Rattle.std.proofs.Math.Seq.{take-suc}
 use Rattle.std.proofs.Common.{take, add-one}
-use Rattle.rv_syntax.specs.declared.tree.Node.{Node}
-use Rattle.rv_syntax.specs.Tree.{node_tree}
+use Rattle.rv_tree.specs.declared.tree.Node.{Node}
+use Rattle.rv_tree.specs.Tree.{node_tree}
 use Rattle.rv_types.specs.Earliest.{first, sooner}
 use Rattle.rv_types.proofs.Joined.{first_append}
-use Rattle.rv_syntax.specs.declared.tree.Name.{Name}
-use Rattle.rv_syntax.specs.Tree.{Tree, NodeTree, ProgramTree}
-use Rattle.rv_syntax.specs.Places.{Identifier, is_same, is_among, is_flow, index_of}
+use Rattle.rv_tree.specs.declared.tree.Name.{Name}
+use Rattle.rv_tree.specs.Tree.{Tree, NodeTree, ProgramTree}
+use Rattle.rv_tree.specs.Places.{Identifier, is_same, is_among, is_flow, index_of}
 use Rattle.rv_types.specs.declared.typed.Kind.{Kind}
 use Rattle.rv_types.specs.declared.view.Label.{Label}
 use Rattle.rv_types.specs.declared.fault.NameFault.{NameFault}

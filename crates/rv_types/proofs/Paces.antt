@@ -2,11 +2,11 @@
 use Rattle.std.proofs.Common.{◌≡◌, ◌⊎◌, inl, inr, ℕ, Bool, true, false, cond, List, [], ◌∷◌, ◌++◌, refl, sym, ◌∙◌, ap, subst}
 use Rattle.std.specs.List.{Contains}
 use Rattle.std.proofs.lemmas.Bool.{eqb-true}
-use Rattle.rv_syntax.specs.declared.tree.Name.{Name}
-use Rattle.rv_syntax.specs.declared.tree.Op.{Op}
-use Rattle.rv_syntax.specs.declared.tree.Op.TheVariants as op
-use Rattle.rv_syntax.specs.Tree.{Tree, Node, Form, True, False, Number, Named, Not, Minus, Pre, Current, When, Binary, If, AtMostOne, Call, Trees, None, More, NodeTree}
-use Rattle.rv_syntax.specs.Places.{Identifier, is_flow, site_of}
+use Rattle.rv_tree.specs.declared.tree.Name.{Name}
+use Rattle.rv_tree.specs.declared.tree.Op.{Op}
+use Rattle.rv_tree.specs.declared.tree.Op.TheVariants as op
+use Rattle.rv_tree.specs.Tree.{Tree, Node, Form, True, False, Number, Named, Not, Minus, Pre, Current, When, Binary, If, AtMostOne, Call, Trees, None, More, NodeTree}
+use Rattle.rv_tree.specs.Places.{Identifier, is_flow, site_of}
 use Rattle.rv_types.specs.declared.typed.Clock.{Clock}
 use Rattle.rv_types.specs.declared.typed.Clock.TheVariants.{Base, On}
 use Rattle.rv_types.specs.declared.fault.Pace.{Pace}

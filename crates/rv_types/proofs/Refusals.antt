@@ -1,7 +1,7 @@
 -- The first fault of a group, where the groups before have none.
 use Rattle.std.proofs.Common.{◌≡◌, inl, inr, true, false, cond, [], ◌∷◌, Some, sym, ap, subst}
-use Rattle.rv_syntax.specs.Tree.{ProgramTree}
-use Rattle.rv_syntax.specs.Places.{Identifier}
+use Rattle.rv_tree.specs.Tree.{ProgramTree}
+use Rattle.rv_tree.specs.Places.{Identifier}
 use Rattle.rv_types.specs.declared.fault.NameFault.{NameFault}
 use Rattle.rv_types.specs.declared.fault.NameFault.TheVariants.{NoNode, Memory}
 use Rattle.rv_types.specs.Names.{is_declared, node_names, name_faults}

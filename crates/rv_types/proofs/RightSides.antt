@@ -5,10 +5,10 @@ use Rattle.std.specs.List.{Contains}
 use Rattle.std.proofs.lemmas.Bool.{or_right}
 use Rattle.std.proofs.lemmas.List.{length-map, get_or_default}
 use Rattle.std.proofs.lemmas.List.Elements.{Contains-append_left, Contains-append_right, Contains-append_cases}
-use Rattle.rv_syntax.specs.declared.tree.Name.{Name}
-use Rattle.rv_syntax.specs.declared.tree.Decl.{Decl}
-use Rattle.rv_syntax.specs.Tree.{Tree, Node, Call, Trees, EquationTree, NodeTree, ProgramTree}
-use Rattle.rv_syntax.specs.Places.{Identifier, names, flows, is_flow}
+use Rattle.rv_tree.specs.declared.tree.Name.{Name}
+use Rattle.rv_tree.specs.declared.tree.Decl.{Decl}
+use Rattle.rv_tree.specs.Tree.{Tree, Node, Call, Trees, EquationTree, NodeTree, ProgramTree}
+use Rattle.rv_tree.specs.Places.{Identifier, names, flows, is_flow}
 use Rattle.rv_types.specs.Names.{texts, is_declared, decls, decl_names, lefts, repeated, undefined_unless, flow_use, clock_use, use_of, node_uses, equation_uses, assertion_uses, names_in_node}
 use Rattle.rv_types.specs.declared.fault.NameFault.TheVariants.{Undefined}
 use Rattle.rv_types.specs.Firsts.{firsts_after}

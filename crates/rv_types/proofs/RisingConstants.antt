@@ -4,7 +4,7 @@ use Rattle.std.specs.List.{All}
 use Rattle.std.proofs.Math.Seq.{drop-cons}
 use Rattle.std.proofs.lemmas.List.{take-append-drop, length-take-le, get_or-take, get_or_default}
 use Rattle.std.proofs.lemmas.List.Elements.{All-contains}
-use Rattle.rv_syntax.specs.Tree.{ConstantTree, ProgramTree}
+use Rattle.rv_tree.specs.Tree.{ConstantTree, ProgramTree}
 use Rattle.rv_types.proofs.ConstantKinds.{IsRising}
 
 pub rising : (p : ProgramTree) → ((front back : List ConstantTree) (c : ConstantTree) → p.constants ≡ front ++ c ∷ back → All (λ (d : ConstantTree). d.name.at < c.name.at) front) → IsRising p

@@ -1,7 +1,7 @@
 -- A list of faults is empty or has a first one, and so do groups of them.
 use Rattle.std.proofs.Common.{◌≡◌, ◌⊎◌, inl, inr, Bool, true, false, cond, IsTrue, List, [], ◌∷◌, Option, Some, None, map, refl}
-use Rattle.rv_syntax.specs.Tree.{ProgramTree}
-use Rattle.rv_syntax.specs.Places.{Identifier}
+use Rattle.rv_tree.specs.Tree.{ProgramTree}
+use Rattle.rv_tree.specs.Places.{Identifier}
 use Rattle.rv_types.specs.declared.fault.NameFault.{NameFault}
 use Rattle.rv_types.specs.declared.fault.NameFault.TheVariants.{NoNode}
 use Rattle.rv_types.specs.declared.typed.Typed.{Typed}

@@ -5,8 +5,8 @@ use Rattle.std.specs.List.{position_or_len}
 use Rattle.std.specs.Cmp.{nat_eq_equiv, partial_equiv_from_equiv}
 use Rattle.std.specs.Cmp.Lexicographic.{lists_per}
 use Rattle.std.specs.Map.{lookup, keys_of}
-use Rattle.rv_syntax.specs.declared.tree.Name.{Name}
-use Rattle.rv_syntax.specs.Places.{Identifier, is_same, index_of}
+use Rattle.rv_tree.specs.declared.tree.Name.{Name}
+use Rattle.rv_tree.specs.Places.{Identifier, is_same, index_of}
 use Rattle.rv_types.specs.Entries.{named}
 use Rattle.rv_types.specs.Names.{texts, is_declared, stands_before}
 use Rattle.rv_types.specs.Firsts.{with_name}

@@ -4,11 +4,11 @@ use Rattle.std.proofs.Common.{None as Nothing}
 use Rattle.std.specs.List.{Contains}
 use Rattle.std.proofs.lemmas.List.{length-map, get_or-map, get_or_append_left, get_or_default}
 use Rattle.std.proofs.lemmas.List.Elements.{Contains-append_cases}
-use Rattle.rv_syntax.specs.declared.tree.Name.{Name}
-use Rattle.rv_syntax.specs.declared.tree.Decl.{Decl}
-use Rattle.rv_syntax.specs.Tree.{Tree, Node, Call, Trees, EquationTree, AssertionTree, NodeTree, ProgramTree}
-use Rattle.rv_syntax.specs.Places.{Identifier, names, flows, site_of, is_flow, is_same, index_of}
-use Rattle.rv_syntax.specs.Delays.{Delay, IsNumbered, delays, node_delays, delays_in_equations, delays_in_assertions}
+use Rattle.rv_tree.specs.declared.tree.Name.{Name}
+use Rattle.rv_tree.specs.declared.tree.Decl.{Decl}
+use Rattle.rv_tree.specs.Tree.{Tree, Node, Call, Trees, EquationTree, AssertionTree, NodeTree, ProgramTree}
+use Rattle.rv_tree.specs.Places.{Identifier, names, flows, site_of, is_flow, is_same, index_of}
+use Rattle.rv_tree.specs.Delays.{Delay, IsNumbered, delays, node_delays, delays_in_equations, delays_in_assertions}
 use Rattle.rv_types.specs.declared.typed.Kind.{Kind}
 use Rattle.rv_types.specs.declared.typed.Clock.{Clock}
 use Rattle.rv_types.specs.declared.typed.Clock.TheVariants.{Base}

@@ -4,8 +4,8 @@ use Rattle.std.proofs.Common.{None as Nothing}
 use Rattle.std.proofs.Math.Seq.{drop-cons, take-append_seam}
 use Rattle.std.proofs.lemmas.List.{length-reverse, reverse-append, take-append-drop}
 use Rattle.rv_base.specs.declared.value.Value.{Value}
-use Rattle.rv_syntax.specs.declared.tree.Expr.{Expr}
-use Rattle.rv_syntax.specs.Tree.{More, ConstantTree, ProgramTree, tree_of, trees}
+use Rattle.rv_tree.specs.declared.tree.Expr.{Expr}
+use Rattle.rv_tree.specs.Tree.{More, ConstantTree, ProgramTree, tree_of, trees}
 use Rattle.rv_types.specs.Constants.{value_of}
 use Rattle.rv_types.specs.Scopes.{constant_value_after, constant_values, constant_values_of}
 use Rattle.rv_types.specs.ValueTables.{at_most_after}

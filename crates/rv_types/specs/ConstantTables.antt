@@ -1,10 +1,10 @@
 -- A constant, by the tables of what stands before it.
 use Rattle.std.specs.Prelude.{◌≡◌, ℕ, cond, List, [], ◌++◌, map, reverse, Option, Some}
 use Rattle.std.specs.Prelude.{None as Nothing}
-use Rattle.rv_syntax.specs.declared.tree.Name.{Name}
-use Rattle.rv_syntax.specs.declared.tree.TypeName.{TypeName}
-use Rattle.rv_syntax.specs.Tree.{ConstantTree, ProgramTree}
-use Rattle.rv_syntax.specs.Places.{Identifier}
+use Rattle.rv_tree.specs.declared.tree.Name.{Name}
+use Rattle.rv_tree.specs.declared.tree.TypeName.{TypeName}
+use Rattle.rv_tree.specs.Tree.{ConstantTree, ProgramTree}
+use Rattle.rv_tree.specs.Places.{Identifier}
 use Rattle.rv_types.specs.declared.typed.Kind.{Kind}
 use Rattle.rv_types.specs.declared.view.Label.{Label}
 use Rattle.rv_types.specs.declared.fault.NameFault.{NameFault}

@@ -3,11 +3,11 @@
 use Rattle.std.specs.Prelude.{ℕ, ◌+◌, ◌*◌, max, Bool, true, false, not, ◌&&◌, ◌||◌, cond, nat_eq, nat_le, List, [], ◌∷◌, ℤ, pos, ◌+ℤ◌, ◌-ℤ◌, ◌*ℤ◌, neg_ℤ, nat_abs, int_lt, int_le}
 use Rattle.rv_base.specs.declared.value.Value.{Value}
 use Rattle.rv_base.specs.declared.value.Value.TheVariants.{Flag, Label, Whole}
-use Rattle.rv_syntax.specs.declared.tree.Op.{Op}
-use Rattle.rv_syntax.specs.declared.tree.Op.TheVariants as op
-use Rattle.rv_syntax.specs.Tree.{Tree, Form, Trees, Node, True, False, Number, Named, Not, Minus, Binary, If, AtMostOne, None, More}
-use Rattle.rv_syntax.specs.Places.{Identifier}
-use Rattle.rv_syntax.specs.Limits.{heaviest, too_heavy}
+use Rattle.rv_tree.specs.declared.tree.Op.{Op}
+use Rattle.rv_tree.specs.declared.tree.Op.TheVariants as op
+use Rattle.rv_tree.specs.Tree.{Tree, Form, Trees, Node, True, False, Number, Named, Not, Minus, Binary, If, AtMostOne, None, More}
+use Rattle.rv_tree.specs.Places.{Identifier}
+use Rattle.rv_tree.specs.Limits.{heaviest, too_heavy}
 
 -- the truth of a Boolean value
 abbrev pub flag_in : Value → Bool

@@ -1,6 +1,6 @@
 -- The first declarations of different names, of those in a list.
 use Rattle.std.specs.Prelude.{cond, List, [], ◌∷◌, ◌++◌}
-use Rattle.rv_syntax.specs.declared.tree.Name.{Name}
+use Rattle.rv_tree.specs.declared.tree.Name.{Name}
 use Rattle.rv_types.specs.Names.{is_declared}
 
 -- with one more, where no other declares its name

@@ -2,11 +2,11 @@
 use Rattle.std.specs.Prelude.{◌≡◌, ℕ, zero, suc, ◌+◌, ◌<◌, true, cond, List, [], ◌∷◌, ◌++◌, map, flat_map, length, Some, slice_index_or}
 use Rattle.std.specs.List.{Contains}
 use Rattle.rv_base.specs.declared.value.Place.{Place}
-use Rattle.rv_syntax.specs.declared.tree.Op.{Op}
-use Rattle.rv_syntax.specs.declared.tree.Op.TheVariants as op
-use Rattle.rv_syntax.specs.Tree.{Tree, Node, Binary, ProgramTree}
-use Rattle.rv_syntax.specs.Places.{Identifier, Sites, memory_place}
-use Rattle.rv_syntax.specs.Delays.{node_delays, Delay}
+use Rattle.rv_tree.specs.declared.tree.Op.{Op}
+use Rattle.rv_tree.specs.declared.tree.Op.TheVariants as op
+use Rattle.rv_tree.specs.Tree.{Tree, Node, Binary, ProgramTree}
+use Rattle.rv_tree.specs.Places.{Identifier, Sites, memory_place}
+use Rattle.rv_tree.specs.Delays.{node_delays, Delay}
 use Rattle.rv_types.specs.declared.typed.Kind.{Kind}
 use Rattle.rv_types.specs.declared.typed.Clock.TheVariants.{Base}
 use Rattle.rv_types.specs.Kinds.{decl_kinds}

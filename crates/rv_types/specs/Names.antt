@@ -3,14 +3,14 @@
 -- (Halbwachs, Caspi, Raymond and Pilaud 1991 for the declarations of the language.)
 use Rattle.std.specs.Prelude.{ℕ, Bool, true, false, ◌||◌, cond, nat_lt, List, [], ◌∷◌, ◌++◌, map, flat_map, Some}
 use Rattle.std.specs.Prelude.{None as Nothing}
-use Rattle.rv_syntax.specs.declared.tree.Name.{Name}
-use Rattle.rv_syntax.specs.declared.tree.TypeName.{TypeName}
-use Rattle.rv_syntax.specs.declared.tree.TypeName.TheVariants as written
-use Rattle.rv_syntax.specs.declared.tree.TypeBody.TheVariants.{Alias, Labels}
-use Rattle.rv_syntax.specs.declared.tree.TypeDecl.{TypeDecl}
-use Rattle.rv_syntax.specs.declared.tree.Decl.{Decl}
-use Rattle.rv_syntax.specs.Tree.{Tree, Node, Named, When, Call, EquationTree, AssertionTree, ConstantTree, NodeTree, ProgramTree}
-use Rattle.rv_syntax.specs.Places.{Identifier, is_same, is_among, is_flow}
+use Rattle.rv_tree.specs.declared.tree.Name.{Name}
+use Rattle.rv_tree.specs.declared.tree.TypeName.{TypeName}
+use Rattle.rv_tree.specs.declared.tree.TypeName.TheVariants as written
+use Rattle.rv_tree.specs.declared.tree.TypeBody.TheVariants.{Alias, Labels}
+use Rattle.rv_tree.specs.declared.tree.TypeDecl.{TypeDecl}
+use Rattle.rv_tree.specs.declared.tree.Decl.{Decl}
+use Rattle.rv_tree.specs.Tree.{Tree, Node, Named, When, Call, EquationTree, AssertionTree, ConstantTree, NodeTree, ProgramTree}
+use Rattle.rv_tree.specs.Places.{Identifier, is_same, is_among, is_flow}
 use Rattle.rv_types.specs.declared.fault.NameFault.{NameFault}
 use Rattle.rv_types.specs.declared.fault.NameFault.TheVariants.{UnknownName, DefinedTwice, Undefined}
 use Rattle.rv_types.specs.Parts.{faults}

@@ -1,6 +1,6 @@
 -- What is at fault in an expression: what it has of its own, and what its parts have.
 use Rattle.std.specs.Prelude.{ℕ, List, [], ◌++◌}
-use Rattle.rv_syntax.specs.Tree.{Tree, Form, Trees, Node, True, False, Number, Named, Not, Minus, Pre, Current, When, Binary, If, AtMostOne, Call, None, More}
+use Rattle.rv_tree.specs.Tree.{Tree, Form, Trees, Node, True, False, Number, Named, Not, Minus, Pre, Current, When, Binary, If, AtMostOne, Call, None, More}
 use Rattle.rv_types.specs.declared.fault.NameFault.{NameFault}
 
 -- the offset of an expression

@@ -1,6 +1,6 @@
 -- The tables by which the expressions of a program are read, once its names are known to be right.
 use Rattle.std.specs.Prelude.{true}
-use Rattle.rv_syntax.specs.Tree.{ProgramTree}
+use Rattle.rv_tree.specs.Tree.{ProgramTree}
 use Rattle.rv_types.specs.declared.reading.ProgramTables.{ProgramTables}
 use Rattle.rv_types.specs.declared.reading.NodeTables.{NodeTables}
 use Rattle.rv_types.specs.ConstantTables.{AreTablesOf, AreNodeTablesOf}

@@ -1,8 +1,8 @@
 -- Which programs meet every rule of names, types and clocks, with which types, clocks and constants, and which fault
 -- is the first of one that does not.
 use Rattle.std.specs.Prelude.{◌≡◌, ◌⊎◌, ◌<◌, ℕ, cond, IsTrue, List, [], ◌∷◌, map, length, Result, Ok, Err, Some}
-use Rattle.rv_syntax.specs.Tree.{ProgramTree}
-use Rattle.rv_syntax.specs.Places.{Identifier, index_of}
+use Rattle.rv_tree.specs.Tree.{ProgramTree}
+use Rattle.rv_tree.specs.Places.{Identifier, index_of}
 use Rattle.rv_types.specs.declared.fault.NameFault.{NameFault}
 use Rattle.rv_types.specs.declared.fault.NameFault.TheVariants.{NoNode, UnknownName, DefinedTwice, Undefined, TypeClash, Nonlinear, ClockClash, NotObserver, Memory}
 use Rattle.rv_types.specs.declared.typed.Typed.{Typed}

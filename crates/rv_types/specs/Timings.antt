@@ -1,9 +1,9 @@
 -- The tables by which the clocks of a node are read.
 use Rattle.std.specs.Prelude.{◌≡◌, ◌<◌, ◌^◌, suc, List, [], length, Option, Some}
 use Rattle.std.specs.Prelude.{None as Nothing}
-use Rattle.rv_syntax.specs.declared.tree.Name.{Name}
-use Rattle.rv_syntax.specs.Tree.{NodeTree}
-use Rattle.rv_syntax.specs.Places.{flows, index_of}
+use Rattle.rv_tree.specs.declared.tree.Name.{Name}
+use Rattle.rv_tree.specs.Tree.{NodeTree}
+use Rattle.rv_tree.specs.Places.{flows, index_of}
 use Rattle.rv_types.specs.declared.typed.Clock.{Clock}
 use Rattle.rv_types.specs.declared.typed.Clock.TheVariants.{Base, On}
 use Rattle.std.specs.List.{Contains}

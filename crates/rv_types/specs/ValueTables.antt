@@ -3,9 +3,9 @@ use Rattle.std.specs.Prelude.{ℕ, ◌≤◌, Bool, true, false, List, nat_abs, 
 use Rattle.std.specs.Prelude.{None as Nothing}
 use Rattle.rv_base.specs.declared.value.Value.{Value}
 use Rattle.rv_base.specs.declared.value.Value.TheVariants as value
-use Rattle.rv_syntax.specs.declared.tree.Name.{Name}
-use Rattle.rv_syntax.specs.Places.{Identifier}
-use Rattle.rv_syntax.specs.Limits.{too_heavy}
+use Rattle.rv_tree.specs.declared.tree.Name.{Name}
+use Rattle.rv_tree.specs.Places.{Identifier}
+use Rattle.rv_tree.specs.Limits.{too_heavy}
 use Rattle.rv_types.specs.declared.view.Label.{Label}
 use Rattle.rv_types.specs.Constants.{whole_in, none_true, at_most_one}
 use Rattle.rv_types.specs.Tables.{entry_in}

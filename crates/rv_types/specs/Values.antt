@@ -2,8 +2,8 @@
 use Rattle.std.specs.Prelude.{ℕ, zero, suc, ◌<◌, List, [], ◌∷◌, length, unwrap_or}
 use Rattle.rv_base.specs.declared.value.Value.{Value}
 use Rattle.rv_base.specs.declared.value.Value.TheVariants.{Flag, Label, Whole}
-use Rattle.rv_syntax.specs.declared.tree.TypeDecl.{TypeDecl}
-use Rattle.rv_syntax.specs.Tree.{Tree, NodeTree, ProgramTree}
+use Rattle.rv_tree.specs.declared.tree.TypeDecl.{TypeDecl}
+use Rattle.rv_tree.specs.Tree.{Tree, NodeTree, ProgramTree}
 use Rattle.rv_types.specs.declared.typed.Kind.{Kind}
 use Rattle.rv_types.specs.declared.typed.Kind.TheVariants as kind
 use Rattle.rv_types.specs.Names.{labels_of}

@@ -1,9 +1,9 @@
 //! The clocks of flows, and the rules of clocks.
 
 ghost use Rattle.std.specs.Prelude.{◌≡◌, ◌+◌, ◌++◌, [], ◌<◌, ◌^◌, ℕ, length, map, flat_map, slice_get, IfOk};
-ghost use Rattle.rv_syntax.specs.declared.tree.Decl.{Decl as AnyDecl};
-ghost use Rattle.rv_syntax.specs.Tree.{node_tree, equation_tree, assertion_tree};
-ghost use Rattle.rv_syntax.specs.Places.{flows as flow_texts};
+ghost use Rattle.rv_tree.specs.declared.tree.Decl.{Decl as AnyDecl};
+ghost use Rattle.rv_tree.specs.Tree.{node_tree, equation_tree, assertion_tree};
+ghost use Rattle.rv_tree.specs.Places.{flows as flow_texts};
 ghost use Rattle.rv_types.specs.Names.{texts, repeated};
 ghost use Rattle.rv_types.specs.Known.{flow_names};
 ghost use Rattle.rv_types.specs.Clocks.{base_clock, flow_clocks, left_pace, chain_clash, equation_clocks, assertion_clocks, clocks_in_node};
@@ -21,7 +21,7 @@ use crate::space::Space;
 use crate::timing::Timing;
 use crate::typed::Clock;
 use rv_base::{Many, Memory};
-use rv_syntax::{Assertion, Decl, Decls, Equation, Name, Node};
+use rv_tree::{Assertion, Decl, Decls, Equation, Name, Node};
 use std::alloc::Global;
 
 fn push_base(clocks: &mut Vec<Clock>, decls: &[Decl]) -> Result<(), Memory>

@@ -1,14 +1,14 @@
 //! The types and values of constants, from the first to the last.
 
 ghost use Rattle.std.specs.Prelude.{◌≡◌, ◌≤◌, ◌++◌, [], ◌∷◌, reverse, nat_abs, IfOk, List};
-ghost use Rattle.rv_syntax.specs.Tree.{constant_tree, program_tree, tree_of};
+ghost use Rattle.rv_tree.specs.Tree.{constant_tree, program_tree, tree_of};
 ghost use Rattle.rv_types.specs.Constants.{whole_in, value_of};
 ghost use Rattle.rv_types.specs.ConstantTables.{AreTablesOf, as_declared_by, declared_clash, constant_types_by};
 ghost use Rattle.rv_types.specs.Earliest.{first, sooner};
 ghost use Rattle.rv_types.specs.Scopes.{constant_scope, constant_kinds_of, constant_values, constant_types};
 ghost use Rattle.rv_types.specs.Tables.{entry_in, scope_of, value_in};
 ghost use Rattle.rv_types.specs.Types.{kind_of};
-ghost use Rattle.rv_syntax.specs.Limits.{too_heavy};
+ghost use Rattle.rv_tree.specs.Limits.{too_heavy};
 ghost use Rattle.rv_types.specs.ValueTables.{known_in, AreSmall};
 ghost use Rattle.rv_types.specs.declared.fault.NameFault.{NameFault as AnyFault};
 
@@ -22,7 +22,7 @@ use crate::typing::judge;
 use crate::values::{Known, evaluate};
 use crate::view::{Label, Values, View};
 use rv_base::{Many, Memory, Value};
-use rv_syntax::{ConstDecl, Program, TypeName};
+use rv_tree::{ConstDecl, Program, TypeName};
 use std::alloc::Global;
 
 /// The tables of what a program declares.

@@ -1,9 +1,9 @@
 //! Groups of flows, which share one written type and one clock: what these mean is looked up once for each group.
 
 ghost use Rattle.std.specs.Prelude.{◌≡◌, ◌+◌, ◌<◌, ℕ, length, true};
-ghost use Rattle.rv_syntax.specs.Groups.{kind_at, clock_at};
+ghost use Rattle.rv_tree.specs.Groups.{kind_at, clock_at};
 
-use rv_syntax::Decls;
+use rv_tree::Decls;
 
 fn is_one_group(decls: &Decls, one: usize, other: usize) -> bool
     requires one { one < length decls.now }

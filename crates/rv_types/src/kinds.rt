@@ -1,10 +1,10 @@
 //! The types of declarations.
 
 ghost use Rattle.std.specs.Prelude.{◌≡◌, ◌+◌, ◌≤◌, ◌<◌, ◌++◌, ℕ, [], map, reverse, length, slice_get, IfOk};
-ghost use Rattle.rv_syntax.specs.declared.tree.Decl.{Decl as AnyDecl};
-ghost use Rattle.rv_syntax.specs.Tree.{node_tree};
-ghost use Rattle.rv_syntax.specs.Limits.{source_limit};
-ghost use Rattle.rv_syntax.specs.declared.tree.TypeDecl.{TypeDecl as AnyType};
+ghost use Rattle.rv_tree.specs.declared.tree.Decl.{Decl as AnyDecl};
+ghost use Rattle.rv_tree.specs.Tree.{node_tree};
+ghost use Rattle.rv_tree.specs.Limits.{source_limit};
+ghost use Rattle.rv_tree.specs.declared.tree.TypeDecl.{TypeDecl as AnyType};
 ghost use Rattle.rv_types.specs.Names.{repeated, labels_of};
 ghost use Rattle.rv_types.specs.Kinds.{written_kind, declared_kind};
 ghost use Rattle.rv_types.specs.Tables.{entry_in};
@@ -16,7 +16,7 @@ use crate::space::Space;
 use crate::typed::Kind;
 use crate::view::{Label, Signature, entry};
 use rv_base::{Many, Memory};
-use rv_syntax::{Decls, Name, Node, TypeBody, TypeDecl, TypeName};
+use rv_tree::{Decls, Name, Node, TypeBody, TypeDecl, TypeName};
 use std::alloc::Global;
 
 /// What a written type is, where the names of types have these.

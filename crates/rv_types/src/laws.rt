@@ -1,17 +1,15 @@
 //! What follows from the rules alone.
 
 ghost use Rattle.std.specs.Prelude.{◌≡◌, ◌↔◌, ◌⊎◌, ℕ, suc, List, length, IsTrue};
-ghost use Rattle.rv_syntax.specs.Bounded.{IsTreeOfText};
-ghost use Rattle.rv_syntax.specs.Places.{Identifier};
-ghost use Rattle.rv_syntax.specs.Tree.{NodeTree, ProgramTree};
+ghost use Rattle.rv_tree.specs.SourceTrees.{IsSourceTree};
+ghost use Rattle.rv_tree.specs.Places.{Identifier};
+ghost use Rattle.rv_tree.specs.Tree.{NodeTree, ProgramTree};
 ghost use Rattle.rv_types.specs.declared.fault.NameFault.{NameFault};
 ghost use Rattle.rv_types.specs.declared.typed.Clock.{Clock};
 ghost use Rattle.rv_types.specs.declared.typed.Typed.{Typed};
 ghost use Rattle.rv_types.specs.Clocks.{IsGrounded, ends, flow_clocks};
 ghost use Rattle.rv_types.specs.Settled.{IsSettled, IsFirstFault};
 ghost use Rattle.rv_types.specs.WellFormed.{AreSited, AreWell};
-
-use rv_syntax::{numbered_sites, ordered_constants};
 
 /// A program is settled in one way at most.
 pub fn one_settlement()
@@ -38,15 +36,10 @@ pub fn chains_end()
 /// The nodes of a program that keeps every rule are well formed and well typed, and its constants have values of their
 /// types.
 pub fn well_formed_programs()
-    ensures { (p : ProgramTree) (main : Identifier) (t : Typed) → IsTreeOfText p → IsSettled p main t → AreWell p }
-{
-    numbered_sites();
-    ordered_constants();
-}
+    ensures { (p : ProgramTree) (main : Identifier) (t : Typed) → IsSourceTree p → IsSettled p main t → AreWell p }
+{}
 
 /// The calls of each node have sites of their own, beyond those of its flows.
 pub fn sited_programs()
-    ensures { (p : ProgramTree) → IsTreeOfText p → AreSited p }
-{
-    numbered_sites();
-}
+    ensures { (p : ProgramTree) → IsSourceTree p → AreSited p }
+{}

@@ -1,8 +1,8 @@
 //! Whether the main node is an observer: one output, which is Boolean.
 
 ghost use Rattle.std.specs.Prelude.{◌≡◌, ◌<◌, map, length};
-ghost use Rattle.rv_syntax.specs.Places.{Identifier, index_of};
-ghost use Rattle.rv_syntax.specs.Tree.{node_tree, program_tree, ProgramTree};
+ghost use Rattle.rv_tree.specs.Places.{Identifier, index_of};
+ghost use Rattle.rv_tree.specs.Tree.{node_tree, program_tree, ProgramTree};
 ghost use Rattle.rv_types.specs.Earliest.{first};
 ghost use Rattle.rv_types.specs.Kinds.{decl_kinds, flow_kinds};
 ghost use Rattle.rv_types.specs.Names.{texts, node_names};
@@ -13,7 +13,7 @@ use crate::fault::NameFault;
 use crate::rules::is_same;
 use crate::typed::Kind;
 use rv_base::Many;
-use rv_syntax::{Node, Program};
+use rv_tree::{Node, Program};
 
 /// Whether a node has one output, which is Boolean, by the types of its flows.
 fn is_observing(node: &Node, kinds: &[Kind]) -> bool

@@ -1,8 +1,8 @@
 //! The pace of an expression from those of its parts, for a walk that reads each expression once.
 
 ghost use Rattle.std.specs.Prelude.{◌≡◌};
-ghost use Rattle.rv_syntax.specs.Places.{site_of};
-ghost use Rattle.rv_syntax.specs.Tree.{node_tree};
+ghost use Rattle.rv_tree.specs.Places.{site_of};
+ghost use Rattle.rv_tree.specs.Tree.{node_tree};
 ghost use Rattle.rv_types.specs.Clocks as clocking;
 ghost use Rattle.rv_types.specs.Clocks.{seen, grounded, meet};
 ghost use Rattle.rv_types.specs.declared.fault.Pace.{Pace as PaceModel};
@@ -11,7 +11,7 @@ use crate::fault::Pace;
 use crate::pacing::{as_seen, met, of_binary, of_current, of_when, on_ground, pace_of_name};
 use crate::reading_clocks::NodeClocks;
 use rv_base::Text;
-use rv_syntax::Op;
+use rv_tree::Op;
 
 /// The pace of `not` or `-`, from that of the operand.
 pub fn kept_pace(operand: Pace) -> Pace

@@ -1,8 +1,8 @@
 //! The clocks of expressions, and the first fault among them, in one walk.
 
 ghost use Rattle.std.specs.Prelude.{◌≡◌, ◌++◌, List, map};
-ghost use Rattle.rv_syntax.specs.Tree.{tree_of, trees, node_tree};
-ghost use Rattle.rv_syntax.specs.Places.{site_of};
+ghost use Rattle.rv_tree.specs.Tree.{tree_of, trees, node_tree};
+ghost use Rattle.rv_tree.specs.Places.{site_of};
 ghost use Rattle.rv_types.specs.Clocks as clocking;
 ghost use Rattle.rv_types.specs.Clocks.{same_clock, seen, grounded, meet, clash_in, expression_clocks, own_clash};
 ghost use Rattle.rv_types.specs.Parts.{faults_of_all};
@@ -14,7 +14,7 @@ use crate::first::sooner_of;
 use crate::timing::Timing;
 use crate::typed::Clock;
 use rv_base::Text;
-use rv_syntax::{Expr, ExprForm, Op};
+use rv_tree::{Expr, ExprForm, Op};
 
 /// What is found of an expression: its pace, and the first fault of clocks in it.
 #[derive(Clone, Copy, Debug)]

@@ -1,9 +1,9 @@
 //! The types of the expressions of a program whose names are right.
 
 ghost use Rattle.std.specs.Prelude.{◌≡◌, [], unwrap_or, is_some, IfOk, IfSome};
-ghost use Rattle.rv_syntax.specs.Bounded.{IsBounded};
-ghost use Rattle.rv_syntax.specs.Places.{index_of, flows};
-ghost use Rattle.rv_syntax.specs.Tree.{ProgramTree, node_tree, program_tree, tree_of};
+ghost use Rattle.rv_tree.specs.Bounded.{IsBounded};
+ghost use Rattle.rv_tree.specs.Places.{index_of, flows};
+ghost use Rattle.rv_tree.specs.Tree.{ProgramTree, node_tree, program_tree, tree_of};
 ghost use Rattle.rv_types.specs.Known.{flow_names};
 ghost use Rattle.rv_types.specs.Names.{is_declared, name_faults, repeated, texts};
 ghost use Rattle.rv_types.specs.Readings.{AreTables, view_of};
@@ -21,7 +21,7 @@ use crate::typed::Kind;
 use crate::typing::judge;
 use crate::view::{Label, Signature, Values, View};
 use rv_base::{Many, Memory, Text};
-use rv_syntax::{Expr, Node, Program};
+use rv_tree::{Expr, Node, Program};
 use std::alloc::Global;
 
 /// What the names of a program stand for: types, constants, labels and nodes.

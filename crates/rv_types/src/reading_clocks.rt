@@ -1,9 +1,9 @@
 //! The clocks of the flows and expressions of a node whose names are right.
 
 ghost use Rattle.std.specs.Prelude.{◌≡◌, ◌<◌, ◌^◌, [], length, is_some, map, IfOk, IfSome};
-ghost use Rattle.rv_syntax.specs.Places.{flows, is_flow, site_of};
-ghost use Rattle.rv_syntax.specs.Bounded.{IsBounded};
-ghost use Rattle.rv_syntax.specs.Tree.{node_tree, program_tree, tree_of, trees};
+ghost use Rattle.rv_tree.specs.Places.{flows, is_flow, site_of};
+ghost use Rattle.rv_tree.specs.Bounded.{IsBounded};
+ghost use Rattle.rv_tree.specs.Tree.{node_tree, program_tree, tree_of, trees};
 ghost use Rattle.rv_types.specs.Clocks.{clock_at, pace, pace_of_all};
 ghost use Rattle.rv_types.specs.Known.{flow_names};
 ghost use Rattle.rv_types.specs.Names.{name_faults, repeated};
@@ -18,7 +18,7 @@ use crate::space::Space;
 use crate::timing::Timing;
 use crate::typed::Clock;
 use rv_base::{Many, Memory, Text};
-use rv_syntax::{Expr, Node, Program};
+use rv_tree::{Expr, Node, Program};
 use std::alloc::Global;
 
 /// A node with the names and the clocks of its flows, in the order of their sites.

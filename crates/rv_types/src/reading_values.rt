@@ -2,14 +2,14 @@
 
 ghost use Rattle.std.specs.Prelude.{◌≡◌, ◌≤◌, min, nat_abs, pos, reverse, take};
 ghost use Rattle.rv_base.specs.declared.value.Value.{Value as AnyValue};
-ghost use Rattle.rv_syntax.specs.Places.{Identifier};
-ghost use Rattle.rv_syntax.specs.Tree.{Tree, Trees, Not, Minus, Binary, If, AtMostOne, program_tree};
+ghost use Rattle.rv_tree.specs.Places.{Identifier};
+ghost use Rattle.rv_tree.specs.Tree.{Tree, Trees, Not, Minus, Binary, If, AtMostOne, program_tree};
 ghost use Rattle.rv_types.specs.Constants.{counted, whole_in};
 ghost use Rattle.rv_types.specs.ConstantParts.{IsBound, IsKnownBound, constant_form, constant_part, no_trues, trues_after, trues_over};
 ghost use Rattle.rv_types.specs.Readings.{AreTables};
 ghost use Rattle.rv_types.specs.Scopes.{constant_value, constant_value_after, constant_values, constant_values_of};
 ghost use Rattle.rv_types.specs.Types.{Scope};
-ghost use Rattle.rv_syntax.specs.Limits.{too_heavy};
+ghost use Rattle.rv_tree.specs.Limits.{too_heavy};
 ghost use Rattle.rv_types.specs.ValueTables.{value_by};
 
 use crate::reading::ProgramTables;
@@ -18,7 +18,7 @@ use crate::weighing::{
     Weighed, flag, of_flag, of_if, of_known, of_minus, of_number, of_operator, whole,
 };
 use rv_base::{Text, Value};
-use rv_syntax::{Op, Program};
+use rv_tree::{Op, Program};
 use std::marker::Model;
 
 /// The values of the constants and labels of a program, by their names.

@@ -9,7 +9,7 @@ ghost use Rattle.rv_types.specs.declared.typed.Kind.TheVariants as kind;
 
 use crate::fault::{NameFault, Verdict};
 use crate::typed::Kind;
-use rv_syntax::Op;
+use rv_tree::Op;
 
 /// Whether two types are one. Two enumerations differ.
 pub fn is_same(j: Kind, k: Kind) -> bool

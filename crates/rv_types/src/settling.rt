@@ -1,13 +1,14 @@
 //! The rules of names, types and clocks, in turn.
 
 ghost use Rattle.std.specs.Prelude.{◌≡◌, ◌<◌, [], map, length, IfOk, IfErr};
-ghost use Rattle.rv_syntax.specs.Places.{Identifier};
+ghost use Rattle.rv_tree.specs.Places.{Identifier};
 ghost use Rattle.rv_types.specs.Names.{name_faults};
 ghost use Rattle.rv_types.specs.Kinds.{flow_kinds};
 ghost use Rattle.rv_types.specs.Scopes.{constant_values, type_faults, observer_faults};
 ghost use Rattle.rv_types.specs.Clocks.{flow_clocks, clock_faults};
-ghost use Rattle.rv_syntax.specs.Bounded.{IsBounded, IsTreeOfText};
-ghost use Rattle.rv_syntax.specs.Tree.{program_tree};
+ghost use Rattle.rv_tree.specs.Bounded.{IsBounded};
+ghost use Rattle.rv_tree.specs.SourceTrees.{IsSourceTree};
+ghost use Rattle.rv_tree.specs.Tree.{program_tree};
 ghost use Rattle.rv_types.specs.declared.fault.NameFault.{NameFault};
 ghost use Rattle.rv_types.specs.declared.typed.Typed.{Typed};
 ghost use Rattle.rv_types.specs.Known.{first_spaces};
@@ -21,7 +22,7 @@ use crate::spaces::Spaces;
 use crate::typed::{Clock, Kind, Typed};
 use crate::types::{ProgramTypes, types_of};
 use rv_base::{Many, Text};
-use rv_syntax::{Program, bounded_tree};
+use rv_tree::Program;
 use std::alloc::Global;
 
 /// The spaces of a program whose names are right, and the number of its main node.
@@ -127,11 +128,11 @@ fn settled(alloc: Global, p: &Program, main: &Text) -> Result<Typed, NameFault>
 ///
 /// Otherwise it answers the first fault. `NoNode` comes before all others, then the faults of names, of types, of
 /// clocks and of the observer; within one of these the least offset decides, and at one offset the least number.
-/// The program is to be the tree of a text within the limit. `Memory` comes where memory runs out. Time grows with the
+/// The program is to be the tree of a source. `Memory` comes where memory runs out. Time grows with the
 /// length of the source and its logarithm, since the type and the clock of a group of flows are looked up once. Names
 /// are found by hashes with a fixed seed: those that are chosen to collide take longer.
 pub fn settle(alloc: Global, p: &Program, main: &str) -> Result<Typed, NameFault>
-    requires { IsTreeOfText (program_tree p.now) }
+    requires { IsSourceTree (program_tree p.now) }
     // What is answered meets every rule, with these types, clocks and constants.
     ensures found { IfOk result (λ t. IsSettled (program_tree p.now) main.now t) }
     // Where every rule is met that is answered, unless memory runs out.
@@ -141,7 +142,6 @@ pub fn settle(alloc: Global, p: &Program, main: &str) -> Result<Typed, NameFault
     // Where a fault is the first it is answered, unless memory runs out.
     ensures only_refused { (f : NameFault) → IsFirstFault (program_tree p.now) main.now f → Refuses f result }
 {
-    bounded_tree();
     let main = Text::from_str(alloc, main)?;
     settled(alloc, p, &main)
 }

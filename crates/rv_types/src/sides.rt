@@ -1,8 +1,8 @@
 //! The rules of types of equations, assertions and declared clocks.
 
 ghost use Rattle.std.specs.Prelude.{◌≡◌, ◌+◌, ◌<◌, ◌&&◌, ℕ, not, map, flat_map, ◌++◌, ◌∷◌, [], length, slice_get, nat_le};
-ghost use Rattle.rv_syntax.specs.declared.tree.Decl.{Decl as AnyDecl};
-ghost use Rattle.rv_syntax.specs.Tree.{tree_of, trees, equation_tree, assertion_tree, node_tree};
+ghost use Rattle.rv_tree.specs.declared.tree.Decl.{Decl as AnyDecl};
+ghost use Rattle.rv_tree.specs.Tree.{tree_of, trees, equation_tree, assertion_tree, node_tree};
 ghost use Rattle.rv_types.specs.Earliest.{first};
 ghost use Rattle.rv_types.specs.NodeTypes.{clash_where, called_types, plain_types, lefts_by, sides_by, equation_by, assertion_by, local_by, types_by};
 ghost use Rattle.rv_types.specs.Scopes.{sides_clash, several_types};
@@ -17,7 +17,7 @@ use crate::typed::Kind;
 use crate::typing::{is_suited_at, judge, judge_all};
 use crate::view::{View, takes_of};
 use rv_base::Text;
-use rv_syntax::{Assertion, Decl, Decls, Equation, Expr, ExprForm, Name, Node};
+use rv_tree::{Assertion, Decl, Decls, Equation, Expr, ExprForm, Name, Node};
 
 /// The clash of two sides.
 fn sides_fault(at: u32, left: Option<Kind>, right: Option<Kind>) -> Option<NameFault>

@@ -1,13 +1,13 @@
 //! A space of names, found by their hashes.
 
 ghost use Rattle.std.specs.Prelude.{◌≡◌, ◌<◌, ◌≤◌, [], length, IfOk, IfSome, OnErr, is_some, not};
-ghost use Rattle.rv_syntax.specs.Places.{index_of};
+ghost use Rattle.rv_tree.specs.Places.{index_of};
 ghost use Rattle.rv_types.specs.Names.{texts, is_declared, stands_before};
 ghost use Rattle.rv_types.specs.Firsts.{with_name};
 
 use indexmap::IndexMap;
 use rv_base::{Memory, Text};
-use rv_syntax::Name;
+use rv_tree::Name;
 use std::alloc::Global;
 use std::marker::Model;
 
@@ -19,7 +19,7 @@ pub struct Space {
 
 impl Model for Space {
     ghost use Rattle.std.specs.Prelude.{List, map};
-    ghost use Rattle.rv_syntax.specs.declared.tree.Name.{Name};
+    ghost use Rattle.rv_tree.specs.declared.tree.Name.{Name};
     ghost use Rattle.rv_types.specs.Entries.{named};
 
     ghost Value = { List Name };

@@ -1,7 +1,7 @@
 //! The spaces of names of a whole program.
 
 ghost use Rattle.std.specs.Prelude.{◌≡◌, ◌++◌, ◌∷◌, [], IfOk, map, flat_map, cond};
-ghost use Rattle.rv_syntax.specs.Tree.{program_tree, constant_tree, node_tree};
+ghost use Rattle.rv_tree.specs.Tree.{program_tree, constant_tree, node_tree};
 ghost use Rattle.rv_types.specs.declared.fault.NameFault.TheVariants.{DefinedTwice};
 ghost use Rattle.rv_types.specs.Names.{is_declared, labels_of, decl_names, repeated, repeated_after, node_names, type_names, constant_names, label_names, repeated_values};
 ghost use Rattle.rv_types.specs.Firsts.{with_name, firsts_after, firsts};
@@ -12,7 +12,7 @@ use crate::fault::NameFault;
 use crate::first::sooner_of;
 use crate::space::Space;
 use rv_base::Memory;
-use rv_syntax::{ConstDecl, Decl, Name, Node, Program, TypeBody, TypeDecl};
+use rv_tree::{ConstDecl, Decl, Name, Node, Program, TypeBody, TypeDecl};
 use std::alloc::Global;
 
 /// Types, constants, labels and nodes. Constants and labels are one space of the language; here each keeps its own

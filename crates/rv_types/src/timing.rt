@@ -1,8 +1,8 @@
 //! The clocks of the flows of a node.
 
 ghost use Rattle.std.specs.Prelude.{◌≡◌};
-ghost use Rattle.rv_syntax.specs.Tree.{node_tree};
-ghost use Rattle.rv_syntax.specs.Places.{is_flow, site_of};
+ghost use Rattle.rv_tree.specs.Tree.{node_tree};
+ghost use Rattle.rv_tree.specs.Places.{is_flow, site_of};
 ghost use Rattle.rv_types.specs.Clocks.{clock_at};
 ghost use Rattle.rv_types.specs.Timings.{IsTiming};
 
@@ -10,7 +10,7 @@ use crate::chains::clock_of_site;
 use crate::space::Space;
 use crate::typed::Clock;
 use rv_base::Text;
-use rv_syntax::Node;
+use rv_tree::Node;
 
 /// A node with the space of its flows and their clocks, in the order of their sites.
 #[derive(Drop)]

@@ -1,8 +1,8 @@
 //! The types of all flows, the values of all constants, and the first fault of types.
 
 ghost use Rattle.std.specs.Prelude.{◌≡◌, [], map, reverse, IfOk};
-ghost use Rattle.rv_syntax.specs.Bounded.{IsBounded};
-ghost use Rattle.rv_syntax.specs.Tree.{node_tree, program_tree, ProgramTree};
+ghost use Rattle.rv_tree.specs.Bounded.{IsBounded};
+ghost use Rattle.rv_tree.specs.Tree.{node_tree, program_tree, ProgramTree};
 ghost use Rattle.rv_types.specs.ConstantTables.{AreTablesOf, AreNodeTablesOf};
 ghost use Rattle.rv_types.specs.Earliest.{first};
 ghost use Rattle.rv_types.specs.Kinds.{flow_kinds};
@@ -22,7 +22,7 @@ use crate::spaces::Spaces;
 use crate::typed::Kind;
 use crate::view::{Signature, Values, View};
 use rv_base::{Many, Memory, Value};
-use rv_syntax::{Node, Program};
+use rv_tree::{Node, Program};
 use std::alloc::Global;
 
 /// The types of a node's flows, in the order of their sites, and its first fault of types.

@@ -2,10 +2,10 @@
 
 ghost use Rattle.std.specs.Prelude.{◌≡◌, ◌||◌, ◌&&◌, ◌++◌, ◌+◌, ◌<◌, List, Option, map, [], true, false, is_some, length, nat_le, ◌^◌};
 ghost use Rattle.std.specs.Option.{option_copied};
-ghost use Rattle.rv_syntax.specs.Tree.{tree_of, trees};
+ghost use Rattle.rv_tree.specs.Tree.{tree_of, trees};
 ghost use Rattle.rv_types.specs.Types.{verdict, is_constant, is_constant_form, are_constant, form_verdict, when_of, expression_types, own_type_fault, kinds_of_all, all_typed, all_suit, fit, suits, kind_in, fault_in, two_of, three_of, binary_rule, if_rule, where_met, call_of};
 ghost use Rattle.rv_types.specs.Parts.{faults_of_all, faults_below};
-ghost use Rattle.rv_syntax.specs.Tree.{Named, Not, Minus, Pre, AtMostOne, Call};
+ghost use Rattle.rv_tree.specs.Tree.{Named, Not, Minus, Pre, AtMostOne, Call};
 ghost use Rattle.rv_types.specs.Tables.{scope_of, takes_in, suits_at, stays_constant};
 ghost use Rattle.rv_types.specs.Earliest.{first, sooner};
 ghost use Rattle.rv_types.specs.declared.fault.NameFault.{NameFault};
@@ -21,7 +21,7 @@ use crate::rules::{
 use crate::typed::Kind;
 use crate::view::{Signature, View, takes_of};
 use rv_base::Text;
-use rv_syntax::{Expr, ExprForm, Op};
+use rv_tree::{Expr, ExprForm, Op};
 
 /// What is found of an expression: its verdict, whether it is constant, and the first fault in it.
 #[derive(Clone, Copy, Debug)]

@@ -1,7 +1,7 @@
 //! The uses of names in expressions.
 
 ghost use Rattle.std.specs.Prelude.{◌≡◌, map};
-ghost use Rattle.rv_syntax.specs.Tree.{tree_of, trees};
+ghost use Rattle.rv_tree.specs.Tree.{tree_of, trees};
 ghost use Rattle.rv_types.specs.Names.{is_declared, use_at, use_of};
 ghost use Rattle.rv_types.specs.Known.{knows_value, knows_clock, unknown_in, unknown_in_all};
 ghost use Rattle.rv_types.specs.Earliest.{first};
@@ -11,7 +11,7 @@ use crate::first::sooner_of;
 use crate::space::Space;
 use crate::spaces::Spaces;
 use rv_base::Text;
-use rv_syntax::{Expr, ExprForm};
+use rv_tree::{Expr, ExprForm};
 
 /// Which names an expression may use.
 #[derive(Clone, Copy, Debug)]

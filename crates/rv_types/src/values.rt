@@ -1,17 +1,17 @@
 //! The value of a constant expression, and its weight, in one walk.
 
 ghost use Rattle.std.specs.Prelude.{◌≡◌, ◌≤◌, ◌&&◌, ◌||◌, min, max, cond, ℕ, not, nat_abs, map};
-ghost use Rattle.rv_syntax.specs.Tree.{tree_of, trees, Named, Not, Minus};
+ghost use Rattle.rv_tree.specs.Tree.{tree_of, trees, Named, Not, Minus};
 ghost use Rattle.rv_types.specs.Constants.{flag_in, whole_in, weight_of, form_weight, value_of, form_value, value_under, weight_under, counted_part, flags_of_all, at_most_one};
 ghost use Rattle.rv_types.specs.Tables.{entry_in};
-ghost use Rattle.rv_syntax.specs.Limits.{too_heavy};
+ghost use Rattle.rv_tree.specs.Limits.{too_heavy};
 ghost use Rattle.rv_types.specs.ValueTables.{value_of_label, value_or, known_in, AreSmall};
 
 use crate::space::Space;
 use crate::view::{Label, entry};
 use crate::weighing::{Weighed, flag, of_flag, of_if, of_known, of_minus, of_number, of_operator};
 use rv_base::{Text, Value};
-use rv_syntax::{Expr, ExprForm, Op};
+use rv_tree::{Expr, ExprForm, Op};
 
 /// The tables of the values of constants so far, and of labels.
 #[derive(Drop)]

@@ -3,10 +3,10 @@
 
 ghost use Rattle.std.specs.Prelude.{◌≡◌, ◌+◌, ◌*◌, ◌^◌, ◌≤◌, ℕ, max, min, nat_abs, cond, ◌+ℤ◌, ◌-ℤ◌, ◌*ℤ◌, neg_ℤ, pos};
 ghost use Rattle.rv_types.specs.Constants.{flag_in, whole_in, counted, counted_part, same_value, flag_under, value_under, weight_under};
-ghost use Rattle.rv_syntax.specs.Limits.{too_heavy};
+ghost use Rattle.rv_tree.specs.Limits.{too_heavy};
 
 use rv_base::Value;
-use rv_syntax::{HEAVIEST, Op, TOO_HEAVY};
+use rv_tree::{HEAVIEST, Op, TOO_HEAVY};
 
 /// The value of an expression, and its weight, which counts to 2^40 + 1.
 #[derive(Clone, Copy, Debug)]

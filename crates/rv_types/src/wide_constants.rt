@@ -1,12 +1,12 @@
 //! The least offset of what is too wide in constants.
 
 ghost use Rattle.std.specs.Prelude.{◌≡◌, ℕ, min, max, pos, cond, not, map, reverse, nat_abs, false};
-ghost use Rattle.rv_syntax.specs.Tree.{Tree, tree_of, trees, Named, Not, Minus, Binary, If, AtMostOne, program_tree};
+ghost use Rattle.rv_tree.specs.Tree.{Tree, tree_of, trees, Named, Not, Minus, Binary, If, AtMostOne, program_tree};
 ghost use Rattle.rv_types.specs.Constants.{flag_in, whole_in, counted, counted_part, value_under, weight_under, value_of, weight_of, form_value, form_weight, flags_of_all, at_most_one};
 ghost use Rattle.rv_types.specs.ConstantParts.{IsBound};
 ghost use Rattle.rv_types.specs.Readings.{AreTables};
 ghost use Rattle.rv_types.specs.Scopes.{constant_values};
-ghost use Rattle.rv_syntax.specs.Limits.{too_heavy};
+ghost use Rattle.rv_tree.specs.Limits.{too_heavy};
 ghost use Rattle.rv_types.specs.ValueTables.{value_by};
 ghost use Rattle.rv_types.specs.WideConstants.{lesser, wide_at, first_wide, wide_below, first_wide_of_all, first_wide_constant};
 
@@ -17,7 +17,7 @@ use crate::reading_values::{
 use crate::values::{Seen, seen_after};
 use crate::weighing::{Weighed, flag, of_if, of_minus, of_operator};
 use rv_base::{Text, Value};
-use rv_syntax::{Expr, ExprForm, HEAVIEST, Op, Program};
+use rv_tree::{Expr, ExprForm, HEAVIEST, Op, Program};
 
 /// What is known of an expression of a constant.
 #[derive(Clone, Copy)]

@@ -2,7 +2,7 @@ use Rattle.std.proofs.Common.{◌≡◌, ℕ, List, [], ◌∷◌, length, refl,
 use Rattle.std.specs.Prelude.{Ok}
 use Rattle.rv_syntax.specs.declared.token.Token.{Token}
 use Rattle.rv_syntax.specs.declared.token.Mark.TheVariants as mark
-use Rattle.rv_syntax.specs.declared.tree.Name.{Name}
+use Rattle.rv_tree.specs.declared.tree.Name.{Name}
 use Rattle.rv_syntax.specs.Grammar.{Called, Just, Sampled, fixed, name_token}
 use Rattle.rv_syntax.specs.Machine.{Want, run}
 use Rattle.rv_syntax.proofs.Shallow.{left}

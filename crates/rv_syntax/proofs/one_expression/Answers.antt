@@ -1,6 +1,6 @@
 use Rattle.std.proofs.Common.{sym, ap, ◌∙◌}
 use Rattle.std.specs.Prelude.{Ok, Err}
-use Rattle.rv_syntax.specs.Tree.{Tree}
+use Rattle.rv_tree.specs.Tree.{Tree}
 use Rattle.rv_syntax.specs.Machine.{Reading}
 use Rattle.rv_syntax.proofs.Expressions.{read-whole}
 use Rattle.rv_syntax.proofs.one_expression.Goals as goal

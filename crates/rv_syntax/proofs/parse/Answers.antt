@@ -3,7 +3,7 @@ use Rattle.std.specs.Prelude.{Ok, Err}
 use Rattle.std.proofs.lemmas.Result.{err_from_is_err_and}
 use Rattle.rv_syntax.specs.ProgramText.{IsProgram}
 use Rattle.rv_syntax.specs.Reading.{program}
-use Rattle.rv_syntax.specs.Tree.{program_tree}
+use Rattle.rv_tree.specs.Tree.{program_tree}
 use Rattle.rv_syntax.proofs.Bounds.{program-fits}
 use Rattle.rv_syntax.proofs.ExactRules.{IsEndOfText, Exact-program}
 use Rattle.rv_syntax.proofs.FirstFault.{Answered, whole, answers, refuses, only-tree, only-fault}
@@ -43,3 +43,6 @@ returns-clause-only c = only-tree program IsEndOfText refl Exact-program c.args.
 
 pub returns-clause-only_offending : goal.returns-clause-only_offending
 returns-clause-only_offending c = only-fault program IsEndOfText refl Exact-program c.args.bytes.now (Ok c.in_ok-sited.sited) (answered c)
+
+pub returns-clause-tree : goal.returns-clause-tree
+returns-clause-tree c = c.source_trees.ensures (program_tree c.in_ok-sited.sited) (c.args.bytes.now, c.requires, (answered c).tree)

@@ -2,7 +2,7 @@ use Rattle.std.proofs.Common.{refl, sym, ap, ◌∙◌, arith}
 use Rattle.std.specs.Prelude.{Ok}
 use Rattle.rv_syntax.specs.Reading.{program}
 use Rattle.rv_syntax.specs.Stopped.{shortfall, fault_at}
-use Rattle.rv_syntax.specs.Tree.{program_tree}
+use Rattle.rv_tree.specs.Tree.{program_tree}
 use Rattle.rv_syntax.proofs.ExactRules.{IsEndOfText, Exact-program}
 use Rattle.rv_syntax.proofs.FirstFault.{left-within, told}
 use Rattle.rv_syntax.proofs.whole_program.Goals as goal

@@ -1,6 +1,6 @@
 use Rattle.std.proofs.Common.{◌≡◌, ◌+◌, ◌≤◌, drop}
-use Rattle.rv_causality.specs.Bits.{bits_of_all}
-use Rattle.rv_syntax.specs.Limits.{heaviest}
+use Rattle.rv_instances.specs.Bits.{bits_of_all}
+use Rattle.rv_tree.specs.Limits.{heaviest}
 use Rattle.rv_causality.specs.Capped.{capped}
 use Rattle.rv_causality.proofs.bits.bits_of_kinds.Given as goal
 

@@ -1,6 +1,6 @@
 use Rattle.std.proofs.Common.{◌≡◌, ◌++◌, List, map, drop}
 use Rattle.rv_types.specs.declared.typed.Kind.{Kind}
-use Rattle.rv_causality.specs.Bits.{bits_of_all}
+use Rattle.rv_instances.specs.Bits.{bits_of_all}
 use Rattle.rv_causality.specs.Capped.{capped}
 use Rattle.rv_causality.proofs.bits.memory_bits_of.Given as goal
 

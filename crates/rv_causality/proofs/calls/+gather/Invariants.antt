@@ -1,5 +1,5 @@
 use Rattle.std.proofs.Common.{◌≡◌, ◌++◌, map, drop}
-use Rattle.rv_syntax.specs.Tree.{tree_of, trees}
+use Rattle.rv_tree.specs.Tree.{tree_of, trees}
 use Rattle.rv_types.specs.Instances.{calls_in_all}
 use Rattle.rv_causality.specs.Callings.{callings}
 use Rattle.rv_causality.proofs.calls.+gather.Given as goal

@@ -1,5 +1,5 @@
 use Rattle.std.proofs.Common.{◌≡◌, ◌++◌, map, drop}
-use Rattle.rv_syntax.specs.Tree.{node_tree}
+use Rattle.rv_tree.specs.Tree.{node_tree}
 use Rattle.rv_types.specs.Instances.{calls}
 use Rattle.rv_causality.specs.Callings.{callings}
 use Rattle.rv_causality.proofs.calls.calls_of.Given as goal

@@ -1,5 +1,5 @@
 use Rattle.std.proofs.Common.{◌≡◌, ◌++◌, map, drop}
-use Rattle.rv_syntax.specs.Tree.{equation_tree}
+use Rattle.rv_tree.specs.Tree.{equation_tree}
 use Rattle.rv_types.specs.Instances.{calls_in_equations}
 use Rattle.rv_causality.specs.Callings.{callings}
 use Rattle.rv_causality.proofs.calls.gather_equations.Given as goal

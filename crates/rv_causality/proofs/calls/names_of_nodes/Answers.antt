@@ -2,8 +2,9 @@ use Rattle.std.proofs.Common.{length, ap, sym, ◌∙◌, arith}
 use Rattle.rv_causality.specs.Numbering.{with_names}
 use Rattle.rv_causality.specs.Callings.{node_texts}
 use Rattle.rv_causality.proofs.Turns.{drop_all}
-use Rattle.rv_causality.proofs.Known.{collected, once}
-use Rattle.rv_syntax.specs.Tree.{program_tree}
+use Rattle.rv_causality.proofs.Collected.{collected}
+use Rattle.rv_instances.proofs.Known.{once}
+use Rattle.rv_tree.specs.Tree.{program_tree}
 use Rattle.rv_causality.proofs.calls.names_of_nodes.Goals as goal
 
 pub returns : goal.returns

@@ -1,5 +1,5 @@
 use Rattle.std.proofs.Common.{sym, ◌∙◌}
-use Rattle.rv_causality.proofs.Known.{index_past}
+use Rattle.rv_instances.proofs.Known.{index_past}
 use Rattle.rv_causality.proofs.calls.number_of.Goals as goal
 
 pub returns-in-None : goal.returns-in-None

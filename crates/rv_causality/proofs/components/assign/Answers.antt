@@ -1,7 +1,6 @@
-use Rattle.std.proofs.Common.{◌≡◌, ◌∙◌, rules}
-use Rattle.std.proofs.Common.{None as Nothing}
+use Rattle.std.proofs.Common.{◌≡◌, ◌∙◌, rules, None as Nothing}
 use Rattle.rv_causality.specs.Components.{mark_of}
-use Rattle.rv_causality.proofs.Walks.{got}
+use Rattle.rv_instances.proofs.Lists.{got}
 use Rattle.rv_causality.proofs.Turned.{reversed_graph}
 use Rattle.rv_causality.proofs.Parting.{seen_fresh, parts_fresh, still, parted_more}
 use Rattle.rv_causality.proofs.components.assign.Goals as goal

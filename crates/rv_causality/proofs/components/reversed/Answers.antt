@@ -2,7 +2,7 @@ use Rattle.std.proofs.Common.{◌≡◌, ◌<◌, ℕ, List, [], length, replica
 use Rattle.std.specs.List.{Contains}
 use Rattle.rv_causality.specs.Graphs.{Graph, edges}
 use Rattle.rv_causality.specs.Components.{IsReversedTo, IsTurned}
-use Rattle.rv_causality.proofs.Walks.{got, contains_at}
+use Rattle.rv_instances.proofs.Lists.{got, contains_at}
 use Rattle.rv_causality.proofs.Turned.{reversed_none, reversed_more}
 use Rattle.rv_causality.proofs.components.reversed.Goals as goal
 

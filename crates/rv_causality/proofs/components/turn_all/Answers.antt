@@ -1,7 +1,7 @@
 use Rattle.std.proofs.Common.{ℕ, ◌<◌, List, [], ◌∷◌, get_or, take, refl, sym, subst, arith}
 use Rattle.std.proofs.lemmas.List.{take_more}
 use Rattle.rv_causality.specs.Components.{IsTurned}
-use Rattle.rv_causality.proofs.Walks.{at_contains}
+use Rattle.rv_instances.proofs.Lists.{at_contains}
 use Rattle.rv_causality.proofs.Turned.{turned_none, turned_more}
 use Rattle.rv_causality.proofs.components.turn_all.Goals as goal
 

@@ -1,6 +1,6 @@
 use Rattle.std.proofs.Common.{sym, subst}
-use Rattle.rv_causality.specs.Expanded.{program_of, main_of}
-use Rattle.rv_causality.specs.Layouts.{IsWithin, here_of}
+use Rattle.rv_instances.specs.Expanded.{program_of, main_of}
+use Rattle.rv_instances.specs.Layouts.{IsWithin, here_of}
 use Rattle.rv_causality.proofs.GiverNeeds.{body_within}
 use Rattle.rv_causality.proofs.flow_graph.add_body.Goals as goal
 

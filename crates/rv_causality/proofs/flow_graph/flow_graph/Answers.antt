@@ -1,8 +1,8 @@
 use Rattle.std.proofs.Common.{◌≡◌, length, get_or, map, take, ◌∙◌, ap, arith, List}
 use Rattle.std.proofs.Math.Seq.{take-length}
-use Rattle.rv_causality.specs.declared.givers.Giver.{Giver}
-use Rattle.rv_causality.specs.Expanded.{program_of, main_of}
-use Rattle.rv_causality.specs.NumberedNeeds.{giver_numbers}
+use Rattle.rv_instances.specs.declared.givers.Giver.{Giver}
+use Rattle.rv_instances.specs.Expanded.{program_of, main_of}
+use Rattle.rv_instances.specs.NumberedNeeds.{giver_numbers}
 use Rattle.rv_causality.proofs.NeedsGraph.{is_giver, is_flow_graph, is_graph}
 use Rattle.rv_causality.proofs.flow_graph.flow_graph.Goals as goal
 

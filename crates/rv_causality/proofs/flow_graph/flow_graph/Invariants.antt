@@ -1,6 +1,6 @@
 use Rattle.std.proofs.Common.{◌≡◌, map, take}
-use Rattle.rv_causality.specs.Expanded.{program_of}
-use Rattle.rv_causality.specs.NumberedNeeds.{giver_numbers}
+use Rattle.rv_instances.specs.Expanded.{program_of}
+use Rattle.rv_instances.specs.NumberedNeeds.{giver_numbers}
 use Rattle.rv_causality.proofs.flow_graph.flow_graph.Given as goal
 
 abbrev pub invariant-loop-giver : goal.invariant-loop-giver

@@ -1,4 +1,4 @@
-use Rattle.rv_causality.specs.Expanded.{program_of, main_of}
+use Rattle.rv_instances.specs.Expanded.{program_of, main_of}
 use Rattle.rv_causality.specs.WeightTables.{AreFirstWeights}
 use Rattle.rv_causality.proofs.flow_weights.flow_weights.Given as goal
 

@@ -1,5 +1,6 @@
 use Rattle.std.proofs.Common.{false, ◌∙◌}
-use Rattle.rv_causality.proofs.Walks.{got, left_step, went_step, met, loop_step}
+use Rattle.rv_instances.proofs.Lists.{got}
+use Rattle.rv_causality.proofs.Walks.{left_step, went_step, met, loop_step}
 use Rattle.rv_causality.proofs.graph.explore.Goals as goal
 
 pub loop-top-smaller-in_ok-leave-in-None : goal.loop-top-smaller-in_ok-leave-in-None

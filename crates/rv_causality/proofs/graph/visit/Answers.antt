@@ -1,5 +1,6 @@
 use Rattle.std.proofs.Common.{◌<◌, false, sym, ◌∙◌, subst}
-use Rattle.rv_causality.proofs.Walks.{root_step, got}
+use Rattle.rv_causality.proofs.Walks.{root_step}
+use Rattle.rv_instances.proofs.Lists.{got}
 use Rattle.rv_causality.proofs.graph.visit.Goals as goal
 
 pub at-requires : goal.at-requires

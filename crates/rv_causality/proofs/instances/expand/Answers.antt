@@ -1,8 +1,8 @@
 use Rattle.std.proofs.Common.{◌≡◌, ℕ, ◌++◌, [], List, map, reverse, get_or, sym, ◌∙◌, ap, subst}
-use Rattle.rv_causality.specs.declared.answer.Instance.{Instance}
+use Rattle.rv_instances.specs.declared.answer.Instance.{Instance}
 use Rattle.rv_causality.specs.declared.calls.Calling.{Calling}
 use Rattle.rv_causality.specs.Listing.{called_instance, IsExpansion}
-use Rattle.rv_causality.proofs.Walks.{got}
+use Rattle.rv_instances.proofs.Lists.{got}
 use Rattle.rv_causality.proofs.Expanding.{expansion_next, expansion_step, ahead_less}
 use Rattle.rv_causality.proofs.instances.expand.Goals as goal
 

@@ -1,15 +1,15 @@
 use Rattle.std.proofs.Common.{◌≡◌, List, [], sym, subst, arith}
-use Rattle.rv_syntax.specs.Tree.{program_tree}
+use Rattle.rv_tree.specs.Tree.{program_tree}
 use Rattle.rv_causality.specs.declared.calls.Calling.{Calling}
-use Rattle.rv_causality.specs.declared.answer.Instance.{Instance}
+use Rattle.rv_instances.specs.declared.answer.Instance.{Instance}
 use Rattle.rv_causality.specs.Callings.{callings_of}
-use Rattle.rv_causality.specs.Causes.{AreInstances}
+use Rattle.rv_instances.specs.AllInstances.{AreInstances}
 use Rattle.rv_types.specs.Instances.{name_at}
 use Rattle.rv_causality.specs.Listing.{AreAllSorted, all_listed}
 use Rattle.rv_causality.proofs.Recursions.{is_graph, table_size}
 use Rattle.rv_causality.proofs.SortedCalls.{sorted_graph, sorted_order}
 use Rattle.rv_causality.proofs.Listed.{instances_listed}
-use Rattle.rv_causality.proofs.Measured.{if_ok}
+use Rattle.rv_instances.proofs.Lists.{if_ok}
 use Rattle.rv_causality.proofs.instances.instances.Goals as goal
 
 pub expand-requires : goal.expand-requires

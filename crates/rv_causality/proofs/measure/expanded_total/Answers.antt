@@ -1,12 +1,12 @@
 use Rattle.std.proofs.Common.{◌≡◌, length, sym, ◌∙◌, ap, subst, ℕ}
-use Rattle.rv_syntax.specs.Tree.{NodeTree, program_tree}
-use Rattle.rv_causality.specs.Sizes.{node_size, expanded}
+use Rattle.rv_tree.specs.Tree.{NodeTree, program_tree}
+use Rattle.rv_instances.specs.Counts.{node_size, expanded}
 use Rattle.rv_causality.specs.Totals.{AreCapped, total_at}
 use Rattle.rv_causality.specs.Callings.{callings_of}
 use Rattle.rv_types.specs.Instances.{name_at}
 use Rattle.rv_causality.specs.Capped.{capped}
-use Rattle.rv_causality.proofs.Lowering.{length_map}
-use Rattle.rv_causality.proofs.Measured.{if_ok, sizes_capped, expanded_measured}
+use Rattle.rv_instances.proofs.Lists.{length_map, if_ok}
+use Rattle.rv_causality.proofs.Measured.{sizes_capped, expanded_measured}
 use Rattle.rv_causality.proofs.measure.expanded_total.Goals as goal
 
 pub total_of-requires : goal.total_of-requires

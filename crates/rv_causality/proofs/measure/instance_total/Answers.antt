@@ -1,13 +1,13 @@
 use Rattle.std.proofs.Common.{◌≡◌, length, replicate, sym, ◌∙◌, ap, subst, ℕ}
 use Rattle.std.proofs.lemmas.List.{length-replicate}
-use Rattle.rv_syntax.specs.Tree.{program_tree, node_tree}
+use Rattle.rv_tree.specs.Tree.{program_tree, node_tree}
 use Rattle.rv_causality.specs.Totals.{AreCapped, total_at}
 use Rattle.rv_causality.specs.Callings.{callings_of}
 use Rattle.rv_types.specs.Instances.{name_at}
-use Rattle.rv_causality.specs.Sizes.{instance_count}
+use Rattle.rv_instances.specs.Counts.{instance_count}
 use Rattle.rv_causality.specs.Capped.{capped}
-use Rattle.rv_causality.proofs.Lowering.{length_map}
-use Rattle.rv_causality.proofs.Measured.{if_ok, ones_capped, instances_measured}
+use Rattle.rv_instances.proofs.Lists.{length_map, if_ok}
+use Rattle.rv_causality.proofs.Measured.{ones_capped, instances_measured}
 use Rattle.rv_causality.proofs.measure.instance_total.Goals as goal
 
 pub total_of-requires : goal.total_of-requires

@@ -1,8 +1,8 @@
 use Rattle.std.proofs.Common.{◌≡◌, ◌<◌, length, sym, ◌∙◌, ap, subst}
-use Rattle.rv_syntax.specs.Tree.{program_tree}
+use Rattle.rv_tree.specs.Tree.{program_tree}
 use Rattle.rv_causality.specs.Graphs.{IsGraph, IsOrdered}
 use Rattle.rv_causality.specs.Callings.{call_graph}
-use Rattle.rv_causality.proofs.Walks.{got}
+use Rattle.rv_instances.proofs.Lists.{got}
 use Rattle.rv_causality.proofs.Recursions.{is_graph, table_size}
 use Rattle.rv_causality.proofs.Measured.{total_read}
 use Rattle.rv_causality.proofs.measure.total_of.Goals as goal

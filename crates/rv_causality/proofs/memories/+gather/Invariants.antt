@@ -1,6 +1,6 @@
 use Rattle.std.proofs.Common.{◌≡◌, ◌++◌, map, drop}
-use Rattle.rv_syntax.specs.Delays.{delays_of_all}
-use Rattle.rv_syntax.specs.Tree.{tree_of, trees}
+use Rattle.rv_tree.specs.Delays.{delays_of_all}
+use Rattle.rv_tree.specs.Tree.{tree_of, trees}
 use Rattle.rv_causality.specs.Memories.{reads}
 use Rattle.rv_causality.proofs.memories.+gather.Given as goal
 

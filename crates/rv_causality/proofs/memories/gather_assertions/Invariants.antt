@@ -1,6 +1,6 @@
 use Rattle.std.proofs.Common.{◌≡◌, ◌++◌, map, drop}
-use Rattle.rv_syntax.specs.Delays.{delays_in_assertions}
-use Rattle.rv_syntax.specs.Tree.{assertion_tree}
+use Rattle.rv_tree.specs.Delays.{delays_in_assertions}
+use Rattle.rv_tree.specs.Tree.{assertion_tree}
 use Rattle.rv_causality.specs.Memories.{reads}
 use Rattle.rv_causality.proofs.memories.gather_assertions.Given as goal
 

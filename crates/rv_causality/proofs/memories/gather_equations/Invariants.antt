@@ -1,6 +1,6 @@
 use Rattle.std.proofs.Common.{◌≡◌, ◌++◌, map, drop}
-use Rattle.rv_syntax.specs.Delays.{delays_in_equations}
-use Rattle.rv_syntax.specs.Tree.{equation_tree}
+use Rattle.rv_tree.specs.Delays.{delays_in_equations}
+use Rattle.rv_tree.specs.Tree.{equation_tree}
 use Rattle.rv_causality.specs.Memories.{reads}
 use Rattle.rv_causality.proofs.memories.gather_equations.Given as goal
 

@@ -1,5 +1,5 @@
 use Rattle.std.proofs.Common.{◌≡◌, ◌+◌, ◌<◌, ◌++◌, List, length, map, drop, get_or, ◌∙◌, ap, subst}
-use Rattle.rv_syntax.specs.Tree.{node_tree, program_tree}
+use Rattle.rv_tree.specs.Tree.{node_tree, program_tree}
 use Rattle.rv_types.specs.declared.typed.Kind.{Kind}
 use Rattle.rv_causality.specs.Memories.{memory_kinds}
 use Rattle.rv_causality.proofs.EachNode.{among_nodes, one_more}

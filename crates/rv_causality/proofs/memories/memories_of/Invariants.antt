@@ -1,5 +1,5 @@
 use Rattle.std.proofs.Common.{◌≡◌, ◌++◌, map, drop}
-use Rattle.rv_syntax.specs.Tree.{node_tree, program_tree}
+use Rattle.rv_tree.specs.Tree.{node_tree, program_tree}
 use Rattle.rv_causality.specs.Memories.{memory_kinds}
 use Rattle.rv_causality.proofs.memories.memories_of.Given as goal
 

@@ -1,13 +1,13 @@
 use Rattle.std.proofs.Common.{◌≡◌, ◌++◌, [], List, map, sym, ◌∙◌}
 use Rattle.std.proofs.lemmas.List.{map-append}
-use Rattle.rv_syntax.specs.Delays.{delays_in_equations, delays_in_assertions, node_delays}
-use Rattle.rv_syntax.specs.Tree.{node_tree, equation_tree, assertion_tree}
+use Rattle.rv_tree.specs.Delays.{delays_in_equations, delays_in_assertions, node_delays}
+use Rattle.rv_tree.specs.Tree.{node_tree, equation_tree, assertion_tree}
 use Rattle.rv_types.specs.declared.typed.Kind.{Kind}
 use Rattle.rv_types.specs.Names.{texts}
 use Rattle.rv_types.specs.Readings.{view_of}
 use Rattle.rv_types.specs.Tables.{scope_of}
 use Rattle.rv_causality.specs.Memories.{read_of, reads, kinds_beside, memory_kinds}
-use Rattle.rv_causality.proofs.Measured.{if_ok}
+use Rattle.rv_instances.proofs.Lists.{if_ok}
 use Rattle.rv_causality.proofs.Remembered.{remembered}
 use Rattle.rv_causality.proofs.memories.memories_of_node.Goals as goal
 

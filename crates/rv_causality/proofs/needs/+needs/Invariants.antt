@@ -1,6 +1,6 @@
 use Rattle.std.proofs.Common.{◌≡◌, ◌++◌, map, drop}
-use Rattle.rv_syntax.specs.Tree.{tree_of, trees}
-use Rattle.rv_causality.specs.NumberedNeeds.{numbers_of_all, node_read, numbers_of}
+use Rattle.rv_tree.specs.Tree.{tree_of, trees}
+use Rattle.rv_instances.specs.NumberedNeeds.{numbers_of_all, node_read, numbers_of}
 use Rattle.rv_causality.proofs.needs.+needs.Given as goal
 
 abbrev pub invariant-add_all-loop-e : goal.invariant-add_all-loop-e

@@ -1,9 +1,9 @@
 use Rattle.std.proofs.Common.{◌≡◌, ◌+◌, ◌≤◌, map, drop}
-use Rattle.rv_syntax.specs.Tree.{tree_of, trees}
+use Rattle.rv_tree.specs.Tree.{tree_of, trees}
 use Rattle.rv_types.specs.Readings.{view_of}
 use Rattle.rv_types.specs.Tables.{scope_of}
 use Rattle.rv_causality.specs.Tests.{tests_of_all}
-use Rattle.rv_syntax.specs.Limits.{heaviest}
+use Rattle.rv_tree.specs.Limits.{heaviest}
 use Rattle.rv_causality.specs.Capped.{capped}
 use Rattle.rv_causality.proofs.order_tests.+tests.Given as goal
 

@@ -1,5 +1,5 @@
 use Rattle.std.proofs.Common.{◌≡◌, ℕ, ◌+◌, ◌<◌, ◌++◌, List, length, map, drop, get_or, ◌∙◌, ap, subst}
-use Rattle.rv_syntax.specs.Tree.{NodeTree, node_tree, program_tree}
+use Rattle.rv_tree.specs.Tree.{NodeTree, node_tree, program_tree}
 use Rattle.rv_types.specs.Variables.{order_tests}
 use Rattle.rv_causality.specs.Capped.{capped}
 use Rattle.rv_causality.proofs.EachNode.{among_nodes, one_more}

@@ -1,5 +1,5 @@
 use Rattle.std.proofs.Common.{◌≡◌, ◌++◌, map, drop}
-use Rattle.rv_syntax.specs.Tree.{NodeTree, node_tree, program_tree}
+use Rattle.rv_tree.specs.Tree.{NodeTree, node_tree, program_tree}
 use Rattle.rv_types.specs.Variables.{order_tests}
 use Rattle.rv_causality.specs.Capped.{capped}
 use Rattle.rv_causality.proofs.order_tests.order_tests_of.Given as goal

@@ -1,7 +1,7 @@
 use Rattle.std.proofs.Common.{List, map, ◌∙◌, ap}
-use Rattle.rv_syntax.specs.declared.tree.Equation.{Equation}
-use Rattle.rv_syntax.specs.declared.tree.Assertion.{Assertion}
-use Rattle.rv_syntax.specs.Tree.{EquationTree, AssertionTree, node_tree, equation_tree, assertion_tree}
+use Rattle.rv_tree.specs.declared.tree.Equation.{Equation}
+use Rattle.rv_tree.specs.declared.tree.Assertion.{Assertion}
+use Rattle.rv_tree.specs.Tree.{EquationTree, AssertionTree, node_tree, equation_tree, assertion_tree}
 use Rattle.rv_types.specs.Readings.{view_of}
 use Rattle.rv_types.specs.Tables.{scope_of}
 use Rattle.rv_types.specs.Variables.{total}

@@ -1,10 +1,10 @@
 use Rattle.std.proofs.Common.{◌≡◌, ◌+◌, ◌≤◌, map, drop}
-use Rattle.rv_syntax.specs.Tree.{AssertionTree, assertion_tree}
+use Rattle.rv_tree.specs.Tree.{AssertionTree, assertion_tree}
 use Rattle.rv_types.specs.Readings.{view_of}
 use Rattle.rv_types.specs.Tables.{scope_of}
 use Rattle.rv_types.specs.Variables.{total}
 use Rattle.rv_causality.specs.Tests.{tests}
-use Rattle.rv_syntax.specs.Limits.{heaviest}
+use Rattle.rv_tree.specs.Limits.{heaviest}
 use Rattle.rv_causality.specs.Capped.{capped}
 use Rattle.rv_causality.proofs.order_tests.tests_in_assertions.Given as goal
 

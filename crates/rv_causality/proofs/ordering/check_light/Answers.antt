@@ -1,4 +1,4 @@
-use Rattle.rv_causality.specs.Expanded.{program_of, main_of}
+use Rattle.rv_instances.specs.Expanded.{program_of, main_of}
 use Rattle.rv_causality.proofs.Numbered.{sided}
 use Rattle.rv_causality.proofs.ordering.check_light.Goals as goal
 

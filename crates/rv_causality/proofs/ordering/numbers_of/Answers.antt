@@ -1,9 +1,10 @@
 use Rattle.std.proofs.Common.{length, subst, sym, arith, List}
 use Rattle.std.specs.List.{Contains}
-use Rattle.rv_causality.specs.declared.sequence.Flow.{Flow}
-use Rattle.rv_causality.specs.Expanded.{program_of, main_of}
-use Rattle.rv_causality.specs.Flowing.{flow_count, flow_places, IsFlowGraph}
-use Rattle.rv_causality.proofs.FlowTable.{of_flows}
+use Rattle.rv_instances.specs.declared.flows.Flow.{Flow}
+use Rattle.rv_instances.specs.Expanded.{program_of, main_of}
+use Rattle.rv_instances.specs.Flowing.{flow_count, flow_places}
+use Rattle.rv_causality.specs.FlowGraphs.{IsFlowGraph}
+use Rattle.rv_instances.proofs.FlowTable.{of_flows}
 use Rattle.rv_causality.proofs.GiverNeeds.{places_few}
 use Rattle.rv_causality.proofs.Numbered.{numbered}
 use Rattle.rv_causality.proofs.ordering.numbers_of.Goals as goal

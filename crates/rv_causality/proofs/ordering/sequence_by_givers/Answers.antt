@@ -1,6 +1,6 @@
 use Rattle.std.proofs.Common.{map, ap, ◌∙◌}
-use Rattle.rv_causality.specs.Expanded.{program_of, main_of}
-use Rattle.rv_causality.specs.Flowing.{flow_places, place_at}
+use Rattle.rv_instances.specs.Expanded.{program_of, main_of}
+use Rattle.rv_instances.specs.Flowing.{flow_places, place_at}
 use Rattle.rv_causality.proofs.Numbered.{numbers_within, sequenced}
 use Rattle.rv_causality.proofs.ordering.sequence_by_givers.Goals as goal
 

@@ -1,7 +1,6 @@
-use Rattle.std.proofs.Common.{List, ℕ, ◌∷◌, ◌++◌, [], sym, subst, ◌∙◌}
-use Rattle.std.proofs.Common.{None as Nothing}
+use Rattle.std.proofs.Common.{List, ℕ, ◌∷◌, ◌++◌, [], sym, subst, ◌∙◌, None as Nothing}
 use Rattle.rv_causality.specs.Components.{Marks, IsSpread}
-use Rattle.rv_causality.proofs.Walks.{got}
+use Rattle.rv_instances.proofs.Lists.{got}
 use Rattle.rv_causality.proofs.Searches.{spread_not, spread_one}
 use Rattle.rv_causality.proofs.reach.mark.Goals as goal
 

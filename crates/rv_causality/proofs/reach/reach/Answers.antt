@@ -2,7 +2,7 @@ use Rattle.std.proofs.Common.{◌≡◌, ◌<◌, ℕ, List, [], ◌∷◌, ◌+
 use Rattle.std.specs.List.{Contains}
 use Rattle.rv_causality.specs.Graphs.{edges}
 use Rattle.rv_causality.specs.Components.{Marks, IsSearch, IsSpread}
-use Rattle.rv_causality.proofs.Walks.{got, contains_at}
+use Rattle.rv_instances.proofs.Lists.{got, contains_at}
 use Rattle.rv_causality.proofs.Searches.{search_start, search_step, search_end, search_last}
 use Rattle.rv_causality.proofs.reach.reach.Goals as goal
 

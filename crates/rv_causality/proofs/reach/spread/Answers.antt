@@ -1,7 +1,7 @@
 use Rattle.std.proofs.Common.{ℕ, ◌<◌, List, [], ◌∷◌, get_or, take, refl, sym, subst, arith}
 use Rattle.std.proofs.lemmas.List.{take_more}
 use Rattle.rv_causality.specs.Components.{IsSpread}
-use Rattle.rv_causality.proofs.Walks.{at_contains}
+use Rattle.rv_instances.proofs.Lists.{at_contains}
 use Rattle.rv_causality.proofs.Searches.{spread_none, spread_more}
 use Rattle.rv_causality.proofs.reach.spread.Goals as goal
 

@@ -1,5 +1,5 @@
 use Rattle.std.proofs.Common.{◌≡◌, ◌∙◌, ap, sym, subst}
-use Rattle.rv_syntax.specs.Tree.{program_tree}
+use Rattle.rv_tree.specs.Tree.{program_tree}
 use Rattle.rv_causality.specs.Graphs.{Graph, IsGraph, IsOrdered}
 use Rattle.rv_causality.specs.Callings.{call_graph, callings_of}
 use Rattle.rv_causality.specs.Loops.{IsRecursion}

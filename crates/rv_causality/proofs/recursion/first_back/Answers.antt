@@ -2,7 +2,7 @@ use Rattle.std.proofs.Common.{◌≡◌, List, [], get_or, sym, ◌∙◌, subst
 use Rattle.std.specs.List.{Contains}
 use Rattle.rv_causality.specs.declared.calls.Calling.{Calling}
 use Rattle.rv_causality.specs.Loops.{IsLowered}
-use Rattle.rv_causality.proofs.Walks.{got}
+use Rattle.rv_instances.proofs.Lists.{got}
 use Rattle.rv_causality.proofs.Lowering.{lowered_to_more}
 use Rattle.rv_causality.proofs.recursion.first_back.Goals as goal
 

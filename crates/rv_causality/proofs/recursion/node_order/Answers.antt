@@ -3,7 +3,8 @@ use Rattle.rv_causality.specs.Graphs.{Graph, IsGraph, IsLoop, IsSortedOf}
 use Rattle.rv_causality.specs.Callings.{callees}
 use Rattle.rv_causality.specs.Components.{AreComponents}
 use Rattle.rv_causality.specs.Loops.{IsFirstLoop}
-use Rattle.rv_causality.proofs.Lowering.{callee_within, length_map, first_found, none_found}
+use Rattle.rv_causality.proofs.Lowering.{callee_within, first_found, none_found}
+use Rattle.rv_instances.proofs.Lists.{length_map}
 use Rattle.rv_causality.proofs.recursion.node_order.Goals as goal
 
 pub first_back-requires-clause-nodes : goal.first_back-requires-clause-nodes

@@ -1,9 +1,10 @@
 use Rattle.std.proofs.Common.{◌<◌, ℕ, List, map, sym, ◌∙◌, ap, subst, arith}
 use Rattle.std.specs.List.{Contains}
-use Rattle.rv_syntax.specs.Places.{Sites}
+use Rattle.rv_tree.specs.Places.{Sites}
 use Rattle.rv_causality.specs.Graphs.{IsSortedOf, IsLoop, IsOrdered}
 use Rattle.rv_causality.specs.Causes.{IsCycleFromLeast}
-use Rattle.rv_causality.specs.Flowing.{place_at, flow_places, AreTurned}
+use Rattle.rv_instances.specs.Flowing.{place_at, flow_places}
+use Rattle.rv_causality.specs.FlowGraphs.{AreTurned}
 use Rattle.rv_causality.proofs.Sequences.{ordered_sequence, turned_cycle, turned_within}
 use Rattle.rv_causality.proofs.sequence.evaluation.Goals as goal
 

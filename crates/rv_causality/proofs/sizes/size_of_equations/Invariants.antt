@@ -1,8 +1,8 @@
 use Rattle.std.proofs.Common.{◌≡◌, ◌+◌, ◌≤◌, map, drop}
-use Rattle.rv_syntax.specs.Tree.{EquationTree, equation_tree}
-use Rattle.rv_causality.specs.Sizes.{size}
+use Rattle.rv_tree.specs.Tree.{EquationTree, equation_tree}
+use Rattle.rv_instances.specs.Counts.{size}
 use Rattle.rv_types.specs.Variables.{total}
-use Rattle.rv_syntax.specs.Limits.{heaviest}
+use Rattle.rv_tree.specs.Limits.{heaviest}
 use Rattle.rv_causality.specs.Capped.{capped}
 use Rattle.rv_causality.proofs.sizes.size_of_equations.Given as goal
 

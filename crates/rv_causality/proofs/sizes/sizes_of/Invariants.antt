@@ -1,5 +1,5 @@
 use Rattle.std.proofs.Common.{◌≡◌, ◌++◌, map, drop}
-use Rattle.rv_syntax.specs.Tree.{node_tree}
+use Rattle.rv_tree.specs.Tree.{node_tree}
 use Rattle.rv_causality.specs.Capped.{capped_sizes}
 use Rattle.rv_causality.proofs.sizes.sizes_of.Given as goal
 

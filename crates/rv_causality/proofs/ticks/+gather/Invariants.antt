@@ -1,5 +1,5 @@
 use Rattle.std.proofs.Common.{◌≡◌, ◌++◌, map, drop}
-use Rattle.rv_syntax.specs.Tree.{tree_of, trees, node_tree}
+use Rattle.rv_tree.specs.Tree.{tree_of, trees, node_tree}
 use Rattle.rv_types.specs.Clocks.{meet, pace_of_all}
 use Rattle.rv_causality.specs.TickWalk.{ticks_on_base, walked_all}
 use Rattle.rv_causality.proofs.ticks.+gather.Given as goal

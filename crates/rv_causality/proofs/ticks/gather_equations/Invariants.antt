@@ -1,5 +1,5 @@
 use Rattle.std.proofs.Common.{◌≡◌, ◌++◌, map, flat_map, drop}
-use Rattle.rv_syntax.specs.Tree.{EquationTree, equation_tree, node_tree}
+use Rattle.rv_tree.specs.Tree.{EquationTree, equation_tree, node_tree}
 use Rattle.rv_causality.specs.TickWalk.{ticks_on_base, walked}
 use Rattle.rv_causality.proofs.ticks.gather_equations.Given as goal
 

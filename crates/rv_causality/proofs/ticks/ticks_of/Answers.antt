@@ -1,8 +1,8 @@
 use Rattle.std.proofs.Common.{◌≤◌, ◌≡◌, length, refl, ap, arith}
-use Rattle.rv_syntax.specs.Limits.{source_limit}
-use Rattle.rv_syntax.specs.Places.{flows}
-use Rattle.rv_syntax.specs.Tree.{node_tree, program_tree}
-use Rattle.rv_causality.proofs.Known.{flows_once}
+use Rattle.rv_tree.specs.Limits.{source_limit}
+use Rattle.rv_tree.specs.Places.{flows}
+use Rattle.rv_tree.specs.Tree.{node_tree, program_tree}
+use Rattle.rv_instances.proofs.Known.{flows_once}
 use Rattle.rv_causality.proofs.TickSteps.{ticked_end, read_among, read_step}
 use Rattle.rv_causality.proofs.ticks.ticks_of.Goals as goal
 

@@ -1,4 +1,4 @@
-use Rattle.rv_syntax.specs.Tree.{program_tree}
+use Rattle.rv_tree.specs.Tree.{program_tree}
 use Rattle.rv_causality.specs.TickWalk.{AreTicked}
 use Rattle.rv_causality.proofs.ticks.ticks_of.Given as goal
 

@@ -1,14 +1,14 @@
 use Rattle.std.proofs.Common.{◌≡◌, ◌<◌, ◌≤◌, List, length, take, refl, sym, ◌∙◌, ap, subst, arith}
-use Rattle.rv_syntax.specs.declared.tree.TypeDecl.{TypeDecl}
-use Rattle.rv_syntax.specs.Tree.{NodeTree, program_tree, node_tree}
+use Rattle.rv_tree.specs.declared.tree.TypeDecl.{TypeDecl}
+use Rattle.rv_tree.specs.Tree.{NodeTree, program_tree, node_tree}
 use Rattle.rv_types.specs.declared.typed.Kind.{Kind}
 use Rattle.rv_types.specs.Kinds.{decl_kinds, flow_kinds}
-use Rattle.rv_causality.specs.Bits.{bits_of_all}
+use Rattle.rv_instances.specs.Bits.{bits_of_all}
 use Rattle.rv_causality.specs.Capped.{capped}
 use Rattle.rv_types.specs.Variables.{input_bits}
 use Rattle.rv_types.specs.Values.{labels_at}
-use Rattle.rv_syntax.specs.Limits.{heaviest}
-use Rattle.rv_causality.proofs.Lowering.{length_map}
+use Rattle.rv_tree.specs.Limits.{heaviest}
+use Rattle.rv_instances.proofs.Lists.{length_map}
 use Rattle.rv_causality.proofs.Main.{main_node, main_kinds, inputs_few}
 use Rattle.rv_causality.proofs.Inputs.{input_kinds}
 use Rattle.rv_causality.proofs.Varied.{few_labels, bits_each, take_length}

@@ -1,17 +1,17 @@
 use Rattle.std.proofs.Common.{◌≡◌, ◌≤◌, List, length, map, sym, ◌∙◌, ap, subst, ℕ}
-use Rattle.rv_syntax.specs.declared.tree.TypeDecl.{TypeDecl}
-use Rattle.rv_syntax.specs.Tree.{NodeTree, program_tree}
+use Rattle.rv_tree.specs.declared.tree.TypeDecl.{TypeDecl}
+use Rattle.rv_tree.specs.Tree.{NodeTree, program_tree}
 use Rattle.rv_types.specs.declared.typed.Kind.{Kind}
-use Rattle.rv_causality.specs.Bits.{bits_of_all}
+use Rattle.rv_instances.specs.Bits.{bits_of_all}
 use Rattle.rv_types.specs.Variables.{memory_bits, over_instances}
 use Rattle.rv_types.specs.Values.{labels_at}
-use Rattle.rv_syntax.specs.Limits.{heaviest}
+use Rattle.rv_tree.specs.Limits.{heaviest}
 use Rattle.rv_causality.specs.Totals.{AreCapped, total_at}
 use Rattle.rv_causality.specs.Callings.{callings_of}
 use Rattle.rv_types.specs.Instances.{name_at}
 use Rattle.rv_causality.specs.Capped.{capped}
-use Rattle.rv_causality.proofs.Lowering.{length_map}
-use Rattle.rv_causality.proofs.Measured.{if_ok, numbers_capped, sum_measured}
+use Rattle.rv_instances.proofs.Lists.{length_map, if_ok}
+use Rattle.rv_causality.proofs.Measured.{numbers_capped, sum_measured}
 use Rattle.rv_causality.proofs.Varied.{few_labels, bits_measured}
 use Rattle.rv_causality.proofs.variables.memory_bit_total.Goals as goal
 

@@ -1,6 +1,6 @@
 use Rattle.std.proofs.Common.{◌≡◌, suc, ◌+◌, ◌∙◌, ap, arith}
 use Rattle.rv_types.specs.WideConstants.{lesser}
-use Rattle.rv_causality.specs.Expanded.{program_of}
+use Rattle.rv_instances.specs.Expanded.{program_of}
 use Rattle.rv_causality.specs.WideNodes.{wide_in_node, wide_in_first}
 use Rattle.rv_causality.proofs.weight_check.wide_in_instances.Goals as goal
 

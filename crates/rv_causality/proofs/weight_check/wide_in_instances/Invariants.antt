@@ -1,5 +1,5 @@
 use Rattle.std.proofs.Common.{◌≡◌}
-use Rattle.rv_causality.specs.Expanded.{program_of}
+use Rattle.rv_instances.specs.Expanded.{program_of}
 use Rattle.rv_causality.specs.WideNodes.{wide_in_first}
 use Rattle.rv_causality.proofs.weight_check.wide_in_instances.Given as goal
 

@@ -1,5 +1,5 @@
 use Rattle.std.proofs.Common.{◌≡◌, map, drop}
-use Rattle.rv_syntax.specs.Tree.{equation_tree}
+use Rattle.rv_tree.specs.Tree.{equation_tree}
 use Rattle.rv_types.specs.WideConstants.{lesser}
 use Rattle.rv_causality.specs.Weighing.{weighing}
 use Rattle.rv_causality.specs.WideNodes.{wide_in_equations}

@@ -5,8 +5,8 @@ use Rattle.std.specs.Option.{option_map}
 use Rattle.std.proofs.lemmas.Bool.{cases_order}
 use Rattle.std.proofs.lemmas.List.{length-map, get_or-map, get_or_past}
 use Rattle.std.proofs.lemmas.Option.{slice_get_past}
-use Rattle.rv_syntax.specs.Tree.{NodeTree, node_tree}
-use Rattle.rv_syntax.specs.Places.{index_of}
+use Rattle.rv_tree.specs.Tree.{NodeTree, node_tree}
+use Rattle.rv_tree.specs.Places.{index_of}
 use Rattle.rv_types.specs.Instances.{no_node}
 use Rattle.rv_meaning.specs.Callings.{first_callee, callee_in}
 use Rattle.rv_meaning.specs.Leading.{callee_at, callee_in_node, node_texts}

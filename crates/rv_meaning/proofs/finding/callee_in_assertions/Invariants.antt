@@ -1,5 +1,5 @@
 use Rattle.std.proofs.Common.{◌≡◌, map, drop}
-use Rattle.rv_syntax.specs.Tree.{assertion_tree}
+use Rattle.rv_tree.specs.Tree.{assertion_tree}
 use Rattle.rv_meaning.specs.Leading.{callee_in_assertions}
 use Rattle.rv_meaning.proofs.finding.callee_in_assertions.Given as goal
 

@@ -1,5 +1,5 @@
 use Rattle.std.proofs.Common.{◌≡◌, map, drop}
-use Rattle.rv_syntax.specs.Tree.{node_tree}
+use Rattle.rv_tree.specs.Tree.{node_tree}
 use Rattle.rv_meaning.specs.Leading.{callee_at, led_by}
 use Rattle.rv_meaning.proofs.finding.node_at.Given as goal
 

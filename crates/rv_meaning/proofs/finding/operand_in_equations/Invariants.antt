@@ -1,5 +1,5 @@
 use Rattle.std.proofs.Common.{◌≡◌, map, drop}
-use Rattle.rv_syntax.specs.Tree.{equation_tree}
+use Rattle.rv_tree.specs.Tree.{equation_tree}
 use Rattle.rv_meaning.specs.Leading.{operand_in_equations}
 use Rattle.rv_meaning.proofs.finding.operand_in_equations.Given as goal
 

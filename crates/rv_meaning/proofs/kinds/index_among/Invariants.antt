@@ -1,5 +1,5 @@
 use Rattle.std.proofs.Common.{◌≡◌, ◌+◌, drop}
-use Rattle.rv_syntax.specs.Places.{index_of, names}
+use Rattle.rv_tree.specs.Places.{index_of, names}
 use Rattle.rv_meaning.proofs.kinds.index_among.Given as goal
 
 abbrev pub invariant-loop-number : goal.invariant-loop-number

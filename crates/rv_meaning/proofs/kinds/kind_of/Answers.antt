@@ -1,7 +1,7 @@
 use Rattle.std.proofs.Common.{◌≡◌, ◌++◌, ◌∷◌, [], refl, sym, ◌∙◌, ap, subst, Option, Some, IfSome, IfNone}
 use Rattle.std.proofs.Common.{None as Nothing}
-use Rattle.rv_syntax.specs.Tree.{program_tree}
-use Rattle.rv_syntax.specs.Places.{Sites}
+use Rattle.rv_tree.specs.Tree.{program_tree}
+use Rattle.rv_tree.specs.Places.{Sites}
 use Rattle.rv_types.specs.declared.typed.Kind.{Kind}
 use Rattle.rv_types.specs.Instances.{name_at}
 use Rattle.rv_meaning.specs.Accessors.{IsKindAt}
@@ -20,7 +20,7 @@ where_none Nothing P h = h refl
 where_none (Some k) P h = tt
 
 pub kind_after-requires : goal.kind_after-requires
-kind_after-requires c = record { bounded = c.bounded_tree.ensures (program_tree c.args.p.now) c.requires.text }
+kind_after-requires c = record { bounded = c.requires.tree.bounded }
 
 pub returns-in-Some-clause-found : goal.returns-in-Some-clause-found
 returns-in-Some-clause-found c =
@@ -29,7 +29,7 @@ returns-in-Some-clause-found c =
     let path = c.front.result.now in
     let s = c.in-Some.site in
     let rules = settled p t c.requires.settled in
-    let well = c.well_formed_programs.ensures p (name_at p t.main) t c.requires.text rules in
+    let well = c.well_formed_programs.ensures p (name_at p t.main) t c.requires.tree rules in
     let seen : c.kind_after.result ≡ kind_at_end p _ t.main path s = c.kind_after.ensures ∙ ap (λ ks. kind_at_end p ks t.main path s) rules.flow_types in
     let same : path ++ s ∷ [] ≡ c.args.place.now.sites = ap (λ (q : Sites). q ++ s ∷ []) c.front.ensures ∙ sym c.in-Some.ensures.some in
     where_some c.kind_after.result (IsKindAt p (name_at p t.main) c.args.place.now.sites)
@@ -43,7 +43,7 @@ returns-in-Some-clause-none c =
     let path = c.front.result.now in
     let s = c.in-Some.site in
     let rules = settled p t c.requires.settled in
-    let well = c.well_formed_programs.ensures p (name_at p t.main) t c.requires.text rules in
+    let well = c.well_formed_programs.ensures p (name_at p t.main) t c.requires.tree rules in
     let seen : c.kind_after.result ≡ kind_at_end p _ t.main path s = c.kind_after.ensures ∙ ap (λ ks. kind_at_end p ks t.main path s) rules.flow_types in
     let same : path ++ s ∷ [] ≡ c.args.place.now.sites = ap (λ (q : Sites). q ++ s ∷ []) c.front.ensures ∙ sym c.in-Some.ensures.some in
     where_none c.kind_after.result ((k : Kind) → IsKindAt p (name_at p t.main) c.args.place.now.sites k → ⊥)

@@ -1,5 +1,5 @@
 use Rattle.std.proofs.Common.{◌≡◌, ◌≤◌, map, take, reverse, length}
-use Rattle.rv_syntax.specs.Tree.{constant_tree, program_tree}
+use Rattle.rv_tree.specs.Tree.{constant_tree, program_tree}
 use Rattle.rv_meaning.specs.Telling.{constant_told}
 use Rattle.rv_meaning.proofs.kinds.kind_of_constant.Given as goal
 

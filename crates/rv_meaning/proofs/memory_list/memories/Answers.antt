@@ -1,8 +1,8 @@
 use Rattle.std.proofs.Common.{◌≡◌, List, length, map, sym, ◌∙◌, ap, subst, arith, get_or, []}
 use Rattle.std.proofs.lemmas.List.{length-map}
 use Rattle.std.specs.List.{Contains, flat_map}
-use Rattle.rv_syntax.specs.Places.{Sites}
-use Rattle.rv_syntax.specs.Tree.{node_tree, program_tree}
+use Rattle.rv_tree.specs.Places.{Sites}
+use Rattle.rv_tree.specs.Tree.{node_tree, program_tree}
 use Rattle.rv_types.specs.Instances.{name_at, no_node}
 use Rattle.rv_types.specs.Lists.{sites_of}
 use Rattle.rv_meaning.specs.Callings.{callee_in}
@@ -14,14 +14,14 @@ use Rattle.rv_meaning.proofs.memory_list.memories.Goals as goal
 
 pub callees_of-requires : goal.callees_of-requires
 callees_of-requires c =
-    let b = c.bounded_tree.ensures (program_tree c.args.p.now) c.requires.text in
+    let b = c.requires.tree.bounded in
     let few = b.nodes in
     let same = ap length c.as_slice.ensures in
     omega (arith, few, same, length-map c.args.p.now.nodes node_tree)
 
 pub sites_of_nodes-requires : goal.sites_of_nodes-requires
 sites_of_nodes-requires c = λ n w.
-    let b = c.bounded_tree.ensures (program_tree c.args.p.now) c.requires.text in
+    let b = c.requires.tree.bounded in
     b.node_flows n (subst (λ l. Contains (map node_tree l) n) c.as_slice-2.ensures w)
 
 pub returns : goal.returns
@@ -29,7 +29,7 @@ returns c =
     let p = program_tree c.args.p.now in
     let t = c.args.t.now in
     let rules = settled p t c.requires.settled in
-    let well = c.well_formed_programs.ensures p (name_at p t.main) t c.requires.text rules in
+    let well = c.well_formed_programs.ensures p (name_at p t.main) t c.requires.tree rules in
     let next = callee_in c.in_ok-callees.callees in
     let found : sites_of c.in_ok-places.places ≡ flat_map (places_at next c.in_ok-sites.sites t.main) c.args.paths.now =
     c.in_ok-places.ensures

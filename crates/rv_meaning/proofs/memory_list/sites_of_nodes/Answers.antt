@@ -1,7 +1,7 @@
 use Rattle.std.proofs.Common.{◌≡◌, ℕ, ◌+◌, ◌<◌, ◌≤◌, ◌++◌, ◌∷◌, [], List, length, map, sym, ◌∙◌, ap, subst, arith, inl, inr, get_or, below_more, length-append}
 use Rattle.std.proofs.lemmas.Bool.{cases_order}
 use Rattle.std.proofs.lemmas.List.{length-map, get_or-map, get_or_past, get_or_append_left, get_or-append-add}
-use Rattle.rv_syntax.specs.Tree.{NodeTree, node_tree}
+use Rattle.rv_tree.specs.Tree.{NodeTree, node_tree}
 use Rattle.rv_types.specs.Instances.{no_node}
 use Rattle.rv_meaning.specs.Remembered.{AreSites}
 use Rattle.rv_meaning.proofs.memory_list.sites_of_nodes.Goals as goal

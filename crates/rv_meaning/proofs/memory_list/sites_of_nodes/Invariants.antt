@@ -1,5 +1,5 @@
 use Rattle.std.proofs.Common.{◌≡◌, ℕ, ◌<◌, [], length, map, get_or}
-use Rattle.rv_syntax.specs.Tree.{node_tree}
+use Rattle.rv_tree.specs.Tree.{node_tree}
 use Rattle.rv_types.specs.Instances.{no_node}
 use Rattle.rv_meaning.specs.Remembered.{AreSites}
 use Rattle.rv_meaning.proofs.memory_list.sites_of_nodes.Given as goal

@@ -1,6 +1,6 @@
 use Rattle.std.proofs.Common.{◌≡◌, ℕ, ◌+◌, ◌≤◌, List, length, drop}
 use Rattle.std.specs.HashMap.{get}
-use Rattle.rv_syntax.specs.Places.{is_same, names}
+use Rattle.rv_tree.specs.Places.{is_same, names}
 use Rattle.rv_meaning.specs.Numbers.{entered}
 use Rattle.rv_meaning.proofs.numbers.enter.Given as goal
 

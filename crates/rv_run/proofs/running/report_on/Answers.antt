@@ -1,7 +1,7 @@
 use Rattle.std.proofs.Common.{sym, ◌≤◌, length, subst, refl}
 use Rattle.rv_meaning.specs.Runs.{IsSafe}
 use Rattle.rv_meaning.specs.Valuations.{HoldsEverywhere}
-use Rattle.rv_syntax.specs.Limits.{source_limit}
+use Rattle.rv_tree.specs.Limits.{source_limit}
 use Rattle.rv_run.specs.Words.{texts}
 use Rattle.rv_run.specs.Programs.{OnProgram, WithRuns, IsJudged, IsUndecided, IsRefusedFor}
 use Rattle.rv_run.proofs.Named.{on_file}

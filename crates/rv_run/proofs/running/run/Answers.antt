@@ -1,7 +1,7 @@
 use Rattle.std.proofs.Common.{◌≤◌, List, length, subst}
 use Rattle.std.specs.Prelude.{String}
 use Rattle.std.specs.Global.{Global}
-use Rattle.rv_syntax.specs.Limits.{source_limit}
+use Rattle.rv_tree.specs.Limits.{source_limit}
 use Rattle.rv_run.specs.Words.{texts}
 use Rattle.rv_run.specs.Answers.{IsTold, IsRefusalUnlessCutOff}
 use Rattle.rv_run.specs.Programs.{IsRefusedFor}

@@ -1,8 +1,8 @@
 use Rattle.std.specs.Prelude.{Ok}
 use Rattle.std.proofs.Common.{◌≡◌, ◌++◌, ◌∷◌, [], List, map, sym, ap, ◌∙◌, append_assoc}
 use Rattle.std.proofs.lemmas.List.{append-nil, map_push}
-use Rattle.rv_syntax.specs.declared.tree.ConstDecl.{ConstDecl}
-use Rattle.rv_syntax.specs.Tree.{constant_tree}
+use Rattle.rv_tree.specs.declared.tree.ConstDecl.{ConstDecl}
+use Rattle.rv_tree.specs.Tree.{constant_tree}
 use Rattle.std.proofs.lemmas.Result.{err_from_is_err_and}
 use Rattle.rv_syntax.specs.Reading.{with_front, next_constants}
 use Rattle.rv_syntax.proofs.Loop.{constants-loop, goes-on, ends, stops-with}

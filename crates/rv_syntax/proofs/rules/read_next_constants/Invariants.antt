@@ -1,5 +1,5 @@
 use Rattle.std.proofs.Common.{◌≡◌, length, map}
-use Rattle.rv_syntax.specs.Tree.{constant_tree}
+use Rattle.rv_tree.specs.Tree.{constant_tree}
 use Rattle.rv_syntax.specs.Reading.{with_front, next_constants}
 use Rattle.rv_syntax.proofs.rules.read_next_constants.Given as goal
 

@@ -3,7 +3,7 @@ use Rattle.std.specs.Prelude.{Ok}
 use Rattle.std.proofs.lemmas.List.{append-nil}
 use Rattle.std.proofs.lemmas.Result.{err_from_is_err_and}
 use Rattle.rv_syntax.specs.declared.rules.Local.{Local}
-use Rattle.rv_syntax.specs.declared.tree.Decl.{Decl}
+use Rattle.rv_tree.specs.declared.tree.Decl.{Decl}
 use Rattle.rv_syntax.specs.ProgramText.{joined}
 use Rattle.rv_syntax.specs.Reads.{same}
 use Rattle.rv_syntax.specs.Reading.{flows, mapped, next_locals}

@@ -1,8 +1,8 @@
 use Rattle.std.proofs.Common.{◌++◌, ◌∷◌, [], map, sym, ap, ◌∙◌}
 use Rattle.std.specs.Prelude.{Ok}
 use Rattle.std.proofs.lemmas.List.{map_push}
-use Rattle.rv_syntax.specs.Tree.{NodeTree, ConstantTree, node_tree, program_tree}
-use Rattle.rv_syntax.specs.declared.tree.TypeDecl.{TypeDecl}
+use Rattle.rv_tree.specs.Tree.{NodeTree, ConstantTree, node_tree, program_tree}
+use Rattle.rv_tree.specs.declared.tree.TypeDecl.{TypeDecl}
 use Rattle.std.proofs.Common.{List}
 use Rattle.rv_syntax.specs.Reading.{mapped}
 use Rattle.rv_syntax.proofs.Loop.{made-program, section-types, section-constants, section-node}

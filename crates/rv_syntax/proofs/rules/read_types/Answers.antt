@@ -1,5 +1,5 @@
 use Rattle.std.proofs.Common.{List, subst}
-use Rattle.rv_syntax.specs.declared.tree.TypeDecl.{TypeDecl}
+use Rattle.rv_tree.specs.declared.tree.TypeDecl.{TypeDecl}
 use Rattle.rv_syntax.specs.Reads.{Reads, same}
 use Rattle.rv_syntax.proofs.Loop.{from-types}
 use Rattle.rv_syntax.proofs.rules.read_types.Goals as goal

@@ -1,6 +1,6 @@
 use Rattle.std.proofs.Common.{◌++◌, [], ◌∷◌, map, ap, ◌∙◌, refl, append_assoc, arith}
-use Rattle.rv_syntax.specs.Tree.{tree_of, assertion_tree}
-use Rattle.rv_syntax.specs.Sites.{offsets, assertion_offsets}
+use Rattle.rv_tree.specs.Tree.{tree_of, assertion_tree}
+use Rattle.rv_tree.specs.Sites.{offsets, assertion_offsets}
 use Rattle.rv_syntax.proofs.Joined.{collected-more, collected-all}
 use Rattle.rv_syntax.proofs.sites.collect_assertions.Goals as goal
 

@@ -1,6 +1,6 @@
 use Rattle.std.proofs.Common.{◌+◌, map, length, ap, arith}
 use Rattle.std.proofs.lemmas.List.Sorted.{IsNonDecreasingBy-from_sort, length_permutation}
-use Rattle.rv_syntax.specs.Tree.{node_tree, equation_tree, assertion_tree}
+use Rattle.rv_tree.specs.Tree.{node_tree, equation_tree, assertion_tree}
 use Rattle.rv_syntax.proofs.Earlier.{length-flows, node-numbers, node-collected}
 use Rattle.rv_syntax.proofs.sites.sites_of.Goals as goal
 

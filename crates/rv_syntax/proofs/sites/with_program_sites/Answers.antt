@@ -2,9 +2,9 @@ use Rattle.std.proofs.Common.{◌≤◌, map, subst, arith}
 use Rattle.std.specs.List.{All}
 use Rattle.std.proofs.lemmas.List.Elements.{All-tail}
 use Rattle.std.specs.Vec.Iter.{into_iter_items}
-use Rattle.rv_syntax.specs.Limits.{source_limit}
-use Rattle.rv_syntax.specs.Tree.{NodeTree, node_tree}
-use Rattle.rv_syntax.specs.Sites.{with_sites, site_count}
+use Rattle.rv_tree.specs.Limits.{source_limit}
+use Rattle.rv_tree.specs.Tree.{NodeTree, node_tree}
+use Rattle.rv_tree.specs.Sites.{with_sites, site_count}
 use Rattle.rv_syntax.proofs.Joined.{turned-more}
 use Rattle.rv_syntax.proofs.sites.with_program_sites.Goals as goal
 

@@ -1,5 +1,5 @@
 use Rattle.std.proofs.Common.{◌≡◌, map, take}
-use Rattle.rv_causality.specs.declared.answer.Instance.{Instance}
+use Rattle.rv_instances.specs.declared.answer.Instance.{Instance}
 use Rattle.rv_tests.proofs.places.paths_of.Given as goal
 
 abbrev pub invariant-loop-instance : goal.invariant-loop-instance

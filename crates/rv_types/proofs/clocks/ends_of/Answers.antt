@@ -1,4 +1,4 @@
-use Rattle.rv_syntax.specs.Tree.{node_tree}
+use Rattle.rv_tree.specs.Tree.{node_tree}
 use Rattle.rv_types.proofs.TimingLaws.{ends_known}
 use Rattle.rv_types.proofs.clocks.ends_of.Goals as goal
 

@@ -1,5 +1,5 @@
 use Rattle.std.proofs.Common.{◌≡◌, drop}
-use Rattle.rv_syntax.specs.Tree.{node_tree}
+use Rattle.rv_tree.specs.Tree.{node_tree}
 use Rattle.rv_types.specs.Clocks.{meet, left_pace}
 use Rattle.rv_types.proofs.clocks.pace_of_lefts.Given as goal
 

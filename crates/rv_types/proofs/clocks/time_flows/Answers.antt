@@ -1,5 +1,5 @@
 use Rattle.std.proofs.Common.{◌≡◌, ◌<◌, ◌^◌, ◌∙◌, ap, sym, subst, rules, length}
-use Rattle.rv_syntax.specs.Tree.{node_tree}
+use Rattle.rv_tree.specs.Tree.{node_tree}
 use Rattle.rv_types.specs.Names.{texts}
 use Rattle.rv_types.specs.Firsts.{firsts}
 use Rattle.rv_types.specs.Known.{flow_names}

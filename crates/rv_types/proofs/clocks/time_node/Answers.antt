@@ -1,5 +1,5 @@
 use Rattle.std.proofs.Common.{◌≡◌, rules}
-use Rattle.rv_syntax.specs.Tree.{node_tree}
+use Rattle.rv_tree.specs.Tree.{node_tree}
 use Rattle.rv_types.specs.Clocks.{flow_clocks}
 use Rattle.rv_types.proofs.TimingLaws.{timing_of}
 use Rattle.rv_types.proofs.clocks.time_node.Goals as goal

@@ -1,4 +1,4 @@
-use Rattle.rv_syntax.specs.Tree.{node_tree}
+use Rattle.rv_tree.specs.Tree.{node_tree}
 use Rattle.rv_types.proofs.NodeFlows.{mapped_there}
 use Rattle.rv_types.proofs.clocks.time_nodes.Goals as goal
 

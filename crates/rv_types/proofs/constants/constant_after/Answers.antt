@@ -1,5 +1,5 @@
 use Rattle.std.proofs.Common.{ap, ◌∙◌}
-use Rattle.rv_syntax.specs.Tree.{tree_of, constant_tree}
+use Rattle.rv_tree.specs.Tree.{tree_of, constant_tree}
 use Rattle.rv_types.specs.Constants.{value_of}
 use Rattle.rv_types.specs.ConstantTables.{as_declared_by, constant_types_by}
 use Rattle.rv_types.specs.Earliest.{first}

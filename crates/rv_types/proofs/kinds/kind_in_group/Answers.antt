@@ -1,6 +1,6 @@
 use Rattle.rv_types.proofs.Grouped.{kept, looked_up}
-use Rattle.rv_syntax.specs.declared.tree.Decl.{Decl}
-use Rattle.rv_syntax.specs.declared.tree.TypeName.{TypeName}
+use Rattle.rv_tree.specs.declared.tree.Decl.{Decl}
+use Rattle.rv_tree.specs.declared.tree.TypeName.{TypeName}
 use Rattle.rv_types.specs.Kinds.{written_kind}
 use Rattle.rv_types.specs.Tables.{entry_in}
 use Rattle.rv_types.proofs.kinds.kind_in_group.Goals as goal

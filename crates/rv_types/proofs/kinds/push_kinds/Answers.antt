@@ -1,5 +1,5 @@
 use Rattle.std.proofs.Common.{arith}
-use Rattle.rv_syntax.specs.declared.tree.Decl.{Decl}
+use Rattle.rv_tree.specs.declared.tree.Decl.{Decl}
 use Rattle.rv_types.specs.Kinds.{written_kind}
 use Rattle.rv_types.specs.Tables.{entry_in}
 use Rattle.rv_types.proofs.Grouped.{pushed_step, here}

@@ -1,5 +1,5 @@
 use Rattle.std.proofs.Common.{◌≡◌, drop, map, flat_map}
-use Rattle.rv_syntax.specs.Tree.{equation_tree}
+use Rattle.rv_tree.specs.Tree.{equation_tree}
 use Rattle.rv_types.specs.Names.{repeated}
 use Rattle.rv_types.specs.Firsts.{firsts_after}
 use Rattle.rv_types.specs.Earliest.{first, sooner}

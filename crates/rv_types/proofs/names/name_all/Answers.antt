@@ -1,5 +1,5 @@
 use Rattle.std.proofs.Common.{◌≡◌, ◌∙◌, ap, rules, [], ◌++◌, map, flat_map}
-use Rattle.rv_syntax.specs.Tree.{program_tree, constant_tree, node_tree}
+use Rattle.rv_tree.specs.Tree.{program_tree, constant_tree, node_tree}
 use Rattle.rv_types.specs.Earliest.{first}
 use Rattle.rv_types.specs.Known.{first_spaces, second_declarations, alias_use_in, constant_use_in, names_in}
 use Rattle.rv_types.proofs.KnownLaws.{all_names}

@@ -1,5 +1,5 @@
 use Rattle.std.proofs.Common.{◌≡◌, take, map, flat_map}
-use Rattle.rv_syntax.specs.Tree.{node_tree}
+use Rattle.rv_tree.specs.Tree.{node_tree}
 use Rattle.rv_types.specs.Known.{names_in}
 use Rattle.rv_types.specs.Earliest.{first}
 use Rattle.rv_types.proofs.names.name_nodes.Given as goal

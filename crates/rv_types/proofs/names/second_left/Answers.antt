@@ -1,5 +1,5 @@
 use Rattle.std.proofs.Common.{◌≡◌, ◌∙◌, rules, IfOk, subst, map, flat_map}
-use Rattle.rv_syntax.specs.Tree.{node_tree, equation_tree}
+use Rattle.rv_tree.specs.Tree.{node_tree, equation_tree}
 use Rattle.rv_types.specs.Names.{decl_names, repeated, lefts}
 use Rattle.rv_types.specs.Firsts.{firsts}
 use Rattle.rv_types.specs.Earliest.{first}

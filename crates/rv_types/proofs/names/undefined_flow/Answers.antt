@@ -1,5 +1,5 @@
 use Rattle.std.proofs.Common.{◌≡◌, rules, flat_map}
-use Rattle.rv_syntax.specs.Tree.{node_tree}
+use Rattle.rv_tree.specs.Tree.{node_tree}
 use Rattle.rv_types.specs.Names.{decl_names, lefts, undefined_unless}
 use Rattle.rv_types.specs.Firsts.{firsts}
 use Rattle.rv_types.specs.Earliest.{first}

@@ -1,4 +1,4 @@
-use Rattle.rv_syntax.specs.Tree.{constant_tree}
+use Rattle.rv_tree.specs.Tree.{constant_tree}
 use Rattle.rv_types.specs.Known.{constant_use_in}
 use Rattle.rv_types.proofs.Joined.{mapped_step}
 use Rattle.rv_types.proofs.names.unknown_in_constants.Goals as goal

@@ -1,6 +1,6 @@
 use Rattle.rv_types.proofs.Grouped.{kept, looked_up}
-use Rattle.rv_syntax.specs.declared.tree.Decl.{Decl}
-use Rattle.rv_syntax.specs.declared.tree.TypeName.{TypeName}
+use Rattle.rv_tree.specs.declared.tree.Decl.{Decl}
+use Rattle.rv_tree.specs.declared.tree.TypeName.{TypeName}
 use Rattle.rv_types.specs.Names.{is_declared, type_use}
 use Rattle.rv_types.specs.Known.{flow_use_in}
 use Rattle.rv_types.specs.Earliest.{first}

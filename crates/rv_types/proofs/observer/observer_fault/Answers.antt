@@ -1,7 +1,7 @@
 use Rattle.std.proofs.Common.{◌≡◌, ap, sym, ◌∙◌, Some, slice_get, List}
 use Rattle.std.specs.Option.{option_map}
 use Rattle.std.proofs.lemmas.Option.{slice_get-map}
-use Rattle.rv_syntax.specs.Tree.{node_tree, program_tree}
+use Rattle.rv_tree.specs.Tree.{node_tree, program_tree}
 use Rattle.rv_types.specs.declared.typed.Kind.{Kind}
 use Rattle.rv_types.specs.Earliest.{first}
 use Rattle.rv_types.specs.Kinds.{flow_kinds}

@@ -1,5 +1,5 @@
 use Rattle.std.proofs.Common.{◌≡◌, map, drop}
-use Rattle.rv_syntax.specs.Tree.{tree_of, trees, node_tree}
+use Rattle.rv_tree.specs.Tree.{tree_of, trees, node_tree}
 use Rattle.rv_types.specs.Parts.{faults_of_all}
 use Rattle.rv_types.specs.Clocks.{meet, own_clash}
 use Rattle.rv_types.specs.Clocks as clocking

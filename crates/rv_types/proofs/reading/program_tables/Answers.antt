@@ -1,7 +1,7 @@
 use Rattle.std.proofs.Common.{List, [], ap, sym, ◌∙◌, map, reverse, subst}
 use Rattle.std.specs.List.{Contains}
-use Rattle.rv_syntax.specs.declared.tree.TypeDecl.{TypeDecl}
-use Rattle.rv_syntax.specs.Tree.{program_tree, node_tree}
+use Rattle.rv_tree.specs.declared.tree.TypeDecl.{TypeDecl}
+use Rattle.rv_tree.specs.Tree.{program_tree, node_tree}
 use Rattle.rv_types.specs.declared.spaces.Spaces.{Spaces}
 use Rattle.rv_types.specs.ConstantTables.{AreTablesOf}
 use Rattle.rv_types.specs.Names.{type_names, repeated}

@@ -1,6 +1,6 @@
 use Rattle.std.proofs.Common.{◌<◌, ◌^◌, ◌∙◌, ap, sym, subst, length, List}
-use Rattle.rv_syntax.specs.declared.tree.Name.{Name}
-use Rattle.rv_syntax.specs.Tree.{node_tree}
+use Rattle.rv_tree.specs.declared.tree.Name.{Name}
+use Rattle.rv_tree.specs.Tree.{node_tree}
 use Rattle.rv_types.specs.Names.{texts}
 use Rattle.rv_types.proofs.NodeFlows.{flow_space, space_few}
 use Rattle.rv_types.proofs.TimingLaws.{timing_of}

@@ -1,5 +1,5 @@
 use Rattle.std.proofs.Common.{◌≡◌, [], reverse, sym, ◌∙◌, subst}
-use Rattle.rv_syntax.specs.Tree.{program_tree}
+use Rattle.rv_tree.specs.Tree.{program_tree}
 use Rattle.rv_types.specs.Scopes.{constant_value}
 use Rattle.rv_types.specs.ValueTables.{known_in, AreSmall}
 use Rattle.rv_types.proofs.ConstantMeanings.{values_known}

@@ -1,7 +1,7 @@
 use Rattle.std.proofs.Common.{◌≡◌, ◌≤◌, ◌<◌, ◌^◌, rules, arith, map, subst, sym, None, length}
-use Rattle.rv_syntax.specs.Limits.{source_limit}
-use Rattle.rv_syntax.specs.Tree.{program_tree, node_tree}
-use Rattle.rv_syntax.specs.Places.{flows}
+use Rattle.rv_tree.specs.Limits.{source_limit}
+use Rattle.rv_tree.specs.Tree.{program_tree, node_tree}
+use Rattle.rv_tree.specs.Places.{flows}
 use Rattle.rv_types.specs.Earliest.{first}
 use Rattle.rv_types.specs.Clocks.{clock_faults}
 use Rattle.rv_types.specs.Timings.{HaveFlows}

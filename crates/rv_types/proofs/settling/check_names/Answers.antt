@@ -1,8 +1,8 @@
 use Rattle.std.proofs.Common.{◌≡◌, ◌<◌, ◌≤◌, ◌^◌, ◌∙◌, ap, sym, subst, rules, arith, true, false, length, Some, None}
 use Rattle.std.proofs.lemmas.List.{length-map}
-use Rattle.rv_syntax.specs.Limits.{source_limit}
-use Rattle.rv_syntax.specs.Tree.{program_tree}
-use Rattle.rv_syntax.specs.Places.{index_of}
+use Rattle.rv_tree.specs.Limits.{source_limit}
+use Rattle.rv_tree.specs.Tree.{program_tree}
+use Rattle.rv_tree.specs.Places.{index_of}
 use Rattle.rv_types.specs.Names.{texts, is_declared, node_names, name_faults}
 use Rattle.rv_types.specs.Firsts.{firsts}
 use Rattle.rv_types.specs.Earliest.{first}

@@ -1,5 +1,5 @@
 use Rattle.std.proofs.Common.{◌≡◌, rules, None}
-use Rattle.rv_syntax.specs.Tree.{program_tree}
+use Rattle.rv_tree.specs.Tree.{program_tree}
 use Rattle.rv_types.specs.Earliest.{first}
 use Rattle.rv_types.specs.Scopes.{type_faults}
 use Rattle.rv_types.proofs.FirstLaws.{first_none}

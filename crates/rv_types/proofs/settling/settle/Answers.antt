@@ -1,5 +1,5 @@
 use Rattle.std.proofs.Common.{◌≡◌, subst, rules, IfOk, IfErr}
-use Rattle.rv_syntax.specs.Tree.{program_tree}
+use Rattle.rv_tree.specs.Tree.{program_tree}
 use Rattle.rv_types.specs.Settled.{IsSettled, HasCause}
 use Rattle.rv_types.proofs.Answered.{only_answer, only_refusal}
 use Rattle.rv_types.proofs.settling.settle.Goals as goal
@@ -21,4 +21,4 @@ returns-clause-only_refused c =
     (subst (λ x. IfErr c.settled.result (HasCause p x)) name c.settled.ensures.refused)
 
 pub settled-requires : goal.settled-requires
-settled-requires c = c.bounded_tree.ensures (program_tree c.args.p.now) c.requires
+settled-requires c = c.requires.bounded

@@ -1,5 +1,5 @@
 use Rattle.std.proofs.Common.{◌≡◌, [], rules}
-use Rattle.rv_syntax.specs.Tree.{program_tree}
+use Rattle.rv_tree.specs.Tree.{program_tree}
 use Rattle.rv_types.specs.Clocks.{clock_faults}
 use Rattle.rv_types.proofs.Refusals.{of_types, of_clocks, of_observer}
 use Rattle.rv_types.proofs.settling.settled.Goals as goal

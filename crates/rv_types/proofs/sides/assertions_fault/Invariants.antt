@@ -1,5 +1,5 @@
 use Rattle.std.proofs.Common.{◌≡◌, map, flat_map, take}
-use Rattle.rv_syntax.specs.Tree.{assertion_tree}
+use Rattle.rv_tree.specs.Tree.{assertion_tree}
 use Rattle.rv_types.specs.Earliest.{first}
 use Rattle.rv_types.specs.NodeTypes.{assertion_by}
 use Rattle.rv_types.specs.Tables.{scope_of}

@@ -1,5 +1,5 @@
 use Rattle.std.proofs.Common.{◌≡◌, map, flat_map, take}
-use Rattle.rv_syntax.specs.Tree.{equation_tree}
+use Rattle.rv_tree.specs.Tree.{equation_tree}
 use Rattle.rv_types.specs.Earliest.{first}
 use Rattle.rv_types.specs.NodeTypes.{equation_by}
 use Rattle.rv_types.specs.Tables.{scope_of}

@@ -1,5 +1,5 @@
 use Rattle.std.proofs.Common.{arith}
-use Rattle.rv_syntax.specs.declared.tree.Decl.{Decl}
+use Rattle.rv_tree.specs.declared.tree.Decl.{Decl}
 use Rattle.rv_types.specs.NodeTypes.{local_by}
 use Rattle.rv_types.specs.Tables.{scope_of}
 use Rattle.rv_types.specs.Earliest.{first}

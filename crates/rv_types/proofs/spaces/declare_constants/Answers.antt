@@ -1,5 +1,5 @@
 use Rattle.std.proofs.Common.{map}
-use Rattle.rv_syntax.specs.Tree.{constant_tree}
+use Rattle.rv_tree.specs.Tree.{constant_tree}
 use Rattle.rv_types.proofs.Joined.{drop_here}
 use Rattle.rv_types.proofs.FirstNames.{space_step, fault_step}
 use Rattle.rv_types.proofs.spaces.declare_constants.Goals as goal

@@ -1,5 +1,5 @@
 use Rattle.std.proofs.Common.{◌≡◌, ◌∙◌, ap, rules, [], ◌++◌, flat_map}
-use Rattle.rv_syntax.specs.Tree.{program_tree}
+use Rattle.rv_tree.specs.Tree.{program_tree}
 use Rattle.rv_types.specs.Names.{repeated, repeated_after, node_names, type_names, constant_names, label_names, repeated_values, labels_of}
 use Rattle.rv_types.specs.Firsts.{firsts}
 use Rattle.rv_types.specs.Earliest.{first}

@@ -1,5 +1,5 @@
 use Rattle.std.proofs.Common.{◌∙◌}
-use Rattle.rv_syntax.specs.Tree.{node_tree, program_tree}
+use Rattle.rv_tree.specs.Tree.{node_tree, program_tree}
 use Rattle.rv_types.specs.Kinds.{flow_kinds}
 use Rattle.rv_types.specs.Scopes.{types_in_node}
 use Rattle.rv_types.proofs.RightNames.{all_different, flows_different}

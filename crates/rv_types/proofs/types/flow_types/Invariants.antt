@@ -1,5 +1,5 @@
 use Rattle.std.proofs.Common.{◌≡◌, map, flat_map, take}
-use Rattle.rv_syntax.specs.Tree.{node_tree, program_tree}
+use Rattle.rv_tree.specs.Tree.{node_tree, program_tree}
 use Rattle.rv_types.specs.Earliest.{first}
 use Rattle.rv_types.specs.Kinds.{flow_kinds}
 use Rattle.rv_types.specs.Scopes.{types_in_node}

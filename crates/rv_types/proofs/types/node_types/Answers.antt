@@ -1,5 +1,5 @@
 use Rattle.std.proofs.Common.{ap, ◌∙◌}
-use Rattle.rv_syntax.specs.Tree.{node_tree}
+use Rattle.rv_tree.specs.Tree.{node_tree}
 use Rattle.rv_types.specs.Earliest.{first}
 use Rattle.rv_types.specs.TypeTables.{flow_kinds_by}
 use Rattle.rv_types.specs.NodeTypes.{types_by}

@@ -1,5 +1,5 @@
 use Rattle.std.proofs.Common.{map, drop, ap, ◌∙◌, add-one, ◌+◌, arith}
-use Rattle.rv_syntax.specs.Tree.{tree_of, trees}
+use Rattle.rv_tree.specs.Tree.{tree_of, trees}
 use Rattle.rv_types.specs.Types.{kinds_of_all, kind_of}
 use Rattle.rv_types.specs.Tables.{scope_of}
 use Rattle.rv_types.proofs.Joined.{first_append, sooner_assoc, and_assoc, drop_here}

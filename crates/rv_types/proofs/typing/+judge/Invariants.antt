@@ -1,5 +1,5 @@
 use Rattle.std.proofs.Common.{◌≡◌, ◌&&◌, map, drop}
-use Rattle.rv_syntax.specs.Tree.{tree_of, trees}
+use Rattle.rv_tree.specs.Tree.{tree_of, trees}
 use Rattle.rv_types.specs.Earliest.{first, sooner}
 use Rattle.rv_types.specs.Parts.{faults_of_all}
 use Rattle.rv_types.specs.Types.{all_typed, all_suit, are_constant, fit, kinds_of_all, own_type_fault}

@@ -1,5 +1,5 @@
 use Rattle.std.proofs.Common.{◌≡◌, map, drop}
-use Rattle.rv_syntax.specs.Tree.{tree_of, trees}
+use Rattle.rv_tree.specs.Tree.{tree_of, trees}
 use Rattle.rv_types.specs.Earliest.{first, sooner}
 use Rattle.rv_types.specs.Known.{unknown_in_all}
 use Rattle.rv_types.proofs.uses.+unknown.Given as goal

@@ -1,5 +1,5 @@
 use Rattle.std.proofs.Common.{◌≡◌, ◌&&◌, not, map, drop}
-use Rattle.rv_syntax.specs.Tree.{tree_of, trees}
+use Rattle.rv_tree.specs.Tree.{tree_of, trees}
 use Rattle.rv_types.specs.Constants.{flags_of_all, at_most_one}
 use Rattle.rv_types.specs.ValueTables.{known_in, at_most_after}
 use Rattle.rv_types.proofs.values.+evaluate.Given as goal

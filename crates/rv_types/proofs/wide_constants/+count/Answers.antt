@@ -1,5 +1,5 @@
 use Rattle.std.proofs.Common.{◌+◌, ◌∷◌, ◌&&◌, not, map, drop, sym, ap, ◌∙◌}
-use Rattle.rv_syntax.specs.Tree.{tree_of, trees}
+use Rattle.rv_tree.specs.Tree.{tree_of, trees}
 use Rattle.rv_types.specs.Constants.{flag_in, flags_of_all}
 use Rattle.rv_types.specs.ValueTables.{at_most_after, value_by}
 use Rattle.rv_types.specs.WideConstants.{lesser, first_wide, first_wide_of_all}

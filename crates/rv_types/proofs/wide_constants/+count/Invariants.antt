@@ -1,6 +1,6 @@
 use Rattle.std.proofs.Common.{◌≡◌, ◌+◌, ◌*◌, ◌&&◌, not, max, map, drop}
-use Rattle.rv_syntax.specs.declared.tree.Expr.{size-Expr}
-use Rattle.rv_syntax.specs.Tree.{tree_of, trees}
+use Rattle.rv_tree.specs.declared.tree.Expr.{size-Expr}
+use Rattle.rv_tree.specs.Tree.{tree_of, trees}
 use Rattle.rv_types.specs.Constants.{flags_of_all, at_most_one}
 use Rattle.rv_types.specs.ValueTables.{at_most_after, value_by}
 use Rattle.rv_types.specs.WideConstants.{lesser, first_wide_of_all}

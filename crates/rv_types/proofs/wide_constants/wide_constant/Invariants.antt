@@ -1,5 +1,5 @@
 use Rattle.std.proofs.Common.{◌≡◌, take, reverse}
-use Rattle.rv_syntax.specs.Tree.{program_tree}
+use Rattle.rv_tree.specs.Tree.{program_tree}
 use Rattle.rv_types.specs.WideConstants.{first_wide_constant}
 use Rattle.rv_types.proofs.wide_constants.wide_constant.Given as goal
 

@@ -1,6 +1,6 @@
 use Rattle.std.proofs.Common.{◌≡◌, ◌<◌, ℕ, List, [], length, get_or, false, true, refl, sym, ◌∙◌, ap, subst, ◌≤◌}
 use Rattle.rv_causality.specs.Graphs.{edges}
-use Rattle.rv_causality.proofs.Walks.{got}
+use Rattle.rv_instances.proofs.Lists.{got}
 use Rattle.rv_causality.proofs.graph.Walk.next_unfinished.Goals as goal
 
 pub first_unmarked-requires : goal.first_unmarked-requires

@@ -1,5 +1,5 @@
 use Rattle.std.proofs.Common.{◌≡◌, ◌∙◌, ap, not, rules}
-use Rattle.rv_syntax.specs.Places.{is_among}
+use Rattle.rv_tree.specs.Places.{is_among}
 use Rattle.rv_causality.specs.Numbering.{with_name}
 use Rattle.rv_causality.proofs.HashedNames.{among_any, inserted}
 use Rattle.rv_causality.proofs.names.Names.add.Goals as goal

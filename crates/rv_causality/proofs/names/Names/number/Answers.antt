@@ -1,5 +1,5 @@
 use Rattle.std.proofs.Common.{◌∙◌, ap}
-use Rattle.rv_syntax.specs.Places.{is_among}
+use Rattle.rv_tree.specs.Places.{is_among}
 use Rattle.rv_causality.proofs.HashedNames.{among_any, position_index}
 use Rattle.rv_causality.proofs.names.Names.number.Goals as goal
 

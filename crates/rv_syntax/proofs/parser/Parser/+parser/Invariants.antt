@@ -1,5 +1,5 @@
 use Rattle.std.proofs.Common.{◌≡◌, ◌≤◌, length, map, ◌+◌, ◌*◌, [], ◌∷◌}
-use Rattle.rv_syntax.specs.Tree.{tree_of}
+use Rattle.rv_tree.specs.Tree.{tree_of}
 use Rattle.rv_syntax.specs.Machine.{Within, Want, Have}
 use Rattle.rv_syntax.specs.Limited.{counts, leave}
 use Rattle.rv_syntax.specs.Reads.{held_of, Wanting, Calling, from, argued_from}

@@ -2,10 +2,10 @@ use Rattle.std.proofs.Common.{◌≡◌, List, [], refl, sym, ap, ◌∙◌}
 use Rattle.std.specs.Prelude.{Err}
 use Rattle.std.proofs.lemmas.Result.{err_from_is_err_and}
 use Rattle.rv_syntax.specs.declared.token.Token.{Token}
-use Rattle.rv_syntax.specs.declared.tree.Expr.{Expr}
+use Rattle.rv_tree.specs.declared.tree.Expr.{Expr}
 use Rattle.rv_syntax.specs.declared.fault.Stop.{Stop}
 use Rattle.rv_syntax.specs.declared.fault.Stop.TheVariants as stop
-use Rattle.rv_syntax.specs.Tree.{tree_of}
+use Rattle.rv_tree.specs.Tree.{tree_of}
 use Rattle.rv_syntax.specs.Machine.{Want}
 use Rattle.rv_syntax.specs.Limited.{counts, limited}
 use Rattle.rv_syntax.specs.Reads.{Ahead, Stops, Wanting, from, Reads, expression}

@@ -1,5 +1,0 @@
-use Rattle.rv_causality.proofs.FlowPlaces.{are_flow_places}
-use Rattle.rv_causality.proofs.laws.flow_places.Goals as goal
-
-pub returns : goal.returns
-returns c p main instances named declared sited are = are_flow_places p main named declared sited instances are

@@ -1,5 +1,0 @@
-use Rattle.rv_causality.proofs.LayoutLaws.{is_here}
-use Rattle.rv_causality.proofs.laws.instance_numbers.Goals as goal
-
-pub returns : goal.returns
-returns c p main instances l m i known laid_out is e = is_here p main instances known l laid_out m i e.0 is e.1

@@ -1,7 +1,0 @@
-use Rattle.std.proofs.Common.{◌≡◌, ◌++◌, map, drop}
-use Rattle.rv_syntax.specs.Tree.{constant_tree}
-use Rattle.rv_flat.specs.Literals.{constant_literals}
-use Rattle.rv_flat.proofs.thresholds.add_constants.Given as goal
-
-abbrev pub invariant-each : goal.invariant-each
-invariant-each l = l.found ++ constant_literals (map constant_tree (drop l.constant-index l.constants)) ≡ l.fn.found ++ constant_literals (map constant_tree l.fn.constants)

@@ -1,5 +1,0 @@
-use Rattle.rv_flat.proofs.DistinctNumbers.{IsDistinctSoFar}
-use Rattle.rv_flat.proofs.thresholds.each_once.Given as goal
-
-abbrev pub invariant-each : goal.invariant-each
-invariant-each l = IsDistinctSoFar l.sorted l.number-index l.distinct

@@ -1,7 +1,0 @@
-use Rattle.std.proofs.Common.{◌≡◌, ◌++◌, drop}
-use Rattle.rv_causality.specs.NumberedNeeds.{numbers_of}
-use Rattle.rv_flat.specs.Arrows.{numbers_of_clocks}
-use Rattle.rv_flat.proofs.ticks.add_numbers.Given as goal
-
-abbrev pub invariant-loop-clock : goal.invariant-loop-clock
-invariant-loop-clock l = l.found ++ numbers_of_clocks (numbers_of l.reader) (drop l.clock-index l.clocks) ≡ l.initial.found ++ numbers_of_clocks (numbers_of l.reader) l.clocks

@@ -1,7 +1,0 @@
-use Rattle.std.proofs.Common.{◌≡◌}
-use Rattle.rv_causality.specs.Expanded.{program_of}
-use Rattle.rv_flat.specs.Arrows.{arrow_numbers_to}
-use Rattle.rv_flat.proofs.ticks.clock_numbers.Given as goal
-
-abbrev pub invariant-loop-instance : goal.invariant-loop-instance
-invariant-loop-instance l = l.found ≡ arrow_numbers_to (program_of l.expanded) l.expanded.instances.now l.layout l.instance

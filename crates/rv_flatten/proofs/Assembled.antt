@@ -1,0 +1,396 @@
+-- A flat system that is put together from its parts.
+use Rattle.std.proofs.Common.{◌≡◌, ℕ, zero, suc, ◌+◌, ◌<◌, ◌≤◌, Bool, true, false, ◌&&◌, ◌||◌, cond, List, [], ◌∷◌, ◌++◌, map, length, take, get_or, slice_get, refl, sym, ◌∙◌, ap, subst, arith, unwrap_or, Option, Some, IsSome, length-append, None as Nothing}
+use Rattle.std.proofs.Math.Seq.{take-append_seam}
+use Rattle.std.proofs.lemmas.List.{length-map}
+use Rattle.std.proofs.lemmas.Option.{slice_get-map, slice_get-get_or, slice_get_within}
+use Rattle.std.proofs.lemmas.List.Elements.{Contains-get_or}
+use Rattle.std.specs.List.{Contains}
+use Rattle.std.specs.Option.{option_map}
+use Rattle.rv_tree.specs.declared.tree.Decl.{Decl}
+use Rattle.rv_tree.specs.Bounded.{most}
+use Rattle.rv_tree.specs.Tree.{Tree, NodeTree, ProgramTree}
+use Rattle.rv_tree.specs.Places.{Identifier, Sites, flows, is_same, is_among, index_of}
+use Rattle.rv_types.specs.declared.typed.Kind.{Kind}
+use Rattle.rv_types.specs.declared.typed.Kind.TheVariants as kind
+use Rattle.rv_types.specs.declared.typed.Clock.{Clock}
+use Rattle.rv_types.specs.declared.typed.Clock.TheVariants.{Base, On}
+use Rattle.rv_types.specs.declared.fault.NameFault.{NameFault}
+use Rattle.rv_types.specs.declared.fault.NameFault.TheVariants.{NotObserver}
+use Rattle.rv_types.specs.Clocks.{pace}
+use Rattle.rv_types.specs.Kinds.{decl_kinds, flow_kinds, kind_in_program, node_among, node_named}
+use Rattle.rv_types.specs.Names.{texts, labels_of}
+use Rattle.rv_types.specs.Scopes.{is_observer, observer_faults}
+use Rattle.rv_types.specs.declared.typed.Typed.{Typed}
+use Rattle.rv_types.specs.Settled.{node_number, IsAnswer}
+use Rattle.rv_types.specs.Instances.{Instance, no_node, node_of, name_at, main_instance, absolute, taken, clock_in, IsInstance, is_main, IsFlow, IsNode}
+use Rattle.rv_types.specs.Lists.{AreTicks, AreMemories, IsAny, MemoryAt, sites_of}
+use Rattle.rv_types.specs.Needs.{IsBefore, IsSequence, Gives}
+use Rattle.rv_types.specs.Variables.{is_arrow, node_parts}
+use Rattle.rv_instances.specs.declared.answer.Instance.{Instance as Numbered}
+use Rattle.rv_instances.specs.declared.layout.Laid.{Laid}
+use Rattle.rv_instances.specs.declared.layout.Layout.{Layout}
+use Rattle.rv_instances.specs.AllInstances.{names_of, numbered}
+use Rattle.rv_instances.specs.Expanded.{IsExpanded, no_instance}
+use Rattle.rv_instances.specs.Flowing.{IsKnownClock}
+use Rattle.rv_instances.specs.Layouts.{IsLayout, node_at, path_at, here_of}
+use Rattle.rv_flatten.specs.declared.found.Found.{Found}
+use Rattle.rv_flatten.specs.declared.given.Given.{Given}
+use Rattle.rv_flatten.specs.declared.numbering.Numbering.{Numbering}
+use Rattle.rv_flat.specs.declared.parts.Bit.{Bit}
+use Rattle.rv_flat.specs.declared.parts.FlatExpr.{FlatExpr}
+use Rattle.rv_flat.specs.declared.parts.FlatFlow.{FlatFlow}
+use Rattle.rv_flat.specs.declared.parts.FlatInput.{FlatInput}
+use Rattle.rv_flat.specs.declared.parts.FlatMemory.{FlatMemory}
+use Rattle.rv_flatten.specs.Building.{IsFoundOf, IsGiven, AreMade, AreRemembered, AreAsserted, main_given, numbers_of, program_given}
+use Rattle.rv_agreement.specs.Checks.{is_of}
+use Rattle.rv_agreement.specs.Translation.{Numbers}
+use Rattle.rv_flat.specs.Facts.{ticks_known}
+use Rattle.rv_flatten.specs.Frames.{IsNumbering}
+use Rattle.rv_flatten.specs.Kept.{kept_memory}
+use Rattle.rv_flat.specs.Lists.{tick_places}
+use Rattle.rv_flat.specs.RawTree.{raw_tree}
+use Rattle.rv_flatten.specs.Readings.{IsRead, AreKinds, raw_flow, raw_memory, no_raw, raw_giver, raw_delay, assertion_of, no_assumption}
+use Rattle.rv_flatten.specs.Readings as readings
+use Rattle.rv_flat.specs.Systems.{places_of, memory_places_of, memory_of}
+use Rattle.rv_flatten.proofs.ArrowClocks.{node_comes, arrow_known}
+use Rattle.rv_flatten.proofs.FlowKinds.{HasFlow, is_flow, kinds_many, flow_of_site, base_flow}
+use Rattle.rv_flatten.proofs.FlowTotals.{laid_is, some_instance}
+use Rattle.rv_flatten.proofs.InstanceNumbers.{number_at, node_is, node_in}
+use Rattle.rv_flatten.proofs.KindNumbers.{kind_itself}
+use Rattle.rv_flatten.proofs.LabelBits.{few_inputs}
+use Rattle.rv_flatten.proofs.MadeItems.{HasNumbers}
+use Rattle.rv_flat.proofs.Members.{at_head, in_tail}
+use Rattle.rv_flat.proofs.PlaceNumbers.{same_text, index_at, is_found}
+use Rattle.rv_flatten.proofs.Translated.{some_at, mapped_at}
+use Rattle.rv_flat.proofs.TypedParts.{no_flag, same_kinds}
+use Rattle.rv_flatten.proofs.WellInstances.{formed, typed}
+use Rattle.rv_flatten.proofs.MainNames as main_names
+
+-- Lists.
+
+map_twice : {X Y Z : Type 0} (f : X → Y) (g : Y → Z) (xs : List X) → map g (map f xs) ≡ map (λ x. g (f x)) xs
+map_twice f g [] = refl
+map_twice f g (x ∷ xs) = ap (λ l. g (f x) ∷ l) (map_twice f g xs)
+
+both_told : (a b : Bool) → a ≡ true → b ≡ true → (a && b) ≡ true
+both_told true true p q = refl
+both_told true false p q = no_flag q
+both_told false b p q = no_flag p
+
+none_is : {X : Type 0} (x : X) → Nothing ≡ Some x → ⊥
+none_is x e = cc
+
+same_some : {X : Type 0} (x y : X) → Some x ≡ Some y → x ≡ y
+same_some x y e = ap (λ o. unwrap_or o x) e
+
+front : {X : Type 0} (xs ys : List X) (j : ℕ) (x : X) → slice_get xs j ≡ Some x → slice_get (xs ++ ys) j ≡ Some x
+front [] ys j x e = absurd (none_is x e)
+front (z ∷ xs) ys zero x e = e
+front (z ∷ xs) ys (suc j) x e = front xs ys j x e
+
+back : {X : Type 0} (xs ys : List X) → slice_get (xs ++ ys) (length xs) ≡ slice_get ys 0
+back [] ys = refl
+back (z ∷ xs) ys = back xs ys
+
+map_joined : {X Y : Type 0} (f : X → Y) (xs ys : List X) → map f (xs ++ ys) ≡ map f xs ++ map f ys
+map_joined f [] ys = refl
+map_joined f (x ∷ xs) ys = ap (λ l. f x ∷ l) (map_joined f xs ys)
+
+joined_again : {X : Type 0} (xs ys zs : List X) → (xs ++ ys) ++ zs ≡ xs ++ (ys ++ zs)
+joined_again [] ys zs = refl
+joined_again (x ∷ xs) ys zs = ap (λ l. x ∷ l) (joined_again xs ys zs)
+
+-- The types of the first flows of a node are those of its inputs.
+pub first_kinds : (p : ProgramTree) (n : NodeTree) → take (length n.inputs) (flow_kinds p n) ≡ decl_kinds p n.inputs
+first_kinds p n =
+    let f : Decl → Kind = λ d. kind_in_program p d.kind in
+    let rest = map f n.outputs ++ map f n.locals in
+    ap (take (length n.inputs)) (map_joined f (n.inputs ++ n.outputs) n.locals ∙ ap (λ l. l ++ map f n.locals) (map_joined f n.inputs n.outputs) ∙ joined_again (map f n.inputs) (map f n.outputs) (map f n.locals))
+    ∙ ap (λ k. take k (map f n.inputs ++ rest)) (sym (length-map n.inputs f))
+    ∙ take-append_seam (map f n.inputs) rest
+
+pub taken_kinds : (p : ProgramTree) (n : NodeTree) (count : ℕ) (kinds : List Kind) → count ≡ length n.inputs → kinds ≡ flow_kinds p n → take count kinds ≡ decl_kinds p n.inputs
+taken_kinds p n count kinds many are = (λ i. take (many i) (are i)) ∙ first_kinds p n
+
+-- and no more than all
+pub inputs_within : (p : ProgramTree) (n : NodeTree) → length n.inputs ≤ length (flow_kinds p n)
+inputs_within p n =
+    let a = length-map ((n.inputs ++ n.outputs) ++ n.locals) (λ (d : Decl). kind_in_program p d.kind) in
+    let b = length-append (n.inputs ++ n.outputs) n.locals in
+    let c = length-append n.inputs n.outputs in
+    omega (arith, a, b, c)
+
+-- The observer.
+
+first_is_flag : (ks : List Kind) → is_observer ks ≡ true → slice_get ks 0 ≡ Some kind.Bool
+first_is_flag [] e = no_flag e
+first_is_flag (k ∷ []) e = ap Some (same_kinds k kind.Bool e)
+first_is_flag (k ∷ j ∷ ks) e = no_flag e
+
+observed_output : (p : ProgramTree) (o : Option NodeTree) → elim o as (λ _. List NameFault) [ Nothing ↦ [] | Some m ↦ cond (is_observer (decl_kinds p m.outputs)) [] (NotObserver m.name.at ∷ []) ] ≡ [] → IsSome o
+    → slice_get (decl_kinds p (unwrap_or o no_node).outputs) 0 ≡ Some kind.Bool
+observed_output p Nothing h some = no_flag some
+observed_output p (Some m) h some = by (is_observer (decl_kinds p m.outputs)) refl h
+  where
+    by : (b : Bool) → is_observer (decl_kinds p m.outputs) ≡ b → cond b [] (NotObserver m.name.at ∷ []) ≡ [] → slice_get (decl_kinds p m.outputs) 0 ≡ Some kind.Bool
+    by true e h = first_is_flag (decl_kinds p m.outputs) e
+    by false e h = cc
+
+output_first : (p : ProgramTree) (n : NodeTree) (k : Kind) → slice_get (decl_kinds p n.outputs) 0 ≡ Some k → slice_get (flow_kinds p n) (length n.inputs) ≡ Some k
+output_first p n k e =
+    let f : Decl → Kind = λ d. kind_in_program p d.kind in
+    ap (λ l. slice_get l (length n.inputs)) (map_joined f (n.inputs ++ n.outputs) n.locals)
+    ∙ front (map f (n.inputs ++ n.outputs)) (map f n.locals) (length n.inputs) k
+    (ap (λ l. slice_get l (length n.inputs)) (map_joined f n.inputs n.outputs)
+    ∙ ap (slice_get (map f n.inputs ++ map f n.outputs)) (sym (length-map n.inputs f))
+    ∙ back (map f n.inputs) (map f n.outputs) ∙ e)
+
+-- The main node.
+
+some_named : (ns : List NodeTree) (f : Identifier) → is_among (map (λ (n : NodeTree). n.name.text) ns) f ≡ true → IsSome (node_among ns f)
+some_named [] f h = no_flag h
+some_named (n ∷ ns) f h = tested (is_same n.name.text f) h (some_named ns f)
+  where
+    tested : (b : Bool) → (b || is_among (map (λ (n : NodeTree). n.name.text) ns) f) ≡ true → (is_among (map (λ (n : NodeTree). n.name.text) ns) f ≡ true → IsSome (node_among ns f)) → IsSome (cond b (Some n) (node_among ns f))
+    tested true h again = refl
+    tested false h again = again h
+
+named_so : (ns : List NodeTree) (f : Identifier) → IsSome (node_among ns f) → (unwrap_or (node_among ns f) no_node).name.text ≡ f
+named_so [] f h = no_flag h
+named_so (n ∷ ns) f h = tested (is_same n.name.text f) refl h (named_so ns f)
+  where
+    tested : (b : Bool) → is_same n.name.text f ≡ b → IsSome (cond b (Some n) (node_among ns f)) → (IsSome (node_among ns f) → (unwrap_or (node_among ns f) no_node).name.text ≡ f) → (unwrap_or (cond b (Some n) (node_among ns f)) no_node).name.text ≡ f
+    tested true is h again = same_text n.name.text f is
+    tested false is h again = again h
+
+-- a node that is there stands where its number says
+named_at : (ns : List NodeTree) (f : Identifier) → IsSome (node_among ns f) → get_or ns (index_of (texts (map (λ (n : NodeTree). n.name) ns)) f) no_node ≡ unwrap_or (node_among ns f) no_node
+named_at [] f h = no_flag h
+named_at (n ∷ ns) f h = tested (is_same n.name.text f) h (named_at ns f)
+  where
+    tested : (b : Bool) → IsSome (cond b (Some n) (node_among ns f)) → (IsSome (node_among ns f) → get_or ns (index_of (texts (map (λ (n : NodeTree). n.name) ns)) f) no_node ≡ unwrap_or (node_among ns f) no_node)
+        → get_or (n ∷ ns) (cond b 0 (index_of (texts (map (λ (n : NodeTree). n.name) ns)) f + 1)) no_node ≡ unwrap_or (cond b (Some n) (node_among ns f)) no_node
+    tested true h again = refl
+    tested false h again =
+        let next : index_of (texts (map (λ (n : NodeTree). n.name) ns)) f + 1 ≡ suc (index_of (texts (map (λ (n : NodeTree). n.name) ns)) f) = omega arith in
+        ap (λ k. get_or (n ∷ ns) k no_node) next ∙ again h
+
+-- all of these are among some
+all_known : (places ps : List Sites) → ((q : Sites) → Contains ps q → Contains places q) → ticks_known places ps ≡ true
+all_known places [] all = refl
+all_known places (q ∷ ps) all = both_told (is_among places q) (ticks_known places ps) (is_found places q (all q (at_head q ps))) (all_known places ps (λ r w. all r (in_tail q ps r w)))
+
+module _ (p : ProgramTree) (main : Identifier) (instances : List Numbered) (known : IsExpanded p main instances) where
+  pub is_named : IsNode p main
+  is_named = main_names.is_node p main known.declared
+
+  main_known : IsSome (node_named p main)
+  main_known = some_named p.nodes main is_named
+
+  -- it has its name
+  pub main_name : (node_of p main).name.text ≡ main
+  main_name = named_so p.nodes main main_known
+
+  -- it stands where its number says
+  number_within : node_number p main < length p.nodes
+  number_within =
+      let at = index_at (names_of p) main known.declared in
+      let a = length-map (map (λ (n : NodeTree). n.name) p.nodes) (λ x. x.text) in
+      let b = length-map p.nodes (λ (n : NodeTree). n.name) in
+      omega (arith, at.0, a, b)
+
+  main_node : get_or p.nodes (node_number p main) no_node ≡ node_of p main
+  main_node = named_at p.nodes main main_known
+
+  -- the types of its flows
+  pub kinds_within : (kinds : List (List Kind)) (number : ℕ) → kinds ≡ map (flow_kinds p) p.nodes → number ≡ node_number p main → number < length kinds
+  kinds_within kinds number are is =
+      let a = ap length are ∙ length-map p.nodes (flow_kinds p) in
+      let lt = number_within in
+      omega (arith, a, is, lt)
+
+  pub main_kinds : (kinds : List (List Kind)) (number : ℕ) (own : List Kind) → kinds ≡ map (flow_kinds p) p.nodes → number ≡ node_number p main → slice_get kinds number ≡ Some own → own ≡ flow_kinds p (node_of p main)
+  main_kinds kinds number own are is e =
+      same_some own (flow_kinds p (node_of p main))
+      (sym e ∙ ap (λ ks. slice_get ks number) are ∙ ap (slice_get (map (flow_kinds p) p.nodes)) is
+      ∙ slice_get-map (flow_kinds p) p.nodes (node_number p main)
+      ∙ ap (option_map (flow_kinds p)) (slice_get-get_or p.nodes (node_number p main) no_node number_within)
+      ∙ ap (λ n. Some (flow_kinds p n)) main_node)
+
+  -- it is the first instance
+  pub main_first : get_or instances 0 no_instance ≡ numbered p (main_instance p main)
+  main_first = let w = number_at p main instances known (main_instance p main) is_main in by w.0 w.1 w.2
+    where
+      by : (m : ℕ) → m < length instances → get_or instances m no_instance ≡ numbered p (main_instance p main) → get_or instances 0 no_instance ≡ numbered p (main_instance p main)
+      by zero lt e = e
+      by (suc m) lt e = absurd (subst (IsBefore (path_at instances 0)) (ap (λ (x : Numbered). x.path) e) (known.all.rising 0 (suc m) no_instance (omega arith) lt))
+
+  pub first_node : node_at p instances 0 ≡ node_of p main
+  first_node = node_is p main instances known 0 (main_instance p main) is_main main_first
+
+  -- its inputs are few
+  pub few_given : length (decl_kinds p (node_of p main).inputs) ≤ most
+  few_given = few_inputs p known.bounded (node_of p main) (node_in p main instances known (main_instance p main) is_main)
+
+  -- the number of one of its flows in the sequence
+  pub main_number : HasNumbers → (l : Layout) → IsLayout p main instances l → (numbers : Numbers) (n : Numbering) → IsNumbering p main instances numbers n → (s : ℕ) → s < length (flows (node_of p main))
+      → get_or n.flows s 0 ≡ index_of numbers.flows (s ∷ [])
+  main_number law l laid numbers n are s lt =
+      let here = law p main instances l 0 (main_instance p main) known laid is_main (some_instance p main instances known, main_first) in
+      let at = here.flow s lt in
+      let first : (here_of l 0).offset ≡ 0 =
+      ap (λ (ls : List Laid). (get_or ls 0 (record { first = 0; output = 0 })).first) laid.laid
+      ∙ ap (λ (x : Laid). x.first) (laid_is p instances (length instances) 0 (record { first = 0; output = 0 }) (some_instance p main instances known)) in
+      let same : (here_of l 0).offset + s ≡ s = omega (arith, first) in
+      ap (λ k. get_or n.flows k 0) (sym same) ∙ are.flows ((here_of l 0).offset + s) at.0 ∙ ap (index_of numbers.flows) at.1
+
+  -- the flow of its observer
+  pub observer_flow : observer_faults p main ≡ [] → HasFlow p main (length (node_of p main).inputs ∷ []) kind.Bool
+  observer_flow none =
+      flow_of_site p main known.well is_named (main_instance p main) (length (node_of p main).inputs) kind.Bool is_main
+      (output_first p (node_of p main) kind.Bool (observed_output p (node_named p main) none main_known))
+
+  pub observer_within : observer_faults p main ≡ [] → length (node_of p main).inputs < length (flows (node_of p main))
+  observer_within none =
+      let lt = slice_get_within (flow_kinds p (node_of p main)) (length (node_of p main).inputs) kind.Bool (output_first p (node_of p main) kind.Bool (observed_output p (node_named p main) none main_known)) in
+      let many = kinds_many p (node_of p main) in
+      omega (arith, lt, many)
+
+  -- the clock of a tick is that of a flow
+  tick_flow : (i : Instance) (e : Tree) (q : Sites) → IsInstance p main i → Contains (node_parts i.node) e → is_arrow e ≡ true → clock_in i Base e ≡ Some q → IsFlow p main q
+  tick_flow i e q is w arrow at =
+      by (taken Base (pace i.node e))
+      (arrow_known p i.node (typed p main known.well is_named i is) (formed p main known.well is_named i is) (taken Base (pace i.node e)) (node_comes i.node e w arrow)) at
+    where
+      by : (k : Clock) → IsKnownClock i.node k → absolute i k ≡ Some q → IsFlow p main q
+      by Base within at = is_flow (base_flow p main known.well is_named i q is at)
+      by (On s) within at =
+          let many = kinds_many p i.node in
+          let k = some_at (flow_kinds p i.node) s (omega (arith, within, many)) in
+          subst (IsFlow p main) (same_some (i.path ++ s ∷ []) q at) (is_flow (flow_of_site p main known.well is_named i s k.0 is k.1))
+
+  pub all_ticks_known : (sequence ticks : List Sites) → IsSequence p main sequence → AreTicks p main ticks → ticks_known sequence ticks ≡ true
+  all_ticks_known sequence ticks are list =
+      all_known sequence ticks (λ q w. let r = list.only q w in are.flows q (tick_flow r.0 r.1 q r.2 r.3 r.4 r.5))
+
+same_places : (fs : List FlatFlow) (qs : List Sites) → length fs ≡ length qs → ((k : ℕ) (f : FlatFlow) → slice_get fs k ≡ Some f → f.place.sites ≡ get_or qs k []) → places_of fs ≡ qs
+same_places [] [] many each = refl
+same_places [] (q ∷ qs) many each = absurd (omega (arith, many))
+same_places (f ∷ fs) [] many each = absurd (omega (arith, many))
+same_places (f ∷ fs) (q ∷ qs) many each =
+    let first : f.place.sites ≡ q = each 0 f refl in
+    let rest = same_places fs qs (omega (arith, many)) (λ k h e. each (suc k) h e) in
+    λ i. first i ∷ rest i
+
+-- What the answer of the rules of names, types and clocks says of the main node.
+module _ (p : ProgramTree) (t : Typed) (answer : IsAnswer p t) where
+  answer_known : IsSome (node_named p answer.0)
+  answer_known = some_named p.nodes answer.0 (main_names.is_node p answer.0 answer.1.has_main)
+
+  answer_name : name_at p t.main ≡ answer.0
+  answer_name = ap (name_at p) answer.1.main_number ∙ ap (λ (n : NodeTree). n.name.text) (named_at p.nodes answer.0 answer_known) ∙ named_so p.nodes answer.0 answer_known
+
+  pub answer_observer : observer_faults p (name_at p t.main) ≡ []
+  answer_observer = subst (λ x. observer_faults p x ≡ []) (sym answer_name) answer.1.observer
+
+  pub answer_number : t.main ≡ node_number p (name_at p t.main)
+  answer_number = answer.1.main_number ∙ ap (node_number p) (sym answer_name)
+
+  pub answer_within : t.main < length p.nodes
+  answer_within =
+      let at = index_at (names_of p) answer.0 answer.1.has_main in
+      let a = length-map (map (λ (n : NodeTree). n.name) p.nodes) (λ x. x.text) in
+      let b = length-map p.nodes (λ (n : NodeTree). n.name) in
+      let c = answer.1.main_number in
+      omega (arith, at.0, a, b, c)
+
+-- The flows, memories and assertions as they are made.
+module _ (g : Given) (d : Found) (given : IsGiven g) (found : IsFoundOf g d)
+    (flows : List FlatFlow) (memories : List FlatMemory) (inputs : List FlatInput) (variables : List Bit) (assertions : List FlatExpr)
+    (made : AreMade (program_given g) (main_given g) (numbers_of g d) (sites_of g.sequence.now) flows)
+    (kept : AreRemembered g.expanded.now (sites_of g.sequence.now) d memories)
+    (asserted : AreAsserted g.expanded.now (numbers_of g d) (length g.expanded.now.instances.now) assertions)
+    (kinds : map (λ i. i.kind) inputs ≡ decl_kinds (program_given g) (node_of (program_given g) (main_given g)).inputs)
+    (ticks : tick_places variables ≡ sites_of d.ticks)
+  where
+    abbrev p : ProgramTree
+    p = program_given g
+
+    abbrev main : Identifier
+    main = main_given g
+
+    pub same_flows : places_of flows ≡ sites_of g.sequence.now
+    same_flows = same_places flows (sites_of g.sequence.now) made.many (λ k f at. (made.each k f at).at)
+
+    same_memories : memory_places_of memories ≡ map (λ k. k.place.sites) d.kept
+    same_memories = sym (map_twice memory_of (λ (m : MemoryAt). m.place) memories) ∙ ap (map (λ (m : MemoryAt). m.place)) kept.list ∙ map_twice kept_memory (λ (m : MemoryAt). m.place) d.kept
+
+    same_numbers : readings.numbers_of flows memories variables ≡ numbers_of g d
+    same_numbers = λ i. record { flows = same_flows i; memories = same_memories i; ticks = ticks i }
+
+    -- The flat system is read from its program.
+    pub is_read : IsRead p main flows memories inputs variables assertions
+    is_read = record {
+      sequence = subst (IsSequence p main) (sym same_flows) given.sequence;
+      list = subst (AreMemories p main IsAny) (sym kept.list) found.kept.list;
+      ticks = subst (AreTicks p main) (sym ticks) found.ticks;
+      as_many = sym (length-map inputs (λ (i : FlatInput). i.kind)) ∙ ap length kinds ∙ length-map (node_of p main).inputs (λ (d : Decl). kind_in_program p d.kind);
+      flow = λ k lt.
+          let f = some_at flows k lt in
+          let r = made.each k f.0 f.1 in (
+            r.giver,
+            subst (λ qs. Gives p main (get_or qs k []) r.giver) (sym same_flows) r.gives,
+            mapped_at raw_flow flows k f.0 no_raw f.1
+                ∙ r.item ∙ ap (λ n. raw_giver p n r.giver) (sym same_numbers),
+          );
+      memory = λ m lt.
+          let f = some_at memories m lt in
+          let r = kept.each m f.0 f.1 in (
+            r.i,
+            r.d,
+            r.is,
+            r.there,
+            mapped_at (λ (x : FlatMemory). x.place.sites) memories m f.0 [] f.1 ∙ r.at,
+            mapped_at raw_memory memories m f.0 no_raw f.1
+                ∙ r.item ∙ ap (λ n. raw_delay p n r.i r.d) (sym same_numbers),
+          );
+      asserts = λ i a is there.
+          let w = number_at p main g.expanded.now.instances.now given.known.expanded i is in
+          subst (λ n. Contains (map raw_tree assertions) (assertion_of p n i a)) (sym same_numbers) (asserted.all w.0 i a w.1 is (w.1, w.2) there);
+      asserted = λ k lt.
+          let many = length-map assertions raw_tree in
+          let r = asserted.only (get_or (map raw_tree assertions) k no_assumption) (Contains-get_or (map raw_tree assertions) k no_assumption (omega (arith, lt, many))) in
+          (r.0, r.1, r.2, r.3, r.4 ∙ ap (λ n. assertion_of p n r.0 r.1) (sym same_numbers));
+    }
+
+    -- with the types of its program
+    pub are_kinds : (labels : List (List (List ℕ))) → labels ≡ map (λ d. texts (labels_of d)) p.types → AreKinds p main flows inputs labels
+    are_kinds labels label = record {
+      flow = λ i x k is there lt at.
+          let f = some_at flows k lt in
+          slice_get-map (λ (g : FlatFlow). g.kind) flows k ∙ ap (option_map (λ (g : FlatFlow). g.kind)) f.1
+          ∙ (made.each k f.0 f.1).kind i x is there (ap (λ qs. get_or qs k []) (sym same_flows) ∙ at);
+      input = kinds;
+      label = label;
+    }
+
+    -- The observer is a Boolean flow, at its place.
+    module _ (none : observer_faults p main ≡ []) (observer : ℕ) (number : observer ≡ index_of (sites_of g.sequence.now) (length (node_of p main).inputs ∷ [])) where
+      observer_at : (index_of (sites_of g.sequence.now) (length (node_of p main).inputs ∷ []) < length (sites_of g.sequence.now))
+          × (get_or (sites_of g.sequence.now) (index_of (sites_of g.sequence.now) (length (node_of p main).inputs ∷ [])) [] ≡ length (node_of p main).inputs ∷ [])
+      observer_at =
+          index_at (sites_of g.sequence.now) (length (node_of p main).inputs ∷ [])
+          (is_found (sites_of g.sequence.now) (length (node_of p main).inputs ∷ []) (given.sequence.flows (length (node_of p main).inputs ∷ []) (is_flow (observer_flow p main g.expanded.now.instances.now given.known.expanded none))))
+
+      pub observer_there : get_or (places_of flows) observer [] ≡ length (node_of p main).inputs ∷ []
+      observer_there = (λ i. get_or (same_flows i) (number i) []) ∙ observer_at.1
+
+      pub observer_kind : is_of kind.Bool (slice_get (map (λ f. f.kind) flows) observer) ≡ true
+      observer_kind =
+          let h = observer_flow p main g.expanded.now.instances.now given.known.expanded none in
+          let many = ap length (sym same_flows) in
+          let size = length-map flows (λ (x : FlatFlow). x.place.sites) in
+          let within = observer_at.0 in
+          ap (is_of kind.Bool)
+          ((are_kinds (map (λ d. texts (labels_of d)) p.types) refl).flow h.instance h.name observer h.of h.within (omega (arith, many, size, within, number)) (observer_there ∙ h.at) ∙ h.kind)
+          ∙ kind_itself kind.Bool

@@ -1,0 +1,123 @@
+-- What the `pre` and `current` of all instances read, sorted by places, are the memories of the program.
+use Rattle.std.proofs.Common.{◌≡◌, ℕ, List, [], ◌∷◌, map, length, get_or, refl, sym, ◌∙◌, ap, subst, None as Nothing}
+use Rattle.std.specs.List.{Contains}
+use Rattle.rv_tree.specs.Tree.{Node, Named, ProgramTree}
+use Rattle.rv_tree.specs.Places.{Identifier}
+use Rattle.rv_tree.specs.Delays.{Delay, node_delays}
+use Rattle.rv_types.specs.declared.typed.Kind.{Kind}
+use Rattle.rv_types.specs.Instances.{Instance, no_node, IsInstance}
+use Rattle.rv_types.specs.Lists.{AreRising, MemoryAt, memory_at, memory_places, delay_place}
+use Rattle.rv_types.specs.Scopes.{node_scope}
+use Rattle.rv_types.specs.Values.{operand_kind}
+use Rattle.rv_instances.specs.declared.answer.Instance.{Instance as Numbered}
+use Rattle.rv_instances.specs.AllInstances.{numbered}
+use Rattle.rv_instances.specs.Expanded.{IsExpanded, no_instance}
+use Rattle.rv_instances.specs.Layouts.{IsNumberOf}
+use Rattle.rv_flatten.specs.declared.kept.Kept.{Kept}
+use Rattle.rv_flatten.specs.Kept.{kept_memory, AreKept}
+use Rattle.rv_flatten.specs.NodeReaders.{lists_to, AreSortedBy}
+use Rattle.rv_flatten.specs.Remembered.{read_by, reads_in, KeptAt, kept_seen, kept_at, kept_in}
+use Rattle.rv_flatten.proofs.InstanceNumbers.{in_lists, from_lists, made_of, of_map, is_node, instance_at, number_at, path_is, node_is}
+use Rattle.rv_flat.proofs.Members.{in_map}
+use Rattle.rv_flatten.proofs.OnePlace.{one_of_place}
+
+-- the places of memories, as they are found
+pub kept_places : (ks : List Kept) → memory_places (map kept_memory ks) ≡ map (λ (k : Kept). k.place.sites) ks
+kept_places [] = refl
+kept_places (k ∷ ks) = ap (λ l. k.place.sites ∷ l) (kept_places ks)
+
+-- A memory that is read where it says.
+record IsSeen (p : ProgramTree) (main : Identifier) (instances : List Numbered) (k : Kept) : Type 0 where
+  i : Instance
+  d : Delay
+  is : IsInstance p main i
+  number : IsNumberOf p instances k.instance i
+  there : Contains (node_delays i.node) d
+  seen : kept_at i.path k.instance (read_by i.node (node_scope p i.node) d) ≡ kept_seen k
+
+module _ (p : ProgramTree) (main : Identifier) (instances : List Numbered) (known : IsExpanded p main instances) where
+  -- memories with one place are one
+  one_memory : (i j : Instance) (d e : Delay) → IsInstance p main i → IsInstance p main j → Contains (node_delays i.node) d → Contains (node_delays j.node) e
+      → delay_place i d ≡ delay_place j e → memory_at p i d ≡ memory_at p j e
+  one_memory i j d e a b w v same =
+      let kind =
+      one_of_place p main known.well (is_node p main instances known) Kind (λ i d. operand_kind p i.node d.operand) (λ i x. operand_kind p i.node (Node 0 Nothing (Named x))) (λ i d x is. ap (operand_kind p i.node) is.2)
+      i j d e a b w v same in
+      λ k. record { place = same k; kind = kind k }
+
+  -- what an instance reads
+  abbrev own : ℕ → List KeptAt
+  own = kept_in (map (reads_in p) p.nodes) instances
+
+  own_is : (m : ℕ) (i : Instance) → IsInstance p main i → get_or instances m no_instance ≡ numbered p i → own m ≡ map (kept_at i.path m) (reads_in p i.node)
+  own_is m i is e =
+      let node = made_of (reads_in p) p.nodes (get_or instances m no_instance).node no_node ∙ ap (reads_in p) (node_is p main instances known m i is e) in
+      let path = path_is p main instances known m i e in
+      λ t. map (kept_at (path t) m) (node t)
+
+  module _ (found : List Kept) (is : map kept_seen found ≡ lists_to own (length instances)) where
+    seen_there : (k : Kept) → Contains found k → IsSeen p main instances k
+    seen_there k w =
+        let all = subst (λ (l : List KeptAt). Contains l (kept_seen k)) is (in_map kept_seen found k w) in
+        let a = from_lists own (length instances) (kept_seen k) all in
+        let b = instance_at p main instances known a.0 a.1 in
+        let here = subst (λ (l : List KeptAt). Contains l (kept_seen k)) (own_is a.0 b.0 b.1 b.2) a.2 in
+        let r = of_map (kept_at b.0.path a.0) (reads_in p b.0.node) (kept_seen k) here in
+        let d = of_map (read_by b.0.node (node_scope p b.0.node)) (node_delays b.0.node) r.0 r.1 in
+        let same = ap (kept_at b.0.path a.0) d.2 ∙ r.2 in
+        let m : a.0 ≡ k.instance = ap (λ (x : KeptAt). x.instance) same in
+        record {
+          i = b.0;
+          d = d.0;
+          is = b.1;
+          number = subst (λ m. IsNumberOf p instances m b.0) m (a.1, b.2);
+          there = d.1;
+          seen = subst (λ m. kept_at b.0.path m (read_by b.0.node (node_scope p b.0.node) d.0) ≡ kept_seen k) m same;
+        }
+
+    all_seen : (i : Instance) (d : Delay) → IsInstance p main i → Contains (node_delays i.node) d → (k : Kept) × Contains found k × (k.place.sites ≡ delay_place i d)
+    all_seen i d inst w =
+        let n = number_at p main instances known i inst in
+        let r = read_by i.node (node_scope p i.node) d in
+        let x = kept_at i.path n.0 r in
+        let here = in_map (kept_at i.path n.0) (reads_in p i.node) r (in_map (read_by i.node (node_scope p i.node)) (node_delays i.node) d w) in
+        let own_here = subst (λ (l : List KeptAt). Contains l x) (sym (own_is n.0 i inst n.2)) here in
+        let all = in_lists own (length instances) n.0 x n.1 own_here in
+        let k = of_map kept_seen found x (subst (λ (l : List KeptAt). Contains l x) (sym is) all) in
+        (k.0, k.1, ap (λ (x : KeptAt). x.place) k.2)
+
+    -- it is that memory of the instance
+    memory_is : (k : Kept) (s : IsSeen p main instances k) → kept_memory k ≡ memory_at p s.i s.d
+    memory_is k s = ap (λ (x : KeptAt). record { place = x.place; kind = x.kind }) (sym s.seen)
+
+    module _ (ks : List Kept) (up : AreSortedBy (λ (k : Kept). k.place.sites) found ks) where
+      seen_of : (k : Kept) → Contains ks k → IsSeen p main instances k
+      seen_of k w = seen_there k (up.only k w)
+
+      pub are_kept : AreKept p main instances ks
+      are_kept = record {
+        list = record {
+          rising = subst AreRising (sym (kept_places ks)) up.rising;
+          all = λ i d inst taken w.
+              let a = all_seen i d inst w in
+              let y = up.all a.0 a.1 in
+              let s = seen_of y.0 y.1 in
+              let at : delay_place s.i s.d ≡ delay_place i d = ap (λ (x : KeptAt). x.place) s.seen ∙ y.2 ∙ a.2 in
+              subst (λ (m : MemoryAt). Contains (map kept_memory ks) m) (memory_is y.0 s ∙ one_memory s.i i s.d d s.is inst s.there w at) (in_map kept_memory ks y.0 y.1);
+          only = λ m w.
+              let y = of_map kept_memory ks m w in
+              let s = seen_of y.0 y.1 in
+              (s.i, s.d, s.is, tt, s.there, sym y.2 ∙ memory_is y.0 s);
+        };
+        each = λ k w.
+            let s = seen_of k w in
+            record {
+              i = s.i;
+              d = s.d;
+              is = s.is;
+              number = s.number;
+              there = s.there;
+              operand = ap (λ (x : KeptAt). x.operand) (sym s.seen);
+              place = ap (λ (x : KeptAt). x.place) (sym s.seen);
+            };
+      }

@@ -1,0 +1,113 @@
+-- The flows of a flat system as they are made.
+use Rattle.std.proofs.Common.{◌≡◌, ◌⊎◌, inl, inr, ℕ, zero, suc, ◌+◌, ◌<◌, List, [], ◌∷◌, ◌++◌, map, length, Some, unwrap_or, slice_get, slice_index_or, refl, sym, ◌∙◌, ap, subst, arith}
+use Rattle.std.proofs.lemmas.List.{length-append, length-map}
+use Rattle.std.proofs.lemmas.Option.{none-some, slice_get_within, slice_get-map, get_or_from_slice_get, slice_get-get_or}
+use Rattle.std.specs.Option.{option_map}
+use Rattle.std.specs.List.{Contains}
+use Rattle.rv_tree.specs.Places.{Identifier, Sites, flows, site_of}
+use Rattle.rv_tree.specs.Tree.{NodeTree, ProgramTree}
+use Rattle.rv_types.specs.declared.typed.Kind.{Kind}
+use Rattle.rv_types.specs.declared.typed.Kind.TheVariants as kind
+use Rattle.rv_types.specs.Instances.{Instance, no_node, place, IsInstance}
+use Rattle.rv_types.specs.Kinds.{flow_kind, flow_kinds}
+use Rattle.rv_types.specs.Needs.{Giver, Gives}
+use Rattle.rv_instances.specs.declared.answer.Instance.{Instance as Numbered}
+use Rattle.rv_instances.specs.declared.givers.Giver.{Giver as Told}
+use Rattle.rv_instances.specs.declared.givers.Giver.TheVariants.{Input}
+use Rattle.rv_instances.specs.declared.flows.Flow.{Flow}
+use Rattle.rv_instances.specs.Expanded.{no_instance}
+use Rattle.rv_instances.specs.Flowing.{all_flows, flow_sites, place_at}
+use Rattle.rv_instances.specs.Givers.{StandsFor}
+use Rattle.rv_instances.specs.Layouts.{all_places, path_at}
+use Rattle.rv_flatten.specs.declared.given.Given.{Given}
+use Rattle.rv_flat.specs.declared.parts.FlatFlow.{FlatFlow}
+use Rattle.rv_flatten.specs.Building.{IsGiven, IsMade, kind_at, program_given, main_given}
+use Rattle.rv_agreement.specs.Translation.{Numbers}
+use Rattle.rv_flatten.proofs.FlowKinds.{kinds_many}
+use Rattle.rv_flatten.proofs.InstanceNumbers.{snoc, instance_at, path_is, node_is, same_instance}
+use Rattle.rv_flat.proofs.PlaceNumbers.{is_found, index_at}
+
+-- what stands in a list with one thing more at its end
+snoc_get : {X : Type 0} (xs : List X) (x y : X) (k : ℕ) → slice_get (xs ++ x ∷ []) k ≡ Some y → (slice_get xs k ≡ Some y) ⊎ ((k ≡ length xs) × (x ≡ y))
+snoc_get [] x y zero e = inr (refl, (let same : x ≡ y = cc in same))
+snoc_get [] x y (suc k) e = absurd (none-some y e)
+snoc_get (z ∷ xs) x y zero e = inl e
+snoc_get (z ∷ xs) x y (suc k) e = elim (snoc_get xs x y k e) [
+  | inl there ↦ inl there
+  | inr last ↦ inr (ap suc last.0, last.1)
+]
+
+-- The flows so far are made, in the order of the sequence.
+pub record AreMadeTo (p : ProgramTree) (main : Identifier) (numbers : Numbers) (sequence : List Sites) (n : ℕ) (fs : List FlatFlow) : Type 0 where
+  pub many : length fs ≡ n
+  pub each : (k : ℕ) (f : FlatFlow) → slice_get fs k ≡ Some f → IsMade p main numbers (slice_index_or sequence k []) f
+
+module _ (p : ProgramTree) (main : Identifier) (numbers : Numbers) (sequence : List Sites) where
+  pub none_made : (fs : List FlatFlow) → fs ≡ [] → AreMadeTo p main numbers sequence 0 fs
+  none_made fs e = subst (AreMadeTo p main numbers sequence 0) (sym e) (record { many = refl; each = λ k f is. absurd (none-some f is) })
+
+  pub one_made : (n : ℕ) (fs more : List FlatFlow) (f : FlatFlow) → AreMadeTo p main numbers sequence n fs → more ≡ fs ++ f ∷ [] → IsMade p main numbers (slice_index_or sequence n []) f → AreMadeTo p main numbers sequence (n + 1) more
+  one_made n fs more f are e is = subst (AreMadeTo p main numbers sequence (n + 1)) (sym e) (record {
+    many = let had = are.many in let size : length (fs ++ f ∷ []) ≡ length fs + 1 = simp (length-append) in omega (arith, had, size);
+    each = λ k g at. elim (snoc_get fs f g k at) [
+      | inl there ↦ are.each k g there
+      | inr last ↦ subst (IsMade p main numbers (slice_index_or sequence k [])) last.1 (subst (λ j. IsMade p main numbers (slice_index_or sequence j []) f) (sym (last.0 ∙ are.many)) is)
+    ];
+  })
+
+-- what is read from a list is in it
+slice_get_Contains : {X : Type 0} (xs : List X) (k : ℕ) (x : X) → slice_get xs k ≡ Some x → Contains xs x
+slice_get_Contains xs k x at = (k, slice_get_within xs k x at, get_or_from_slice_get xs k x x at)
+
+module _ (g : Given) (given : IsGiven g) where
+  abbrev p : ProgramTree
+  p = program_given g
+
+  abbrev main : Identifier
+  main = main_given g
+
+  abbrev instances : List Numbered
+  instances = g.expanded.now.instances.now
+
+  -- what gives the flow with a number
+  pub its_giver : (k : ℕ) (told : Told) → slice_get g.givers.now k ≡ Some told → (f : Giver) × Gives p main (place_at (all_places p instances) k) f × StandsFor p instances told f
+  its_giver k told at =
+      let lt = slice_get_within g.givers.now k told at in
+      let f = given.givers.each k lt in
+      (f.0, f.1, subst (λ t. StandsFor p instances t f.0) (get_or_from_slice_get g.givers.now k told (Input 0) at) (given.givers.one k f.0 lt f.1))
+
+  -- there are as many flows as places
+  pub flows_size : length (all_places p instances) ≡ length g.flows.now
+  flows_size = length-map (all_flows p instances) (flow_sites instances) ∙ ap length (sym given.flows)
+
+  -- the place of a flow
+  its_place : (k : ℕ) (f : Flow) → slice_get g.flows.now k ≡ Some f → place_at (all_places p instances) k ≡ flow_sites instances f
+  its_place k f at =
+      get_or_from_slice_get (all_places p instances) k (flow_sites instances f) []
+      (slice_get-map (flow_sites instances) (all_flows p instances) k ∙ ap (option_map (flow_sites instances)) (ap (λ (l : List Flow). slice_get l k) (sym given.flows) ∙ at))
+
+  -- the types of the flows of a node by its number
+  kinds_of_node : (ns : List NodeTree) (k : ℕ) → slice_index_or (map (flow_kinds p) ns) k [] ≡ flow_kinds p (slice_index_or ns k no_node)
+  kinds_of_node [] k = refl
+  kinds_of_node (n ∷ ns) zero = refl
+  kinds_of_node (n ∷ ns) (suc k) = kinds_of_node ns k
+
+  -- The type of a flow is that of its name in its node.
+  pub its_kind : (k : ℕ) (f : Flow) (i : Instance) (x : Identifier) → slice_get g.flows.now k ≡ Some f → IsInstance p main i → Contains (flows i.node) x → place_at (all_places p instances) k ≡ place i x
+      → Some (kind_at g f) ≡ flow_kind p i.node x
+  its_kind k f i x at is w same =
+      let known = given.known.expanded in
+      let lt : f.instance < length instances = given.of f (slice_get_Contains g.flows.now k f at) in
+      let a = instance_at p main instances known f.instance lt in
+      let parts = snoc (path_at instances f.instance) i.path f.site (site_of i.node x) (sym (its_place k f at) ∙ same) in
+      let one : a.0 ≡ i = same_instance p main instances known a.0 i a.1 is (sym (path_is p main instances known f.instance a.0 a.2) ∙ parts.0) in
+      let node = node_is p main instances known f.instance a.0 a.1 a.2 ∙ ap (λ (j : Instance). j.node) one in
+      let kinds : slice_index_or g.kinds.now (slice_index_or instances f.instance no_instance).node [] ≡ flow_kinds p i.node =
+      ap (λ (l : List (List Kind)). slice_index_or l (slice_index_or instances f.instance no_instance).node []) given.kinds ∙ kinds_of_node (program_given g).nodes (slice_index_or instances f.instance no_instance).node ∙ ap (flow_kinds p) node in
+      let among = index_at (flows i.node) x (is_found (flows i.node) x w) in
+      let site : site_of i.node x < length (flow_kinds p i.node) = let less = among.0 in let many = kinds_many p i.node in omega (arith, less, many) in
+      let some : slice_get (flow_kinds p i.node) (site_of i.node x) ≡ Some (slice_index_or (flow_kinds p i.node) (site_of i.node x) kind.Bool) = slice_get-get_or (flow_kinds p i.node) (site_of i.node x) kind.Bool site in
+      ap (λ (l : List Kind). Some (unwrap_or (slice_get l f.site) kind.Bool)) kinds
+      ∙ ap (λ s. Some (unwrap_or (slice_get (flow_kinds p i.node) s) kind.Bool)) parts.1
+      ∙ ap (λ o. Some (unwrap_or o kind.Bool)) some
+      ∙ sym some

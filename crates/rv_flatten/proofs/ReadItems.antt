@@ -1,0 +1,205 @@
+-- What is told of givers, memories and assertions of instances, as far as flat items need it.
+use Rattle.std.proofs.Common.{◌≡◌, ℕ, suc, ◌+◌, ◌<◌, ◌≤◌, Bool, true, false, ◌||◌, cond, List, [], ◌∷◌, map, length, get_or, refl, sym, ◌∙◌, ap, subst, arith, length-append, unwrap_or, Some, IsSome}
+use Rattle.std.proofs.lemmas.List.{length-map}
+use Rattle.std.proofs.lemmas.Option.{slice_get_within}
+use Rattle.std.specs.List.{Contains}
+use Rattle.rv_tree.specs.Tree.{Tree, NodeTree, ProgramTree}
+use Rattle.rv_tree.specs.Places.{Identifier, Sites, flows as flows_of, is_among, is_same, index_of, site_of}
+use Rattle.rv_tree.specs.Bounded.{most}
+use Rattle.rv_types.specs.declared.typed.Clock.{Clock}
+use Rattle.rv_types.specs.declared.typed.Clock.TheVariants.{Base, On}
+use Rattle.rv_types.specs.declared.fault.Pace.{Pace}
+use Rattle.rv_types.specs.declared.fault.Pace.TheVariants.{Free, At, Mute, Differ}
+use Rattle.rv_types.specs.Clocks.{pace, pace_of_all}
+use Rattle.rv_types.specs.Kinds.{decl_kinds, kind_in_program, node_among, node_named}
+use Rattle.rv_types.specs.Names.{texts}
+use Rattle.rv_types.specs.Settled.{node_number}
+use Rattle.rv_types.specs.Types.{kind_of}
+use Rattle.rv_types.specs.Scopes.{node_scope, constant_value}
+use Rattle.rv_types.specs.ValueTables.{value_by}
+use Rattle.rv_types.specs.Instances.{CallTree, calls, Right, Body, Output, Instance, clock_taken as taken_clock, clock_of, clock_of_args, taken, node_of, no_node, callee, IsInstance, is_main, is_callee, IsNode}
+use Rattle.rv_types.specs.Needs.{Given, Of, Gives, by_equation, by_call}
+use Rattle.rv_types.specs.Variables.{node_parts}
+use Rattle.rv_types.specs.WellFormed.{AreWell, Suits}
+use Rattle.rv_instances.specs.declared.answer.Instance.{Instance as Numbered}
+use Rattle.rv_instances.specs.declared.givers.BodyOf.{BodyOf}
+use Rattle.rv_instances.specs.declared.givers.OutputOf.{OutputOf}
+use Rattle.rv_instances.specs.declared.givers.Giver.TheVariants as told
+use Rattle.rv_instances.specs.declared.reader.Reader.{Reader}
+use Rattle.rv_instances.specs.Expanded.{IsExpanded, IsKnown, program_of, main_of}
+use Rattle.rv_instances.specs.Layouts.{IsLayout, IsNumberOf, IsWithin, node_at}
+use Rattle.rv_instances.specs.NumberedNeeds.{IsReader, IsGiver, node_read, numbers_of}
+use Rattle.rv_instances.specs.Weights.{AreLight}
+use Rattle.rv_flatten.specs.declared.frame.Frame.{Frame}
+use Rattle.rv_flatten.specs.Frames.{IsFrame, IsNumbering}
+use Rattle.rv_flatten.specs.NodeReaders.{scope_by}
+use Rattle.rv_agreement.specs.Translation.{Numbers}
+use Rattle.rv_flat.proofs.PlaceNumbers.{same_text}
+use Rattle.rv_flatten.proofs.Standing.{stands_in, body_stands, argument_stands, output_call}
+use Rattle.rv_flat.proofs.TypedParts.{no_flag}
+use Rattle.rv_flatten.proofs.WellInstances.{node_in, formed, typed}
+use Rattle.rv_flatten.proofs.ClockKinds.{IsTrueClock, clock_taken, clock_is_true, paces_are_true}
+use Rattle.rv_flatten.proofs.ReadTables.{is_node, clock_known}
+
+-- The number of a node that is there.
+known_name : (ns : List NodeTree) (f : Identifier) → IsSome (node_among ns f) → (unwrap_or (node_among ns f) no_node).name.text ≡ f
+known_name [] f some = no_flag some
+known_name (n ∷ ns) f some = by (is_same n.name.text f) refl some (known_name ns f)
+  where
+    by : (b : Bool) → is_same n.name.text f ≡ b → IsSome (cond b (Some n) (node_among ns f)) → (IsSome (node_among ns f) → (unwrap_or (node_among ns f) no_node).name.text ≡ f)
+        → (unwrap_or (cond b (Some n) (node_among ns f)) no_node).name.text ≡ f
+    by true e some again = same_text n.name.text f e
+    by false e some again = again some
+
+number_known : (ns : List NodeTree) (f : Identifier) → IsSome (node_among ns f) → get_or ns (index_of (texts (map (λ n. n.name) ns)) f) no_node ≡ unwrap_or (node_among ns f) no_node
+number_known [] f some = no_flag some
+number_known (n ∷ ns) f some = by (is_same n.name.text f) (index_of (texts (map (λ n. n.name) ns)) f) some (number_known ns f)
+  where
+    by : (b : Bool) (at : ℕ) → IsSome (cond b (Some n) (node_among ns f)) → (IsSome (node_among ns f) → get_or ns at no_node ≡ unwrap_or (node_among ns f) no_node)
+        → get_or (n ∷ ns) (cond b 0 (at + 1)) no_node ≡ unwrap_or (cond b (Some n) (node_among ns f)) no_node
+    by true at some again = refl
+    by false at some again = let next : at + 1 ≡ suc at = omega arith in ap (λ k. get_or (n ∷ ns) k no_node) next ∙ again some
+
+some_named : (ns : List NodeTree) (f : Identifier) → is_among (texts (map (λ n. n.name) ns)) f ≡ true → IsSome (node_among ns f)
+some_named [] f e = no_flag e
+some_named (n ∷ ns) f e = by (is_same n.name.text f) e (some_named ns f)
+  where
+    by : (b : Bool) → (b || is_among (texts (map (λ n. n.name) ns)) f) ≡ true → (is_among (texts (map (λ n. n.name) ns)) f ≡ true → IsSome (node_among ns f)) → IsSome (cond b (Some n) (node_among ns f))
+    by true e again = refl
+    by false e again = again e
+
+-- what suits a clock takes it
+suits_taken : (k : Clock) (p : Pace) → Suits k p → taken k p ≡ k
+suits_taken k Free h = refl
+suits_taken k (At c) h = h
+suits_taken k Mute h = absurd h
+suits_taken k Differ h = absurd h
+
+module _ (p : ProgramTree) (main : Identifier) (instances : List Numbered) (known : IsExpanded p main instances) where
+  abbrev well : AreWell p
+  well = known.well
+
+  is_named : IsNode p main
+  is_named = is_node p main known.declared
+
+  -- the node of an instance by its number
+  numbered_node : (f : Identifier) → IsSome (node_named p f) → get_or p.nodes (node_number p (node_of p f).name.text) no_node ≡ node_of p f
+  numbered_node f some = ap (λ g. get_or p.nodes (node_number p g) no_node) (known_name p.nodes f some) ∙ number_known p.nodes f some
+
+  instance_node : (i : Instance) → IsInstance p main i → get_or p.nodes (node_number p i.node.name.text) no_node ≡ i.node
+  instance_node _ is_main = numbered_node main (some_named p.nodes main known.declared)
+  instance_node _ (is_callee {i = i} c of there) = numbered_node c.name ((formed p main well is_named i of).known c there)
+
+  pub node_is : (m : ℕ) (i : Instance) → IsInstance p main i → IsNumberOf p instances m i → node_at p instances m ≡ i.node
+  node_is m i of number = ap (λ (x : Numbered). get_or p.nodes x.node no_node) number.1 ∙ instance_node i of
+
+  -- the clock of a giver
+  pub giver_clock : (q : Sites) (i : Instance) (k : Clock) (r : Right) → Gives p main q (Of i k r) → IsInstance p main i × IsTrueClock p i.node k
+  giver_clock q _ _ _ (by_equation i x r of right at) = (of, clock_is_true p i.node (typed p main well is_named i of) (site_of i.node x))
+  giver_clock q _ _ _ (by_call i c j e of there arg at) =
+      let t = typed p main well is_named i of in
+      (of, clock_taken p i.node (pace_of_all i.node c.args) (paces_are_true p i.node t c.args (λ j a arg. let u = t.argument c j a there arg in (u.0, u.1))))
+
+  -- an expression that gives a flow its value
+  pub record IsBody (i : Instance) (k : Clock) (e : Tree) : Type 0 where
+    pub part : Contains (node_parts i.node) e
+    pub some : IsSome (kind_of (node_scope p i.node) e)
+    pub clock : taken_clock i k e ≡ k
+
+  pub body_given : (q : Sites) (i : Instance) (k : Clock) (e : Tree) → Gives p main q (Of i k (Body e)) → IsBody i k e
+  body_given q _ _ e (by_equation i x _ of right at) = record {
+    part = stands_in i.node e (body_stands i.node x e right);
+    some = let t = (typed p main well is_named i of).body x e right in subst IsSome (sym t.1) refl;
+    clock = suits_taken (clock_of i.node x) (pace i.node e) ((formed p main well is_named i of).body_clock x e right);
+  }
+  body_given q _ _ _ (by_call i c j e of there arg at) = record {
+    part = stands_in i.node e (argument_stands i.node c j e there arg);
+    some = let t = (typed p main well is_named i of).argument c j e there arg in subst IsSome (sym t.1) refl;
+    clock = suits_taken (clock_of_args i.node c.args) (pace i.node e) ((formed p main well is_named i of).argument_clock c j e there arg);
+  }
+
+  -- an output of a call that gives a flow its value
+  pub record IsOutput (i : Instance) (k : Clock) (c : CallTree) (j : ℕ) : Type 0 where
+    pub there : Contains (calls i.node) c
+    pub within : j < length (node_of p c.name).outputs
+    pub clock : clock_of_args i.node c.args ≡ k
+
+  pub output_given : (q : Sites) (i : Instance) (k : Clock) (c : CallTree) (j : ℕ) → Gives p main q (Of i k (Output c j)) → IsOutput i k c j
+  output_given q _ _ c j (by_equation i x _ of right at) =
+      let t = (typed p main well is_named i of).output x c j right in
+      let lt = slice_get_within (decl_kinds p (node_of p c.name).outputs) j t.0 t.1 in
+      let many = length-map (node_of p c.name).outputs (λ d. kind_in_program p d.kind) in
+      record {
+        there = output_call i.node x c j right;
+        within = omega (arith, lt, many);
+        clock = (formed p main well is_named i of).output_clock x c j right;
+      }
+
+  -- it is one of few
+  pub output_few : (o : OutputOf) → IsGiver p main instances (told.Output o) → o.output < most
+  output_few o (q, Given j, gives, stands) = absurd stands
+  output_few o (q, Of i k (Body e), gives, stands) = absurd stands
+  output_few o (q, Of i k (Output c j), gives, stands) =
+      let r = output_given q i k c j gives in
+      let of = (giver_clock q i k (Output c j) gives).0 in
+      let few = known.bounded.node_flows (node_of p c.name) (node_in p main well is_named (callee p i c) (is_callee c of r.there)) in
+      let many = outputs_few (node_of p c.name) in
+      let lt = r.within in
+      let same = stands.3 in
+      omega (arith, few, many, lt, same)
+    where
+      outputs_few : (n : NodeTree) → length n.outputs ≤ length (flows_of n)
+      outputs_few n = let many : length (flows_of n) ≡ length n.inputs + length n.outputs + length n.locals = simp (length-append, length-map) in omega (arith, many)
+
+  -- the number of an instance that is told is one
+  pub body_instance : (b : BodyOf) → IsGiver p main instances (told.Body b) → b.instance < length instances
+  body_instance b (q, Given j, gives, stands) = absurd stands
+  body_instance b (q, Of i k (Output c j), gives, stands) = absurd stands
+  body_instance b (q, Of i k (Body e), gives, stands) = stands.0.0
+
+  pub output_instance : (o : OutputOf) → IsGiver p main instances (told.Output o) → o.instance < length instances
+  output_instance o (q, Given j, gives, stands) = absurd stands
+  output_instance o (q, Of i k (Body e), gives, stands) = absurd stands
+  output_instance o (q, Of i k (Output c j), gives, stands) = stands.0.0
+
+  -- the number of the flow of a clock has 32 bits
+  clock_within : (r : Reader) (n : NodeTree) (k : Clock) → IsReader r → node_read r ≡ n → IsTrueClock p n k → IsWithin (numbers_of r).offset k
+  clock_within r n Base reads is t = tt
+  clock_within r n (On s) reads is t =
+      let lt = clock_known p n s t in
+      let room = reads.room in
+      let same = ap (λ m. length (flows_of m)) is in
+      omega (arith, lt, room, same)
+
+  pub body_within : (r : Reader) (b : BodyOf) → IsReader r → node_read r ≡ node_at p instances b.instance → IsGiver p main instances (told.Body b) → IsWithin (numbers_of r).offset b.clock
+  body_within r b reads is (q, Given j, gives, stands) = absurd stands
+  body_within r b reads is (q, Of i k (Output c j), gives, stands) = absurd stands
+  body_within r b reads is (q, Of i k (Body e), gives, stands) =
+      let g = giver_clock q i k (Body e) gives in
+      subst (IsWithin (numbers_of r).offset) (sym stands.1) (clock_within r i.node k reads (is ∙ node_is b.instance i g.0 stands.0) g.1)
+
+  pub output_within : (r : Reader) (o : OutputOf) → IsReader r → node_read r ≡ node_at p instances o.instance → IsGiver p main instances (told.Output o) → IsWithin (numbers_of r).offset o.clock
+  output_within r o reads is (q, Given j, gives, stands) = absurd stands
+  output_within r o reads is (q, Of i k (Body e), gives, stands) = absurd stands
+  output_within r o reads is (q, Of i k (Output c j), gives, stands) =
+      let g = giver_clock q i k (Output c j) gives in
+      subst (IsWithin (numbers_of r).offset) (sym stands.1) (clock_within r i.node k reads (is ∙ node_is o.instance i g.0 stands.0) g.1)
+
+-- A frame that is made of what is known.
+pub is_frame : (numbers : Numbers) (i : Instance) (x : Frame) → IsKnown x.expanded.now → AreLight (program_of x.expanded.now) (main_of x.expanded.now) → IsInstance (program_of x.expanded.now) (main_of x.expanded.now) i
+    → IsNumberOf (program_of x.expanded.now) x.expanded.now.instances.now x.reader.instance i → IsReader x.reader → node_read x.reader ≡ node_at (program_of x.expanded.now) x.expanded.now.instances.now x.reader.instance
+    → scope_by x.tables.now x.own.now ≡ node_scope (program_of x.expanded.now) (node_at (program_of x.expanded.now) x.expanded.now.instances.now x.reader.instance)
+    → IsLayout (program_of x.expanded.now) (main_of x.expanded.now) x.expanded.now.instances.now x.reader.layout.now → value_by x.values.now ≡ constant_value (program_of x.expanded.now)
+    → IsNumbering (program_of x.expanded.now) (main_of x.expanded.now) x.expanded.now.instances.now numbers x.numbering.now → IsFrame numbers i x
+is_frame numbers i x known light of number reads node scope layout values numbering = record {
+  known = known;
+  light = light;
+  instance = of;
+  number = number;
+  reader = reads;
+  node = node ∙ node_is (program_of x.expanded.now) (main_of x.expanded.now) x.expanded.now.instances.now known.expanded x.reader.instance i of number;
+  scope = scope ∙ ap (node_scope (program_of x.expanded.now)) (node_is (program_of x.expanded.now) (main_of x.expanded.now) x.expanded.now.instances.now known.expanded x.reader.instance i of number);
+  layout = layout;
+  values = values;
+  numbering = numbering;
+}

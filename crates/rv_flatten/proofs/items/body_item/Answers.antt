@@ -1,0 +1,32 @@
+use Rattle.std.proofs.Common.{sym, ◌∙◌, ap, subst}
+use Rattle.rv_instances.specs.Expanded.{program_of, main_of}
+use Rattle.rv_instances.specs.Layouts.{IsLayout, node_at}
+use Rattle.rv_types.specs.Scopes.{node_scope}
+use Rattle.rv_flatten.specs.declared.frame.Frame.{Frame}
+use Rattle.rv_flatten.specs.Tables.{clock_read}
+use Rattle.rv_flatten.proofs.ReadItems.{body_instance, body_within}
+use Rattle.rv_flatten.proofs.MadeItems.{body_made}
+use Rattle.rv_flatten.proofs.items.body_item.Goals as goal
+
+pub new-reader-requires-clause-within : goal.new-reader-requires-clause-within
+new-reader-requires-clause-within c =
+    let x = c.args.expanded.now in
+    body_instance (program_of x) (main_of x) x.instances.now c.requires.known.expanded c.args.body.now c.requires.giver
+
+pub clock-clock-requires-clause-within : goal.clock-clock-requires-clause-within
+clock-clock-requires-clause-within c =
+    let x = c.args.expanded.now in
+    body_within (program_of x) (main_of x) x.instances.now c.requires.known.expanded c.new-reader.result c.args.body.now c.new-reader.ensures.reader c.new-reader.ensures.node c.requires.giver
+
+pub returns : goal.returns
+returns c numbers q g light ticks numbering gives stands =
+    let x = c.args.expanded.now in
+    let p = program_of x in
+    let reader = c.new-reader.ensures in
+    let frame : Frame = record { expanded = c.args.expanded; reader = c.new-reader.result; tables = c.args.tables; own = c.own_at-own.result; values = c.args.values; numbering = c.args.numbering } in
+    body_made c.instance_numbers.ensures numbers frame c.requires.known light ticks reader.reader
+    (reader.node ∙ ap (node_at p x.instances.now) (sym reader.instance))
+    (c.own_at-own.ensures ∙ ap (λ m. node_scope p (node_at p x.instances.now m)) (sym reader.instance))
+    (subst (IsLayout p (main_of x) x.instances.now) (sym reader.layout) c.requires.layout)
+    c.requires.values numbering c.args.body.now q g _ _ reader.instance gives stands
+    (c.clock_number.ensures ∙ ap (clock_read frame) c.clock-clock.ensures) c.in_ok-made.ensures

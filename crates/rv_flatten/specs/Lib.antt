@@ -1,0 +1,14 @@
+pub mod Readings
+pub mod Literals
+pub mod Frames
+pub mod Kept
+pub mod Items
+pub mod Positions
+pub mod Building
+pub mod Tables
+pub mod NodeReaders
+pub mod Remembered
+pub mod Compared
+pub mod VariableLists
+pub mod Arrows
+pub mod Kinded

@@ -1,0 +1,88 @@
+-- Of all flows it is told what gives them their values.
+use Rattle.std.proofs.Common.{◌≡◌, ℕ, ◌+◌, ◌<◌, inl, inr, List, [], ◌∷◌, map, length, get_or, Option, Some, sym, ◌∙◌, ap, subst, arith, None as Nothing}
+use Rattle.std.specs.List.{Contains}
+use Rattle.std.proofs.lemmas.Bool.{cases_eq}
+use Rattle.std.proofs.lemmas.List.{append_assoc}
+use Rattle.rv_tree.specs.Tree.{Tree, NodeTree, ProgramTree}
+use Rattle.rv_tree.specs.Places.{Identifier, site_of}
+use Rattle.rv_types.specs.Instances.{CallTree, calls, Right, IsRight, IsArgument, callee, node_of, main_instance, is_main, is_callee}
+use Rattle.rv_types.specs.Needs.{Giver, Gives, by_equation, by_call, IsBefore, given as by_input}
+use Rattle.rv_instances.specs.declared.answer.Instance.{Instance as Numbered}
+use Rattle.rv_instances.specs.declared.givers.Giver.{Giver as Told}
+use Rattle.rv_instances.specs.declared.givers.Giver.TheVariants.{Input}
+use Rattle.rv_instances.specs.Expanded.{IsExpanded}
+use Rattle.rv_instances.specs.Flowing.{AreFlowPlaces, place_at}
+use Rattle.rv_instances.specs.Givers.{AreGivers, StandsFor}
+use Rattle.rv_instances.specs.Giving.{AreGiven, IsGiven, first_of, number_at}
+use Rattle.rv_instances.specs.Layouts.{AreCallees, callee_or_main, node_at, all_places}
+use Rattle.rv_instances.proofs.BaseClocks.{callee_number}
+use Rattle.rv_instances.proofs.ExpandedLaws.{not_itself, number_at as instance_number, main_at, node_in, node_is}
+use Rattle.rv_instances.proofs.FlowPlaces.{are_flow_places}
+use Rattle.rv_instances.proofs.GivenFlows.{site_placed, input_placed}
+use Rattle.rv_instances.proofs.GiverLaws.{flow_giver, flow_site, one_giver}
+use Rattle.rv_instances.proofs.Known.{map_at}
+use Rattle.rv_instances.proofs.LaidFlows.{inputs_among}
+use Rattle.rv_instances.proofs.Lists.{length_map, nat_split}
+
+module _ (p : ProgramTree) (main : Identifier) (instances : List Numbered) (known : IsExpanded p main instances) where
+  pub flow_places : AreFlowPlaces p main (all_places p instances)
+  flow_places = are_flow_places p main known.named known.declared known.sited instances known.all
+
+  -- two numbers of one place are one
+  pub one_place : (j k : ℕ) → j < length (all_places p instances) → k < length (all_places p instances) → place_at (all_places p instances) j ≡ place_at (all_places p instances) k → j ≡ k
+  one_place j k lt less e = elim (cases_eq j k) [
+    | inl same ↦ same
+    | inr other ↦ elim (nat_split j k) [
+      | inl before ↦ absurd (not_itself (place_at (all_places p instances) k) (subst (λ q. IsBefore q (place_at (all_places p instances) k)) e (flow_places.rising j k before less)))
+      | inr ge ↦ absurd (not_itself (place_at (all_places p instances) j) (subst (λ q. IsBefore q (place_at (all_places p instances) j)) (sym e) (flow_places.rising k j (omega (arith, ge, other)) lt)))
+    ]
+  ]
+
+  module _ (table : List ((ℕ × ℕ) × ℕ)) (callees : AreCallees instances table) (found : List (Option Told))
+      (inputs : (j : ℕ) → j < length (node_of p main).inputs → IsGiven found j)
+      (rights : (m : ℕ) (x : Identifier) (r : Right) → m < length instances → IsRight (node_at p instances m) x r → IsGiven found (number_at p instances m x))
+      (arguments : (m : ℕ) (c : CallTree) (j : ℕ) (e : Tree) → m < length instances → Contains (calls (node_at p instances m)) c → IsArgument c.args j e → IsGiven found (first_of p instances (callee_or_main table m c.site) + j)) where
+    -- what has a giver, by its number
+    given_at : (k : ℕ) (f : Giver) → k < length (all_places p instances) → Gives p main (place_at (all_places p instances) k) f → IsGiven found k
+    given_at k _ lt (by_input j within e) =
+        let root = node_is p main instances known 0 (main_instance p main) is_main (main_at p main instances known).1 in
+        let at = input_placed p main instances known j (subst (λ (n : NodeTree). j < length n.inputs) (sym root) within) in
+        subst (IsGiven found) (one_place j k at.0 lt (at.1 ∙ e)) (inputs j within)
+    given_at k _ lt (by_equation i x r is right e) =
+        let m = instance_number p main instances known i is in
+        let node = node_is p main instances known m.0 i is m.2 in
+        let flow = ((known.well.formed i.node (node_in p main instances known i is)).left x r right).0 in
+        let site = flow_site p main instances known i.node x (node_in p main instances known i is) flow in
+        let at = site_placed p main instances known m.0 i (site_of i.node x) m.1 is m.2 site in
+        let number : number_at p instances m.0 x ≡ first_of p instances m.0 + site_of i.node x = ap (λ (n : NodeTree). first_of p instances m.0 + site_of n x) node in
+        subst (IsGiven found) (number ∙ one_place (first_of p instances m.0 + site_of i.node x) k at.0 lt (at.1 ∙ e))
+        (rights m.0 x r m.1 (subst (λ (n : NodeTree). IsRight n x r) (sym node) right))
+    given_at k _ lt (by_call i c j e is w arg at_place) =
+        let m = instance_number p main instances known i is in
+        let node = node_is p main instances known m.0 i is m.2 in
+        let to = callee_number p main instances known table callees m.0 i c m.1 is m.2 w in
+        let input = (known.well.formed i.node (node_in p main instances known i is)).no_more c j e w arg in
+        let among = inputs_among (node_of p c.name) in
+        let at = site_placed p main instances known (callee_or_main table m.0 c.site) (callee p i c) j to.0 (is_callee c is w) to.1 (omega (arith, input, among)) in
+        subst (IsGiven found) (one_place (first_of p instances (callee_or_main table m.0 c.site) + j) k at.0 lt (at.1 ∙ append_assoc i.path (c.site ∷ []) (j ∷ []) ∙ at_place))
+        (arguments m.0 c j e m.1 (subst (λ (n : NodeTree). Contains (calls n) c) (sym node) w) arg)
+
+    pub all_given : (k : ℕ) → k < length (all_places p instances) → IsGiven found k
+    all_given k lt = let f = flow_giver p main instances known (place_at (all_places p instances) k) (flow_places.only k lt) in given_at k f.0 lt f.1
+
+  -- and nothing else gives them
+  pub are_givers : (found : List (Option Told)) (givers : List Told) → AreGiven p main instances found → map Some givers ≡ found → AreGivers p main instances givers
+  are_givers found givers so_far is = record {
+    size = size;
+    each = λ k lt. flow_giver p main instances known (place_at (all_places p instances) k) (flow_places.only k (within k lt));
+    one = λ k f lt gives.
+        let g = get_or givers k (Input 0) in
+        let told = so_far.sound k g (ap (λ (l : List (Option Told)). get_or l k Nothing) (sym is) ∙ map_at Some givers k Nothing (Input 0) lt) in
+        subst (StandsFor p instances g) (one_giver p main instances known (place_at (all_places p instances) k) told.0 f told.1 gives) told.2;
+  }
+    where
+      size : length givers ≡ length (all_places p instances)
+      size = sym (length_map {X = Told} {Y = Option Told} Some givers) ∙ ap length is ∙ so_far.size
+
+      within : (k : ℕ) → k < length givers → k < length (all_places p instances)
+      within k lt = let s = size in omega (arith, s, lt)

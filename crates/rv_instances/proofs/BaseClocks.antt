@@ -1,0 +1,122 @@
+-- The numbers of the flows of base clocks.
+use Rattle.std.proofs.Common.{◌≡◌, ℕ, ◌+◌, ◌<◌, ◌≤◌, ◌^◌, ◌⊎◌, inl, inr, List, [], ◌∷◌, ◌++◌, length, get_or, replicate, set, zero, suc, Option, refl, sym, ◌∙◌, ap, subst, arith, None as Nothing, unwrap_or}
+use Rattle.std.specs.List.{Contains}
+use Rattle.std.proofs.lemmas.List.{get_or-set_other, get_or-set_same}
+use Rattle.std.proofs.lemmas.Bool.{cases_eq}
+use Rattle.rv_tree.specs.Bounded.{most}
+use Rattle.rv_tree.specs.Tree.{NodeTree, ProgramTree}
+use Rattle.rv_tree.specs.Places.{Identifier, flows}
+use Rattle.rv_types.specs.declared.typed.Clock.{Clock}
+use Rattle.rv_types.specs.declared.typed.Clock.TheVariants.{Base, On}
+use Rattle.rv_types.specs.Instances.{CallTree, calls, Instance, absolute, clock_of_args, callee, IsInstance, is_main, is_callee}
+use Rattle.rv_instances.specs.declared.answer.Instance.{Instance as Numbered}
+use Rattle.rv_instances.specs.AllInstances.{numbered}
+use Rattle.rv_instances.specs.Expanded.{IsExpanded, no_instance}
+use Rattle.rv_instances.specs.Flowing.{IsKnownClock, flow_count}
+use Rattle.rv_instances.specs.Layouts.{path_at, flows_before, number_of, IsWithin, IsClockPlaced, IsBaseOf, AreCallees, callee_or_main, all_places}
+use Rattle.rv_instances.proofs.ArgumentClocks.{arguments_clock_known}
+use Rattle.rv_instances.proofs.Chained.{caller_before}
+use Rattle.rv_instances.proofs.ExpandedLaws.{are_paths, instance_at, number_at, node_in, node_is, node_few, path_is, same, same_at}
+use Rattle.rv_instances.proofs.FlowPlaces.{not_empty, snoc_parts, snoc_view}
+use Rattle.rv_instances.proofs.LaidFlows.{few_before, flow_placed}
+
+module _ (p : ProgramTree) (main : Identifier) (instances : List Numbered) (known : IsExpanded p main instances) where
+  -- how many flows an instance has
+  pub count_is : (m : ℕ) (i : Instance) → IsInstance p main i → get_or instances m no_instance ≡ numbered p i → flow_count p instances m ≡ length (flows i.node)
+  count_is m i is e = ap (λ (n : NodeTree). length (flows n)) (node_is p main instances known m i is e)
+
+  -- numbers of flows are below 2^32
+  pub first_few : (m : ℕ) → m < length instances → flows_before (flow_count p instances) m + most < 2 ^ 32
+  first_few m lt =
+      let h = few_before (flow_count p instances) most m (λ k less. node_few p main instances known k (omega (arith, less, lt))) in
+      let few = known.few in
+      omega (arith, h, few, lt)
+
+  pub clock_within : (m : ℕ) (i : Instance) (k : Clock) → m < length instances → IsInstance p main i → get_or instances m no_instance ≡ numbered p i → IsKnownClock i.node k → IsWithin (flows_before (flow_count p instances) m) k
+  clock_within m i Base lt is e within = tt
+  clock_within m i (On s) lt is e within =
+      let h = first_few m lt in
+      let few = node_few p main instances known m lt in
+      let size = count_is m i is e in
+      omega (arith, h, few, size, within)
+
+  -- the flow of a clock of an instance
+  pub clock_placed : (m : ℕ) (i : Instance) (b : Option ℕ) (k : Clock) → m < length instances → IsInstance p main i → get_or instances m no_instance ≡ numbered p i → IsKnownClock i.node k
+      → IsClockPlaced (all_places p instances) b i.base → IsClockPlaced (all_places p instances) (number_of (flows_before (flow_count p instances) m) b k) (absolute i k)
+  clock_placed m i b Base lt is e within placed = placed
+  clock_placed m i b (On s) lt is e within placed =
+      let size = count_is m i is e in
+      let at = flow_placed p instances m s lt (omega (arith, within, size)) in
+      (at.0, at.1 ∙ ap (λ q. q ++ s ∷ []) (path_is p main instances known m i e))
+
+  module _ (table : List ((ℕ × ℕ) × ℕ)) (callees : AreCallees instances table) where
+    -- the number of what a call gives
+    pub callee_number : (m : ℕ) (i : Instance) (c : CallTree) → m < length instances → IsInstance p main i → get_or instances m no_instance ≡ numbered p i → Contains (calls i.node) c
+        → (callee_or_main table m c.site < length instances) × (get_or instances (callee_or_main table m c.site) no_instance ≡ numbered p (callee p i c))
+    callee_number m i c lt is e w =
+        let k = number_at p main instances known (callee p i c) (is_callee c is w) in
+        let told = callees.found m c.site k.0 lt k.1 (path_is p main instances known k.0 (callee p i c) k.2 ∙ ap (λ q. q ++ c.site ∷ []) (sym (path_is p main instances known m i e))) in
+        let is_k : callee_or_main table m c.site ≡ k.0 = ap (λ o. unwrap_or o 0) told in
+        let less = k.1 in
+        (omega (arith, is_k, less), ap (λ j. get_or instances j no_instance) is_k ∙ k.2)
+
+    module _ (m : ℕ) (i : Instance) (b : Option ℕ) (lt : m < length instances) (is : IsInstance p main i) (e : get_or instances m no_instance ≡ numbered p i) (own : IsClockPlaced (all_places p instances) b i.base) where
+      -- one base clock more
+      pub base_set : (bases new : List (Option ℕ)) (c : CallTree) (k : ℕ) → length bases ≡ length instances → Contains (calls i.node) c
+          → new ≡ set bases (callee_or_main table m c.site) (number_of (flows_before (flow_count p instances) m) b (clock_of_args i.node c.args))
+          → (k ≡ callee_or_main table m c.site) ⊎ IsBaseOf p main instances bases k → IsBaseOf p main instances new k
+      base_set bases new c k size w is_new which a js f = elim (cases_eq k (callee_or_main table m c.site)) [
+        | inl here ↦
+            let to = callee_number m i c lt is e w in
+            let less = to.0 in
+            let at : k < length bases = omega (arith, less, here, size) in
+            let same_one : callee p i c ≡ a = same_at p main instances known k (callee p i c) a (is_callee c is w) js (ap (λ j. get_or instances j no_instance) here ∙ to.1) f in
+            let value : get_or new k Nothing ≡ number_of (flows_before (flow_count p instances) m) b (clock_of_args i.node c.args) =
+            ap (λ l. get_or l k Nothing) (is_new ∙ ap (λ j. set bases j (number_of (flows_before (flow_count p instances) m) b (clock_of_args i.node c.args))) (sym here))
+            ∙ get_or-set_same bases k (number_of (flows_before (flow_count p instances) m) b (clock_of_args i.node c.args)) Nothing at in
+            subst (λ o. IsClockPlaced (all_places p instances) o a.base) (sym value)
+            (subst (λ (j : Instance). IsClockPlaced (all_places p instances) (number_of (flows_before (flow_count p instances) m) b (clock_of_args i.node c.args)) j.base) same_one
+            (clock_placed m i b (clock_of_args i.node c.args) lt is e (arguments_clock_known p known.named i.node (node_in p main instances known i is) c w) own))
+        | inr other ↦ elim which [
+          | inl here ↦ absurd (other here)
+          | inr before ↦
+              let value : get_or new k Nothing ≡ get_or bases k Nothing =
+              ap (λ l. get_or l k Nothing) is_new ∙ get_or-set_other bases (callee_or_main table m c.site) k (number_of (flows_before (flow_count p instances) m) b (clock_of_args i.node c.args)) Nothing other in
+              subst (λ o. IsClockPlaced (all_places p instances) o a.base) (sym value) (before a js f)
+        ]
+      ]
+
+  module _ (m : ℕ) (i : Instance) (is : IsInstance p main i) (e : get_or instances m no_instance ≡ numbered p i) where
+    -- what has the path of the instance and one site more is called by it
+    pub call_at : (k s : ℕ) → k < length instances → path_at instances k ≡ path_at instances m ++ s ∷ [] → (c : CallTree) × Contains (calls i.node) c × (c.site ≡ s)
+    call_at k s less f = let a = instance_at p main instances known k less in found a.0 a.1 (sym (path_is p main instances known k a.0 a.2) ∙ f ∙ ap (λ q. q ++ s ∷ []) (path_is p main instances known m i e))
+      where
+        found : (a : Instance) → IsInstance p main a → a.path ≡ i.path ++ s ∷ [] → (c : CallTree) × Contains (calls i.node) c × (c.site ≡ s)
+        found _ is_main g = absurd (not_empty i.path s [] g)
+        found _ (is_callee {i = j} c js w) g =
+            let parts = snoc_parts j.path i.path c.site s g in
+            (c, subst (λ (a : Instance). Contains (calls a.node) c) (same p main instances known j i js is parts.0) w, parts.1)
+
+  -- the base clock of main has no flow
+  pub main_base : (k : ℕ) (bases : List (Option ℕ)) → path_at instances k ≡ [] → get_or bases k Nothing ≡ Nothing → IsBaseOf p main instances bases k
+  main_base k bases none value i is e = subst (λ o. IsClockPlaced (all_places p instances) o i.base) (sym value) (at i is (sym (path_is p main instances known k i e) ∙ none))
+    where
+      at : (i : Instance) → IsInstance p main i → i.path ≡ [] → IsClockPlaced (all_places p instances) Nothing i.base
+      at _ is_main g = tt
+      at _ (is_callee {i = j} c js w) g = absurd (not_empty j.path c.site [] (sym g))
+
+  -- each instance but main has been called before
+  pub base_by_then : (bases : List (Option ℕ)) (m t : ℕ) → t < length instances → t ≤ m → ((k : ℕ) → path_at instances k ≡ [] → IsBaseOf p main instances bases k)
+      → ((j s k : ℕ) → j < m → k < length instances → path_at instances k ≡ path_at instances j ++ s ∷ [] → IsBaseOf p main instances bases k) → IsBaseOf p main instances bases t
+  base_by_then bases m t lt le none done = elim (snoc_view (path_at instances t)) [
+    | inl empty ↦ none t empty
+    | inr v ↦
+        let j = caller_before instances (are_paths p main instances known) t v.1 v.0 lt v.2 in
+        let before = j.1 in
+        done j.0 v.1 t (omega (arith, before, le)) lt (v.2 ∙ ap (λ q. q ++ v.1 ∷ []) (sym j.2))
+  ]
+
+pub all_nothing : (n k : ℕ) → get_or (replicate {A = Option ℕ} n Nothing) k Nothing ≡ Nothing
+all_nothing zero k = refl
+all_nothing (suc n) zero = refl
+all_nothing (suc n) (suc k) = all_nothing n k

@@ -1,0 +1,47 @@
+-- The numbers of an instance are those of its places.
+use Rattle.std.proofs.Common.{◌≡◌, ℕ, ◌+◌, ◌<◌, List, [], ◌∷◌, ◌++◌, length, get_or, sym, ◌∙◌, ap, subst, arith}
+use Rattle.std.proofs.lemmas.List.{append_assoc}
+use Rattle.rv_tree.specs.Tree.{NodeTree, ProgramTree}
+use Rattle.rv_tree.specs.Places.{Identifier, flows}
+use Rattle.rv_types.specs.Instances.{Instance, callee, node_of, IsInstance, is_callee}
+use Rattle.rv_instances.specs.declared.answer.Instance.{Instance as Numbered}
+use Rattle.rv_instances.specs.declared.layout.Laid.{Laid}
+use Rattle.rv_instances.specs.declared.layout.Layout.{Layout}
+use Rattle.rv_instances.specs.AllInstances.{numbered}
+use Rattle.rv_instances.specs.Expanded.{IsExpanded, no_instance}
+use Rattle.rv_instances.specs.Flowing.{flow_count}
+use Rattle.rv_instances.specs.Layouts.{flows_before, laid_at, IsPlaced, IsHere, IsLayout, callee_or_main, here_of, all_places}
+use Rattle.rv_instances.proofs.BaseClocks.{count_is, callee_number}
+use Rattle.rv_instances.proofs.ExpandedLaws.{node_is, path_is}
+use Rattle.rv_instances.proofs.LaidFlows.{laid_is, flow_placed}
+
+module _ (p : ProgramTree) (main : Identifier) (instances : List Numbered) (known : IsExpanded p main instances) (l : Layout) (laid_out : IsLayout p main instances l) where
+  pub laid_there : (m : ℕ) → m < length instances → get_or l.laid m (record { first = 0; output = 0 }) ≡ laid_at p instances m
+  laid_there m lt = ap (λ (ls : List Laid). get_or ls m (record { first = 0; output = 0 })) laid_out.laid ∙ laid_is p instances (length instances) m (record { first = 0; output = 0 }) lt
+
+  -- a flow of the instance with a number
+  placed : (m : ℕ) (i : Instance) (s : ℕ) → m < length instances → IsInstance p main i → get_or instances m no_instance ≡ numbered p i → s < length (flows i.node)
+      → IsPlaced (all_places p instances) ((get_or l.laid m (record { first = 0; output = 0 })).first + s) (i.path ++ s ∷ [])
+  placed m i s lt is e less =
+      let many = count_is p main instances known m i is e in
+      let at = flow_placed p instances m s lt (omega (arith, less, many)) in
+      let first = ap (λ (x : Laid). x.first) (laid_there m lt) in
+      subst (λ k. IsPlaced (all_places p instances) (k + s) (i.path ++ s ∷ [])) (sym first)
+      (at.0, at.1 ∙ ap (λ q. q ++ s ∷ []) (path_is p main instances known m i e))
+
+  pub is_here : (m : ℕ) (i : Instance) → m < length instances → IsInstance p main i → get_or instances m no_instance ≡ numbered p i → IsHere p (all_places p instances) i (here_of l m)
+  is_here m i lt is e = record {
+    flow = λ s less. placed m i s lt is e less;
+    base = laid_out.base m lt i is e;
+    callee = λ c j w less.
+        let to = callee_number p main instances known l.callees laid_out.callees m i c lt is e w in
+        let at = placed (callee_or_main l.callees m c.site) (callee p i c) j to.0 (is_callee c is w) to.1 less in
+        (at.0, at.1 ∙ append_assoc i.path (c.site ∷ []) (j ∷ []));
+    output = λ c w.
+        let to = callee_number p main instances known l.callees laid_out.callees m i c lt is e w in
+        let k = callee_or_main l.callees m c.site in
+        let there = laid_there k to.0 in
+        ap (λ (x : Laid). x.output) there
+        ∙ ap (λ (n : NodeTree). flows_before (flow_count p instances) k + length n.inputs) (node_is p main instances known k (callee p i c) (is_callee c is w) to.1)
+        ∙ ap (λ j. j + length (node_of p c.name).inputs) (sym (ap (λ (x : Laid). x.first) there));
+  }

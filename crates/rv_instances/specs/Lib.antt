@@ -1,0 +1,13 @@
+pub mod Weights
+pub mod Flowing
+pub mod Bits
+pub mod Callees
+pub mod Expanded
+pub mod Layouts
+pub mod Givers
+pub mod Giving
+pub mod NumberedNeeds
+pub mod Fitting
+pub mod AllInstances
+pub mod ArrowClocks
+pub mod Counts

@@ -1,0 +1,5 @@
+pub mod Shown
+pub mod Reading
+pub mod Keeping
+pub mod OneStep
+pub mod TickSteps

@@ -1,0 +1,13 @@
+use Rattle.std.proofs.Common.{map}
+use Rattle.std.specs.Option.{option_copied}
+use Rattle.rv_flat.specs.Earliest.{IsPicked}
+use Rattle.rv_flat.specs.Filling.{AreShown, is_broken}
+use Rattle.rv_flat.specs.FlatInstants.{found_at}
+use Rattle.rv_flat.specs.Steps.{IsLeastOf}
+use Rattle.rv_step.proofs.filling.broken_place.Given as goal
+
+abbrev pub invariant-loop-assertion : goal.invariant-loop-assertion
+invariant-loop-assertion l = record {
+  least : IsLeastOf (IsPicked (is_broken l.flat l.now l.input l.row) (map (λ e. e.at.sites) l.flat.assertions) l.assertion-index) (option_copied l.least);
+  shown : AreShown l.flat.memories (found_at l.now l.input) l.row l.shown;
+}

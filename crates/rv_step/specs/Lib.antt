@@ -1,0 +1,3 @@
+pub mod Surroundings
+pub mod Ranges
+pub mod Stepping

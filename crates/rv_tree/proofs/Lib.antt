@@ -1,0 +1,2 @@
+pub mod MemorySites
+pub mod Grouped

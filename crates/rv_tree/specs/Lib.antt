@@ -1,0 +1,9 @@
+pub mod Limits
+pub mod Tree
+pub mod Groups
+pub mod Places
+pub mod Sites
+pub mod SitedParts
+pub mod Delays
+pub mod Bounded
+pub mod SourceTrees
