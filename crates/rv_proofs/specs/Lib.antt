@@ -1,0 +1,16 @@
+pub mod Systems
+pub mod Counts
+pub mod Scopes
+pub mod Implied
+pub mod Ranges
+pub mod Accepted
+pub mod Left
+pub mod Runs
+pub mod Boxes
+pub mod Cases
+pub mod Reached
+pub mod RowClaims
+pub mod Cones
+pub mod Verdicts
+pub mod Samples
+pub mod Counters
