@@ -1,0 +1,73 @@
+-- A point agrees with a valuation of the system of valuations where it meets each row of the flat system there.
+use Rattle.std.proofs.Common.{◌≡◌, ◌↔◌, ◌+◌, ◌-◌, ℤ, List, length, sym, ◌∙◌, ap, subst, arith, Option, Some}
+use Rattle.std.specs.Prelude.{slice_index_or}
+use Rattle.std.proofs.lemmas.List.{get_or_default}
+use Rattle.rv_tree.specs.Places.{Sites}
+use Rattle.rv_types.specs.Lists.{Side, Variable, MainTick, Tick, Kept, Next, Input, Test}
+use Rattle.rv_rows.specs.declared.linear.Row.{Row}
+use Rattle.rv_rows.specs.Rows.{Holds}
+use Rattle.rv_rows.specs.Tight.{IsTightened}
+use Rattle.rv_rows.specs.Arithmetic.{test_row}
+use Rattle.rv_agreement.specs.Trees.{System}
+use Rattle.rv_agreement.specs.Valuations.{Valuation, Reading, width, Comparison, all_comparisons, tested, tested_form, Agrees}
+use Rattle.rv_agreement.specs.Agreement.{IsWell}
+use Rattle.rv_diagram.specs.Nodes.{Valuation as Numbered}
+use Rattle.rv_proofs.specs.Systems as systems
+use Rattle.rv_control.specs.Named.{by_names}
+use Rattle.rv_control.specs.Symbolic.{symbolic}
+use Rattle.rv_control.specs.Control.{row_among, row_of, control_over}
+use Rattle.rv_control.proofs.Listed.{IsListed}
+use Rattle.rv_control.proofs.Places.{row_told, row_there, tests_are, test_at}
+
+-- a variable with a row is a test
+pub test_of : (s : System) (w : Valuation) (row : List (Option Reading)) (x : Variable) (r : Row) → row_of s w row x ≡ Some r
+    → (p : Sites) × (side : Side) × (row_among s w row (all_comparisons s) p side ≡ Some r)
+test_of s w row MainTick r e = absurd (cc)
+test_of s w row (Tick p) r e = absurd (cc)
+test_of s w row (Kept p b) r e = absurd (cc)
+test_of s w row Next r e = absurd (cc)
+test_of s w row (Input j b) r e = absurd (cc)
+test_of s w row (Test p side) r e = (p, side, e)
+
+module _ (one : (r a b : Row) → IsTightened r a → IsTightened r b → a ≡ b) (s : System) (names : List Variable) (well : IsWell s) (listed : IsListed s names)
+    (v : Numbered) (x : List ℤ) where
+  abbrev w : Valuation
+  w = by_names names v
+
+  abbrev row : List (Option Reading)
+  row = symbolic s w
+
+  -- the row of a test of a comparison at its place, from two comparisons there
+  row_met : (c other : Comparison) (side : Side) (r found : Row) → other.at ≡ c.at → (other.left ≡ c.left) × (other.right ≡ c.right)
+      → IsTightened (test_row (w.test other.at side) (tested_form (width s) w.test (tested s w row other) side)) found
+      → IsTightened (test_row (w.test c.at side) (tested_form (width s) w.test (tested s w row c) side)) r → r ≡ found
+  row_met c other side r found place apart first second =
+      let same : tested_form (width s) w.test (tested s w row other) side ≡ tested_form (width s) w.test (tested s w row c) side =
+      λ i. tested_form (width s) w.test
+      (tested s w row (record { at = place i; clock = c.clock; operator = c.operator; left = apart.0 i; right = apart.1 i })) side in
+      one (test_row (w.test c.at side) (tested_form (width s) w.test (tested s w row c) side)) r found second
+      (subst (λ (z : Row). IsTightened z found) (λ i. test_row (w.test (place i) side) (same i)) first)
+
+  pub meets : systems.Agrees (control_over s names) v x → Agrees s w row x
+  meets agrees c side r there is =
+      let found = row_there s w row (all_comparisons s) c side there is.0 in
+      let place = listed.tests c side there is.0.side_is in
+      let at : slice_index_or listed.order place.0 Next ≡ Test c.at side =
+      get_or_default listed.order place.0 Next (Test c.at side) place.1 ∙ place.2 in
+      let told = row_told s w row (all_comparisons s) c.at side found.0 found.1 in
+      let holds = agrees.rows place.0 found.0 (omega (arith, tests_are s names listed, place.1))
+      (ap (row_of s w row) (test_at s names listed place.0 place.1 ∙ at) ∙ found.1) in
+      subst (λ (z : Row). Holds z x)
+      (sym (row_met c told.comparison side r found.0 told.place (well.apart told.comparison c told.there there told.place) told.is.1 is.1)) holds
+
+  agrees_there : length x ≡ width s → Agrees s w row x → systems.Agrees (control_over s names) v x
+  agrees_there size agrees = record {
+    size = size;
+    rows = λ j r lt e.
+        let at = test_of s w row (slice_index_or names (length names - (control_over s names).tests + j) Next) r e in
+        let h = row_told s w row (all_comparisons s) at.0 at.1 r at.2 in
+        agrees h.comparison at.1 r h.there h.is;
+  }
+
+  pub point_agrees : systems.Agrees (control_over s names) v x ↔ ((length x ≡ width s) × Agrees s w row x)
+  point_agrees = (λ is. (is.size, meets is), λ both. agrees_there both.0 both.1)

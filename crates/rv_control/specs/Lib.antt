@@ -1,0 +1,5 @@
+pub mod Tightening
+pub mod Named
+pub mod Symbolic
+pub mod Control
+pub mod Meets
