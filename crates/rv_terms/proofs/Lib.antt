@@ -1,0 +1,9 @@
+pub mod Growths
+pub mod Adding
+pub mod Combining
+pub mod Sums
+pub mod Finding
+pub mod Multiples
+pub mod Counting
+pub mod Classes
+pub mod Summing
