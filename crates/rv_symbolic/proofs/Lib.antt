@@ -1,0 +1,4 @@
+pub mod Extending
+pub mod Reading
+pub mod Projecting
+pub mod Parting

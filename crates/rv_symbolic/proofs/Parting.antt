@@ -1,0 +1,198 @@
+-- Cases that part a set of valuations.
+use Rattle.std.proofs.Common.{ℕ, ◌<◌, ◌≡◌, ◌⊎◌, Bool, true, false, not, ◌&&◌, ◌||◌, List, [], ◌∷◌, ◌++◌, length, refl, sym, ap, ◌∙◌, subst, ⊎_elim}
+use Rattle.std.proofs.Common.{inl, inr, arith, length-append, slice_get, Some, get_or}
+use Rattle.std.proofs.lemmas.Bool.{cases_lt, or_cases, and_from, and_parts, not-true}
+use Rattle.std.proofs.lemmas.List.{get_or_append_left}
+use Rattle.std.proofs.lemmas.Option.{slice_get_within, get_or_from_slice_get, slice_get_read}
+use Rattle.std.proofs.Math.Seq.{get_or-append_seam}
+use Rattle.rv_diagram.specs.Nodes.{Valuation, Diagrams, value_of, IsOrderedOver}
+use Rattle.rv_diagram.specs.declared.frozen.Frozen.{Frozen}
+use Rattle.rv_proofs.specs.Systems.{System, IsSameValuation, updates_among}
+use Rattle.rv_proofs.specs.Scopes.{IsIn}
+use Rattle.rv_proofs.specs.Ranges.{IsControlSet}
+use Rattle.rv_proofs.specs.Reached.{HasNoIntegers}
+use Rattle.rv_proofs.specs.Cases.{IsCaseOf, AreCases}
+use Rattle.rv_proofs.specs.declared.report.Case.{Case}
+use Rattle.rv_symbolic.specs.declared.symbolic.Symbolic.{Symbolic}
+use Rattle.rv_symbolic.specs.Represented.{IsSymbolicOf}
+use Rattle.rv_symbolic.specs.Parted.{IsCaseFor, IsAdded, HasSides}
+use Rattle.rv_symbolic.proofs.Extending.{needed_same}
+use Rattle.rv_symbolic.proofs.Reading.{control-value, condition_set, valuation_state}
+
+pub or_left : (x y : Bool) → x ≡ true → (x || y) ≡ true
+or_left x y h = ap (λ b. b || y) h
+
+pub or_right : (x y : Bool) → y ≡ true → (x || y) ≡ true
+or_right true y h = refl
+or_right false y h = h
+
+-- what a longer list holds
+pub got-append : {A : Type 0} (before : List A) (c x : A) (j : ℕ) → slice_get (before ++ c ∷ []) j ≡ Some x → ((j < length before)
+    × (slice_get before j ≡ Some x)) ⊎ ((j ≡ length before) × (c ≡ x))
+got-append before c x j h =
+    let low : j < length (before ++ c ∷ []) = slice_get_within (before ++ c ∷ []) j x h in
+    let is : get_or (before ++ c ∷ []) j x ≡ x = get_or_from_slice_get (before ++ c ∷ []) j x x h in
+    ⊎_elim
+    (λ lt. inl (lt, slice_get_read before (length before) j x refl lt (sym is ∙ get_or_append_left before (c ∷ []) x j lt)))
+    (λ ge. let e : j ≡ length before = omega (arith, length-append before (c ∷ [])) in
+    inr (e, sym (get_or-append_seam before c [] x) ∙ ap (λ (n : ℕ). get_or (before ++ c ∷ []) n x) (sym e) ∙ is))
+    (cases_lt j (length before))
+
+pub kept-append : {A : Type 0} (before : List A) (c x : A) (j : ℕ) → slice_get before j ≡ Some x → slice_get (before ++ c ∷ []) j ≡ Some x
+kept-append before c x j h =
+    let low : j < length before = slice_get_within before j x h in
+    let longer : j < length (before ++ c ∷ []) = omega (arith, length-append before (c ∷ [])) in
+    slice_get_read (before ++ c ∷ []) (length (before ++ c ∷ [])) j x refl longer (sym (get_or_from_slice_get before j x x h)
+    ∙ sym (get_or_append_left before (c ∷ []) x j low))
+
+pub new-append : {A : Type 0} (before : List A) (c : A) → slice_get (before ++ c ∷ []) (length before) ≡ Some c
+new-append before c =
+    let longer : length before < length (before ++ c ∷ []) = omega (arith, length-append before (c ∷ [])) in
+    slice_get_read (before ++ c ∷ []) (length (before ++ c ∷ [])) (length before) c refl longer (sym (get_or-append_seam before c [] c))
+
+pub none-at : {A : Type 0} (xs : List A) (i : ℕ) (x : A) → xs ≡ [] → slice_get xs i ≡ Some x → ⊥
+none-at xs i x e h =
+    let low : i < length xs = slice_get_within xs i x h in
+    let size : length xs ≡ 0 = ap (λ l. length l) e in
+    absurd (omega arith)
+
+-- each valuation of a part of the allowed ones is in exactly one condition, and no other is in any
+pub record IsParted (s : System) (part : Valuation → Bool) (cases : List Case) : Type 0 where
+  pub each : (j : ℕ) (c : Case) → slice_get cases j ≡ Some c → IsCaseOf s c
+  pub covered : (v : Valuation) → part v ≡ true → (j : ℕ) × (c : Case) × (slice_get cases j ≡ Some c) × IsIn c.condition v
+  pub apart : (i j : ℕ) (b c : Case) (v : Valuation) → slice_get cases i ≡ Some b → slice_get cases j ≡ Some c → IsIn b.condition v
+      → IsIn c.condition v → i ≡ j
+  pub within : (j : ℕ) (c : Case) (v : Valuation) → slice_get cases j ≡ Some c → IsIn c.condition v → part v ≡ true
+
+-- what is asked of a new part
+pub record IsPart (s : System) (p q : Valuation → Bool) (observer : Bool) : Type 0 where
+  pub allowed : (v : Valuation) → q v ≡ true → s.allowed v ≡ true
+  pub observed : (v : Valuation) → q v ≡ true → s.observer v ≡ observer
+  pub same : (v w : Valuation) → IsSameValuation s v w → q v ≡ q w
+  pub apart : (v : Valuation) → p v ≡ true → q v ≡ true → ⊥
+
+parted_none : (s : System) → IsParted s (λ v. false) []
+parted_none s = record {
+  each = λ j c h. absurd (none-at [] j c refl h);
+  covered = λ v h. cc;
+  apart = λ i j b c v h g one two. absurd (none-at [] i b refl h);
+  within = λ j c v h on. absurd (none-at [] j c refl h);
+}
+
+parted_same : (s : System) (p q : Valuation → Bool) (cases : List Case) → ((v : Valuation) → p v ≡ q v) → IsParted s p cases → IsParted s q cases
+parted_same s p q cases same g = record {
+  each = g.each;
+  covered = λ v h. g.covered v (same v ∙ h);
+  apart = g.apart;
+  within = λ j c v h on. sym (same v) ∙ g.within j c v h on;
+}
+
+-- a case without integers
+whole_case : (s : System) (d : Diagrams) (p q : Valuation → Bool) (condition : ℕ) (observer : Bool) (c : Case) → HasNoIntegers s → d.variables ≡ s.variables
+    → ((v : Valuation) → value_of d.nodes condition v ≡ q v) → IsPart s p q observer → IsCaseFor d condition observer c → IsCaseOf s c
+whole_case s d p q condition observer c none variables means part is = record {
+  given = record {
+    condition = condition_set s c.condition q (subst (λ (m : ℕ). IsOrderedOver m c.condition) variables is.ordered) (needed_same c.condition.nodes
+        (value_of d.nodes condition) q means is.needed) part.same;
+    allowed = λ v on. part.allowed v (sym (means v) ∙ sym (is.means v) ∙ on);
+  };
+  some = (is.some.0, is.means is.some.0 ∙ is.some.1);
+  tests = record {
+    known = λ i t h. absurd (none-at c.tests i t is.tests h);
+    rising = λ i j t u less h g. absurd (none-at c.tests i t is.tests h);
+    counts = ap (λ l. length l) is.rows ∙ sym (ap (λ l. length l) is.tests);
+    present = λ i t r v h g on. absurd (none-at c.tests i t is.tests h);
+    absent = λ t v low off on. absurd (omega (arith, low, none.tests));
+  };
+  updates = λ v on. ap (updates_among s v) none.memories ∙ sym is.updates;
+  observer = λ v on. part.observed v (sym (means v) ∙ sym (is.means v) ∙ on) ∙ sym is.observed;
+}
+
+parted_more : (s : System) (d : Diagrams) (p q : Valuation → Bool) (condition : ℕ) (observer : Bool) (before : List Case) (c : Case)
+    → HasNoIntegers s → d.variables ≡ s.variables
+    → ((v : Valuation) → value_of d.nodes condition v ≡ q v) → IsPart s p q observer → IsCaseFor d condition observer c → IsParted s p before
+    → IsParted s (λ v. p v || q v) (before ++ c ∷ [])
+parted_more s d p q condition observer before c none variables means part is g =
+    let holds : (v : Valuation) → value_of c.condition.nodes c.condition.root v ≡ q v = λ v. is.means v ∙ means v in
+    let old : (j : ℕ) (x : Case) (v : Valuation) → slice_get before j ≡ Some x → c ≡ x → IsIn x.condition v → IsIn x.condition v = λ j x v h e on. on in
+    let cut : (j : ℕ) (x y : Case) (v : Valuation) → slice_get before j ≡ Some x → IsIn x.condition v → c ≡ y → IsIn y.condition v
+    → ⊥ = λ j x y v h on e other.
+    part.apart v (g.within j x v h on) (sym (holds v) ∙ subst (λ (z : Case). IsIn z.condition v) (sym e) other) in
+    record {
+      each = λ j x h. ⊎_elim (λ o. g.each j x o.1) (λ n. subst (IsCaseOf s) n.1 (whole_case s d p q condition observer c none variables means part
+          is)) (got-append before c x j h);
+      covered = λ v h. ⊎_elim
+          (λ o. let b : (j : ℕ) × (x : Case) × (slice_get before j ≡ Some x) × IsIn x.condition v = g.covered v o in
+          (b.0, b.1, kept-append before c b.1 b.0 b.2, b.3))
+          (λ n. (length before, c, new-append before c, holds v ∙ n))
+          (or_cases (p v) (q v) h);
+      apart = λ i j x y v h k one two. ⊎_elim
+          (λ a. ⊎_elim (λ b. g.apart i j x y v a.1 b.1 one two) (λ b. absurd (cut i x y v a.1 one b.1 two)) (got-append before c y j k))
+          (λ a. ⊎_elim (λ b. absurd (cut j y x v b.1 two a.1 one)) (λ b. a.0 ∙ sym b.0) (got-append before c y j k))
+          (got-append before c x i h);
+      within = λ j x v h on. ⊎_elim
+          (λ o. or_left (p v) (q v) (g.within j x v o.1 on))
+          (λ n. or_right (p v) (q v) (sym (holds v) ∙ subst (λ (z : Case). IsIn z.condition v) (sym n.1) on))
+          (got-append before c x j h);
+    }
+
+or-none : (b c : Bool) → c ≡ false → b ≡ (b || c)
+or-none true c e = refl
+or-none false c e = sym e
+
+parted_added : (s : System) (d : Diagrams) (p q : Valuation → Bool) (condition : ℕ) (observer : Bool) (before after : List Case) → HasNoIntegers s
+    → d.variables ≡ s.variables
+    → ((v : Valuation) → value_of d.nodes condition v ≡ q v) → IsPart s p q observer → IsAdded d condition observer before after
+    → IsParted s p before → IsParted s (λ v. p v || q v) after
+parted_added s d p q condition observer before after none variables means part (inl h) g =
+    subst (IsParted s (λ v. p v || q v)) (sym h.1) (parted_same s p (λ v. p v || q v) before (λ v. or-none (p v) (q v) (sym (means v) ∙ h.0 v)) g)
+parted_added s d p q condition observer before after none variables means part (inr (c, is, e)) g =
+    subst (IsParted s (λ v. p v || q v)) (sym e) (parted_more s d p q condition observer before c none variables means part is g)
+
+halves : (a o : Bool) → ((false || (a && o)) || (a && not o)) ≡ a
+halves true true = refl
+halves true false = refl
+halves false o = refl
+
+apart_halves : (a o : Bool) → (false || (a && o)) ≡ true → (a && not o) ≡ true → ⊥
+apart_halves true true h g = cc
+apart_halves true false h g = cc
+apart_halves false o h g = cc
+
+pub parted_both : (s : System) (d : Symbolic) (from : Frozen) (cases : List Case) → IsSymbolicOf s d → HasNoIntegers s → IsControlSet s from
+    → HasSides d.store d.parts from cases → AreCases s from cases
+parted_both s d from cases is none control sides =
+    let within : Valuation → Bool = λ v. s.allowed v && value_of from.nodes from.root v in
+    let q : Valuation → Bool = λ v. within v && s.observer v in
+    let r : Valuation → Bool = λ v. within v && not (s.observer v) in
+    let variables : sides.new.variables ≡ s.variables = sides.variables ∙ is.parts.variables in
+    let same : (v w : Valuation) → IsSameValuation s v w → within v ≡ within w =
+    λ v w like. ap (λ b. b && value_of from.nodes from.root v) (is.system.allowed v w like)
+    ∙ ap (λ b. s.allowed w && b) (control-value s from v w control (valuation_state s v w is.system.bits like)) in
+    let means_good : (v : Valuation) → value_of sides.new.nodes sides.good v ≡ q v =
+    λ v. sides.good_means v ∙ ap (λ b. (b && value_of from.nodes from.root v) && value_of d.store.nodes d.parts.observer v) (is.parts.allowed v)
+    ∙ ap (λ b. within v && b) (is.parts.observer v) in
+    let means_bad : (v : Valuation) → value_of sides.new.nodes sides.bad v ≡ r v =
+    λ v. sides.bad_means v ∙ ap (λ b. (b && value_of from.nodes from.root v) && not (value_of d.store.nodes d.parts.observer v))
+    (is.parts.allowed v) ∙ ap (λ b. within v && not b) (is.parts.observer v) in
+    let first : IsPart s (λ v. false) q true = record {
+      allowed = λ v h. (and_parts (s.allowed v) (value_of from.nodes from.root v) (and_parts (within v) (s.observer v) h).0).0;
+      observed = λ v h. (and_parts (within v) (s.observer v) h).1;
+      same = λ v w like. ap (λ b. b && s.observer v) (same v w like) ∙ ap (λ b. within w && b) (is.system.observer v w like);
+      apart = λ v no on. cc;
+    } in
+    let second : IsPart s (λ v. false || q v) r false = record {
+      allowed = λ v h. (and_parts (s.allowed v) (value_of from.nodes from.root v) (and_parts (within v) (not (s.observer v)) h).0).0;
+      observed = λ v h. not-true (s.observer v) (and_parts (within v) (not (s.observer v)) h).1;
+      same = λ v w like. ap (λ b. b && not (s.observer v)) (same v w like) ∙ ap (λ b. within w && not b) (is.system.observer v w like);
+      apart = λ v. apart_halves (within v) (s.observer v);
+    } in
+    let whole : IsParted s within cases = parted_same s (λ v. (false || q v) || r v) within cases (λ v. halves (within v) (s.observer v))
+    (parted_added s sides.new (λ v. false || q v) r sides.bad false sides.first cases none variables means_bad second sides.bad_added
+    (parted_added s sides.new (λ v. false) q sides.good true [] sides.first none variables means_good first sides.good_added (parted_none s))) in
+    record {
+      each = whole.each;
+      covered = λ v allowed inside. whole.covered v (and_from (s.allowed v) (value_of from.nodes from.root v) allowed inside);
+      apart = whole.apart;
+      within = λ j c v h on. (and_parts (s.allowed v) (value_of from.nodes from.root v) (whole.within j c v h on)).1;
+    }

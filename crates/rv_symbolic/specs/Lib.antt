@@ -1,0 +1,7 @@
+pub mod Growing
+pub mod Variables
+pub mod Linked
+pub mod Represented
+pub mod Lending
+pub mod Stepped
+pub mod Parted

@@ -1,0 +1,49 @@
+-- When references in a store mean what a system of valuations is.
+use Rattle.std.specs.Prelude.{◌≡◌, ℕ, ◌*◌, ◌<◌, ◌≤◌, ◌↔◌, true, length}
+use Rattle.rv_diagram.specs.Nodes.{Valuation, Diagrams, IsRef, value_of}
+use Rattle.rv_diagram.specs.Several.{ref_at}
+use Rattle.rv_proofs.specs.Systems.{System, IsSystem}
+use Rattle.rv_symbolic.specs.declared.symbolic.Parts.{Parts}
+use Rattle.rv_symbolic.specs.declared.symbolic.Symbolic.{Symbolic}
+use Rattle.rv_symbolic.specs.Variables.{AreAllBut}
+use Rattle.rv_symbolic.specs.Linked.{AreRefs, AreLinked}
+
+-- The references are those of the store, which has a variable for each state bit and for its next copy.
+pub record HaveRefs (d : Diagrams) (p : Parts) : Type 0 where
+  pub allowed : IsRef d.nodes p.allowed
+  pub observer : IsRef d.nodes p.observer
+  pub initial : IsRef d.nodes p.initial
+  pub next : AreRefs d.nodes p.next
+  pub copies : 2 * length p.next ≤ d.variables
+
+-- The references mean what the system is.
+pub record AreParts (s : System) (d : Diagrams) (p : Parts) : Type 0 where
+  pub variables : d.variables ≡ s.variables
+  pub states : length p.next ≡ s.states
+  pub allowed : (v : Valuation) → value_of d.nodes p.allowed v ≡ s.allowed v
+  pub observer : (v : Valuation) → value_of d.nodes p.observer v ≡ s.observer v
+  pub initial : (v : Valuation) → value_of d.nodes p.initial v ≡ s.initial v
+  pub next : (i : ℕ) → i < s.states → (v : Valuation) → value_of d.nodes (ref_at p.next i) v ≡ s.next v (2 * i)
+
+-- The store of a symbolic system.
+abbrev pub store_of : Symbolic → Diagrams
+store_of d = d.store
+
+-- The references that a symbolic system was made of.
+abbrev pub parts_of : Symbolic → Parts
+parts_of d = d.parts
+
+-- All references are those of the store, and the relation is that between a valuation and its next control state.
+pub record IsLaidOut (d : Symbolic) : Type 0 where
+  pub refs : HaveRefs d.store d.parts
+  pub few : d.store.variables ≤ 4096
+  pub relation : IsRef d.store.nodes d.relation
+  pub links : (v : Valuation) → (value_of d.store.nodes d.relation v ≡ true) ↔ AreLinked d.store.nodes d.parts.next v
+  pub all_but_copies : AreAllBut d.store.variables (length d.parts.next) 1 d.all_but_copies
+  pub all_but_bits : AreAllBut d.store.variables (length d.parts.next) 0 d.all_but_bits
+
+-- The references have in the store the meanings of the system.
+pub record IsSymbolicOf (s : System) (d : Symbolic) : Type 0 where
+  pub system : IsSystem s
+  pub laid_out : IsLaidOut d
+  pub parts : AreParts s d.store d.parts

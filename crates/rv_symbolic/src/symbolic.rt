@@ -1,0 +1,252 @@
+//! A system of valuations in a store.
+
+ghost use Rattle.std.specs.Prelude.{◌≡◌, ◌<◌, ◌≤◌, ◌^◌, IfOk, IsErrOf, length};
+ghost use Rattle.std.specs.Borrow.{sem};
+ghost use Rattle.rv_diagram.specs.Nodes.{IsOrderedOver, IsRef};
+ghost use Rattle.rv_proofs.specs.Systems.{System, IsSystem};
+ghost use Rattle.rv_proofs.specs.Ranges.{IsControlSet};
+ghost use Rattle.rv_proofs.specs.Reached.{HasNoIntegers};
+ghost use Rattle.rv_proofs.specs.Cases.{IsCase, AreCases, IsImage, IsPreimage, IsInitialSet};
+ghost use Rattle.rv_symbolic.specs.Growing.{Extends};
+ghost use Rattle.rv_symbolic.specs.Represented.{HaveRefs, AreParts, store_of, parts_of, IsLaidOut, IsSymbolicOf};
+ghost use Rattle.rv_symbolic.specs.Stepped.{IsProjected, IsAStep, IsJudged, AreNextStates};
+ghost use Rattle.rv_symbolic.specs.Parted.{HasSides};
+ghost use Rattle.rv_symbolic.specs.Lending.{LendsStore};
+
+use crate::given::all_but;
+use crate::steps::AllowedSet;
+use crate::{links, sides, steps};
+use rv_base::{Many, Memory};
+use rv_diagram::{Frozen, Ref, Store, StoreFault};
+use rv_proofs::Case;
+use std::alloc::Global;
+
+/// References of what a system is at a valuation.
+#[derive(Debug, Drop)]
+pub struct Parts {
+    /// Whether the valuation is allowed.
+    pub allowed: Ref,
+    /// Whether the observer is true.
+    pub observer: Ref,
+    /// Whether the control state is initial.
+    pub initial: Ref,
+    /// What each state bit becomes.
+    pub next: Many<Ref>,
+}
+
+/// One step from a set of control states.
+#[derive(Debug, Drop)]
+pub struct NextStates {
+    /// The next control states of its allowed valuations.
+    pub set: Frozen,
+    /// Whether the observer is true at each of these valuations.
+    pub good: bool,
+}
+
+/// What was found of one step: the next control states at the next copies, and whether all is good.
+#[derive(Debug, Drop)]
+struct Taken {
+    copies: Frozen,
+    good: bool,
+}
+
+/// A system of valuations in a store: the references of what it is at a valuation, and the relation between a valuation
+/// and its next control state. State bit i is variable 2 i, and its next copy is variable 2 i + 1. Each call leaves the
+/// store as it was, after a fault too.
+#[derive(Drop)]
+pub struct Symbolic {
+    store: Store,
+    parts: Parts,
+    relation: Ref,
+    all_but_copies: Many<bool>,
+    all_but_bits: Many<bool>,
+    alloc: Global,
+}
+
+/// The next control states of the allowed valuations of a set, at the next copies.
+fn take_step(
+    store: &mut Store,
+    parts: &Parts,
+    relation: Ref,
+    over: &[bool],
+    from: &Frozen,
+) -> Result<Taken, StoreFault>
+    requires parts { HaveRefs store.old parts.now }
+    requires relation { IsRef store.old.nodes relation }
+    requires from { IsOrderedOver store.old.variables from.now }
+    ensures extends { Extends store.old store.new }
+    ensures roomy { IsErrOf result StoreFault.Nodes → store.old.limit < 2 ^ (2 ^ store.old.variables) }
+    ensures copies { IfOk result (λ t. IsProjected store.old.variables over.now (IsAStep store.old parts.now relation from.now) t.copies) }
+    ensures good { IfOk result (λ t. IsJudged store.old parts.now from.now t.good) }
+{
+    let within = steps::allowed_within(store, parts.allowed, parts.observer, from)?;
+    let next = store.and_exists(within.all, relation, over)?;
+    let met = sides::is_met(store, within.bad)?;
+    let copies = store.freeze(next)?;
+    Ok(Taken { copies, good: !met })
+}
+
+/// The cases of a set, and what was built of them.
+fn take_cases(
+    alloc: Global,
+    store: &mut Store,
+    parts: &Parts,
+    from: &Frozen,
+) -> Result<Many<Case>, StoreFault>
+    requires parts { HaveRefs store.old parts.now }
+    requires from { IsOrderedOver store.old.variables from.now }
+    ensures extends { Extends store.old store.new }
+    ensures roomy { IsErrOf result StoreFault.Nodes → store.old.limit < 2 ^ (2 ^ store.old.variables) }
+    ensures parted { IfOk result (HasSides store.old parts.now from.now) }
+{
+    let within = steps::allowed_within(store, parts.allowed, parts.observer, from)?;
+    let good = store.and(within.all, parts.observer)?;
+    Ok(sides::both_cases(alloc, store, good, within.bad)?)
+}
+
+impl Symbolic {
+    /// A system whose parts are references in a store.
+    pub fn new(alloc: Global, store: Store, parts: Parts) -> Result<Symbolic, StoreFault>
+        requires { HaveRefs store parts }
+        ensures means { (s : System) → IsSystem s → AreParts s store parts → IfOk result (IsSymbolicOf s) }
+        ensures extends { IfOk result (λ d. Extends store (store_of d)) }
+        ensures parts { IfOk result (λ d. parts_of d ≡ parts) }
+        ensures roomy { IsErrOf result StoreFault.Nodes → store.limit < 2 ^ (2 ^ store.variables) }
+    {
+        let mut store = store;
+        let variables = store.variables();
+        let bits = parts.next.len() as u32;
+        let all_but_copies = all_but(alloc, variables, bits, 1)?;
+        let all_but_bits = all_but(alloc, variables, bits, 0)?;
+        let relation = links::relation(&mut store, parts.next.as_slice())?;
+        Ok(Symbolic {
+            store,
+            parts,
+            relation,
+            all_but_copies,
+            all_but_bits,
+            alloc,
+        })
+    }
+
+    /// Exactly the next control states of the case's valuations from a set.
+    pub fn image(&mut self, from: &Frozen, case: &Case) -> Result<Frozen, StoreFault>
+        requires { (s : System) × IsSymbolicOf s self.old × IsControlSet s from.now × IsCase s case.now }
+        ensures exact { (s : System) → IsSymbolicOf s self.old → IsControlSet s from.now → IsCase s case.now
+            → IfOk result (IsImage s from.now case.now) }
+        ensures same { self.new ≡ self.old }
+        ensures roomy { IsErrOf result StoreFault.Nodes → (store_of self.old).limit < 2 ^ (2 ^ (store_of self.old).variables) }
+    {
+        let mark = self.store.mark();
+        let over = self.all_but_copies.as_slice();
+        let answer = steps::projected(&mut self.store, from, &case.condition, self.relation, over);
+        self.store.release(mark);
+        let copies = answer?;
+        Ok(copies.lowered())
+    }
+
+    /// Exactly the control states of the case with a valuation that leads into a set.
+    pub fn preimage(&mut self, to: &Frozen, case: &Case) -> Result<Frozen, StoreFault>
+        requires { (s : System) × IsSymbolicOf s self.old × IsControlSet s to.now × IsCase s case.now }
+        ensures exact { (s : System) → IsSymbolicOf s self.old → IsControlSet s to.now → IsCase s case.now
+            → IfOk result (IsPreimage s to.now case.now) }
+        ensures same { self.new ≡ self.old }
+        ensures roomy { IsErrOf result StoreFault.Nodes → (store_of self.old).limit < 2 ^ (2 ^ (store_of self.old).variables) }
+    {
+        let bits = steps::copied(&mut self.store, to)?;
+        let copies = bits.raised();
+        let mark = self.store.mark();
+        let over = self.all_but_bits.as_slice();
+        let answer = steps::projected(
+            &mut self.store,
+            &copies,
+            &case.condition,
+            self.relation,
+            over,
+        );
+        self.store.release(mark);
+        answer
+    }
+
+    /// One step from all allowed valuations of a set, in one product.
+    pub fn next_states(&mut self, from: &Frozen) -> Result<NextStates, StoreFault>
+        requires { (s : System) × IsSymbolicOf s self.old × IsControlSet s from.now }
+        ensures exact { (s : System) → IsSymbolicOf s self.old → IsControlSet s from.now → IfOk result (AreNextStates s from.now) }
+        ensures same { self.new ≡ self.old }
+        ensures roomy { IsErrOf result StoreFault.Nodes → (store_of self.old).limit < 2 ^ (2 ^ (store_of self.old).variables) }
+    {
+        let mark = self.store.mark();
+        let over = self.all_but_copies.as_slice();
+        let answer = take_step(&mut self.store, &self.parts, self.relation, over, from);
+        self.store.release(mark);
+        let taken = answer?;
+        let Taken { copies, good } = taken;
+        Ok(NextStates {
+            set: copies.lowered(),
+            good,
+        })
+    }
+
+    /// Exactly the initial control states.
+    pub fn initial(&mut self) -> Result<Frozen, StoreFault>
+        requires { (s : System) × IsSymbolicOf s self.old }
+        ensures exact { (s : System) → IsSymbolicOf s self.old → IfOk result (IsInitialSet s) }
+        ensures same { self.new ≡ self.old }
+        ensures roomy { IsErrOf result StoreFault.Nodes → (store_of self.old).limit < 2 ^ (2 ^ (store_of self.old).variables) }
+    {
+        Ok(self.store.freeze(self.parts.initial)?)
+    }
+
+    /// The cases of a set of control states of a system without integers: the allowed valuations at which the observer is
+    /// true, and the others, where there are some.
+    pub fn cases(&mut self, from: &Frozen) -> Result<Many<Case>, StoreFault>
+        requires { (s : System) × IsSymbolicOf s self.old × HasNoIntegers s × IsControlSet s from.now }
+        ensures parted { (s : System) → IsSymbolicOf s self.old → HasNoIntegers s → IsControlSet s from.now
+            → IfOk result (AreCases s from.now) }
+        ensures few { IfOk result (λ cases. length cases ≤ 2) }
+        ensures same { self.new ≡ self.old }
+        ensures roomy { IsErrOf result StoreFault.Nodes → (store_of self.old).limit < 2 ^ (2 ^ (store_of self.old).variables) }
+    {
+        let mark = self.store.mark();
+        let answer = take_cases(self.alloc, &mut self.store, &self.parts, from);
+        self.store.release(mark);
+        answer
+    }
+
+    /// How many state bits there are.
+    pub fn state_bits(&self) -> u32
+        requires { (s : System) × IsSymbolicOf s self.now }
+        ensures { result ≡ length (parts_of self.now).next }
+    {
+        self.parts.next.len() as u32
+    }
+
+    /// How many nodes the store has.
+    pub fn held(&self) -> u32
+        ensures { result ≡ length (store_of self.now).nodes }
+    {
+        self.store.mark()
+    }
+
+    /// How many nodes the store may have.
+    pub fn limit(&self) -> u32
+        ensures { result ≡ (store_of self.now).limit }
+    {
+        self.store.limit()
+    }
+
+    /// The references that it was made of.
+    pub fn parts(&self) -> &Parts
+        ensures { result.now ≡ parts_of self.now }
+    {
+        &self.parts
+    }
+
+    /// The store. Whoever takes it gives it back with the list, the limit and the number of variables that it had.
+    pub fn store(&mut self) -> &mut Store
+        ensures* lends { sem 𝓛 (LendsStore self.entry result) }
+        ensures is { result.now ≡ store_of self.old }
+    {
+        &mut self.store
+    }
+}

@@ -1,0 +1,55 @@
+-- Two sets in a store: what is new in the second, and both together.
+use Rattle.std.proofs.Common.{ℕ, ◌≡◌, false, not, ◌&&◌, ◌||◌, sym, ap, ◌∙◌, subst, arith, Option, Some, None}
+use Rattle.std.specs.Prelude.{MatchOption}
+use Rattle.rv_diagram.specs.Nodes.{Valuation, Diagrams, Answers, IsRef, IsOrderedOver, value_of}
+use Rattle.rv_diagram.specs.declared.frozen.Frozen.{Frozen}
+use Rattle.rv_symbolic.specs.Growing.{Extends, Makes}
+use Rattle.rv_symbolic.proofs.Extending.{extends_trans, grows_extends, needed_same}
+use Rattle.rv_walk.specs.declared.sets.Extended.{Extended}
+use Rattle.rv_walk.specs.Ends.{has}
+use Rattle.rv_walk.specs.Extended.{fresh_of, either_of, IsTaken, IsExtended}
+
+module _ (s0 s1 s2 s3 s4 : Diagrams) (reached next : Frozen) (before step fresh all : ℕ)
+    (a : Answers s0 s1 (value_of reached.nodes reached.root) before) (b : Answers s1 s2 (value_of next.nodes next.root) step)
+    (c : Makes s2 s3 (λ v. value_of s2.nodes step v && not (value_of s2.nodes before v)) fresh)
+    (d : Answers s3 s4 (λ v. value_of s3.nodes step v || value_of s3.nodes before v) all) where
+  pub join_extends : Extends s0 s4
+  join_extends = extends_trans s0 s3 s4 (extends_trans s0 s2 s3 (extends_trans s0 s1 s2 (grows_extends s0 s1 a.grows)
+      (grows_extends s1 s2 b.grows)) c.extends) (grows_extends s3 s4 d.grows)
+
+  at_before : (v : Valuation) → value_of s2.nodes before v ≡ has reached v
+  at_before v = b.grows.kept before a.found v ∙ a.means v
+
+  found_before : IsRef s2.nodes before
+  found_before = omega (arith, a.found, b.grows.longer)
+
+  pub join_fresh : Makes s0 s4 (fresh_of reached next) fresh
+  join_fresh = record {
+    extends = join_extends;
+    found = omega (arith, c.found, d.grows.longer);
+    means = λ v. d.grows.kept fresh c.found v ∙ c.means v ∙ ap (λ x. x && not (value_of s2.nodes before v)) (b.means v)
+        ∙ ap (λ x. has next v && not x) (at_before v);
+  }
+
+  pub join_all : Makes s0 s4 (either_of reached next) all
+  join_all = record {
+    extends = join_extends;
+    found = d.found;
+    means = λ v. d.means v ∙ ap (λ x. x || value_of s3.nodes before v) (c.extends.kept step b.found v ∙ b.means v)
+        ∙ ap (λ x. has next v || x) (c.extends.kept before found_before v ∙ at_before v);
+  }
+
+pub extended_of : (s0 s1 : Diagrams) (reached next : Frozen) (fresh all : ℕ) (found : Option Extended) → Makes s0 s1 (fresh_of reached next) fresh
+    → Makes s0 s1 (either_of reached next) all
+    → MatchOption found ((v : Valuation) → value_of s1.nodes fresh v ≡ false) (IsTaken s1 fresh all)
+    → MatchOption found ((v : Valuation) → fresh_of reached next v ≡ false) (IsExtended s0.variables reached next)
+extended_of s0 s1 reached next fresh all None one two none = λ v. sym (one.means v) ∙ none v
+extended_of s0 s1 reached next fresh all (Some e) one two t = record {
+  fresh_ordered = subst (λ (m : ℕ). IsOrderedOver m e.fresh) one.extends.variables t.fresh_ordered;
+  fresh_is = λ v. t.fresh_is v ∙ one.means v;
+  fresh_needed = needed_same e.fresh.nodes (value_of s1.nodes fresh) (fresh_of reached next) one.means t.fresh_needed;
+  some = λ none. t.some (λ v. sym (t.fresh_is v) ∙ none v);
+  all_ordered = subst (λ (m : ℕ). IsOrderedOver m e.all) one.extends.variables t.all_ordered;
+  all_is = λ v. t.all_is v ∙ two.means v;
+  all_needed = needed_same e.all.nodes (value_of s1.nodes all) (either_of reached next) two.means t.all_needed;
+}

@@ -1,0 +1,5 @@
+pub mod Counting
+pub mod Stages
+pub mod Certifying
+pub mod Ending
+pub mod Joining

@@ -1,0 +1,21 @@
+use Rattle.std.proofs.Common.{Bool, true, sym, subst}
+use Rattle.rv_proofs.specs.Cases.{AreCases}
+use Rattle.rv_symbolic.specs.Represented.{IsSymbolicOf}
+use Rattle.rv_walk.specs.Ends.{IsGoodCertificate}
+use Rattle.rv_walk.specs.Walks.{IsDone}
+use Rattle.rv_walk.proofs.Ending.{done_bad, done_good}
+use Rattle.rv_walk.proofs.walking.end_of.Goals as goal
+
+pub returns-then-not-good-clause-ends : goal.returns-then-not-good-clause-ends
+returns-then-not-good-clause-ends c s is without =
+    done_bad s c.in_ok-walk.walk.sets c.in_ok-walk.walk.reached c.in_ok-walk.walk.good
+    (λ claim v. c.control_claims.ensures.all_open s claim v without) (c.in_ok-walk.ensures.ok s is) c.if-not-good.true
+
+pub returns-clause-ends : goal.returns-clause-ends
+returns-clause-ends c s is without =
+    let d : IsDone s c.in_ok-walk.walk.sets c.in_ok-walk.walk.reached true =
+    subst (λ (b : Bool). IsDone s c.in_ok-walk.walk.sets c.in_ok-walk.walk.reached b) c.if-not-good.false (c.in_ok-walk.ensures.ok s is) in
+    let still : IsSymbolicOf s c.explore.new.symbolic = subst (IsSymbolicOf s) (sym c.explore.ensures.same) is in
+    let a : AreCases s c.in_ok-walk.walk.reached c.in_ok-cases.cases = c.in_ok-cases.ensures.parted s still without d.control in
+    subst (IsGoodCertificate s) (sym c.in_ok-certify.ensures)
+    (done_good s c.in_ok-walk.walk.sets c.in_ok-walk.walk.reached c.in_ok-cases.cases d a c.in_ok-cases.ensures.few)

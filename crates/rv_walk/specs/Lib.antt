@@ -1,0 +1,4 @@
+pub mod Ends
+pub mod Walks
+pub mod Extended
+pub mod Falsified
