@@ -26,8 +26,18 @@ struct Store {
   uint32_t limit, variables, round = 0;
 
   Store(uint32_t variables, uint32_t limit)
-      : heads(std::max(limit, 1u), 0), known(1024), fixes(1024), limit(limit), variables(variables) {}
+      : heads(std::min(std::max(limit, 1u), 1024u), 0), known(1024), fixes(1024), limit(limit), variables(variables) {}
 
+  void grow_heads() {
+    if (heads.size() > slots.size()) return;
+    heads.assign(heads.size() * 2, 0);
+    for (size_t at = 0; at < slots.size(); at++) {
+      Slot &slot = slots[at];
+      size_t b = mix(slot.node.lo, slot.node.hi, slot.node.var, heads.size());
+      slot.next = heads[b];
+      heads[b] = uint32_t(at + 1);
+    }
+  }
   uint32_t node(uint32_t var, uint32_t lo, uint32_t hi) {
     if (lo == hi) return lo;
     size_t b = mix(lo, hi, var, heads.size());
@@ -36,6 +46,8 @@ struct Store {
       if (n.var == var && n.lo == lo && n.hi == hi) return at + 1;
     }
     if (slots.size() >= limit) throw Full{};
+    grow_heads();
+    b = mix(lo, hi, var, heads.size());
     slots.push_back({{var, lo, hi}, heads[b]});
     heads[b] = uint32_t(slots.size());
     return uint32_t(slots.size()) + 1;

@@ -1,0 +1,83 @@
+#!/usr/bin/env python3
+"""Prints a Lustre program to time the search through its control states by: `sources.py FAMILY N`.
+
+Each program has a node `main` and no integers. FAMILY is one of
+
+    links       N latches in a row, each a step after the one before; the observer is true
+    links-bad   the same, whose observer is false once an input has come through all of them
+    counter     a counter of N bits that starts again before all of them are true; the observer is true
+    counter-bad the same without that, so that it is false after 2^N - 1 steps
+    ring        N stations that hand a token on; no two of them have it
+    modes       N latches, each with an input of its own, that are kept in one mode alone
+    shared      the same with one input for all of them
+"""
+import sys
+
+
+def program(inputs, local, equations):
+    """The text of a node of Booleans, one line for each equation."""
+    body = "".join(f"  {line};\n" for line in equations)
+    return f"node main({', '.join(inputs)}: bool) returns (ok: bool);\nvar {', '.join(local)}: bool;\nlet\n{body}tel\n"
+
+
+def names(letter, count, first=0):
+    """Numbered names."""
+    return [f"{letter}{i}" for i in range(first, first + count)]
+
+
+def links(n, strict=False):
+    """A row of n links, and whether something was seen before it comes out at the end."""
+    head = "node link(a: bool) returns (b: bool);\nlet\n  b = false -> pre a;\ntel\n"
+    row = [f"b{i} = link({'a' if i == 1 else f'b{i - 1}'})" for i in range(1, n + 1)]
+    ok = f"ok = not b{n}" if strict else f"ok = not b{n} or seen"
+    return head + program(["a"], ["seen"] + names("b", n, 1), ["seen = a or (false -> pre seen)"] + row + [ok])
+
+
+def counter(n, wraps=True):
+    """A counter of n bits, bit 0 the least, that steps where its input is true."""
+    held = [f"p{i} = false -> pre b{i}" for i in range(n)]
+    carry = ["c0 = step"] + [f"c{i} = c{i - 1} and p{i - 1}" for i in range(1, n)]
+    last = " and ".join(["step", "not p0"] + names("p", n - 1, 1)) if wraps else "false"
+    after = [f"b{i} = (p{i} xor c{i}) and not wrap" for i in range(n)]
+    ok = f"ok = not ({' and '.join(names('b', n))})"
+    local = names("p", n) + names("c", n) + ["wrap"] + names("b", n)
+    return program(["step"], local, held + carry + [f"wrap = {last}"] + after + [ok])
+
+
+def ring(n):
+    """A token that goes round n stations where its input is true."""
+    held = [f"p{i} = false -> pre t{i}" for i in range(n)]
+    first = [f"t0 = true -> if pass then p{n - 1} else p0"]
+    rest = [f"t{i} = if pass then p{i - 1} else p{i}" for i in range(1, n)]
+    return program(["pass"], names("p", n) + names("t", n), held + first + rest + [f"ok = #({', '.join(names('t', n))})"])
+
+
+def modes(n, shared=False):
+    """n latches that are true only where the mode was on."""
+    sets = ["set"] * n if shared else names("s", n)
+    held = ["m = false -> pre mode"] + [f"p{i} = false -> pre l{i}" for i in range(n)]
+    after = [f"l{i} = mode and ({sets[i]} or p{i})" for i in range(n)]
+    ok = f"ok = m or not ({' or '.join(names('p', n))})"
+    inputs = ["toggle"] + (["set"] if shared else sets)
+    return program(inputs, ["m", "mode"] + names("p", n) + names("l", n), held + ["mode = m xor toggle"] + after + [ok])
+
+
+FAMILIES = {
+    "links": links,
+    "links-bad": lambda n: links(n, strict=True),
+    "counter": counter,
+    "counter-bad": lambda n: counter(n, wraps=False),
+    "ring": ring,
+    "modes": modes,
+    "shared": lambda n: modes(n, shared=True),
+}
+
+
+def main():
+    if len(sys.argv) != 3 or sys.argv[1] not in FAMILIES or not sys.argv[2].isdigit() or int(sys.argv[2]) < 2:
+        sys.exit(__doc__)
+    sys.stdout.write(FAMILIES[sys.argv[1]](int(sys.argv[2])))
+
+
+if __name__ == "__main__":
+    main()
