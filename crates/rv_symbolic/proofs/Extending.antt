@@ -1,15 +1,20 @@
 -- Calls of a store in turn.
-use Rattle.std.proofs.Common.{ℕ, ◌+◌, ◌*◌, ◌<◌, ◌≤◌, ◌≡◌, ◌↔◌, Bool, true, false, not, ◌&&◌, cond, List, [], ◌++◌, length, refl, sym, ap, ◌∙◌, subst}
+use Rattle.std.proofs.Common.{ℕ, ◌+◌, ◌*◌, ◌<◌, ◌≤◌, ◌≡◌, ◌↔◌, Bool, true, false, not, ◌&&◌, cond, List, [], ◌∷◌}
+use Rattle.std.proofs.Common.{◌++◌, length, length-append, refl, sym, ap, ◌∙◌, subst}
 use Rattle.std.proofs.Common.{⊎_elim, arith, Result, Ok, Err, IfOk, OnErr}
-use Rattle.std.proofs.lemmas.Bool.{and_from, and_parts, cases_lt}
-use Rattle.std.proofs.lemmas.List.{append-nil, append_assoc}
-use Rattle.rv_diagram.specs.Nodes.{Valuation, Diagrams, Grows, Answers, IsRef, value_of, valuation_of, choice, put}
-use Rattle.rv_diagram.specs.Several.{Gives, Together, UsesNeeded, ref_at}
+use Rattle.std.proofs.lemmas.Bool.{and_from, and_parts, cases_lt, both_ways}
+use Rattle.std.proofs.lemmas.List.{append-nil, append_assoc, get_or_append_left}
+use Rattle.std.proofs.Math.Seq.{get_or-append_seam}
+use Rattle.rv_diagram.specs.Nodes.{Valuation, Diagrams, Grows, Answers, IsRef, value_of, choice, put}
+use Rattle.rv_diagram.specs.Several.{Gives, Stepped, SameBut, Ignores, UsesNeeded, ArePartRefs, IsSchedule, ref_at, part_at}
+use Rattle.rv_diagram.specs.declared.store.several.Part.{Part}
 use Rattle.rv_diagram.specs.declared.Triple.{Triple}
 use Rattle.rv_diagram.specs.declared.frozen.Frozen.{Frozen}
 use Rattle.rv_proofs.specs.Scopes.{IsIn}
 use Rattle.rv_symbolic.specs.Growing.{Extends, Makes, Finds}
-use Rattle.rv_symbolic.specs.Linked.{AreRefs, AreLinkedFrom, Meets}
+use Rattle.rv_symbolic.specs.Linked.{AreRefs, AreLinkedBetween, AreParted, AreMet, quantified, Meets}
+use Rattle.rv_symbolic.specs.Represented.{IsRelation, AreLinks}
+use Rattle.rv_symbolic.proofs.Reading.{put-other}
 
 pub extends_refl : (s : Diagrams) → Extends s s
 extends_refl s = record { begins = ([], sym (append-nil s.nodes)); longer = omega arith; kept = λ r h v. refl; variables = refl; limit = refl }
@@ -87,43 +92,120 @@ link_found a b c d e whole next not_next copy same r x found found_next p q s t 
       );
     }
 
-pub linked_none : (a : Diagrams) (next : List ℕ) (whole k : ℕ) → k ≡ length next → IsRef a.nodes whole → ((v : Valuation)
-    → value_of a.nodes whole v ≡ true) → Finds a a (AreLinkedFrom a.nodes next k) whole
-linked_none a next whole k e found means = record { extends = extends_refl a; found = found; exact = λ v. (λ h i le low. absurd (omega arith), λ p. means v) }
+pub linked_none : (a : Diagrams) (next : List ℕ) (whole k n : ℕ) → k ≡ n → IsRef a.nodes whole → ((v : Valuation)
+    → value_of a.nodes whole v ≡ true) → Finds a a (AreLinkedBetween a.nodes next k n) whole
+linked_none a next whole k n e found means = record { extends = extends_refl a; found = found; exact = λ v. (λ h i le low. absurd (omega arith), λ p. means v) }
 
 -- one link more
-pub linked_more : (a b c : Diagrams) (next : List ℕ) (whole r i : ℕ) → AreRefs a.nodes next → i < length next
-    → Finds a b (AreLinkedFrom a.nodes next (i + 1)) whole
+pub linked_more : (a b c : Diagrams) (next : List ℕ) (whole r i n : ℕ) → AreRefs a.nodes next → i < n → n ≤ length next
+    → Finds a b (AreLinkedBetween a.nodes next (i + 1) n) whole
     → Finds b c (λ v. (v (2 * i + 1) ≡ value_of b.nodes (ref_at next i) v) × (value_of b.nodes whole v ≡ true)) r
-    → Finds a c (AreLinkedFrom a.nodes next i) r
-linked_more a b c next whole r i refs within g h =
+    → Finds a c (AreLinkedBetween a.nodes next i n) r
+linked_more a b c next whole r i n refs within le g h =
     let of_next : (v : Valuation) → value_of b.nodes (ref_at next i) v ≡ value_of a.nodes (ref_at next i) v = λ v. g.extends.kept (ref_at next i)
-    (refs i within) v in
+    (refs i (omega arith)) v in
     record {
       extends = extends_trans a b c g.extends h.extends;
       found = h.found;
       exact = λ v. (
         λ on. let p : (v (2 * i + 1) ≡ value_of b.nodes (ref_at next i) v) × (value_of b.nodes whole v ≡ true) = (h.exact v).0 on in
-            λ j le low. ⊎_elim
+            λ j from low. ⊎_elim
             (λ lt. let after : i + 1 ≤ j = omega arith in (g.exact v).0 p.1 j after low)
             (λ ge. let e : i ≡ j = omega arith in subst (λ (n : ℕ). v (2 * n + 1) ≡ value_of a.nodes (ref_at next n) v) e (p.0 ∙ of_next v))
             (cases_lt i j),
-        λ all. (h.exact v).1 (all i (omega arith) within ∙ sym (of_next v), (g.exact v).1 (λ j le low. all j (omega arith) low)),
+        λ all. (h.exact v).1 (all i (omega arith) within ∙ sym (of_next v), (g.exact v).1 (λ j from low. all j (omega arith) low)),
       );
     }
 
--- PRODUCTS
+-- PARTS
+
+pub refs_after : (a b : Diagrams) (next : List ℕ) → Extends a b → AreRefs a.nodes next → AreRefs b.nodes next
+refs_after a b next e refs i low = let h : IsRef a.nodes (ref_at next i) = refs i low in omega (arith, e.longer, h)
+
+pub parted_none : (a : Diagrams) (next : List ℕ) (n : ℕ) → AreParted a a next n n []
+parted_none a next n = record {
+  extends = extends_refl a;
+  refs = λ i low. absurd (omega arith);
+  exact = λ v. (λ all i from low. absurd (omega arith), λ linked i low. absurd (omega arith));
+}
+
+-- one part more
+pub parted_more : (a b c : Diagrams) (next relations : List ℕ) (r j k n : ℕ) → AreRefs a.nodes next → j ≤ k → k ≤ n → n ≤ length next
+    → AreParted a b next k n relations → Finds b c (AreLinkedBetween b.nodes next j k) r → AreParted a c next j n (relations ++ r ∷ [])
+parted_more a b c next relations r j k n refs below above le g h =
+    let more : List ℕ = relations ++ r ∷ [] in
+    let longer : length more ≡ length relations + 1 = length-append relations (r ∷ []) in
+    let first : (i : ℕ) → i < length relations → ref_at more i ≡ ref_at relations i = λ i low. get_or_append_left relations (r ∷ []) 0 i low in
+    let last : ref_at more (length relations) ≡ r = get_or-append_seam relations r [] 0 in
+    let of_next : (v : Valuation) (i : ℕ) → i < n → value_of b.nodes (ref_at next i) v ≡ value_of a.nodes (ref_at next i) v = λ v i low. g.extends.kept
+    (ref_at next i) (refs i (omega arith)) v in
+    let of_first : (v : Valuation) (i : ℕ) → i < length relations → value_of c.nodes (ref_at more i) v ≡ value_of b.nodes (ref_at relations i) v = λ v i low.
+    ap (λ (x : ℕ). value_of c.nodes x v) (first i low) ∙ h.extends.kept (ref_at relations i) (g.refs i low) v in
+    let of_last : (v : Valuation) → value_of c.nodes (ref_at more (length relations)) v ≡ value_of c.nodes r v = λ v.
+    ap (λ (x : ℕ). value_of c.nodes x v) last in
+    record {
+      extends = extends_trans a b c g.extends h.extends;
+      refs = λ i low. ⊎_elim
+          (λ lt. subst (λ (x : ℕ). IsRef c.nodes x) (sym (first i lt)) (let f : IsRef b.nodes (ref_at relations i) = g.refs i lt in
+          let q : ref_at relations i < length c.nodes + 2 = omega (arith, f, h.extends.longer) in q))
+          (λ ge. let e : length relations ≡ i = omega (arith, longer) in subst (λ (x : ℕ). IsRef c.nodes (ref_at more x)) e (subst (λ
+          (x : ℕ). IsRef c.nodes x) (sym last) h.found))
+          (cases_lt i (length relations));
+      exact = λ v. (
+        λ all i from low. ⊎_elim
+            (λ lt. let on : value_of c.nodes r v ≡ true = sym (of_last v) ∙ all (length relations) (omega (arith, longer)) in
+            (h.exact v).0 on i from lt ∙ of_next v i low)
+            (λ ge. (g.exact v).0 (λ m less. sym (of_first v m less) ∙ all m (omega (arith, longer))) i ge low)
+            (cases_lt i k),
+        λ linked i low. ⊎_elim
+            (λ lt. of_first v i lt ∙ (g.exact v).1 (λ m from less. linked m (omega arith) less) i lt)
+            (λ ge. let e : length relations ≡ i = omega (arith, longer) in subst (λ (x : ℕ). value_of c.nodes (ref_at more x) v ≡ true) e
+            (of_last v ∙ (h.exact v).1 (λ m from less. let low : m < n = omega arith in linked m from low ∙ sym (of_next v m low))))
+            (cases_lt i (length relations)),
+      );
+    }
+
+-- all parts, with one more of no link where there was none
+pub parted_all : (a b : Diagrams) (next relations : List ℕ) (r k n : ℕ) → AreRefs a.nodes next → k ≡ 0 → n ≤ length next
+    → AreParted a b next k n relations → IsRef b.nodes r → ((v : Valuation) → value_of b.nodes r v ≡ true) → AreParted a b next 0 n (relations ++ r ∷ [])
+parted_all a b next relations r k n refs e le g found means = parted_more a b b next relations r 0 k n refs (omega (arith, e)) (omega (arith, e)) le g
+    (linked_none b next r 0 k (sym e) found means)
+
+pub part_refs_after : (a b : Diagrams) (links : List Part) → Extends a b → ArePartRefs a.nodes links → ArePartRefs b.nodes links
+part_refs_after a b links e refs i low = let h : IsRef a.nodes (part_at links i).relation = refs i low in omega (arith, e.longer, h)
+
+pub schedule_after : (a b : Diagrams) (links : List Part) → Extends a b → ArePartRefs a.nodes links → IsSchedule a.nodes links → IsSchedule b.nodes links
+schedule_after a b links e refs schedule i low x on v = e.kept (part_at links i).relation (refs i low) (put v x false) ∙ schedule i low x on v
+    ∙ sym (e.kept (part_at links i).relation (refs i low) (put v x true))
+
+pub met_after : (a b : Diagrams) (links : List Part) → Extends a b → ArePartRefs a.nodes links → (v : Valuation) → AreMet a.nodes links v
+    → AreMet b.nodes links v
+met_after a b links e refs v met i low = e.kept (part_at links i).relation (refs i low) v ∙ met i low
+
+pub met_before : (a b : Diagrams) (links : List Part) → Extends a b → ArePartRefs a.nodes links → (v : Valuation) → AreMet b.nodes links v
+    → AreMet a.nodes links v
+met_before a b links e refs v met i low = sym (e.kept (part_at links i).relation (refs i low) v) ∙ met i low
+
+pub links_opened : (d : Diagrams) (next : List ℕ) (p : ℕ) (links : List Part) → AreLinks d next p links → IsRelation d next p links
+unfolding AreLinks
+links_opened d next p links h = h
+
+pub links_closed : (d : Diagrams) (next : List ℕ) (p : ℕ) (links : List Part) → IsRelation d next p links → AreLinks d next p links
+unfolding AreLinks
+links_closed d next p links h = h
+
+-- IMAGES
 
 pub product_extends : (a b c d : Diagrams) (f g : Valuation → Bool) (p q r : ℕ) → Answers a b f p → Answers b c g q
     → Answers c d (λ v. value_of c.nodes p v && value_of c.nodes q v) r → Extends a d
 product_extends a b c d f g p q r one two three =
     extends_trans a c d (extends_trans a b c (grows_extends a b one.grows) (grows_extends b c two.grows)) (grows_extends c d three.grows)
 
-pub product_found : (a b c d e : Diagrams) (x y : Frozen) (p q r relation t : ℕ) (over : List Bool) → IsRef a.nodes relation
+pub product_found : (a b c d e : Diagrams) (x y : Frozen) (p q r t : ℕ) (links : List Part) → ArePartRefs a.nodes links
     → Answers a b (value_of x.nodes x.root) p → Answers b c (value_of y.nodes y.root) q → Answers c d (λ v. value_of c.nodes p v && value_of c.nodes q v) r
-    → Gives d e (Together d.nodes r relation (valuation_of over)) t
-    → Finds a e (Meets a.nodes x y relation over) t
-product_found a b c d e x y p q r relation t over found one two three four =
+    → Gives d e (Stepped d.nodes r links (length links)) t
+    → Finds a e (Meets a.nodes x y links) t
+product_found a b c d e x y p q r t links refs one two three four =
     let ad : Extends a d = product_extends a b c d (value_of x.nodes x.root) (value_of y.nodes y.root) p q r one two three in
     let both : (w : Valuation) → value_of d.nodes r w ≡ (value_of x.nodes x.root w && value_of y.nodes y.root w) =
     λ w. three.means w ∙ ap (λ z. z && value_of c.nodes q w) (two.grows.kept p one.found w ∙ one.means w)
@@ -132,18 +214,44 @@ product_found a b c d e x y p q r relation t over found one two three four =
       extends = extends_trans a d e ad (grows_extends d e four.grows);
       found = four.found;
       exact = λ v. (
-        λ h. let m : Together d.nodes r relation (valuation_of over) v = (four.means v).0 h in
+        λ h. let m : Stepped d.nodes r links (length links) v = (four.means v).0 h in
             let parts : IsIn x m.0 × IsIn y m.0 = and_parts (value_of x.nodes x.root m.0) (value_of y.nodes y.root m.0) (sym (both m.0) ∙ m.2) in
-            (m.0, m.1, (parts.0, parts.1, sym (ad.kept relation found m.0) ∙ m.3)),
-        λ (w, same, (left, right, on)). (four.means v).1 (
+            (m.0, m.1, (parts.0, parts.1, met_before a d links ad refs m.0 m.3)),
+        λ (w, same, (left, right, met)). (four.means v).1 (
           w,
           same,
           both w ∙ and_from (value_of x.nodes x.root w)
               (value_of y.nodes y.root w) left right,
-          ad.kept relation found w ∙ on,
+          met_after a d links ad refs w met,
         ),
       );
     }
+
+same_truth : (a b : Bool) → (a ≡ true → b ≡ true) → (b ≡ true → a ≡ true) → a ≡ b
+same_truth true true f g = refl
+same_truth true false f g = sym (f refl)
+same_truth false true f g = g refl
+same_truth false false f g = refl
+
+-- what holds for some values of given variables depends on none of them
+pub somewhere_ignores : (meaning : Valuation → Bool) (over : Valuation) (holds : Valuation → Type 0) → ((v : Valuation) → (meaning v ≡ true)
+    ↔ ((w : Valuation) × SameBut over v w × holds w)) → (x : ℕ) → over x ≡ true → Ignores meaning x
+somewhere_ignores meaning over holds exact x on v =
+    let apart : (b c : Bool) (k : ℕ) → over k ≡ false → put v x c k ≡ put v x b k = λ b c k off. put-other v x k c b (λ is. both_ways (over k) off
+    (ap over is ∙ on)) in
+    let moved : (b c : Bool) → meaning (put v x b) ≡ true → meaning (put v x c) ≡ true = λ b c h.
+    let q : (w : Valuation) × SameBut over (put v x b) w × holds w = (exact (put v x b)).0 h in
+    (exact (put v x c)).1 (q.0, λ k off. apart b c k off ∙ q.1 k off, q.2) in
+    same_truth (meaning (put v x false)) (meaning (put v x true)) (moved false true) (moved true false)
+
+-- an image depends on no variable that its parts quantify
+pub image_forgets : (a b : Diagrams) (from t : ℕ) (links : List Part) → Gives a b (Stepped a.nodes from links (length links)) t
+    → (x : ℕ) → quantified links x ≡ true → Ignores (value_of b.nodes t) x
+image_forgets a b from t links g = somewhere_ignores (value_of b.nodes t) (quantified links) (λ w. (value_of a.nodes from w ≡ true)
+    × AreMet a.nodes links w) (λ v. (
+      λ h. let m : Stepped a.nodes from links (length links) v = (g.means v).0 h in (m.0, m.1, (m.2, m.3)),
+      λ (w, same, (on, met)). (g.means v).1 (w, same, on, met),
+    ))
 
 -- a variable is needed by one of two equal meanings where it is by the other
 pub needed_same : (nodes : List Triple) (f g : Valuation → Bool) → ((v : Valuation) → f v ≡ g v) → UsesNeeded nodes f → UsesNeeded nodes g

@@ -2,3 +2,4 @@ pub mod Extending
 pub mod Reading
 pub mod Projecting
 pub mod Parting
+pub mod Scheduling

@@ -6,8 +6,8 @@ use Rattle.std.proofs.lemmas.List.{get_or-map, length-map}
 use Rattle.std.specs.Prelude.{MatchBool}
 use Rattle.rv_diagram.specs.declared.Triple.{Triple}
 use Rattle.rv_diagram.specs.declared.frozen.Frozen.{Frozen}
-use Rattle.rv_diagram.specs.Nodes.{Valuation, Diagrams, Grows, node_at, value_of, valuation_of, IsRef, IsOrderedOver}
-use Rattle.rv_diagram.specs.Several.{Gives, Together, SameBut, UsesNeeded, Ignores, IsUnused, lower_node, higher_node}
+use Rattle.rv_diagram.specs.Nodes.{Valuation, Diagrams, Grows, node_at, value_of, IsOrderedOver}
+use Rattle.rv_diagram.specs.Several.{Gives, Stepped, ArePartRefs, SameBut, UsesNeeded, Ignores, IsUnused, lower_node, higher_node}
 use Rattle.rv_diagram.specs.Several.{before as lowered, after as raised}
 use Rattle.rv_proofs.specs.Systems.{System, IsState, HasSameState, IsSameValuation}
 use Rattle.rv_proofs.specs.Scopes.{IsIn}
@@ -18,15 +18,18 @@ use Rattle.rv_symbolic.specs.declared.symbolic.Parts.{Parts}
 use Rattle.rv_symbolic.specs.declared.symbolic.Symbolic.{Symbolic}
 use Rattle.rv_symbolic.specs.Growing.{Makes}
 use Rattle.rv_symbolic.specs.Variables.{is_of}
-use Rattle.rv_symbolic.specs.Represented.{IsSymbolicOf}
+use Rattle.rv_diagram.specs.declared.store.several.Part.{Part}
+use Rattle.rv_symbolic.specs.Linked.{AreMet, quantified}
+use Rattle.rv_symbolic.specs.Represented.{AreLinks, IsRelation, IsSymbolicOf}
+use Rattle.rv_symbolic.proofs.Extending.{met_before, met_after, links_opened}
 use Rattle.rv_symbolic.specs.Stepped.{IsProjected, IsAStep, IsJudged, AreNextStates}
 use Rattle.rv_symbolic.proofs.Reading.{control-value, condition-value, control_set, valuation_state, is_of-bit, is_of-parts, is_of-other, is_of-past}
 use Rattle.rv_symbolic.proofs.Reading.{state_is, read_off}
 
-pub projected_from : (m : ℕ) (over : List Bool) (holds : Valuation → Type 0) (meaning : Valuation → Bool) (f : Frozen) → IsOrderedOver m f
+pub projected_from : (m : ℕ) (over : Valuation) (holds : Valuation → Type 0) (meaning : Valuation → Bool) (f : Frozen) → IsOrderedOver m f
     → ((v : Valuation) → value_of f.nodes f.root v ≡ meaning v)
-    → UsesNeeded f.nodes meaning → ((x : ℕ) → valuation_of over x ≡ true → Ignores meaning x) → ((v : Valuation)
-    → (meaning v ≡ true) ↔ ((w : Valuation) × SameBut (valuation_of over) v w × holds w))
+    → UsesNeeded f.nodes meaning → ((x : ℕ) → over x ≡ true → Ignores meaning x) → ((v : Valuation)
+    → (meaning v ≡ true) ↔ ((w : Valuation) × SameBut over v w × holds w))
     → IsProjected m over holds f
 projected_from m over holds meaning f ordered means needed forgets exact = record {
   ordered = ordered;
@@ -34,21 +37,21 @@ projected_from m over holds meaning f ordered means needed forgets exact = recor
   unused = λ x on. needed x (forgets x on);
 }
 
--- a product of the allowed valuations of a set and the relation
-pub step_found : (a b c : Diagrams) (p : Parts) (relation all t : ℕ) (over : List Bool) (from : Frozen) → IsRef a.nodes relation
-    → Makes a b (λ v. value_of a.nodes p.allowed v && value_of from.nodes from.root v) all → Gives b c (Together b.nodes all relation (valuation_of over)) t
-    → (v : Valuation) → (value_of c.nodes t v ≡ true) ↔ ((w : Valuation) × SameBut (valuation_of over) v w × IsAStep a p relation from w)
-step_found a b c p relation all t over from found g h v = (
-  λ on. let m : Together b.nodes all relation (valuation_of over) v = (h.means v).0 on in
+-- an image of the allowed valuations of a set
+pub step_found : (a b c : Diagrams) (p : Parts) (links : List Part) (all t : ℕ) (from : Frozen) → ArePartRefs a.nodes links
+    → Makes a b (λ v. value_of a.nodes p.allowed v && value_of from.nodes from.root v) all → Gives b c (Stepped b.nodes all links (length links)) t
+    → (v : Valuation) → (value_of c.nodes t v ≡ true) ↔ ((w : Valuation) × SameBut (quantified links) v w × IsAStep a p links from w)
+step_found a b c p links all t from refs g h v = (
+  λ on. let m : Stepped b.nodes all links (length links) v = (h.means v).0 on in
       let parts : (value_of a.nodes p.allowed m.0 ≡ true) × IsIn from m.0 = and_parts (value_of a.nodes p.allowed m.0)
       (value_of from.nodes from.root m.0) (sym (g.means m.0) ∙ m.2) in
-      (m.0, m.1, (parts.0, parts.1, sym (g.extends.kept relation found m.0) ∙ m.3)),
-  λ (w, same, (allowed, inside, on)). (h.means v).1 (
+      (m.0, m.1, (parts.0, parts.1, met_before a b links g.extends refs m.0 m.3)),
+  λ (w, same, (allowed, inside, met)). (h.means v).1 (
     w,
     same,
     g.means w ∙ and_from (value_of a.nodes p.allowed w)
         (value_of from.nodes from.root w) allowed inside,
-    g.extends.kept relation found w ∙ on,
+    met_after a b links g.extends refs w met,
   ),
 )
 
@@ -91,40 +94,49 @@ module _ (s : System) (d : Symbolic) (is : IsSymbolicOf s d) where
   same_bits : length d.parts.next ≡ s.states
   same_bits = is.parts.states
 
+  pub forth : IsRelation d.store d.parts.next 1 d.forth
+  forth = links_opened d.store d.parts.next 1 d.forth is.laid_out.forth
+
+  pub back : IsRelation d.store d.parts.next 0 d.back
+  back = links_opened d.store d.parts.next 0 d.back is.laid_out.back
+
   -- which variables are quantified
-  over_copies : (x : ℕ) → x < s.variables → valuation_of d.all_but_copies x ≡ not (is_of s.states 1 x)
-  over_copies x low = is.laid_out.all_but_copies.within x (omega (arith, is.parts.variables)) ∙ ap (λ n. not (is_of n 1 x)) same_bits
+  over_copies : (x : ℕ) → x < s.variables → quantified d.forth x ≡ not (is_of s.states 1 x)
+  over_copies x low = forth.over.within x (omega (arith, is.parts.variables)) ∙ ap (λ n. not (is_of n 1 x)) same_bits
 
-  over_bits : (x : ℕ) → x < s.variables → valuation_of d.all_but_bits x ≡ not (is_of s.states 0 x)
-  over_bits x low = is.laid_out.all_but_bits.within x (omega (arith, is.parts.variables)) ∙ ap (λ n. not (is_of n 0 x)) same_bits
+  over_bits : (x : ℕ) → x < s.variables → quantified d.back x ≡ not (is_of s.states 0 x)
+  over_bits x low = back.over.within x (omega (arith, is.parts.variables)) ∙ ap (λ n. not (is_of n 0 x)) same_bits
 
-  copy_left : (i : ℕ) → i < s.states → valuation_of d.all_but_copies (2 * i + 1) ≡ false
+  copy_left : (i : ℕ) → i < s.states → quantified d.forth (2 * i + 1) ≡ false
   copy_left i low = over_copies (2 * i + 1) (omega (arith, few)) ∙ ap not (is_of-bit s.states 1 i (omega arith) low)
 
-  bit_left : (i : ℕ) → i < s.states → valuation_of d.all_but_bits (2 * i) ≡ false
+  bit_left : (i : ℕ) → i < s.states → quantified d.back (2 * i) ≡ false
   bit_left i low = over_bits (2 * i) (omega (arith, few)) ∙ ap not (let z : 2 * i + 0 ≡ 2 * i = omega arith in subst (λ
       (x : ℕ). is_of s.states 0 x ≡ true) z (is_of-bit s.states 0 i (omega arith) low))
 
   -- the relation
-  relation_to : (w : Valuation) → value_of d.store.nodes d.relation w ≡ true → (i : ℕ) → i < s.states → w (2 * i + 1) ≡ s.next w (2 * i)
-  relation_to w on i low = (is.laid_out.links w).0 on i (omega (arith, same_bits)) ∙ is.parts.next i low w
+  relation_to : (p : ℕ) (links : List Part) → AreLinks d.store d.parts.next p links → (w : Valuation) → AreMet d.store.nodes links w
+      → (i : ℕ) → i < s.states → w (2 * i + 1) ≡ s.next w (2 * i)
+  relation_to p links are w on i low = ((links_opened d.store d.parts.next p links are).exact w).0 on i (omega (arith, same_bits)) ∙ is.parts.next i low w
 
-  relation_from : (w : Valuation) → ((i : ℕ) → i < s.states → w (2 * i + 1) ≡ s.next w (2 * i)) → value_of d.store.nodes d.relation w ≡ true
-  relation_from w links = (is.laid_out.links w).1 (λ i less. let low : i < s.states = omega (arith, same_bits) in links i low ∙ sym (is.parts.next i low w))
+  relation_from : (p : ℕ) (links : List Part) → AreLinks d.store d.parts.next p links → (w : Valuation)
+      → ((i : ℕ) → i < s.states → w (2 * i + 1) ≡ s.next w (2 * i)) → AreMet d.store.nodes links w
+  relation_from p links are w linked = ((links_opened d.store d.parts.next p links are).exact w).1 (λ i less. let low : i < s.states = omega (arith, same_bits) in linked i low
+      ∙ sym (is.parts.next i low w))
 
   -- variable 0 is quantified, if it is there
-  pub copies_above : (holds : Valuation → Type 0) (f : Frozen) → IsProjected d.store.variables d.all_but_copies holds f → IsUnused f.nodes 0
+  pub copies_above : (holds : Valuation → Type 0) (f : Frozen) → IsProjected d.store.variables (quantified d.forth) holds f → IsUnused f.nodes 0
   copies_above holds f p i low e =
       let there : (node_at f.nodes i).var < s.variables = omega (arith, p.ordered.low i low, is.parts.variables) in
-      let on : valuation_of d.all_but_copies 0 ≡ true = over_copies 0 (omega (arith, there, e)) ∙ ap not (is_of-other s.states 1 0 (λ z. omega arith)) in
+      let on : quantified d.forth 0 ≡ true = over_copies 0 (omega (arith, there, e)) ∙ ap not (is_of-other s.states 1 0 (λ z. omega arith)) in
       p.unused 0 on i low e
 
   -- IMAGES
 
   module _ (P : Valuation → Type 0) (keep : (u w : Valuation) → IsSameValuation s u w → P w → P u) (holds : Valuation → Type 0)
-      (part : (w : Valuation) → holds w → P w) (linked : (w : Valuation) → holds w → value_of d.store.nodes d.relation w ≡ true)
-      (from_parts : (w : Valuation) → P w → value_of d.store.nodes d.relation w ≡ true → holds w)
-      (f g : Frozen) (p : IsProjected d.store.variables d.all_but_copies holds f)
+      (part : (w : Valuation) → holds w → P w) (linked : (w : Valuation) → holds w → AreMet d.store.nodes d.forth w)
+      (from_parts : (w : Valuation) → P w → AreMet d.store.nodes d.forth w → holds w)
+      (f g : Frozen) (p : IsProjected d.store.variables (quantified d.forth) holds f)
       (nodes : g.nodes ≡ map lower_node f.nodes) (ordered : IsOrderedOver d.store.variables g)
       (means : (v : Valuation) → value_of g.nodes g.root v ≡ value_of f.nodes f.root (lowered v)) where
     image_states : (n : ℕ) → n < length (map lower_node f.nodes) → IsState s (node_at (map lower_node f.nodes) n).var
@@ -147,32 +159,32 @@ module _ (s : System) (d : Symbolic) (is : IsSymbolicOf s d) where
 
     pub image_to : (v : Valuation) → IsIn g v → (w : Valuation) × P w × HasSameState s (s.next w) v
     image_to v h =
-        let q : (w : Valuation) × SameBut (valuation_of d.all_but_copies) (lowered v) w × holds w = (p.exact (lowered v)).0 (sym (means v) ∙ h) in (
+        let q : (w : Valuation) × SameBut (quantified d.forth) (lowered v) w × holds w = (p.exact (lowered v)).0 (sym (means v) ∙ h) in (
           q.0,
           part q.0 q.2,
-          λ x (i, low, e). ap (s.next q.0) e ∙ sym (relation_to q.0 (linked q.0 q.2) i low)
+          λ x (i, low, e). ap (s.next q.0) e ∙ sym (relation_to 1 d.forth is.laid_out.forth q.0 (linked q.0 q.2) i low)
               ∙ sym (q.1 (2 * i + 1) (copy_left i low)) ∙ ap v (let z : 2 * i + 1 - 1 ≡ x = omega (arith, e) in z),
         )
 
     pub image_from : (v w : Valuation) → P w → HasSameState s (s.next w) v → IsIn g v
     image_from v w h same =
-        let over : Valuation = valuation_of d.all_but_copies in
+        let over : Valuation = quantified d.forth in
         let u : Valuation = λ x. cond (over x) (w x) (v (x - 1)) in
         let like : IsSameValuation s u w = λ x read. ap (λ b. cond b (w x) (v (x - 1))) (over_copies x read.0 ∙ ap not (read_off s x read)) in
         let links : (i : ℕ) → i < s.states → u (2 * i + 1) ≡ s.next u (2 * i) = λ i low.
         ap (λ b. cond b (w (2 * i + 1)) (v (2 * i + 1 - 1))) (copy_left i low) ∙ ap v (let z : 2 * i + 1 - 1 ≡ 2 * i = omega arith in z)
         ∙ sym (same (2 * i) (i, low, refl)) ∙ sym (is.system.next u w like (2 * i) (i, low, refl)) in
-        means v ∙ (p.exact (lowered v)).1 (u, λ x off. sym (ap (λ b. cond b (w x) (v (x - 1))) off), from_parts u (keep u w like h) (relation_from u links))
+        means v ∙ (p.exact (lowered v)).1 (u, λ x off. sym (ap (λ b. cond b (w x) (v (x - 1))) off), from_parts u (keep u w like h) (relation_from 1 d.forth is.laid_out.forth u links))
 
   pub image_of : (from : Frozen) (c : Case) (f g : Frozen) → IsControlSet s from → IsCase s c
-      → IsProjected d.store.variables d.all_but_copies (λ w. IsIn from w × IsIn c.condition w × (value_of d.store.nodes d.relation w ≡ true)) f
+      → IsProjected d.store.variables (quantified d.forth) (λ w. IsIn from w × IsIn c.condition w × AreMet d.store.nodes d.forth w) f
       → g.nodes ≡ map lower_node f.nodes → IsOrderedOver d.store.variables g → ((v : Valuation)
       → value_of g.nodes g.root v ≡ value_of f.nodes f.root (lowered v)) → IsImage s from c g
   image_of from c f g control case p nodes ordered means =
       let P : Valuation → Type 0 = λ w. IsIn from w × IsIn c.condition w in
       let keep : (u w : Valuation) → IsSameValuation s u w → P w → P u = λ u w same h.
       (control-value s from u w control (valuation_state s u w few same) ∙ h.0, condition-value s c.condition u w case.condition same ∙ h.1) in
-      let holds : Valuation → Type 0 = λ w. IsIn from w × IsIn c.condition w × (value_of d.store.nodes d.relation w ≡ true) in
+      let holds : Valuation → Type 0 = λ w. IsIn from w × IsIn c.condition w × AreMet d.store.nodes d.forth w in
       record {
         control = image_control P keep holds (λ w h. (h.0, h.1)) (λ w h. h.2) (λ w h r. (h.0, h.1, r)) f g p nodes ordered means;
         exact = λ v. (
@@ -184,7 +196,7 @@ module _ (s : System) (d : Symbolic) (is : IsSymbolicOf s d) where
       }
 
   pub next_of : (from : Frozen) (f g : Frozen) (good : Bool) → IsControlSet s from
-      → IsProjected d.store.variables d.all_but_copies (IsAStep d.store d.parts d.relation from) f → IsJudged d.store d.parts from good
+      → IsProjected d.store.variables (quantified d.forth) (IsAStep d.store d.parts d.forth from) f → IsJudged d.store d.parts from good
       → g.nodes ≡ map lower_node f.nodes → IsOrderedOver d.store.variables g → ((v : Valuation)
       → value_of g.nodes g.root v ≡ value_of f.nodes f.root (lowered v))
       → AreNextStates s from (record { set = g; good = good })
@@ -192,7 +204,7 @@ module _ (s : System) (d : Symbolic) (is : IsSymbolicOf s d) where
       let P : Valuation → Type 0 = λ w. IsTrue (s.allowed w) × IsIn from w in
       let keep : (u w : Valuation) → IsSameValuation s u w → P w → P u = λ u w same h.
       (is.system.allowed u w same ∙ h.0, control-value s from u w control (valuation_state s u w few same) ∙ h.1) in
-      let holds : Valuation → Type 0 = IsAStep d.store d.parts d.relation from in
+      let holds : Valuation → Type 0 = IsAStep d.store d.parts d.forth from in
       record {
         control = image_control P keep holds (λ w h. (sym (is.parts.allowed w) ∙ h.0, h.1)) (λ w h. h.2) (λ w h r. (
           is.parts.allowed w
@@ -243,7 +255,7 @@ module _ (s : System) (d : Symbolic) (is : IsSymbolicOf s d) where
   pub preimage_of : (to : Frozen) (c : Case) (bits copies f : Frozen) → IsControlSet s to → IsCase s c
       → ((v : Valuation) → value_of bits.nodes bits.root v ≡ value_of to.nodes to.root v) → ((v : Valuation)
       → value_of copies.nodes copies.root v ≡ value_of bits.nodes bits.root (raised v))
-      → IsProjected d.store.variables d.all_but_bits (λ w. IsIn copies w × IsIn c.condition w × (value_of d.store.nodes d.relation w ≡ true)) f
+      → IsProjected d.store.variables (quantified d.back) (λ w. IsIn copies w × IsIn c.condition w × AreMet d.store.nodes d.back w) f
       → IsPreimage s to c f
   preimage_of to c bits copies f control case copied moved p = record {
     control = record {
@@ -256,16 +268,16 @@ module _ (s : System) (d : Symbolic) (is : IsSymbolicOf s d) where
           (cases_Bool (is_of s.states 0 x));
     };
     exact = λ v. (
-      λ h. let q : (w : Valuation) × SameBut (valuation_of d.all_but_bits) v w × (IsIn copies w × IsIn c.condition w
-          × (value_of d.store.nodes d.relation w ≡ true)) = (p.exact v).0 h in (
+      λ h. let q : (w : Valuation) × SameBut (quantified d.back) v w × (IsIn copies w × IsIn c.condition w
+          × AreMet d.store.nodes d.back w) = (p.exact v).0 h in (
             q.0,
             λ x (i, low, e). ap q.0 e ∙ sym (q.1 (2 * i) (bit_left i low)) ∙ ap v (sym e),
             q.2.1,
-            sym (control-value s to (raised q.0) (s.next q.0) control (λ x (i, low, e). ap (raised q.0) e ∙ relation_to q.0 q.2.2 i low
+            sym (control-value s to (raised q.0) (s.next q.0) control (λ x (i, low, e). ap (raised q.0) e ∙ relation_to 0 d.back is.laid_out.back q.0 q.2.2 i low
                 ∙ ap (s.next q.0) (sym e))) ∙ sym (copied (raised q.0)) ∙ sym (moved q.0) ∙ q.2.0,
           ),
       λ (w, same, within, into).
-          let over : Valuation = valuation_of d.all_but_bits in
+          let over : Valuation = quantified d.back in
           let u : Valuation = λ x. cond (is_of s.states 1 x) (s.next w (x - 1)) (cond (over x) (w x) (v x)) in
           let at_copy : (i : ℕ) → i < s.states → u (2 * i + 1) ≡ s.next w (2 * i) = λ i low.
           ap (λ b. cond b (s.next w (2 * i + 1 - 1)) (cond (over (2 * i + 1)) (w (2 * i + 1)) (v (2 * i + 1)))) (is_of-bit s.states 1 i
@@ -293,7 +305,7 @@ module _ (s : System) (d : Symbolic) (is : IsSymbolicOf s d) where
               moved u ∙ copied (raised u) ∙ control-value s to (raised u) (s.next w) control (λ x (i, low, e). ap (raised u) e ∙ at_copy i low
                   ∙ ap (s.next w) (sym e)) ∙ into,
               condition-value s c.condition u w case.condition like ∙ within,
-              relation_from u links,
+              relation_from 0 d.back is.laid_out.back u links,
             ),
           ),
     );

@@ -66,7 +66,7 @@ read_off s x (low, off) = ⊎_elim
     (λ no. no)
     (cases_Bool (is_of s.states 1 x))
 
-put-other : (v : Valuation) (x y : ℕ) (b c : Bool) → (y ≡ x → ⊥) → put v x b y ≡ put v x c y
+pub put-other : (v : Valuation) (x y : ℕ) (b c : Bool) → (y ≡ x → ⊥) → put v x b y ≡ put v x c y
 put-other v x y b c off = ap (λ t. cond t b (v y)) (ne_eqb y x off) ∙ sym (ap (λ t. cond t c (v y)) (ne_eqb y x off))
 
 -- a meaning of control states ignores each variable that is no state bit

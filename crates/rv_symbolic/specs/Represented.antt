@@ -1,12 +1,13 @@
 -- When references in a store mean what a system of valuations is.
-use Rattle.std.specs.Prelude.{◌≡◌, ℕ, ◌*◌, ◌<◌, ◌≤◌, ◌↔◌, true, length}
+use Rattle.std.specs.Prelude.{◌≡◌, ℕ, ◌*◌, ◌<◌, ◌≤◌, ◌↔◌, List, length}
 use Rattle.rv_diagram.specs.Nodes.{Valuation, Diagrams, IsRef, value_of}
-use Rattle.rv_diagram.specs.Several.{ref_at}
+use Rattle.rv_diagram.specs.Several.{ref_at, IsSchedule, ArePartRefs}
+use Rattle.rv_diagram.specs.declared.store.several.Part.{Part}
 use Rattle.rv_proofs.specs.Systems.{System, IsSystem}
 use Rattle.rv_symbolic.specs.declared.symbolic.Parts.{Parts}
 use Rattle.rv_symbolic.specs.declared.symbolic.Symbolic.{Symbolic}
 use Rattle.rv_symbolic.specs.Variables.{AreAllBut}
-use Rattle.rv_symbolic.specs.Linked.{AreRefs, AreLinked}
+use Rattle.rv_symbolic.specs.Linked.{AreRefs, AreLinked, AreMet, quantified}
 
 -- The references are those of the store, which has a variable for each state bit and for its next copy.
 pub record HaveRefs (d : Diagrams) (p : Parts) : Type 0 where
@@ -33,14 +34,24 @@ store_of d = d.store
 abbrev pub parts_of : Symbolic → Parts
 parts_of d = d.parts
 
--- All references are those of the store, and the relation is that between a valuation and its next control state.
+-- The parts are true together exactly between a valuation and its next control state, no part reads a variable that an
+-- earlier one quantifies, and together they quantify all variables but the first ones 2 i + p.
+pub record IsRelation (d : Diagrams) (next : List ℕ) (p : ℕ) (parts : List Part) : Type 0 where
+  pub refs : ArePartRefs d.nodes parts
+  pub schedule : IsSchedule d.nodes parts
+  pub exact : (v : Valuation) → AreMet d.nodes parts v ↔ AreLinked d.nodes next v
+  pub over : AreAllBut d.variables (length next) p (quantified parts)
+
+-- The same, which a search does not look into.
+unfoldable pub AreLinks : Diagrams → List ℕ → ℕ → List Part → Type 0
+AreLinks d next p parts = IsRelation d next p parts
+
+-- All references are those of the store, and the parts forth and back are those of the relation between a valuation and its next control state.
 pub record IsLaidOut (d : Symbolic) : Type 0 where
   pub refs : HaveRefs d.store d.parts
   pub few : d.store.variables ≤ 4096
-  pub relation : IsRef d.store.nodes d.relation
-  pub links : (v : Valuation) → (value_of d.store.nodes d.relation v ≡ true) ↔ AreLinked d.store.nodes d.parts.next v
-  pub all_but_copies : AreAllBut d.store.variables (length d.parts.next) 1 d.all_but_copies
-  pub all_but_bits : AreAllBut d.store.variables (length d.parts.next) 0 d.all_but_bits
+  pub forth : AreLinks d.store d.parts.next 1 d.forth
+  pub back : AreLinks d.store d.parts.next 0 d.back
 
 -- The references have in the store the meanings of the system.
 pub record IsSymbolicOf (s : System) (d : Symbolic) : Type 0 where

@@ -1,23 +1,25 @@
 -- Projections, and one step from all valuations of a set of control states.
 use Rattle.std.specs.Prelude.{◌≡◌, ◌↔◌, ℕ, Bool, true, false, IsTrue, List}
-use Rattle.rv_diagram.specs.Nodes.{Valuation, Diagrams, value_of, valuation_of, IsOrderedOver}
+use Rattle.rv_diagram.specs.Nodes.{Valuation, Diagrams, value_of, IsOrderedOver}
 use Rattle.rv_diagram.specs.Several.{SameBut, IsUnused}
 use Rattle.rv_diagram.specs.declared.frozen.Frozen.{Frozen}
 use Rattle.rv_proofs.specs.Systems.{System, HasSameState}
 use Rattle.rv_proofs.specs.Scopes.{IsIn}
 use Rattle.rv_proofs.specs.Ranges.{IsControlSet}
 use Rattle.rv_symbolic.specs.declared.symbolic.NextStates.{NextStates}
+use Rattle.rv_diagram.specs.declared.store.several.Part.{Part}
+use Rattle.rv_symbolic.specs.Linked.{AreMet}
 use Rattle.rv_symbolic.specs.declared.symbolic.Parts.{Parts}
 
 -- The diagram is true exactly where this holds for some values of the given variables, none of which is that of a node.
-pub record IsProjected (m : ℕ) (over : List Bool) (holds : Valuation → Type 0) (f : Frozen) : Type 0 where
+pub record IsProjected (m : ℕ) (over : Valuation) (holds : Valuation → Type 0) (f : Frozen) : Type 0 where
   pub ordered : IsOrderedOver m f
-  pub exact : (v : Valuation) → IsIn f v ↔ ((w : Valuation) × SameBut (valuation_of over) v w × holds w)
-  pub unused : (x : ℕ) → valuation_of over x ≡ true → IsUnused f.nodes x
+  pub exact : (v : Valuation) → IsIn f v ↔ ((w : Valuation) × SameBut over v w × holds w)
+  pub unused : (x : ℕ) → over x ≡ true → IsUnused f.nodes x
 
--- At a valuation these parts and this relation are true, and its control state is in the set.
-abbrev pub IsAStep : Diagrams → Parts → ℕ → Frozen → Valuation → Type 0
-IsAStep d p relation from w = (value_of d.nodes p.allowed w ≡ true) × IsIn from w × (value_of d.nodes relation w ≡ true)
+-- A valuation is allowed, its control state is in the set, and all parts of the relation are true at it.
+abbrev pub IsAStep : Diagrams → Parts → List Part → Frozen → Valuation → Type 0
+IsAStep d p links from w = (value_of d.nodes p.allowed w ≡ true) × IsIn from w × AreMet d.nodes links w
 
 -- Whether the observer is true at each allowed valuation of the set.
 pub record IsJudged (d : Diagrams) (p : Parts) (from : Frozen) (good : Bool) : Type 0 where

@@ -1,35 +1,35 @@
 //! Relational products, with what was built of them in the store.
 
 ghost use Rattle.std.specs.Prelude.{◌≡◌, ℕ, ◌<◌, ◌^◌, ◌&&◌, not, true, IfOk, IsErrOf};
-ghost use Rattle.rv_diagram.specs.Nodes.{Valuation, value_of, valuation_of, IsRef, IsOrderedOver};
-ghost use Rattle.rv_diagram.specs.Several.{Ignores, UsesNeeded};
+ghost use Rattle.rv_diagram.specs.Nodes.{Valuation, value_of, IsRef, IsOrderedOver};
+ghost use Rattle.rv_diagram.specs.Several.{Ignores, UsesNeeded, ArePartRefs, IsSchedule};
 ghost use Rattle.rv_proofs.specs.Scopes.{IsIn};
 ghost use Rattle.rv_symbolic.specs.Stepped.{IsProjected};
 ghost use Rattle.rv_symbolic.specs.Growing.{Extends, Makes, Finds};
-ghost use Rattle.rv_symbolic.specs.Linked.{Meets};
+ghost use Rattle.rv_symbolic.specs.Linked.{Meets, AreMet, quantified};
 
-use rv_diagram::{Frozen, Ref, Store, StoreFault};
+use rv_diagram::{Frozen, Part, Ref, Store, StoreFault};
 
-/// True where both sets and the relation are true together for some values of the variables that `over` gives.
+/// True where both sets and all parts of the relation are true together for some values of the variables that the parts quantify.
 pub fn product(
     store: &mut Store,
     set: &Frozen,
     condition: &Frozen,
-    relation: Ref,
-    over: &[bool],
+    links: &[Part],
 ) -> Result<Ref, StoreFault>
     requires set { IsOrderedOver store.old.variables set.now }
     requires condition { IsOrderedOver store.old.variables condition.now }
-    requires relation { IsRef store.old.nodes relation }
+    requires links { ArePartRefs store.old.nodes links.now }
+    requires schedule { IsSchedule store.old.nodes links.now }
     ensures extends { Extends store.old store.new }
     ensures roomy { IsErrOf result StoreFault.Nodes → store.old.limit < 2 ^ (2 ^ store.old.variables) }
-    ensures ok { IfOk result (λ r. Finds store.old store.new (Meets store.old.nodes set.now condition.now relation over.now) r) }
-    ensures forgets { IfOk result (λ r. (x : ℕ) → valuation_of over.now x ≡ true → Ignores (value_of store.new.nodes r) x) }
+    ensures ok { IfOk result (λ r. Finds store.old store.new (Meets store.old.nodes set.now condition.now links.now) r) }
+    ensures forgets { IfOk result (λ r. (x : ℕ) → quantified links.now x ≡ true → Ignores (value_of store.new.nodes r) x) }
 {
     let one = store.thaw(set)?;
     let other = store.thaw(condition)?;
     let both = store.and(one, other)?;
-    store.and_exists(both, relation, over)
+    store.image(both, links)
 }
 
 /// The allowed valuations of a set.
@@ -93,18 +93,18 @@ pub fn projected(
     store: &mut Store,
     set: &Frozen,
     condition: &Frozen,
-    relation: Ref,
-    over: &[bool],
+    links: &[Part],
 ) -> Result<Frozen, StoreFault>
     requires set { IsOrderedOver store.old.variables set.now }
     requires condition { IsOrderedOver store.old.variables condition.now }
-    requires relation { IsRef store.old.nodes relation }
+    requires links { ArePartRefs store.old.nodes links.now }
+    requires schedule { IsSchedule store.old.nodes links.now }
     ensures extends { Extends store.old store.new }
     ensures roomy { IsErrOf result StoreFault.Nodes → store.old.limit < 2 ^ (2 ^ store.old.variables) }
-    ensures ok { IfOk result (IsProjected store.old.variables over.now
-        (λ w. IsIn set.now w × IsIn condition.now w × (value_of store.old.nodes relation w ≡ true))) }
+    ensures ok { IfOk result (IsProjected store.old.variables (quantified links.now)
+        (λ w. IsIn set.now w × IsIn condition.now w × AreMet store.old.nodes links.now w)) }
 {
-    let r = product(store, set, condition, relation, over)?;
+    let r = product(store, set, condition, links)?;
     Ok(store.freeze(r)?)
 }
 

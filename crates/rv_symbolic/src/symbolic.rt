@@ -2,7 +2,9 @@
 
 ghost use Rattle.std.specs.Prelude.{◌≡◌, ◌<◌, ◌≤◌, ◌^◌, IfOk, IsErrOf, length};
 ghost use Rattle.std.specs.Borrow.{sem};
-ghost use Rattle.rv_diagram.specs.Nodes.{IsOrderedOver, IsRef};
+ghost use Rattle.rv_diagram.specs.Nodes.{IsOrderedOver};
+ghost use Rattle.rv_diagram.specs.Several.{ArePartRefs, IsSchedule};
+ghost use Rattle.rv_symbolic.specs.Linked.{quantified};
 ghost use Rattle.rv_proofs.specs.Systems.{System, IsSystem};
 ghost use Rattle.rv_proofs.specs.Ranges.{IsControlSet};
 ghost use Rattle.rv_proofs.specs.Reached.{HasNoIntegers};
@@ -14,10 +16,11 @@ ghost use Rattle.rv_symbolic.specs.Parted.{HasSides};
 ghost use Rattle.rv_symbolic.specs.Lending.{LendsStore};
 
 use crate::given::all_but;
+use crate::schedule::schedule;
 use crate::steps::AllowedSet;
 use crate::{links, sides, steps};
 use rv_base::{Many, Memory};
-use rv_diagram::{Frozen, Ref, Store, StoreFault};
+use rv_diagram::{Frozen, Part, Ref, Store, StoreFault};
 use rv_proofs::Case;
 use std::alloc::Global;
 
@@ -51,15 +54,14 @@ struct Taken {
 }
 
 /// A system of valuations in a store: the references of what it is at a valuation, and the relation between a valuation
-/// and its next control state. State bit i is variable 2 i, and its next copy is variable 2 i + 1. Each call leaves the
-/// store as it was, after a fault too.
+/// and its next control state, in parts that an image and a preimage each quantify in their own way. State bit i is
+/// variable 2 i, and its next copy is variable 2 i + 1. Each call leaves the store as it was, after a fault too.
 #[derive(Drop)]
 pub struct Symbolic {
     store: Store,
     parts: Parts,
-    relation: Ref,
-    all_but_copies: Many<bool>,
-    all_but_bits: Many<bool>,
+    forth: Many<Part>,
+    back: Many<Part>,
     alloc: Global,
 }
 
@@ -67,20 +69,20 @@ pub struct Symbolic {
 fn take_step(
     store: &mut Store,
     parts: &Parts,
-    relation: Ref,
-    over: &[bool],
+    links: &[Part],
     from: &Frozen,
 ) -> Result<Taken, StoreFault>
     requires parts { HaveRefs store.old parts.now }
-    requires relation { IsRef store.old.nodes relation }
+    requires links { ArePartRefs store.old.nodes links.now }
+    requires schedule { IsSchedule store.old.nodes links.now }
     requires from { IsOrderedOver store.old.variables from.now }
     ensures extends { Extends store.old store.new }
     ensures roomy { IsErrOf result StoreFault.Nodes → store.old.limit < 2 ^ (2 ^ store.old.variables) }
-    ensures copies { IfOk result (λ t. IsProjected store.old.variables over.now (IsAStep store.old parts.now relation from.now) t.copies) }
+    ensures copies { IfOk result (λ t. IsProjected store.old.variables (quantified links.now) (IsAStep store.old parts.now links.now from.now) t.copies) }
     ensures good { IfOk result (λ t. IsJudged store.old parts.now from.now t.good) }
 {
     let within = steps::allowed_within(store, parts.allowed, parts.observer, from)?;
-    let next = store.and_exists(within.all, relation, over)?;
+    let next = store.image(within.all, links)?;
     let met = sides::is_met(store, within.bad)?;
     let copies = store.freeze(next)?;
     Ok(Taken { copies, good: !met })
@@ -118,13 +120,14 @@ impl Symbolic {
         let bits = parts.next.len() as u32;
         let all_but_copies = all_but(alloc, variables, bits, 1)?;
         let all_but_bits = all_but(alloc, variables, bits, 0)?;
-        let relation = links::relation(&mut store, parts.next.as_slice())?;
+        let relations = links::relations(alloc, &mut store, parts.next.as_slice())?;
+        let forth = schedule(alloc, &store, relations.as_slice(), all_but_copies)?;
+        let back = schedule(alloc, &store, relations.as_slice(), all_but_bits)?;
         Ok(Symbolic {
             store,
             parts,
-            relation,
-            all_but_copies,
-            all_but_bits,
+            forth,
+            back,
             alloc,
         })
     }
@@ -138,8 +141,8 @@ impl Symbolic {
         ensures roomy { IsErrOf result StoreFault.Nodes → (store_of self.old).limit < 2 ^ (2 ^ (store_of self.old).variables) }
     {
         let mark = self.store.mark();
-        let over = self.all_but_copies.as_slice();
-        let answer = steps::projected(&mut self.store, from, &case.condition, self.relation, over);
+        let links = self.forth.as_slice();
+        let answer = steps::projected(&mut self.store, from, &case.condition, links);
         self.store.release(mark);
         let copies = answer?;
         Ok(copies.lowered())
@@ -156,19 +159,13 @@ impl Symbolic {
         let bits = steps::copied(&mut self.store, to)?;
         let copies = bits.raised();
         let mark = self.store.mark();
-        let over = self.all_but_bits.as_slice();
-        let answer = steps::projected(
-            &mut self.store,
-            &copies,
-            &case.condition,
-            self.relation,
-            over,
-        );
+        let links = self.back.as_slice();
+        let answer = steps::projected(&mut self.store, &copies, &case.condition, links);
         self.store.release(mark);
         answer
     }
 
-    /// One step from all allowed valuations of a set, in one product.
+    /// One step from all allowed valuations of a set, in one image.
     pub fn next_states(&mut self, from: &Frozen) -> Result<NextStates, StoreFault>
         requires { (s : System) × IsSymbolicOf s self.old × IsControlSet s from.now }
         ensures exact { (s : System) → IsSymbolicOf s self.old → IsControlSet s from.now → IfOk result (AreNextStates s from.now) }
@@ -176,8 +173,8 @@ impl Symbolic {
         ensures roomy { IsErrOf result StoreFault.Nodes → (store_of self.old).limit < 2 ^ (2 ^ (store_of self.old).variables) }
     {
         let mark = self.store.mark();
-        let over = self.all_but_copies.as_slice();
-        let answer = take_step(&mut self.store, &self.parts, self.relation, over, from);
+        let links = self.forth.as_slice();
+        let answer = take_step(&mut self.store, &self.parts, links, from);
         self.store.release(mark);
         let taken = answer?;
         let Taken { copies, good } = taken;

@@ -1,9 +1,12 @@
-use Rattle.std.proofs.Common.{◌≡◌, true, Bool, List, subst, sym}
-use Rattle.rv_diagram.specs.Nodes.{value_of, IsOrderedOver, Diagrams}
+use Rattle.std.proofs.Common.{List, subst, sym}
+use Rattle.rv_diagram.specs.Nodes.{IsOrderedOver, Diagrams}
+use Rattle.rv_diagram.specs.Several.{ArePartRefs, IsSchedule}
+use Rattle.rv_diagram.specs.declared.store.several.Part.{Part}
+use Rattle.rv_symbolic.specs.Linked.{AreMet, quantified}
 use Rattle.rv_proofs.specs.Scopes.{IsIn}
 use Rattle.rv_symbolic.specs.Stepped.{IsProjected}
 use Rattle.rv_symbolic.proofs.Extending.{map_ok}
-use Rattle.rv_symbolic.proofs.Projecting.{copied_control, raised_ordered, preimage_of}
+use Rattle.rv_symbolic.proofs.Projecting.{back, copied_control, raised_ordered, preimage_of}
 use Rattle.rv_symbolic.proofs.symbolic.Symbolic.preimage.Goals as goal
 
 pub projected-answer-requires-clause-set : goal.projected-answer-requires-clause-set
@@ -16,14 +19,26 @@ projected-answer-requires-clause-set c =
 
 pub returns-clause-exact : goal.returns-clause-exact
 returns-clause-exact c s is control case =
-    map_ok c.projected-answer.result (IsProjected c.copied.new.store.variables c.as_slice-over.result.now
-    (λ w. IsIn c.raised-copies.result w × IsIn c.args.case.now.condition w × (value_of c.copied.new.store.nodes c.args.self.now.relation w ≡ true))) _
-    (λ f p. let q = subst (λ (over : List Bool). IsProjected c.copied.new.store.variables over
-    (λ w. IsIn c.raised-copies.result w × IsIn c.args.case.now.condition w × (value_of c.copied.new.store.nodes c.args.self.now.relation w ≡ true))
-    f) c.as_slice-over.ensures p in
+    map_ok c.projected-answer.result (IsProjected c.copied.new.store.variables (quantified c.as_slice-links.result.now)
+    (λ w. IsIn c.raised-copies.result w × IsIn c.args.case.now.condition w × AreMet c.copied.new.store.nodes c.as_slice-links.result.now w)) _
+    (λ f p. let q = subst (λ (links : List Part). IsProjected c.copied.new.store.variables (quantified links)
+    (λ w. IsIn c.raised-copies.result w × IsIn c.args.case.now.condition w × AreMet c.copied.new.store.nodes links w)
+    f) c.as_slice-links.ensures p in
     preimage_of s c.args.self.now is c.args.to.now c.args.case.now c.in_ok-bits.bits c.raised-copies.result f control case c.in_ok-bits.ensures.means
     c.raised-copies.ensures.means
-    (subst (λ (d : Diagrams). IsProjected d.variables c.args.self.now.all_but_bits
-    (λ w. IsIn c.raised-copies.result w × IsIn c.args.case.now.condition w × (value_of d.nodes c.args.self.now.relation w ≡ true)) f)
+    (subst (λ (d : Diagrams). IsProjected d.variables (quantified c.args.self.now.back)
+    (λ w. IsIn c.raised-copies.result w × IsIn c.args.case.now.condition w × AreMet d.nodes c.args.self.now.back w) f)
     c.copied.ensures.same q))
     c.projected-answer.ensures.ok
+
+pub projected-answer-requires-clause-links : goal.projected-answer-requires-clause-links
+projected-answer-requires-clause-links c =
+    subst (λ (d : Diagrams). ArePartRefs d.nodes c.as_slice-links.result.now) (sym c.copied.ensures.same)
+    (subst (λ (links : List Part). ArePartRefs c.args.self.now.store.nodes links) (sym c.as_slice-links.ensures)
+    (back c.requires.0 c.args.self.now c.requires.1).refs)
+
+pub projected-answer-requires-clause-schedule : goal.projected-answer-requires-clause-schedule
+projected-answer-requires-clause-schedule c =
+    subst (λ (d : Diagrams). IsSchedule d.nodes c.as_slice-links.result.now) (sym c.copied.ensures.same)
+    (subst (λ (links : List Part). IsSchedule c.args.self.now.store.nodes links) (sym c.as_slice-links.ensures)
+    (back c.requires.0 c.args.self.now c.requires.1).schedule)
