@@ -9,7 +9,7 @@ use Rattle.rv_types.specs.declared.typed.Kind.{Kind}
 use Rattle.rv_types.specs.declared.typed.Kind.TheVariants as kind
 use Rattle.rv_types.specs.Variables.{is_integer, bits_for}
 use Rattle.rv_meaning.specs.Meaning.{number}
-use Rattle.rv_meaning.specs.Valuations.{code}
+use Rattle.rv_meaning.specs.Codes.{code}
 use Rattle.rv_rows.specs.declared.linear.Form.{Form}
 use Rattle.rv_rows.specs.Forms as forms
 use Rattle.rv_agreement.specs.Trees.{System, memory_kinds, memory_places, kind_at}

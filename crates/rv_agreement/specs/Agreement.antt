@@ -11,7 +11,7 @@ use Rattle.rv_types.specs.declared.typed.Kind.{Kind}
 use Rattle.rv_types.specs.declared.typed.Kind.TheVariants as kind
 use Rattle.rv_types.specs.Lists.{Side, sides_of}
 use Rattle.rv_types.specs.Variables.{is_integer, bits_for}
-use Rattle.rv_meaning.specs.Valuations.{code}
+use Rattle.rv_meaning.specs.Codes.{code}
 use Rattle.rv_rows.specs.declared.linear.Form.{Form}
 use Rattle.rv_agreement.specs.Trees.{FlatTree, Node, TreeForm, FlatTrees, Constant, Flow, Memory, Ticked, Input, Not, Binary, Scale, If, AtMostOne, When, Current, None, More, Item, nth_item, System, memory_items, memory_kinds, memory_places, kind_at}
 use Rattle.rv_agreement.specs.Evaluation.{Found, IsInstant, is_there, value, after, is_met, integers, nth}

@@ -1,5 +1,10 @@
 //! A flat system and its program at valuations of their control and of their order tests, and how their whole numbers agree
 //! with one.
+//!
+//! It promises that each instant of a run agrees with a valuation whose symbolic instant gives what the run has, of a program and of
+//! a flat system alike, that both have the same symbolic instants, and that what is inductive over the valuations is safe. The
+//! definitions read whole numbers and linear forms by one text (`value` over `Reads`). It stands on `rv_meaning` for runs and on
+//! `rv_rows` for forms, and has no code but its laws. Begin with specs/Agreement.antt, then laws.rt and program_laws.rt.
 #![tactic(auto)]
 
 mod laws;

@@ -12,7 +12,7 @@ use Rattle.rv_types.specs.Lists.{MemoryAt, memory_at, Variable, MainTick, Tick, 
 use Rattle.rv_types.specs.Values.{HasKind, labels_at}
 use Rattle.rv_types.specs.Variables.{bits_for}
 use Rattle.rv_types.specs.WellFormed.{AreWell}
-use Rattle.rv_meaning.specs.Valuations.{code}
+use Rattle.rv_meaning.specs.Codes.{code}
 use Rattle.rv_meaning.specs.Runs.{History, IsRun, IsSafe}
 use Rattle.rv_agreement.specs.Trees.{System, memory_kinds, memory_places, kind_at}
 use Rattle.rv_agreement.specs.Agreement.{State}

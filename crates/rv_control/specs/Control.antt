@@ -7,7 +7,7 @@ use Rattle.rv_types.specs.declared.typed.Kind.{Kind}
 use Rattle.rv_types.specs.declared.typed.Kind.TheVariants as kind
 use Rattle.rv_types.specs.Lists.{Side, sides_of, Variable, MainTick, Tick, Kept, Next, Input, Test}
 use Rattle.rv_types.specs.Variables.{bits_for}
-use Rattle.rv_meaning.specs.Valuations.{code}
+use Rattle.rv_meaning.specs.Codes.{code}
 use Rattle.rv_rows.specs.declared.linear.Row.{Row}
 use Rattle.rv_rows.specs.Arithmetic.{constant_form, test_row}
 use Rattle.rv_agreement.specs.Trees.{Item, Kept as KeptMemory, System, memory_kinds, memory_places}

@@ -1,4 +1,9 @@
 //! A flat system as a system of valuations, of which certificates speak.
+//!
+//! It promises that the program is safe exactly where the system of its flat system is (`runs_are_abstract`,
+//! `abstract_runs_are_runs`), and that this is a system as certificates ask for one (`control_is_a_system`), integers included. It
+//! stands on `rv_flat` for the flat system and on `rv_proofs` for systems, and has no code but its laws. Begin with
+//! specs/Control.antt (`control_of`), then laws.rt.
 #![tactic(auto)]
 
 mod laws;

@@ -12,7 +12,6 @@ pub mod OneInstant
 pub mod DelayParts
 pub mod Following
 pub mod Steps
-pub mod Initial
 pub mod States
 pub mod Holding
 pub mod Brought
@@ -23,9 +22,7 @@ pub mod Standing
 pub mod FlowSites
 pub mod TypedTrees
 pub mod TypedFlows
-pub mod Spelling
 pub mod TypedStates
-pub mod Agreement
 pub mod Searches
 pub mod Calling
 pub mod Leads

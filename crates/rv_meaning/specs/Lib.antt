@@ -3,7 +3,8 @@ pub mod Runs
 pub mod Givers
 pub mod Instants
 pub mod Following
-pub mod Valuations
+pub mod Codes
+pub mod Integers
 pub mod Accessors
 pub mod Leading
 pub mod Telling

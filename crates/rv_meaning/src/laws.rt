@@ -1,10 +1,9 @@
 //! Laws of the meaning, each the contract of a function that does nothing.
 
-ghost use Rattle.std.specs.Prelude.{◌≡◌, ℕ, ◌+◌, ◌<◌, ◌↔◌, false, List, Some, slice_index_or};
+ghost use Rattle.std.specs.Prelude.{◌≡◌, ℕ, ◌+◌, ◌<◌, ◌↔◌, List, slice_index_or};
 ghost use Rattle.std.specs.FinMap.{empty};
 ghost use Rattle.std.specs.List.{Contains};
 ghost use Rattle.rv_base.specs.declared.value.Value.{Value};
-ghost use Rattle.rv_base.specs.declared.value.Value.TheVariants.{Flag};
 ghost use Rattle.rv_tree.specs.Tree.{AssertionTree, ProgramTree};
 ghost use Rattle.rv_tree.specs.Places.{Identifier, Sites};
 ghost use Rattle.rv_types.specs.declared.typed.Clock.TheVariants.{Base};
@@ -12,11 +11,10 @@ ghost use Rattle.rv_types.specs.Instances.{Instance, IsInstance, IsNode};
 ghost use Rattle.rv_types.specs.Needs.{IsSequence};
 ghost use Rattle.rv_types.specs.WellFormed.{AreWell};
 ghost use Rattle.rv_meaning.specs.Meaning.{value};
-ghost use Rattle.rv_meaning.specs.Runs.{History, Instant, cells, AssertionsHold, AreStarts, AreInputs, IsRun, IsAllowed, IsSafe, Falsifies};
-ghost use Rattle.rv_meaning.specs.Instants.{State, IsInstant, IsNext, IsStart, AllowsAt, AreGiven, observed_in, value_now};
+ghost use Rattle.rv_meaning.specs.Runs.{History, Instant, cells, AssertionsHold, AreStarts, AreInputs, IsRun};
+ghost use Rattle.rv_meaning.specs.Instants.{State, IsInstant, IsNext, IsStart, AllowsAt, AreGiven, value_now};
 ghost use Rattle.rv_meaning.specs.Givers.{AreDefined};
 ghost use Rattle.rv_meaning.specs.Following.{IsStateAt, AreSteps, IsTypedInstant};
-ghost use Rattle.rv_meaning.specs.Valuations.{Valuation, IsSymbolicInstant, IsAllowedAt, HoldsEverywhere, IsControl};
 
 /// Two runs with the same starts and inputs are equal, where the flows stand in an order of evaluation.
 pub fn one_run()
@@ -87,31 +85,4 @@ pub fn typed_instants()
     ensures memories { (program : ProgramTree) (main : Identifier) (sequence : List Sites) (state next : State) (inputs : ℕ → Value) (row : Instant)
         → AreWell program → IsNode program main → IsSequence program main sequence → AreStarts program main state.kept → AreGiven program main inputs
         → IsInstant program main state inputs row → IsNext program main state row next → AreStarts program main next.kept }
-{}
-
-/// At each instant of a run of a program without integers the row is the symbolic instant of some valuation, which is
-/// allowed where the assertions have held.
-pub fn instants_agree()
-    ensures { (program : ProgramTree) (main : Identifier) (sequence : List Sites) (starts : Sites → Value) (inputs : ℕ → ℕ → Value) (n : ℕ) (h : History) (t : ℕ)
-        → AreWell program → IsNode program main → IsSequence program main sequence → IsControl program main
-        → IsRun program main starts inputs n h → t < n
-        → (v : Valuation) × IsSymbolicInstant program main v (slice_index_or h t empty)
-        × (IsAllowed program main starts h t → IsAllowedAt program main v (slice_index_or h t empty)) }
-{}
-
-/// A program without integers whose observer is true at every allowed valuation is safe.
-pub fn everywhere_is_safe()
-    ensures { (program : ProgramTree) (main : Identifier) (sequence : List Sites)
-        → AreWell program → IsNode program main → IsSequence program main sequence → IsControl program main
-        → HoldsEverywhere program main → IsSafe program main }
-{}
-
-/// Where no clock has been there, the assertions allow an instant and its observer is false, the run of that one instant
-/// falsifies.
-pub fn initial_falsifies()
-    ensures { (program : ProgramTree) (main : Identifier) (sequence : List Sites) (starts : Sites → Value) (inputs : ℕ → ℕ → Value) (state : State) (row : Instant)
-        → AreWell program → IsNode program main → IsSequence program main sequence
-        → AreStarts program main starts → AreInputs program main 1 inputs → IsStart program main starts state
-        → IsInstant program main state (inputs 0) row → AllowsAt program main state row → observed_in program main row ≡ Some (Flag false)
-        → Falsifies program main starts inputs 0 }
 {}

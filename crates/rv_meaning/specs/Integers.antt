@@ -1,0 +1,18 @@
+-- Programs without integers: what they do is the control alone.
+use Rattle.std.specs.Prelude.{◌≡◌, Some}
+use Rattle.std.specs.List.{Contains}
+use Rattle.rv_tree.specs.Tree.{Tree, ProgramTree}
+use Rattle.rv_tree.specs.Places.{Identifier, flows}
+use Rattle.rv_tree.specs.Delays.{Delay, node_delays}
+use Rattle.rv_types.specs.declared.typed.Kind.TheVariants as kind
+use Rattle.rv_types.specs.Kinds.{flow_kind}
+use Rattle.rv_types.specs.Values.{operand_kind}
+use Rattle.rv_types.specs.Variables.{node_parts}
+use Rattle.rv_types.specs.Lists.{ComparisonAt, Compares}
+use Rattle.rv_types.specs.Instances.{Instance, IsInstance}
+
+-- No flow of any instance and no operand of a `pre` or `current` is an integer, and no integers are compared.
+pub record IsControl (program : ProgramTree) (main : Identifier) : Type 0 where
+  pub flows : (i : Instance) (x : Identifier) → IsInstance program main i → Contains (flows i.node) x → flow_kind program i.node x ≡ Some kind.Int → ⊥
+  pub delays : (i : Instance) (d : Delay) → IsInstance program main i → Contains (node_delays i.node) d → operand_kind program i.node d.operand ≡ kind.Int → ⊥
+  pub comparisons : (i : Instance) (e : Tree) (c : ComparisonAt) → IsInstance program main i → Contains (node_parts i.node) e → Compares program i e c → ⊥
