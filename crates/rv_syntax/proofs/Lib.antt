@@ -24,3 +24,4 @@ pub mod Earlier
 pub mod OneFault
 pub mod FirstFault
 pub mod Placed
+pub mod PlainNames

@@ -15,6 +15,7 @@ ghost use Rattle.rv_syntax.specs.Reading as reading;
 ghost use Rattle.rv_syntax.specs.Stopped.{Tells};
 ghost use Rattle.rv_tree.specs.Bounded.{IsBounded};
 ghost use Rattle.rv_tree.specs.SourceTrees.{IsSourceTree};
+ghost use Rattle.rv_tree.specs.Words.{HasPlainNames};
 ghost use Rattle.rv_syntax.specs.TextTrees.{IsTreeOfText};
 ghost use Rattle.rv_syntax.specs.declared.fault.TextFault.{TextFault as FaultModel};
 ghost use Rattle.rv_tree.specs.Limits.{source_limit};
@@ -118,6 +119,11 @@ pub fn source_trees()
     numbered_sites();
     ordered_constants();
 }
+
+/// In the tree of a text the labels of types, the names of nodes and those of their inputs are letters, digits and `_`.
+pub fn plain_names()
+    ensures { (bytes : List ℕ) (t : ProgramTree) → IsTextOf bytes t → HasPlainNames t }
+{}
 
 /// Tokens are at most one expression.
 pub fn one_expression()

@@ -7,3 +7,4 @@ pub mod SitedParts
 pub mod Delays
 pub mod Bounded
 pub mod SourceTrees
+pub mod Words
