@@ -7,7 +7,7 @@ use Rattle.std.proofs.lemmas.Nat.{pow_pos}
 use Rattle.std.proofs.lemmas.Nat.Bits.{bit_at-lt, bit_at_above, same_from_bits}
 use Rattle.std.specs.Int.{bit_at}
 use Rattle.rv_types.specs.Variables.{bits_from, bits_for}
-use Rattle.rv_meaning.specs.Valuations.{code}
+use Rattle.rv_meaning.specs.Codes.{code}
 use Rattle.rv_reading.specs.Bits.{bit_of, is_same, are_same}
 
 -- two truth values are equal where each follows from the other

@@ -135,6 +135,10 @@ pub on_ok : {A E : Type 0} (o : Result A E) (P : A → Type 0) (Q : Type 0) → 
 on_ok (Ok r) P Q g h = g r h
 on_ok (Err e) P Q g h = h
 
+pub both_ok : {A E : Type 0} (o : Result A E) (P Q R : A → Type 0) → ((r : A) → P r → Q r → R r) → IfOk o P → IfOk o Q → IfOk o R
+both_ok (Ok r) P Q R g h k = g r h k
+both_ok (Err e) P Q R g h k = h
+
 -- no expression is left past the last one
 pub none_counted : (x : Around) (es : List FlatExpr) (i : ℕ) (v : Valuation) (row : List (Option Reading)) (count : ℕ) → length es ≤ i → count ≡ count + true_at x.flat.now v row (trees_in x (drop i es))
 none_counted x es i v row count le =

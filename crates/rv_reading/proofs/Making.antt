@@ -13,7 +13,7 @@ use Rattle.rv_symbolic.specs.Linked.{AreRefs}
 use Rattle.rv_symbolic.proofs.Extending.{extends_trans, grows_extends}
 use Rattle.std.proofs.Math.Nat.{pow-succ', le-max_left, le-max_right, mul_comm, div-div-eq-div-mul, lt-div-mul-add}
 use Rattle.std.proofs.lemmas.Nat.{pow_pos}
-use Rattle.rv_meaning.specs.Valuations.{code}
+use Rattle.rv_meaning.specs.Codes.{code}
 use Rattle.rv_types.specs.Variables.{bits_for}
 use Rattle.rv_reading.specs.Bits.{bit, bit_of, is_same, are_same, count_true, Spells, AreCounted}
 use Rattle.rv_reading.proofs.Codes.{none_more, most_more, code_within, within_below, label_coded, bit_past}

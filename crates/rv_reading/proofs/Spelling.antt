@@ -10,7 +10,7 @@ use Rattle.rv_types.specs.declared.typed.Kind.TheVariants as kind
 use Rattle.rv_types.specs.Lists.{Variable, Input}
 use Rattle.rv_types.specs.Lists as lists
 use Rattle.rv_types.specs.Variables.{bits_for}
-use Rattle.rv_meaning.specs.Valuations.{code}
+use Rattle.rv_meaning.specs.Codes.{code}
 use Rattle.rv_rows.specs.declared.linear.Form.{Form}
 use Rattle.rv_diagram.specs.declared.Triple.{Triple}
 use Rattle.rv_diagram.specs.Nodes.{Valuation, Diagrams}

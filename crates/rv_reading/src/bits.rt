@@ -4,7 +4,7 @@
 ghost use Rattle.std.specs.Prelude.{◌≡◌, ℕ, ◌+◌, ◌<◌, ◌≤◌, ◌^◌, ◌&&◌, ◌||◌, [], ◌∷◌, cond, length, max, nat_eq, nat_le, nat_lt, IfOk, IsErrOf};
 ghost use Rattle.rv_diagram.specs.Nodes.{Valuation, IsRef, value_of};
 ghost use Rattle.rv_diagram.specs.Several.{ref_at};
-ghost use Rattle.rv_meaning.specs.Valuations.{code};
+ghost use Rattle.rv_meaning.specs.Codes.{code};
 ghost use Rattle.rv_types.specs.Variables.{bits_for};
 ghost use Rattle.rv_symbolic.specs.Growing.{Makes};
 ghost use Rattle.rv_symbolic.specs.Linked.{AreRefs};

@@ -32,31 +32,42 @@ pub fn list_at(lists: &Many<Many<Ref>>, number: usize) -> &[Ref]
 
 /// A copy of it.
 #[inline(never)]
-pub fn copy_at(alloc: Global, lists: &Many<Many<Ref>>, number: usize) -> Result<Many<Ref>, Memory>
-    ensures { IfOk result (λ copy. copy ≡ refs_at lists.now number) }
+pub fn copy_at(
+    alloc: Global,
+    lists: &Many<Many<Ref>>,
+    number: usize,
+) -> Result<Many<Ref>, StoreFault>
+    ensures ok { IfOk result (λ copy. copy ≡ refs_at lists.now number) }
+    ensures never { IsErrOf result StoreFault.Nodes → ⊥ }
 {
-    copied(alloc, list_at(lists, number))
+    Ok(copied(alloc, list_at(lists, number))?)
 }
 
 /// The bits of a constant; an integer has none.
 #[inline(never)]
-pub fn constant_bits(alloc: Global, store: &Store, constant: &Value) -> Result<Many<Ref>, Memory>
+pub fn constant_bits(
+    alloc: Global,
+    store: &Store,
+    constant: &Value,
+) -> Result<Many<Ref>, StoreFault>
     ensures found { IfOk result (λ refs. AreRefs store.now.nodes refs) }
     ensures means { IfOk result (λ refs. (b : ℕ) (v : Valuation) → bit store.now.nodes refs v b ≡ constant_bit constant.now b) }
+    ensures never { IsErrOf result StoreFault.Nodes → ⊥ }
 {
     match constant {
-        Value::Flag(flag) => bits_of(alloc, store, u32::from(*flag)),
-        Value::Label(label) => bits_of(alloc, store, *label),
+        Value::Flag(flag) => Ok(bits_of(alloc, store, u32::from(*flag))?),
+        Value::Label(label) => Ok(bits_of(alloc, store, *label)?),
         Value::Whole(_) => Ok(Many::new(alloc)),
     }
 }
 
 /// The bit of the reference with a number.
 #[inline(never)]
-pub fn bit_at(alloc: Global, refs: &Many<Ref>, number: usize) -> Result<Many<Ref>, Memory>
-    ensures { IfOk result (λ one. one ≡ ref_at refs.now number ∷ []) }
+pub fn bit_at(alloc: Global, refs: &Many<Ref>, number: usize) -> Result<Many<Ref>, StoreFault>
+    ensures ok { IfOk result (λ one. one ≡ ref_at refs.now number ∷ []) }
+    ensures never { IsErrOf result StoreFault.Nodes → ⊥ }
 {
-    single(alloc, ref_of(refs.as_slice(), number))
+    Ok(single(alloc, ref_of(refs.as_slice(), number))?)
 }
 
 /// The negation of a bit alone.

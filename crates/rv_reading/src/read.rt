@@ -1,10 +1,12 @@
 //! Expressions read into the references of their bits, and what the memories hold after an instant.
 
-ghost use Rattle.std.specs.Prelude.{◌≡◌, ◌<◌, ◌^◌, ℕ, List, cond, length, slice_get, slice_index_or, None, Some, IfOk, OnOk, IsErrOf};
+ghost use Rattle.std.specs.Prelude.{◌≡◌, ◌<◌, ◌^◌, ℕ, List, cond, length, map, slice_get, slice_index_or, None, Some, IfOk, OnOk, IsErrOf};
 ghost use Rattle.rv_agreement.specs.Agreement.{IsNamed};
 ghost use Rattle.rv_agreement.specs.Trees.{Node, Not, Binary, If, AtMostOne};
 ghost use Rattle.rv_symbolic.specs.Linked.{AreRefs};
-ghost use Rattle.rv_reading.specs.Bits.{bit, Spells};
+ghost use Rattle.rv_reading.specs.Bits.{bit, IsSingle, Spells};
+ghost use Rattle.rv_reading.specs.Operators.{operated_by};
+ghost use Rattle.rv_flat.specs.Lists.{variable_of};
 ghost use Rattle.rv_tree.specs.Places.{Sites};
 ghost use Rattle.rv_flat.specs.Inlined.{table_of};
 ghost use Rattle.rv_flat.specs.Tame.{IsOver, AreOver};
@@ -40,11 +42,11 @@ pub fn read_expr(
     ensures roomy { IsErrOf result StoreFault.Nodes → store.old.limit < 2 ^ (2 ^ store.old.variables) }
 {
     match &e.form {
-        FlatForm::Constant(constant) => Ok(constant_bits(alloc, store, constant)?),
-        FlatForm::Flow(number) => Ok(copy_at(alloc, &around.read.bits, *number as usize)?),
-        FlatForm::Memory(number) => Ok(copy_at(alloc, &around.tables.kept, *number as usize)?),
-        FlatForm::Ticked(number) => Ok(bit_at(alloc, &around.tables.ticks, *number as usize)?),
-        FlatForm::Input(number) => Ok(copy_at(alloc, &around.tables.given, *number as usize)?),
+        FlatForm::Constant(constant) => constant_bits(alloc, store, constant),
+        FlatForm::Flow(number) => copy_at(alloc, &around.read.bits, *number as usize),
+        FlatForm::Memory(number) => copy_at(alloc, &around.tables.kept, *number as usize),
+        FlatForm::Ticked(number) => bit_at(alloc, &around.tables.ticks, *number as usize),
+        FlatForm::Input(number) => copy_at(alloc, &around.tables.given, *number as usize),
         FlatForm::Not(operand) => read_not(alloc, store, around, shown, operand),
         FlatForm::Binary(op, left, right) => {
             read_binary(alloc, store, around, shown, &e.at, *op, left, right)
@@ -105,15 +107,37 @@ fn read_binary(
 {
     let first = read_expr(alloc, store, around, shown, left)?;
     let second = read_expr(alloc, store, around, shown, right)?;
-    let variables = around.flat.variables.as_slice();
-    let made = operated(
+    combined(
+        alloc,
         store,
-        variables,
+        around,
         at,
         op,
         first.as_slice(),
         second.as_slice(),
-    )?;
+    )
+}
+
+/// The reference of what an operator makes of the bits of its operands.
+#[inline(never)]
+fn combined(
+    alloc: Global,
+    store: &mut Store,
+    around: &Around,
+    at: &Place,
+    op: Op,
+    left: &[Ref],
+    right: &[Ref],
+) -> Result<Many<Ref>, StoreFault>
+    requires around { IsAround store.old around.now }
+    requires left { AreRefs store.old.nodes left.now }
+    requires right { AreRefs store.old.nodes right.now }
+    ensures ok { IfOk result (IsSingle store.old store.new
+        (λ v. operated_by store.old.nodes (map variable_of around.now.flat.now.variables) at.now.sites left.now right.now v op)) }
+    ensures roomy { IsErrOf result StoreFault.Nodes → store.old.limit < 2 ^ (2 ^ store.old.variables) }
+{
+    let variables = around.flat.variables.as_slice();
+    let made = operated(store, variables, at, op, left, right)?;
     Ok(single(alloc, made)?)
 }
 

@@ -1,6 +1,6 @@
 //! The control reading of a flat system.
 
-ghost use Rattle.std.specs.Prelude.{◌≡◌, ◌<◌, ◌≤◌, ◌^◌, length, IfOk, IsErrOf};
+ghost use Rattle.std.specs.Prelude.{◌≡◌, ◌↔◌, ◌<◌, ◌≤◌, ◌^◌, ℤ, List, Ok, length, IfOk, IsErrOf};
 ghost use Rattle.rv_tree.specs.Tree.{ProgramTree};
 ghost use Rattle.rv_tree.specs.Places.{Identifier};
 ghost use Rattle.rv_types.specs.Instances.{IsNode};
@@ -9,6 +9,11 @@ ghost use Rattle.rv_flat.specs.FlatOf.{IsFlatOf};
 ghost use Rattle.rv_proofs.specs.Cases.{IsCase, AreCases, IsImage, IsPreimage, IsInitialSet};
 ghost use Rattle.rv_proofs.specs.Ranges.{IsControlSet};
 ghost use Rattle.rv_proofs.specs.Reached.{HasNoIntegers};
+ghost use Rattle.rv_proofs.specs.Runs.{IsSafeSystem};
+ghost use Rattle.rv_proofs.specs.Boxes.{HasGoodBox};
+ghost use Rattle.rv_proofs.specs.declared.certificate.Certificate.{Certificate};
+ghost use Rattle.rv_proofs.specs.declared.report.Layers.{Layers};
+ghost use Rattle.rv_walk.specs.Ends.{IsGoodCertificate, AreBadLayers, IsGoodEnd};
 ghost use Rattle.rv_reading.specs.Read.{flat_of, system_read, diagrams_of, IsRead};
 
 use crate::whole::read_parts;
@@ -18,6 +23,7 @@ use rv_diagram::{Frozen, Store, StoreFault};
 use rv_flat::Flat;
 use rv_proofs::Case;
 use rv_symbolic::Symbolic;
+use rv_walk::{BoxEnd, walk};
 use std::alloc::Global;
 
 /// The control reading of a flat system: its control as diagrams in a store. Sets and cases that are handed in, and those that
@@ -93,6 +99,20 @@ impl<'a> Reading<'a> {
         ensures roomy { IsErrOf result StoreFault.Nodes → (diagrams_of self.old).limit < 2 ^ (2 ^ (diagrams_of self.old).variables) }
     {
         self.symbolic.initial()
+    }
+
+    /// The walk through the layers of control states of a flat system without integers: how it ends.
+    pub fn walk(&mut self, alloc: Global) -> Result<BoxEnd, StoreFault>
+        requires read { IsRead self.old }
+        requires control { HasNoIntegers (system_read self.old) }
+        ensures good { (c : Certificate) → result ≡ Ok (BoxEnd.Good c) → IsGoodCertificate (system_read self.old) c }
+        ensures bad { (l : Layers) → result ≡ Ok (BoxEnd.Bad l) → AreBadLayers (system_read self.old) l }
+        ensures exactly { (thresholds : List ℤ) → IfOk result (λ e. IsGoodEnd e ↔ HasGoodBox (system_read self.old) thresholds) }
+        ensures decides { IfOk result (λ e. IsGoodEnd e ↔ IsSafeSystem (system_read self.old)) }
+        ensures same { self.new ≡ self.old }
+        ensures roomy { IsErrOf result StoreFault.Nodes → (diagrams_of self.old).limit < 2 ^ (2 ^ (diagrams_of self.old).variables) }
+    {
+        walk(alloc, &mut self.symbolic)
     }
 
     /// The flat system.

@@ -1,5 +1,5 @@
 use Rattle.std.proofs.Common.{◌≡◌, ◌-◌, ◌/◌, ◌^◌, nat_le}
-use Rattle.rv_meaning.specs.Valuations.{code}
+use Rattle.rv_meaning.specs.Codes.{code}
 use Rattle.rv_symbolic.specs.Growing.{Makes}
 use Rattle.rv_reading.specs.Bits.{bit, bit_of}
 use Rattle.rv_reading.proofs.bits.names_label.Given as goal

@@ -1,4 +1,4 @@
-use Rattle.std.proofs.Common.{◌≡◌, ◌∙◌, ◌+◌, ◌<◌, ℕ, suc, not, cond, nat_le, List, [], ◌∷◌, ◌++◌, length, map, drop, ap, subst, sym, arith}
+use Rattle.std.proofs.Common.{◌≡◌, ◌∙◌, ◌+◌, ◌<◌, ℕ, suc, not, cond, nat_le, List, [], ◌∷◌, ◌++◌, length, drop, ap, subst, sym, arith}
 use Rattle.std.proofs.Math.Seq.{drop-cons}
 use Rattle.std.proofs.lemmas.Option.{slice_get_within}
 use Rattle.rv_tree.specs.Places.{Sites}
@@ -8,7 +8,6 @@ use Rattle.rv_agreement.specs.Trees.{FlatTree, Node, Memory, Ticked, Not, Binary
 use Rattle.rv_flat.specs.declared.parts.FlatExpr.{FlatExpr}
 use Rattle.rv_flat.specs.FlatInstants.{system_of}
 use Rattle.rv_flat.specs.Inlined.{size_of}
-use Rattle.rv_flat.specs.Lists.{variable_of}
 use Rattle.rv_flat.specs.Tame.{AreOver}
 use Rattle.rv_control.specs.Named.{variables_of}
 use Rattle.rv_symbolic.specs.Growing.{Makes}
@@ -20,7 +19,7 @@ use Rattle.rv_reading.specs.Shown.{refs_at, clock_bit, IsAfter, AreAfter, ReadsT
 use Rattle.rv_reading.specs.Reads.{tree_in, trees_in, true_at, ShowsTo}
 use Rattle.rv_reading.proofs.Making.{any_ref, refs_more, refs_kept}
 use Rattle.rv_reading.proofs.Showing.{reads_constant, reads_memory, reads_tick, reads_not, reads_binary, reads_if, reads_most, reads_when, shows_after}
-use Rattle.rv_reading.proofs.Keeping.{around_kept, after_kept, after_set, trees_left, fit_more, counted_more, on_ok, none_counted, none_after, memory_item_at}
+use Rattle.rv_reading.proofs.Keeping.{around_kept, after_kept, after_set, trees_left, fit_more, counted_more, on_ok, both_ok, none_counted, none_after, memory_item_at}
 use Rattle.rv_reading.proofs.Trees.{tree_constant, tree_memory, tree_ticked, tree_not, tree_if, tree_most, tree_when}
 use Rattle.rv_reading.proofs.read.+read.Goals as goal
 
@@ -49,20 +48,29 @@ read_binary-returns-clause-ok t c =
     let x = c.args.around.now in
     let f = c.args.around.now.flat.now in
     let s = c.read_expr-2.new.store in
+    let new = c.combined.new.store in
     let at = c.args.at.now.sites in
     let left = c.in_ok-first.first in
     let right = c.in_ok-second.second in
-    let made : Makes s c.operated.new.store (λ v. operated_by s.nodes (variables_of f) at left right v c.args.op) c.in_ok-made.made =
-    subst (λ (r : List ℕ). Makes s c.operated.new.store (λ v. operated_by s.nodes (variables_of f) at left r v c.args.op) c.in_ok-made.made) c.as_slice-2.ensures
-    (subst (λ (l : List ℕ). Makes s c.operated.new.store (λ v. operated_by s.nodes (variables_of f) at l c.as_slice-2.result.now v c.args.op) c.in_ok-made.made) c.as_slice.ensures
-    (subst (λ bs. Makes s c.operated.new.store (λ v. operated_by s.nodes (map variable_of bs) at c.as_slice.result.now c.as_slice-2.result.now v c.args.op) c.in_ok-made.made) c.as_slice-variables.ensures c.in_ok-made.ensures.ok)) in
-    subst (ReadsTo f c.args.store.now c.operated.new.store (Node at (Binary c.args.op (tree_in x c.args.left.now) (tree_in x c.args.right.now)))) (sym c.in_ok-single.ensures)
-    (reads_binary f c.args.store.now c.read_expr.new.store s c.operated.new.store at c.args.op (tree_in x c.args.left.now) (tree_in x c.args.right.now) left right c.in_ok-made.made
-    c.in_ok-first.ensures.ok c.in_ok-second.ensures.ok made)
+    map_ok c.combined.result (IsSingle s new (λ v. operated_by s.nodes (variables_of f) at c.as_slice.result.now c.as_slice-2.result.now v c.args.op)) _
+    (λ refs single. subst (ReadsTo f c.args.store.now new (Node at (Binary c.args.op (tree_in x c.args.left.now) (tree_in x c.args.right.now)))) (sym single.is)
+    (reads_binary f c.args.store.now c.read_expr.new.store s new at c.args.op (tree_in x c.args.left.now) (tree_in x c.args.right.now) left right single.one
+    c.in_ok-first.ensures.ok c.in_ok-second.ensures.ok
+    (subst (λ (r : List ℕ). Makes s new (λ v. operated_by s.nodes (variables_of f) at left r v c.args.op) single.one) c.as_slice-2.ensures
+    (subst (λ (l : List ℕ). Makes s new (λ v. operated_by s.nodes (variables_of f) at l c.as_slice-2.result.now v c.args.op) single.one) c.as_slice.ensures single.made))))
+    c.combined.ensures.ok
 
 pub read_binary-returns-clause-shown : goal.read_binary-returns-clause-shown
 read_binary-returns-clause-shown t c =
-    after_kept c.args.around.now.flat.now c.read_expr-2.new.store c.operated.new.store c.read_expr-2.new.shown c.in_ok-made.ensures.ok.extends c.in_ok-second.ensures.shown
+    let s = c.read_expr-2.new.store in
+    on_ok c.combined.result (IsSingle s c.combined.new.store (λ v. operated_by s.nodes (variables_of c.args.around.now.flat.now) c.args.at.now.sites c.as_slice.result.now c.as_slice-2.result.now v c.args.op)) _
+    (λ refs made. after_kept c.args.around.now.flat.now s c.combined.new.store c.read_expr-2.new.shown made.made.extends c.in_ok-second.ensures.shown)
+    c.combined.ensures.ok
+
+pub read_binary-combined-requires-clause-around : goal.read_binary-combined-requires-clause-around
+read_binary-combined-requires-clause-around t c =
+    around_kept c.read_expr.new.store c.read_expr-2.new.store c.args.around.now c.in_ok-second.ensures.ok.extends
+    (around_kept c.args.store.now c.read_expr.new.store c.args.around.now c.in_ok-first.ensures.ok.extends c.requires.around)
 
 pub read_each-loop-e-preserved : goal.read_each-loop-e-preserved
 read_each-loop-e-preserved t c =
@@ -106,31 +114,36 @@ read_each-returns-clause-ok t c =
       counts = λ v row k instant all there. none_counted x c.args.expressions.now c.loop-e.e-index v row (count_true (length c.loop-e.refs) (bit c.loop-e.store.nodes c.loop-e.refs v)) (omega arith) ∙ before.counted v row k instant all there;
     }
 
-pub read_expr-returns-in_ok-constant_bits-in-Constant-clause-ok : goal.read_expr-returns-in_ok-constant_bits-in-Constant-clause-ok
-read_expr-returns-in_ok-constant_bits-in-Constant-clause-ok t c =
+pub read_expr-returns-in-Constant-clause-ok : goal.read_expr-returns-in-Constant-clause-ok
+read_expr-returns-in-Constant-clause-ok t c =
     let d = c.args.store.now in
     let e = c.args.e.now in
-    let refs = c.in_ok-constant_bits-in-Constant.field-0 in
-    subst (λ (u : FlatTree). ReadsTo c.args.around.now.flat.now d d u refs) (sym (tree_constant c.args.around.now e c.in-Constant.constant c.in-Constant.is))
-    (reads_constant c.args.around.now.flat.now d e.at.sites c.in-Constant.constant refs c.in_ok-constant_bits-in-Constant.ensures.found c.in_ok-constant_bits-in-Constant.ensures.means)
+    both_ok c.constant_bits.result _ _ _
+    (λ refs found means. subst (λ (u : FlatTree). ReadsTo c.args.around.now.flat.now d d u refs) (sym (tree_constant c.args.around.now e c.in-Constant.constant c.in-Constant.is))
+    (reads_constant c.args.around.now.flat.now d e.at.sites c.in-Constant.constant refs found means))
+    c.constant_bits.ensures.found c.constant_bits.ensures.means
 
-pub read_expr-returns-in_ok-copy_at-in-Memory-clause-ok : goal.read_expr-returns-in_ok-copy_at-in-Memory-clause-ok
-read_expr-returns-in_ok-copy_at-in-Memory-clause-ok t c =
+pub read_expr-returns-in-Memory-clause-ok : goal.read_expr-returns-in-Memory-clause-ok
+read_expr-returns-in-Memory-clause-ok t c =
     let f = c.args.around.now.flat.now in
     let d = c.args.store.now in
     let e = c.args.e.now in
-    subst (λ (u : FlatTree). ReadsTo f d d u c.in_ok-copy_at-in-Memory.field-0) (sym (tree_memory c.args.around.now e c.in-Memory.number c.in-Memory.is))
-    (subst (ReadsTo f d d (Node e.at.sites (Memory c.in-Memory.number))) (sym c.in_ok-copy_at-in-Memory.ensures)
-    (reads_memory f d e.at.sites c.in-Memory.number c.args.around.now.tables.now c.requires.around.tables))
+    map_ok c.copy_at-in-Memory.result (λ copy. copy ≡ refs_at c.args.around.now.tables.now.kept c.in-Memory.number) _
+    (λ refs is. subst (λ (u : FlatTree). ReadsTo f d d u refs) (sym (tree_memory c.args.around.now e c.in-Memory.number c.in-Memory.is))
+    (subst (ReadsTo f d d (Node e.at.sites (Memory c.in-Memory.number))) (sym is)
+    (reads_memory f d e.at.sites c.in-Memory.number c.args.around.now.tables.now c.requires.around.tables)))
+    c.copy_at-in-Memory.ensures.ok
 
-pub read_expr-returns-in_ok-bit_at-in-Ticked-clause-ok : goal.read_expr-returns-in_ok-bit_at-in-Ticked-clause-ok
-read_expr-returns-in_ok-bit_at-in-Ticked-clause-ok t c =
+pub read_expr-returns-in-Ticked-clause-ok : goal.read_expr-returns-in-Ticked-clause-ok
+read_expr-returns-in-Ticked-clause-ok t c =
     let f = c.args.around.now.flat.now in
     let d = c.args.store.now in
     let e = c.args.e.now in
-    subst (λ (u : FlatTree). ReadsTo f d d u c.in_ok-bit_at-in-Ticked.field-0) (sym (tree_ticked c.args.around.now e c.in-Ticked.number c.in-Ticked.is))
-    (subst (ReadsTo f d d (Node e.at.sites (Ticked c.in-Ticked.number))) (sym c.in_ok-bit_at-in-Ticked.ensures)
-    (reads_tick f d e.at.sites c.in-Ticked.number c.args.around.now.tables.now c.requires.around.tables))
+    map_ok c.bit_at.result (λ one. one ≡ ref_at c.args.around.now.tables.now.ticks c.in-Ticked.number ∷ []) _
+    (λ refs is. subst (λ (u : FlatTree). ReadsTo f d d u refs) (sym (tree_ticked c.args.around.now e c.in-Ticked.number c.in-Ticked.is))
+    (subst (ReadsTo f d d (Node e.at.sites (Ticked c.in-Ticked.number))) (sym is)
+    (reads_tick f d e.at.sites c.in-Ticked.number c.args.around.now.tables.now c.requires.around.tables)))
+    c.bit_at.ensures.ok
 
 pub read_expr-returns-in-Not-clause-ok : goal.read_expr-returns-in-Not-clause-ok
 read_expr-returns-in-Not-clause-ok t c =
