@@ -1,0 +1,94 @@
+-- The program of an accepted source is well formed, and its main node has one output, a Boolean one.
+use Rattle.std.proofs.Common.{◌≡◌, Bool, true, false, ◌||◌, cond, List, [], ◌∷◌, map, refl, sym, subst, Option, Some, IsTrue, IsSome, unwrap_or}
+use Rattle.std.proofs.Common.{None as Nothing}
+use Rattle.std.specs.Prelude.{Result, Err}
+use Rattle.rv_base.specs.declared.value.Trace.{Trace}
+use Rattle.rv_tree.specs.Tree.{NodeTree, ProgramTree}
+use Rattle.rv_tree.specs.Places.{Identifier, is_among, is_same}
+use Rattle.rv_tree.specs.SourceTrees.{IsSourceTree}
+use Rattle.rv_types.specs.declared.fault.NameFault.{NameFault}
+use Rattle.rv_types.specs.declared.fault.NameFault.TheVariants.{NotObserver}
+use Rattle.rv_types.specs.declared.typed.Typed.{Typed}
+use Rattle.rv_types.specs.Instances.{name_at, no_node, IsNode}
+use Rattle.rv_types.specs.Kinds.{decl_kinds, node_among, node_named}
+use Rattle.rv_types.specs.Scopes.{is_observer}
+use Rattle.rv_types.specs.Settled.{IsSettled}
+use Rattle.rv_types.specs.WellFormed.{AreWell}
+use Rattle.rv_instances.specs.declared.answer.Order.{Order}
+use Rattle.rv_instances.specs.Fitting.{Fits}
+use Rattle.rv_flat.specs.declared.flat.Flat.{Flat}
+use Rattle.rv_flat.specs.FlatOf.{IsFlatOf}
+use Rattle.rv_flatten.proofs.GivenParts.{main_name}
+use Rattle.rv_flatten.proofs.MainNames.{is_node}
+use Rattle.rv_flat.proofs.Running.{RunIsInstants, StatesOfRun}
+use Rattle.rv_replay.specs.declared.replayed.Replayed.{Replayed}
+use Rattle.rv_replay.specs.declared.replayed.ReplayFault.{ReplayFault}
+use Rattle.rv_replay.specs.declared.replayed.ReplayFault.TheVariants.{Memory}
+use Rattle.rv_replay.specs.Observers.{IsObserved}
+use Rattle.rv_replay.specs.Playing.{AnswersUnlessMemory, IsPlayedOf}
+use Rattle.rv_replay.specs.Replays.{IsReplay, IsUnlessMemory}
+use Rattle.rv_replay.specs.Traces.{IsFlatTrace, IsTrace}
+use Rattle.rv_replay.proofs.Answered.{found, only}
+use Rattle.rv_replay.proofs.Answers.{SomeRun, is_replay, only_replay}
+use Rattle.rv_replay.proofs.FlatSteps.{StepsGiveRun}
+use Rattle.rv_replay.proofs.FlatTraces.{InputsOfFlat, StatesOfFlat, flat_trace}
+
+-- a name that some node has is found
+some_among : (ns : List NodeTree) (x : Identifier) → IsTrue (is_among (map (λ n. n.name.text) ns) x) → IsSome (node_among ns x)
+some_among [] x h = absurd (let bad : ⊥ = cc in bad)
+some_among (n ∷ ns) x h = tested (is_same n.name.text x) h (some_among ns x)
+  where
+    tested : (b : Bool) → IsTrue (b || is_among (map (λ n. n.name.text) ns) x) → (IsTrue (is_among (map (λ n. n.name.text) ns) x) → IsSome (node_among ns x)) → IsSome (cond b (Some n) (node_among ns x))
+    tested true h again = refl
+    tested false h again = again h
+
+observer_of : (p : ProgramTree) (o : Option NodeTree) → elim o as (λ _. List NameFault) [ Nothing ↦ [] | Some m ↦ cond (is_observer (decl_kinds p m.outputs)) [] (NotObserver m.name.at ∷ []) ] ≡ [] → IsSome o
+    → is_observer (decl_kinds p (unwrap_or o no_node).outputs) ≡ true
+observer_of p Nothing h some = absurd (let bad : ⊥ = cc in bad)
+observer_of p (Some m) h some = by (is_observer (decl_kinds p m.outputs)) refl h
+  where
+    by : (b : Bool) → is_observer (decl_kinds p m.outputs) ≡ b → cond b [] (NotObserver m.name.at ∷ []) ≡ [] → is_observer (decl_kinds p m.outputs) ≡ true
+    by true e h = e
+    by false e h = absurd (let bad : ⊥ = cc in bad)
+
+module _ (p : ProgramTree) (t : Typed) (o : Order) (fits : Fits p t o) (well_formed : (main : Identifier) → IsSourceTree p → IsSettled p main t → AreWell p) where
+  abbrev main : Identifier
+  main = name_at p t.main
+
+  settled : IsSettled p main t
+  settled = subst (λ (x : Identifier). IsSettled p x t) (sym (main_name p fits.settled.0 t fits.settled.1)) fits.settled.1
+
+  named : IsNode p main
+  named = is_node p main settled.has_main
+
+  pub observed : (f : Flat) → IsFlatOf p main f → IsObserved p main f
+  observed f flat = record {
+    well = well_formed main fits.tree settled;
+    named = named;
+    flat = flat;
+    observer = observer_of p (node_named p main) settled.observer (some_among p.nodes main named);
+  }
+
+-- What is taken from the layers below.
+pub record Laws : Type 0 where
+  pub instants : RunIsInstants
+  pub states : StatesOfRun
+  pub some : SomeRun
+  pub steps : StepsGiveRun
+  pub of_flat : StatesOfFlat
+  pub inputs : InputsOfFlat
+
+-- The answer of a replay over the flat system of a source says what the trace does to its program.
+module _ (laws : Laws) (p : ProgramTree) (t : Typed) (o : Order) (fits : Fits p t o) (well_formed : (main : Identifier) → IsSourceTree p → IsSettled p main t → AreWell p)
+    (f : Flat) (flat : IsFlatOf p (name_at p t.main) f) (trace : Trace) (is : IsTrace p (name_at p t.main) trace) (r : Result Replayed ReplayFault) (answers : AnswersUnlessMemory (IsPlayedOf f trace) r) where
+  abbrev of : IsObserved p (name_at p t.main) f
+  of = observed p t o fits well_formed f flat
+
+  pub flat_is : IsFlatTrace f trace
+  flat_is = flat_trace p (name_at p t.main) trace is laws.of_flat laws.inputs f of.well of.named flat
+
+  pub says : (a : Result Replayed ReplayFault) → (a ≡ Err Memory → ⊥) → r ≡ a → IsReplay p (name_at p t.main) trace a
+  says = found (IsPlayedOf f trace) (IsReplay p (name_at p t.main) trace) r answers (is_replay laws.instants laws.states laws.some laws.steps laws.of_flat laws.inputs p (name_at p t.main) f of trace is)
+
+  pub tells : (b : Result Replayed ReplayFault) → IsReplay p (name_at p t.main) trace b → IsUnlessMemory b r
+  tells = only (IsPlayedOf f trace) (IsReplay p (name_at p t.main) trace) r answers (only_replay laws.instants laws.states laws.some laws.steps laws.of_flat laws.inputs p (name_at p t.main) f of trace is)

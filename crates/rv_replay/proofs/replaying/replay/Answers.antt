@@ -1,0 +1,189 @@
+use Rattle.std.specs.Prelude.{Ok, Err}
+use Rattle.rv_tree.specs.Tree.{program_tree}
+use Rattle.rv_types.specs.Instances.{name_at}
+use Rattle.rv_replay.specs.declared.replayed.Replayed.TheVariants.{Falsified, AssertionFails, NeverFalse}
+use Rattle.rv_replay.specs.declared.replayed.ReplayFault.TheVariants.{Outgrown}
+use Rattle.rv_replay.proofs.FlatTraces.{flat_trace}
+use Rattle.rv_replay.proofs.Sources.{Laws, observed, says, tells}
+use Rattle.rv_replay.proofs.replaying.replay.Goals as goal
+
+pub play-requires-clause-program : goal.play-requires-clause-program
+play-requires-clause-program c =
+    let s = c.args.source.now in
+    let p = program_tree s.program in
+    (p, name_at p s.typed.main, observed p s.typed s.order c.requires.fits (λ m text settled. c.well_formed_programs.ensures p m s.typed text settled) c.in_ok-flat.flat c.in_ok-flat.ensures.flat)
+
+pub play-requires-clause-trace : goal.play-requires-clause-trace
+play-requires-clause-trace c =
+    let s = c.args.source.now in
+    let p = program_tree s.program in
+    let of = observed p s.typed s.order c.requires.fits (λ m text settled. c.well_formed_programs.ensures p m s.typed text settled) c.in_ok-flat.flat c.in_ok-flat.ensures.flat in
+    flat_trace p (name_at p s.typed.main) c.args.trace.now c.requires.trace c.flat_states.ensures.back c.flat_states.ensures.given c.in_ok-flat.flat of.well of.named of.flat
+
+pub returns-clause-falsified : goal.returns-clause-falsified
+returns-clause-falsified c = λ k is.
+    let s = c.args.source.now in
+    let p = program_tree s.program in
+    let laws : Laws = record {
+      instants = record { instant = c.run_is_instants.ensures.instant; assertions = c.run_is_instants.ensures.assertions };
+      states = record { some = c.states_of_run.ensures.some; start = c.states_of_run.ensures.start; next = c.states_of_run.ensures.next };
+      some = c.some_run.ensures;
+      steps = record {
+        rows = c.steps_give_run.ensures.rows;
+        states = c.steps_give_run.ensures.states;
+        observer = c.steps_give_run.ensures.observer;
+        broken = c.steps_give_run.ensures.broken;
+        allowed = c.steps_give_run.ensures.allowed;
+      };
+      of_flat = c.flat_states.ensures.back;
+      inputs = c.flat_states.ensures.given;
+    } in
+    says laws p s.typed s.order c.requires.fits (λ m text settled. c.well_formed_programs.ensures p m s.typed text settled) c.in_ok-flat.flat c.in_ok-flat.ensures.flat c.args.trace.now c.requires.trace
+    c.play.result c.play.ensures (Ok (Falsified k)) (λ e. cc) is
+
+pub returns-clause-only_falsified : goal.returns-clause-only_falsified
+returns-clause-only_falsified c = λ k is.
+    let s = c.args.source.now in
+    let p = program_tree s.program in
+    let laws : Laws = record {
+      instants = record { instant = c.run_is_instants.ensures.instant; assertions = c.run_is_instants.ensures.assertions };
+      states = record { some = c.states_of_run.ensures.some; start = c.states_of_run.ensures.start; next = c.states_of_run.ensures.next };
+      some = c.some_run.ensures;
+      steps = record {
+        rows = c.steps_give_run.ensures.rows;
+        states = c.steps_give_run.ensures.states;
+        observer = c.steps_give_run.ensures.observer;
+        broken = c.steps_give_run.ensures.broken;
+        allowed = c.steps_give_run.ensures.allowed;
+      };
+      of_flat = c.flat_states.ensures.back;
+      inputs = c.flat_states.ensures.given;
+    } in
+    tells laws p s.typed s.order c.requires.fits (λ m text settled. c.well_formed_programs.ensures p m s.typed text settled) c.in_ok-flat.flat c.in_ok-flat.ensures.flat c.args.trace.now c.requires.trace
+    c.play.result c.play.ensures (Ok (Falsified k)) is
+
+pub returns-clause-fails : goal.returns-clause-fails
+returns-clause-fails c = λ k at is.
+    let s = c.args.source.now in
+    let p = program_tree s.program in
+    let laws : Laws = record {
+      instants = record { instant = c.run_is_instants.ensures.instant; assertions = c.run_is_instants.ensures.assertions };
+      states = record { some = c.states_of_run.ensures.some; start = c.states_of_run.ensures.start; next = c.states_of_run.ensures.next };
+      some = c.some_run.ensures;
+      steps = record {
+        rows = c.steps_give_run.ensures.rows;
+        states = c.steps_give_run.ensures.states;
+        observer = c.steps_give_run.ensures.observer;
+        broken = c.steps_give_run.ensures.broken;
+        allowed = c.steps_give_run.ensures.allowed;
+      };
+      of_flat = c.flat_states.ensures.back;
+      inputs = c.flat_states.ensures.given;
+    } in
+    says laws p s.typed s.order c.requires.fits (λ m text settled. c.well_formed_programs.ensures p m s.typed text settled) c.in_ok-flat.flat c.in_ok-flat.ensures.flat c.args.trace.now c.requires.trace
+    c.play.result c.play.ensures (Ok (AssertionFails k at)) (λ e. cc) is
+
+pub returns-clause-only_fails : goal.returns-clause-only_fails
+returns-clause-only_fails c = λ k at is.
+    let s = c.args.source.now in
+    let p = program_tree s.program in
+    let laws : Laws = record {
+      instants = record { instant = c.run_is_instants.ensures.instant; assertions = c.run_is_instants.ensures.assertions };
+      states = record { some = c.states_of_run.ensures.some; start = c.states_of_run.ensures.start; next = c.states_of_run.ensures.next };
+      some = c.some_run.ensures;
+      steps = record {
+        rows = c.steps_give_run.ensures.rows;
+        states = c.steps_give_run.ensures.states;
+        observer = c.steps_give_run.ensures.observer;
+        broken = c.steps_give_run.ensures.broken;
+        allowed = c.steps_give_run.ensures.allowed;
+      };
+      of_flat = c.flat_states.ensures.back;
+      inputs = c.flat_states.ensures.given;
+    } in
+    tells laws p s.typed s.order c.requires.fits (λ m text settled. c.well_formed_programs.ensures p m s.typed text settled) c.in_ok-flat.flat c.in_ok-flat.ensures.flat c.args.trace.now c.requires.trace
+    c.play.result c.play.ensures (Ok (AssertionFails k at)) is
+
+pub returns-clause-never : goal.returns-clause-never
+returns-clause-never c = λ is.
+    let s = c.args.source.now in
+    let p = program_tree s.program in
+    let laws : Laws = record {
+      instants = record { instant = c.run_is_instants.ensures.instant; assertions = c.run_is_instants.ensures.assertions };
+      states = record { some = c.states_of_run.ensures.some; start = c.states_of_run.ensures.start; next = c.states_of_run.ensures.next };
+      some = c.some_run.ensures;
+      steps = record {
+        rows = c.steps_give_run.ensures.rows;
+        states = c.steps_give_run.ensures.states;
+        observer = c.steps_give_run.ensures.observer;
+        broken = c.steps_give_run.ensures.broken;
+        allowed = c.steps_give_run.ensures.allowed;
+      };
+      of_flat = c.flat_states.ensures.back;
+      inputs = c.flat_states.ensures.given;
+    } in
+    says laws p s.typed s.order c.requires.fits (λ m text settled. c.well_formed_programs.ensures p m s.typed text settled) c.in_ok-flat.flat c.in_ok-flat.ensures.flat c.args.trace.now c.requires.trace
+    c.play.result c.play.ensures (Ok NeverFalse) (λ e. cc) is
+
+pub returns-clause-only_never : goal.returns-clause-only_never
+returns-clause-only_never c = λ is.
+    let s = c.args.source.now in
+    let p = program_tree s.program in
+    let laws : Laws = record {
+      instants = record { instant = c.run_is_instants.ensures.instant; assertions = c.run_is_instants.ensures.assertions };
+      states = record { some = c.states_of_run.ensures.some; start = c.states_of_run.ensures.start; next = c.states_of_run.ensures.next };
+      some = c.some_run.ensures;
+      steps = record {
+        rows = c.steps_give_run.ensures.rows;
+        states = c.steps_give_run.ensures.states;
+        observer = c.steps_give_run.ensures.observer;
+        broken = c.steps_give_run.ensures.broken;
+        allowed = c.steps_give_run.ensures.allowed;
+      };
+      of_flat = c.flat_states.ensures.back;
+      inputs = c.flat_states.ensures.given;
+    } in
+    tells laws p s.typed s.order c.requires.fits (λ m text settled. c.well_formed_programs.ensures p m s.typed text settled) c.in_ok-flat.flat c.in_ok-flat.ensures.flat c.args.trace.now c.requires.trace
+    c.play.result c.play.ensures (Ok NeverFalse) is
+
+pub returns-clause-outgrown : goal.returns-clause-outgrown
+returns-clause-outgrown c = λ k at is.
+    let s = c.args.source.now in
+    let p = program_tree s.program in
+    let laws : Laws = record {
+      instants = record { instant = c.run_is_instants.ensures.instant; assertions = c.run_is_instants.ensures.assertions };
+      states = record { some = c.states_of_run.ensures.some; start = c.states_of_run.ensures.start; next = c.states_of_run.ensures.next };
+      some = c.some_run.ensures;
+      steps = record {
+        rows = c.steps_give_run.ensures.rows;
+        states = c.steps_give_run.ensures.states;
+        observer = c.steps_give_run.ensures.observer;
+        broken = c.steps_give_run.ensures.broken;
+        allowed = c.steps_give_run.ensures.allowed;
+      };
+      of_flat = c.flat_states.ensures.back;
+      inputs = c.flat_states.ensures.given;
+    } in
+    says laws p s.typed s.order c.requires.fits (λ m text settled. c.well_formed_programs.ensures p m s.typed text settled) c.in_ok-flat.flat c.in_ok-flat.ensures.flat c.args.trace.now c.requires.trace
+    c.play.result c.play.ensures (Err (Outgrown k at)) (λ e. cc) is
+
+pub returns-clause-only_outgrown : goal.returns-clause-only_outgrown
+returns-clause-only_outgrown c = λ k at is.
+    let s = c.args.source.now in
+    let p = program_tree s.program in
+    let laws : Laws = record {
+      instants = record { instant = c.run_is_instants.ensures.instant; assertions = c.run_is_instants.ensures.assertions };
+      states = record { some = c.states_of_run.ensures.some; start = c.states_of_run.ensures.start; next = c.states_of_run.ensures.next };
+      some = c.some_run.ensures;
+      steps = record {
+        rows = c.steps_give_run.ensures.rows;
+        states = c.steps_give_run.ensures.states;
+        observer = c.steps_give_run.ensures.observer;
+        broken = c.steps_give_run.ensures.broken;
+        allowed = c.steps_give_run.ensures.allowed;
+      };
+      of_flat = c.flat_states.ensures.back;
+      inputs = c.flat_states.ensures.given;
+    } in
+    tells laws p s.typed s.order c.requires.fits (λ m text settled. c.well_formed_programs.ensures p m s.typed text settled) c.in_ok-flat.flat c.in_ok-flat.ensures.flat c.args.trace.now c.requires.trace
+    c.play.result c.play.ensures (Err (Outgrown k at)) is

@@ -1,0 +1,4 @@
+pub mod Traces
+pub mod Replays
+pub mod Observers
+pub mod Playing
