@@ -1,0 +1,116 @@
+-- One record of one form: what is at fault in it, by its kind, its texts of the program and its fields.
+use Rattle.std.proofs.Common.{◌≡◌, ◌<◌, ℕ, zero, suc, Bool, true, false, cond, List, [], ◌∷◌, length, refl, sym, ap, ◌∙◌, subst, arith}
+use Rattle.std.specs.Prelude.{Some, None, Result, Ok, Err, option_map, ⊤, OnOk, IfErr}
+use Rattle.rv_invfile.specs.declared.fault.Why.TheVariants as why
+use Rattle.rv_invfile.specs.declared.fault.FileFault.{FileFault}
+use Rattle.rv_invfile.specs.declared.fault.FileFault.TheVariants as fault
+use Rattle.rv_invfile.specs.Rules.{Fields, Form, fault_by, form_of, first_bad, is_plain}
+use Rattle.rv_invfile.specs.Readers.{Ahead, ◌>>=◌, Reading, Reads, judged, taking, take_in}
+use Rattle.rv_invfile.specs.Ahead.{first, others, here, after_one, kind_fault, kind_fault_in}
+
+-- a fault of the kind is that of the record
+stopped-by : (p k : Bool) (f : Form) (n : ℕ) (r : Fields) (rs : List Fields) (e : FileFault) → cond p (cond k None (Some (fault.WrongKind n))) (Some (fault.NotRecords n)) ≡ Some e
+    → judged (cond p (fault_by (cond k (Some f) None) r) (Some why.NotRecords)) n r rs ≡ Err e
+stopped-by true true f n r rs e h = cc
+stopped-by true false f n r rs e h = cc
+stopped-by false k f n r rs e h = cc
+
+stopped-in : (f : Form) (n : ℕ) (rs : List Fields) (e : FileFault) → kind_fault_in f.is_kind n rs ≡ Some e → take_in (f ∷ []) n rs ≡ Err e
+stopped-in f n [] e h = cc
+stopped-in f n (r ∷ rs) e h = stopped-by (is_plain r) (f.is_kind r) f n r rs e h
+
+pub stopped : (f : Form) (s : Ahead) (e : FileFault) → kind_fault f.is_kind s ≡ Some e → taking (f ∷ []) s ≡ Err e
+stopped f s e h = stopped-in f s.taken s.rest e h
+
+passes-by : (p k : Bool) (n : ℕ) → cond p (cond k None (Some (fault.WrongKind n))) (Some (fault.NotRecords n)) ≡ None → (p ≡ true) × (k ≡ true)
+passes-by true true n h = (refl, refl)
+passes-by true false n h = cc
+passes-by false k n h = cc
+
+-- a record of the kind stands here
+pub there-in : (kind : Fields → Bool) (n : ℕ) (rs : List Fields) → kind_fault_in kind n rs ≡ None → 0 < length rs
+there-in kind n [] h = cc
+there-in kind n (r ∷ rs) h = omega arith
+
+pub there : (kind : Fields → Bool) (s : Ahead) → kind_fault kind s ≡ None → 0 < length s.rest
+there kind s h = there-in kind s.taken s.rest h
+
+-- what is at fault in it then
+pub further-in : (f : Form) (n : ℕ) (rs : List Fields) → kind_fault_in f.is_kind n rs ≡ None → take_in (f ∷ []) n rs ≡ judged (fault_by (Some f) (first rs)) n (first rs) (others rs)
+further-in f n [] h = cc
+further-in f n (r ∷ rs) h =
+    let p = passes-by (is_plain r) (f.is_kind r) n h in
+    ap (λ b. judged (cond b (fault_by (form_of (f ∷ []) r) r) (Some why.NotRecords)) n r rs) p.0 ∙ ap (λ b. judged (fault_by (cond b (Some f) None) r) n r rs) p.1
+
+pub further : (f : Form) (s : Ahead) → kind_fault f.is_kind s ≡ None → taking (f ∷ []) s ≡ judged (fault_by (Some f) (here s)) s.taken (here s) (others s.rest)
+further f s h = further-in f s.taken s.rest h
+
+pub other_program : (f : Form) (s : Ahead) → kind_fault f.is_kind s ≡ None → f.is_program (here s) ≡ false → taking (f ∷ []) s ≡ Err (fault.WrongProgram s.taken)
+other_program f s h p =
+    further f s h ∙ ap (λ b. judged (cond b (option_map why.BadNumber (first_bad (f.allows (here s)) 0 (length (here s)))) (Some why.WrongProgram)) s.taken (here s) (others s.rest)) p
+
+pub by_fields : (f : Form) (s : Ahead) → kind_fault f.is_kind s ≡ None → f.is_program (here s) ≡ true → taking (f ∷ []) s ≡ judged (option_map why.BadNumber (first_bad (f.allows (here s)) 0 (length (here s)))) s.taken (here s) (others s.rest)
+by_fields f s h p =
+    further f s h ∙ ap (λ b. judged (cond b (option_map why.BadNumber (first_bad (f.allows (here s)) 0 (length (here s)))) (Some why.WrongProgram)) s.taken (here s) (others s.rest)) p
+
+pub bad_field : (f : Form) (s : Ahead) (i : ℕ) → kind_fault f.is_kind s ≡ None → f.is_program (here s) ≡ true → first_bad (f.allows (here s)) 0 (length (here s)) ≡ Some i → taking (f ∷ []) s ≡ Err (fault.BadNumber s.taken i)
+bad_field f s i h p b = by_fields f s h p ∙ ap (λ o. judged (option_map why.BadNumber o) s.taken (here s) (others s.rest)) b
+
+pub right : (f : Form) (s : Ahead) → kind_fault f.is_kind s ≡ None → f.is_program (here s) ≡ true → first_bad (f.allows (here s)) 0 (length (here s)) ≡ None → taking (f ∷ []) s ≡ Ok (here s, after_one s)
+right f s h p b = by_fields f s h p ∙ ap (λ o. judged (option_map why.BadNumber o) s.taken (here s) (others s.rest)) b
+
+-- ---- The kind, where the bytes are plain.
+plain-by : (p : Bool) (kind : Bool) (n : ℕ) (e : FileFault) → cond p None (Some (fault.NotRecords n)) ≡ Some e → cond p (cond kind None (Some (fault.WrongKind n))) (Some (fault.NotRecords n)) ≡ Some e
+plain-by true kind n e h = cc
+plain-by false kind n e h = h
+
+pub plain_stopped : (kind : Fields → Bool) (n : ℕ) (rs : List Fields) (e : FileFault) → kind_fault_in (λ r. true) n rs ≡ Some e → kind_fault_in kind n rs ≡ Some e
+plain_stopped kind n [] e h = h
+plain_stopped kind n (r ∷ rs) e h = plain-by (is_plain r) (kind r) n e h
+
+plain-is : (p : Bool) (n : ℕ) → cond p None (Some (fault.NotRecords n)) ≡ None → p ≡ true
+plain-is true n h = refl
+plain-is false n h = cc
+
+pub plain_kind : (kind : Fields → Bool) (n : ℕ) (rs : List Fields) → kind_fault_in (λ r. true) n rs ≡ None → kind (first rs) ≡ true → kind_fault_in kind n rs ≡ None
+plain_kind kind n [] h k = cc
+plain_kind kind n (r ∷ rs) h k =
+    ap (λ b. cond b (cond (kind r) None (Some (fault.WrongKind n))) (Some (fault.NotRecords n))) (plain-is (is_plain r) n h) ∙ ap (λ b. cond b None (Some (fault.WrongKind n))) k
+
+pub plain_other : (kind : Fields → Bool) (n : ℕ) (rs : List Fields) → kind_fault_in (λ r. true) n rs ≡ None → kind (first rs) ≡ false → kind_fault_in kind n rs ≡ Some (fault.WrongKind n)
+plain_other kind n [] h k = cc
+plain_other kind n (r ∷ rs) h k =
+    ap (λ b. cond b (cond (kind r) None (Some (fault.WrongKind n))) (Some (fault.NotRecords n))) (plain-is (is_plain r) n h) ∙ ap (λ b. cond b None (Some (fault.WrongKind n))) k
+
+-- ---- What a method returns.
+-- it stops as reading stops
+pub stops : {X A : Type 0} (view : X → A) (r : Reading A) (e : FileFault) (new : Ahead) → r ≡ Err e → Reads view r (Err e) new
+stops view r (fault.NotRecords n) new h = h
+stops view r (fault.WrongKind n) new h = h
+stops view r (fault.WrongProgram n) new h = h
+stops view r (fault.BadNumber n i) new h = h
+stops view r (fault.Ends n) new h = h
+stops view r fault.Memory new h = tt
+
+-- it may stop for memory
+pub forgets : {X A : Type 0} (view : X → A) (r : Reading A) (e : FileFault) (new : Ahead) → e ≡ fault.Memory → Reads view r (Err e) new
+forgets view r e new h = subst (λ x. Reads view r (Err x) new) (sym h) tt
+
+-- a part that stops stops the whole
+pub stops_with : {X Y A B : Type 0} (view : X → A) (other : Y → B) (r : Reading A) (whole : Reading B) (e : FileFault) (old new : Ahead) → Reads view r (Err e) old → ((x : FileFault) → r ≡ Err x → whole ≡ Err x) → Reads other whole (Err e) new
+stops_with view other r whole (fault.NotRecords n) old new h k = k (fault.NotRecords n) h
+stops_with view other r whole (fault.WrongKind n) old new h k = k (fault.WrongKind n) h
+stops_with view other r whole (fault.WrongProgram n) old new h k = k (fault.WrongProgram n) h
+stops_with view other r whole (fault.BadNumber n i) old new h k = k (fault.BadNumber n i) h
+stops_with view other r whole (fault.Ends n) old new h k = k (fault.Ends n) h
+stops_with view other r whole fault.Memory old new h k = tt
+
+-- A right record that was taken, or no memory.
+pub took_right : {A : Type 0} (f : Form) (value : Fields → A) (s : Ahead) (r : Result ⊤ FileFault) (new : Ahead) → taking (f ∷ []) s ≡ Ok (here s, after_one s) → OnOk r (new ≡ after_one s) → IfErr r (λ e. e ≡ fault.Memory)
+    → Reads (λ u. value (here s)) (taking (f ∷ []) s >>= λ x. Ok (value x.0, x.1)) r new
+took_right f value s (Ok u) new h a b = ap (λ z. z >>= λ x. Ok (value x.0, x.1)) h ∙ ap (λ n. Ok (value (here s), n)) (sym a)
+took_right f value s (Err e) new h a b = forgets {X = ⊤} (λ u. value (here s)) (taking (f ∷ []) s >>= λ x. Ok (value x.0, x.1)) e new b
+
+pub no_bad : (ok : ℕ → Bool) (at n : ℕ) → ((i : ℕ) → ok i ≡ true) → first_bad ok at n ≡ None
+no_bad ok at zero h = refl
+no_bad ok at (suc n) h = ap (λ b. cond b (first_bad ok (suc at) n) (Some at)) (h at) ∙ no_bad ok (suc at) n h

@@ -1,0 +1,30 @@
+use Rattle.std.proofs.Common.{◌≡◌, ◌∙◌, [], List, ℕ, ap}
+use Rattle.std.specs.Prelude.{IfOk, Result, Ok, Err}
+use Rattle.rv_invfile.specs.Csv.{records_of}
+use Rattle.rv_invfile.specs.Rules.{Fields}
+use Rattle.rv_invfile.specs.Traces.{trace_records}
+use Rattle.rv_invfile.specs.Writes.{lines, wide}
+use Rattle.rv_invfile.proofs.Sound.{trace-wide, trace-read}
+use Rattle.rv_invfile.proofs.trace_writing.write_trace.Goals as goal
+
+is-text : {A E : Type 0} (r : Result A E) (items : A → List ℕ) (x y : List ℕ) → x ≡ y → IfOk r (λ v. items v ≡ x) → IfOk r (λ v. items v ≡ y)
+is-text (Ok v) items x y same h = h ∙ same
+is-text (Err e) items x y same h = tt
+
+reads-as : {A E : Type 0} (r : Result A E) (items : A → List ℕ) (x : List ℕ) (rows : List Fields) → records_of x ≡ rows → IfOk r (λ v. items v ≡ x) → IfOk r (λ v. records_of (items v) ≡ rows)
+reads-as (Ok v) items x rows same h = ap records_of h ∙ same
+reads-as (Err e) items x rows same h = tt
+
+pub returns-clause-text : goal.returns-clause-text
+returns-clause-text c =
+    let f = c.args.flat.now in
+    let t = c.args.trace.now in
+    is-text c.finish.result (λ v. v.items) (wide (trace_records f t)) (lines (trace_records f t)) (trace-wide f t c.requires.told)
+    (c.finish.ensures (wide (trace_records f t)) (c.in_ok-write_records.ensures [] c.new_writer-writer.ensures))
+
+pub returns-clause-records : goal.returns-clause-records
+returns-clause-records c =
+    let f = c.args.flat.now in
+    let t = c.args.trace.now in
+    reads-as c.finish.result (λ v. v.items) (wide (trace_records f t)) (trace_records f t) (ap records_of (trace-wide f t c.requires.told) ∙ trace-read f t c.requires.told)
+    (c.finish.ensures (wide (trace_records f t)) (c.in_ok-write_records.ensures [] c.new_writer-writer.ensures))

@@ -1,0 +1,14 @@
+pub mod Rules
+pub mod Faults
+pub mod Readers
+pub mod Parts
+pub mod Spells
+pub mod Tells
+pub mod Texts
+pub mod Told
+pub mod Forms
+pub mod Traces
+pub mod Csv
+pub mod Ahead
+pub mod Fronts
+pub mod Writes

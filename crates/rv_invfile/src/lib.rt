@@ -1,0 +1,22 @@
+//! Documents: traces as records of comma-separated fields, written and read.
+//!
+//! A document is told by a rule (specs/Rules.antt): which records are awaited after which. By the rule alone it is fixed which
+//! records are a document, and which record is the first at fault. It promises that `read_trace` answers the trace whose
+//! document the bytes are, or that fault, and that what `write_trace` writes reads back as it. It stands on `rv_flat` for the
+//! names, types and places of a program, and on `csv` for records. Begin with traces.rt, then specs/Traces.antt.
+#![tactic(auto)]
+
+mod fault;
+mod laws;
+mod numbers;
+mod records;
+mod singles;
+mod trace_writing;
+mod traces;
+mod values;
+mod writing;
+
+pub use fault::{FileFault, Why, fault_at};
+pub use laws::{awaited_records, fitting_traces, told_systems};
+pub use trace_writing::write_trace;
+pub use traces::read_trace;
