@@ -1,5 +1,5 @@
 -- What a report says of the bytes of a source, and that no other comes.
-use Rattle.std.proofs.Common.{◌≡◌, ◌⊎◌, inl, inr, ℕ, true≢false, List, refl, sym, ◌∙◌, ap, subst}
+use Rattle.std.proofs.Common.{◌≡◌, ◌⊎◌, inl, inr, ℕ, List, refl, ap, subst}
 use Rattle.rv_tree.specs.Tree.{ProgramTree, program_tree}
 use Rattle.rv_tree.specs.Places.{Identifier}
 use Rattle.rv_syntax.specs.ProgramText.{IsTextOf}
@@ -9,20 +9,25 @@ use Rattle.rv_instances.specs.declared.source.Source.{Source}
 use Rattle.rv_source.specs.declared.fault.SourceFault.{SourceFault}
 use Rattle.rv_source.specs.declared.fault.SourceFault.TheVariants.{Text, Names, Cause, Memory as NoMemory}
 use Rattle.rv_source.specs.Sources.{IsSource, IsSourceOf, HasSourceCause, AreSame}
-use Rattle.rv_meaning.specs.Meaning.{held, is_true}
-use Rattle.rv_meaning.specs.Valuations.{HoldsEverywhere}
+use Rattle.rv_proofs.specs.declared.certificate.Certificate.{Certificate}
 use Rattle.rv_run.specs.Answers.{IsOnSource, IsRefusalUnlessCutOff}
-use Rattle.rv_run.specs.Programs.{OnProgram, IsJudged, IsUndecided, IsRefusedFor}
+use Rattle.rv_run.specs.Programs.{OnProgram, nodes_limit, IsSafeControl, IsUndecided, IsRefusedFor}
 use Rattle.rv_run.specs.Refusals.{refusal_of}
-use Rattle.rv_run.specs.declared.report.Report.TheVariants.{Safe, Unknown, Refused, Memory}
+use Rattle.rv_run.specs.declared.report.Report.TheVariants.{Safe, Unknown, Nodes, Refused, Memory}
 use Rattle.rv_run.proofs.MainNode.{main_named}
 
 -- a refusal is no verdict
-pub refusal-not_safe : (e : SourceFault) → refusal_of e ≡ Safe → ⊥
-refusal-not_safe NoMemory h = cc
-refusal-not_safe (Text f) h = cc
-refusal-not_safe (Names f) h = cc
-refusal-not_safe (Cause f) h = cc
+pub refusal-not_safe : (e : SourceFault) (c : Certificate) → refusal_of e ≡ Safe c → ⊥
+refusal-not_safe NoMemory c h = cc
+refusal-not_safe (Text f) c h = cc
+refusal-not_safe (Names f) c h = cc
+refusal-not_safe (Cause f) c h = cc
+
+pub refusal-not_nodes : (e : SourceFault) (n : ℕ) → refusal_of e ≡ Nodes n → ⊥
+refusal-not_nodes NoMemory n h = cc
+refusal-not_nodes (Text f) n h = cc
+refusal-not_nodes (Names f) n h = cc
+refusal-not_nodes (Cause f) n h = cc
 
 pub refusal-not_unknown : (e : SourceFault) → refusal_of e ≡ Unknown → ⊥
 refusal-not_unknown NoMemory h = cc
@@ -76,10 +81,14 @@ module _ (bytes : List ℕ) (node : Identifier) where
     pub told_back : ((t u : ProgramTree) → IsTextOf bytes t → IsTextOf bytes u → t ≡ u) → (P : ProgramTree → Identifier → Type 0) → OnProgram P bytes node → P (program_tree s.program) node
     told_back one P on = subst (λ (p : ProgramTree). P p node) (one on.program (program_tree s.program) on.source.text source.text) on.holds
 
--- true at every allowed valuation, and false at one or not judged
-pub opposed : (p : ProgramTree) (node : Identifier) → IsJudged HoldsEverywhere p node → IsUndecided p node → ⊥
+-- one report has one certificate, or one limit
+pub same_certificate : (c d : Certificate) → Safe c ≡ Safe d → c ≡ d
+same_certificate c d h = cc
+
+pub same_limit : (n : ℕ) → Nodes nodes_limit ≡ Nodes n → n ≡ nodes_limit
+same_limit n h = cc
+
+-- safe without integers, and not decided safe
+pub opposed : (p : ProgramTree) (node : Identifier) → IsSafeControl p node → IsUndecided p node → ⊥
 opposed p node h (inl other) = other h.0
-opposed p node h (inr fails) =
-    let v = fails.1 in
-    let is = sym (h.1 v.0 v.1 v.2) ∙ v.3 in
-    true≢false (ap (λ o. is_true (held o)) is)
+opposed p node h (inr unsafe_one) = unsafe_one.1 h.1

@@ -4,9 +4,10 @@ use Rattle.std.specs.FinMap.{get}
 use Rattle.rv_base.specs.Shelf.{Shelf, HoldsUnder}
 use Rattle.rv_source.specs.declared.fault.SourceFault.{SourceFault}
 use Rattle.rv_source.specs.Sources.{AreSame}
+use Rattle.rv_proofs.specs.declared.certificate.Certificate.{Certificate}
 use Rattle.rv_run.specs.Words.{command}
 use Rattle.rv_run.specs.declared.report.Report.{Report}
-use Rattle.rv_run.specs.declared.report.Report.TheVariants.{Refused, TooLong, ReadFault, Usage, Memory}
+use Rattle.rv_run.specs.declared.report.Report.TheVariants.{Safe, Unknown, Nodes, Refused, TooLong, ReadFault, Usage, Memory}
 
 -- The words are a command, and what is held under its file has P, beside its node, where the files tell what they
 -- hold.
@@ -35,6 +36,22 @@ IsUnlessCutOff expected report = (report ≡ expected) ⊎ ((report ≡ ReadFaul
 -- was no memory.
 abbrev pub IsRefusalUnlessCutOff : SourceFault → Report → Type 0
 IsRefusalUnlessCutOff fault report = ((found : SourceFault) × (report ≡ Refused found) × AreSame fault found) ⊎ ((report ≡ ReadFault) ⊎ (report ≡ Memory))
+
+-- The report has a certificate.
+abbrev pub IsSafeReport : Report → Type 0
+IsSafeReport report = (c : Certificate) × (report ≡ Safe c)
+
+-- The report is that the diagrams grew past their limit.
+abbrev pub IsNodesReport : Report → Type 0
+IsNodesReport report = (n : ℕ) × (report ≡ Nodes n)
+
+-- The report has a certificate, unless the diagrams grew past their limit, the file could not be read or there was no memory.
+abbrev pub IsSafeUnlessCutOff : Report → Type 0
+IsSafeUnlessCutOff report = IsSafeReport report ⊎ (IsNodesReport report ⊎ ((report ≡ ReadFault) ⊎ (report ≡ Memory)))
+
+-- The report is Unknown, unless the same.
+abbrev pub IsUnknownUnlessCutOff : Report → Type 0
+IsUnknownUnlessCutOff report = (report ≡ Unknown) ⊎ (IsNodesReport report ⊎ ((report ≡ ReadFault) ⊎ (report ≡ Memory)))
 
 -- The report is one on the bytes of a source, and not on the words or the file.
 abbrev pub IsOnSource : Report → Type 0

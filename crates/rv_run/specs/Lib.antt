@@ -4,4 +4,3 @@ pub mod Programs
 pub mod Printed
 pub mod Refusals
 pub mod Judged
-pub mod Spelled

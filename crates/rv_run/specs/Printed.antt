@@ -13,7 +13,7 @@ use Rattle.rv_causality.specs.declared.fault.Quantity.TheVariants as quantity
 use Rattle.rv_source.specs.declared.fault.SourceFault.{SourceFault}
 use Rattle.rv_source.specs.declared.fault.SourceFault.TheVariants.{Text, Names, Cause, Memory as SourceMemory}
 use Rattle.rv_run.specs.declared.report.Report.{Report}
-use Rattle.rv_run.specs.declared.report.Report.TheVariants.{Safe, Unknown, Refused, TooLong, ReadFault, Usage, Memory}
+use Rattle.rv_run.specs.declared.report.Report.TheVariants.{Safe, Unknown, Nodes, Refused, TooLong, ReadFault, Usage, Memory}
 use Rattle.rv_run.specs.declared.report.Sent.{Sent}
 use Rattle.rv_run.specs.declared.report.Sent.TheVariants.{Whole, Failed, Memory as SentMemory}
 
@@ -76,8 +76,9 @@ text_of_refusal SourceMemory = record_of (codes "reaver,memory")
 
 -- What is printed for a report.
 abbrev pub text_of : Report → List ℕ
-text_of Safe = record_of (codes "reaver,safe")
+text_of (Safe certificate) = record_of (codes "reaver,safe")
 text_of Unknown = record_of (codes "reaver,unknown")
+text_of (Nodes limit) = record_of (codes "reaver,nodes," ++ decimal limit)
 text_of (Refused fault) = text_of_refusal fault
 text_of (TooLong count) = record_of (codes "reaver,toolong," ++ decimal count)
 text_of ReadFault = record_of (codes "reaver,readfault")
@@ -86,8 +87,9 @@ text_of Memory = record_of (codes "reaver,memory")
 
 -- The status of a report that was shown whole.
 abbrev pub report_status : Report → ℕ
-report_status Safe = 0
+report_status (Safe certificate) = 0
 report_status Unknown = 2
+report_status (Nodes limit) = 2
 report_status (Refused fault) = 3
 report_status Usage = 4
 report_status ReadFault = 5

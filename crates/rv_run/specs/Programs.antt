@@ -1,5 +1,5 @@
 -- What an answer says of the bytes of a source and the name of its main node.
-use Rattle.std.specs.Prelude.{◌≡◌, ◌⊎◌, ℕ, List}
+use Rattle.std.specs.Prelude.{◌≡◌, ◌⊎◌, ◌<◌, ◌^◌, ℕ, List}
 use Rattle.rv_base.specs.declared.value.Value.{Value}
 use Rattle.rv_tree.specs.Tree.{ProgramTree}
 use Rattle.rv_tree.specs.Places.{Identifier, Sites}
@@ -7,8 +7,14 @@ use Rattle.rv_types.specs.declared.typed.Typed.{Typed}
 use Rattle.rv_types.specs.Needs.{IsSequence}
 use Rattle.rv_source.specs.declared.fault.SourceFault.{SourceFault}
 use Rattle.rv_source.specs.Sources.{IsSource, IsSourceFault}
-use Rattle.rv_meaning.specs.Runs.{History, AreStarts, AreInputs, IsRun}
-use Rattle.rv_meaning.specs.Valuations.{IsSmall, FailsSomewhere}
+use Rattle.rv_types.specs.Variables.{variable_count}
+use Rattle.rv_meaning.specs.Runs.{History, AreStarts, AreInputs, IsRun, IsSafe}
+use Rattle.rv_meaning.specs.Integers.{IsControl}
+use Rattle.rv_flat.specs.declared.flat.Flat.{Flat}
+use Rattle.rv_flat.specs.FlatOf.{IsFlatOf}
+use Rattle.rv_control.specs.Control.{control_of}
+use Rattle.rv_proofs.specs.Accepted.{IsAccepted}
+use Rattle.rv_proofs.specs.declared.certificate.Certificate.{Certificate}
 
 -- The bytes are the text of a program that is settled and accepted with this node, and P holds of the program and the node.
 pub record OnProgram (P : ProgramTree → Identifier → Type 0) (bytes : List ℕ) (node : Identifier) : Type 0 where
@@ -31,13 +37,25 @@ pub record WithRuns (P : ProgramTree → Identifier → Type 0) (program : Progr
       → HasOneRun program node starts inputs n
   pub holds : P program node
 
--- The program is one that is judged today, a small one, and P holds.
-abbrev pub IsJudged : (ProgramTree → Identifier → Type 0) → ProgramTree → Identifier → Type 0
-IsJudged P program node = IsSmall program node × P program node
+-- Without integers, and safe.
+abbrev pub IsSafeControl : ProgramTree → Identifier → Type 0
+IsSafeControl program node = IsControl program node × IsSafe program node
 
--- The program is not one that is judged today, or its observer is false at some allowed valuation.
+-- Not decided safe: with integers, or without them and not safe.
 abbrev pub IsUndecided : ProgramTree → Identifier → Type 0
-IsUndecided program node = (¬ (IsSmall program node)) ⊎ IsJudged FailsSomewhere program node
+IsUndecided program node = (¬ (IsControl program node)) ⊎ (IsControl program node × (¬ (IsSafe program node)))
+
+-- The certificate is accepted for the system of the program's flat system.
+abbrev pub IsCertified : Certificate → ProgramTree → Identifier → Type 0
+IsCertified c program node = (f : Flat) × IsFlatOf program node f × IsAccepted (control_of f) c
+
+-- how many nodes a store of diagrams may have
+abbrev pub nodes_limit : ℕ
+nodes_limit = 4194304
+
+-- Without integers, and with so many diagram variables that there are more functions of them than nodes that a store may have.
+abbrev pub IsWide : ProgramTree → Identifier → Type 0
+IsWide program node = IsControl program node × (nodes_limit < 2 ^ (2 ^ variable_count program node))
 
 -- Why a source is refused: for the fault of its first offending token; or, where it has a tree, for its first fault of
 -- names, types and clocks; or, where it has none, for its first of recursion, sizes, cycles and weights.

@@ -1,53 +1,77 @@
-//! Which sources are judged, and how: without integers, and with few bits, at every state and inputs.
+//! Which sources are judged, and how: those without integers, by the control states that their flat systems reach.
 
-ghost use Rattle.std.specs.Prelude.{◌≡◌, ◌<◌, ◌↔◌, true, false, length, map, IsTrue, IfOk, MatchBool};
+ghost use Rattle.std.specs.Prelude.{◌≡◌, ◌<◌, ◌^◌, false, length, IsTrue, IfOk, IsErrOf, ◌↔◌, MatchOption};
 ghost use Rattle.std.specs.List.{All};
-ghost use Rattle.rv_tree.specs.Tree.{program_tree};
-ghost use Rattle.rv_types.specs.Instances.{name_at};
+ghost use Rattle.rv_tree.specs.Tree.{ProgramTree, program_tree};
+ghost use Rattle.rv_tree.specs.Places.{Identifier};
+ghost use Rattle.rv_types.specs.Instances.{IsNode, name_at};
 ghost use Rattle.rv_types.specs.Variables.{is_integer};
+ghost use Rattle.rv_types.specs.WellFormed.{AreWell};
 ghost use Rattle.rv_instances.specs.Fitting.{Fits};
-ghost use Rattle.rv_meaning.specs.Valuations.{HoldsEverywhere};
-ghost use Rattle.rv_run.specs.Programs.{IsJudged, IsUndecided};
-ghost use Rattle.rv_run.specs.Judged.{is_test, is_control, control_bits_of, IsSmallSystem};
+ghost use Rattle.rv_flat.specs.FlatOf.{IsFlatOf};
+ghost use Rattle.rv_control.specs.Control.{control_of};
+ghost use Rattle.rv_proofs.specs.Accepted.{IsAccepted};
+ghost use Rattle.rv_proofs.specs.Runs.{IsSafeSystem};
+ghost use Rattle.rv_run.specs.Programs.{nodes_limit, IsSafeControl, IsCertified, IsUndecided, IsWide};
+ghost use Rattle.rv_run.specs.Judged.{is_test, IsControlSystem};
 
-use crate::search::{is_always_true, shape_of};
-use rv_base::Memory;
-use rv_flat::{Bit, Flat, flat_states};
+use rv_box::box_pass;
+use rv_control::{abstract_runs_are_runs, runs_are_abstract};
+use rv_diagram::StoreFault;
+use rv_flat::{Bit, Flat};
 use rv_flatten::flatten;
 use rv_instances::Source;
-use rv_meaning::one_instant;
+use rv_proofs::{Certificate, certificates_are_safe};
+use rv_reading::Reading;
 use rv_types::{Kind, well_formed_programs};
+use rv_walk::BoxEnd;
 use std::alloc::Global;
 
-/// How many bits the control may have: ticks, memories and inputs.
-const MOST_BITS: usize = 12;
+/// How many nodes the diagrams may have.
+pub const MOST_NODES: u32 = 4_194_304;
 
-/// Whether the source is judged and its observer is true at every allowed valuation. It is not judged where integers
-/// stand in it, or where its control has more than twelve bits.
-pub fn is_judged_safe(alloc: Global, source: &Source) -> Result<bool, Memory>
+/// A certificate of the source, where it has no integers and is safe. None where integers stand in it, or where it is not safe.
+/// Nodes comes only where it has none, and has many diagram variables.
+pub fn judge(alloc: Global, source: &Source) -> Result<Option<Certificate>, StoreFault>
     requires { Fits (program_tree source.now.program) source.now.typed source.now.order }
-    ensures { IfOk result (λ b. MatchBool b
-        (IsJudged HoldsEverywhere (program_tree source.now.program) (name_at (program_tree source.now.program) source.now.typed.main))
-        (IsUndecided (program_tree source.now.program) (name_at (program_tree source.now.program) source.now.typed.main))) }
+    ensures judged { IfOk result (λ found. MatchOption found
+        (IsUndecided (program_tree source.now.program) (name_at (program_tree source.now.program) source.now.typed.main))
+        (λ c. IsSafeControl (program_tree source.now.program) (name_at (program_tree source.now.program) source.now.typed.main)
+        × IsCertified c (program_tree source.now.program) (name_at (program_tree source.now.program) source.now.typed.main))) }
+    ensures wide { IsErrOf result StoreFault.Nodes
+        → IsWide (program_tree source.now.program) (name_at (program_tree source.now.program) source.now.typed.main) }
 {
-    one_instant();
-    flat_states();
     well_formed_programs();
+    runs_are_abstract();
+    abstract_runs_are_runs();
     let flat = flatten(alloc, source)?;
-    if is_small(&flat) {
-        let shape = shape_of(alloc, &flat)?;
-        return is_always_true(alloc, &flat, &shape);
+    if is_control(&flat) {
+        return certificate_of(alloc, &flat);
     }
-    Ok(false)
+    Ok(None)
 }
 
-/// Whether a flat system has no integers, and at most twelve bits of the control.
-fn is_small(flat: &Flat) -> bool
-    ensures { IsTrue result ↔ IsSmallSystem flat.now }
+/// A certificate of the flat system of a well formed program without integers, or none where the system is not safe.
+fn certificate_of(alloc: Global, flat: &Flat) -> Result<Option<Certificate>, StoreFault>
+    requires program { (program : ProgramTree) × (main : Identifier) × AreWell program × IsNode program main × IsFlatOf program main flat.now }
+    requires control { IsControlSystem flat.now }
+    ensures decided { IfOk result (λ found. MatchOption found (¬ IsSafeSystem (control_of flat.now))
+        (λ c. IsSafeSystem (control_of flat.now) × IsAccepted (control_of flat.now) c)) }
+    ensures wide { IsErrOf result StoreFault.Nodes → nodes_limit < 2 ^ (2 ^ length flat.now.variables) }
 {
-    has_no_integer(flat)
-        && !flat.variables.as_slice().iter().any(is_order_test)
-        && control_bit_count(flat.variables.as_slice()) <= MOST_BITS
+    certificates_are_safe();
+    let mut reading = Reading::new(alloc, flat, MOST_NODES)?;
+    match box_pass(alloc, &mut reading)? {
+        BoxEnd::Good(certificate) => Ok(Some(certificate)),
+        BoxEnd::Bad(_) => Ok(None),
+    }
+}
+
+/// Whether a flat system has no integers.
+fn is_control(flat: &Flat) -> bool
+    ensures { IsTrue result ↔ IsControlSystem flat.now }
+{
+    has_no_integer(flat) && !flat.variables.as_slice().iter().any(is_order_test)
 }
 
 /// Whether no flow, memory or input is an integer.
@@ -76,23 +100,4 @@ fn is_order_test(variable: &Bit) -> bool
     ensures { result ≡ is_test variable.now }
 {
     matches!(variable, Bit::Test(_, _))
-}
-
-fn is_control_bit(variable: &Bit) -> bool
-    ensures { result ≡ is_control variable.now }
-{
-    !matches!(variable, Bit::Test(_, _) | Bit::Next)
-}
-
-/// How many variables are bits of the control.
-fn control_bit_count(variables: &[Bit]) -> usize
-    ensures { result ≡ control_bits_of variables.now }
-{
-    let mut count = 0;
-    for variable in variables {
-        if is_control_bit(variable) {
-            count += 1;
-        }
-    }
-    count
 }

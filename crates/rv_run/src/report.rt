@@ -6,6 +6,7 @@ ghost use Rattle.rv_run.specs.Printed.{text_of, text_of_refusal, text_of_fault, 
 
 use rv_base::{Place, Sites};
 use rv_causality::{CauseFault, Quantity};
+use rv_proofs::Certificate;
 use rv_source::SourceFault;
 use rv_syntax::TextFault;
 use rv_types::NameFault;
@@ -14,10 +15,12 @@ use std::alloc::{AllocError, Global};
 /// What the program answers.
 #[derive(Debug, PartialEq, Eq, Drop)]
 pub enum Report {
-    /// In every run the observer is true at each instant up to which the assertions have held.
-    Safe,
-    /// The program is not one that is judged, or its observer is false at some allowed valuation.
+    /// In every run the observer is true at each instant up to which the assertions have held. The certificate proves it.
+    Safe(Certificate),
+    /// The program has integers, or in some run its observer is false at an instant up to which the assertions have held.
     Unknown,
+    /// The diagrams grew past their limit of nodes, which is told.
+    Nodes(u32),
     /// The source is not one that is accepted.
     Refused(SourceFault),
     /// The file is longer than a source may be. The number is how many bytes were read of it: one more than that.
@@ -57,8 +60,9 @@ pub fn text(alloc: Global, report: &Report) -> Result<String, AllocError>
     ensures { IfOk result (λ text. string_bytes text ≡ text_of report.now) }
 {
     match report {
-        Report::Safe => String::from_str(alloc, "reaver,safe\n"),
+        Report::Safe(_) => String::from_str(alloc, "reaver,safe\n"),
         Report::Unknown => String::from_str(alloc, "reaver,unknown\n"),
+        Report::Nodes(limit) => format!(in alloc; "reaver,nodes,{limit}\n"),
         Report::Refused(fault) => refusal_text(alloc, fault),
         Report::TooLong(count) => format!(in alloc; "reaver,toolong,{count}\n"),
         Report::ReadFault => String::from_str(alloc, "reaver,readfault\n"),
@@ -183,8 +187,8 @@ pub fn status_of_report(report: &Report) -> u8
     ensures { result ≡ report_status report.now }
 {
     match report {
-        Report::Safe => 0,
-        Report::Unknown => 2,
+        Report::Safe(_) => 0,
+        Report::Unknown | Report::Nodes(_) => 2,
         Report::Refused(_) => 3,
         Report::Usage => 4,
         Report::ReadFault => 5,

@@ -6,10 +6,11 @@ ghost use Rattle.std.specs.Io.KnownBytes.{Appends, Keeps};
 ghost use Rattle.rv_base.specs.Causes.{Rose, raised};
 ghost use Rattle.rv_base.specs.Shown.{AppendsPrefix};
 ghost use Rattle.rv_meaning.specs.Runs.{IsSafe};
-ghost use Rattle.rv_meaning.specs.Valuations.{HoldsEverywhere};
+ghost use Rattle.rv_meaning.specs.Integers.{IsControl};
+ghost use Rattle.rv_proofs.specs.declared.certificate.Certificate.{Certificate as CertificateModel};
 ghost use Rattle.rv_run.specs.Words.{texts, command};
-ghost use Rattle.rv_run.specs.Answers.{OnFile, IsTold, IsUnlessCutOff, IsRefusalUnlessCutOff};
-ghost use Rattle.rv_run.specs.Programs.{OnProgram, WithRuns, IsJudged, IsUndecided, IsRefusedFor};
+ghost use Rattle.rv_run.specs.Answers.{OnFile, IsTold, IsSafeReport, IsNodesReport, IsUnlessCutOff, IsSafeUnlessCutOff, IsUnknownUnlessCutOff, IsRefusalUnlessCutOff};
+ghost use Rattle.rv_run.specs.Programs.{OnProgram, WithRuns, nodes_limit, IsSafeControl, IsCertified, IsUndecided, IsWide, IsRefusedFor};
 ghost use Rattle.rv_run.specs.Printed.{text_of, status_of};
 ghost use Rattle.rv_source.specs.declared.fault.SourceFault.{SourceFault};
 
@@ -24,10 +25,12 @@ use std::alloc::Global;
 /// The report on the words.
 fn report_on<F: Files>(alloc: Global, words: &[String], files: &mut F) -> Report
     requires { All (λ word. IsTrue (F.serves files.old (string_bytes word))) words.now }
-    ensures safe { result ≡ Report.Safe → OnFile (F.held files.old) (texts words.now) (OnProgram (WithRuns IsSafe)) }
-    ensures safe_everywhere { result ≡ Report.Safe → OnFile (F.held files.old) (texts words.now) (OnProgram (WithRuns (IsJudged HoldsEverywhere))) }
+    ensures safe { (c : CertificateModel) → result ≡ Report.Safe c → OnFile (F.held files.old) (texts words.now) (OnProgram (WithRuns IsSafe)) }
+    ensures certified { (c : CertificateModel) → result ≡ Report.Safe c → OnFile (F.held files.old) (texts words.now) (OnProgram (IsCertified c)) }
+    ensures decided_safe { (c : CertificateModel) → result ≡ Report.Safe c → OnFile (F.held files.old) (texts words.now) (OnProgram IsControl) }
     ensures unknown { result ≡ Report.Unknown → OnFile (F.held files.old) (texts words.now) (OnProgram (WithRuns IsUndecided)) }
-    ensures not_too_long { (result ≡ Report.Safe) ⊎ (result ≡ Report.Unknown)
+    ensures nodes { (n : ℕ) → result ≡ Report.Nodes n → (n ≡ nodes_limit) × OnFile (F.held files.old) (texts words.now) (OnProgram IsWide) }
+    ensures not_too_long { IsSafeReport result ⊎ ((result ≡ Report.Unknown) ⊎ IsNodesReport result)
         → OnFile (F.held files.old) (texts words.now) (λ bytes _. length bytes ≤ SOURCE_LIMIT) }
     ensures refused { (fault : SourceFault) → result ≡ Report.Refused fault
         → OnFile (F.held files.old) (texts words.now) (λ bytes node. (length bytes ≤ SOURCE_LIMIT) × IsRefusedFor fault bytes node) }
@@ -35,10 +38,10 @@ fn report_on<F: Files>(alloc: Global, words: &[String], files: &mut F) -> Report
         → (n ≡ SOURCE_LIMIT + 1) × OnFile (F.held files.old) (texts words.now) (λ bytes _. SOURCE_LIMIT < length bytes) }
     ensures read_fault { result ≡ Report.ReadFault → Rose (F.faults files.old) (F.faults files.new) }
     ensures usage { (result ≡ Report.Usage) ↔ (command (texts words.now) ≡ None) }
-    ensures only_safe { IsTold (F.held files.old) (texts words.now) (λ bytes node. (length bytes ≤ SOURCE_LIMIT) × OnProgram (IsJudged HoldsEverywhere) bytes node)
-        → IsUnlessCutOff Report.Safe result }
+    ensures only_safe { IsTold (F.held files.old) (texts words.now) (λ bytes node. (length bytes ≤ SOURCE_LIMIT) × OnProgram IsSafeControl bytes node)
+        → IsSafeUnlessCutOff result }
     ensures only_unknown { IsTold (F.held files.old) (texts words.now) (λ bytes node. (length bytes ≤ SOURCE_LIMIT) × OnProgram IsUndecided bytes node)
-        → IsUnlessCutOff Report.Unknown result }
+        → IsUnknownUnlessCutOff result }
     ensures only_refused { (fault : SourceFault) → IsTold (F.held files.old) (texts words.now) (λ bytes node. (length bytes ≤ SOURCE_LIMIT) × IsRefusedFor fault bytes node)
         → IsRefusalUnlessCutOff fault result }
     ensures only_too_long { IsTold (F.held files.old) (texts words.now) (λ bytes _. SOURCE_LIMIT < length bytes)
@@ -84,8 +87,9 @@ fn show<S: Sink>(alloc: Global, report: &Report, out: &mut S) -> Sent
 /// where there is no memory. Beside these two, TooLong comes exactly where the file is longer than 1,048,576 bytes;
 /// Refused exactly where its bytes have no tree, with the fault of their first offending token, or where their program
 /// breaks a rule with this main node, with its first fault of names, types and clocks, and then of recursion, sizes, cycles
-/// and weights, where any cycle may be told; Safe exactly where the program is one that is judged and its observer is true
-/// at every allowed valuation; and Unknown exactly where it is accepted and not judged, or false at some allowed valuation.
+/// and weights, where any cycle may be told. Of an accepted program that has no integers and is safe Safe comes, with a
+/// certificate of it; of one that has integers, or has none and is not safe, Unknown. Nodes comes in their place only where
+/// the program has no integers and many diagram variables.
 pub fn run<F: Files, S: Sink>(
     alloc: Global,
     words: &Vec<String>,
@@ -93,11 +97,12 @@ pub fn run<F: Files, S: Sink>(
     out: &mut S,
 ) -> Outcome
     requires { All (λ word. IsTrue (F.serves files.old (string_bytes word))) words.now.items }
-    ensures safe { result.report ≡ Report.Safe → OnFile (F.held files.old) (texts words.now.items) (OnProgram (WithRuns IsSafe)) }
-    ensures safe_everywhere { result.report ≡ Report.Safe
-        → OnFile (F.held files.old) (texts words.now.items) (OnProgram (WithRuns (IsJudged HoldsEverywhere))) }
+    ensures safe { (c : CertificateModel) → result.report ≡ Report.Safe c → OnFile (F.held files.old) (texts words.now.items) (OnProgram (WithRuns IsSafe)) }
+    ensures certified { (c : CertificateModel) → result.report ≡ Report.Safe c → OnFile (F.held files.old) (texts words.now.items) (OnProgram (IsCertified c)) }
+    ensures decided_safe { (c : CertificateModel) → result.report ≡ Report.Safe c → OnFile (F.held files.old) (texts words.now.items) (OnProgram IsControl) }
     ensures unknown { result.report ≡ Report.Unknown → OnFile (F.held files.old) (texts words.now.items) (OnProgram (WithRuns IsUndecided)) }
-    ensures not_too_long { (result.report ≡ Report.Safe) ⊎ (result.report ≡ Report.Unknown)
+    ensures nodes { (n : ℕ) → result.report ≡ Report.Nodes n → (n ≡ nodes_limit) × OnFile (F.held files.old) (texts words.now.items) (OnProgram IsWide) }
+    ensures not_too_long { IsSafeReport result.report ⊎ ((result.report ≡ Report.Unknown) ⊎ IsNodesReport result.report)
         → OnFile (F.held files.old) (texts words.now.items) (λ bytes _. length bytes ≤ SOURCE_LIMIT) }
     ensures refused { (fault : SourceFault) → result.report ≡ Report.Refused fault
         → OnFile (F.held files.old) (texts words.now.items) (λ bytes node. (length bytes ≤ SOURCE_LIMIT) × IsRefusedFor fault bytes node) }
@@ -105,10 +110,10 @@ pub fn run<F: Files, S: Sink>(
         → (n ≡ SOURCE_LIMIT + 1) × OnFile (F.held files.old) (texts words.now.items) (λ bytes _. SOURCE_LIMIT < length bytes) }
     ensures read_fault { result.report ≡ Report.ReadFault → Rose (F.faults files.old) (F.faults files.new) }
     ensures usage { (result.report ≡ Report.Usage) ↔ (command (texts words.now.items) ≡ None) }
-    ensures only_safe { IsTold (F.held files.old) (texts words.now.items) (λ bytes node. (length bytes ≤ SOURCE_LIMIT) × OnProgram (IsJudged HoldsEverywhere) bytes node)
-        → IsUnlessCutOff Report.Safe result.report }
+    ensures only_safe { IsTold (F.held files.old) (texts words.now.items) (λ bytes node. (length bytes ≤ SOURCE_LIMIT) × OnProgram IsSafeControl bytes node)
+        → IsSafeUnlessCutOff result.report }
     ensures only_unknown { IsTold (F.held files.old) (texts words.now.items) (λ bytes node. (length bytes ≤ SOURCE_LIMIT) × OnProgram IsUndecided bytes node)
-        → IsUnlessCutOff Report.Unknown result.report }
+        → IsUnknownUnlessCutOff result.report }
     ensures only_refused { (fault : SourceFault) → IsTold (F.held files.old) (texts words.now.items) (λ bytes node. (length bytes ≤ SOURCE_LIMIT) × IsRefusedFor fault bytes node)
         → IsRefusalUnlessCutOff fault result.report }
     ensures only_too_long { IsTold (F.held files.old) (texts words.now.items) (λ bytes _. SOURCE_LIMIT < length bytes)

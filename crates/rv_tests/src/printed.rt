@@ -3,6 +3,7 @@
 use crate::outside::add_bytes;
 use rv_base::{Many, Memory, Place, Sites};
 use rv_causality::{CauseFault, Quantity};
+use rv_proofs::Certificate;
 use rv_run::{Report, text};
 use rv_source::SourceFault;
 use rv_syntax::TextFault;
@@ -13,7 +14,7 @@ use std::alloc::{AllocError, Global};
 /// `cycle 2.3 4.0.17`.
 pub fn printed(alloc: Global, words: &str) -> Result<Option<String>, Memory> {
     let (name, rest) = words.split_once(' ').unwrap_or((words, ""));
-    let report = match plain_report(name, rest) {
+    let report = match plain_report(alloc, name, rest) {
         Some(report) => Some(report),
         None => match fault_in(alloc, name, rest)? {
             Some(fault) => Some(Report::Refused(fault)),
@@ -30,10 +31,13 @@ pub fn printed(alloc: Global, words: &str) -> Result<Option<String>, Memory> {
 }
 
 /// A report that is no refusal.
-fn plain_report(name: &str, rest: &str) -> Option<Report> {
+fn plain_report(alloc: Global, name: &str, rest: &str) -> Option<Report> {
     match name {
-        "safe" => Some(Report::Safe),
+        "safe" => Some(Report::Safe(Certificate {
+            locations: Many::new(alloc),
+        })),
         "unknown" => Some(Report::Unknown),
+        "nodes" => Some(Report::Nodes(rest.parse::<u32>().ok()?)),
         "toolong" => Some(Report::TooLong(rest.parse::<u64>().ok()?)),
         "readfault" => Some(Report::ReadFault),
         "usage" => Some(Report::Usage),

@@ -7,6 +7,7 @@ ghost use Rattle.rv_base.specs.SureFiles.{held_by};
 ghost use Rattle.rv_base.specs.MemoryFiles as memory_files;
 ghost use Rattle.rv_base.specs.MemorySink as memory_sink;
 ghost use Rattle.rv_meaning.specs.Runs.{IsSafe};
+ghost use Rattle.rv_proofs.specs.declared.certificate.Certificate.{Certificate};
 ghost use Rattle.rv_run.specs.Answers.{OnFile};
 ghost use Rattle.rv_run.specs.Programs.{OnProgram, WithRuns};
 ghost use Rattle.rv_run.specs.Words.{texts};
@@ -146,7 +147,7 @@ fn run_in_memory(
     out: &mut MemorySink,
 ) -> Outcome
     requires { memory_sink.calls_of out.old ≡ 0 }
-    ensures safe { result.report ≡ Report.Safe
+    ensures safe { (c : Certificate) → result.report ≡ Report.Safe c
         → OnFile (Some (memory_files.held_by files.old)) (texts words.now.items) (OnProgram (WithRuns IsSafe)) }
     ensures one_put { (result.sent ≡ Sent.Whole) ⊎ (result.sent ≡ Sent.Failed) → memory_sink.calls_of out.new ≡ 1 }
 {
@@ -169,8 +170,9 @@ fn outcome_text(alloc: Global, outcome: &Outcome, shown: &[u8]) -> Result<String
 
 fn report_name(report: &Report) -> &'static str {
     match report {
-        Report::Safe => "safe",
+        Report::Safe(_) => "safe",
         Report::Unknown => "unknown",
+        Report::Nodes(_) => "nodes",
         Report::Refused(_) => "refused",
         Report::TooLong(_) => "toolong",
         Report::ReadFault => "readfault",
