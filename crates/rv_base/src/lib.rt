@@ -1,4 +1,8 @@
 //! What stands between the program and the outside, and the small types that every layer shares.
+//!
+//! It promises what `Files` and `Sink` tell of the outside, and that the implementations in memory meet them exactly; `Many`, `Text`,
+//! `Path`, `Sites` are to contracts the lists that they hold. It stands on nothing of the project, and every crate stands on it.
+//! Begin with files.rt and sink.rt, then specs/Shelf.antt and specs/Causes.antt.
 #![tactic(auto)]
 
 mod entries;

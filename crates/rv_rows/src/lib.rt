@@ -1,4 +1,7 @@
 //! Linear rows and forms over the whole numbers, and multipliers that prove a row from others (Farkas' lemma).
+//!
+//! It promises that each call is exact at every point, that what `proves` and `refutes` accept holds at whole points, and that no
+//! sum leaves its type. It stands on `rv_base` alone. Begin with linear.rt and forms.rt, then farkas.rt.
 #![tactic(auto)]
 
 mod farkas;

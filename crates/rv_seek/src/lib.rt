@@ -1,5 +1,8 @@
 //! The search for multipliers: rows that premises imply, premises that no whole point meets, and bounds of forms.
 //! Whatever finds multipliers, they are checked before they are given, so each answer is a proof.
+//!
+//! It promises that what is found proves what was wanted, with numbers in the ranges of a document, and that what the premises show
+//! at once is found. It stands on `rv_rows`. Begin with seek.rt, then the simplex in tableau.rt.
 #![tactic(auto)]
 
 mod divisors;

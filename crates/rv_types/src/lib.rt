@@ -1,4 +1,9 @@
 //! The rules of names, types and clocks of a Lustre program, and its first fault.
+//!
+//! It promises that `settle` answers the types, clocks and constants exactly where every rule is kept, and else the first fault. The
+//! rules are recursions over the tree (specs/Names.antt, Kinds.antt, Clocks.antt), and share nothing with the tables of the code.
+//! The definitions of instances, needs, variables and memories stand here too, since runs and the rule of causality share them. It
+//! stands on `rv_tree`. Begin with settling.rt, then specs/Settled.antt.
 #![tactic(auto)]
 
 mod chains;

@@ -1,5 +1,8 @@
 //! The control states that a system without integers reaches, layer by layer: a certificate where the observer is true at
 //! all of them, and the layers where it is not.
+//!
+//! It promises Good exactly where every run of the system is safe, and that from bad layers a run leads to a false observer
+//! (`layers_falsify`). It stands on `rv_symbolic`, and knows no programs. Begin with walking.rt, then specs/Walks.antt.
 #![tactic(auto)]
 
 mod certify;
