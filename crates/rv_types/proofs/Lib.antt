@@ -36,3 +36,6 @@ mod WellNodes
 pub mod RisingConstants
 mod ConstantValues
 mod WideParts
+mod OperatorTrees
+mod PutKinds
+pub mod DelayedKinds

@@ -27,3 +27,4 @@ pub mod Needs
 pub mod WellFormed
 pub mod Variables
 pub mod Lists
+pub mod Delayed

@@ -9,6 +9,7 @@
 mod chains;
 mod clocks;
 mod constants;
+mod delayed;
 mod fault;
 mod first;
 mod groups;
@@ -36,6 +37,7 @@ mod view;
 mod weighing;
 mod wide_constants;
 
+pub use delayed::delay_kinds;
 pub use fault::{NameFault, Pace};
 pub use laws::{
     chains_end, one_fault, one_settlement, settled_or_refused, sited_programs, well_formed_programs,

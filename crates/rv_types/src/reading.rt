@@ -78,7 +78,8 @@ pub fn node_tables(alloc: Global, tables: &ProgramTables, node: &Node) -> Result
     Ok(NodeTables { flows, kinds })
 }
 
-fn view<'a>(tables: &'a ProgramTables, node: &'a NodeTables) -> View<'a>
+/// The tables of a program and of one of its nodes together.
+pub(crate) fn view<'a>(tables: &'a ProgramTables, node: &'a NodeTables) -> View<'a>
     ensures { result ≡ view_of tables.now node.now }
 {
     View {

@@ -59,7 +59,7 @@ pub struct Operands {
 
 /// What is found of an expression from its own verdict and the first fault of its parts.
 #[inline(never)]
-fn made(at: u32, verdict: Verdict, constant: bool, below: Option<NameFault>) -> Judged
+pub(crate) fn made(at: u32, verdict: Verdict, constant: bool, below: Option<NameFault>) -> Judged
     ensures verdict { result.verdict ≡ verdict }
     ensures constant { result.constant ≡ constant }
     ensures fault { (faults : List NameFault) → below ≡ first faults → result.fault ≡ first (fault_in at verdict ++ faults) }
@@ -72,7 +72,7 @@ fn made(at: u32, verdict: Verdict, constant: bool, below: Option<NameFault>) -> 
 }
 
 #[inline(never)]
-fn made_binary(at: u32, moves: bool, op: Op, a: &Judged, b: &Judged) -> Judged
+pub(crate) fn made_binary(at: u32, moves: bool, op: Op, a: &Judged, b: &Judged) -> Judged
     ensures verdict { result.verdict ≡ two_of (binary_rule moves (a.now.constant || b.now.constant) op) (kind_in a.now.verdict) (kind_in b.now.verdict) }
     ensures constant { result.constant ≡ stays_constant op a.now.constant b.now.constant }
     ensures fault { (xs ys : List NameFault) → a.now.fault ≡ first xs → b.now.fault ≡ first ys → result.fault ≡ first (fault_in at result.verdict ++ (xs ++ ys)) }
@@ -87,7 +87,7 @@ fn made_binary(at: u32, moves: bool, op: Op, a: &Judged, b: &Judged) -> Judged
 }
 
 #[inline(never)]
-fn made_if(at: u32, a: &Judged, b: &Judged, c: &Judged) -> Judged
+pub(crate) fn made_if(at: u32, a: &Judged, b: &Judged, c: &Judged) -> Judged
     ensures verdict { result.verdict ≡ three_of if_rule (kind_in a.now.verdict) (kind_in b.now.verdict) (kind_in c.now.verdict) }
     ensures constant { result.constant ≡ (a.now.constant && (b.now.constant && c.now.constant)) }
     ensures fault { (xs ys zs : List NameFault) → a.now.fault ≡ first xs → b.now.fault ≡ first ys → c.now.fault ≡ first zs → result.fault ≡ first (fault_in at result.verdict ++ (xs ++ (ys ++ zs))) }
@@ -128,7 +128,7 @@ pub fn of_call(moves: bool, signature: Option<&Signature>, arguments: &Operands)
 }
 
 #[inline(never)]
-fn made_call(at: u32, view: &View, name: &Text, arguments: &Operands) -> Judged
+pub(crate) fn made_call(at: u32, view: &View, name: &Text, arguments: &Operands) -> Judged
     ensures constant { result.constant ≡ false }
     ensures verdict { (ks : List (Option AnyKind)) → arguments.now.typed ≡ all_typed ks → arguments.now.fit ≡ fit (takes_in ((scope_of view.now).callee name.now)) ks → result.verdict ≡ call_of (scope_of view.now).moves ((scope_of view.now).callee name.now) ks }
     ensures fault { (xs : List NameFault) → arguments.now.fault ≡ first xs → result.fault ≡ first (fault_in at result.verdict ++ xs) }
@@ -138,14 +138,14 @@ fn made_call(at: u32, view: &View, name: &Text, arguments: &Operands) -> Judged
 }
 
 /// The types that the node of a name takes.
-fn wanted_by<'a>(view: &View<'a>, name: &Text) -> &'a [Kind]
+pub(crate) fn wanted_by<'a>(view: &View<'a>, name: &Text) -> &'a [Kind]
     ensures { result.now ≡ takes_in ((scope_of view.now).callee name.now) }
 {
     takes_of(view.callee(name))
 }
 
 #[inline(never)]
-fn made_literal(kind: Kind) -> Judged
+pub(crate) fn made_literal(kind: Kind) -> Judged
     ensures verdict { result.verdict ≡ Verdict.Has kind }
     ensures constant { result.constant ≡ true }
     ensures fault { result.fault ≡ None }
@@ -158,7 +158,7 @@ fn made_literal(kind: Kind) -> Judged
 }
 
 #[inline(never)]
-fn made_name(view: &View, at: u32, name: &Text) -> Judged
+pub(crate) fn made_name(view: &View, at: u32, name: &Text) -> Judged
     ensures verdict { result.verdict ≡ form_verdict (scope_of view.now) (Named name.now) }
     ensures constant { result.constant ≡ is_constant_form (scope_of view.now) (Named name.now) }
     ensures fault { result.fault ≡ first (fault_in at result.verdict ++ faults_below (own_type_fault (scope_of view.now)) (Named name.now)) }
@@ -167,7 +167,7 @@ fn made_name(view: &View, at: u32, name: &Text) -> Judged
 }
 
 #[inline(never)]
-fn made_when(view: &View, at: u32, a: &Judged, clock: &Text) -> Judged
+pub(crate) fn made_when(view: &View, at: u32, a: &Judged, clock: &Text) -> Judged
     ensures verdict { result.verdict ≡ when_of (scope_of view.now).moves (kind_in a.now.verdict) ((scope_of view.now).clock clock.now) }
     ensures constant { result.constant ≡ false }
     ensures fault { (xs : List NameFault) → a.now.fault ≡ first xs → result.fault ≡ first (fault_in at result.verdict ++ xs) }
@@ -284,7 +284,7 @@ pub fn is_suited_at(wanted: &[Kind], number: usize, found: Option<Kind>) -> bool
 
 /// One more operand or argument.
 #[inline(never)]
-fn one_more(wanted: &[Kind], so_far: Operands, one: Judged) -> Operands
+pub(crate) fn one_more(wanted: &[Kind], so_far: Operands, one: Judged) -> Operands
     requires { so_far.count < 2 ^ 63 }
     ensures typed { result.typed ≡ (so_far.typed && is_some (kind_in one.verdict)) }
     ensures boolean { result.boolean ≡ (so_far.boolean && suits kind.Bool (kind_in one.verdict)) }
@@ -329,7 +329,7 @@ pub fn judge_all(view: &View, wanted: &[Kind], es: &[Expr]) -> Operands
 }
 
 /// After the last argument no type may be left.
-fn whole(wanted: &[Kind], found: Operands) -> Operands
+pub(crate) fn whole(wanted: &[Kind], found: Operands) -> Operands
     ensures { result ≡ record found { fit = found.fit && nat_le (length wanted.now) found.count } }
 {
     Operands {
