@@ -41,6 +41,7 @@ pub mod TableWeights
 pub mod WideLeast
 pub mod TypedCalls
 pub mod NumbersNeeded
+mod Needed
 pub mod GiverNeeds
 pub mod NeedsGraph
 pub mod FewInstances

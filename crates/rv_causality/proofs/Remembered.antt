@@ -1,5 +1,7 @@
 -- The memories of a node, found by the tables of its expressions.
-use Rattle.std.proofs.Common.{◌≡◌, ℕ, Bool, true, false, cond, ◌||◌, nat_eq, List, [], ◌∷◌, ◌++◌, map, flat_map, unwrap_or, Option, refl, ◌∙◌, ap}
+use Rattle.std.proofs.Common.{◌≡◌, ℕ, Bool, true, false, cond, ◌||◌, nat_eq, List, [], ◌∷◌, ◌++◌, map, flat_map, unwrap_or, Option, refl, sym, ◌∙◌, ap, ◌+◌, length, length-append}
+use Rattle.std.specs.Prelude.{slice_index_or}
+use Rattle.std.proofs.lemmas.List.{append_assoc}
 use Rattle.std.specs.List.{Contains, list_any}
 use Rattle.std.specs.Cmp.{nat_eq_equiv, partial_equiv_from_equiv}
 use Rattle.indexmap.specs.IndexSet.{insert_key}
@@ -10,6 +12,7 @@ use Rattle.rv_types.specs.declared.typed.Kind.{Kind}
 use Rattle.rv_types.specs.declared.typed.Kind.TheVariants as kind
 use Rattle.rv_types.specs.declared.reading.ProgramTables.{ProgramTables}
 use Rattle.rv_types.specs.declared.reading.NodeTables.{NodeTables}
+use Rattle.rv_types.specs.Delayed.{delayed_kinds}
 use Rattle.rv_types.specs.Names.{texts, decls, decl_names, lefts, repeated, repeated_values, node_names, type_names, alias_use, constant_uses, names_in_node, name_faults, undefined_unless, flow_use, clock_use, equation_uses, assertion_uses}
 use Rattle.rv_types.specs.Readings.{view_of}
 use Rattle.rv_types.specs.Scopes.{node_scope}
@@ -18,7 +21,7 @@ use Rattle.rv_types.specs.Types.{Scope, kind_of}
 use Rattle.rv_causality.specs.declared.memories.MemoryRead.{MemoryRead}
 use Rattle.rv_types.specs.Variables.{is_in, memories_beside}
 use Rattle.rv_types.specs.Values.{operand_kind}
-use Rattle.rv_causality.specs.Memories.{site_in, read_of, reads, with_site, kinds_beside, memory_kinds}
+use Rattle.rv_causality.specs.Memories.{site_in, read_of, reads, sites_read, paired, with_site, kinds_beside, memory_kinds}
 use Rattle.rv_instances.proofs.Known.{split_nil, each_nil}
 
 -- a site is among some where one of them equals it
@@ -75,6 +78,25 @@ module _ (p : ProgramTree) (n : NodeTree) (s : Scope) (names : List Identifier) 
           λ t. is t ∷ more (seen ++ k ∷ []) (m ∷ other) both t
       tested true false e k m at j is more = absurd (let b : ⊥ = cc in b)
       tested false true e k m at j is more = absurd (let b : ⊥ = cc in b)
+
+-- sites and types of the same reads, put together
+paired_from : (s : Scope) (names : List Identifier) (ks : List Kind) (ds : List Delay)
+    → paired (ks ++ delayed_kinds s ds) (length ks) (sites_read names ds) ≡ map (read_of s names) ds
+paired_from s names ks [] = refl
+paired_from s names ks (d ∷ ds) =
+    let k = unwrap_or (kind_of s d.operand) kind.Bool in
+    let here : slice_index_or (ks ++ k ∷ delayed_kinds s ds) (length ks) kind.Bool ≡ k = index_here ks k (delayed_kinds s ds) in
+    let on : paired (ks ++ k ∷ delayed_kinds s ds) (length ks + 1) (sites_read names ds) ≡ map (read_of s names) ds =
+    (λ i. paired (sym (append_assoc ks (k ∷ []) (delayed_kinds s ds)) i) (sym (length-append ks (k ∷ [])) i) (sites_read names ds)) ∙ paired_from s names (ks ++ k ∷ []) ds in
+    λ i. record { site = site_in names d.site d.operand; kind = here i } ∷ on i
+  where
+    index_here : (xs : List Kind) (x : Kind) (ys : List Kind) → slice_index_or (xs ++ x ∷ ys) (length xs) kind.Bool ≡ x
+    index_here [] x ys = refl
+    index_here (y ∷ xs) x ys = index_here xs x ys
+
+pub paired_reads : (t : ProgramTables) (own : NodeTables) (ds : List Delay)
+    → paired (delayed_kinds (scope_of (view_of t own)) ds) 0 (sites_read (texts own.flows) ds) ≡ reads t own ds
+paired_reads t own ds = paired_from (scope_of (view_of t own)) (texts own.flows) [] ds
 
 -- the types of the memories of a node
 pub remembered : (p : ProgramTree) (n : NodeTree) (t : ProgramTables) (own : NodeTables) (found : List MemoryRead) → scope_of (view_of t own) ≡ node_scope p n → texts own.flows ≡ flows n

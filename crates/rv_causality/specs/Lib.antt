@@ -20,3 +20,4 @@ pub mod WeightTables
 pub mod WideNodes
 pub mod Sequenced
 pub mod FlowGraphs
+pub mod Needed

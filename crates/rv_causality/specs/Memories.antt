@@ -1,5 +1,5 @@
 -- The memories of a node, by the tables of its expressions.
-use Rattle.std.specs.Prelude.{ℕ, cond, List, [], ◌∷◌, ◌++◌, map, unwrap_or, Option}
+use Rattle.std.specs.Prelude.{ℕ, ◌+◌, cond, List, [], ◌∷◌, ◌++◌, map, slice_index_or, unwrap_or, Option}
 use Rattle.rv_tree.specs.Tree.{Tree, Node, Form, Named, NodeTree, ProgramTree}
 use Rattle.rv_tree.specs.Places.{Identifier, index_of, is_among}
 use Rattle.rv_tree.specs.Delays.{Delay}
@@ -31,6 +31,15 @@ read_of s names d = record { site = site_in names d.site d.operand; kind = unwra
 -- what some read, by the tables of a node
 abbrev pub reads : ProgramTables → NodeTables → List Delay → List MemoryRead
 reads t n ds = map (read_of (scope_of (view_of t n)) (texts n.flows)) ds
+
+-- the sites of the memories that some read, where the flows have these names
+abbrev pub sites_read : List Identifier → List Delay → List ℕ
+sites_read names ds = map (λ d. site_in names d.site d.operand) ds
+
+-- sites with the types that stand at the numbers from j on
+abbrev pub paired : List Kind → ℕ → List ℕ → List MemoryRead
+paired ks j [] = []
+paired ks j (s ∷ ss) = record { site = s; kind = slice_index_or ks j kind.Bool } ∷ paired ks (j + 1) ss
 
 -- some sites with one more, where it is not among them
 abbrev pub with_site : List ℕ → ℕ → List ℕ

@@ -8,7 +8,8 @@ ghost use Rattle.rv_causality.specs.FlowGraphs.{IsFlowGraph};
 ghost use Rattle.rv_instances.specs.Givers.{AreGivers};
 ghost use Rattle.rv_causality.specs.Graphs.{IsGraph};
 ghost use Rattle.rv_instances.specs.Layouts.{IsLayout, all_places};
-ghost use Rattle.rv_instances.specs.NumberedNeeds.{IsGiver, giver_numbers, site_in};
+ghost use Rattle.rv_instances.specs.NumberedNeeds.{IsGiver, site_in};
+ghost use Rattle.rv_causality.specs.Needed.{giver_needed};
 
 use crate::needs::{add_flow, add_needs};
 use rv_base::{Many, Memory};
@@ -17,8 +18,8 @@ use rv_tree::Expr;
 use std::alloc::Global;
 
 /// For each flow, by its number, the numbers of the flows that it needs at the same instant. Time grows with the number
-/// of expressions of all instances, up to look-ups of names and calls; what a `current` reads is looked at once more
-/// for each `current` around it, of which there are no more than a text is nested deep.
+/// of expressions of all instances, up to look-ups of names and calls; the arguments of a call within a `current` are
+/// looked at once more for their clock, each for each such call around it.
 pub fn flow_graph(
     alloc: Global,
     expanded: &Expanded,
@@ -48,7 +49,7 @@ fn needs_of(
     requires known { IsKnown expanded.now }
     requires layout { IsLayout (program_of expanded.now) (main_of expanded.now) expanded.now.instances.now layout.now }
     requires giver { IsGiver (program_of expanded.now) (main_of expanded.now) expanded.now.instances.now giver.now }
-    ensures { IfOk result (λ found. found ≡ giver_numbers (program_of expanded.now) expanded.now.instances.now layout.now giver.now) }
+    ensures { IfOk result (λ found. found ≡ giver_needed (program_of expanded.now) expanded.now.instances.now layout.now giver.now) }
 {
     let mut found = Many::new(alloc);
     match giver {
@@ -69,11 +70,11 @@ fn add_body(
     requires known { IsKnown expanded.now }
     requires layout { IsLayout (program_of expanded.now) (main_of expanded.now) expanded.now.instances.now layout.now }
     requires giver { IsGiver (program_of expanded.now) (main_of expanded.now) expanded.now.instances.now (giver.Body body.now) }
-    ensures { OnOk result (found.new ≡ found.old ++ giver_numbers (program_of expanded.now) expanded.now.instances.now layout.now (giver.Body body.now)) }
+    ensures { OnOk result (found.new ≡ found.old ++ giver_needed (program_of expanded.now) expanded.now.instances.now layout.now (giver.Body body.now)) }
 {
     let reader = Reader::new(expanded, layout, body.instance);
-    let clock = reader.clock(body.clock);
-    add_needs(&reader, clock, body.body, found)
+    add_flow(reader.clock(body.clock), found)?;
+    add_needs(&reader, body.body, found)
 }
 
 /// Adds what an output of a call of an instance needs: the flow of the clock, and the output.
@@ -86,7 +87,7 @@ fn add_output(
     requires known { IsKnown expanded.now }
     requires layout { IsLayout (program_of expanded.now) (main_of expanded.now) expanded.now.instances.now layout.now }
     requires giver { IsGiver (program_of expanded.now) (main_of expanded.now) expanded.now.instances.now (giver.Output output.now) }
-    ensures { OnOk result (found.new ≡ found.old ++ giver_numbers (program_of expanded.now) expanded.now.instances.now layout.now (giver.Output output.now)) }
+    ensures { OnOk result (found.new ≡ found.old ++ giver_needed (program_of expanded.now) expanded.now.instances.now layout.now (giver.Output output.now)) }
 {
     let reader = Reader::new(expanded, layout, output.instance);
     add_flow(reader.clock(output.clock), found)?;

@@ -28,6 +28,7 @@ mod ordering;
 mod reach;
 mod recursion;
 mod sequence;
+mod shown;
 mod sites;
 mod sizes;
 mod ticks;

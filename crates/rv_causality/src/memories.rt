@@ -1,18 +1,18 @@
 //! The memories of nodes: what `pre` and `current` read.
 
-ghost use Rattle.std.specs.Prelude.{◌≡◌, ◌++◌, ◌∷◌, [], cond, map, unwrap_or, IfOk, OnOk};
+ghost use Rattle.std.specs.Prelude.{◌≡◌, ◌++◌, ◌∷◌, [], cond, map, slice_index_or, IfOk, OnOk};
 ghost use Rattle.rv_tree.specs.Delays.{delays, delays_of_all, delays_in_equations, delays_in_assertions};
 ghost use Rattle.rv_tree.specs.Tree.{ProgramTree, tree_of, trees, node_tree, equation_tree, assertion_tree, program_tree};
 ghost use Rattle.rv_types.specs.Names.{name_faults, texts, repeated, decl_names, decls};
-ghost use Rattle.rv_types.specs.Readings.{AreTables, view_of};
-ghost use Rattle.rv_types.specs.Tables.{scope_of};
+ghost use Rattle.rv_types.specs.Readings.{AreTables};
 ghost use Rattle.rv_types.specs.Variables.{is_in};
-ghost use Rattle.rv_causality.specs.Memories.{site_in, read_of, reads, with_site, kinds_beside, memory_kinds};
+ghost use Rattle.rv_types.specs.declared.typed.Kind.TheVariants as kind;
+ghost use Rattle.rv_causality.specs.Memories.{site_in, sites_read, paired, with_site, kinds_beside, memory_kinds};
 
 use crate::sites::Sites;
 use rv_base::{Many, Memory};
 use rv_tree::{Assertion, Equation, Expr, ExprForm, Node, Program};
-use rv_types::{Kind, NodeTables, ProgramTables, flow_site, node_tables, operand_kind};
+use rv_types::{Kind, NodeTables, ProgramTables, delay_kinds, flow_site, node_tables};
 use std::alloc::Global;
 
 /// What a `pre` or `current` reads: the site of a memory in its node, and its type.
@@ -49,22 +49,34 @@ fn memories_of_node(
     ensures { (p : ProgramTree) → AreTables p tables.now → repeated [] (decl_names (decls (node_tree node.now))) ≡ [] → IfOk result (λ kinds. kinds ≡ memory_kinds p (node_tree node.now)) }
 {
     let own = node_tables(alloc, tables, node)?;
-    let mut found = Many::new(alloc);
-    gather_equations(tables, &own, node.equations.as_slice(), &mut found)?;
-    gather_assertions(tables, &own, node.assertions.as_slice(), &mut found)?;
-    different_kinds(alloc, found.as_slice())
+    let kinds = delay_kinds(alloc, tables, &own, node)?;
+    let mut sites = Many::new(alloc);
+    gather_equations(&own, node.equations.as_slice(), &mut sites)?;
+    gather_assertions(&own, node.assertions.as_slice(), &mut sites)?;
+    different_kinds(alloc, sites.as_slice(), kinds.as_slice())
 }
 
-/// One type for each memory that is read.
-fn different_kinds(alloc: Global, found: &[MemoryRead]) -> Result<Many<Kind>, Memory>
-    ensures { IfOk result (λ kinds. kinds ≡ kinds_beside [] found.now) }
+/// One type for each memory that is read, of the sites that are read and the types there.
+fn different_kinds(alloc: Global, sites: &[u64], of: &[Kind]) -> Result<Many<Kind>, Memory>
+    ensures { IfOk result (λ kinds. kinds ≡ kinds_beside [] (paired of.now 0 sites.now)) }
 {
     let mut seen = Sites::new(alloc);
     let mut kinds = Many::new(alloc);
-    for read in found {
-        keep(&mut seen, &mut kinds, *read)?;
+    for (number, site) in sites.iter().enumerate() {
+        let kind = kind_at(of, number);
+        keep(&mut seen, &mut kinds, MemoryRead { site: *site, kind })?;
     }
     Ok(kinds)
+}
+
+/// The type with a number, `Bool` where there is none.
+fn kind_at(kinds: &[Kind], number: usize) -> Kind
+    ensures { result ≡ slice_index_or kinds.now number kind.Bool }
+{
+    match kinds.get(number) {
+        Some(kind) => *kind,
+        None => Kind::Bool,
+    }
 }
 
 /// Keeps the type of a memory that has not been seen.
@@ -78,99 +90,84 @@ fn keep(seen: &mut Sites, kinds: &mut Many<Kind>, read: MemoryRead) -> Result<()
     Ok(())
 }
 
-/// Adds what right sides read.
+/// Adds the sites that right sides read.
 fn gather_equations(
-    tables: &ProgramTables,
     node: &NodeTables,
     equations: &[Equation],
-    found: &mut Many<MemoryRead>,
+    found: &mut Many<u64>,
 ) -> Result<(), Memory>
-    ensures { OnOk result (found.new ≡ found.old ++ reads tables.now node.now (delays_in_equations (map equation_tree equations.now))) }
+    ensures { OnOk result (found.new ≡ found.old ++ sites_read (texts node.now.flows) (delays_in_equations (map equation_tree equations.now))) }
 {
     for equation in equations {
-        gather(tables, node, &equation.right, found)?;
+        gather(node, &equation.right, found)?;
     }
     Ok(())
 }
 
-/// Adds what assertions read.
+/// Adds those that assertions read.
 fn gather_assertions(
-    tables: &ProgramTables,
     node: &NodeTables,
     assertions: &[Assertion],
-    found: &mut Many<MemoryRead>,
+    found: &mut Many<u64>,
 ) -> Result<(), Memory>
-    ensures { OnOk result (found.new ≡ found.old ++ reads tables.now node.now (delays_in_assertions (map assertion_tree assertions.now))) }
+    ensures { OnOk result (found.new ≡ found.old ++ sites_read (texts node.now.flows) (delays_in_assertions (map assertion_tree assertions.now))) }
 {
     for assertion in assertions {
-        gather(tables, node, &assertion.body, found)?;
+        gather(node, &assertion.body, found)?;
     }
     Ok(())
 }
 
-/// Adds what an expression reads. It calls itself for each operand, so as deep as the tree is: 20,101 levels at most.
+/// Adds those that an expression reads. It calls itself for each operand, so as deep as the tree is: 20,101 levels at most.
 #[cycle(gather)]
-fn gather(
-    tables: &ProgramTables,
-    node: &NodeTables,
-    e: &Expr,
-    found: &mut Many<MemoryRead>,
-) -> Result<(), Memory>
-    ensures { OnOk result (found.new ≡ found.old ++ reads tables.now node.now (delays (tree_of e.now))) }
+fn gather(node: &NodeTables, e: &Expr, found: &mut Many<u64>) -> Result<(), Memory>
+    ensures { OnOk result (found.new ≡ found.old ++ sites_read (texts node.now.flows) (delays (tree_of e.now))) }
 {
     match &e.form {
         ExprForm::True | ExprForm::False | ExprForm::Number(_) | ExprForm::Named(_) => Ok(()),
         ExprForm::Not(operand) | ExprForm::Minus(operand) | ExprForm::When(operand, _) => {
-            gather(tables, node, operand, found)
+            gather(node, operand, found)
         }
         ExprForm::Pre(operand) | ExprForm::Current(operand) => {
-            add_read(tables, node, e.site, operand, found)?;
-            gather(tables, node, operand, found)
+            add_site(node, e.site, operand, found)?;
+            gather(node, operand, found)
         }
         ExprForm::Binary(_, left, right) => {
-            gather(tables, node, left, found)?;
-            gather(tables, node, right, found)
+            gather(node, left, found)?;
+            gather(node, right, found)
         }
         ExprForm::If(condition, first, second) => {
-            gather(tables, node, condition, found)?;
-            gather(tables, node, first, found)?;
-            gather(tables, node, second, found)
+            gather(node, condition, found)?;
+            gather(node, first, found)?;
+            gather(node, second, found)
         }
-        ExprForm::AtMostOne(operands) => gather_all(tables, node, operands.as_slice(), found),
-        ExprForm::Call(_, arguments) => gather_all(tables, node, arguments.as_slice(), found),
+        ExprForm::AtMostOne(operands) => gather_all(node, operands.as_slice(), found),
+        ExprForm::Call(_, arguments) => gather_all(node, arguments.as_slice(), found),
     }
 }
 
-/// Adds what the expressions read.
+/// Adds those that the expressions read.
 #[cycle(gather)]
-fn gather_all(
-    tables: &ProgramTables,
-    node: &NodeTables,
-    expressions: &[Expr],
-    found: &mut Many<MemoryRead>,
-) -> Result<(), Memory>
-    ensures { OnOk result (found.new ≡ found.old ++ reads tables.now node.now (delays_of_all (trees (map tree_of expressions.now)))) }
+fn gather_all(node: &NodeTables, expressions: &[Expr], found: &mut Many<u64>) -> Result<(), Memory>
+    ensures { OnOk result (found.new ≡ found.old ++ sites_read (texts node.now.flows) (delays_of_all (trees (map tree_of expressions.now)))) }
 {
     for e in expressions {
-        gather(tables, node, e, found)?;
+        gather(node, e, found)?;
     }
     Ok(())
 }
 
-/// Adds what a `pre` or `current` of this site and operand reads.
+/// Adds the site that a `pre` or `current` of this site and operand reads.
 #[inline(never)]
-fn add_read(
-    tables: &ProgramTables,
+fn add_site(
     node: &NodeTables,
     site: Option<u32>,
     operand: &Expr,
-    found: &mut Many<MemoryRead>,
+    found: &mut Many<u64>,
 ) -> Result<(), Memory>
-    ensures { OnOk result (found.new ≡ found.old ++ read_of (scope_of (view_of tables.now node.now)) (texts node.now.flows) (record { site = site; operand = tree_of operand.now }) ∷ []) }
+    ensures { OnOk result (found.new ≡ found.old ++ site_in (texts node.now.flows) site (tree_of operand.now) ∷ []) }
 {
-    let kind = operand_kind(tables, node, operand);
-    let site = memory_site(node, site, operand);
-    found.push(MemoryRead { site, kind })?;
+    found.push(memory_site(node, site, operand))?;
     Ok(())
 }
 

@@ -2,73 +2,62 @@
 
 ghost use Rattle.std.specs.Prelude.{◌≡◌, ◌++◌, ◌∷◌, [], map, unwrap_or, OnOk};
 ghost use Rattle.rv_tree.specs.Tree.{tree_of, trees};
-ghost use Rattle.rv_instances.specs.NumberedNeeds.{IsReader, listed, numbers_needed, numbers_of_all, node_read, numbers_of};
+ghost use Rattle.rv_instances.specs.NumberedNeeds.{IsReader, listed, node_read, numbers_of};
+ghost use Rattle.rv_causality.specs.Needed.{needed, needed_by_all};
 
+use crate::shown::add_current;
 use rv_base::{Many, Memory};
 use rv_instances::Reader;
 use rv_tree::{Expr, ExprForm};
 
-/// Adds the numbers of the flows that an expression needs, which stands on the clock of a flow. It calls itself for
-/// each operand, so as deep as the tree is: 20,101 levels at most.
+/// Adds the numbers of the flows that an expression needs beside the flow of its own clock. Each part is looked at once.
+/// It calls itself for each operand, so as deep as the tree is: 20,101 levels at most.
 #[cycle(needs)]
-pub fn add_needs(
-    reader: &Reader,
-    clock: Option<u32>,
-    e: &Expr,
-    found: &mut Many<u32>,
-) -> Result<(), Memory>
+pub fn add_needs(reader: &Reader, e: &Expr, found: &mut Many<u32>) -> Result<(), Memory>
     requires { IsReader reader.now }
-    ensures { OnOk result (found.new ≡ found.old ++ numbers_needed (node_read reader.now) (numbers_of reader.now) clock (tree_of e.now)) }
+    ensures { OnOk result (found.new ≡ found.old ++ needed (node_read reader.now) (numbers_of reader.now) (tree_of e.now)) }
 {
-    add_flow(clock, found)?;
     match &e.form {
         ExprForm::True | ExprForm::False | ExprForm::Number(_) | ExprForm::Pre(_) => Ok(()),
         ExprForm::Named(name) => add_flow(reader.flow(name), found),
-        ExprForm::Not(operand) | ExprForm::Minus(operand) => {
-            add_needs(reader, clock, operand, found)
-        }
+        ExprForm::Not(operand) | ExprForm::Minus(operand) => add_needs(reader, operand, found),
         ExprForm::Current(operand) => {
-            let own = reader.clock_of(operand);
-            add_needs(reader, own, operand, found)
+            add_current(reader, operand, found)?;
+            Ok(())
         }
         ExprForm::When(operand, name) => {
-            let own = reader.clock_of_flow(&name.text);
-            add_needs(reader, own, operand, found)
+            add_needs(reader, operand, found)?;
+            add_flow(reader.clock_of_flow(&name.text), found)
         }
         ExprForm::Binary(_, left, right) => {
-            add_needs(reader, clock, left, found)?;
-            add_needs(reader, clock, right, found)
+            add_needs(reader, left, found)?;
+            add_needs(reader, right, found)
         }
         ExprForm::If(condition, first, second) => {
-            add_needs(reader, clock, condition, found)?;
-            add_needs(reader, clock, first, found)?;
-            add_needs(reader, clock, second, found)
+            add_needs(reader, condition, found)?;
+            add_needs(reader, first, found)?;
+            add_needs(reader, second, found)
         }
-        ExprForm::AtMostOne(operands) => add_all(reader, clock, operands.as_slice(), found),
+        ExprForm::AtMostOne(operands) => add_all(reader, operands.as_slice(), found),
         ExprForm::Call(_, _) => add_output(reader, e.site, found),
     }
 }
 
 /// Adds what the expressions need.
 #[cycle(needs)]
-fn add_all(
-    reader: &Reader,
-    clock: Option<u32>,
-    expressions: &[Expr],
-    found: &mut Many<u32>,
-) -> Result<(), Memory>
+fn add_all(reader: &Reader, expressions: &[Expr], found: &mut Many<u32>) -> Result<(), Memory>
     requires { IsReader reader.now }
-    ensures { OnOk result (found.new ≡ found.old ++ numbers_of_all (node_read reader.now) (numbers_of reader.now) clock (trees (map tree_of expressions.now))) }
+    ensures { OnOk result (found.new ≡ found.old ++ needed_by_all (node_read reader.now) (numbers_of reader.now) (trees (map tree_of expressions.now))) }
 {
     for e in expressions {
-        add_needs(reader, clock, e, found)?;
+        add_needs(reader, e, found)?;
     }
     Ok(())
 }
 
 /// Adds the first output of the call with a site.
 #[inline(never)]
-fn add_output(reader: &Reader, site: Option<u32>, found: &mut Many<u32>) -> Result<(), Memory>
+pub fn add_output(reader: &Reader, site: Option<u32>, found: &mut Many<u32>) -> Result<(), Memory>
     requires { IsReader reader.now }
     ensures { OnOk result (found.new ≡ found.old ++ (numbers_of reader.now).output (unwrap_or site 0) ∷ []) }
 {

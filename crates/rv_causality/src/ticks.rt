@@ -371,7 +371,7 @@ fn number_of(names: &Names, name: &Text) -> usize
 }
 
 /// The clock of a pace: what is free takes the base clock.
-fn clock_of(pace: Pace) -> Clock
+pub fn clock_of(pace: Pace) -> Clock
     ensures { result ≡ taken Base pace }
 {
     match pace {

@@ -118,6 +118,7 @@ module _ (p : ProgramTree) (main : Identifier) (instances : List Numbered) (know
               number = s.number;
               there = s.there;
               operand = ap (λ (x : KeptAt). x.operand) (sym s.seen);
+              clock = ap (λ (x : KeptAt). x.clock) (sym s.seen);
               place = ap (λ (x : KeptAt). x.place) (sym s.seen);
             };
       }

@@ -8,6 +8,7 @@ use Rattle.rv_types.specs.Instances.{Instance, IsInstance}
 use Rattle.rv_types.specs.Lists.{IsAny, MemoryAt, ComparisonAt, AreMemories, delay_place}
 use Rattle.rv_instances.specs.declared.answer.Instance.{Instance as Numbered}
 use Rattle.rv_instances.specs.Layouts.{IsNumberOf}
+use Rattle.rv_instances.specs.NumberedNeeds.{clock_of_expression}
 use Rattle.rv_flatten.specs.declared.kept.Kept.{Kept}
 use Rattle.rv_flatten.specs.declared.kept.Comparison.{Comparison}
 
@@ -27,6 +28,7 @@ pub record IsKept (p : ProgramTree) (main : Identifier) (instances : List Number
   pub number : IsNumberOf p instances k.instance i
   pub there : Contains (node_delays i.node) d
   pub operand : tree_of k.operand.now ≡ d.operand
+  pub clock : k.clock ≡ clock_of_expression i.node d.operand
   pub place : k.place.sites ≡ delay_place i d
 
 -- These are the memories of all instances, in the order of their places.

@@ -11,4 +11,5 @@ pub mod Remembered
 pub mod Compared
 pub mod VariableLists
 pub mod Arrows
+pub mod Delayed
 pub mod Kinded

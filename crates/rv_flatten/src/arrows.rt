@@ -205,7 +205,7 @@ fn add_operator(op: Op, pace: Pace, found: &mut Many<Clock>) -> Result<Pace, Mem
 }
 
 /// The clock of a pace: what is free takes the base clock.
-fn clock_of(pace: Pace) -> Clock
+pub fn clock_of(pace: Pace) -> Clock
     ensures { result ≡ taken Base pace }
 {
     match pace {

@@ -14,8 +14,8 @@ ghost use Rattle.rv_instances.specs.declared.answer.Instance.{Instance as Number
 ghost use Rattle.rv_instances.specs.declared.givers.Giver.TheVariants as giver;
 ghost use Rattle.rv_instances.specs.Expanded.{IsKnown, main_of, program_of};
 ghost use Rattle.rv_instances.specs.Givers.{StandsFor};
-ghost use Rattle.rv_instances.specs.Layouts.{IsLayout, IsNumberOf};
-ghost use Rattle.rv_instances.specs.NumberedNeeds.{IsGiver, site_in};
+ghost use Rattle.rv_instances.specs.Layouts.{IsLayout, IsNumberOf, node_at};
+ghost use Rattle.rv_instances.specs.NumberedNeeds.{IsGiver, clock_of_expression, site_in};
 ghost use Rattle.rv_instances.specs.Weights.{AreLight};
 ghost use Rattle.rv_flatten.specs.Frames.{IsNumbering};
 ghost use Rattle.rv_flat.specs.RawTree.{Node, If, raw_tree};
@@ -34,7 +34,7 @@ use rv_base::{Box, Many, Memory, Place, Sites, Value};
 use rv_flat::{FlatExpr, FlatForm};
 use rv_instances::{BodyOf, Expanded, Giver, Layout, OutputOf, Reader, instance_numbers};
 use rv_tree::{Assertion, Expr};
-use rv_types::{NamedValues, NodeTables, ProgramTables};
+use rv_types::{Clock, NamedValues, NodeTables, ProgramTables};
 use std::alloc::Global;
 
 /// The number of the flow of a clock, none for the main node's base clock, and what a flow or memory takes where that is
@@ -173,7 +173,7 @@ fn site_of(e: &Expr) -> u32
     e.site.unwrap_or(0)
 }
 
-/// What the memory of a `pre` or `current` of an instance takes, of its operand.
+/// What the memory of a `pre` or `current` of an instance takes, of its operand and the clock of that.
 pub fn delay_item(
     alloc: Global,
     expanded: &Expanded,
@@ -184,12 +184,14 @@ pub fn delay_item(
     numbering: &Numbering,
     instance: u32,
     operand: &Expr,
+    clock: Clock,
 ) -> Result<FlatItem, Memory>
     requires known { IsKnown expanded.now }
     requires layout { IsLayout (program_of expanded.now) (main_of expanded.now) expanded.now.instances.now layout.now }
     requires owns { AreOwnTables (program_of expanded.now) tables.now owns.now }
     requires values { value_by values.now ≡ constant_value (program_of expanded.now) }
     requires within { instance < length expanded.now.instances.now }
+    requires clock { clock ≡ clock_of_expression (node_at (program_of expanded.now) expanded.now.instances.now instance) (tree_of operand.now) }
     ensures { (numbers : Numbers) (i : Instance) (d : Delay) → AreLight (program_of expanded.now) (main_of expanded.now) → AreTicks (program_of expanded.now) (main_of expanded.now) numbers.ticks → IsNumbering (program_of expanded.now) (main_of expanded.now) expanded.now.instances.now numbers numbering.now → IsInstance (program_of expanded.now) (main_of expanded.now) i → IsNumberOf (program_of expanded.now) expanded.now.instances.now instance i → Contains (node_delays i.node) d → tree_of operand.now ≡ d.operand → IfOk result (λ x. made_item x ≡ readings.raw_delay (program_of expanded.now) numbers i d) }
 {
     instance_numbers();
@@ -204,9 +206,9 @@ pub fn delay_item(
         numbering,
     };
     let made = flat_of(alloc, &frame, operand)?;
-    let clock = frame.reader.clock_of(operand);
+    let number = frame.reader.clock(clock);
     Ok(FlatItem {
-        clock: clock_number(&frame, clock),
+        clock: clock_number(&frame, number),
         body: made,
     })
 }

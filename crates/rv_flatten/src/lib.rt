@@ -9,6 +9,7 @@ mod arrows;
 mod assertions;
 mod build;
 mod comparisons;
+mod delayed;
 mod expressions;
 mod flows;
 mod found;

@@ -12,6 +12,8 @@ ghost use Rattle.rv_types.specs.Known.{flow_names};
 ghost use Rattle.rv_types.specs.Lists.{delay_place};
 ghost use Rattle.rv_types.specs.Names.{repeated};
 ghost use Rattle.rv_types.specs.Readings.{AreTables};
+ghost use Rattle.rv_types.specs.declared.typed.Clock.TheVariants.{Base};
+ghost use Rattle.rv_types.specs.declared.typed.Kind.TheVariants as kind;
 ghost use Rattle.rv_instances.specs.Callees.{callee_in};
 ghost use Rattle.rv_instances.specs.AllInstances.{AreCounted};
 ghost use Rattle.rv_instances.specs.Expanded.{IsExpanded, IsKnown, program_of, main_of};
@@ -20,23 +22,33 @@ ghost use Rattle.rv_instances.specs.Layouts.{IsNumberOf};
 ghost use Rattle.rv_instances.specs.declared.answer.Instance.{Instance as InstanceModel};
 ghost use Rattle.rv_flatten.specs.declared.kept.Kept.{Kept as KeptModel};
 ghost use Rattle.rv_flatten.specs.Kept.{AreKept};
-ghost use Rattle.rv_flatten.specs.NodeReaders.{node_read, scope_read, lists_to, AreSortedBy};
-ghost use Rattle.rv_flatten.specs.Remembered.{read_seen, reads, reads_in, kept_seen, kept_at, kept_in, last_site, number_to};
+ghost use Rattle.rv_flatten.specs.NodeReaders.{node_read, lists_to, AreSortedBy};
+ghost use Rattle.rv_flatten.specs.Remembered.{delayed_seen, delayed, joined, read_seen, reads_in, kept_seen, kept_at, kept_in, last_site, number_to};
 
+use crate::delayed::delay_clocks;
 use crate::kept::Kept;
 use crate::node_reader::NodeReader;
 use rv_base::{Many, Memory, Path, Place, Sites};
 use rv_instances::{Callees, Expanded, Instance};
 use rv_tree::{Assertion, Equation, Expr, ExprForm};
-use rv_types::{Kind, NodeClocks, ProgramTables};
+use rv_types::{Clock, Kind, NodeClocks, ProgramTables, delay_kinds};
 use std::alloc::Global;
 use std::cmp::Ordering;
 
-/// What a `pre` or `current` reads: the site of a memory in its node, the type of what it holds, and the operand.
+/// A `pre` or `current`: the site of the memory that it reads in its node, and its operand.
+#[derive(Clone, Copy)]
+pub struct Delayed<'a> {
+    pub site: u32,
+    pub operand: &'a Expr,
+}
+
+/// What a `pre` or `current` reads: the site of a memory in its node, the type of what it holds, and the operand with its
+/// clock.
 #[derive(Clone, Copy)]
 pub struct MemoryRead<'a> {
     pub site: u32,
     pub kind: Kind,
+    pub clock: Clock,
     pub operand: &'a Expr,
 }
 
@@ -164,6 +176,7 @@ fn push_found<'a>(
         found.push(Kept {
             place: place_of(path, one.site)?,
             kind: one.kind,
+            clock: one.clock,
             instance: number,
             operand: one.operand,
         })?;
@@ -206,20 +219,63 @@ fn reads_of_node<'a>(
     ensures { (p : ProgramTree) → AreTables p tables.now → repeated [] (flow_names (node_tree clocks.now.node.now)) ≡ [] → IfOk result (λ read. map read_seen read ≡ reads_in p (node_tree clocks.now.node.now)) }
 {
     let reader = NodeReader::new(alloc, tables, clocks)?;
+    let kinds = delay_kinds(alloc, reader.tables, &reader.own, reader.clocks.node)?;
+    let times = delay_clocks(alloc, reader.clocks)?;
     let node = clocks.node;
     let mut found = Many::new(alloc);
     gather_equations(&reader, node.equations.as_slice(), &mut found)?;
     gather_assertions(&reader, node.assertions.as_slice(), &mut found)?;
-    Ok(found)
+    together(alloc, found.as_slice(), kinds.as_slice(), times.as_slice())
 }
 
-/// Adds what right sides read.
+/// What is read, with the types and the clocks of the operands.
+fn together<'a>(
+    alloc: Global,
+    found: &[Delayed<'a>],
+    kinds: &[Kind],
+    clocks: &[Clock],
+) -> Result<Many<MemoryRead<'a>>, Memory>
+    ensures { IfOk result (λ read. map read_seen read ≡ joined kinds.now clocks.now 0 (map delayed_seen found.now)) }
+{
+    let mut read = Many::new(alloc);
+    for (number, one) in found.iter().enumerate() {
+        read.push(MemoryRead {
+            site: one.site,
+            kind: kind_at(kinds, number),
+            clock: clock_at(clocks, number),
+            operand: one.operand,
+        })?;
+    }
+    Ok(read)
+}
+
+/// The type with a number, `Bool` where there is none.
+fn kind_at(kinds: &[Kind], number: usize) -> Kind
+    ensures { result ≡ slice_index_or kinds.now number kind.Bool }
+{
+    match kinds.get(number) {
+        Some(kind) => *kind,
+        None => Kind::Bool,
+    }
+}
+
+/// The clock with a number, the base clock where there is none.
+fn clock_at(clocks: &[Clock], number: usize) -> Clock
+    ensures { result ≡ slice_index_or clocks.now number Base }
+{
+    match clocks.get(number) {
+        Some(clock) => *clock,
+        None => Clock::Base,
+    }
+}
+
+/// Adds the `pre` and `current` of right sides.
 fn gather_equations<'a>(
     reader: &NodeReader<'a, '_>,
     equations: &'a [Equation],
-    found: &mut Many<MemoryRead<'a>>,
+    found: &mut Many<Delayed<'a>>,
 ) -> Result<(), Memory>
-    ensures { OnOk result (map read_seen found.new ≡ map read_seen found.old ++ reads (node_read reader.now) (scope_read reader.now) (delays_in_equations (map equation_tree equations.now))) }
+    ensures { OnOk result (map delayed_seen found.new ≡ map delayed_seen found.old ++ delayed (node_read reader.now) (delays_in_equations (map equation_tree equations.now))) }
 {
     for equation in equations {
         gather(reader, &equation.right, found)?;
@@ -227,13 +283,13 @@ fn gather_equations<'a>(
     Ok(())
 }
 
-/// Adds what assertions read.
+/// Adds those of assertions.
 fn gather_assertions<'a>(
     reader: &NodeReader<'a, '_>,
     assertions: &'a [Assertion],
-    found: &mut Many<MemoryRead<'a>>,
+    found: &mut Many<Delayed<'a>>,
 ) -> Result<(), Memory>
-    ensures { OnOk result (map read_seen found.new ≡ map read_seen found.old ++ reads (node_read reader.now) (scope_read reader.now) (delays_in_assertions (map assertion_tree assertions.now))) }
+    ensures { OnOk result (map delayed_seen found.new ≡ map delayed_seen found.old ++ delayed (node_read reader.now) (delays_in_assertions (map assertion_tree assertions.now))) }
 {
     for assertion in assertions {
         gather(reader, &assertion.body, found)?;
@@ -241,14 +297,14 @@ fn gather_assertions<'a>(
     Ok(())
 }
 
-/// Adds what an expression reads. It calls itself for each operand, so as deep as the tree is: 20,101 levels at most.
+/// Adds those of an expression. It calls itself for each operand, so as deep as the tree is: 20,101 levels at most.
 #[cycle(gather)]
 fn gather<'a>(
     reader: &NodeReader<'a, '_>,
     e: &'a Expr,
-    found: &mut Many<MemoryRead<'a>>,
+    found: &mut Many<Delayed<'a>>,
 ) -> Result<(), Memory>
-    ensures { OnOk result (map read_seen found.new ≡ map read_seen found.old ++ reads (node_read reader.now) (scope_read reader.now) (delays (tree_of e.now))) }
+    ensures { OnOk result (map delayed_seen found.new ≡ map delayed_seen found.old ++ delayed (node_read reader.now) (delays (tree_of e.now))) }
 {
     match &e.form {
         ExprForm::True | ExprForm::False | ExprForm::Number(_) | ExprForm::Named(_) => Ok(()),
@@ -273,14 +329,14 @@ fn gather<'a>(
     }
 }
 
-/// Adds what the expressions read.
+/// Adds those of the expressions.
 #[cycle(gather)]
 fn gather_all<'a>(
     reader: &NodeReader<'a, '_>,
     expressions: &'a [Expr],
-    found: &mut Many<MemoryRead<'a>>,
+    found: &mut Many<Delayed<'a>>,
 ) -> Result<(), Memory>
-    ensures { OnOk result (map read_seen found.new ≡ map read_seen found.old ++ reads (node_read reader.now) (scope_read reader.now) (delays_of_all (trees (map tree_of expressions.now)))) }
+    ensures { OnOk result (map delayed_seen found.new ≡ map delayed_seen found.old ++ delayed (node_read reader.now) (delays_of_all (trees (map tree_of expressions.now)))) }
 {
     for e in expressions {
         gather(reader, e, found)?;
@@ -288,20 +344,17 @@ fn gather_all<'a>(
     Ok(())
 }
 
-/// Adds what a `pre` or `current` of this site and operand reads.
+/// Adds a `pre` or `current` of this site and operand.
 #[inline(never)]
 fn add_read<'a>(
     reader: &NodeReader<'a, '_>,
     site: Option<u32>,
     operand: &'a Expr,
-    found: &mut Many<MemoryRead<'a>>,
+    found: &mut Many<Delayed<'a>>,
 ) -> Result<(), Memory>
-    ensures { OnOk result (map read_seen found.new ≡ map read_seen found.old ++ reads (node_read reader.now) (scope_read reader.now) (record { site = site; operand = tree_of operand.now } ∷ [])) }
+    ensures { OnOk result (map delayed_seen found.new ≡ map delayed_seen found.old ++ delayed (node_read reader.now) (record { site = site; operand = tree_of operand.now } ∷ [])) }
 {
-    found.push(MemoryRead {
-        site: reader.memory_site(site, operand),
-        kind: reader.kind(operand),
-        operand,
-    })?;
+    let site = reader.memory_site(site, operand);
+    found.push(Delayed { site, operand })?;
     Ok(())
 }

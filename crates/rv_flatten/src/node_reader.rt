@@ -1,14 +1,12 @@
 //! Nodes whose expressions are read by the tables of their flows.
 
-ghost use Rattle.std.specs.Prelude.{◌≡◌, ◌<◌, [], length, unwrap_or, IfOk};
+ghost use Rattle.std.specs.Prelude.{◌≡◌, ◌<◌, [], length, IfOk};
 ghost use Rattle.rv_tree.specs.Places.{memory_site as site_of_memory};
 ghost use Rattle.rv_tree.specs.Tree.{ProgramTree, node_tree, tree_of};
 ghost use Rattle.rv_types.specs.Known.{flow_names};
 ghost use Rattle.rv_types.specs.Names.{repeated};
 ghost use Rattle.rv_types.specs.Readings.{AreTables};
 ghost use Rattle.rv_types.specs.Scopes.{node_scope};
-ghost use Rattle.rv_types.specs.Types.{kind_of};
-ghost use Rattle.rv_types.specs.declared.typed.Kind.TheVariants as kind;
 ghost use Rattle.rv_instances.specs.Expanded.{IsKnown, program_of};
 ghost use Rattle.rv_instances.specs.Layouts.{node_at};
 ghost use Rattle.rv_flatten.specs.NodeReaders.{AreOwnTables, node_read, scope_by, scope_read};
@@ -16,7 +14,7 @@ ghost use Rattle.rv_flatten.specs.NodeReaders.{AreOwnTables, node_read, scope_by
 use rv_base::{Many, Memory};
 use rv_instances::Expanded;
 use rv_tree::{Expr, ExprForm};
-use rv_types::{Kind, NodeClocks, NodeTables, ProgramTables, node_tables, operand_kind};
+use rv_types::{NodeClocks, NodeTables, ProgramTables, node_tables};
 use std::alloc::Global;
 
 /// A node with the names and the types of its flows.
@@ -77,13 +75,6 @@ impl<'a, 'b> NodeReader<'a, 'b> {
             tables,
             own,
         })
-    }
-
-    /// The type of an expression; `Bool` where it has none, as nowhere in a program whose types are right.
-    pub fn kind(&self, e: &Expr) -> Kind
-        ensures { result ≡ unwrap_or (kind_of (scope_read self.now) (tree_of e.now)) kind.Bool }
-    {
-        operand_kind(self.tables, &self.own, e)
     }
 
     /// The site of the memory of a `pre` or `current`: that of the flow where its operand is one, and otherwise its own.

@@ -56,6 +56,7 @@ fn flat_memory(
         &found.numbering,
         kept.instance,
         kept.operand,
+        kept.clock,
     )?;
     let place = copied(&kept.place)?;
     Ok(FlatMemory {
