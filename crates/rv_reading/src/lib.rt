@@ -20,4 +20,5 @@ mod reading;
 mod tables;
 mod whole;
 
+pub use names::bits_of_kind;
 pub use reading::Reading;

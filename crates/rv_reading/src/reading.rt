@@ -1,6 +1,7 @@
 //! The control reading of a flat system.
 
-ghost use Rattle.std.specs.Prelude.{◌≡◌, ◌↔◌, ◌<◌, ◌≤◌, ◌^◌, ℤ, List, Ok, length, IfOk, IsErrOf};
+ghost use Rattle.std.specs.Prelude.{◌≡◌, ◌↔◌, ◌<◌, ◌≤◌, ◌^◌, ℕ, ℤ, Bool, List, Ok, None, Some, length, slice_get, IfOk, IsErrOf};
+ghost use Rattle.rv_diagram.specs.declared.frozen.Frozen.{Frozen as FrozenModel};
 ghost use Rattle.rv_tree.specs.Tree.{ProgramTree};
 ghost use Rattle.rv_tree.specs.Places.{Identifier};
 ghost use Rattle.rv_types.specs.Instances.{IsNode};
@@ -12,8 +13,9 @@ ghost use Rattle.rv_proofs.specs.Reached.{HasNoIntegers};
 ghost use Rattle.rv_proofs.specs.Runs.{IsSafeSystem};
 ghost use Rattle.rv_proofs.specs.Boxes.{HasGoodBox};
 ghost use Rattle.rv_proofs.specs.declared.certificate.Certificate.{Certificate};
-ghost use Rattle.rv_proofs.specs.declared.report.Layers.{Layers};
+ghost use Rattle.rv_proofs.specs.declared.report.Layers.{Layers as LayersModel};
 ghost use Rattle.rv_walk.specs.Ends.{IsGoodCertificate, AreBadLayers, IsGoodEnd};
+ghost use Rattle.rv_walk.specs.Paths.{IsFalsifyingPath, IsShortestPath};
 ghost use Rattle.rv_reading.specs.Read.{flat_of, system_read, diagrams_of, IsRead};
 
 use crate::whole::read_parts;
@@ -21,9 +23,9 @@ use rv_base::Many;
 use rv_control::{computed_instants, control_is_a_system};
 use rv_diagram::{Frozen, Store, StoreFault};
 use rv_flat::Flat;
-use rv_proofs::Case;
+use rv_proofs::{Case, Layers};
 use rv_symbolic::Symbolic;
-use rv_walk::{BoxEnd, walk};
+use rv_walk::{BoxEnd, falsifying_path, walk};
 use std::alloc::Global;
 
 /// The control reading of a flat system: its control as diagrams in a store. Sets and cases that are handed in, and those that
@@ -106,13 +108,35 @@ impl<'a> Reading<'a> {
         requires read { IsRead self.old }
         requires control { HasNoIntegers (system_read self.old) }
         ensures good { (c : Certificate) → result ≡ Ok (BoxEnd.Good c) → IsGoodCertificate (system_read self.old) c }
-        ensures bad { (l : Layers) → result ≡ Ok (BoxEnd.Bad l) → AreBadLayers (system_read self.old) l }
+        ensures bad { (l : LayersModel) → result ≡ Ok (BoxEnd.Bad l) → AreBadLayers (system_read self.old) l }
         ensures exactly { (thresholds : List ℤ) → IfOk result (λ e. IsGoodEnd e ↔ HasGoodBox (system_read self.old) thresholds) }
         ensures decides { IfOk result (λ e. IsGoodEnd e ↔ IsSafeSystem (system_read self.old)) }
         ensures same { self.new ≡ self.old }
         ensures roomy { IsErrOf result StoreFault.Nodes → (diagrams_of self.old).limit < 2 ^ (2 ^ (diagrams_of self.old).variables) }
     {
         walk(alloc, &mut self.symbolic)
+    }
+
+    /// A run of the system of a flat system without integers, along which the assertions hold and at whose last instant the observer is
+    /// false for the first time, found back through the layers. One word for each instant, with a truth value for each variable of the
+    /// flat system; those of next copies mean nothing. The first layer is taken as that of the initial control states. Where the layers
+    /// are those of the walk, some run is found, and none has fewer instants.
+    pub fn falsifying_path(
+        &mut self,
+        alloc: Global,
+        layers: &Layers,
+    ) -> Result<Option<Many<Many<bool>>>, StoreFault>
+        requires read { IsRead self.old }
+        requires control { HasNoIntegers (system_read self.old) }
+        requires sets { (t : ℕ) (set : FrozenModel) → slice_get layers.now.sets t ≡ Some set → IsControlSet (system_read self.old) set }
+        ensures falsifies { (words : List (List Bool)) → result ≡ Ok (Some words) → IsFalsifyingPath (system_read self.old) words }
+        ensures shortest { (words : List (List Bool)) → AreBadLayers (system_read self.old) layers.now → result ≡ Ok (Some words)
+            → IsShortestPath (system_read self.old) words }
+        ensures found { AreBadLayers (system_read self.old) layers.now → IfOk result (λ path. path ≡ None → ⊥) }
+        ensures same { self.new ≡ self.old }
+        ensures roomy { IsErrOf result StoreFault.Nodes → (diagrams_of self.old).limit < 2 ^ (2 ^ (diagrams_of self.old).variables) }
+    {
+        falsifying_path(alloc, &mut self.symbolic, layers)
     }
 
     /// The flat system.

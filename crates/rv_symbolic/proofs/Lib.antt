@@ -3,3 +3,4 @@ pub mod Reading
 pub mod Projecting
 pub mod Parting
 pub mod Scheduling
+pub mod Wording

@@ -115,11 +115,11 @@ module _ (s : System) (d : Symbolic) (is : IsSymbolicOf s d) where
       (x : ℕ). is_of s.states 0 x ≡ true) z (is_of-bit s.states 0 i (omega arith) low))
 
   -- the relation
-  relation_to : (p : ℕ) (links : List Part) → AreLinks d.store d.parts.next p links → (w : Valuation) → AreMet d.store.nodes links w
+  pub relation_to : (p : ℕ) (links : List Part) → AreLinks d.store d.parts.next p links → (w : Valuation) → AreMet d.store.nodes links w
       → (i : ℕ) → i < s.states → w (2 * i + 1) ≡ s.next w (2 * i)
   relation_to p links are w on i low = ((links_opened d.store d.parts.next p links are).exact w).0 on i (omega (arith, same_bits)) ∙ is.parts.next i low w
 
-  relation_from : (p : ℕ) (links : List Part) → AreLinks d.store d.parts.next p links → (w : Valuation)
+  pub relation_from : (p : ℕ) (links : List Part) → AreLinks d.store d.parts.next p links → (w : Valuation)
       → ((i : ℕ) → i < s.states → w (2 * i + 1) ≡ s.next w (2 * i)) → AreMet d.store.nodes links w
   relation_from p links are w linked = ((links_opened d.store d.parts.next p links are).exact w).1 (λ i less. let low : i < s.states = omega (arith, same_bits) in linked i low
       ∙ sym (is.parts.next i low w))

@@ -5,3 +5,4 @@ pub mod Represented
 pub mod Lending
 pub mod Stepped
 pub mod Parted
+pub mod Words

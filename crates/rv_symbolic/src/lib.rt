@@ -6,11 +6,13 @@
 //! Begin with symbolic.rt, then specs/Represented.antt for what the references mean.
 #![tactic(auto)]
 
+mod cubes;
 mod given;
 mod links;
 mod schedule;
 mod sides;
 mod steps;
 mod symbolic;
+mod words;
 
 pub use symbolic::{NextStates, Parts, Symbolic};

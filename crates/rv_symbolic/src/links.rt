@@ -13,7 +13,8 @@ use std::alloc::Global;
 /// How many nodes a part of the relation may take in the making.
 const MOST_MADE: u32 = 2000;
 
-/// How many nodes one more next copy may take in any case: in a row of links each takes some twenty, and the row stays one part.
+/// How many nodes one more next copy may take in any case. In a row of links each takes some twenty at first and more as the part
+/// grows: a row of 2,000 falls into two parts.
 const MOST_ADDED: u32 = 256;
 
 /// A relation in which next copy i also has the value of `next`.

@@ -14,11 +14,12 @@ ghost use Rattle.rv_symbolic.specs.Represented.{HaveRefs, AreParts, store_of, pa
 ghost use Rattle.rv_symbolic.specs.Stepped.{IsProjected, IsAStep, IsJudged, AreNextStates};
 ghost use Rattle.rv_symbolic.specs.Parted.{HasSides};
 ghost use Rattle.rv_symbolic.specs.Lending.{LendsStore};
+ghost use Rattle.rv_symbolic.specs.Words.{IsLeastOf, IsFalseIn, LeadsTo};
 
 use crate::given::all_but;
 use crate::schedule::schedule;
 use crate::steps::AllowedSet;
-use crate::{links, sides, steps};
+use crate::{links, sides, steps, words};
 use rv_base::{Many, Memory};
 use rv_diagram::{Frozen, Part, Ref, Store, StoreFault};
 use rv_proofs::Case;
@@ -206,6 +207,41 @@ impl Symbolic {
     {
         let mark = self.store.mark();
         let answer = take_cases(self.alloc, &mut self.store, &self.parts, from);
+        self.store.release(mark);
+        answer
+    }
+
+    /// The least allowed valuation of a set of control states at which the observer is false, with a truth value for each diagram
+    /// variable. Next copies do not count, and those of the answer mean nothing.
+    pub fn false_observer(&mut self, from: &Frozen) -> Result<Option<Many<bool>>, StoreFault>
+        requires { (s : System) × IsSymbolicOf s self.old × IsControlSet s from.now }
+        ensures exact { (s : System) → IsSymbolicOf s self.old → IsControlSet s from.now
+            → IfOk result (IsLeastOf s (IsFalseIn s from.now)) }
+        ensures same { self.new ≡ self.old }
+        ensures roomy { IsErrOf result StoreFault.Nodes → (store_of self.old).limit < 2 ^ (2 ^ (store_of self.old).variables) }
+    {
+        let mark = self.store.mark();
+        let allowed = self.parts.allowed;
+        let observer = self.parts.observer;
+        let answer = words::first_false(&mut self.store, allowed, observer, from);
+        self.store.release(mark);
+        answer
+    }
+
+    /// The least allowed valuation of a set of control states whose next control state is that of a word, with a truth value for each
+    /// diagram variable. Next copies do not count, and those of the answer mean nothing.
+    pub fn leading(&mut self, from: &Frozen, to: &[bool]) -> Result<Option<Many<bool>>, StoreFault>
+        requires { (s : System) × IsSymbolicOf s self.old × IsControlSet s from.now × (length to.now ≡ s.variables) }
+        ensures exact { (s : System) → IsSymbolicOf s self.old → IsControlSet s from.now
+            → IfOk result (IsLeastOf s (LeadsTo s from.now to.now)) }
+        ensures same { self.new ≡ self.old }
+        ensures roomy { IsErrOf result StoreFault.Nodes → (store_of self.old).limit < 2 ^ (2 ^ (store_of self.old).variables) }
+    {
+        let mark = self.store.mark();
+        let allowed = self.parts.allowed;
+        let bits = self.parts.next.len() as u32;
+        let links = self.forth.as_slice();
+        let answer = words::first_leading(&mut self.store, allowed, links, from, to, bits);
         self.store.release(mark);
         answer
     }

@@ -3,3 +3,4 @@ pub mod Stages
 pub mod Certifying
 pub mod Ending
 pub mod Joining
+pub mod Trailing

@@ -2,3 +2,5 @@ pub mod Ends
 pub mod Walks
 pub mod Extended
 pub mod Falsified
+pub mod Paths
+pub mod Trails

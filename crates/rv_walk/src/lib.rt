@@ -8,9 +8,11 @@
 mod certify;
 mod end;
 mod laws;
+mod path;
 mod sets;
 mod walking;
 
 pub use end::BoxEnd;
 pub use laws::layers_falsify;
+pub use path::falsifying_path;
 pub use walking::walk;

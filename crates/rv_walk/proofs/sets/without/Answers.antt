@@ -1,14 +1,16 @@
-use Rattle.std.proofs.Common.{◌&&◌, not}
-use Rattle.rv_diagram.specs.Nodes.{Answers, value_of}
-use Rattle.rv_symbolic.proofs.Extending.{grows_extends, map_ok, both_made}
+use Rattle.std.proofs.Common.{◌∙◌}
+use Rattle.rv_diagram.specs.Nodes.{Answers, choice, value_of}
+use Rattle.rv_symbolic.proofs.Extending.{grows_extends, map_ok}
+use Rattle.rv_walk.proofs.Joining.{none_or}
 use Rattle.rv_walk.proofs.sets.without.Goals as goal
 
 pub returns-clause-ok : goal.returns-clause-ok
 returns-clause-ok c =
-    map_ok c.and.result (λ r. Answers c.not.new.self c.and.new.self (λ v. value_of c.not.new.self.nodes c.args.a v && value_of c.not.new.self.nodes
-    c.in_ok-other.other v) r) _
-    (λ r t. both_made c.args.store.now c.not.new.self c.and.new.self c.args.a c.in_ok-other.other r
-    (λ v. value_of c.args.store.now.nodes c.args.a v) (λ v. not (value_of c.args.store.now.nodes c.args.b v))
-    (grows_extends c.args.store.now c.not.new.self c.in_ok-other.ensures.ok.grows) (λ v. c.in_ok-other.ensures.ok.grows.kept c.args.a c.requires.a v)
-    c.in_ok-other.ensures.ok.means t)
-    c.and.ensures.ok
+    map_ok c.ite.result (λ r. Answers c.args.store.now c.ite.new.self (choice c.args.store.now.nodes c.args.b c.constant-nothing.result c.args.a) r) _
+    (λ r t. record {
+      extends = grows_extends c.args.store.now c.ite.new.self t.grows;
+      found = t.found;
+      means = λ v. t.means v ∙ none_or (value_of c.args.store.now.nodes c.args.a v) (value_of c.args.store.now.nodes c.args.b v)
+          (value_of c.args.store.now.nodes c.constant-nothing.result v) (c.constant-nothing.ensures.means v);
+    })
+    c.ite.ensures.ok
