@@ -1,5 +1,5 @@
 -- An abstract run of which each valuation is allowed is a run of the program, and a safe program makes its system safe.
-use Rattle.std.proofs.Common.{◌≡◌, inl, inr, ℕ, zero, suc, ◌+◌, ◌<◌, ◌≤◌, ℤ, false, ◌||◌, List, length, sym, ◌∙◌, ap, arith, Option}
+use Rattle.std.proofs.Common.{◌≡◌, inl, inr, ℕ, zero, suc, ◌+◌, ◌<◌, ◌≤◌, ℤ, false, ◌||◌, List, [], ◌∷◌, map, drop, length, refl, sym, ◌∙◌, ap, arith, Option}
 use Rattle.std.proofs.Common.{None as Nothing}
 use Rattle.std.specs.Prelude.{slice_index_or, IsTrue}
 use Rattle.std.proofs.lemmas.Bool.{cases_lt}
@@ -13,21 +13,27 @@ use Rattle.rv_types.specs.Lists.{Variable}
 use Rattle.rv_types.specs.WellFormed.{AreWell}
 use Rattle.rv_meaning.specs.Runs.{History, IsRun, IsSafe}
 use Rattle.rv_agreement.specs.Trees.{System, memory_items, nth_item}
+use Rattle.rv_agreement.specs.Trees as trees
 use Rattle.rv_agreement.specs.Evaluation.{is_met, is_there, after, integers}
 use Rattle.rv_agreement.specs.Agreement.{State, found_in, IsWholeInstant}
 use Rattle.rv_agreement.specs.FlatRuns.{IsFlatRun, AreMetIn}
+use Rattle.rv_agreement.specs.Valuations.{whole_count}
 use Rattle.rv_diagram.specs.Nodes.{Valuation as Numbered}
 use Rattle.rv_proofs.specs.Runs.{IsAbstractRun, IsSafeSystem}
 use Rattle.rv_flat.specs.declared.flat.Flat.{Flat}
+use Rattle.rv_flat.specs.declared.parts.FlatMemory.{FlatMemory}
 use Rattle.rv_flat.specs.declared.state.State.{State as StateModel}
-use Rattle.rv_flat.specs.FlatInstants.{Row, system_of, IsFlatInstant}
+use Rattle.rv_flat.specs.FlatInstants.{Row, memory_places, system_of, IsFlatInstant}
 use Rattle.rv_flat.specs.FlatOf.{IsFlatOf, flat_inputs}
 use Rattle.rv_flat.specs.SystemRuns.{HasRun}
-use Rattle.rv_flat.specs.Systems.{flow_item}
-use Rattle.rv_control.specs.Named.{variables_of}
+use Rattle.rv_flat.specs.Steps.{memory_kinds}
+use Rattle.rv_flat.specs.Systems.{flow_item, kept_of}
+use Rattle.rv_flat.proofs.SystemRuns.{kept_kinds}
+use Rattle.rv_control.specs.Named.{variables_of, named as by_name}
 use Rattle.rv_control.specs.Control.{control_of}
 use Rattle.rv_control.specs.Meets.{IsAbstractOf}
-use Rattle.rv_control.proofs.Concrete.{More, states, inputs, rows, is_flat_run, observer_same, are_met}
+use Rattle.rv_control.specs.Spelled.{decoded, spelled_starts, spelled_inputs}
+use Rattle.rv_control.proofs.Concrete.{More, states, inputs, rows, is_flat_run, observer_same, are_met, starts_are, inputs_are}
 use Rattle.rv_control.proofs.Program.{RunsAreFlat}
 use Rattle.rv_control.proofs.Order.{is_listed}
 
@@ -40,6 +46,11 @@ FlatIsRun = (program : ProgramTree) (main : Identifier) (f : Flat) (n : ℕ) (no
 abbrev pub OneInstant : Type 0
 OneInstant = (f : Flat) (now : StateModel) (given : List Value)
     → (row : Row) × IsFlatInstant f now given row × ((other : Row) → IsFlatInstant f now given other → other ≡ row)
+
+-- the places of the memories of a flat system are those of its system
+kept_places : (all ms : List FlatMemory) → map (λ (x : trees.Kept). x.place) (map (kept_of all) ms) ≡ map (λ m. m.place.sites) ms
+kept_places all [] = refl
+kept_places all (m ∷ ms) = ap (λ l. m.place.sites ∷ l) (kept_places all ms)
 
 -- Two runs from the same memories with the same inputs and rows have the same states.
 module _ (s : System) (n : ℕ) (nows others : ℕ → State) (mine yours : ℕ → List Value) (here there : ℕ → List (Option Value))
@@ -97,6 +108,14 @@ module _ (laws : More) (flat_runs : RunsAreFlat) (flat_is_run : FlatIsRun) (one_
     pub history : History
     pub run : IsRun program main starts given n history
     pub meets : IsAbstractOf program main f starts n history vs points
+    pub started : map starts (memory_places f) ≡ spelled_starts f (vs 0) (points 0)
+    pub fed : (t : ℕ) → t < n → flat_inputs f (given t) ≡ spelled_inputs f (vs t) (points t)
+
+  kinds_same : trees.memory_kinds s ≡ memory_kinds f
+  kinds_same = kept_kinds f.memories f.memories
+
+  places_same : trees.memory_places s ≡ memory_places f
+  places_same = kept_places f.memories f.memories
 
   pub concrete : (n : ℕ) (vs : ℕ → Numbered) (points : ℕ → List ℤ) → IsAbstractRun (control_of f) n vs points → 0 < n
       → ((t : ℕ) → t < n → IsTrue ((control_of f).allowed (vs t))) → IsConcrete n vs points
@@ -114,6 +133,11 @@ module _ (laws : More) (flat_runs : RunsAreFlat) (flat_is_run : FlatIsRun) (one_
         given = has.given;
         history = has.history;
         run = has.run;
+        started = sym has.kept_at_first ∙ starts_are laws s names flat.system.well listed some_row n vs points run allowed
+            ∙ (λ i. decoded s.labels (kinds_same i) (λ m. (by_name f (vs 0)).kept (slice_index_or (places_same i) m [])) (points 0));
+        fed = λ t lt.
+            sym (has.taken t lt) ∙ inputs_are laws s names flat.system.well listed some_row n vs points run allowed t
+            ∙ (λ i. decoded s.labels s.inputs (by_name f (vs t)).input (drop (whole_count (kinds_same i)) (points t)));
         meets = record {
           run = run;
           observer = λ t lt.

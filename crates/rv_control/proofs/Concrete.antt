@@ -37,7 +37,8 @@ use Rattle.rv_control.proofs.Listed.{IsListed, IsInputBit, a_bit_of, IsTestBit, 
 use Rattle.rv_control.proofs.Places.{states_are, state_at}
 use Rattle.rv_control.proofs.Points.{meets as point_meets}
 use Rattle.rv_control.proofs.Abstract.{Laws, ticks_told, allowed_told, observed_true, next_of_tick, place_number}
-use Rattle.rv_control.proofs.Decoded.{first_of, length-first, first_kth, value_at, decoded, length-decoded, decoded_at, wholes_decoded, are_typed, are_spelled, form_at}
+use Rattle.rv_control.specs.Spelled.{value_at, decoded}
+use Rattle.rv_control.proofs.Decoded.{first_of, length-first, first_kth, length-decoded, decoded_at, wholes_decoded, are_typed, are_spelled, form_at}
 use Rattle.std.proofs.lemmas.List.Elements.{Contains-append_cases}
 
 -- What is taken from agreement beside, and from rows.
@@ -70,10 +71,10 @@ not_test : (x : Variable) → IsTestBit x → (t : Option Sites) → same_variab
 not_test x (a_test q side is) Nothing = ap (λ y. same_variable y MainTick) is
 not_test x (a_test q side is) (Some p) = ap (λ y. same_variable y (Tick p)) is
 
-input_no_kept : (x : Variable) → IsInputBit x → (p : Sites) (b : ℕ) → same_variable x (Kept p b) ≡ false
+pub input_no_kept : (x : Variable) → IsInputBit x → (p : Sites) (b : ℕ) → same_variable x (Kept p b) ≡ false
 input_no_kept x (a_bit_of j c is) p b = ap (λ y. same_variable y (Kept p b)) is
 
-test_no_kept : (x : Variable) → IsTestBit x → (p : Sites) (b : ℕ) → same_variable x (Kept p b) ≡ false
+pub test_no_kept : (x : Variable) → IsTestBit x → (p : Sites) (b : ℕ) → same_variable x (Kept p b) ≡ false
 test_no_kept x (a_test q side is) p b = ap (λ y. same_variable y (Kept p b)) is
 
 module _ (s : System) (names : List Variable) (listed : IsListed s names) where
@@ -294,3 +295,12 @@ module _ (laws : More) (s : System) (names : List Variable) (well : IsWell s) (l
   pub are_met : (t : ℕ) → t < n → AreMetIn s (states t) (inputs t) (rows t)
   are_met t lt = subst (λ now. AreMetIn s now (inputs t) (rows t)) (sym (states_here t lt))
       (λ k less. (given_by t lt).assertions k less ∙ (is_allowed t lt).1 k less)
+
+  -- The run starts with what the first valuation and point spell, and its inputs are those that each instant spells.
+  pub starts_are : (states 0).kept ≡ decoded s.labels (memory_kinds s) (held_bits 0) (points 0)
+  unfolding states
+  starts_are = refl
+
+  pub inputs_are : (t : ℕ) → inputs t ≡ decoded s.labels s.inputs (input_bits t) (drop (whole_count (memory_kinds s)) (points t))
+  unfolding inputs
+  inputs_are t = refl

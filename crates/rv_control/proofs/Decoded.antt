@@ -3,17 +3,16 @@ use Rattle.std.proofs.Common.{◌≡◌, inl, inr, ℕ, zero, suc, ◌+◌, ◌<
 use Rattle.std.specs.Prelude.{slice_index_or}
 use Rattle.std.proofs.Math.Nat.{eq-or-lt_of_le}
 use Rattle.std.proofs.lemmas.List.{get_or_push, get_or_append_left}
-use Rattle.rv_base.specs.declared.value.Value.{Value}
-use Rattle.rv_base.specs.declared.value.Value.TheVariants.{Flag, Label, Whole}
+use Rattle.rv_base.specs.declared.value.Value.TheVariants.{Flag}
 use Rattle.rv_types.specs.declared.typed.Kind.{Kind}
 use Rattle.rv_types.specs.declared.typed.Kind.TheVariants as kind
-use Rattle.rv_types.specs.Variables.{is_integer, bits_for}
-use Rattle.rv_meaning.specs.Codes.{code}
+use Rattle.rv_types.specs.Variables.{is_integer}
 use Rattle.rv_rows.specs.declared.linear.Form.{Form}
 use Rattle.rv_rows.specs.Forms as forms
 use Rattle.rv_agreement.specs.Trees.{kind_at}
 use Rattle.rv_agreement.specs.Valuations.{whole_count, rank, wholes, IsCodedAs}
 use Rattle.rv_agreement.specs.Agreement.{HasKind, AreTyped, IsSpelled, forms_from}
+use Rattle.rv_control.specs.Spelled.{value_at, rest_of, decoded}
 
 -- so many of what a function gives
 unfoldable pub first_of : {X : Type 0} → (ℕ → X) → ℕ → List X
@@ -33,27 +32,12 @@ first_kth g (suc n) k d lt = elim (eq-or-lt_of_le {n = k} {m = n} (omega arith))
   | inr below ↦ get_or_append_left (first_of g n) (g n ∷ []) d k (omega (arith, length-first g n)) ∙ first_kth g n k d below
 ]
 
--- the value of a type that bits or a number spell
-abbrev pub value_at : List ℕ → Kind → (ℕ → Bool) → ℤ → Value
-value_at labels kind.Bool bits z = Flag (bits 0)
-value_at labels kind.Int bits z = Whole z
-value_at labels (kind.Labels i) bits z = Label (code (bits_for (slice_index_or labels i 0)) bits)
-
-abbrev rest_of : List ℤ → List ℤ
-rest_of [] = []
-rest_of (x ∷ xs) = xs
-
 rest_at : (xs : List ℤ) (k : ℕ) → forms.number k (rest_of xs) ≡ forms.number (1 + k) xs
 rest_at [] k = refl
 rest_at (x ∷ xs) k = let e : suc k ≡ 1 + k = omega arith in ap (λ n. forms.number n (x ∷ xs)) e
 
 module _ (labels : List ℕ) where
-  -- values of types, the integers from a list
-  unfoldable pub decoded : List Kind → (ℕ → ℕ → Bool) → List ℤ → List Value
-  decoded [] bits xs = []
-  decoded (k ∷ ks) bits xs = value_at labels k (bits 0) (forms.number 0 xs) ∷ decoded ks (λ m. bits (suc m)) (cond (is_integer k) (rest_of xs) xs)
-
-  pub length-decoded : (ks : List Kind) (bits : ℕ → ℕ → Bool) (xs : List ℤ) → length (decoded ks bits xs) ≡ length ks
+  pub length-decoded : (ks : List Kind) (bits : ℕ → ℕ → Bool) (xs : List ℤ) → length (decoded labels ks bits xs) ≡ length ks
   unfolding decoded
   length-decoded [] bits xs = refl
   length-decoded (k ∷ ks) bits xs = let h = length-decoded ks (λ m. bits (suc m)) (cond (is_integer k) (rest_of xs) xs) in omega (arith, h)
@@ -63,7 +47,7 @@ module _ (labels : List ℕ) where
   shifted false xs k = let e : k ≡ 0 + k = omega arith in ap (λ n. forms.number n xs) e
 
   pub decoded_at : (ks : List Kind) (bits : ℕ → ℕ → Bool) (xs : List ℤ) (m : ℕ) → m < length ks
-      → slice_index_or (decoded ks bits xs) m (Flag false) ≡ value_at labels (kind_at ks m) (bits m) (forms.number (rank ks m) xs)
+      → slice_index_or (decoded labels ks bits xs) m (Flag false) ≡ value_at labels (kind_at ks m) (bits m) (forms.number (rank ks m) xs)
   unfolding decoded
   decoded_at [] bits xs m lt = absurd (omega arith)
   decoded_at (k ∷ ks) bits xs zero lt = refl
@@ -73,7 +57,7 @@ module _ (labels : List ℕ) where
 
   -- The integers among them are the first of the list.
   pub wholes_decoded : (ks : List Kind) (bits : ℕ → ℕ → Bool) (xs : List ℤ) → whole_count ks ≤ length xs
-      → wholes ks (decoded ks bits xs) ≡ take (whole_count ks) xs
+      → wholes ks (decoded labels ks bits xs) ≡ take (whole_count ks) xs
   unfolding decoded
   wholes_decoded [] bits xs le = refl
   wholes_decoded (kind.Bool ∷ ks) bits xs le =
@@ -98,7 +82,7 @@ module _ (labels : List ℕ) where
   is_spelled_at (kind.Labels i) bits z = refl
 
   pub are_typed : (ks : List Kind) (bits : ℕ → ℕ → Bool) (xs : List ℤ) → ((m : ℕ) → m < length ks → IsCodedAs labels (kind_at ks m) (bits m))
-      → AreTyped labels ks (decoded ks bits xs)
+      → AreTyped labels ks (decoded labels ks bits xs)
   are_typed ks bits xs coded = record {
     many = length-decoded ks bits xs;
     each = λ m lt. subst (HasKind labels (kind_at ks m)) (sym (decoded_at ks bits xs m lt))
@@ -106,7 +90,7 @@ module _ (labels : List ℕ) where
   }
 
   pub are_spelled : (ks : List Kind) (bits : ℕ → ℕ → Bool) (xs : List ℤ) (m : ℕ) → m < length ks
-      → IsSpelled labels (kind_at ks m) (bits m) (slice_index_or (decoded ks bits xs) m (Flag false))
+      → IsSpelled labels (kind_at ks m) (bits m) (slice_index_or (decoded labels ks bits xs) m (Flag false))
   are_spelled ks bits xs m lt = subst (IsSpelled labels (kind_at ks m) (bits m)) (sym (decoded_at ks bits xs m lt))
       (is_spelled_at (kind_at ks m) (bits m) (forms.number (rank ks m) xs))
 

@@ -64,7 +64,7 @@ input_itself j b = both (nat_eq j j) (nat_eq b b) (eq-eqb j j refl) (eq-eqb b b 
 pub test_itself : (p : Sites) (s : Side) → same_variable (Test p s) (Test p s) ≡ true
 test_itself p s = both (same_sites p p) (same_side s s) (sites_itself p) (side_itself s)
 
-unnamed : (x : Variable) → same_variable Next x ≡ false
+pub unnamed : (x : Variable) → same_variable Next x ≡ false
 unnamed MainTick = refl
 unnamed (Tick p) = refl
 unnamed (Kept p b) = refl

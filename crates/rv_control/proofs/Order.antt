@@ -27,7 +27,7 @@ use Rattle.rv_control.specs.Named.{variables_of, tick_variable}
 use Rattle.rv_control.proofs.Listed.{IsStateBit, a_tick, a_bit, IsInputBit, a_bit_of, IsTestBit, a_test, IsListed}
 use Rattle.rv_control.proofs.Compared.{comparison_stands}
 
-from_map : {X Y : Type 0} (f : X → Y) (xs : List X) (y : Y) → Contains (map f xs) y → (x : X) × Contains xs x × (y ≡ f x)
+pub from_map : {X Y : Type 0} (f : X → Y) (xs : List X) (y : Y) → Contains (map f xs) y → (x : X) × Contains xs x × (y ≡ f x)
 from_map f [] y w = none_in y w
 from_map f (x ∷ xs) y w = elim (head_or_tail (f x) (map f xs) y w) [
   | inl is ↦ (x, at_head x xs, sym is)
@@ -42,7 +42,7 @@ bit_in make (suc n) b lt = elim (eq-or-lt_of_le {n = b} {m = n} (omega arith)) [
   | inr below ↦ Contains-append_left (bits make n) (make n ∷ []) (make b) (bit_in make n b below)
 ]
 
-bit_from : (make : ℕ → Variable) (n : ℕ) (x : Variable) → Contains (bits make n) x → (b : ℕ) × (b < n) × (x ≡ make b)
+pub bit_from : (make : ℕ → Variable) (n : ℕ) (x : Variable) → Contains (bits make n) x → (b : ℕ) × (b < n) × (x ≡ make b)
 bit_from make zero x w = none_in x w
 bit_from make (suc n) x w = elim (Contains-push_cases (bits make n) (make n) x w) [
   | inl u ↦ let r = bit_from make n x u in (r.0, omega (arith, r.1), r.2)
@@ -124,7 +124,7 @@ module _ (program : ProgramTree) (main : Identifier) (f : Flat) (flat : IsFlatOf
       (in_flat_map bits_at vs.memories a (Kept a.place b) there
       (bit_in (Kept a.place) (kind_bits program a.kind) b (subst (λ n. b < n) (same_bits a.kind) less)))
 
-  state_bit : (x : Variable) → Contains (tick_bits ++ memory_bits) x → IsStateBit s x
+  pub state_bit : (x : Variable) → Contains (tick_bits ++ memory_bits) x → IsStateBit s x
   state_bit x w = by (Contains-append_cases tick_bits memory_bits x w)
     where
       of_tick : (MainTick ≡ x) ⊎ Contains (map Tick vs.ticks) x → IsStateBit s x
@@ -159,7 +159,7 @@ module _ (program : ProgramTree) (main : Identifier) (f : Flat) (flat : IsFlatOf
       Contains-append_right (bits (Input i) (kind_bits program k)) (input_variables program (i + 1) ks) (Input (i + suc j) b)
       (subst (λ n. Contains (input_variables program (i + 1) ks) (Input n b)) there (inputs_in (i + 1) ks j b (omega arith) less))
 
-  input_bit : (i : ℕ) (ks : List Kind) (x : Variable) → Contains (input_variables program i ks) x → IsInputBit x
+  pub input_bit : (i : ℕ) (ks : List Kind) (x : Variable) → Contains (input_variables program i ks) x → IsInputBit x
   input_bit i [] x w = none_in x w
   input_bit i (k ∷ ks) x w = elim (Contains-append_cases (bits (Input i) (kind_bits program k)) (input_variables program (i + 1) ks) x w) [
     | inl u ↦ let r = bit_from (Input i) (kind_bits program k) x u in a_bit_of i r.0 r.2
@@ -191,7 +191,7 @@ module _ (program : ProgramTree) (main : Identifier) (f : Flat) (flat : IsFlatOf
       (in_flat_map tests_at vs.comparisons (record { place = r.0.at; operator = r.0.operator }) (Test r.0.at side) listed
       (in_map (Test r.0.at) (sides_of r.0.operator) side mine))
 
-  test_bit : (x : Variable) → Contains (test_variables vs.comparisons) x → IsTestBit x
+  pub test_bit : (x : Variable) → Contains (test_variables vs.comparisons) x → IsTestBit x
   test_bit x w =
       let r = from_flat_map tests_at vs.comparisons x w in
       let q = from_map (Test r.0.place) (sides_of r.0.operator) x r.2 in

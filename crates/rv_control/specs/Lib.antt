@@ -3,3 +3,4 @@ pub mod Named
 pub mod Symbolic
 pub mod Control
 pub mod Meets
+pub mod Spelled

@@ -22,6 +22,7 @@ ghost use Rattle.rv_agreement.specs.Valuations.{Valuation as Named, Agrees, IsAl
 ghost use Rattle.rv_flat.specs.FlatInstants.{system_of};
 ghost use Rattle.rv_control.specs.Control.{control_of};
 ghost use Rattle.rv_control.specs.Named.{by_names, by_numbers, named, truth_of};
+ghost use Rattle.rv_control.specs.Spelled.{HasSpelledRun};
 ghost use Rattle.rv_control.specs.Symbolic.{symbolic};
 ghost use Rattle.rv_control.specs.Meets.{IsAbstractOf};
 ghost use Rattle.rv_control.specs.Tightening.{tightened};
@@ -88,6 +89,24 @@ pub fn abstract_runs_are_runs()
         × IsRun program main starts inputs n h × IsAbstractOf program main f starts n h vs points }
     ensures safe { (program : ProgramTree) (main : Identifier) (f : FlatModel)
         → AreWell program → IsNode program main → IsFlatOf program main f → IsSafe program main → IsSafeSystem (control_of f) }
+{
+    instants_agree();
+    one_symbolic_instant();
+    steps_agree();
+    typed_readings();
+    one_flat_instant();
+    runs_are_one();
+    tightened_rows();
+}
+
+/// An abstract run of the flat system of a well formed program that has an instant, and of which each valuation is allowed, is the run of
+/// the program from the start values and inputs that it spells: each memory starts with the value that its bits or its column spell at
+/// the first instant, and each input has at each instant the value that its own spell there.
+pub fn spelled_runs()
+    ensures { (program : ProgramTree) (main : Identifier) (f : FlatModel) (n : ℕ) (vs : ℕ → Valuation) (points : ℕ → List ℤ)
+        → AreWell program → IsNode program main → IsFlatOf program main f → IsAbstractRun (control_of f) n vs points → 0 < n
+        → ((t : ℕ) → t < n → IsTrue ((control_of f).allowed (vs t)))
+        → HasSpelledRun program main f n vs points }
 {
     instants_agree();
     one_symbolic_instant();

@@ -10,5 +10,5 @@ mod laws;
 
 pub use laws::{
     abstract_runs_are_runs, computed_instants, control_is_a_system, names_are_numbers,
-    points_agree, rows_are_tightened, runs_are_abstract,
+    points_agree, rows_are_tightened, runs_are_abstract, spelled_runs,
 };

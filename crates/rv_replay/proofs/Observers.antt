@@ -59,7 +59,7 @@ some_of : (ks : List Kind) → is_observer ks ≡ true → 0 < length ks
 some_of [] e = let bad : false ≡ true = e in absurd (grind arith)
 some_of (k ∷ ks) e = omega arith
 
-truth : (program : ProgramTree) (o : Option Value) → IsSome o → ((v : Value) → o ≡ Some v → HasKind program kind.Bool v) → (b : Bool) × (o ≡ Some (Flag b))
+pub truth : (program : ProgramTree) (o : Option Value) → IsSome o → ((v : Value) → o ≡ Some v → HasKind program kind.Bool v) → (b : Bool) × (o ≡ Some (Flag b))
 truth program Nothing some typed = absurd (let bad : false ≡ true = some in grind arith)
 truth program (Some (Flag b)) some typed = (b, refl)
 truth program (Some (Label l)) some typed = absurd (typed (Label l) refl)
@@ -74,7 +74,7 @@ module _ (typed_flows : TypedFlows) (states_of_program : StatesOfProgram) (input
   i = main_instance program main
 
   -- the flow of the observer
-  observer : FlowAt program (node_of program main) n kind.Bool
+  pub observer : FlowAt program (node_of program main) n kind.Bool
   observer =
       let is = first_boolean (decl_kinds program (node_of program main).outputs) of.observer in
       let at : n + 0 ≡ n = omega arith in
@@ -82,7 +82,7 @@ module _ (typed_flows : TypedFlows) (states_of_program : StatesOfProgram) (input
       (ap (slice_get (flow_kinds program (node_of program main))) (sym at) ∙ output_kind program (node_of program main) 0 kind.Bool is)
 
   -- it is on the base clock
-  its_clock : clock_of (node_of program main) observer.name ≡ Base
+  pub its_clock : clock_of (node_of program main) observer.name ≡ Base
   its_clock =
       let some = some_of (decl_kinds program (node_of program main).outputs) of.observer in
       let at : site_of (node_of program main) observer.name ≡ n + 0 = observer.site ∙ omega arith in
@@ -92,7 +92,7 @@ module _ (typed_flows : TypedFlows) (states_of_program : StatesOfProgram) (input
       length-kinds : length (decl_kinds program (node_of program main).outputs) ≡ length (node_of program main).outputs
       length-kinds = length-map (node_of program main).outputs (λ d. kind_in_program program d.kind)
 
-  its_place : place i observer.name ≡ observer_place program main
+  pub its_place : place i observer.name ≡ observer_place program main
   its_place = ap (λ s. s ∷ []) observer.site
 
   module _ (now : State) (inputs : List Value) (row : Row) (state : IsState f now) (values : AreValues f (input_kinds f) inputs) (instant : IsFlatInstant f now inputs row) where

@@ -1,0 +1,174 @@
+-- Where no memory or input holds an integer, no integer of a flat expression is larger than its weight.
+use Rattle.std.proofs.Common.{◌≡◌, ◌⊎◌, inl, inr, ℕ, zero, suc, ◌+◌, ◌*◌, ◌^◌, ◌<◌, ◌≤◌, max, Bool, true, false, ◌&&◌, cond, ℤ, ◌+ℤ◌, ◌-ℤ◌, ◌*ℤ◌, nat_abs, List, [], length, get_or, sym, ◌∙◌, ap, subst, arith, Option, Some}
+use Rattle.std.proofs.Common.{None as Nothing}
+use Rattle.std.specs.Prelude.{nat_lt, nat_le, slice_get}
+use Rattle.std.proofs.Math.ListN.{length-map}
+use Rattle.std.proofs.Math.Nat.{eq-or-lt_of_le, mul-le-mul_left}
+use Rattle.std.proofs.lemmas.Bool.{leb-true, ltb-true}
+use Rattle.std.proofs.lemmas.Int.{unsigned_abs-mul, ints}
+use Rattle.rv_base.specs.declared.value.Value.{Value}
+use Rattle.rv_base.specs.declared.value.Value.TheVariants.{Flag, Label, Whole}
+use Rattle.rv_tree.specs.declared.tree.Op.{Op}
+use Rattle.rv_tree.specs.declared.tree.Op.TheVariants as op
+use Rattle.rv_tree.specs.Limits.{heaviest}
+use Rattle.rv_tree.specs.Places.{Sites}
+use Rattle.rv_types.specs.declared.typed.Kind.{Kind}
+use Rattle.rv_types.specs.declared.typed.Kind.TheVariants as kind
+use Rattle.rv_types.specs.Types.{same_kind}
+use Rattle.rv_meaning.specs.Meaning.{is_true, number, operate}
+use Rattle.rv_agreement.specs.Agreement.{State, found_in, IsWholeInstant}
+use Rattle.rv_agreement.specs.Checks.{same_clock, is_of, gives, clock_fits, fits, form_fits}
+use Rattle.rv_agreement.specs.Evaluation.{Found, value, form_value, integers, item_value}
+use Rattle.rv_agreement.specs.Trees.{FlatTree, Node, TreeForm, Constant, Flow, Memory, Ticked, Input, Not, Binary, Scale, If, AtMostOne, When, Current, System, memory_kinds, nth_item}
+use Rattle.rv_flat.specs.declared.flat.Flat.{Flat}
+use Rattle.rv_flat.specs.FlatInstants.{Row, nth, held, is_on_at, flow_items, system_of}
+use Rattle.rv_flat.specs.Facts.{constant_weight, weight_under, flat_weight, form_flat_weight, flow_weights, is_light, form_is_light}
+use Rattle.rv_flat.specs.Systems.{flow_item}
+use Rattle.rv_flat.proofs.FlowWeights.{item_light, weight_kth}
+use Rattle.rv_flat.proofs.Tested.{ItemFits, both, flow_fits, operator_fits}
+use Rattle.rv_flat.proofs.Weighing.{size}
+
+product_small : (y z : ℤ) (w : ℕ) → nat_abs z ≤ w → nat_abs (y *ℤ z) ≤ nat_abs y * w
+product_small y z w h = rw (unsigned_abs-mul y z) (mul-le-mul_left (nat_abs y) h)
+
+no_kind : {P : Type 0} → false ≡ true → P
+no_kind e = absurd (grind arith)
+
+-- an operator gives no more than its operands allow
+operated_small : (o : Op) (k : Kind) (x y : Value) (v w : ℕ) → gives o k ≡ true → size x ≤ v → size y ≤ w → size (operate o false x y) ≤ weight_under o v w
+operated_small op.Plus k x y v w e g h = omega (arith, ints)
+operated_small op.Minus k x y v w e g h = omega (arith, ints)
+operated_small op.Arrow k x y v w e g h = no_kind e
+operated_small op.Times k x y v w e g h = no_kind e
+operated_small op.Slash k x y v w e g h = no_kind e
+operated_small op.Div k x y v w e g h = no_kind e
+operated_small op.Mod k x y v w e g h = no_kind e
+operated_small op.Implies k x y v w e g h = omega arith
+operated_small op.Or k x y v w e g h = omega arith
+operated_small op.Xor k x y v w e g h = omega arith
+operated_small op.And k x y v w e g h = omega arith
+operated_small op.Equal k x y v w e g h = omega arith
+operated_small op.Differs k x y v w e g h = omega arith
+operated_small op.Less k x y v w e g h = omega arith
+operated_small op.AtMost k x y v w e g h = omega arith
+operated_small op.Greater k x y v w e g h = omega arith
+operated_small op.AtLeast k x y v w e g h = omega arith
+
+constant_small : (v : Value) → size v ≤ constant_weight v
+constant_small (Flag b) = omega arith
+constant_small (Label l) = omega arith
+constant_small (Whole z) = omega arith
+
+chosen_small : (c : Bool) (x y : Value) (v w : ℕ) → size x ≤ v → size y ≤ w → size (cond c x y) ≤ max v w
+chosen_small true x y v w g h = omega arith
+chosen_small false x y v w g h = omega arith
+
+-- where the flows have these weights, and the first of them, as many as are said, keep to them
+module _ (s : System) (ws : List ℕ) (found : Found Value) (row : Row) (n : ℕ)
+    (kept_small : (m : ℕ) → size (found.kept m) ≤ 1) (inputs_small : (j : ℕ) → size (found.given j) ≤ 1)
+    (row_small : (k : ℕ) → k < n → size (held (nth row k)) ≤ get_or ws k 0) where
+  abbrev worth : FlatTree → Value
+  worth e = value Value integers found row e
+
+  -- the operand of a `when`, and what a `current` shows
+  when_fits : (k : Option ℕ) (j : Kind) (at : Sites) (c : ℕ) (e : FlatTree) → form_fits s n k j at (When c e) ≡ true
+      → fits s n (nth_item s.flows c).clock j e ≡ true
+  when_fits k j at c e fit =
+      let outer = both (same_clock k (Some c)) (clock_fits s n (Some c) && fits s n (nth_item s.flows c).clock j e) fit in
+      (both (clock_fits s n (Some c)) (fits s n (nth_item s.flows c).clock j e) outer.1).1
+
+  current_fits : (k : Option ℕ) (j : Kind) (at : Sites) (m : ℕ) (i : Option ℕ) (e : FlatTree) → form_fits s n k j at (Current m i e) ≡ true
+      → fits s n i j e ≡ true
+  current_fits k j at m i e fit =
+      let outer = both (is_of j (slice_get (memory_kinds s) m)) (clock_fits s n i && fits s n i j e) fit in
+      (both (clock_fits s n i) (fits s n i j e) outer.1).1
+
+  mutual
+    pub value_small : (k : Option ℕ) (j : Kind) (e : FlatTree) → fits s n k j e ≡ true → is_light ws e ≡ true
+        → size (value Value integers found row e) ≤ flat_weight ws e
+    value_small k j (Node at form) fit light = form_small k j at form fit (both (nat_le (form_flat_weight ws form) heaviest) (form_is_light ws form) light).1
+
+    form_small : (k : Option ℕ) (j : Kind) (at : Sites) (form : TreeForm) → form_fits s n k j at form ≡ true → form_is_light ws form ≡ true
+        → size (form_value Value integers found row at form) ≤ form_flat_weight ws form
+    form_small k j at (Constant c) fit light = constant_small c
+    form_small k j at (Flow c) fit light =
+        row_small c (ltb-true c n (both (nat_lt c n) (is_of j (slice_get s.kinds c) && same_clock k (nth_item s.flows c).clock) fit).0)
+    form_small k j at (Memory m) fit light = kept_small m
+    form_small k j at (Ticked t) fit light = omega arith
+    form_small k j at (Input i) fit light = inputs_small i
+    form_small k j at (Not e) fit light = omega arith
+    form_small k j at (Binary o a b) fit light =
+        let told = operator_fits s n k j at o a b fit in
+        let light_both = both (is_light ws a) (is_light ws b) light in
+        operated_small o j (worth a) (worth b) (flat_weight ws a) (flat_weight ws b) told.0
+        (value_small k told.1.0 a told.1.1 light_both.0) (value_small k told.1.0 b told.1.2 light_both.1)
+    form_small k j at (Scale z e) fit light =
+        product_small z (number (worth e)) (flat_weight ws e)
+        (value_small k kind.Int e (both (same_kind j kind.Int) (fits s n k kind.Int e) fit).1 (both (nat_le (nat_abs z) heaviest) (is_light ws e) light).1)
+    form_small k j at (If c a b) fit light =
+        let outer = both (fits s n k kind.Bool c) (fits s n k j a && fits s n k j b) fit in
+        let parts = both (fits s n k j a) (fits s n k j b) outer.1 in
+        let light_outer = both (is_light ws c) (is_light ws a && is_light ws b) light in
+        let light_parts = both (is_light ws a) (is_light ws b) light_outer.1 in
+        chosen_small (is_true (worth c)) (worth a) (worth b) (flat_weight ws a) (flat_weight ws b)
+        (value_small k j a parts.0 light_parts.0) (value_small k j b parts.1 light_parts.1)
+    form_small k j at (AtMostOne es) fit light = omega arith
+    form_small k j at (When c e) fit light = value_small (nth_item s.flows c).clock j e (when_fits k j at c e fit) light
+    form_small k j at (Current m i e) fit light =
+        chosen_small (is_on_at row i) (worth e) (found.kept m) (flat_weight ws e) 1
+        (value_small i j e (current_fits k j at m i e fit) light) (kept_small m)
+
+module _ (f : Flat) (now : State) (inputs : List Value) (row : Row) (instant : IsWholeInstant (system_of f) now inputs row)
+    (kept_small : (m : ℕ) → size (get_or now.kept m (Flag false)) ≤ 1) (inputs_small : (j : ℕ) → size (get_or inputs j (Flag false)) ≤ 1) where
+  abbrev ws : List ℕ
+  ws = flow_weights (flow_items f)
+
+  count : length (flow_items f) ≡ length f.flows
+  count = length-map f.flows (flow_item f.memories)
+
+  fit_at : (m : ℕ) → m < length f.flows → ItemFits (system_of f) m (nth_item (flow_items f) m)
+  fit_at m lt =
+      subst (λ n. ItemFits (system_of f) n (nth_item (flow_items f) m)) (let e : 0 + m ≡ m = omega arith in e)
+      (flow_fits (system_of f) 0 (flow_items f) m f.flows_fit (omega (arith, count, lt)))
+
+  weight_at : (m : ℕ) → m < length f.flows → get_or ws m 0 ≡ flat_weight ws (nth_item (flow_items f) m).body
+  weight_at m lt = ap (λ j. get_or ws j 0) (let e : m ≡ 0 + m = omega arith in e)
+      ∙ weight_kth (system_of f) [] (flow_items f) m f.flows_fit (omega (arith, count, lt))
+
+  flow_light : (m : ℕ) → m < length f.flows → is_light ws (nth_item (flow_items f) m).body ≡ true
+  flow_light m lt = item_light ws (flow_items f) m f.flows_light (omega (arith, count, lt))
+
+  light_held : (e : FlatTree) → is_light ws e ≡ true → flat_weight ws e ≤ 2 ^ 40
+  light_held (Node at form) light =
+      leb-true (form_flat_weight ws form) heaviest (both (nat_le (form_flat_weight ws form) heaviest) (form_is_light ws form) light).0
+
+  -- each flow keeps to its weight
+  row_small : (m : ℕ) → m ≤ length f.flows → (k : ℕ) → k < m → size (held (nth row k)) ≤ get_or ws k 0
+  row_small zero le k lt = absurd (omega arith)
+  row_small (suc m) le k lt =
+      let before = row_small m (omega arith) in
+      elim (eq-or-lt_of_le {n = k} {m = m} (omega arith)) [
+        | inl same ↦ subst (λ j. size (held (nth row j)) ≤ get_or ws j 0) (sym same) (here m (omega arith) before)
+        | inr below ↦ before k below
+      ]
+    where
+      chosen : (b : Bool) (v : Value) (w : ℕ) → size v ≤ w → size (held (cond b (Some v) Nothing)) ≤ w
+      chosen true v w small = small
+      chosen false v w small = omega arith
+
+      here : (m : ℕ) → m < length f.flows → ((k : ℕ) → k < m → size (held (nth row k)) ≤ get_or ws k 0) → size (held (nth row m)) ≤ get_or ws m 0
+      here m lt before =
+          let item = nth_item (flow_items f) m in
+          let fit = fit_at m lt in
+          let small = value_small (system_of f) ws (found_in now inputs) row m kept_small inputs_small before item.clock fit.kind item.body fit.body
+          (flow_light m lt) in
+          subst (λ o. size (held o) ≤ get_or ws m 0) (sym (instant.holds m (omega (arith, count, lt))))
+          (subst (λ w. size (held (item_value Value integers (found_in now inputs) row item)) ≤ w) (sym (weight_at m lt))
+          (chosen (is_on_at row item.clock) (value Value integers (found_in now inputs) row item.body) (flat_weight ws item.body) small))
+
+  pub flow_small : (k : ℕ) → k < length f.flows → size (held (nth row k)) ≤ 2 ^ 40
+  flow_small k lt =
+      let small = row_small (length f.flows) (omega arith) k lt in
+      let is = weight_at k lt in
+      let light = light_held (nth_item (flow_items f) k).body (flow_light k lt) in
+      omega (arith, small, is, light)

@@ -1,0 +1,2 @@
+pub mod Falsifying
+pub mod Decoding
