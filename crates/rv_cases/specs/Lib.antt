@@ -1,0 +1,5 @@
+pub mod Conditions
+pub mod Questions
+pub mod Telling
+pub mod Made
+pub mod Samples
