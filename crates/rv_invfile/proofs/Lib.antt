@@ -21,3 +21,5 @@ pub mod Digits
 pub mod Sound
 pub mod Systems
 pub mod Kinded
+pub mod MemoryLists
+pub mod OneRule

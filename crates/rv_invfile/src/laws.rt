@@ -34,3 +34,9 @@ pub fn told_systems()
 pub fn fitting_traces()
     ensures { (f : FlatModel) (t : TraceModel) → Fits f t ↔ IsTraceOf f t }
 {}
+
+/// All flat systems of one program await the same records: whether bytes are the document of a trace of the program, of which trace,
+/// and what their first fault is, is the same by each.
+pub fn one_trace_rule()
+    ensures { (p : ProgramTree) (main : Identifier) (f g : FlatModel) → IsFlatOf p main f → IsFlatOf p main g → trace_rule f ≡ trace_rule g }
+{}

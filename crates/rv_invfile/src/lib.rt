@@ -17,6 +17,6 @@ mod values;
 mod writing;
 
 pub use fault::{FileFault, Why, fault_at};
-pub use laws::{awaited_records, fitting_traces, told_systems};
+pub use laws::{awaited_records, fitting_traces, one_trace_rule, told_systems};
 pub use trace_writing::write_trace;
 pub use traces::read_trace;

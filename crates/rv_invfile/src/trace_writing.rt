@@ -4,6 +4,7 @@ ghost use Rattle.std.specs.Prelude.{◌≡◌, ◌++◌, ◌∷◌, List, [], ma
 ghost use Rattle.csv.specs.Records.{fields_of, partial_of};
 ghost use Rattle.std.specs.List.{AllByRecursion};
 ghost use Rattle.rv_invfile.specs.Csv.{records_of};
+ghost use Rattle.rv_invfile.specs.Rules.{IsDocument};
 ghost use Rattle.rv_invfile.specs.Told.{IsTold};
 ghost use Rattle.rv_invfile.specs.Texts as texts;
 ghost use Rattle.rv_invfile.specs.Traces as spec;
@@ -209,6 +210,8 @@ pub fn write_trace(alloc: Global, flat: &Flat, trace: &Trace) -> Result<Vec<u8>,
     ensures text { IfOk result (λ v. v.items ≡ lines (spec.trace_records flat.now trace.now)) }
     // Read as records, they are these again.
     ensures records { IfOk result (λ v. records_of v.items ≡ spec.trace_records flat.now trace.now) }
+    // They are the document of the trace.
+    ensures document { IfOk result (λ v. IsDocument (spec.trace_rule flat.now) (records_of v.items) trace.now) }
 {
     let mut writer = new_writer(alloc);
     write_records(alloc, &mut writer, flat, trace)?;
