@@ -10,3 +10,9 @@ mod MainNode
 mod Judging
 mod Reported
 mod Joined
+pub mod Told
+mod Retraced
+mod Faults
+mod Replaying
+mod Judged
+mod More

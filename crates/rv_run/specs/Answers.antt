@@ -2,17 +2,27 @@
 use Rattle.std.specs.Prelude.{◌≡◌, ◌⊎◌, ℕ, List, Option, Some, None, IsSomeAnd}
 use Rattle.std.specs.FinMap.{get}
 use Rattle.rv_base.specs.Shelf.{Shelf, HoldsUnder}
+use Rattle.rv_base.specs.declared.value.Trace.{Trace}
 use Rattle.rv_source.specs.declared.fault.SourceFault.{SourceFault}
 use Rattle.rv_source.specs.Sources.{AreSame}
 use Rattle.rv_proofs.specs.declared.certificate.Certificate.{Certificate}
-use Rattle.rv_run.specs.Words.{command}
+use Rattle.rv_run.specs.Words.{command, trace_file}
+use Rattle.rv_run.specs.Printed.{text_of}
+use Rattle.rv_run.specs.Programs.{OnProgram}
+use Rattle.rv_run.specs.Verdicts.{IsDocumentOf}
 use Rattle.rv_run.specs.declared.report.Report.{Report}
-use Rattle.rv_run.specs.declared.report.Report.TheVariants.{Safe, Unknown, Nodes, Refused, TooLong, ReadFault, Usage, Memory}
+use Rattle.rv_run.specs.declared.report.Report.TheVariants.{Safe, Violated, Unknown, Nodes, Falsified, AssertionFails, NeverFalse, Outgrown, Refused, BadFile, TooLong, ReadFault, Usage, Memory}
 
 -- The words are a command, and what is held under its file has P, beside its node, where the files tell what they
 -- hold.
 abbrev pub OnFile : Option Shelf → List (List ℕ) → (List ℕ → List ℕ → Type 0) → Type 0
 OnFile held words P = IsSomeAnd (command words) (λ named. HoldsUnder held named.0 (λ bytes. P bytes named.1))
+
+-- The words name a trace besides, and what is held under both files has P, beside the command's node, where the files tell what they
+-- hold.
+abbrev pub OnTraceFile : Option Shelf → List (List ℕ) → (List ℕ → List ℕ → List ℕ → Type 0) → Type 0
+OnTraceFile held words P = IsSomeAnd (command words) (λ named. IsSomeAnd (trace_file words) (λ trace.
+    HoldsUnder held named.0 (λ bytes. HoldsUnder held trace (λ document. P bytes named.1 document))))
 
 -- The files tell what they hold, and under this name they hold these bytes.
 abbrev pub Tells : Option Shelf → List ℕ → List ℕ → Type 0
@@ -49,13 +59,45 @@ IsNodesReport report = (n : ℕ) × (report ≡ Nodes n)
 abbrev pub IsSafeUnlessCutOff : Report → Type 0
 IsSafeUnlessCutOff report = IsSafeReport report ⊎ (IsNodesReport report ⊎ ((report ≡ ReadFault) ⊎ (report ≡ Memory)))
 
--- The report is Unknown, unless the same.
-abbrev pub IsUnknownUnlessCutOff : Report → Type 0
-IsUnknownUnlessCutOff report = (report ≡ Unknown) ⊎ (IsNodesReport report ⊎ ((report ≡ ReadFault) ⊎ (report ≡ Memory)))
+-- The report has a trace.
+abbrev pub IsViolatedReport : Report → Type 0
+IsViolatedReport report = (t : Trace) × (report ≡ Violated t)
+
+-- The report has a trace, unless the same.
+abbrev pub IsViolatedUnlessCutOff : Report → Type 0
+IsViolatedUnlessCutOff report = IsViolatedReport report ⊎ (IsNodesReport report ⊎ ((report ≡ ReadFault) ⊎ (report ≡ Memory)))
 
 -- The report is one on the bytes of a source, and not on the words or the file.
 abbrev pub IsOnSource : Report → Type 0
+IsOnSource (Falsified at) = ⊥
+IsOnSource (AssertionFails at place) = ⊥
+IsOnSource NeverFalse = ⊥
+IsOnSource (Outgrown at place) = ⊥
+IsOnSource (BadFile fault) = ⊥
 IsOnSource (TooLong count) = ⊥
 IsOnSource ReadFault = ⊥
 IsOnSource Usage = ⊥
 IsOnSource report = Unit {0}
+
+-- The words are a replay, the files tell what they hold under both its files, and that has P, beside the command's node.
+pub record IsToldTrace (held : Option Shelf) (words : List (List ℕ)) (P : List ℕ → List ℕ → List ℕ → Type 0) : Type 0 where
+  pub file : List ℕ
+  pub node : List ℕ
+  pub trace : List ℕ
+  pub bytes : List ℕ
+  pub document : List ℕ
+  pub named : command words ≡ Some (file, node)
+  pub traced : trace_file words ≡ Some trace
+  pub told : Tells held file bytes
+  pub told_trace : Tells held trace document
+  pub holds : P bytes node document
+
+-- The report is one of `prove` on an accepted source.
+abbrev pub IsVerdict : Report → Type 0
+IsVerdict report = IsSafeReport report ⊎ (IsViolatedReport report ⊎ ((report ≡ Unknown) ⊎ IsNodesReport report))
+
+-- What is shown of a report on the file that the words name: of Violated the document of its trace over the program there, of any other
+-- its text.
+abbrev pub IsShown : Option Shelf → List (List ℕ) → Report → List ℕ → Type 0
+IsShown held words (Violated t) shown = OnFile held words (OnProgram (IsDocumentOf t shown))
+IsShown held words report shown = shown ≡ text_of report

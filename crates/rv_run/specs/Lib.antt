@@ -4,3 +4,6 @@ pub mod Programs
 pub mod Printed
 pub mod Refusals
 pub mod Judged
+pub mod Verdicts
+pub mod Loaded
+pub mod Traced

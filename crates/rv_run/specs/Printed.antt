@@ -1,5 +1,5 @@
 -- The text and the status of a report.
-use Rattle.std.specs.Prelude.{ℕ, List, [], ◌∷◌, ◌++◌, codes, flat_map}
+use Rattle.std.specs.Prelude.{ℕ, Bool, true, false, cond, List, [], ◌∷◌, ◌++◌, codes, flat_map}
 use Rattle.std.specs.Fmt.{decimal}
 use Rattle.rv_base.specs.declared.value.Place.{Place}
 use Rattle.rv_syntax.specs.declared.fault.TextFault.{TextFault}
@@ -10,10 +10,12 @@ use Rattle.rv_causality.specs.declared.fault.CauseFault.{CauseFault}
 use Rattle.rv_causality.specs.declared.fault.CauseFault.TheVariants.{Recursive, Cycle, TooLarge, TooWide, Memory as CauseMemory}
 use Rattle.rv_causality.specs.declared.fault.Quantity.{Quantity}
 use Rattle.rv_causality.specs.declared.fault.Quantity.TheVariants as quantity
+use Rattle.rv_invfile.specs.declared.fault.FileFault.{FileFault}
+use Rattle.rv_invfile.specs.declared.fault.FileFault.TheVariants.{NotRecords, WrongKind, WrongProgram, BadNumber, Ends, Memory as FileMemory}
 use Rattle.rv_source.specs.declared.fault.SourceFault.{SourceFault}
 use Rattle.rv_source.specs.declared.fault.SourceFault.TheVariants.{Text, Names, Cause, Memory as SourceMemory}
 use Rattle.rv_run.specs.declared.report.Report.{Report}
-use Rattle.rv_run.specs.declared.report.Report.TheVariants.{Safe, Unknown, Nodes, Refused, TooLong, ReadFault, Usage, Memory}
+use Rattle.rv_run.specs.declared.report.Report.TheVariants.{Safe, Violated, Unknown, Nodes, Falsified, AssertionFails, NeverFalse, Outgrown, Refused, BadFile, TooLong, ReadFault, Usage, Memory}
 use Rattle.rv_run.specs.declared.report.Sent.{Sent}
 use Rattle.rv_run.specs.declared.report.Sent.TheVariants.{Whole, Failed, Memory as SentMemory}
 
@@ -74,22 +76,52 @@ text_of_refusal (Names fault) = text_of_name_fault fault
 text_of_refusal (Cause fault) = text_of_cause fault
 text_of_refusal SourceMemory = record_of (codes "reaver,memory")
 
--- What is printed for a report.
+-- The record of a fault of a file: its number, its name, the record, and the field where it has one.
+abbrev pub text_of_file_fault : FileFault → List ℕ
+text_of_file_fault (NotRecords n) = record_of (codes "reaver,badfile,1,notrecords," ++ decimal n)
+text_of_file_fault (WrongKind n) = record_of (codes "reaver,badfile,2,wrongkind," ++ decimal n)
+text_of_file_fault (WrongProgram n) = record_of (codes "reaver,badfile,3,wrongprogram," ++ decimal n)
+text_of_file_fault (BadNumber n field) = record_of (codes "reaver,badfile,4,badnumber," ++ decimal n ++ 44 ∷ decimal field)
+text_of_file_fault (Ends n) = record_of (codes "reaver,badfile,5,ends," ++ decimal n)
+text_of_file_fault FileMemory = record_of (codes "reaver,memory")
+
+-- a report that has a trace
+abbrev pub is_violated : Report → Bool
+is_violated (Violated trace) = true
+is_violated report = false
+
+-- What is printed for a report. Violated has no text of its own: the document of its trace is shown.
 abbrev pub text_of : Report → List ℕ
 text_of (Safe certificate) = record_of (codes "reaver,safe")
+text_of (Violated trace) = []
 text_of Unknown = record_of (codes "reaver,unknown")
 text_of (Nodes limit) = record_of (codes "reaver,nodes," ++ decimal limit)
+text_of (Falsified at) = record_of (codes "reaver,falsified," ++ decimal at)
+text_of (AssertionFails at place) = record_of (codes "reaver,assertion," ++ decimal at ++ 44 ∷ dotted place.sites)
+text_of NeverFalse = record_of (codes "reaver,neverfalse")
+text_of (Outgrown at place) = record_of (codes "reaver,outgrown," ++ decimal at ++ 44 ∷ dotted place.sites)
 text_of (Refused fault) = text_of_refusal fault
+text_of (BadFile fault) = text_of_file_fault fault
 text_of (TooLong count) = record_of (codes "reaver,toolong," ++ decimal count)
 text_of ReadFault = record_of (codes "reaver,readfault")
 text_of Usage = record_of (codes "reaver,usage")
 text_of Memory = record_of (codes "reaver,memory")
 
+-- What is shown of a report and the document beside it.
+abbrev pub shown_of : Report → List ℕ → List ℕ
+shown_of report document = cond (is_violated report) document (text_of report)
+
 -- The status of a report that was shown whole.
 abbrev pub report_status : Report → ℕ
 report_status (Safe certificate) = 0
+report_status (Violated trace) = 1
 report_status Unknown = 2
 report_status (Nodes limit) = 2
+report_status (Falsified at) = 0
+report_status (AssertionFails at place) = 1
+report_status NeverFalse = 1
+report_status (Outgrown at place) = 10
+report_status (BadFile fault) = 8
 report_status (Refused fault) = 3
 report_status Usage = 4
 report_status ReadFault = 5

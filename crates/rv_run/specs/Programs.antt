@@ -1,5 +1,5 @@
 -- What an answer says of the bytes of a source and the name of its main node.
-use Rattle.std.specs.Prelude.{◌≡◌, ◌⊎◌, ◌<◌, ◌^◌, ℕ, List}
+use Rattle.std.specs.Prelude.{◌≡◌, ◌<◌, ◌^◌, ℕ, List}
 use Rattle.rv_base.specs.declared.value.Value.{Value}
 use Rattle.rv_tree.specs.Tree.{ProgramTree}
 use Rattle.rv_tree.specs.Places.{Identifier, Sites}
@@ -41,9 +41,13 @@ pub record WithRuns (P : ProgramTree → Identifier → Type 0) (program : Progr
 abbrev pub IsSafeControl : ProgramTree → Identifier → Type 0
 IsSafeControl program node = IsControl program node × IsSafe program node
 
--- Not decided safe: with integers, or without them and not safe.
-abbrev pub IsUndecided : ProgramTree → Identifier → Type 0
-IsUndecided program node = (¬ (IsControl program node)) ⊎ (IsControl program node × (¬ (IsSafe program node)))
+-- Without integers, and not safe.
+abbrev pub IsUnsafeControl : ProgramTree → Identifier → Type 0
+IsUnsafeControl program node = IsControl program node × (¬ (IsSafe program node))
+
+-- With integers.
+abbrev pub HasIntegers : ProgramTree → Identifier → Type 0
+HasIntegers program node = ¬ (IsControl program node)
 
 -- The certificate is accepted for the system of the program's flat system.
 abbrev pub IsCertified : Certificate → ProgramTree → Identifier → Type 0

@@ -1,28 +1,31 @@
 //! Which sources are judged, and how: those without integers, by the control states that their flat systems reach.
 
-ghost use Rattle.std.specs.Prelude.{◌≡◌, ◌<◌, ◌^◌, false, length, IsTrue, IfOk, IsErrOf, ◌↔◌, MatchOption};
+ghost use Rattle.std.specs.Prelude.{◌≡◌, ◌<◌, ◌^◌, false, length, IsTrue, IfOk, IsErrOf, ◌↔◌};
 ghost use Rattle.std.specs.List.{All};
-ghost use Rattle.rv_tree.specs.Tree.{ProgramTree, program_tree};
-ghost use Rattle.rv_tree.specs.Places.{Identifier};
-ghost use Rattle.rv_types.specs.Instances.{IsNode, name_at};
+ghost use Rattle.rv_tree.specs.Tree.{program_tree};
+ghost use Rattle.rv_tree.specs.Words.{HasPlainNames};
+ghost use Rattle.rv_types.specs.Instances.{name_at};
 ghost use Rattle.rv_types.specs.Variables.{is_integer};
-ghost use Rattle.rv_types.specs.WellFormed.{AreWell};
 ghost use Rattle.rv_instances.specs.Fitting.{Fits};
-ghost use Rattle.rv_flat.specs.FlatOf.{IsFlatOf};
-ghost use Rattle.rv_control.specs.Control.{control_of};
-ghost use Rattle.rv_proofs.specs.Accepted.{IsAccepted};
-ghost use Rattle.rv_proofs.specs.Runs.{IsSafeSystem};
-ghost use Rattle.rv_run.specs.Programs.{nodes_limit, IsSafeControl, IsCertified, IsUndecided, IsWide};
-ghost use Rattle.rv_run.specs.Judged.{is_test, IsControlSystem};
+ghost use Rattle.rv_proofs.specs.Reached.{HasNoIntegers};
+ghost use Rattle.rv_reading.specs.Read.{flat_of, system_read, diagrams_of, IsRead};
+ghost use Rattle.rv_walk.specs.Ends.{AreBadLayers};
+ghost use Rattle.rv_run.specs.Programs.{nodes_limit, IsWide};
+ghost use Rattle.rv_run.specs.Judged.{is_test, IsControlSystem, IsKnown};
+ghost use Rattle.rv_run.specs.Verdicts.{IsVerdictOf};
 
+use crate::verdict::Verdict;
 use rv_box::box_pass;
-use rv_control::{abstract_runs_are_runs, runs_are_abstract};
+use rv_control::runs_are_abstract;
 use rv_diagram::StoreFault;
+use rv_falsify::find;
 use rv_flat::{Bit, Flat};
 use rv_flatten::flatten;
 use rv_instances::Source;
-use rv_proofs::{Certificate, certificates_are_safe};
+use rv_invfile::{fitting_traces, told_systems, write_trace};
+use rv_proofs::{Layers, certificates_are_safe};
 use rv_reading::Reading;
+use rv_replay::flat_traces;
 use rv_types::{Kind, well_formed_programs};
 use rv_walk::BoxEnd;
 use std::alloc::Global;
@@ -30,41 +33,69 @@ use std::alloc::Global;
 /// How many nodes the diagrams may have.
 pub const MOST_NODES: u32 = 4_194_304;
 
-/// A certificate of the source, where it has no integers and is safe. None where integers stand in it, or where it is not safe.
-/// Nodes comes only where it has none, and has many diagram variables.
-pub fn judge(alloc: Global, source: &Source) -> Result<Option<Certificate>, StoreFault>
-    requires { Fits (program_tree source.now.program) source.now.typed source.now.order }
-    ensures judged { IfOk result (λ found. MatchOption found
-        (IsUndecided (program_tree source.now.program) (name_at (program_tree source.now.program) source.now.typed.main))
-        (λ c. IsSafeControl (program_tree source.now.program) (name_at (program_tree source.now.program) source.now.typed.main)
-        × IsCertified c (program_tree source.now.program) (name_at (program_tree source.now.program) source.now.typed.main))) }
+/// The verdict on a source: a certificate where it has no integers and is safe, a shortest trace that falsifies it and the document of
+/// that trace where it has none and is not safe. Nodes comes only where it has none, and has many diagram variables.
+pub fn judge(alloc: Global, source: &Source) -> Result<Verdict, StoreFault>
+    requires fits { Fits (program_tree source.now.program) source.now.typed source.now.order }
+    requires plain { HasPlainNames (program_tree source.now.program) }
+    ensures judged { IfOk result (λ v. IsVerdictOf v (program_tree source.now.program) (name_at (program_tree source.now.program) source.now.typed.main)) }
     ensures wide { IsErrOf result StoreFault.Nodes
         → IsWide (program_tree source.now.program) (name_at (program_tree source.now.program) source.now.typed.main) }
 {
     well_formed_programs();
     runs_are_abstract();
-    abstract_runs_are_runs();
     let flat = flatten(alloc, source)?;
     if is_control(&flat) {
-        return certificate_of(alloc, &flat);
+        return decided(alloc, source, &flat);
     }
-    Ok(None)
+    Ok(Verdict::Undecided)
 }
 
-/// A certificate of the flat system of a well formed program without integers, or none where the system is not safe.
-fn certificate_of(alloc: Global, flat: &Flat) -> Result<Option<Certificate>, StoreFault>
-    requires program { (program : ProgramTree) × (main : Identifier) × AreWell program × IsNode program main × IsFlatOf program main flat.now }
+/// The verdict on a source without integers, by its flat system.
+fn decided(alloc: Global, source: &Source, flat: &Flat) -> Result<Verdict, StoreFault>
+    requires fits { Fits (program_tree source.now.program) source.now.typed source.now.order }
+    requires plain { HasPlainNames (program_tree source.now.program) }
+    requires known { IsKnown (program_tree source.now.program) (name_at (program_tree source.now.program) source.now.typed.main) flat.now }
     requires control { IsControlSystem flat.now }
-    ensures decided { IfOk result (λ found. MatchOption found (¬ IsSafeSystem (control_of flat.now))
-        (λ c. IsSafeSystem (control_of flat.now) × IsAccepted (control_of flat.now) c)) }
+    ensures judged { IfOk result (λ v. IsVerdictOf v (program_tree source.now.program) (name_at (program_tree source.now.program) source.now.typed.main)) }
     ensures wide { IsErrOf result StoreFault.Nodes → nodes_limit < 2 ^ (2 ^ length flat.now.variables) }
 {
     certificates_are_safe();
     let mut reading = Reading::new(alloc, flat, MOST_NODES)?;
     match box_pass(alloc, &mut reading)? {
-        BoxEnd::Good(certificate) => Ok(Some(certificate)),
-        BoxEnd::Bad(_) => Ok(None),
+        BoxEnd::Good(certificate) => Ok(Verdict::Safe(certificate)),
+        BoxEnd::Bad(layers) => violated(alloc, source, &mut reading, &layers),
     }
+}
+
+/// The verdict on a source without integers whose layers have a false observer.
+fn violated(
+    alloc: Global,
+    source: &Source,
+    reading: &mut Reading,
+    layers: &Layers,
+) -> Result<Verdict, StoreFault>
+    requires fits { Fits (program_tree source.now.program) source.now.typed source.now.order }
+    requires plain { HasPlainNames (program_tree source.now.program) }
+    requires read { IsRead reading.old }
+    requires known { IsKnown (program_tree source.now.program) (name_at (program_tree source.now.program) source.now.typed.main) (flat_of reading.old) }
+    requires control { HasNoIntegers (system_read reading.old) }
+    requires bad { AreBadLayers (system_read reading.old) layers.now }
+    ensures judged { IfOk result (λ v. IsVerdictOf v (program_tree source.now.program) (name_at (program_tree source.now.program) source.now.typed.main)) }
+    ensures wide { IsErrOf result StoreFault.Nodes → (diagrams_of reading.old).limit < 2 ^ (2 ^ (diagrams_of reading.old).variables) }
+{
+    well_formed_programs();
+    told_systems();
+    flat_traces();
+    fitting_traces();
+    let found = find(alloc, reading, source, layers)?;
+    let Some(trace) = found else {
+        return Ok(Verdict::Undecided);
+    };
+    let flat = reading.flat();
+    let _count = flat.memories.len();
+    let document = write_trace(alloc, flat, &trace)?;
+    Ok(Verdict::Violated(trace, document))
 }
 
 /// Whether a flat system has no integers.

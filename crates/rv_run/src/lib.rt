@@ -1,16 +1,19 @@
-//! What the program does with the words of its command line: over any files and any sink it reads a source, judges it,
-//! and shows one report.
+//! What the program does with the words of its command line: over any files and any sink it reads a source, judges it or replays a
+//! trace over it, and shows one report.
 //!
-//! It promises what each report says of the bytes under the named file, which report comes where, what is shown and the status
-//! (the clauses of `run`). It joins the readers of sources, the builder of flat systems and the box pass. Begin with running.rt,
-//! then prove.rt and judge.rt, and specs/Programs.antt for what the reports say.
+//! It promises what each report says of the bytes under the named files, which report comes where, what is shown and the status
+//! (the clauses of `run`). It joins the readers of sources and of traces, the builder of flat systems, the box pass and the replay.
+//! Begin with running.rt, then prove.rt with judge.rt and retrace.rt, and specs/Programs.antt and specs/Traced.antt for what the
+//! reports say.
 #![tactic(auto)]
 
 mod judge;
 mod load;
 mod prove;
 mod report;
+mod retrace;
 mod running;
+mod verdict;
 mod words;
 
 pub use report::{Outcome, Report, Sent, status_of_report, text};

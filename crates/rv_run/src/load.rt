@@ -23,7 +23,7 @@ pub enum WholeFault {
 }
 
 /// All bytes of a file, where there are no more than the limit. `TooLong` exactly where the load gave one byte more
-/// than the limit; `Failed` only where the files count one more fault.
+/// than the limit; `Failed` only where the files count one more fault, and they never count fewer.
 pub fn load_whole<F: Files>(
     alloc: Global,
     files: &mut F,
@@ -35,6 +35,7 @@ pub fn load_whole<F: Files>(
     ensures fits { IfOk result (λ loaded. length loaded.items ≤ limit) }
     ensures too_long { (n : ℕ) → IsErrOf result (WholeFault.TooLong n) → (n ≡ limit + 1) × HoldsUnder (F.held files.old) name.now (λ bytes. limit < length bytes) }
     ensures failed { IsErrOf result WholeFault.Failed → Rose (F.faults files.old) (F.faults files.new) }
+    ensures later { F.faults files.old ≤ F.faults files.new }
     ensures same_held { F.held files.new ≡ F.held files.old }
     ensures same_serves { F.serves files.new ≡ F.serves files.old }
 {

@@ -1,11 +1,12 @@
 //! What the program answers, how it is printed, and the status that it ends with.
 
-ghost use Rattle.std.specs.Prelude.{◌≡◌, ◌++◌, codes, IfOk, OnOk};
+ghost use Rattle.std.specs.Prelude.{◌≡◌, ◌++◌, ◌∷◌, codes, decimal, IfOk, OnOk};
 ghost use Rattle.std.specs.String.{string_bytes};
-ghost use Rattle.rv_run.specs.Printed.{text_of, text_of_refusal, text_of_fault, text_of_name_fault, text_of_cause, dotted, listed, quantity_name, status_of, report_status};
+ghost use Rattle.rv_run.specs.Printed.{record_of, text_of, text_of_refusal, text_of_fault, text_of_name_fault, text_of_cause, text_of_file_fault, dotted, listed, quantity_name, status_of, report_status};
 
-use rv_base::{Place, Sites};
+use rv_base::{Place, Sites, Trace};
 use rv_causality::{CauseFault, Quantity};
+use rv_invfile::FileFault;
 use rv_proofs::Certificate;
 use rv_source::SourceFault;
 use rv_syntax::TextFault;
@@ -17,13 +18,26 @@ use std::alloc::{AllocError, Global};
 pub enum Report {
     /// In every run the observer is true at each instant up to which the assertions have held. The certificate proves it.
     Safe(Certificate),
+    /// The source has no integers and is not safe: at the last instant of this trace the observer is false, and no trace that falsifies
+    /// has fewer instants.
+    Violated(Trace),
     /// The program has integers, or in some run its observer is false at an instant up to which the assertions have held.
     Unknown,
     /// The diagrams grew past their limit of nodes, which is told.
     Nodes(u32),
+    /// The trace, cut after this instant, falsifies: its run is allowed up to there, and the observer is false there for the first time.
+    Falsified(u32),
+    /// This instant is the first that ends the replay of the trace, and this is the least place of an assertion that is false there.
+    AssertionFails(u32, Place),
+    /// No instant of the trace ends its replay.
+    NeverFalse,
+    /// This instant is the first that ends the replay of the trace, and this is the least place at which a value leaves the range there.
+    Outgrown(u32, Place),
     /// The source is not one that is accepted.
     Refused(SourceFault),
-    /// The file is longer than a source may be. The number is how many bytes were read of it: one more than that.
+    /// The file with the trace is no document of one.
+    BadFile(FileFault),
+    /// The file is longer than a source, or a trace, may be. The number is how many bytes were read of it: one more than that.
     TooLong(u64),
     /// The file could not be read.
     ReadFault,
@@ -55,20 +69,72 @@ pub struct Outcome {
     pub status: u8,
 }
 
-/// The text of a report: one record, its fields joined by commas, and a line feed.
+/// A report, and the document that is shown in place of its text where it is Violated.
+#[derive(Debug, Drop)]
+pub struct Answer {
+    pub report: Report,
+    pub document: Vec<u8>,
+}
+
+/// The text of a report: one record, its fields joined by commas, and a line feed. That of Violated is empty, since the document of its
+/// trace is shown.
 pub fn text(alloc: Global, report: &Report) -> Result<String, AllocError>
     ensures { IfOk result (λ text. string_bytes text ≡ text_of report.now) }
 {
     match report {
         Report::Safe(_) => String::from_str(alloc, "reaver,safe\n"),
+        Report::Violated(_) => Ok(String::new(alloc)),
         Report::Unknown => String::from_str(alloc, "reaver,unknown\n"),
         Report::Nodes(limit) => format!(in alloc; "reaver,nodes,{limit}\n"),
+        Report::Falsified(at) => format!(in alloc; "reaver,falsified,{at}\n"),
+        Report::AssertionFails(at, place) => placed_text(alloc, "reaver,assertion,", *at, place),
+        Report::NeverFalse => String::from_str(alloc, "reaver,neverfalse\n"),
+        Report::Outgrown(at, place) => placed_text(alloc, "reaver,outgrown,", *at, place),
         Report::Refused(fault) => refusal_text(alloc, fault),
+        Report::BadFile(fault) => file_fault_text(alloc, *fault),
         Report::TooLong(count) => format!(in alloc; "reaver,toolong,{count}\n"),
         Report::ReadFault => String::from_str(alloc, "reaver,readfault\n"),
         Report::Usage => String::from_str(alloc, "reaver,usage\n"),
         Report::Memory => String::from_str(alloc, "reaver,memory\n"),
     }
+}
+
+/// The text of a report on an instant of a trace and a place there, behind this front.
+fn placed_text(alloc: Global, front: &str, at: u32, place: &Place) -> Result<String, AllocError>
+    ensures { IfOk result (λ text. string_bytes text ≡ record_of (front.now ++ decimal at ++ 44 ∷ dotted place.now.sites)) }
+{
+    let mut text = format!(in alloc; "{front}{at},")?;
+    add_sites(&mut text, &place.sites)?;
+    text.push('\n')?;
+    Ok(text)
+}
+
+/// The text of a fault of a file: its number, its name in lower case letters, the record, and the field where it has one.
+fn file_fault_text(alloc: Global, fault: FileFault) -> Result<String, AllocError>
+    ensures { IfOk result (λ text. string_bytes text ≡ text_of_file_fault fault) }
+{
+    match fault {
+        FileFault::NotRecords(record) => format!(in alloc;
+            "reaver,badfile,1,notrecords,{record}\n"
+        ),
+        FileFault::WrongKind(record) => format!(in alloc; "reaver,badfile,2,wrongkind,{record}\n"),
+        FileFault::WrongProgram(record) => format!(in alloc;
+            "reaver,badfile,3,wrongprogram,{record}\n"
+        ),
+        FileFault::BadNumber(record, field) => bad_number_text(alloc, record, field),
+        FileFault::Ends(count) => format!(in alloc; "reaver,badfile,5,ends,{count}\n"),
+        FileFault::Memory => String::from_str(alloc, "reaver,memory\n"),
+    }
+}
+
+/// The text of a field, in the record with this number, that is no number in its range and no value of its type.
+fn bad_number_text(alloc: Global, number: u32, field: u32) -> Result<String, AllocError>
+    ensures { IfOk result (λ text. string_bytes text ≡ record_of (codes "reaver,badfile,4,badnumber," ++ decimal number ++ 44 ∷ decimal field)) }
+{
+    let mut text = format!(in alloc; "reaver,badfile,4,badnumber,{number},")?;
+    write!(text, "{field}")?;
+    text.push('\n')?;
+    Ok(text)
 }
 
 /// The text of a refusal.
@@ -187,12 +253,15 @@ pub fn status_of_report(report: &Report) -> u8
     ensures { result ≡ report_status report.now }
 {
     match report {
-        Report::Safe(_) => 0,
+        Report::Safe(_) | Report::Falsified(_) => 0,
+        Report::Violated(_) | Report::AssertionFails(_, _) | Report::NeverFalse => 1,
         Report::Unknown | Report::Nodes(_) => 2,
         Report::Refused(_) => 3,
         Report::Usage => 4,
         Report::ReadFault => 5,
         Report::Memory => 7,
+        Report::BadFile(_) => 8,
         Report::TooLong(_) => 9,
+        Report::Outgrown(_, _) => 10,
     }
 }

@@ -1,95 +1,204 @@
 //! The top call: from the words to the report, which is shown.
 
-ghost use Rattle.std.specs.Prelude.{◌≡◌, ◌↔◌, ◌+◌, ◌<◌, ◌≤◌, ◌⊎◌, IsTrue, All, length, ℕ};
+ghost use Rattle.std.specs.Prelude.{◌≡◌, ◌↔◌, ◌+◌, ◌<◌, ◌≤◌, ◌⊎◌, IsTrue, All, List, length, ℕ};
 ghost use Rattle.std.specs.String.{string_bytes};
 ghost use Rattle.std.specs.Io.KnownBytes.{Appends, Keeps};
 ghost use Rattle.rv_base.specs.Causes.{Rose, raised};
+ghost use Rattle.rv_base.specs.Shelf.{HoldsUnder};
 ghost use Rattle.rv_base.specs.Shown.{AppendsPrefix};
+ghost use Rattle.rv_base.specs.declared.value.Place.{Place as PlaceModel};
+ghost use Rattle.rv_base.specs.declared.value.Trace.{Trace as TraceModel};
+ghost use Rattle.rv_invfile.specs.declared.fault.FileFault.{FileFault};
 ghost use Rattle.rv_meaning.specs.Runs.{IsSafe};
 ghost use Rattle.rv_meaning.specs.Integers.{IsControl};
 ghost use Rattle.rv_proofs.specs.declared.certificate.Certificate.{Certificate as CertificateModel};
-ghost use Rattle.rv_run.specs.Words.{texts, command};
-ghost use Rattle.rv_run.specs.Answers.{OnFile, IsTold, IsSafeReport, IsNodesReport, IsUnlessCutOff, IsSafeUnlessCutOff, IsUnknownUnlessCutOff, IsRefusalUnlessCutOff};
-ghost use Rattle.rv_run.specs.Programs.{OnProgram, WithRuns, nodes_limit, IsSafeControl, IsCertified, IsUndecided, IsWide, IsRefusedFor};
-ghost use Rattle.rv_run.specs.Printed.{text_of, status_of};
+ghost use Rattle.rv_replay.specs.Replays.{FailsAt, IsFalsifiedAt, NeverEnds, OutgrowsAt};
+ghost use Rattle.rv_run.specs.declared.report.Report.{Report as ReportModel};
+ghost use Rattle.rv_run.specs.Words.{texts, command, trace_file};
+ghost use Rattle.rv_run.specs.Answers.{OnFile, OnTraceFile, Tells, IsTold, IsToldTrace, IsVerdict, IsShown, IsUnlessCutOff, IsSafeUnlessCutOff, IsViolatedUnlessCutOff, IsRefusalUnlessCutOff};
+ghost use Rattle.rv_run.specs.Programs.{OnProgram, WithRuns, nodes_limit, IsSafeControl, IsUnsafeControl, HasIntegers, IsCertified, IsWide, IsRefusedFor};
+ghost use Rattle.rv_run.specs.Traced.{IsFileFault, IsLongTrace, IsReplayReport, IsTraceReport, OnReplay, OnTrace, SaysOfTrace};
+ghost use Rattle.rv_run.specs.Printed.{is_violated, shown_of, status_of};
+ghost use Rattle.rv_run.specs.Verdicts.{IsDocumentOf, IsViolated};
+ghost use Rattle.rv_falsify.specs.Falsifying.{IsFalsifying, IsShortest};
 ghost use Rattle.rv_source.specs.declared.fault.SourceFault.{SourceFault};
 
 use crate::load::{WholeFault, load_whole};
-use crate::prove::report_on_source;
-use crate::report::{Outcome, Report, Sent, status, text};
+use crate::prove::{refusal, report_on_source};
+use crate::report::{Answer, Outcome, Report, Sent, status, text};
+use crate::retrace::{FILE_LIMIT, report_on_trace};
 use crate::words::read_words;
 use rv_base::{Files, PutFault, Sink};
-use rv_syntax::SOURCE_LIMIT;
+use rv_source::read_source;
+use rv_syntax::{SOURCE_LIMIT, one_tree, plain_names};
 use std::alloc::Global;
 
-/// The report on the words.
-fn report_on<F: Files>(alloc: Global, words: &[String], files: &mut F) -> Report
-    requires { All (λ word. IsTrue (F.serves files.old (string_bytes word))) words.now }
-    ensures safe { (c : CertificateModel) → result ≡ Report.Safe c → OnFile (F.held files.old) (texts words.now) (OnProgram (WithRuns IsSafe)) }
-    ensures certified { (c : CertificateModel) → result ≡ Report.Safe c → OnFile (F.held files.old) (texts words.now) (OnProgram (IsCertified c)) }
-    ensures decided_safe { (c : CertificateModel) → result ≡ Report.Safe c → OnFile (F.held files.old) (texts words.now) (OnProgram IsControl) }
-    ensures unknown { result ≡ Report.Unknown → OnFile (F.held files.old) (texts words.now) (OnProgram (WithRuns IsUndecided)) }
-    ensures nodes { (n : ℕ) → result ≡ Report.Nodes n → (n ≡ nodes_limit) × OnFile (F.held files.old) (texts words.now) (OnProgram IsWide) }
-    ensures not_too_long { IsSafeReport result ⊎ ((result ≡ Report.Unknown) ⊎ IsNodesReport result)
-        → OnFile (F.held files.old) (texts words.now) (λ bytes _. length bytes ≤ SOURCE_LIMIT) }
-    ensures refused { (fault : SourceFault) → result ≡ Report.Refused fault
-        → OnFile (F.held files.old) (texts words.now) (λ bytes node. (length bytes ≤ SOURCE_LIMIT) × IsRefusedFor fault bytes node) }
+/// The report on the replay of the trace in a file over a source. Refused as for `prove`; otherwise the file is loaded, and what its
+/// bytes are and do is told.
+fn report_on_replay<F: Files>(
+    alloc: Global,
+    bytes: &[u8],
+    node: &str,
+    trace: &str,
+    files: &mut F,
+) -> Report
+    requires short { length bytes.now ≤ SOURCE_LIMIT }
+    requires served { IsTrue (F.serves files.old trace.now) }
+    ensures replayed { (report : ReportModel) → IsTraceReport report → result ≡ report
+        → HoldsUnder (F.held files.old) trace.now (OnReplay (SaysOfTrace report) bytes.now node.now) }
+    ensures refused { (fault : SourceFault) → result ≡ Report.Refused fault → IsRefusedFor fault bytes.now node.now }
     ensures too_long { (n : ℕ) → result ≡ Report.TooLong n
-        → (n ≡ SOURCE_LIMIT + 1) × OnFile (F.held files.old) (texts words.now) (λ bytes _. SOURCE_LIMIT < length bytes) }
+        → (n ≡ FILE_LIMIT + 1) × HoldsUnder (F.held files.old) trace.now (IsLongTrace bytes.now node.now) }
     ensures read_fault { result ≡ Report.ReadFault → Rose (F.faults files.old) (F.faults files.new) }
-    ensures usage { (result ≡ Report.Usage) ↔ (command (texts words.now) ≡ None) }
-    ensures only_safe { IsTold (F.held files.old) (texts words.now) (λ bytes node. (length bytes ≤ SOURCE_LIMIT) × OnProgram IsSafeControl bytes node)
-        → IsSafeUnlessCutOff result }
-    ensures only_unknown { IsTold (F.held files.old) (texts words.now) (λ bytes node. (length bytes ≤ SOURCE_LIMIT) × OnProgram IsUndecided bytes node)
-        → IsUnknownUnlessCutOff result }
-    ensures only_refused { (fault : SourceFault) → IsTold (F.held files.old) (texts words.now) (λ bytes node. (length bytes ≤ SOURCE_LIMIT) × IsRefusedFor fault bytes node)
-        → IsRefusalUnlessCutOff fault result }
-    ensures only_too_long { IsTold (F.held files.old) (texts words.now) (λ bytes _. SOURCE_LIMIT < length bytes)
-        → IsUnlessCutOff (Report.TooLong (SOURCE_LIMIT + 1)) result }
+    ensures only { IsReplayReport result }
+    ensures only_replayed { (report : ReportModel) (document : List ℕ) → Tells (F.held files.old) trace.now document
+        → OnReplay (SaysOfTrace report) bytes.now node.now document → IsUnlessCutOff report result }
+    ensures only_refused { (fault : SourceFault) → IsRefusedFor fault bytes.now node.now → IsRefusalUnlessCutOff fault result }
+    ensures only_too_long { (document : List ℕ) → Tells (F.held files.old) trace.now document → IsLongTrace bytes.now node.now document
+        → IsUnlessCutOff (Report.TooLong (FILE_LIMIT + 1)) result }
     ensures same_held { F.held files.new ≡ F.held files.old }
     ensures same_serves { F.serves files.new ≡ F.serves files.old }
 {
-    let Some(command) = read_words(words) else {
-        return Report::Usage;
+    one_tree();
+    plain_names();
+    let source = match read_source(alloc, bytes, node) {
+        Ok(source) => source,
+        Err(fault) => return refusal(fault),
     };
-    match load_whole(alloc, files, command.file, SOURCE_LIMIT as u64) {
-        Ok(source) => report_on_source(alloc, &source, command.node),
+    match load_whole(alloc, files, trace, FILE_LIMIT as u64) {
+        Ok(document) => report_on_trace(alloc, &source, &document),
         Err(WholeFault::TooLong(count)) => Report::TooLong(count),
         Err(WholeFault::Failed) => Report::ReadFault,
         Err(WholeFault::Memory) => Report::Memory,
     }
 }
 
-/// Gives the text of the report to one put.
-fn show<S: Sink>(alloc: Global, report: &Report, out: &mut S) -> Sent
-    ensures whole { result ≡ Sent.Whole → Appends (S.shown out.old) (S.shown out.new) (text_of report.now) }
-    ensures failed { result ≡ Sent.Failed → AppendsPrefix (S.shown out.old) (S.shown out.new) (text_of report.now) }
+/// A report without a document.
+fn bare(alloc: Global, report: Report) -> Answer
+    ensures { result.report ≡ report }
+{
+    Answer {
+        report,
+        document: Vec::new(alloc),
+    }
+}
+
+/// The report on the words, and the document that is shown of it where it is Violated.
+fn report_on<F: Files>(alloc: Global, words: &[String], files: &mut F) -> Answer
+    requires { All (λ word. IsTrue (F.serves files.old (string_bytes word))) words.now }
+    ensures safe { (c : CertificateModel) → result.report ≡ Report.Safe c → OnFile (F.held files.old) (texts words.now) (OnProgram (WithRuns IsSafe)) }
+    ensures certified { (c : CertificateModel) → result.report ≡ Report.Safe c → OnFile (F.held files.old) (texts words.now) (OnProgram (IsCertified c)) }
+    ensures decided_safe { (c : CertificateModel) → result.report ≡ Report.Safe c → OnFile (F.held files.old) (texts words.now) (OnProgram IsControl) }
+    ensures violated { (t : TraceModel) → result.report ≡ Report.Violated t → OnFile (F.held files.old) (texts words.now) (OnProgram (WithRuns (IsViolated t))) }
+    ensures document { (t : TraceModel) → result.report ≡ Report.Violated t → OnFile (F.held files.old) (texts words.now) (OnProgram (IsDocumentOf t result.document.items)) }
+    ensures unknown { result.report ≡ Report.Unknown → OnFile (F.held files.old) (texts words.now) (OnProgram (WithRuns HasIntegers)) }
+    ensures nodes { (n : ℕ) → result.report ≡ Report.Nodes n → (n ≡ nodes_limit) × OnFile (F.held files.old) (texts words.now) (OnProgram IsWide) }
+    ensures not_too_long { IsVerdict result.report → OnFile (F.held files.old) (texts words.now) (λ bytes _. length bytes ≤ SOURCE_LIMIT) }
+    ensures proved { IsVerdict result.report → trace_file (texts words.now) ≡ None }
+    ensures replayed { (report : ReportModel) → IsTraceReport report → result.report ≡ report
+        → OnTraceFile (F.held files.old) (texts words.now) (OnReplay (SaysOfTrace report)) }
+    ensures refused { (fault : SourceFault) → result.report ≡ Report.Refused fault
+        → OnFile (F.held files.old) (texts words.now) (λ bytes node. (length bytes ≤ SOURCE_LIMIT) × IsRefusedFor fault bytes node) }
+    ensures too_long { (n : ℕ) → result.report ≡ Report.TooLong n
+        → ((n ≡ SOURCE_LIMIT + 1) × OnFile (F.held files.old) (texts words.now) (λ bytes _. SOURCE_LIMIT < length bytes))
+        ⊎ ((n ≡ FILE_LIMIT + 1) × OnTraceFile (F.held files.old) (texts words.now) IsLongTrace) }
+    ensures read_fault { result.report ≡ Report.ReadFault → Rose (F.faults files.old) (F.faults files.new) }
+    ensures usage { (result.report ≡ Report.Usage) ↔ (command (texts words.now) ≡ None) }
+    ensures only_safe { trace_file (texts words.now) ≡ None
+        → IsTold (F.held files.old) (texts words.now) (λ bytes node. (length bytes ≤ SOURCE_LIMIT) × OnProgram IsSafeControl bytes node)
+        → IsSafeUnlessCutOff result.report }
+    ensures only_violated { trace_file (texts words.now) ≡ None
+        → IsTold (F.held files.old) (texts words.now) (λ bytes node. (length bytes ≤ SOURCE_LIMIT) × OnProgram IsUnsafeControl bytes node)
+        → IsViolatedUnlessCutOff result.report }
+    ensures only_unknown { trace_file (texts words.now) ≡ None
+        → IsTold (F.held files.old) (texts words.now) (λ bytes node. (length bytes ≤ SOURCE_LIMIT) × OnProgram HasIntegers bytes node)
+        → IsUnlessCutOff Report.Unknown result.report }
+    ensures only_replayed { (report : ReportModel) → IsToldTrace (F.held files.old) (texts words.now) (OnReplay (SaysOfTrace report))
+        → IsUnlessCutOff report result.report }
+    ensures only_refused { (fault : SourceFault) → IsTold (F.held files.old) (texts words.now) (λ bytes node. (length bytes ≤ SOURCE_LIMIT) × IsRefusedFor fault bytes node)
+        → IsRefusalUnlessCutOff fault result.report }
+    ensures only_too_long { IsTold (F.held files.old) (texts words.now) (λ bytes _. SOURCE_LIMIT < length bytes)
+        → IsUnlessCutOff (Report.TooLong (SOURCE_LIMIT + 1)) result.report }
+    ensures only_long_trace { IsToldTrace (F.held files.old) (texts words.now) IsLongTrace
+        → IsUnlessCutOff (Report.TooLong (FILE_LIMIT + 1)) result.report }
+    ensures same_held { F.held files.new ≡ F.held files.old }
+    ensures same_serves { F.serves files.new ≡ F.serves files.old }
+{
+    let Some(command) = read_words(words) else {
+        return bare(alloc, Report::Usage);
+    };
+    let source = match load_whole(alloc, files, command.file, SOURCE_LIMIT as u64) {
+        Ok(source) => source,
+        Err(WholeFault::TooLong(count)) => return bare(alloc, Report::TooLong(count)),
+        Err(WholeFault::Failed) => return bare(alloc, Report::ReadFault),
+        Err(WholeFault::Memory) => return bare(alloc, Report::Memory),
+    };
+    match command.trace {
+        None => report_on_source(alloc, &source, command.node),
+        Some(trace) => Answer {
+            report: report_on_replay(alloc, &source, command.node, trace, files),
+            document: Vec::new(alloc),
+        },
+    }
+}
+
+/// Whether the report has a trace, whose document is shown.
+fn is_violated(report: &Report) -> bool
+    ensures { result ≡ is_violated report.now }
+{
+    matches!(report, Report::Violated(_))
+}
+
+/// Gives bytes to one put.
+fn put<S: Sink>(out: &mut S, bytes: &[u8]) -> Sent
+    ensures whole { result ≡ Sent.Whole → Appends (S.shown out.old) (S.shown out.new) bytes.now }
+    ensures failed { result ≡ Sent.Failed → AppendsPrefix (S.shown out.old) (S.shown out.new) bytes.now }
     ensures memory { result ≡ Sent.Memory → Keeps (S.shown out.old) (S.shown out.new) }
     ensures cause { result ≡ Sent.Failed → Rose (S.faults out.old) (S.faults out.new) }
     ensures one_put { (result ≡ Sent.Whole) ⊎ (result ≡ Sent.Failed) → S.puts out.new ≡ raised (S.puts out.old) }
     ensures no_put { result ≡ Sent.Memory → S.puts out.new ≡ S.puts out.old }
 {
-    let Ok(text) = text(alloc, report) else {
-        return Sent::Memory;
-    };
-    match out.put(text.as_bytes()) {
+    match out.put(bytes) {
         Ok(()) => Sent::Whole,
         Err(PutFault::Failed) => Sent::Failed,
         Err(PutFault::Memory) => Sent::Memory,
     }
 }
 
-/// Does what the words ask for, and shows the text of the report by one put. The words are those of the command
+/// Gives the text of the report, or the document in its place, to one put.
+fn show<S: Sink>(alloc: Global, answer: &Answer, out: &mut S) -> Sent
+    ensures whole { result ≡ Sent.Whole → Appends (S.shown out.old) (S.shown out.new) (shown_of answer.now.report answer.now.document.items) }
+    ensures failed { result ≡ Sent.Failed → AppendsPrefix (S.shown out.old) (S.shown out.new) (shown_of answer.now.report answer.now.document.items) }
+    ensures memory { result ≡ Sent.Memory → Keeps (S.shown out.old) (S.shown out.new) }
+    ensures cause { result ≡ Sent.Failed → Rose (S.faults out.old) (S.faults out.new) }
+    ensures one_put { (result ≡ Sent.Whole) ⊎ (result ≡ Sent.Failed) → S.puts out.new ≡ raised (S.puts out.old) }
+    ensures no_put { result ≡ Sent.Memory → S.puts out.new ≡ S.puts out.old }
+{
+    if is_violated(&answer.report) {
+        return put(out, &answer.document);
+    }
+    let Ok(text) = text(alloc, &answer.report) else {
+        return Sent::Memory;
+    };
+    put(out, text.as_bytes())
+}
+
+/// Does what the words ask for, and shows the text of the report, or the document of a trace, by one put. The words are those of the command
 /// line, the program's name first; each has to be served by the files.
 ///
-/// `prove FILE NODE` answers Safe or Unknown on the source under FILE and its node NODE. Usage comes exactly where
-/// the words are not four or the second is not `prove`, ReadFault only where the files count one more fault, and Memory
-/// where there is no memory. Beside these two, TooLong comes exactly where the file is longer than 1,048,576 bytes;
-/// Refused exactly where its bytes have no tree, with the fault of their first offending token, or where their program
-/// breaks a rule with this main node, with its first fault of names, types and clocks, and then of recursion, sizes, cycles
-/// and weights, where any cycle may be told. Of an accepted program that has no integers and is safe Safe comes, with a
-/// certificate of it; of one that has integers, or has none and is not safe, Unknown. Nodes comes in their place only where
-/// the program has no integers and many diagram variables.
+/// `prove FILE NODE` answers Safe, Violated or Unknown on the source under FILE and its node NODE, and `replay FILE NODE TRACE` what the
+/// trace under TRACE does to it. Usage comes exactly where the words are neither: not four of which the second is `prove`, and not
+/// five of which it is `replay`. ReadFault comes only where the files count one more fault, and Memory where there is no memory.
+/// Beside these two, TooLong comes exactly where the source is longer than 1,048,576 bytes, or where it is accepted and the trace
+/// is longer than 67,108,864 bytes; Refused exactly where the source's bytes have no tree, with the fault of their first offending
+/// token, or where their program breaks a rule with this main node, with its first fault of names, types and clocks, and then of
+/// recursion, sizes, cycles and weights, where any cycle may be told.
+///
+/// Of an accepted program that has no integers and is safe `prove` answers Safe, with a certificate of it; of one that has none and is not
+/// safe, Violated, with a shortest trace that falsifies it, whose document is shown in place of a text; of one that has integers, Unknown.
+/// Nodes comes in place of the first two only where the program has many diagram variables. Of an accepted program `replay` answers BadFile exactly where the trace's bytes are the document of no trace of it,
+/// with their first fault; otherwise the first instant that ends the replay decides, by Outgrown, AssertionFails or Falsified in
+/// this order, and NeverFalse comes exactly where there is none.
 pub fn run<F: Files, S: Sink>(
     alloc: Global,
     words: &Vec<String>,
@@ -100,37 +209,73 @@ pub fn run<F: Files, S: Sink>(
     ensures safe { (c : CertificateModel) → result.report ≡ Report.Safe c → OnFile (F.held files.old) (texts words.now.items) (OnProgram (WithRuns IsSafe)) }
     ensures certified { (c : CertificateModel) → result.report ≡ Report.Safe c → OnFile (F.held files.old) (texts words.now.items) (OnProgram (IsCertified c)) }
     ensures decided_safe { (c : CertificateModel) → result.report ≡ Report.Safe c → OnFile (F.held files.old) (texts words.now.items) (OnProgram IsControl) }
-    ensures unknown { result.report ≡ Report.Unknown → OnFile (F.held files.old) (texts words.now.items) (OnProgram (WithRuns IsUndecided)) }
+    ensures violated { (t : TraceModel) → result.report ≡ Report.Violated t
+        → OnFile (F.held files.old) (texts words.now.items) (OnProgram (WithRuns (λ program main. IsFalsifying program main t))) }
+    ensures shortest { (t : TraceModel) → result.report ≡ Report.Violated t
+        → OnFile (F.held files.old) (texts words.now.items) (OnProgram (λ program main. IsShortest program main t)) }
+    ensures decided_violated { (t : TraceModel) → result.report ≡ Report.Violated t → OnFile (F.held files.old) (texts words.now.items) (OnProgram IsControl) }
+    ensures unknown { result.report ≡ Report.Unknown → OnFile (F.held files.old) (texts words.now.items) (OnProgram (WithRuns HasIntegers)) }
     ensures nodes { (n : ℕ) → result.report ≡ Report.Nodes n → (n ≡ nodes_limit) × OnFile (F.held files.old) (texts words.now.items) (OnProgram IsWide) }
-    ensures not_too_long { IsSafeReport result.report ⊎ ((result.report ≡ Report.Unknown) ⊎ IsNodesReport result.report)
-        → OnFile (F.held files.old) (texts words.now.items) (λ bytes _. length bytes ≤ SOURCE_LIMIT) }
+    ensures not_too_long { IsVerdict result.report → OnFile (F.held files.old) (texts words.now.items) (λ bytes _. length bytes ≤ SOURCE_LIMIT) }
+    ensures proved { IsVerdict result.report → trace_file (texts words.now.items) ≡ None }
+    ensures falsified { (k : ℕ) → result.report ≡ Report.Falsified k
+        → OnTraceFile (F.held files.old) (texts words.now.items) (OnReplay (OnTrace (λ p m t. IsFalsifiedAt p m t k))) }
+    ensures fails { (k : ℕ) (at : PlaceModel) → result.report ≡ Report.AssertionFails k at
+        → OnTraceFile (F.held files.old) (texts words.now.items) (OnReplay (OnTrace (λ p m t. FailsAt p m t k at))) }
+    ensures never { result.report ≡ Report.NeverFalse
+        → OnTraceFile (F.held files.old) (texts words.now.items) (OnReplay (OnTrace (λ p m t. NeverEnds p m t))) }
+    ensures outgrown { (k : ℕ) (at : PlaceModel) → result.report ≡ Report.Outgrown k at
+        → OnTraceFile (F.held files.old) (texts words.now.items) (OnReplay (OnTrace (λ p m t. OutgrowsAt p m t k at))) }
+    ensures bad_file { (fault : FileFault) → result.report ≡ Report.BadFile fault
+        → OnTraceFile (F.held files.old) (texts words.now.items) (OnReplay (IsFileFault fault)) }
     ensures refused { (fault : SourceFault) → result.report ≡ Report.Refused fault
         → OnFile (F.held files.old) (texts words.now.items) (λ bytes node. (length bytes ≤ SOURCE_LIMIT) × IsRefusedFor fault bytes node) }
     ensures too_long { (n : ℕ) → result.report ≡ Report.TooLong n
-        → (n ≡ SOURCE_LIMIT + 1) × OnFile (F.held files.old) (texts words.now.items) (λ bytes _. SOURCE_LIMIT < length bytes) }
+        → ((n ≡ SOURCE_LIMIT + 1) × OnFile (F.held files.old) (texts words.now.items) (λ bytes _. SOURCE_LIMIT < length bytes))
+        ⊎ ((n ≡ FILE_LIMIT + 1) × OnTraceFile (F.held files.old) (texts words.now.items) IsLongTrace) }
     ensures read_fault { result.report ≡ Report.ReadFault → Rose (F.faults files.old) (F.faults files.new) }
     ensures usage { (result.report ≡ Report.Usage) ↔ (command (texts words.now.items) ≡ None) }
-    ensures only_safe { IsTold (F.held files.old) (texts words.now.items) (λ bytes node. (length bytes ≤ SOURCE_LIMIT) × OnProgram IsSafeControl bytes node)
+    ensures only_safe { trace_file (texts words.now.items) ≡ None
+        → IsTold (F.held files.old) (texts words.now.items) (λ bytes node. (length bytes ≤ SOURCE_LIMIT) × OnProgram IsSafeControl bytes node)
         → IsSafeUnlessCutOff result.report }
-    ensures only_unknown { IsTold (F.held files.old) (texts words.now.items) (λ bytes node. (length bytes ≤ SOURCE_LIMIT) × OnProgram IsUndecided bytes node)
-        → IsUnknownUnlessCutOff result.report }
+    ensures only_violated { trace_file (texts words.now.items) ≡ None
+        → IsTold (F.held files.old) (texts words.now.items) (λ bytes node. (length bytes ≤ SOURCE_LIMIT) × OnProgram IsUnsafeControl bytes node)
+        → IsViolatedUnlessCutOff result.report }
+    ensures only_unknown { trace_file (texts words.now.items) ≡ None
+        → IsTold (F.held files.old) (texts words.now.items) (λ bytes node. (length bytes ≤ SOURCE_LIMIT) × OnProgram HasIntegers bytes node)
+        → IsUnlessCutOff Report.Unknown result.report }
+    ensures only_falsified { (k : ℕ) → IsToldTrace (F.held files.old) (texts words.now.items) (OnReplay (OnTrace (λ p m t. IsFalsifiedAt p m t k)))
+        → IsUnlessCutOff (Report.Falsified k) result.report }
+    ensures only_fails { (k : ℕ) (at : PlaceModel) → IsToldTrace (F.held files.old) (texts words.now.items) (OnReplay (OnTrace (λ p m t. FailsAt p m t k at)))
+        → IsUnlessCutOff (Report.AssertionFails k at) result.report }
+    ensures only_never { IsToldTrace (F.held files.old) (texts words.now.items) (OnReplay (OnTrace (λ p m t. NeverEnds p m t)))
+        → IsUnlessCutOff Report.NeverFalse result.report }
+    ensures only_outgrown { (k : ℕ) (at : PlaceModel) → IsToldTrace (F.held files.old) (texts words.now.items) (OnReplay (OnTrace (λ p m t. OutgrowsAt p m t k at)))
+        → IsUnlessCutOff (Report.Outgrown k at) result.report }
+    ensures only_bad_file { (fault : FileFault) → IsToldTrace (F.held files.old) (texts words.now.items) (OnReplay (IsFileFault fault))
+        → IsUnlessCutOff (Report.BadFile fault) result.report }
     ensures only_refused { (fault : SourceFault) → IsTold (F.held files.old) (texts words.now.items) (λ bytes node. (length bytes ≤ SOURCE_LIMIT) × IsRefusedFor fault bytes node)
         → IsRefusalUnlessCutOff fault result.report }
     ensures only_too_long { IsTold (F.held files.old) (texts words.now.items) (λ bytes _. SOURCE_LIMIT < length bytes)
         → IsUnlessCutOff (Report.TooLong (SOURCE_LIMIT + 1)) result.report }
+    ensures only_long_trace { IsToldTrace (F.held files.old) (texts words.now.items) IsLongTrace
+        → IsUnlessCutOff (Report.TooLong (FILE_LIMIT + 1)) result.report }
     ensures same_held { F.held files.new ≡ F.held files.old }
     ensures same_serves { F.serves files.new ≡ F.serves files.old }
 
-    ensures shown_whole { result.sent ≡ Sent.Whole → Appends (S.shown out.old) (S.shown out.new) (text_of result.report) }
-    ensures shown_prefix { result.sent ≡ Sent.Failed → AppendsPrefix (S.shown out.old) (S.shown out.new) (text_of result.report) }
+    ensures shown_whole { result.sent ≡ Sent.Whole
+        → (shown : List ℕ) × IsShown (F.held files.old) (texts words.now.items) result.report shown × Appends (S.shown out.old) (S.shown out.new) shown }
+    ensures shown_prefix { result.sent ≡ Sent.Failed
+        → (shown : List ℕ) × IsShown (F.held files.old) (texts words.now.items) result.report shown × AppendsPrefix (S.shown out.old) (S.shown out.new) shown }
     ensures shown_nothing { result.sent ≡ Sent.Memory → Keeps (S.shown out.old) (S.shown out.new) }
     ensures write_fault { result.sent ≡ Sent.Failed → Rose (S.faults out.old) (S.faults out.new) }
     ensures one_put { (result.sent ≡ Sent.Whole) ⊎ (result.sent ≡ Sent.Failed) → S.puts out.new ≡ raised (S.puts out.old) }
     ensures no_put { result.sent ≡ Sent.Memory → S.puts out.new ≡ S.puts out.old }
     ensures status { result.status ≡ status_of result.report result.sent }
 {
-    let report = report_on(alloc, words.as_slice(), files);
-    let sent = show(alloc, &report, out);
+    let answer = report_on(alloc, words.as_slice(), files);
+    let sent = show(alloc, &answer, out);
+    let Answer { report, .. } = answer;
     let status = status(&report, sent);
     Outcome {
         report,

@@ -9,7 +9,8 @@
 //! - rows, forms, multipliers and the search for them: `proves`, `refutes`, `tighten`, `fits`, `add`, `scale`, `substitute`,
 //!   `seek_row`, `seek_refutation`, `seek_bound` (`linear.rt`);
 //! - decision diagrams: `diagram` (`diagrams.rt`);
-//! - the whole program over files and sinks in memory: `run`, `prove`, `surely`, `long`, `bytes`, `printed` (`runs.rt`).
+//! - the whole program over files and sinks in memory: `run`, `prove`, `replay`, `replaylong`, `surely`, `long`, `bytes`, `printed`
+//!   (`runs.rt`).
 #![tactic(auto)]
 
 mod causes;

@@ -3,6 +3,7 @@
 use crate::outside::add_bytes;
 use rv_base::{Many, Memory, Place, Sites};
 use rv_causality::{CauseFault, Quantity};
+use rv_invfile::FileFault;
 use rv_proofs::Certificate;
 use rv_run::{Report, text};
 use rv_source::SourceFault;
@@ -10,18 +11,11 @@ use rv_syntax::TextFault;
 use rv_types::NameFault;
 use std::alloc::{AllocError, Global};
 
-/// The text of a report that is told by its words, as `safe`, `toolong 7`, `typeclash 47`, `toolarge labels 4001` or
-/// `cycle 2.3 4.0.17`.
+/// The text of a report that is told by its words, as `safe`, `toolong 7`, `typeclash 47`, `toolarge labels 4001`,
+/// `cycle 2.3 4.0.17`, `outgrown 64 2` or `badnumber 5 1`.
 pub fn printed(alloc: Global, words: &str) -> Result<Option<String>, Memory> {
     let (name, rest) = words.split_once(' ').unwrap_or((words, ""));
-    let report = match plain_report(alloc, name, rest) {
-        Some(report) => Some(report),
-        None => match fault_in(alloc, name, rest)? {
-            Some(fault) => Some(Report::Refused(fault)),
-            None => None,
-        },
-    };
-    let Some(report) = report else {
+    let Some(report) = report_in(alloc, name, rest)? else {
         return Ok(None);
     };
     let shown = text(alloc, &report)?;
@@ -30,7 +24,48 @@ pub fn printed(alloc: Global, words: &str) -> Result<Option<String>, Memory> {
     Ok(Some(told))
 }
 
-/// A report that is no refusal.
+/// A report by its name, and what it tells.
+fn report_in(alloc: Global, name: &str, rest: &str) -> Result<Option<Report>, AllocError> {
+    if let Some(report) = plain_report(alloc, name, rest) {
+        return Ok(Some(report));
+    }
+    if let Some(report) = replay_report(alloc, name, rest)? {
+        return Ok(Some(report));
+    }
+    match fault_in(alloc, name, rest)? {
+        Some(fault) => Ok(Some(Report::Refused(fault))),
+        None => Ok(None),
+    }
+}
+
+/// A report on a trace.
+fn replay_report(alloc: Global, name: &str, rest: &str) -> Result<Option<Report>, AllocError> {
+    let (first, second) = rest.split_once(' ').unwrap_or((rest, ""));
+    let Ok(number) = first.parse::<u32>() else {
+        return Ok(None);
+    };
+    let report = match name {
+        "falsified" => Some(Report::Falsified(number)),
+        "assertion" => place_in(alloc, second)?.map(|place| Report::AssertionFails(number, place)),
+        "outgrown" => place_in(alloc, second)?.map(|place| Report::Outgrown(number, place)),
+        _ => file_fault(name, number, second).map(|fault| Report::BadFile(fault)),
+    };
+    Ok(report)
+}
+
+/// A fault of a file.
+fn file_fault(name: &str, record: u32, rest: &str) -> Option<FileFault> {
+    match name {
+        "notrecords" => Some(FileFault::NotRecords(record)),
+        "wrongkind" => Some(FileFault::WrongKind(record)),
+        "wrongprogram" => Some(FileFault::WrongProgram(record)),
+        "badnumber" => Some(FileFault::BadNumber(record, rest.parse::<u32>().ok()?)),
+        "ends" => Some(FileFault::Ends(record)),
+        _ => None,
+    }
+}
+
+/// A report that is no refusal, and none on a trace but that its replay never ends.
 fn plain_report(alloc: Global, name: &str, rest: &str) -> Option<Report> {
     match name {
         "safe" => Some(Report::Safe(Certificate {
@@ -39,6 +74,7 @@ fn plain_report(alloc: Global, name: &str, rest: &str) -> Option<Report> {
         "unknown" => Some(Report::Unknown),
         "nodes" => Some(Report::Nodes(rest.parse::<u32>().ok()?)),
         "toolong" => Some(Report::TooLong(rest.parse::<u64>().ok()?)),
+        "neverfalse" => Some(Report::NeverFalse),
         "readfault" => Some(Report::ReadFault),
         "usage" => Some(Report::Usage),
         "memory" => Some(Report::Memory),

@@ -22,10 +22,18 @@ use std::alloc::{AllocError, Global};
 /// The words of the command line that proves the node `m` of the file `f`.
 const PROVE: &str = "reaver prove f m";
 
+/// The words of the one that replays the trace in the file `t` over it.
+const REPLAY: &str = "reaver replay f m t";
+
 /// The answer on a row of one of these kinds. It is what is reported, whether it was shown, the status, and what is
 /// shown, with a backtick for its line feed.
-/// `run`: the words, the numbers of the loads and of the puts that fail, and the text of the file `f`;
+/// `run`: the words, the numbers of the loads and of the puts that fail, the text of the file `f`, and that of `t` where the row
+/// has it;
 /// `prove`: the text of `f`, whose node `m` is proved, where nothing fails;
+/// `replay`: the text of `f` and that of `t`, whose trace is replayed over the node `m` of `f`, where nothing fails. In a trace a
+/// `^` stands for a carriage return;
+/// `found`: the text of `f`, whose node `m` is proved, and what is shown of it replayed;
+/// `replaylong`: the same of a trace by its front, a part, how often it is repeated, and the back;
 /// `surely`: the same over files and a sink that never fail;
 /// `long`: the same of a text by its front, a part, how often it is repeated, and the back. A `%` in the part stands for
 /// how often it stood before;
@@ -38,6 +46,12 @@ pub fn ran(alloc: Global, kind: &str, fields: &str) -> Result<Option<String>, Me
             let text = with_line_feeds(alloc, fields)?;
             Ok(Some(proved(alloc, text.as_bytes())?))
         }
+        "replay" => replayed(alloc, fields),
+        "found" => {
+            let text = with_line_feeds(alloc, fields)?;
+            Ok(Some(found_replayed(alloc, text.as_bytes())?))
+        }
+        "replaylong" => replayed_long(alloc, fields),
         "surely" => Ok(Some(ran_surely(alloc, fields)?)),
         "long" => {
             let text = repeated(alloc, fields)?;
@@ -103,39 +117,97 @@ fn ran_with(alloc: Global, fields: &str) -> Result<Option<String>, Memory> {
     let loads = calls_in(alloc, parts.next().unwrap_or(""))?;
     let puts = calls_in(alloc, parts.next().unwrap_or(""))?;
     let source = with_line_feeds(alloc, parts.next().unwrap_or(""))?;
+    let mut files = files_of(alloc, source.as_bytes())?;
+    if let Some(trace) = parts.next() {
+        let trace = with_line_ends(alloc, trace)?;
+        files.add("t", trace.as_bytes())?;
+    }
     match (loads, puts) {
         (Some(loads), Some(puts)) => Ok(Some(ran_failing(
-            alloc,
-            &words,
-            &loads,
-            &puts,
-            source.as_bytes(),
+            alloc, &words, &loads, &puts, &mut files,
         )?)),
         _ => Ok(None),
     }
 }
 
+/// The text of a trace, with line feeds in place of backticks and carriage returns in place of `^`.
+fn with_line_ends(alloc: Global, text: &str) -> Result<String, AllocError> {
+    let mut whole = String::new(alloc);
+    for c in text.chars() {
+        whole.push(match c {
+            '`' => '\n',
+            '^' => '\r',
+            other => other,
+        })?;
+    }
+    Ok(whole)
+}
+
+/// What the replay of a trace does, both files told by their texts.
+fn replayed(alloc: Global, fields: &str) -> Result<Option<String>, Memory> {
+    let Some((source, trace)) = fields.split_once('~') else {
+        return Ok(None);
+    };
+    let source = with_line_feeds(alloc, source)?;
+    let trace = with_line_ends(alloc, trace)?;
+    Ok(Some(replayed_over(alloc, source.as_bytes(), trace.as_bytes())?))
+}
+
+/// The same of a trace by its front, a part, how often it is repeated, and the back.
+fn replayed_long(alloc: Global, fields: &str) -> Result<Option<String>, Memory> {
+    let Some((source, trace)) = fields.split_once('~') else {
+        return Ok(None);
+    };
+    let source = with_line_feeds(alloc, source)?;
+    let text = repeated(alloc, trace)?;
+    let trace = with_line_ends(alloc, text.as_str())?;
+    Ok(Some(replayed_over(alloc, source.as_bytes(), trace.as_bytes())?))
+}
+
+/// What is done with these bytes of a trace under `t` and these of a source under `f`, where nothing fails.
+fn replayed_over(alloc: Global, source: &[u8], trace: &[u8]) -> Result<String, Memory> {
+    let words = words_of(alloc, REPLAY)?;
+    let mut files = files_of(alloc, source)?;
+    files.add("t", trace)?;
+    ran_failing(alloc, &words, &[], &[], &mut files)
+}
+
+/// What the replay of what `prove` shows of these bytes of a source does.
+fn found_replayed(alloc: Global, source: &[u8]) -> Result<String, Memory> {
+    let words = words_of(alloc, PROVE)?;
+    let mut files = files_of(alloc, source)?;
+    let mut out = MemorySink::new(alloc);
+    let _outcome = run_in_memory(alloc, &words, &mut files, &mut out);
+    replayed_over(alloc, source, out.bytes())
+}
+
+/// Files that hold these bytes under `f`.
+fn files_of(alloc: Global, source: &[u8]) -> Result<MemoryFiles, Memory> {
+    let mut files = MemoryFiles::new(alloc);
+    files.add("f", b"replaced by what follows")?;
+    files.add("f", source)?;
+    Ok(files)
+}
+
 /// What is done with these bytes under `f`, where nothing fails.
 fn proved(alloc: Global, source: &[u8]) -> Result<String, Memory> {
     let words = words_of(alloc, PROVE)?;
-    ran_failing(alloc, &words, &[], &[], source)
+    let mut files = files_of(alloc, source)?;
+    ran_failing(alloc, &words, &[], &[], &mut files)
 }
 
-/// What is done with these words and these bytes under `f`, where the loads and puts with these numbers fail.
+/// What is done with these words over these files, where the loads and puts with these numbers fail.
 fn ran_failing(
     alloc: Global,
     words: &Vec<String>,
     loads: &[u32],
     puts: &[u32],
-    source: &[u8],
+    files: &mut MemoryFiles,
 ) -> Result<String, Memory> {
-    let mut files = MemoryFiles::new(alloc);
-    files.add("f", b"replaced by what follows")?;
-    files.add("f", source)?;
     files.fail_calls(loads)?;
     let mut out = MemorySink::new(alloc);
     out.fail_calls(puts)?;
-    let outcome = run_in_memory(alloc, words, &mut files, &mut out);
+    let outcome = run_in_memory(alloc, words, files, &mut out);
     outcome_text(alloc, &outcome, out.bytes())
 }
 
@@ -171,8 +243,14 @@ fn outcome_text(alloc: Global, outcome: &Outcome, shown: &[u8]) -> Result<String
 fn report_name(report: &Report) -> &'static str {
     match report {
         Report::Safe(_) => "safe",
+        Report::Violated(_) => "violated",
         Report::Unknown => "unknown",
         Report::Nodes(_) => "nodes",
+        Report::Falsified(_) => "falsified",
+        Report::AssertionFails(_, _) => "assertion",
+        Report::NeverFalse => "neverfalse",
+        Report::Outgrown(_, _) => "outgrown",
+        Report::BadFile(_) => "badfile",
         Report::Refused(_) => "refused",
         Report::TooLong(_) => "toolong",
         Report::ReadFault => "readfault",

@@ -1,0 +1,34 @@
+-- What holds of less holds of more, and what is shown of a report.
+use Rattle.std.proofs.Common.{◌≡◌, ℕ, List, Some, None, Option, refl, IsSomeAnd}
+use Rattle.rv_base.specs.Shelf.{Shelf, HoldsUnder}
+use Rattle.rv_base.specs.declared.value.Trace.{Trace}
+use Rattle.rv_tree.specs.Tree.{ProgramTree}
+use Rattle.rv_tree.specs.Places.{Identifier}
+use Rattle.rv_run.specs.Words.{command}
+use Rattle.rv_run.specs.Answers.{OnFile, IsShown}
+use Rattle.rv_run.specs.Printed.{shown_of}
+use Rattle.rv_run.specs.Programs.{OnProgram, WithRuns}
+use Rattle.rv_run.specs.Verdicts.{IsDocumentOf}
+use Rattle.rv_run.specs.declared.report.Report.{Report}
+use Rattle.rv_run.specs.declared.report.Report.TheVariants.{Violated}
+use Rattle.rv_run.proofs.Named.{more_under}
+
+pub runs_more : (P Q : ProgramTree → Identifier → Type 0) (p : ProgramTree) (m : Identifier) → (P p m → Q p m) → WithRuns P p m → WithRuns Q p m
+runs_more P Q p m to is = record { sequence = is.sequence; ordered = is.ordered; runs = is.runs; holds = to is.holds }
+
+pub program_more : (P Q : ProgramTree → Identifier → Type 0) (bytes : List ℕ) (node : Identifier) → ((p : ProgramTree) (m : Identifier) → P p m → Q p m)
+    → OnProgram P bytes node → OnProgram Q bytes node
+program_more P Q bytes node to is = record { program = is.program; typed = is.typed; source = is.source; holds = to is.program node is.holds }
+
+pub file_more : (held : Option Shelf) (words : List (List ℕ)) (P Q : ProgramTree → Identifier → Type 0) → ((p : ProgramTree) (m : Identifier) → P p m → Q p m)
+    → OnFile held words (OnProgram P) → OnFile held words (OnProgram Q)
+file_more held words P Q to = by (command words)
+  where
+    by : (o : Option (List ℕ × List ℕ)) → IsSomeAnd o (λ n. HoldsUnder held n.0 (λ bytes. OnProgram P bytes n.1)) → IsSomeAnd o (λ n. HoldsUnder held n.0 (λ bytes. OnProgram Q bytes n.1))
+    by None h = h
+    by (Some n) h = more_under held n.0 (λ bytes. OnProgram P bytes n.1) (λ bytes. OnProgram Q bytes n.1) (λ bytes. program_more P Q bytes n.1 to) h
+
+pub is_shown : (held : Option Shelf) (words : List (List ℕ)) (r : Report) (document : List ℕ)
+    → ((t : Trace) → r ≡ Violated t → OnFile held words (OnProgram (IsDocumentOf t document))) → IsShown held words r (shown_of r document)
+is_shown held words (Violated t) document of = of t refl
+is_shown held words r document of = refl

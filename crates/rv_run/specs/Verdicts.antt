@@ -1,0 +1,55 @@
+-- What is found of an accepted source, and the report on it.
+use Rattle.std.specs.Prelude.{◌≡◌, ℕ, List, [], Result, Ok, Err}
+use Rattle.rv_base.specs.declared.value.Trace.{Trace}
+use Rattle.rv_tree.specs.Tree.{ProgramTree}
+use Rattle.rv_tree.specs.Places.{Identifier}
+use Rattle.rv_meaning.specs.Runs.{IsSafe}
+use Rattle.rv_meaning.specs.Integers.{IsControl}
+use Rattle.rv_diagram.specs.declared.store.StoreFault.{StoreFault}
+use Rattle.rv_diagram.specs.declared.store.StoreFault.TheVariants as fault
+use Rattle.rv_flat.specs.declared.flat.Flat.{Flat}
+use Rattle.rv_flat.specs.FlatOf.{IsFlatOf}
+use Rattle.rv_invfile.specs.Csv.{records_of}
+use Rattle.rv_invfile.specs.Rules.{IsDocument}
+use Rattle.rv_invfile.specs.Writes.{lines}
+use Rattle.rv_invfile.specs.Traces.{trace_records, trace_rule}
+use Rattle.rv_falsify.specs.Falsifying.{IsFalsifying, IsShortest}
+use Rattle.rv_run.specs.Programs.{IsSafeControl, IsCertified, HasIntegers, nodes_limit}
+use Rattle.rv_run.specs.declared.report.Report.{Report}
+use Rattle.rv_run.specs.declared.report.Report.TheVariants as report
+use Rattle.rv_run.specs.declared.verdict.Verdict.{Verdict}
+use Rattle.rv_run.specs.declared.verdict.Verdict.TheVariants.{Safe, Violated, Undecided}
+
+-- The text is the document of the trace over the program, as it is written and as it is read.
+pub record IsDocumentOf (t : Trace) (text : List ℕ) (program : ProgramTree) (main : Identifier) : Type 0 where
+  pub system : Flat
+  pub flat : IsFlatOf program main system
+  pub written : text ≡ lines (trace_records system t)
+  pub read : IsDocument (trace_rule system) (records_of text) t
+
+-- Without integers, and falsified by the trace at its last instant; no trace that falsifies has fewer.
+pub record IsViolated (t : Trace) (program : ProgramTree) (main : Identifier) : Type 0 where
+  pub control : IsControl program main
+  pub falsifying : IsFalsifying program main t
+  pub shortest : IsShortest program main t
+
+-- The verdict is right of the program.
+abbrev pub IsVerdictOf : Verdict → ProgramTree → Identifier → Type 0
+IsVerdictOf (Safe c) program main = IsSafeControl program main × IsCertified c program main
+IsVerdictOf (Violated t text) program main = IsViolated t program main × IsDocumentOf t text.items program main
+IsVerdictOf Undecided program main = HasIntegers program main
+
+-- The report on a verdict, or on why there is none.
+abbrev pub verdict_report : Result Verdict StoreFault → Report
+verdict_report (Ok (Safe c)) = report.Safe c
+verdict_report (Ok (Violated t text)) = report.Violated t
+verdict_report (Ok Undecided) = report.Unknown
+verdict_report (Err fault.Nodes) = report.Nodes nodes_limit
+verdict_report (Err fault.Memory) = report.Memory
+
+-- The document that is shown of it.
+abbrev pub verdict_document : Result Verdict StoreFault → List ℕ
+verdict_document (Ok (Safe c)) = []
+verdict_document (Ok (Violated t text)) = text.items
+verdict_document (Ok Undecided) = []
+verdict_document (Err e) = []
