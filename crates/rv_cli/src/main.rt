@@ -1,4 +1,5 @@
-//! `reaver prove FILE NODE` tells whether the observer of a Lustre node is true in every run.
+//! `reaver prove FILE NODE` tells whether the observer of a Lustre node is true in every run, or shows a trace of one in which it is not;
+//! `reaver replay FILE NODE TRACE` plays a trace.
 #![tactic(auto)]
 
 use rv_machine::{DiskFiles, StandardOut, ended_by, words};
