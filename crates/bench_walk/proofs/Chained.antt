@@ -8,7 +8,7 @@ use Rattle.rv_diagram.specs.Nodes.{Valuation, Diagrams, Answers, IsRef, value_of
 use Rattle.rv_diagram.specs.Several.{ref_at}
 use Rattle.rv_proofs.specs.Systems.{IsSystem, IsRead, IsSameValuation}
 use Rattle.rv_proofs.specs.Reached.{HasNoIntegers}
-use Rattle.rv_symbolic.specs.declared.symbolic.Parts.{Parts}
+use Rattle.rv_symbolic.specs.declared.relation.Parts.{Parts}
 use Rattle.rv_symbolic.specs.Growing.{Extends, Makes}
 use Rattle.rv_symbolic.specs.Represented.{HaveRefs, AreParts}
 use Rattle.rv_symbolic.proofs.Extending.{extends_refl, extends_trans, grows_extends}

@@ -3,12 +3,12 @@
 ghost use Rattle.std.specs.Prelude.{◌≡◌, ◌+◌, ◌*◌, ◌-◌, ◌<◌, ◌≤◌, not, ◌&&◌, true, false, IfOk};
 ghost use Rattle.rv_diagram.specs.Nodes.{Valuation, value_of, IsRef};
 ghost use Rattle.rv_symbolic.specs.Growing.{Extends, Makes};
-ghost use Rattle.rv_symbolic.specs.Represented.{IsSymbolicOf, HaveRefs, AreParts};
+ghost use Rattle.rv_symbolic.specs.Represented.{IsRelationOf, HaveRefs, AreParts};
 ghost use Rattle.bench_walk.specs.Chain.{held_of, seen_of, next_of, observer_of, links, AreNext};
 
 use rv_base::Many;
 use rv_diagram::{Ref, Store, StoreFault};
-use rv_symbolic::{Parts, Symbolic};
+use rv_symbolic::{Parts, Relation};
 use rv_walk::{BoxEnd, walk};
 use std::alloc::Global;
 
@@ -141,15 +141,14 @@ fn parts(alloc: Global, store: &mut Store, n: u32, strict: bool) -> Result<Parts
     })
 }
 
-/// The row as a symbolic system.
-fn made(alloc: Global, n: u32, strict: bool, limit: u32) -> Result<Symbolic, StoreFault>
+/// The row as a relation in a store.
+fn made(alloc: Global, store: &mut Store, n: u32, strict: bool) -> Result<Relation, StoreFault>
     requires n { n ≤ 2000 }
-    requires limit { limit ≤ 33554432 }
-    ensures { IfOk result (IsSymbolicOf (links strict n)) }
+    requires variables { store.old.variables ≡ 2 * n + 5 }
+    ensures { IfOk result (IsRelationOf (links strict n) store.new) }
 {
-    let mut store = Store::new(alloc, 2 * n + 5, limit)?;
-    let parts = parts(alloc, &mut store, n, strict)?;
-    Symbolic::new(alloc, store, parts)
+    let parts = parts(alloc, store, n, strict)?;
+    Relation::new(alloc, store, parts)
 }
 
 /// Walks through the control states of a row of n links.
@@ -157,9 +156,10 @@ pub fn run(alloc: Global, n: u32, strict: bool, limit: u32) -> Result<Outcome, S
     requires n { n ≤ 2000 }
     requires limit { limit ≤ 33554432 }
 {
-    let mut symbolic = made(alloc, n, strict, limit)?;
-    let held = symbolic.held();
-    let (good, layers) = match walk(alloc, &mut symbolic)? {
+    let mut store = Store::new(alloc, 2 * n + 5, limit)?;
+    let relation = made(alloc, &mut store, n, strict)?;
+    let held = store.mark();
+    let (good, layers) = match walk(alloc, &mut store, &relation)? {
         BoxEnd::Good(_) => (true, 0),
         BoxEnd::Bad(layers) => (false, layers.sets.len()),
     };

@@ -13,8 +13,8 @@ use Rattle.rv_proofs.specs.Ranges.{IsControlSet}
 use Rattle.rv_proofs.specs.Reached.{HasNoIntegers}
 use Rattle.rv_proofs.specs.Cases.{IsCaseOf, AreCases}
 use Rattle.rv_proofs.specs.declared.report.Case.{Case}
-use Rattle.rv_symbolic.specs.declared.symbolic.Symbolic.{Symbolic}
-use Rattle.rv_symbolic.specs.Represented.{IsSymbolicOf}
+use Rattle.rv_symbolic.specs.declared.relation.Relation.{Relation}
+use Rattle.rv_symbolic.specs.Represented.{IsRelationOf}
 use Rattle.rv_symbolic.specs.Parted.{IsCaseFor, IsAdded, HasSides}
 use Rattle.rv_symbolic.proofs.Extending.{needed_same}
 use Rattle.rv_symbolic.proofs.Reading.{control-value, condition_set, valuation_state}
@@ -159,9 +159,9 @@ apart_halves true true h g = cc
 apart_halves true false h g = cc
 apart_halves false o h g = cc
 
-pub parted_both : (s : System) (d : Symbolic) (from : Frozen) (cases : List Case) → IsSymbolicOf s d → HasNoIntegers s → IsControlSet s from
-    → HasSides d.store d.parts from cases → AreCases s from cases
-parted_both s d from cases is none control sides =
+pub parted_both : (s : System) (d : Diagrams) (rel : Relation) (from : Frozen) (cases : List Case) → IsRelationOf s d rel → HasNoIntegers s → IsControlSet s from
+    → HasSides d rel.parts from cases → AreCases s from cases
+parted_both s d rel from cases is none control sides =
     let within : Valuation → Bool = λ v. s.allowed v && value_of from.nodes from.root v in
     let q : Valuation → Bool = λ v. within v && s.observer v in
     let r : Valuation → Bool = λ v. within v && not (s.observer v) in
@@ -170,10 +170,10 @@ parted_both s d from cases is none control sides =
     λ v w like. ap (λ b. b && value_of from.nodes from.root v) (is.system.allowed v w like)
     ∙ ap (λ b. s.allowed w && b) (control-value s from v w control (valuation_state s v w is.system.bits like)) in
     let means_good : (v : Valuation) → value_of sides.new.nodes sides.good v ≡ q v =
-    λ v. sides.good_means v ∙ ap (λ b. (b && value_of from.nodes from.root v) && value_of d.store.nodes d.parts.observer v) (is.parts.allowed v)
+    λ v. sides.good_means v ∙ ap (λ b. (b && value_of from.nodes from.root v) && value_of d.nodes rel.parts.observer v) (is.parts.allowed v)
     ∙ ap (λ b. within v && b) (is.parts.observer v) in
     let means_bad : (v : Valuation) → value_of sides.new.nodes sides.bad v ≡ r v =
-    λ v. sides.bad_means v ∙ ap (λ b. (b && value_of from.nodes from.root v) && not (value_of d.store.nodes d.parts.observer v))
+    λ v. sides.bad_means v ∙ ap (λ b. (b && value_of from.nodes from.root v) && not (value_of d.nodes rel.parts.observer v))
     (is.parts.allowed v) ∙ ap (λ b. within v && not b) (is.parts.observer v) in
     let first : IsPart s (λ v. false) q true = record {
       allowed = λ v h. (and_parts (s.allowed v) (value_of from.nodes from.root v) (and_parts (within v) (s.observer v) h).0).0;

@@ -1,6 +1,6 @@
 -- Images and preimages by one product.
 use Rattle.std.proofs.Common.{ℕ, ◌+◌, ◌-◌, ◌*◌, ◌/◌, ◌<◌, ◌≤◌, ◌≡◌, ◌↔◌, Bool, true, false, not, ◌&&◌, cond, List, length, map, refl, sym, ap, ◌∙◌}
-use Rattle.std.proofs.Common.{subst, ⊎_elim, arith, IsTrue}
+use Rattle.std.proofs.Common.{subst, ⊎_elim, arith, IsTrue, Result, Ok, Err, IfOk}
 use Rattle.std.proofs.lemmas.Bool.{and_from, and_parts, cases_Bool, cases_lt, both_ways, not-true}
 use Rattle.std.proofs.lemmas.List.{get_or-map, length-map}
 use Rattle.std.specs.Prelude.{MatchBool}
@@ -14,13 +14,13 @@ use Rattle.rv_proofs.specs.Scopes.{IsIn}
 use Rattle.rv_proofs.specs.Ranges.{IsControlSet}
 use Rattle.rv_proofs.specs.Cases.{IsCase, IsImage, IsPreimage, IsInitialSet}
 use Rattle.rv_proofs.specs.declared.report.Case.{Case}
-use Rattle.rv_symbolic.specs.declared.symbolic.Parts.{Parts}
-use Rattle.rv_symbolic.specs.declared.symbolic.Symbolic.{Symbolic}
+use Rattle.rv_symbolic.specs.declared.relation.Parts.{Parts}
+use Rattle.rv_symbolic.specs.declared.relation.Relation.{Relation}
 use Rattle.rv_symbolic.specs.Growing.{Makes}
 use Rattle.rv_symbolic.specs.Variables.{is_of}
 use Rattle.rv_diagram.specs.declared.store.several.Part.{Part}
 use Rattle.rv_symbolic.specs.Linked.{AreMet, quantified}
-use Rattle.rv_symbolic.specs.Represented.{AreLinks, IsRelation, IsSymbolicOf}
+use Rattle.rv_symbolic.specs.Represented.{AreLinks, IsRelation, IsRelationOf}
 use Rattle.rv_symbolic.proofs.Extending.{met_before, met_after, links_opened}
 use Rattle.rv_symbolic.specs.Stepped.{IsProjected, IsAStep, IsJudged, AreNextStates}
 use Rattle.rv_symbolic.proofs.Reading.{control-value, condition-value, control_set, valuation_state, is_of-bit, is_of-parts, is_of-other, is_of-past}
@@ -87,57 +87,57 @@ lower-var t = refl
 higher-var : (t : Triple) → (higher_node t).var ≡ t.var + 1
 higher-var t = refl
 
-module _ (s : System) (d : Symbolic) (is : IsSymbolicOf s d) where
+module _ (s : System) (d : Diagrams) (rel : Relation) (is : IsRelationOf s d rel) where
   few : 2 * s.states ≤ s.variables
   few = is.system.bits
 
-  same_bits : length d.parts.next ≡ s.states
+  same_bits : length rel.parts.next ≡ s.states
   same_bits = is.parts.states
 
-  pub forth : IsRelation d.store d.parts.next 1 d.forth
-  forth = links_opened d.store d.parts.next 1 d.forth is.laid_out.forth
+  pub forth : IsRelation d rel.parts.next 1 rel.forth
+  forth = links_opened d rel.parts.next 1 rel.forth is.laid_out.forth
 
-  pub back : IsRelation d.store d.parts.next 0 d.back
-  back = links_opened d.store d.parts.next 0 d.back is.laid_out.back
+  pub back : IsRelation d rel.parts.next 0 rel.back
+  back = links_opened d rel.parts.next 0 rel.back is.laid_out.back
 
   -- which variables are quantified
-  over_copies : (x : ℕ) → x < s.variables → quantified d.forth x ≡ not (is_of s.states 1 x)
+  over_copies : (x : ℕ) → x < s.variables → quantified rel.forth x ≡ not (is_of s.states 1 x)
   over_copies x low = forth.over.within x (omega (arith, is.parts.variables)) ∙ ap (λ n. not (is_of n 1 x)) same_bits
 
-  over_bits : (x : ℕ) → x < s.variables → quantified d.back x ≡ not (is_of s.states 0 x)
+  over_bits : (x : ℕ) → x < s.variables → quantified rel.back x ≡ not (is_of s.states 0 x)
   over_bits x low = back.over.within x (omega (arith, is.parts.variables)) ∙ ap (λ n. not (is_of n 0 x)) same_bits
 
-  copy_left : (i : ℕ) → i < s.states → quantified d.forth (2 * i + 1) ≡ false
+  copy_left : (i : ℕ) → i < s.states → quantified rel.forth (2 * i + 1) ≡ false
   copy_left i low = over_copies (2 * i + 1) (omega (arith, few)) ∙ ap not (is_of-bit s.states 1 i (omega arith) low)
 
-  bit_left : (i : ℕ) → i < s.states → quantified d.back (2 * i) ≡ false
+  bit_left : (i : ℕ) → i < s.states → quantified rel.back (2 * i) ≡ false
   bit_left i low = over_bits (2 * i) (omega (arith, few)) ∙ ap not (let z : 2 * i + 0 ≡ 2 * i = omega arith in subst (λ
       (x : ℕ). is_of s.states 0 x ≡ true) z (is_of-bit s.states 0 i (omega arith) low))
 
   -- the relation
-  pub relation_to : (p : ℕ) (links : List Part) → AreLinks d.store d.parts.next p links → (w : Valuation) → AreMet d.store.nodes links w
+  pub relation_to : (p : ℕ) (links : List Part) → AreLinks d rel.parts.next p links → (w : Valuation) → AreMet d.nodes links w
       → (i : ℕ) → i < s.states → w (2 * i + 1) ≡ s.next w (2 * i)
-  relation_to p links are w on i low = ((links_opened d.store d.parts.next p links are).exact w).0 on i (omega (arith, same_bits)) ∙ is.parts.next i low w
+  relation_to p links are w on i low = ((links_opened d rel.parts.next p links are).exact w).0 on i (omega (arith, same_bits)) ∙ is.parts.next i low w
 
-  pub relation_from : (p : ℕ) (links : List Part) → AreLinks d.store d.parts.next p links → (w : Valuation)
-      → ((i : ℕ) → i < s.states → w (2 * i + 1) ≡ s.next w (2 * i)) → AreMet d.store.nodes links w
-  relation_from p links are w linked = ((links_opened d.store d.parts.next p links are).exact w).1 (λ i less. let low : i < s.states = omega (arith, same_bits) in linked i low
+  pub relation_from : (p : ℕ) (links : List Part) → AreLinks d rel.parts.next p links → (w : Valuation)
+      → ((i : ℕ) → i < s.states → w (2 * i + 1) ≡ s.next w (2 * i)) → AreMet d.nodes links w
+  relation_from p links are w linked = ((links_opened d rel.parts.next p links are).exact w).1 (λ i less. let low : i < s.states = omega (arith, same_bits) in linked i low
       ∙ sym (is.parts.next i low w))
 
   -- variable 0 is quantified, if it is there
-  pub copies_above : (holds : Valuation → Type 0) (f : Frozen) → IsProjected d.store.variables (quantified d.forth) holds f → IsUnused f.nodes 0
+  pub copies_above : (holds : Valuation → Type 0) (f : Frozen) → IsProjected d.variables (quantified rel.forth) holds f → IsUnused f.nodes 0
   copies_above holds f p i low e =
       let there : (node_at f.nodes i).var < s.variables = omega (arith, p.ordered.low i low, is.parts.variables) in
-      let on : quantified d.forth 0 ≡ true = over_copies 0 (omega (arith, there, e)) ∙ ap not (is_of-other s.states 1 0 (λ z. omega arith)) in
+      let on : quantified rel.forth 0 ≡ true = over_copies 0 (omega (arith, there, e)) ∙ ap not (is_of-other s.states 1 0 (λ z. omega arith)) in
       p.unused 0 on i low e
 
   -- IMAGES
 
   module _ (P : Valuation → Type 0) (keep : (u w : Valuation) → IsSameValuation s u w → P w → P u) (holds : Valuation → Type 0)
-      (part : (w : Valuation) → holds w → P w) (linked : (w : Valuation) → holds w → AreMet d.store.nodes d.forth w)
-      (from_parts : (w : Valuation) → P w → AreMet d.store.nodes d.forth w → holds w)
-      (f g : Frozen) (p : IsProjected d.store.variables (quantified d.forth) holds f)
-      (nodes : g.nodes ≡ map lower_node f.nodes) (ordered : IsOrderedOver d.store.variables g)
+      (part : (w : Valuation) → holds w → P w) (linked : (w : Valuation) → holds w → AreMet d.nodes rel.forth w)
+      (from_parts : (w : Valuation) → P w → AreMet d.nodes rel.forth w → holds w)
+      (f g : Frozen) (p : IsProjected d.variables (quantified rel.forth) holds f)
+      (nodes : g.nodes ≡ map lower_node f.nodes) (ordered : IsOrderedOver d.variables g)
       (means : (v : Valuation) → value_of g.nodes g.root v ≡ value_of f.nodes f.root (lowered v)) where
     image_states : (n : ℕ) → n < length (map lower_node f.nodes) → IsState s (node_at (map lower_node f.nodes) n).var
     image_states n less =
@@ -159,32 +159,32 @@ module _ (s : System) (d : Symbolic) (is : IsSymbolicOf s d) where
 
     pub image_to : (v : Valuation) → IsIn g v → (w : Valuation) × P w × HasSameState s (s.next w) v
     image_to v h =
-        let q : (w : Valuation) × SameBut (quantified d.forth) (lowered v) w × holds w = (p.exact (lowered v)).0 (sym (means v) ∙ h) in (
+        let q : (w : Valuation) × SameBut (quantified rel.forth) (lowered v) w × holds w = (p.exact (lowered v)).0 (sym (means v) ∙ h) in (
           q.0,
           part q.0 q.2,
-          λ x (i, low, e). ap (s.next q.0) e ∙ sym (relation_to 1 d.forth is.laid_out.forth q.0 (linked q.0 q.2) i low)
+          λ x (i, low, e). ap (s.next q.0) e ∙ sym (relation_to 1 rel.forth is.laid_out.forth q.0 (linked q.0 q.2) i low)
               ∙ sym (q.1 (2 * i + 1) (copy_left i low)) ∙ ap v (let z : 2 * i + 1 - 1 ≡ x = omega (arith, e) in z),
         )
 
     pub image_from : (v w : Valuation) → P w → HasSameState s (s.next w) v → IsIn g v
     image_from v w h same =
-        let over : Valuation = quantified d.forth in
+        let over : Valuation = quantified rel.forth in
         let u : Valuation = λ x. cond (over x) (w x) (v (x - 1)) in
         let like : IsSameValuation s u w = λ x read. ap (λ b. cond b (w x) (v (x - 1))) (over_copies x read.0 ∙ ap not (read_off s x read)) in
         let links : (i : ℕ) → i < s.states → u (2 * i + 1) ≡ s.next u (2 * i) = λ i low.
         ap (λ b. cond b (w (2 * i + 1)) (v (2 * i + 1 - 1))) (copy_left i low) ∙ ap v (let z : 2 * i + 1 - 1 ≡ 2 * i = omega arith in z)
         ∙ sym (same (2 * i) (i, low, refl)) ∙ sym (is.system.next u w like (2 * i) (i, low, refl)) in
-        means v ∙ (p.exact (lowered v)).1 (u, λ x off. sym (ap (λ b. cond b (w x) (v (x - 1))) off), from_parts u (keep u w like h) (relation_from 1 d.forth is.laid_out.forth u links))
+        means v ∙ (p.exact (lowered v)).1 (u, λ x off. sym (ap (λ b. cond b (w x) (v (x - 1))) off), from_parts u (keep u w like h) (relation_from 1 rel.forth is.laid_out.forth u links))
 
   pub image_of : (from : Frozen) (c : Case) (f g : Frozen) → IsControlSet s from → IsCase s c
-      → IsProjected d.store.variables (quantified d.forth) (λ w. IsIn from w × IsIn c.condition w × AreMet d.store.nodes d.forth w) f
-      → g.nodes ≡ map lower_node f.nodes → IsOrderedOver d.store.variables g → ((v : Valuation)
+      → IsProjected d.variables (quantified rel.forth) (λ w. IsIn from w × IsIn c.condition w × AreMet d.nodes rel.forth w) f
+      → g.nodes ≡ map lower_node f.nodes → IsOrderedOver d.variables g → ((v : Valuation)
       → value_of g.nodes g.root v ≡ value_of f.nodes f.root (lowered v)) → IsImage s from c g
   image_of from c f g control case p nodes ordered means =
       let P : Valuation → Type 0 = λ w. IsIn from w × IsIn c.condition w in
       let keep : (u w : Valuation) → IsSameValuation s u w → P w → P u = λ u w same h.
       (control-value s from u w control (valuation_state s u w few same) ∙ h.0, condition-value s c.condition u w case.condition same ∙ h.1) in
-      let holds : Valuation → Type 0 = λ w. IsIn from w × IsIn c.condition w × AreMet d.store.nodes d.forth w in
+      let holds : Valuation → Type 0 = λ w. IsIn from w × IsIn c.condition w × AreMet d.nodes rel.forth w in
       record {
         control = image_control P keep holds (λ w h. (h.0, h.1)) (λ w h. h.2) (λ w h r. (h.0, h.1, r)) f g p nodes ordered means;
         exact = λ v. (
@@ -196,15 +196,15 @@ module _ (s : System) (d : Symbolic) (is : IsSymbolicOf s d) where
       }
 
   pub next_of : (from : Frozen) (f g : Frozen) (good : Bool) → IsControlSet s from
-      → IsProjected d.store.variables (quantified d.forth) (IsAStep d.store d.parts d.forth from) f → IsJudged d.store d.parts from good
-      → g.nodes ≡ map lower_node f.nodes → IsOrderedOver d.store.variables g → ((v : Valuation)
+      → IsProjected d.variables (quantified rel.forth) (IsAStep d rel.parts rel.forth from) f → IsJudged d rel.parts from good
+      → g.nodes ≡ map lower_node f.nodes → IsOrderedOver d.variables g → ((v : Valuation)
       → value_of g.nodes g.root v ≡ value_of f.nodes f.root (lowered v))
       → AreNextStates s from (record { set = g; good = good })
   next_of from f g good control p j nodes ordered means =
       let P : Valuation → Type 0 = λ w. IsTrue (s.allowed w) × IsIn from w in
       let keep : (u w : Valuation) → IsSameValuation s u w → P w → P u = λ u w same h.
       (is.system.allowed u w same ∙ h.0, control-value s from u w control (valuation_state s u w few same) ∙ h.1) in
-      let holds : Valuation → Type 0 = IsAStep d.store d.parts d.forth from in
+      let holds : Valuation → Type 0 = IsAStep d rel.parts rel.forth from in
       record {
         control = image_control P keep holds (λ w h. (sym (is.parts.allowed w) ∙ h.0, h.1)) (λ w h. h.2) (λ w h r. (
           is.parts.allowed w
@@ -225,25 +225,25 @@ module _ (s : System) (d : Symbolic) (is : IsSymbolicOf s d) where
           )) (λ w h. h.2) (λ w h r. (is.parts.allowed w ∙ h.0, h.1, r)) f g p nodes ordered means v w (one, other) same,
         );
         all_good = λ yes v allowed inside. sym (is.parts.observer v) ∙ j.all_good yes v (is.parts.allowed v ∙ allowed) inside;
-        some_bad = λ no. let b : (v : Valuation) × (value_of d.store.nodes d.parts.allowed v ≡ true) × IsIn from v
-            × (value_of d.store.nodes d.parts.observer v ≡ false) = j.some_bad no in
+        some_bad = λ no. let b : (v : Valuation) × (value_of d.nodes rel.parts.allowed v ≡ true) × IsIn from v
+            × (value_of d.nodes rel.parts.observer v ≡ false) = j.some_bad no in
             (b.0, sym (is.parts.allowed b.0) ∙ b.1, b.2, sym (is.parts.observer b.0) ∙ b.3);
       }
 
   -- PREIMAGES
 
   -- a copy of a control set is one
-  pub copied_control : (to f : Frozen) → IsControlSet s to → IsOrderedOver d.store.variables f → UsesNeeded f.nodes (value_of to.nodes to.root)
+  pub copied_control : (to f : Frozen) → IsControlSet s to → IsOrderedOver d.variables f → UsesNeeded f.nodes (value_of to.nodes to.root)
       → IsControlSet s f
   copied_control to f control ordered needed = control_set s f (value_of to.nodes to.root) (subst (λ
       (m : ℕ). IsOrderedOver m f) is.parts.variables ordered) needed (λ v w same. control-value s to v w control same)
 
   -- and with its state bits as next copies it is a diagram over the same variables
-  pub raised_ordered : (f g : Frozen) → IsControlSet s f → IsOrderedOver (d.store.variables + 1) g → g.nodes ≡ map higher_node f.nodes
-      → IsOrderedOver d.store.variables g
+  pub raised_ordered : (f g : Frozen) → IsControlSet s f → IsOrderedOver (d.variables + 1) g → g.nodes ≡ map higher_node f.nodes
+      → IsOrderedOver d.variables g
   raised_ordered f g control ordered nodes = record {
     placed = ordered.placed;
-    low = subst (λ (l : List Triple). (i : ℕ) → i < length l → (node_at l i).var < d.store.variables) (sym nodes) (λ i less.
+    low = subst (λ (l : List Triple). (i : ℕ) → i < length l → (node_at l i).var < d.variables) (sym nodes) (λ i less.
         let low : i < length f.nodes = omega (arith, less, length-map f.nodes higher_node) in
         let e : (node_at (map higher_node f.nodes) i).var ≡ (node_at f.nodes i).var + 1 = ap (λ (t : Triple). t.var)
         (moved-node higher_node f.nodes i low) ∙ higher-var (node_at f.nodes i) in
@@ -255,7 +255,7 @@ module _ (s : System) (d : Symbolic) (is : IsSymbolicOf s d) where
   pub preimage_of : (to : Frozen) (c : Case) (bits copies f : Frozen) → IsControlSet s to → IsCase s c
       → ((v : Valuation) → value_of bits.nodes bits.root v ≡ value_of to.nodes to.root v) → ((v : Valuation)
       → value_of copies.nodes copies.root v ≡ value_of bits.nodes bits.root (raised v))
-      → IsProjected d.store.variables (quantified d.back) (λ w. IsIn copies w × IsIn c.condition w × AreMet d.store.nodes d.back w) f
+      → IsProjected d.variables (quantified rel.back) (λ w. IsIn copies w × IsIn c.condition w × AreMet d.nodes rel.back w) f
       → IsPreimage s to c f
   preimage_of to c bits copies f control case copied moved p = record {
     control = record {
@@ -268,16 +268,16 @@ module _ (s : System) (d : Symbolic) (is : IsSymbolicOf s d) where
           (cases_Bool (is_of s.states 0 x));
     };
     exact = λ v. (
-      λ h. let q : (w : Valuation) × SameBut (quantified d.back) v w × (IsIn copies w × IsIn c.condition w
-          × AreMet d.store.nodes d.back w) = (p.exact v).0 h in (
+      λ h. let q : (w : Valuation) × SameBut (quantified rel.back) v w × (IsIn copies w × IsIn c.condition w
+          × AreMet d.nodes rel.back w) = (p.exact v).0 h in (
             q.0,
             λ x (i, low, e). ap q.0 e ∙ sym (q.1 (2 * i) (bit_left i low)) ∙ ap v (sym e),
             q.2.1,
-            sym (control-value s to (raised q.0) (s.next q.0) control (λ x (i, low, e). ap (raised q.0) e ∙ relation_to 0 d.back is.laid_out.back q.0 q.2.2 i low
+            sym (control-value s to (raised q.0) (s.next q.0) control (λ x (i, low, e). ap (raised q.0) e ∙ relation_to 0 rel.back is.laid_out.back q.0 q.2.2 i low
                 ∙ ap (s.next q.0) (sym e))) ∙ sym (copied (raised q.0)) ∙ sym (moved q.0) ∙ q.2.0,
           ),
       λ (w, same, within, into).
-          let over : Valuation = quantified d.back in
+          let over : Valuation = quantified rel.back in
           let u : Valuation = λ x. cond (is_of s.states 1 x) (s.next w (x - 1)) (cond (over x) (w x) (v x)) in
           let at_copy : (i : ℕ) → i < s.states → u (2 * i + 1) ≡ s.next w (2 * i) = λ i low.
           ap (λ b. cond b (s.next w (2 * i + 1 - 1)) (cond (over (2 * i + 1)) (w (2 * i + 1)) (v (2 * i + 1)))) (is_of-bit s.states 1 i
@@ -305,7 +305,7 @@ module _ (s : System) (d : Symbolic) (is : IsSymbolicOf s d) where
               moved u ∙ copied (raised u) ∙ control-value s to (raised u) (s.next w) control (λ x (i, low, e). ap (raised u) e ∙ at_copy i low
                   ∙ ap (s.next w) (sym e)) ∙ into,
               condition-value s c.condition u w case.condition like ∙ within,
-              relation_from 0 d.back is.laid_out.back u links,
+              relation_from 0 rel.back is.laid_out.back u links,
             ),
           ),
     );
@@ -313,10 +313,16 @@ module _ (s : System) (d : Symbolic) (is : IsSymbolicOf s d) where
 
   -- INITIAL STATES
 
-  pub initial_of : (f : Frozen) → IsOrderedOver d.store.variables f → ((v : Valuation) → value_of f.nodes f.root v ≡ value_of d.store.nodes
-      d.parts.initial v) → UsesNeeded f.nodes (value_of d.store.nodes d.parts.initial) → IsInitialSet s f
+  initial_of : (f : Frozen) → IsOrderedOver d.variables f → ((v : Valuation) → value_of f.nodes f.root v ≡ value_of d.nodes
+      rel.parts.initial v) → UsesNeeded f.nodes (value_of d.nodes rel.parts.initial) → IsInitialSet s f
   initial_of f ordered means needed = record {
-    control = control_set s f (value_of d.store.nodes d.parts.initial) (subst (λ (m : ℕ). IsOrderedOver m f) is.parts.variables ordered) needed
+    control = control_set s f (value_of d.nodes rel.parts.initial) (subst (λ (m : ℕ). IsOrderedOver m f) is.parts.variables ordered) needed
         (λ v w same. is.parts.initial v ∙ is.system.initial v w same ∙ sym (is.parts.initial w));
     exact = λ v. (λ h. sym (is.parts.initial v) ∙ sym (means v) ∙ h, λ h. means v ∙ is.parts.initial v ∙ h);
   }
+
+  pub initial_ok : {E : Type 0} (o : Result Frozen E) → IfOk o (λ f. IsOrderedOver d.variables f) → IfOk o (λ f. (v : Valuation)
+      → value_of f.nodes f.root v ≡ value_of d.nodes rel.parts.initial v) → IfOk o (λ f. UsesNeeded f.nodes (value_of d.nodes rel.parts.initial))
+      → IfOk o (IsInitialSet s)
+  initial_ok (Ok f) ordered means needed = initial_of f ordered means needed
+  initial_ok (Err e) ordered means needed = ordered

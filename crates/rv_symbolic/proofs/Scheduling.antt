@@ -7,12 +7,13 @@ use Rattle.rv_diagram.specs.Several.{Ignores, IsSchedule, gone, part_at, ref_at}
 use Rattle.rv_diagram.specs.declared.Triple.{Triple}
 use Rattle.rv_diagram.specs.declared.store.several.Part.{Part}
 use Rattle.rv_proofs.specs.Systems.{System}
-use Rattle.rv_symbolic.specs.declared.symbolic.Parts.{Parts}
+use Rattle.rv_symbolic.specs.declared.relation.Parts.{Parts}
+use Rattle.rv_symbolic.specs.declared.relation.Relation.{Relation}
 use Rattle.rv_symbolic.specs.Growing.{Extends}
 use Rattle.rv_symbolic.specs.Variables.{AreAllBut}
-use Rattle.rv_symbolic.specs.Represented.{HaveRefs, AreParts, AreLinks}
+use Rattle.rv_symbolic.specs.Represented.{HaveRefs, AreParts, IsRelation, AreLinks, IsRelationOf}
 use Rattle.rv_symbolic.specs.Linked.{AreRefs, AreParted, AreScheduled, quantified}
-use Rattle.rv_symbolic.proofs.Extending.{refs_after, links_closed}
+use Rattle.rv_symbolic.proofs.Extending.{refs_after, links_opened, links_closed, part_refs_after, schedule_after, met_before, met_after}
 
 -- These parts are the last ones, from k on. Of the given variables those are left that none of them reads, all at first,
 -- and together they quantify the given ones.
@@ -149,4 +150,34 @@ parts_after s a b p e h g = record {
   observer = λ v. e.kept p.observer h.observer v ∙ g.observer v;
   initial = λ v. e.kept p.initial h.initial v ∙ g.initial v;
   next = λ i low v. e.kept (ref_at p.next i) (h.next i (omega (arith, low, g.states))) v ∙ g.next i low v;
+}
+
+-- as do the parts of a relation
+links_after : (a b : Diagrams) (next : List ℕ) (p : ℕ) (links : List Part) → Extends a b → AreRefs a.nodes next → AreLinks a next p links
+    → AreLinks b next p links
+links_after a b next p links e refs h =
+    let g : IsRelation a next p links = links_opened a next p links h in
+    links_closed b next p links (record {
+      refs = part_refs_after a b links e g.refs;
+      schedule = schedule_after a b links e g.refs g.schedule;
+      exact = λ v. (
+        λ met i low. (g.exact v).0 (met_before a b links e g.refs v met) i low ∙ sym (e.kept (ref_at next i) (refs i low) v),
+        λ linked. met_after a b links e g.refs v ((g.exact v).1 (λ i low. linked i low ∙ e.kept (ref_at next i) (refs i low) v)),
+      );
+      over = record {
+        within = λ x low. g.over.within x (omega (arith, low, e.variables));
+        past = λ x le. g.over.past x (omega (arith, le, e.variables));
+      };
+    })
+
+pub relation_after : (s : System) (a b : Diagrams) (r : Relation) → Extends a b → IsRelationOf s a r → IsRelationOf s b r
+relation_after s a b r e is = record {
+  system = is.system;
+  laid_out = record {
+    refs = have_after a b r.parts e is.laid_out.refs;
+    few = omega (arith, is.laid_out.few, e.variables);
+    forth = links_after a b r.parts.next 1 r.forth e is.laid_out.refs.next is.laid_out.forth;
+    back = links_after a b r.parts.next 0 r.back e is.laid_out.refs.next is.laid_out.back;
+  };
+  parts = parts_after s a b r.parts e is.laid_out.refs is.parts;
 }

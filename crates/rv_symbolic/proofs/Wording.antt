@@ -10,10 +10,10 @@ use Rattle.rv_diagram.specs.Several.{ArePartRefs, part_at}
 use Rattle.rv_proofs.specs.Systems.{System, IsRead, IsSameValuation}
 use Rattle.rv_proofs.specs.Scopes.{IsIn}
 use Rattle.rv_proofs.specs.Ranges.{IsControlSet}
-use Rattle.rv_symbolic.specs.declared.symbolic.Symbolic.{Symbolic}
+use Rattle.rv_symbolic.specs.declared.relation.Relation.{Relation}
 use Rattle.rv_symbolic.specs.Growing.{Extends, Makes, Finds}
 use Rattle.rv_symbolic.specs.Variables.{is_of}
-use Rattle.rv_symbolic.specs.Represented.{IsSymbolicOf}
+use Rattle.rv_symbolic.specs.Represented.{IsRelationOf}
 use Rattle.rv_symbolic.specs.Words.{IsLeastOf, IsFalseIn, LeadsTo, IsFirstOf, AreCopiesBetween, AreCopies, AreMetWith, IsFalseAt, LeadsAt}
 use Rattle.rv_symbolic.proofs.Extending.{extends_refl, extends_trans, grows_extends, met_before, met_after}
 use Rattle.rv_symbolic.proofs.Reading.{control-value, valuation_state, is_of-bit, read_is, read_off}
@@ -173,11 +173,11 @@ leading_found a b c d e allowed within cube both r bits links from to refs one t
 
 -- SYSTEMS
 
-module _ (s : System) (d : Symbolic) (is : IsSymbolicOf s d) where
+module _ (s : System) (d : Diagrams) (rel : Relation) (is : IsRelationOf s d rel) where
   -- the first of all valuations is the least where next copies do not count
   least_word : (holds at : Valuation → Type 0) → ((u w : Valuation) → IsSameValuation s u w → holds w → holds u)
       → ((v : Valuation) → at v → holds v) → ((u v : Valuation) → at v → holds u → ((x : ℕ) → is_of s.states 1 x ≡ true → u x ≡ v x) → at u)
-      → ((v : Valuation) → holds v → (u : Valuation) × at u) → (o : Option (List Bool)) → IsFirstOf d.store.variables at o → IsLeastOf s holds o
+      → ((v : Valuation) → holds v → (u : Valuation) × at u) → (o : Option (List Bool)) → IsFirstOf d.variables at o → IsLeastOf s holds o
   least_word holds at keep part with_copies some None h = λ v p. let q : (u : Valuation) × at u = some v p in h q.0 q.1
   least_word holds at keep part with_copies some (Some word) h = record {
     size = h.size ∙ is.parts.variables;
@@ -198,9 +198,9 @@ module _ (s : System) (d : Symbolic) (is : IsSymbolicOf s d) where
   }
 
   pub false_least : (from : Frozen) (o : Option (List Bool)) → IsControlSet s from
-      → IsFirstOf d.store.variables (IsFalseAt d.store.nodes d.parts.allowed d.parts.observer from) o → IsLeastOf s (IsFalseIn s from) o
+      → IsFirstOf d.variables (IsFalseAt d.nodes rel.parts.allowed rel.parts.observer from) o → IsLeastOf s (IsFalseIn s from) o
   false_least from o control h =
-      let at : Valuation → Type 0 = IsFalseAt d.store.nodes d.parts.allowed d.parts.observer from in
+      let at : Valuation → Type 0 = IsFalseAt d.nodes rel.parts.allowed rel.parts.observer from in
       let to_at : (v : Valuation) → IsFalseIn s from v → at v = λ v p. (is.parts.allowed v ∙ p.allowed, p.inside, is.parts.observer v ∙ p.fails) in
       least_word (IsFalseIn s from) at
       (λ u w same p. record {
@@ -213,16 +213,16 @@ module _ (s : System) (d : Symbolic) (is : IsSymbolicOf s d) where
       (λ v p. (v, to_at v p))
       o h
 
-  pub leading_least : (from : Frozen) (to : List Bool) (bits : ℕ) (o : Option (List Bool)) → bits ≡ length d.parts.next → IsControlSet s from
-      → IsFirstOf d.store.variables (LeadsAt d.store.nodes d.parts.allowed d.forth from to bits) o → IsLeastOf s (LeadsTo s from to) o
+  pub leading_least : (from : Frozen) (to : List Bool) (bits : ℕ) (o : Option (List Bool)) → bits ≡ length rel.parts.next → IsControlSet s from
+      → IsFirstOf d.variables (LeadsAt d.nodes rel.parts.allowed rel.forth from to bits) o → IsLeastOf s (LeadsTo s from to) o
   leading_least from to bits o e control h =
       let few : bits ≡ s.states = e ∙ is.parts.states in
-      let at : Valuation → Type 0 = LeadsAt d.store.nodes d.parts.allowed d.forth from to bits in
+      let at : Valuation → Type 0 = LeadsAt d.nodes rel.parts.allowed rel.forth from to bits in
       let to_at : (v : Valuation) → LeadsTo s from to v → ((i : ℕ) → i < s.states → v (2 * i + 1) ≡ valuation_of to (2 * i)) → at v = λ v p copies. (
         is.parts.allowed v ∙ p.allowed,
         p.inside,
         λ i low. copies i (omega arith),
-        relation_from s d is 1 d.forth is.laid_out.forth v (λ i low. copies i low ∙ sym (p.next (2 * i) (i, low, refl))),
+        relation_from s d rel is 1 rel.forth is.laid_out.forth v (λ i low. copies i low ∙ sym (p.next (2 * i) (i, low, refl))),
       ) in
       let keep : (u w : Valuation) → IsSameValuation s u w → LeadsTo s from to w → LeadsTo s from to u = λ u w same p. record {
         allowed = is.system.allowed u w same ∙ p.allowed;
@@ -233,7 +233,7 @@ module _ (s : System) (d : Symbolic) (is : IsSymbolicOf s d) where
       (λ v (on, inside, copies, met). record {
         allowed = sym (is.parts.allowed v) ∙ on;
         inside = inside;
-        next = λ x (i, low, f). ap (s.next v) f ∙ sym (relation_to s d is 1 d.forth is.laid_out.forth v met i low) ∙ copies i (omega arith)
+        next = λ x (i, low, f). ap (s.next v) f ∙ sym (relation_to s d rel is 1 rel.forth is.laid_out.forth v met i low) ∙ copies i (omega arith)
             ∙ ap (valuation_of to) (sym f);
       })
       (λ u v q p same. to_at u p (λ i low. same (2 * i + 1) (is_of-bit s.states 1 i (omega arith) low) ∙ q.2 i (omega arith)))

@@ -2,7 +2,6 @@ pub mod Growing
 pub mod Variables
 pub mod Linked
 pub mod Represented
-pub mod Lending
 pub mod Stepped
 pub mod Parted
 pub mod Words

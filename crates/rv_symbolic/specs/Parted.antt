@@ -4,7 +4,7 @@ use Rattle.rv_diagram.specs.Nodes.{Valuation, Diagrams, value_of, IsOrderedOver}
 use Rattle.rv_diagram.specs.Several.{UsesNeeded}
 use Rattle.rv_diagram.specs.declared.frozen.Frozen.{Frozen}
 use Rattle.rv_proofs.specs.declared.report.Case.{Case}
-use Rattle.rv_symbolic.specs.declared.symbolic.Parts.{Parts}
+use Rattle.rv_symbolic.specs.declared.relation.Parts.{Parts}
 
 -- The case has the meaning of the reference, which is true somewhere, as its condition, and no test, row or update.
 pub record IsCaseFor (d : Diagrams) (condition : ℕ) (observer : Bool) (c : Case) : Type 0 where

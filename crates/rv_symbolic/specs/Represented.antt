@@ -4,8 +4,8 @@ use Rattle.rv_diagram.specs.Nodes.{Valuation, Diagrams, IsRef, value_of}
 use Rattle.rv_diagram.specs.Several.{ref_at, IsSchedule, ArePartRefs}
 use Rattle.rv_diagram.specs.declared.store.several.Part.{Part}
 use Rattle.rv_proofs.specs.Systems.{System, IsSystem}
-use Rattle.rv_symbolic.specs.declared.symbolic.Parts.{Parts}
-use Rattle.rv_symbolic.specs.declared.symbolic.Symbolic.{Symbolic}
+use Rattle.rv_symbolic.specs.declared.relation.Parts.{Parts}
+use Rattle.rv_symbolic.specs.declared.relation.Relation.{Relation}
 use Rattle.rv_symbolic.specs.Variables.{AreAllBut}
 use Rattle.rv_symbolic.specs.Linked.{AreRefs, AreLinked, AreMet, quantified}
 
@@ -26,13 +26,9 @@ pub record AreParts (s : System) (d : Diagrams) (p : Parts) : Type 0 where
   pub initial : (v : Valuation) → value_of d.nodes p.initial v ≡ s.initial v
   pub next : (i : ℕ) → i < s.states → (v : Valuation) → value_of d.nodes (ref_at p.next i) v ≡ s.next v (2 * i)
 
--- The store of a symbolic system.
-abbrev pub store_of : Symbolic → Diagrams
-store_of d = d.store
-
--- The references that a symbolic system was made of.
-abbrev pub parts_of : Symbolic → Parts
-parts_of d = d.parts
+-- The references that a relation was made of.
+abbrev pub parts_of : Relation → Parts
+parts_of r = r.parts
 
 -- The parts are true together exactly between a valuation and its next control state, no part reads a variable that an
 -- earlier one quantifies, and together they quantify all variables but the first ones 2 i + p.
@@ -47,14 +43,14 @@ unfoldable pub AreLinks : Diagrams → List ℕ → ℕ → List Part → Type 0
 AreLinks d next p parts = IsRelation d next p parts
 
 -- All references are those of the store, and the parts forth and back are those of the relation between a valuation and its next control state.
-pub record IsLaidOut (d : Symbolic) : Type 0 where
-  pub refs : HaveRefs d.store d.parts
-  pub few : d.store.variables ≤ 4096
-  pub forth : AreLinks d.store d.parts.next 1 d.forth
-  pub back : AreLinks d.store d.parts.next 0 d.back
+pub record IsLaidOut (d : Diagrams) (r : Relation) : Type 0 where
+  pub refs : HaveRefs d r.parts
+  pub few : d.variables ≤ 4096
+  pub forth : AreLinks d r.parts.next 1 r.forth
+  pub back : AreLinks d r.parts.next 0 r.back
 
 -- The references have in the store the meanings of the system.
-pub record IsSymbolicOf (s : System) (d : Symbolic) : Type 0 where
+pub record IsRelationOf (s : System) (d : Diagrams) (r : Relation) : Type 0 where
   pub system : IsSystem s
-  pub laid_out : IsLaidOut d
-  pub parts : AreParts s d.store d.parts
+  pub laid_out : IsLaidOut d r
+  pub parts : AreParts s d r.parts

@@ -6,10 +6,10 @@ use Rattle.rv_diagram.specs.declared.frozen.Frozen.{Frozen}
 use Rattle.rv_proofs.specs.Systems.{System, HasSameState}
 use Rattle.rv_proofs.specs.Scopes.{IsIn}
 use Rattle.rv_proofs.specs.Ranges.{IsControlSet}
-use Rattle.rv_symbolic.specs.declared.symbolic.NextStates.{NextStates}
+use Rattle.rv_symbolic.specs.declared.relation.NextStates.{NextStates}
 use Rattle.rv_diagram.specs.declared.store.several.Part.{Part}
 use Rattle.rv_symbolic.specs.Linked.{AreMet}
-use Rattle.rv_symbolic.specs.declared.symbolic.Parts.{Parts}
+use Rattle.rv_symbolic.specs.declared.relation.Parts.{Parts}
 
 -- The diagram is true exactly where this holds for some values of the given variables, none of which is that of a node.
 pub record IsProjected (m : ℕ) (over : Valuation) (holds : Valuation → Type 0) (f : Frozen) : Type 0 where

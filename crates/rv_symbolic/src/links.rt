@@ -149,6 +149,7 @@ fn part(store: &mut Store, next: &[Ref], end: usize) -> Result<Links, StoreFault
     requires end { end ≤ length next.now }
     requires low { 2 * length next.now ≤ store.old.variables }
     requires few { store.old.variables ≤ 4096 }
+    ensures extends { Extends store.old store.new }
     ensures roomy { IsErrOf result StoreFault.Nodes → store.old.limit < 2 ^ (2 ^ store.old.variables) }
     ensures some { IfOk result (λ l. 0 < end → l.start < end) }
     ensures ok { IfOk result (λ l. Finds store.old store.new (AreLinkedBetween store.old.nodes next.now l.start end) l.relation) }
@@ -166,6 +167,7 @@ pub fn relations(alloc: Global, store: &mut Store, next: &[Ref]) -> Result<Many<
     requires next { AreRefs store.old.nodes next.now }
     requires low { 2 * length next.now ≤ store.old.variables }
     requires few { store.old.variables ≤ 4096 }
+    ensures extends { Extends store.old store.new }
     ensures roomy { IsErrOf result StoreFault.Nodes → store.old.limit < 2 ^ (2 ^ store.old.variables) }
     ensures some { IfOk result (λ relations. 0 < length relations) }
     ensures ok { IfOk result (AreParted store.old store.new next.now 0 (length next.now)) }

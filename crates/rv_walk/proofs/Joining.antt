@@ -2,12 +2,16 @@
 use Rattle.std.proofs.Common.{ℕ, Bool, ◌≡◌, true, false, refl, not, ◌&&◌, ◌||◌, sym, ap, ◌∙◌, subst, arith, Option, Some, None}
 use Rattle.std.specs.Prelude.{MatchOption, if◌then◌else◌}
 use Rattle.rv_diagram.specs.Nodes.{Valuation, Diagrams, Answers, IsRef, IsOrderedOver, value_of}
+use Rattle.rv_diagram.specs.Several.{UsesNeeded}
 use Rattle.rv_diagram.specs.declared.frozen.Frozen.{Frozen}
+use Rattle.rv_proofs.specs.Systems.{System, HasSameState}
+use Rattle.rv_proofs.specs.Ranges.{IsControlSet}
 use Rattle.rv_symbolic.specs.Growing.{Extends, Makes}
 use Rattle.rv_symbolic.proofs.Extending.{extends_trans, grows_extends, needed_same}
+use Rattle.rv_symbolic.proofs.Reading.{control-value, control_set}
 use Rattle.rv_walk.specs.declared.sets.Extended.{Extended}
 use Rattle.rv_walk.specs.Ends.{has}
-use Rattle.rv_walk.specs.Extended.{fresh_of, either_of, IsTaken, IsExtended}
+use Rattle.rv_walk.specs.Extended.{fresh_of, either_of, IsTaken, IsExtended, IsWithout}
 
 -- nothing where the second is true, else the first
 pub none_or : (a b n : Bool) → n ≡ false → (if b then n else a) ≡ (a && not b)
@@ -60,3 +64,42 @@ extended_of s0 s1 reached next fresh all (Some e) one two t = record {
   all_is = λ v. t.all_is v ∙ two.means v;
   all_needed = needed_same e.all.nodes (value_of s1.nodes all) (either_of reached next) two.means t.all_needed;
 }
+
+-- CONTROL STATES
+
+module _ (s : System) (a b : Frozen) (left : IsControlSet s a) (right : IsControlSet s b) where
+  fresh_state : (v w : Valuation) → HasSameState s v w → fresh_of a b v ≡ fresh_of a b w
+  fresh_state v w same = ap (λ x. x && not (has a v)) (control-value s b v w right same) ∙ ap (λ x. has b w && not x) (control-value s a v w left same)
+
+  either_state : (v w : Valuation) → HasSameState s v w → either_of a b v ≡ either_of a b w
+  either_state v w same = ap (λ x. x || has a v) (control-value s b v w right same) ∙ ap (λ x. has b w || x) (control-value s a v w left same)
+
+  pub extended_control : (e : Extended) → IsExtended s.variables a b e → IsControlSet s e.fresh × IsControlSet s e.all
+  extended_control e x = (
+    control_set s e.fresh (fresh_of a b) x.fresh_ordered x.fresh_needed fresh_state,
+    control_set s e.all (either_of a b) x.all_ordered x.all_needed either_state,
+  )
+
+  pub extended_found : (m : ℕ) (found : Option Extended) → m ≡ s.variables
+      → MatchOption found ((v : Valuation) → fresh_of a b v ≡ false) (IsExtended m a b)
+      → (e : Extended) → found ≡ Some e → IsControlSet s e.fresh × IsControlSet s e.all
+  extended_found m found is h e got =
+      let x : IsExtended m a b e = subst (λ (o : Option Extended). MatchOption o ((v : Valuation) → fresh_of a b v ≡ false) (IsExtended m a b)) got h in
+      extended_control e (subst (λ (k : ℕ). IsExtended k a b e) is x)
+
+  pub without_control : (f : Frozen) → IsWithout s.variables b a f → IsControlSet s f
+  without_control f x = control_set s f (fresh_of a b) x.ordered x.needed fresh_state
+
+-- what is left of the first of two sets
+pub without_made : (s0 s1 s2 s3 : Diagrams) (a b f : Frozen) (one other left : ℕ) → Answers s0 s1 (value_of a.nodes a.root) one
+    → Answers s1 s2 (value_of b.nodes b.root) other → Makes s2 s3 (λ v. value_of s2.nodes one v && not (value_of s2.nodes other v)) left
+    → IsOrderedOver s3.variables f → ((v : Valuation) → has f v ≡ value_of s3.nodes left v) → UsesNeeded f.nodes (value_of s3.nodes left)
+    → IsWithout s0.variables a b f
+without_made s0 s1 s2 s3 a b f one other left p q r ordered means needed =
+    let made : (v : Valuation) → value_of s3.nodes left v ≡ fresh_of b a v = λ v. r.means v
+    ∙ ap (λ x. x && not (value_of s2.nodes other v)) (q.grows.kept one p.found v ∙ p.means v) ∙ ap (λ x. has a v && not x) (q.means v) in
+    record {
+      ordered = subst (λ (m : ℕ). IsOrderedOver m f) (r.extends.variables ∙ q.grows.variables ∙ p.grows.variables) ordered;
+      exact = λ v. means v ∙ made v;
+      needed = needed_same f.nodes (value_of s3.nodes left) (fresh_of b a) made needed;
+    }

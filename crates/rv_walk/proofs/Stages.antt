@@ -1,5 +1,5 @@
 -- The walk through the layers ends at the least closed set of control states.
-use Rattle.std.proofs.Common.{ℕ, ◌+◌, ◌-◌, ◌<◌, ◌≡◌, ◌⊎◌, Bool, true, false, not, ◌&&◌, ◌||◌, List, [], ◌∷◌, ◌++◌, length, zero, suc, refl, sym, ap}
+use Rattle.std.proofs.Common.{ℕ, ◌+◌, ◌-◌, ◌<◌, ◌≡◌, ◌⊎◌, Bool, true, false, not, ◌&&◌, List, [], ◌∷◌, ◌++◌, length, zero, suc, refl, sym, ap}
 use Rattle.std.proofs.Common.{◌∙◌, subst, ⊎_elim, inl, inr, arith, length-append, slice_get, Some}
 use Rattle.std.proofs.lemmas.Bool.{cases_lt, cases_Bool, or_cases, and_from, and_parts, and_cases, not-true, both_ways}
 use Rattle.std.proofs.lemmas.List.{get_or_append_left}
@@ -11,15 +11,16 @@ use Rattle.rv_proofs.specs.Systems.{System, HasSameState}
 use Rattle.rv_proofs.specs.Ranges.{IsControlSet}
 use Rattle.rv_proofs.specs.Cases.{IsInitialSet}
 use Rattle.rv_proofs.specs.Reached.{IsControlClosed}
-use Rattle.rv_symbolic.specs.declared.symbolic.NextStates.{NextStates}
+use Rattle.rv_symbolic.specs.declared.relation.NextStates.{NextStates}
 use Rattle.rv_symbolic.specs.Stepped.{AreNextStates}
-use Rattle.rv_symbolic.proofs.Reading.{control-value, control_set}
+use Rattle.rv_symbolic.proofs.Reading.{control-value}
 use Rattle.rv_symbolic.proofs.Parting.{or_left, or_right}
 use Rattle.rv_walk.specs.declared.sets.Extended.{Extended}
 use Rattle.rv_walk.specs.Ends.{has, IsLeastControl}
-use Rattle.rv_walk.specs.Extended.{fresh_of, either_of, IsExtended}
+use Rattle.rv_walk.specs.Extended.{fresh_of, IsExtended}
 use Rattle.rv_walk.specs.Walks.{IsReached, IsFirst, IsStage, IsWalk, IsDone, missing, set_at, last_of, no_set}
 use Rattle.rv_walk.proofs.Counting.{missing_less}
+use Rattle.rv_walk.proofs.Joining.{extended_control}
 
 pub set-before : (sets : List Frozen) (f : Frozen) (t : ℕ) → t < length sets → set_at (sets ++ f ∷ []) t ≡ set_at sets t
 set-before sets f t low = get_or_append_left sets (f ∷ []) no_set t low
@@ -81,14 +82,10 @@ walk_start s first reached a b =
 module _ (s : System) (sets : List Frozen) (reached : Frozen) (good : Bool) (n : NextStates) (e : Extended)
     (w : IsWalk s sets reached good) (st : AreNextStates s (last_of sets) n) (x : IsExtended s.variables reached n.set e) where
   fresh_control : IsControlSet s e.fresh
-  fresh_control = control_set s e.fresh (fresh_of reached n.set) x.fresh_ordered x.fresh_needed
-      (λ u v same. ap (λ b. b && not (has reached u)) (control-value s n.set u v st.control same)
-      ∙ ap (λ b. has n.set v && not b) (control-value s reached u v w.control same))
+  fresh_control = (extended_control s reached n.set w.control st.control e x).0
 
   all_control : IsControlSet s e.all
-  all_control = control_set s e.all (either_of reached n.set) x.all_ordered x.all_needed
-      (λ u v same. ap (λ b. b || has reached u) (control-value s n.set u v st.control same)
-      ∙ ap (λ b. has n.set v || b) (control-value s reached u v w.control same))
+  all_control = (extended_control s reached n.set w.control st.control e x).1
 
   from_reached : (v : Valuation) → has reached v ≡ true → has e.all v ≡ true
   from_reached v h = x.all_is v ∙ or_right (has n.set v) (has reached v) h

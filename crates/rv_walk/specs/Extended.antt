@@ -32,3 +32,9 @@ pub record IsTaken (d : Diagrams) (fresh all : ℕ) (e : Extended) : Type 0 wher
   pub all_ordered : IsOrderedOver d.variables e.all
   pub all_is : (v : Valuation) → has e.all v ≡ value_of d.nodes all v
   pub all_needed : UsesNeeded e.all.nodes (value_of d.nodes all)
+
+-- What is in the first set and not in the second.
+pub record IsWithout (m : ℕ) (a b f : Frozen) : Type 0 where
+  pub ordered : IsOrderedOver m f
+  pub exact : (v : Valuation) → has f v ≡ fresh_of b a v
+  pub needed : UsesNeeded f.nodes (fresh_of b a)

@@ -1,9 +1,12 @@
 //! Sets of control states in a store, which is left as it was.
 
-ghost use Rattle.std.specs.Prelude.{◌≡◌, ◌<◌, ◌^◌, ◌&&◌, not, false, IfOk, IsErrOf, MatchOption};
+ghost use Rattle.std.specs.Prelude.{◌≡◌, ◌<◌, ◌^◌, ◌&&◌, not, false, Some, IfOk, IsErrOf, MatchOption};
 ghost use Rattle.rv_diagram.specs.Nodes.{Valuation, value_of, IsRef, IsOrderedOver};
+ghost use Rattle.rv_proofs.specs.Systems.{System};
+ghost use Rattle.rv_proofs.specs.Ranges.{IsControlSet};
 ghost use Rattle.rv_symbolic.specs.Growing.{Extends, Makes};
-ghost use Rattle.rv_walk.specs.Extended.{fresh_of, either_of, IsTaken, IsExtended};
+ghost use Rattle.rv_walk.specs.declared.sets.Extended.{Extended as ExtendedModel};
+ghost use Rattle.rv_walk.specs.Extended.{fresh_of, either_of, IsTaken, IsExtended, IsWithout};
 
 use rv_base::Memory;
 use rv_diagram::{Frozen, Ref, Store, StoreFault};
@@ -25,7 +28,7 @@ struct Joined {
 }
 
 /// The first without the second.
-fn without(store: &mut Store, a: Ref, b: Ref) -> Result<Ref, StoreFault>
+fn rest(store: &mut Store, a: Ref, b: Ref) -> Result<Ref, StoreFault>
     requires a { IsRef store.old.nodes a }
     requires b { IsRef store.old.nodes b }
     ensures extends { Extends store.old store.new }
@@ -47,7 +50,7 @@ fn join(store: &mut Store, reached: &Frozen, next: &Frozen) -> Result<Joined, St
 {
     let before = store.thaw(reached)?;
     let step = store.thaw(next)?;
-    let fresh = without(store, step, before)?;
+    let fresh = rest(store, step, before)?;
     let all = store.or(step, before)?;
     Ok(Joined { fresh, all })
 }
@@ -84,7 +87,8 @@ fn extend_in(
     Ok(take_sets(store, &joined)?)
 }
 
-/// What of `next` is not in `reached`, and both together, or none where nothing is new.
+/// What of `next` is not in `reached`, and both together, or none where nothing is new. Of two sets of control states both are such.
+/// The store is left as it was.
 pub fn extend(
     store: &mut Store,
     reached: &Frozen,
@@ -92,13 +96,45 @@ pub fn extend(
 ) -> Result<Option<Extended>, StoreFault>
     requires reached { IsOrderedOver store.old.variables reached.now }
     requires next { IsOrderedOver store.old.variables next.now }
-    ensures same { store.new ≡ store.old }
-    ensures roomy { IsErrOf result StoreFault.Nodes → store.old.limit < 2 ^ (2 ^ store.old.variables) }
     ensures exact { IfOk result (λ found. MatchOption found ((v : Valuation) → fresh_of reached.now next.now v ≡ false)
         (IsExtended store.old.variables reached.now next.now)) }
+    ensures control { (s : System) → store.old.variables ≡ s.variables → IsControlSet s reached.now → IsControlSet s next.now
+        → IfOk result (λ found. (e : ExtendedModel) → found ≡ Some e → IsControlSet s e.fresh × IsControlSet s e.all) }
+    ensures same { store.new ≡ store.old }
+    ensures roomy { IsErrOf result StoreFault.Nodes → store.old.limit < 2 ^ (2 ^ store.old.variables) }
 {
     let mark = store.mark();
     let answer = extend_in(store, reached, next);
+    store.release(mark);
+    answer
+}
+
+/// What of the first set is not in the second, with what was built of it.
+fn without_in(store: &mut Store, a: &Frozen, b: &Frozen) -> Result<Frozen, StoreFault>
+    requires a { IsOrderedOver store.old.variables a.now }
+    requires b { IsOrderedOver store.old.variables b.now }
+    ensures extends { Extends store.old store.new }
+    ensures roomy { IsErrOf result StoreFault.Nodes → store.old.limit < 2 ^ (2 ^ store.old.variables) }
+    ensures exact { IfOk result (IsWithout store.old.variables a.now b.now) }
+{
+    let one = store.thaw(a)?;
+    let other = store.thaw(b)?;
+    let left = rest(store, one, other)?;
+    Ok(store.freeze(left)?)
+}
+
+/// What of the first set is not in the second: a set of control states where both are. The store is left as it was.
+pub fn without(store: &mut Store, a: &Frozen, b: &Frozen) -> Result<Frozen, StoreFault>
+    requires a { IsOrderedOver store.old.variables a.now }
+    requires b { IsOrderedOver store.old.variables b.now }
+    ensures exact { IfOk result (IsWithout store.old.variables a.now b.now) }
+    ensures control { (s : System) → store.old.variables ≡ s.variables → IsControlSet s a.now → IsControlSet s b.now
+        → IfOk result (IsControlSet s) }
+    ensures same { store.new ≡ store.old }
+    ensures roomy { IsErrOf result StoreFault.Nodes → store.old.limit < 2 ^ (2 ^ store.old.variables) }
+{
+    let mark = store.mark();
+    let answer = without_in(store, a, b);
     store.release(mark);
     answer
 }

@@ -8,7 +8,7 @@ ghost use Rattle.rv_proofs.specs.Boxes.{HasGoodBox};
 ghost use Rattle.rv_proofs.specs.Reached.{HasNoIntegers};
 ghost use Rattle.rv_proofs.specs.declared.certificate.Certificate.{Certificate};
 ghost use Rattle.rv_proofs.specs.declared.report.Layers.{Layers};
-ghost use Rattle.rv_symbolic.specs.Represented.{store_of, parts_of, IsSymbolicOf};
+ghost use Rattle.rv_symbolic.specs.Represented.{parts_of, IsRelationOf};
 ghost use Rattle.rv_walk.specs.Ends.{has, IsGoodCertificate, AreBadLayers, IsEnd, IsGoodEnd};
 ghost use Rattle.rv_walk.specs.Walks.{missing, IsWalk, IsDone, IsWalking};
 
@@ -16,9 +16,9 @@ use crate::certify::certify;
 use crate::end::BoxEnd;
 use crate::sets::{Extended, extend};
 use rv_base::Many;
-use rv_diagram::{Frozen, StoreFault};
+use rv_diagram::{Frozen, Store, StoreFault};
 use rv_proofs::{Layers, certificates_are_safe, control_claims};
-use rv_symbolic::Symbolic;
+use rv_symbolic::Relation;
 use std::alloc::Global;
 
 /// The layers so far, their union, and whether the observer was true.
@@ -37,20 +37,20 @@ fn both(a: bool, b: bool) -> bool
 }
 
 /// A layer more. False where none is left.
-fn advance(symbolic: &mut Symbolic, walk: &mut Progress) -> Result<bool, StoreFault>
-    requires { (s : System) × IsSymbolicOf s symbolic.old × IsWalk s walk.old.sets walk.old.reached walk.old.good }
-    ensures ok { (s : System) → IsSymbolicOf s symbolic.old → IsWalk s walk.old.sets walk.old.reached walk.old.good
+fn advance(store: &mut Store, relation: &Relation, walk: &mut Progress) -> Result<bool, StoreFault>
+    requires { (s : System) × IsRelationOf s store.old relation.now × IsWalk s walk.old.sets walk.old.reached walk.old.good }
+    ensures ok { (s : System) → IsRelationOf s store.old relation.now → IsWalk s walk.old.sets walk.old.reached walk.old.good
         → IfOk result (λ more. IsWalking s more walk.new.sets walk.new.reached walk.new.good) }
-    ensures less { IfOk result (λ more. IsTrue more → (v : Valuation) → missing (length (parts_of symbolic.old).next) (has walk.new.reached) v
-        < missing (length (parts_of symbolic.old).next) (has walk.old.reached) v) }
+    ensures less { IfOk result (λ more. IsTrue more → (v : Valuation) → missing (length (parts_of relation.now).next) (has walk.new.reached) v
+        < missing (length (parts_of relation.now).next) (has walk.old.reached) v) }
     ensures still { IfOk result (λ more. more ≡ false → walk.new.reached ≡ walk.old.reached) }
-    ensures same { symbolic.new ≡ symbolic.old }
-    ensures roomy { IsErrOf result StoreFault.Nodes → (store_of symbolic.old).limit < 2 ^ (2 ^ (store_of symbolic.old).variables) }
+    ensures same { store.new ≡ store.old }
+    ensures roomy { IsErrOf result StoreFault.Nodes → store.old.limit < 2 ^ (2 ^ store.old.variables) }
 {
     let last = walk.sets.len() - 1;
-    let step = symbolic.next_states(walk.sets.at(last))?;
+    let step = relation.next_states(store, walk.sets.at(last))?;
     let good = both(walk.good, step.good);
-    let extended = extend(symbolic.store(), &walk.reached, &step.set)?;
+    let extended = extend(store, &walk.reached, &step.set)?;
     let Some(extended) = extended else {
         walk.good = good;
         return Ok(false);
@@ -63,14 +63,14 @@ fn advance(symbolic: &mut Symbolic, walk: &mut Progress) -> Result<bool, StoreFa
 }
 
 /// All layers.
-fn explore(alloc: Global, symbolic: &mut Symbolic) -> Result<Progress, StoreFault>
-    requires { (s : System) × IsSymbolicOf s symbolic.old }
-    ensures ok { (s : System) → IsSymbolicOf s symbolic.old → IfOk result (λ w. IsDone s w.sets w.reached w.good) }
-    ensures same { symbolic.new ≡ symbolic.old }
-    ensures roomy { IsErrOf result StoreFault.Nodes → (store_of symbolic.old).limit < 2 ^ (2 ^ (store_of symbolic.old).variables) }
+fn explore(alloc: Global, store: &mut Store, relation: &Relation) -> Result<Progress, StoreFault>
+    requires { (s : System) × IsRelationOf s store.old relation.now }
+    ensures ok { (s : System) → IsRelationOf s store.old relation.now → IfOk result (λ w. IsDone s w.sets w.reached w.good) }
+    ensures same { store.new ≡ store.old }
+    ensures roomy { IsErrOf result StoreFault.Nodes → store.old.limit < 2 ^ (2 ^ store.old.variables) }
 {
-    let first = symbolic.initial()?;
-    let reached = symbolic.initial()?;
+    let first = relation.initial(store)?;
+    let reached = relation.initial(store)?;
     let mut sets = Many::new(alloc);
     sets.push(first)?;
     let mut walk = Progress {
@@ -80,20 +80,20 @@ fn explore(alloc: Global, symbolic: &mut Symbolic) -> Result<Progress, StoreFaul
     };
     let mut more = true;
     while more {
-        more = advance(symbolic, &mut walk)?;
+        more = advance(store, relation, &mut walk)?;
     }
     Ok(walk)
 }
 
 /// How the walk ends.
-fn end_of(alloc: Global, symbolic: &mut Symbolic) -> Result<BoxEnd, StoreFault>
-    requires { (s : System) × IsSymbolicOf s symbolic.old × HasNoIntegers s }
-    ensures ends { (s : System) → IsSymbolicOf s symbolic.old → HasNoIntegers s → IfOk result (IsEnd s) }
-    ensures same { symbolic.new ≡ symbolic.old }
-    ensures roomy { IsErrOf result StoreFault.Nodes → (store_of symbolic.old).limit < 2 ^ (2 ^ (store_of symbolic.old).variables) }
+fn end_of(alloc: Global, store: &mut Store, relation: &Relation) -> Result<BoxEnd, StoreFault>
+    requires { (s : System) × IsRelationOf s store.old relation.now × HasNoIntegers s }
+    ensures ends { (s : System) → IsRelationOf s store.old relation.now → HasNoIntegers s → IfOk result (IsEnd s) }
+    ensures same { store.new ≡ store.old }
+    ensures roomy { IsErrOf result StoreFault.Nodes → store.old.limit < 2 ^ (2 ^ store.old.variables) }
 {
     control_claims();
-    let walk = explore(alloc, symbolic)?;
+    let walk = explore(alloc, store, relation)?;
     let Progress {
         sets,
         reached,
@@ -102,24 +102,24 @@ fn end_of(alloc: Global, symbolic: &mut Symbolic) -> Result<BoxEnd, StoreFault>
     if !good {
         return Ok(BoxEnd::Bad(Layers { sets }));
     }
-    let cases = symbolic.cases(&reached)?;
+    let cases = relation.cases(alloc, store, &reached)?;
     Ok(BoxEnd::Good(certify(alloc, reached, cases)?))
 }
 
 /// The control states that a system without integers reaches, layer by layer, each from what is new in the one before.
 /// Good has a certificate whose one location holds them, and comes exactly where a closed good box claim exists, which is
 /// exactly where the observer is true along each run. Bad has the layers.
-pub fn walk(alloc: Global, symbolic: &mut Symbolic) -> Result<BoxEnd, StoreFault>
-    requires { (s : System) × IsSymbolicOf s symbolic.old × HasNoIntegers s }
-    ensures good { (s : System) (c : Certificate) → IsSymbolicOf s symbolic.old → HasNoIntegers s → result ≡ Ok (BoxEnd.Good c) → IsGoodCertificate s c }
-    ensures bad { (s : System) (l : Layers) → IsSymbolicOf s symbolic.old → HasNoIntegers s → result ≡ Ok (BoxEnd.Bad l) → AreBadLayers s l }
-    ensures exactly { (s : System) (thresholds : List ℤ) → IsSymbolicOf s symbolic.old → HasNoIntegers s
+pub fn walk(alloc: Global, store: &mut Store, relation: &Relation) -> Result<BoxEnd, StoreFault>
+    requires { (s : System) × IsRelationOf s store.old relation.now × HasNoIntegers s }
+    ensures good { (s : System) (c : Certificate) → IsRelationOf s store.old relation.now → HasNoIntegers s → result ≡ Ok (BoxEnd.Good c) → IsGoodCertificate s c }
+    ensures bad { (s : System) (l : Layers) → IsRelationOf s store.old relation.now → HasNoIntegers s → result ≡ Ok (BoxEnd.Bad l) → AreBadLayers s l }
+    ensures exactly { (s : System) (thresholds : List ℤ) → IsRelationOf s store.old relation.now → HasNoIntegers s
         → IfOk result (λ e. IsGoodEnd e ↔ HasGoodBox s thresholds) }
-    ensures decides { (s : System) → IsSymbolicOf s symbolic.old → HasNoIntegers s → IfOk result (λ e. IsGoodEnd e ↔ IsSafeSystem s) }
-    ensures same { symbolic.new ≡ symbolic.old }
-    ensures roomy { IsErrOf result StoreFault.Nodes → (store_of symbolic.old).limit < 2 ^ (2 ^ (store_of symbolic.old).variables) }
+    ensures decides { (s : System) → IsRelationOf s store.old relation.now → HasNoIntegers s → IfOk result (λ e. IsGoodEnd e ↔ IsSafeSystem s) }
+    ensures same { store.new ≡ store.old }
+    ensures roomy { IsErrOf result StoreFault.Nodes → store.old.limit < 2 ^ (2 ^ store.old.variables) }
 {
     control_claims();
     certificates_are_safe();
-    end_of(alloc, symbolic)
+    end_of(alloc, store, relation)
 }

@@ -1,10 +1,10 @@
 use Rattle.std.proofs.Common.{◌≡◌, ◌∙◌, ◌+◌, ◌-◌, ◌∷◌, [], Bool, List, Option, Some, None, length, length-append, get_or, ap, subst, sym, arith}
 use Rattle.std.proofs.lemmas.Option.{get_or_from_slice_get}
-use Rattle.rv_diagram.specs.Nodes.{Valuation}
+use Rattle.rv_diagram.specs.Nodes.{Diagrams, Valuation}
 use Rattle.rv_diagram.specs.declared.frozen.Frozen.{Frozen}
 use Rattle.rv_proofs.specs.Systems.{System}
 use Rattle.rv_proofs.specs.Ranges.{IsControlSet}
-use Rattle.rv_symbolic.specs.Represented.{IsSymbolicOf}
+use Rattle.rv_symbolic.specs.Represented.{IsRelationOf}
 use Rattle.rv_symbolic.specs.Words.{IsLeastOf, IsLeastWord, LeadsTo}
 use Rattle.rv_walk.specs.Trails.{IsTrail}
 use Rattle.rv_walk.proofs.Trailing.{layer_control, trail_more, trail_broken}
@@ -18,7 +18,7 @@ leading-requires c =
     let word : c.as_slice.result.now ≡ get_or c.loop-back.words c.loop-back.back [] = c.as_slice.ensures
     ∙ sym (get_or_from_slice_get c.loop-back.words c.loop-back.back c.at.result.now [] c.at.ensures.value) in (
       s,
-      subst (IsSymbolicOf s) (sym c.loop-back.invariant.same) c.requires.1,
+      subst (λ (d : Diagrams). IsRelationOf s d c.args.relation.now) (sym c.loop-back.invariant.same) c.requires.1,
       subst (IsControlSet s) (sym c.layer_at-before.ensures)
           (layer_control s c.args.first.now c.args.layers.now.sets (c.args.failing.layer - 1 - c.loop-back.back) c.requires.2
           (omega (arith, c.requires.3.low, c.loop-back-test.true))),
@@ -35,7 +35,7 @@ returns-in_default-clause-trailed c s is are f =
     (omega (arith, f.low, c.loop-back-test.true))) in
     let none : IsLeastOf s (LeadsTo s c.layer_at-before.result.now c.as_slice.result.now) None =
     subst (λ (o : Option (List Bool)). IsLeastOf s (LeadsTo s c.layer_at-before.result.now c.as_slice.result.now) o) c.in_default.is
-    (c.in_ok-found.ensures.exact s (subst (IsSymbolicOf s) (sym c.loop-back.invariant.same) is) control) in
+    (c.in_ok-found.ensures.exact s (subst (λ (d : Diagrams). IsRelationOf s d c.args.relation.now) (sym c.loop-back.invariant.same) is) control) in
     trail_broken s c.args.first.now c.args.layers.now.sets c.args.failing.layer c.loop-back.back c.loop-back.words c.loop-back.invariant.count
     c.loop-back-test.true t f.low
     (subst (λ (set : Frozen). (v : Valuation) → ¬ LeadsTo s set (get_or c.loop-back.words c.loop-back.back []) v) c.layer_at-before.ensures
@@ -54,7 +54,7 @@ loop-back-preserved c = record {
       (omega (arith, f.low, c.loop-back-test.true))) in
       let least : IsLeastOf s (LeadsTo s c.layer_at-before.result.now c.as_slice.result.now) (Some c.in-Some.word) =
       subst (λ (o : Option (List Bool)). IsLeastOf s (LeadsTo s c.layer_at-before.result.now c.as_slice.result.now) o) c.in-Some.is
-      (c.in_ok-found.ensures.exact s (subst (IsSymbolicOf s) (sym c.loop-back.invariant.same) is) control) in
+      (c.in_ok-found.ensures.exact s (subst (λ (d : Diagrams). IsRelationOf s d c.args.relation.now) (sym c.loop-back.invariant.same) is) control) in
       subst (IsTrail s c.args.first.now c.args.layers.now.sets c.args.failing.layer) (sym c.in_ok-push-2.ensures.ok)
       (trail_more s c.args.first.now c.args.layers.now.sets c.args.failing.layer c.loop-back.back c.loop-back.words c.loop-back.invariant.count
       c.loop-back-test.true t c.in-Some.word

@@ -1,16 +1,11 @@
-use Rattle.std.proofs.Common.{◌∙◌}
-use Rattle.rv_diagram.specs.Nodes.{Answers, choice, value_of}
-use Rattle.rv_symbolic.proofs.Extending.{grows_extends, map_ok}
-use Rattle.rv_walk.proofs.Joining.{none_or}
+use Rattle.std.proofs.Common.{ℕ, subst}
+use Rattle.rv_symbolic.proofs.Extending.{map_ok}
+use Rattle.rv_walk.specs.Extended.{IsWithout}
+use Rattle.rv_walk.proofs.Joining.{without_control}
 use Rattle.rv_walk.proofs.sets.without.Goals as goal
 
-pub returns-clause-ok : goal.returns-clause-ok
-returns-clause-ok c =
-    map_ok c.ite.result (λ r. Answers c.args.store.now c.ite.new.self (choice c.args.store.now.nodes c.args.b c.constant-nothing.result c.args.a) r) _
-    (λ r t. record {
-      extends = grows_extends c.args.store.now c.ite.new.self t.grows;
-      found = t.found;
-      means = λ v. t.means v ∙ none_or (value_of c.args.store.now.nodes c.args.a v) (value_of c.args.store.now.nodes c.args.b v)
-          (value_of c.args.store.now.nodes c.constant-nothing.result v) (c.constant-nothing.ensures.means v);
-    })
-    c.ite.ensures.ok
+pub returns-clause-control : goal.returns-clause-control
+returns-clause-control c s is left right =
+    map_ok c.without_in-answer.result (IsWithout c.args.store.now.variables c.args.a.now c.args.b.now) _
+    (λ f h. without_control s c.args.b.now c.args.a.now right left f
+    (subst (λ (m : ℕ). IsWithout m c.args.a.now c.args.b.now f) is h)) c.without_in-answer.ensures.exact

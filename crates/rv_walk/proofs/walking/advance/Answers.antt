@@ -3,7 +3,6 @@ use Rattle.rv_diagram.specs.Nodes.{Valuation, Diagrams, IsOrderedOver}
 use Rattle.rv_diagram.specs.declared.frozen.Frozen.{Frozen}
 use Rattle.rv_proofs.specs.Systems.{System}
 use Rattle.rv_proofs.specs.Ranges.{IsControlSet}
-use Rattle.rv_symbolic.specs.declared.symbolic.Symbolic.{Symbolic}
 use Rattle.rv_symbolic.specs.Stepped.{AreNextStates}
 use Rattle.rv_walk.specs.Ends.{has}
 use Rattle.rv_walk.specs.Extended.{fresh_of, IsExtended}
@@ -27,8 +26,7 @@ extend-requires-clause-next c =
     c.at.ensures.value in
     let control : IsControlSet c.requires.0 c.at.result.now = subst (IsControlSet c.requires.0) e (c.requires.2.layers
     (length c.args.walk.now.sets - 1) (omega (arith, c.requires.2.some))).control in
-    let variables : c.store.result.now.variables ≡ c.requires.0.variables = ap (λ (d : Diagrams). d.variables) c.store.ensures.is
-    ∙ ap (λ (y : Symbolic). y.store.variables) c.next_states.ensures.same ∙ c.requires.1.parts.variables in
+    let variables : c.next_states.new.store.variables ≡ c.requires.0.variables = ap (λ (d : Diagrams). d.variables) c.next_states.ensures.same ∙ c.requires.1.parts.variables in
     subst (λ (m : ℕ). IsOrderedOver m c.in_ok-step.step.set) (sym variables) (c.in_ok-step.ensures.exact c.requires.0 c.requires.1 control).control.ordered
 
 pub returns-in_default-clause-ok : goal.returns-in_default-clause-ok
@@ -49,9 +47,8 @@ returns-clause-ok c s is w =
     let control : IsControlSet s c.at.result.now = subst (IsControlSet s) e (w.layers (length c.args.walk.now.sets - 1) (omega (arith, w.some))).control in
     let st : AreNextStates s (last_of c.args.walk.now.sets) c.in_ok-step.step = subst (λ (f : Frozen). AreNextStates s f c.in_ok-step.step) (sym e)
     (c.in_ok-step.ensures.exact s is control) in
-    let variables : c.store.result.now.variables ≡ s.variables = ap (λ (d : Diagrams). d.variables) c.store.ensures.is
-    ∙ ap (λ (y : Symbolic). y.store.variables) c.next_states.ensures.same ∙ is.parts.variables in
-    let some : IsExtended c.store.result.now.variables c.args.walk.now.reached c.in_ok-step.step.set c.in-Some.extended = rw c.in-Some.is at
+    let variables : c.next_states.new.store.variables ≡ s.variables = ap (λ (d : Diagrams). d.variables) c.next_states.ensures.same ∙ is.parts.variables in
+    let some : IsExtended c.next_states.new.store.variables c.args.walk.now.reached c.in_ok-step.step.set c.in-Some.extended = rw c.in-Some.is at
     c.in_ok-extended.ensures.exact in
     let x : IsExtended s.variables c.args.walk.now.reached c.in_ok-step.step.set c.in-Some.extended = subst (λ
     (m : ℕ). IsExtended m c.args.walk.now.reached c.in_ok-step.step.set c.in-Some.extended) variables some in
@@ -69,9 +66,8 @@ returns-clause-less c _ v =
     let control : IsControlSet s c.at.result.now = subst (IsControlSet s) e (w.layers (length c.args.walk.now.sets - 1) (omega (arith, w.some))).control in
     let st : AreNextStates s (last_of c.args.walk.now.sets) c.in_ok-step.step = subst (λ (f : Frozen). AreNextStates s f c.in_ok-step.step) (sym e)
     (c.in_ok-step.ensures.exact s is control) in
-    let variables : c.store.result.now.variables ≡ s.variables = ap (λ (d : Diagrams). d.variables) c.store.ensures.is
-    ∙ ap (λ (y : Symbolic). y.store.variables) c.next_states.ensures.same ∙ is.parts.variables in
-    let some : IsExtended c.store.result.now.variables c.args.walk.now.reached c.in_ok-step.step.set c.in-Some.extended = rw c.in-Some.is at
+    let variables : c.next_states.new.store.variables ≡ s.variables = ap (λ (d : Diagrams). d.variables) c.next_states.ensures.same ∙ is.parts.variables in
+    let some : IsExtended c.next_states.new.store.variables c.args.walk.now.reached c.in_ok-step.step.set c.in-Some.extended = rw c.in-Some.is at
     c.in_ok-extended.ensures.exact in
     let x : IsExtended s.variables c.args.walk.now.reached c.in_ok-step.step.set c.in-Some.extended = subst (λ
     (m : ℕ). IsExtended m c.args.walk.now.reached c.in_ok-step.step.set c.in-Some.extended) variables some in

@@ -1,6 +1,7 @@
 use Rattle.std.proofs.Common.{Bool, true, sym, subst}
+use Rattle.rv_diagram.specs.Nodes.{Diagrams}
 use Rattle.rv_proofs.specs.Cases.{AreCases}
-use Rattle.rv_symbolic.specs.Represented.{IsSymbolicOf}
+use Rattle.rv_symbolic.specs.Represented.{IsRelationOf}
 use Rattle.rv_walk.specs.Ends.{IsGoodCertificate}
 use Rattle.rv_walk.specs.Walks.{IsDone}
 use Rattle.rv_walk.proofs.Ending.{done_bad, done_good}
@@ -15,7 +16,7 @@ pub returns-clause-ends : goal.returns-clause-ends
 returns-clause-ends c s is without =
     let d : IsDone s c.in_ok-walk.walk.sets c.in_ok-walk.walk.reached true =
     subst (λ (b : Bool). IsDone s c.in_ok-walk.walk.sets c.in_ok-walk.walk.reached b) c.if-not-good.false (c.in_ok-walk.ensures.ok s is) in
-    let still : IsSymbolicOf s c.explore.new.symbolic = subst (IsSymbolicOf s) (sym c.explore.ensures.same) is in
+    let still : IsRelationOf s c.explore.new.store c.args.relation.now = subst (λ (d : Diagrams). IsRelationOf s d c.args.relation.now) (sym c.explore.ensures.same) is in
     let a : AreCases s c.in_ok-walk.walk.reached c.in_ok-cases.cases = c.in_ok-cases.ensures.parted s still without d.control in
     subst (IsGoodCertificate s) (sym c.in_ok-certify.ensures)
     (done_good s c.in_ok-walk.walk.sets c.in_ok-walk.walk.reached c.in_ok-cases.cases d a c.in_ok-cases.ensures.few)

@@ -4,7 +4,7 @@ use Rattle.rv_symbolic.specs.Linked.{quantified}
 use Rattle.rv_symbolic.specs.Stepped.{IsAStep}
 use Rattle.rv_symbolic.proofs.Extending.{image_forgets}
 use Rattle.rv_symbolic.proofs.Projecting.{projected_from, step_found, judged}
-use Rattle.rv_symbolic.proofs.symbolic.take_step.Goals as goal
+use Rattle.rv_symbolic.proofs.relation.take_step.Goals as goal
 
 pub returns-clause-copies : goal.returns-clause-copies
 returns-clause-copies c =
