@@ -1,0 +1,16 @@
+use Rattle.std.proofs.Common.{◌≡◌, ◌&&◌, drop}
+use Rattle.rv_diagram.specs.Nodes.{Valuation, IsRef, value_of}
+use Rattle.rv_control.specs.Control.{memories_named}
+use Rattle.rv_control.specs.Named.{named}
+use Rattle.rv_flat.specs.FlatInstants.{system_of}
+use Rattle.rv_flat.specs.Steps.{label_counts}
+use Rattle.rv_symbolic.specs.Growing.{Extends}
+use Rattle.rv_bits.proofs.coded.memories_named.Given as goal
+
+abbrev pub invariant-loop-number : goal.invariant-loop-number
+invariant-loop-number l = record {
+  extends : Extends l.initial.store l.store;
+  is_ref : IsRef l.store.nodes l.all;
+  means : (v : Valuation) → (value_of l.store.nodes l.all v && memories_named (label_counts l.flat) (named l.flat v) (drop l.number (system_of l.flat).memories))
+      ≡ memories_named (label_counts l.flat) (named l.flat v) (system_of l.flat).memories;
+}

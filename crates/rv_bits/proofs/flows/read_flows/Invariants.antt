@@ -1,0 +1,9 @@
+use Rattle.rv_bits.specs.Flows.{AreFlowsRead}
+use Rattle.rv_bits.specs.Shown.{AreAfter}
+use Rattle.rv_bits.proofs.flows.read_flows.Given as goal
+
+abbrev pub invariant-loop-flow : goal.invariant-loop-flow
+invariant-loop-flow l = record {
+  read : AreFlowsRead l.flat l.initial.store l.store l.flow-index l.read;
+  shown : AreAfter l.flat l.store.nodes l.shown;
+}

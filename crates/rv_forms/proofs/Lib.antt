@@ -1,0 +1,9 @@
+pub mod Bounds
+pub mod Kept
+pub mod Shapes
+pub mod Showing
+pub mod Ranks
+pub mod Flowing
+pub mod Answering
+pub mod Steps
+pub mod Taken

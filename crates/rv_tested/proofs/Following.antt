@@ -1,0 +1,151 @@
+-- Steps over comparisons and over tests.
+use Rattle.std.proofs.Common.{◌≡◌, ◌⊎◌, inl, inr, ℕ, zero, suc, ◌+◌, ◌-◌, ◌<◌, ◌≤◌, true, List, [], ◌∷◌, ◌++◌, length, length-append, map, take, drop, refl, sym, ◌∙◌, ap, subst, ⊎_elim, arith, Option, Some, Result, Ok, Err, OnOk}
+use Rattle.std.proofs.Common.{None as Nothing}
+use Rattle.std.specs.Prelude.{slice_get, slice_index_or}
+use Rattle.std.proofs.lemmas.Bool.{cases_lt}
+use Rattle.std.proofs.lemmas.List.{length-map, get_or_append_left, get_or_push, get_or-map}
+use Rattle.std.proofs.lemmas.Option.{get_or_from_slice_get}
+use Rattle.rv_types.specs.declared.typed.Kind.TheVariants as kind
+use Rattle.rv_types.specs.Lists.{Variable, MainTick, Tick, Kept, Next, Input, Test}
+use Rattle.rv_rows.specs.declared.linear.Row.{Row}
+use Rattle.rv_diagram.specs.declared.Triple.{Triple}
+use Rattle.rv_diagram.specs.Nodes.{Valuation, Diagrams}
+use Rattle.rv_agreement.specs.Agreement.{Fits, IsNamed}
+use Rattle.rv_agreement.specs.Trees.{FlatTree}
+use Rattle.rv_agreement.specs.Valuations.{Reading, IsSymbolic}
+use Rattle.rv_flat.specs.declared.flat.Flat.{Flat}
+use Rattle.rv_flat.specs.declared.parts.Bit.{Bit}
+use Rattle.rv_flat.specs.FlatInstants.{system_of}
+use Rattle.rv_flat.specs.Lists.{variable_of}
+use Rattle.rv_flat.specs.Systems.{flow_item}
+use Rattle.rv_flat.specs.Tame.{IsOver}
+use Rattle.rv_control.specs.Control.{control_of, order_tests}
+use Rattle.rv_control.specs.Named.{named, variables_of}
+use Rattle.rv_symbolic.specs.Growing.{Extends}
+use Rattle.rv_bits.specs.declared.around.FlowRefs.{FlowRefs}
+use Rattle.rv_bits.specs.Shown.{AreFlowRefs, clock_bit, is_there_at}
+use Rattle.rv_bits.proofs.Fitting.{over_fits}
+use Rattle.rv_cases.specs.Conditions.{list_at}
+use Rattle.rv_cases.specs.Questions.{rows_at}
+use Rattle.rv_cases.proofs.Lists.{got-append}
+use Rattle.rv_tested.specs.declared.compared.Compared.{Compared}
+use Rattle.rv_tested.specs.declared.rows.Answered.{Answered}
+use Rattle.rv_tested.specs.declared.testing.Sides.{Sides}
+use Rattle.rv_tested.specs.Compared.{comparison_in}
+use Rattle.rv_tested.specs.Exact.{IsTestRead, row_answer}
+use Rattle.rv_tested.specs.Rows.{IsAnswered}
+use Rattle.rv_tested.specs.Testing.{AreSidesRead, AreTestsRead, row_of_variable}
+use Rattle.rv_tested.proofs.Asking.{exact_later}
+use Rattle.rv_tested.proofs.Rowing.{answered_as, answered_exact}
+use Rattle.rv_tested.proofs.Siding.{sides_later}
+
+pub over_inside : (f : Flat) (n : ℕ) (k : Option ℕ) (t : FlatTree) → Fits (system_of f) (length (system_of f).flows) k kind.Int t → n ≡ length f.flows
+    → IsOver n t
+over_inside f n k t fit e = subst (λ m. IsOver m t) (length-map f.flows (flow_item f.memories) ∙ sym e)
+    (over_fits (system_of f) (length (system_of f).flows) k kind.Int t fit)
+
+-- whether a clock is there, by the references of the flows
+pub clock_there : (f : Flat) (nodes : List Triple) (r : FlowRefs) → AreFlowRefs f nodes r → length r.on ≡ length f.flows → (k : Option ℕ)
+    → IsNamed (length (system_of f).flows) k → (v : Valuation) (row : List (Option Reading)) → IsSymbolic (system_of f) (named f v) row
+    → clock_bit nodes r.on k v ≡ is_there_at f v row k
+clock_there f nodes r are all Nothing is v row instant = refl
+clock_there f nodes r are all (Some c) is v row instant =
+    are.on_shows c v row (let e = length-map f.flows (flow_item f.memories) in omega (arith, is, all, e)) instant
+
+-- one comparison more is read
+pub read_more : (f : Flat) (a b : Diagrams) (cs : List Compared) (xs : List Sides) (c : Compared) (x : Sides) → Extends a b
+    → slice_get cs (length xs) ≡ Some c
+    → ((i : ℕ) (d : Compared) (y : Sides) → slice_get cs i ≡ Some d → slice_get xs i ≡ Some y → AreSidesRead f a.nodes (comparison_in f.memories d) y)
+    → AreSidesRead f b.nodes (comparison_in f.memories c) x
+    → (i : ℕ) (d : Compared) (y : Sides) → slice_get cs i ≡ Some d → slice_get (xs ++ x ∷ []) i ≡ Some y → AreSidesRead f b.nodes (comparison_in f.memories d) y
+read_more f a b cs xs c x e at before here i d y one two = ⊎_elim
+    (λ old. sides_later f a b (comparison_in f.memories d) y e (before i d y one old.1))
+    (λ new.
+    let same : c ≡ d = some_is c d (sym at ∙ ap (λ n. slice_get cs n) (sym new.0) ∙ one) in
+    subst (λ (z : Compared). AreSidesRead f b.nodes (comparison_in f.memories z) y) same
+    (subst (λ (z : Sides). AreSidesRead f b.nodes (comparison_in f.memories c) z) new.1 here))
+    (got-append xs x y i two)
+  where
+    some_is : (p q : Compared) → Some p ≡ Some q → p ≡ q
+    some_is p q z = cc
+
+-- COUNTS
+
+-- one variable more
+pub tests_more : (x : Variable) (xs : List Variable) → order_tests (x ∷ xs) ≡ order_tests (x ∷ []) + order_tests xs
+unfolding order_tests
+tests_more MainTick xs = omega arith
+tests_more (Tick p) xs = omega arith
+tests_more (Kept p b) xs = omega arith
+tests_more Next xs = omega arith
+tests_more (Input j b) xs = omega arith
+tests_more (Test p side) xs = omega arith
+
+pub no_tests : order_tests [] ≡ 0
+unfolding order_tests
+no_tests = refl
+
+pub at_most_one : (x : Variable) → order_tests (x ∷ []) ≤ 1
+unfolding order_tests
+at_most_one MainTick = omega arith
+at_most_one (Tick p) = omega arith
+at_most_one (Kept p b) = omega arith
+at_most_one Next = omega arith
+at_most_one (Input j b) = omega arith
+at_most_one (Test p side) = omega arith
+
+-- THE NEXT TEST
+
+-- the variable of a test
+pub variable_there : (f : Flat) (i t : ℕ) (x : Bit) → slice_get f.variables i ≡ Some x
+    → i ≡ length (variables_of f) - order_tests (variables_of f) + t → i < length f.variables
+    → slice_index_or (variables_of f) (length (variables_of f) - order_tests (variables_of f) + t) Next ≡ variable_of x
+variable_there f i t x got e lt =
+    ap (λ n. slice_index_or (variables_of f) n Next) (sym e) ∙ get_or-map variable_of f.variables i x Next lt
+    ∙ ap variable_of (get_or_from_slice_get f.variables i x x got)
+
+pub test_answered : (f : Flat) (nodes : List Triple) (t : ℕ) (x : Variable) (a : Answered)
+    → slice_index_or (variables_of f) (length (variables_of f) - order_tests (variables_of f) + t) Next ≡ x
+    → IsAnswered nodes (row_of_variable f x) a → IsTestRead (control_of f) nodes t a.refs a.rows
+test_answered f nodes t x a e is =
+    answered_exact nodes (λ v. (control_of f).row v t) a
+    (answered_as nodes (row_of_variable f x) (λ v. (control_of f).row v t) a (λ v. ap (λ y. row_of_variable f y v) (sym e)) is)
+
+-- the questions of one test more
+pub one_test_more : (f : Flat) (a b : Diagrams) (n : ℕ) (questions : List (List ℕ)) (rows : List (List Row)) (x : Answered) → Extends a b
+    → AreTestsRead f a.nodes n questions rows → IsTestRead (control_of f) b.nodes n x.refs x.rows
+    → AreTestsRead f b.nodes (n + 1) (questions ++ x.refs ∷ []) (rows ++ x.rows ∷ [])
+one_test_more f a b n questions rows x e before here = record {
+  many = length-append questions (x.refs ∷ []) ∙ ap (λ m. m + 1) before.many;
+  many_rows = length-append rows (x.rows ∷ []) ∙ ap (λ m. m + 1) before.many_rows;
+  each = λ t lt. elim (cases_lt t n) [
+    | inl less ↦
+        subst (λ (l : List ℕ). IsTestRead (control_of f) b.nodes t l (rows_at (rows ++ x.rows ∷ []) t))
+        (sym (get_or_append_left questions (x.refs ∷ []) [] t (omega (arith, less, before.many))))
+        (subst (λ (l : List Row). IsTestRead (control_of f) b.nodes t (list_at questions t) l)
+        (sym (get_or_append_left rows (x.rows ∷ []) [] t (omega (arith, less, before.many_rows))))
+        (exact_later (Option Row) a b (λ v. (control_of f).row v t) (length (rows_at rows t) + 1) (row_answer (rows_at rows t)) (list_at questions t) e
+        (before.each t less)))
+    | inr ge ↦
+        let at : n ≡ t = omega arith in
+        subst (λ m. IsTestRead (control_of f) b.nodes m (list_at (questions ++ x.refs ∷ []) m) (rows_at (rows ++ x.rows ∷ []) m)) at
+        (subst (λ (l : List ℕ). IsTestRead (control_of f) b.nodes n l (rows_at (rows ++ x.rows ∷ []) n)) (sym (get_or_push questions x.refs [] n before.many))
+        (subst (λ (l : List Row). IsTestRead (control_of f) b.nodes n x.refs l) (sym (get_or_push rows x.rows [] n before.many_rows)) here))
+  ];
+}
+
+pub none_read : (f : Flat) (nodes : List Triple) (questions : List (List ℕ)) (rows : List (List Row)) → questions ≡ [] → rows ≡ []
+    → AreTestsRead f nodes 0 questions rows
+none_read f nodes questions rows one two = record {
+  many = ap (λ (l : List (List ℕ)). length l) one;
+  many_rows = ap (λ (l : List (List Row)). length l) two;
+  each = λ t lt. absurd (omega arith);
+}
+
+pub on_ok_then : {A E : Type 0} (r : Result A E) (P Q : Type 0) → (P → Q) → OnOk r P → OnOk r Q
+on_ok_then (Ok x) P Q to p = to p
+on_ok_then (Err e) P Q to p = tt
+
+pub on_ok_always : {A E : Type 0} (r : Result A E) (P : Type 0) → P → OnOk r P
+on_ok_always (Ok x) P p = p
+on_ok_always (Err e) P p = tt

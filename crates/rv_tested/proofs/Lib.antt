@@ -1,0 +1,9 @@
+pub mod Putting
+pub mod Comparing
+pub mod Asking
+pub mod Inside
+pub mod Siding
+pub mod Rowing
+pub mod Assembling
+pub mod Gathered
+pub mod Following

@@ -1,0 +1,13 @@
+use Rattle.std.proofs.Common.{◌≡◌, ◌++◌, map, flat_map, drop}
+use Rattle.rv_agreement.specs.Valuations.{item_comparisons}
+use Rattle.rv_flat.specs.FlatInstants.{system_of}
+use Rattle.rv_flat.specs.Systems.{assertion_item}
+use Rattle.rv_tested.specs.Compared.{comparison_in}
+use Rattle.rv_tested.proofs.compared.gather_assertions.Given as goal
+
+abbrev pub invariant-loop-assertion : goal.invariant-loop-assertion
+invariant-loop-assertion l =
+    map (comparison_in l.flat.memories) l.found
+    ++ flat_map (item_comparisons (system_of l.flat).flows) (map (assertion_item l.flat.memories) (drop l.assertion-index l.flat.assertions))
+    ≡ map (comparison_in l.flat.memories) l.fn.found
+    ++ flat_map (item_comparisons (system_of l.flat).flows) (map (assertion_item l.flat.memories) l.flat.assertions)

@@ -1,0 +1,4 @@
+pub mod Exact
+pub mod Rows
+pub mod Compared
+pub mod Testing
