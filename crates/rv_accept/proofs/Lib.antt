@@ -1,0 +1,16 @@
+pub mod Growing
+pub mod Least
+pub mod Failing
+pub mod Stays
+pub mod Moving
+pub mod Order
+pub mod Firsts
+pub mod Later
+pub mod Listing
+pub mod Marking
+pub mod Ranged
+pub mod Judged
+pub mod Deciding
+pub mod Sampled
+pub mod Asked
+pub mod Concluding

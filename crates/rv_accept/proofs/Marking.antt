@@ -1,0 +1,131 @@
+-- Flags that are marked one after another.
+use Rattle.std.proofs.Common.{ℕ, ◌+◌, ◌-◌, ◌<◌, ◌≤◌, ◌≡◌, ◌≢◌, ◌↔◌, ◌⊎◌, pos, Bool, true, false, List, [], ◌++◌, take, drop, length, set, get_or, refl, sym, ap, ◌∙◌, subst, ⊎_elim}
+use Rattle.std.proofs.Common.{inl, inr, arith, Some, slice_get}
+use Rattle.std.proofs.lemmas.Bool.{cases_lt, cases_eq}
+use Rattle.std.proofs.lemmas.List.{length-set, get_or-set_same, get_or-set_other, append-nil, drop_all, take_all}
+use Rattle.std.proofs.lemmas.Option.{same_Some, slice_get_within}
+use Rattle.rv_accept.specs.Needs.{SomeAt, IsMarked, AreFlags, flag_at}
+use Rattle.rv_accept.proofs.Growing.{clash}
+
+pub marked_as : (p q : ℕ → Type 0) (a b : List Bool) → ((t : ℕ) → t < length a → p t ↔ q t) → IsMarked p a b → IsMarked q a b
+marked_as p q a b same m = record {
+  size = m.size;
+  exact = λ t low. (
+    λ h. ⊎_elim (λ l. inl l) (λ r. inr ((same t low).0 r)) ((m.exact t low).0 h),
+    λ h. (m.exact t low).1 (⊎_elim (λ l. inl l) (λ r. inr ((same t low).1 r)) h),
+  );
+}
+
+pub marked_then : (p q : ℕ → Type 0) (a b c : List Bool) → IsMarked p a b → IsMarked q b c → IsMarked (λ t. p t ⊎ q t) a c
+marked_then p q a b c m n = record {
+  size = n.size ∙ m.size;
+  exact = λ t low. let e : length b ≡ length a = m.size in
+      let less : t < length b = omega arith in (
+        λ h. ⊎_elim (λ l. ⊎_elim (λ x. inl x) (λ y. inr (inl y)) ((m.exact t low).0 l)) (λ r. inr (inr r)) ((n.exact t less).0 h),
+        λ h. (n.exact t less).1 (⊎_elim (λ x. inl ((m.exact t low).1 (inl x))) (λ r. ⊎_elim (λ y. inl ((m.exact t low).1 (inr y))) (λ z. inr z) r) h),
+      );
+}
+
+pub marked_none : (p : ℕ → Type 0) (a : List Bool) → ((t : ℕ) → t < length a → p t → ⊥) → IsMarked p a a
+marked_none p a none = record { size = refl; exact = λ t low. (λ h. inl h, λ h. ⊎_elim (λ l. l) (λ r. absurd (none t low r)) h) }
+
+pub set_marked : (a : List Bool) (i : ℕ) → i < length a → IsMarked (λ t. t ≡ i) a (set a i true)
+set_marked a i inside = record { size = length-set a i true; exact = λ t low. ⊎_elim (same t) (other t) (cases_eq t i) }
+  where
+    same : (t : ℕ) → t ≡ i → (flag_at (set a i true) t ≡ true) ↔ ((flag_at a t ≡ true) ⊎ (t ≡ i))
+    same t e = (λ h. inr e, λ h. ap (λ k. flag_at (set a i true) k) e ∙ get_or-set_same a i true false inside)
+
+    other : (t : ℕ) → (t ≡ i → ⊥) → (flag_at (set a i true) t ≡ true) ↔ ((flag_at a t ≡ true) ⊎ (t ≡ i))
+    other t n = let kept : flag_at (set a i true) t ≡ flag_at a t = get_or-set_other a i t true false n in
+        (λ h. inl (sym kept ∙ h), λ h. ⊎_elim (λ l. kept ∙ l) (λ e. absurd (n e)) h)
+
+-- where none was marked before, the flags are those that are marked
+pub flags_of : (n : ℕ) (p : ℕ → Type 0) (a b : List Bool) → length a ≡ n → ((t : ℕ) → flag_at a t ≡ false) → IsMarked p a b → AreFlags n p b
+flags_of n p a b size none m = record {
+  size = m.size ∙ size;
+  exact = λ t low. let less : t < length a = omega arith in (
+    λ h. ⊎_elim (λ l. absurd (clash (flag_at a t) l (none t))) (λ r. r) ((m.exact t less).0 h),
+    λ h. (m.exact t less).1 (inr h),
+  );
+}
+
+-- some element before number i is so
+abbrev pub SomeBefore : {X : Type 0} → (X → Type 0) → List X → ℕ → Type 0
+SomeBefore {X} so xs i = (n : ℕ) × (n < i) × (x : X) × (slice_get xs n ≡ Some x) × so x
+
+module _ {X : Type 0} (so : ℕ → X → Type 0) (xs : List X) where
+  pub loop_start : (a : List Bool) → IsMarked (λ t. SomeBefore (so t) xs 0) a a
+  loop_start a = marked_none (λ t. SomeBefore (so t) xs 0) a (λ t low (n, less, x, at, is). absurd (omega (arith, less)))
+
+  pub loop_more : (i : ℕ) (x : X) (a b c : List Bool) → slice_get xs i ≡ Some x → IsMarked (λ t. SomeBefore (so t) xs i) a b → IsMarked (λ t. so t x) b c
+      → IsMarked (λ t. SomeBefore (so t) xs (i + 1)) a c
+  loop_more i x a b c at m n = marked_as (λ t. SomeBefore (so t) xs i ⊎ so t x) (λ t. SomeBefore (so t) xs (i + 1)) a c (λ t low. (to t, from t))
+      (marked_then (λ t. SomeBefore (so t) xs i) (λ t. so t x) a b c m n)
+    where
+      to : (t : ℕ) → SomeBefore (so t) xs i ⊎ so t x → SomeBefore (so t) xs (i + 1)
+      to t h = ⊎_elim (λ (n, less, y, there, is). (n, omega (arith, less), y, there, is)) (λ is. (i, omega arith, x, at, is)) h
+
+      from : (t : ℕ) → SomeBefore (so t) xs (i + 1) → SomeBefore (so t) xs i ⊎ so t x
+      from t (n, less, y, there, is) = ⊎_elim (λ lt. inl (n, lt, y, there, is))
+          (λ ge. let e : n ≡ i = omega (arith, less) in inr (subst (λ (z : X). so t z) (same_Some y x (sym there ∙ ap (λ k. slice_get xs k) e
+          ∙ at)) is)) (cases_lt n i)
+
+  pub loop_end : (i : ℕ) (a b : List Bool) → length xs ≤ i → IsMarked (λ t. SomeBefore (so t) xs i) a b → IsMarked (λ t. SomeAt (so t) xs) a b
+  loop_end i a b past m = marked_as (λ t. SomeBefore (so t) xs i) (λ t. SomeAt (so t) xs) a b
+      (λ t low. (
+        λ (n, less, x, at, is). (n, x, at, is),
+        λ (n, x, at, is). (
+          n,
+          (let w : n < length xs = slice_get_within xs n x at in omega
+              (arith, w)),
+          x,
+          at,
+          is,
+        ),
+      )) m
+
+-- one step of a loop over the numbers of a list of coefficients
+module _ (so : ℕ → Type 0) where
+  pub count_start : (a : List Bool) → IsMarked (λ t. (t < 0) × so t) a a
+  count_start a = marked_none (λ t. (t < 0) × so t) a (λ t low (less, is). absurd (omega (arith, less)))
+
+  pub count_more : (i : ℕ) (asked : Bool) (a b c : List Bool) → (asked ≡ true) ↔ so i → IsMarked (λ t. (t < i) × so t) a b → IsMarked (λ t. (t ≡ i)
+      × (asked ≡ true)) b c
+      → IsMarked (λ t. (t < i + 1) × so t) a c
+  count_more i asked a b c tells m n = marked_as (λ t. ((t < i) × so t) ⊎ ((t ≡ i) × (asked ≡ true))) (λ t. (t < i + 1) × so t) a c (λ t low. (to t, from t))
+      (marked_then (λ t. (t < i) × so t) (λ t. (t ≡ i) × (asked ≡ true)) a b c m n)
+    where
+      to : (t : ℕ) → ((t < i) × so t) ⊎ ((t ≡ i) × (asked ≡ true)) → (t < i + 1) × so t
+      to t h = ⊎_elim (λ (less, is). (omega (arith, less), is)) (λ (e, on). (omega (arith, e), subst so (sym e) (tells.0 on))) h
+
+      from : (t : ℕ) → (t < i + 1) × so t → ((t < i) × so t) ⊎ ((t ≡ i) × (asked ≡ true))
+      from t (less, is) = ⊎_elim (λ lt. inl (lt, is)) (λ ge. let e : t ≡ i = omega (arith, less) in inr (e, tells.1 (subst so e is))) (cases_lt t i)
+
+  pub count_end : (i : ℕ) (a b : List Bool) → length a ≤ i → IsMarked (λ t. (t < i) × so t) a b → IsMarked so a b
+  count_end i a b past m = marked_as (λ t. (t < i) × so t) so a b (λ t low. (λ (less, is). is, λ is. (omega (arith, low), is))) m
+
+-- a premise that is the test of a flag, or none
+pub premise_marked : (a : List Bool) (given premise : ℕ) → given ≤ premise → premise < given + length a
+    → IsMarked (λ t. premise ≡ given + t) a (set a (premise - given) true)
+premise_marked a given premise after low = marked_as (λ t. t ≡ premise - given) (λ t. premise ≡ given + t) a (set a (premise - given) true)
+    (λ t less. (λ e. omega (arith, e), λ e. omega (arith, e))) (set_marked a (premise - given) (omega arith))
+
+pub premise_apart : (a : List Bool) (given premise : ℕ) → premise < given → IsMarked (λ t. premise ≡ given + t) a a
+premise_apart a given premise before = marked_none (λ t. premise ≡ given + t) a (λ t low e. absurd (omega (arith, e)))
+
+pub asked_marked : (a : List Bool) (k : ℕ) (asked : Bool) → asked ≡ true → k < length a → IsMarked (λ t. (t ≡ k) × (asked ≡ true)) a (set a k true)
+asked_marked a k asked on low = marked_as (λ t. t ≡ k) (λ t. (t ≡ k)
+    × (asked ≡ true)) a (set a k true) (λ t less. (λ e. (e, on), λ (e, o). e)) (set_marked a k low)
+
+pub unasked_marked : (a : List Bool) (k : ℕ) (asked : Bool) → asked ≡ false → IsMarked (λ t. (t ≡ k) × (asked ≡ true)) a a
+unasked_marked a k asked no' = marked_none (λ t. (t ≡ k) × (asked ≡ true)) a (λ t low (e, on). clash asked on no')
+
+-- flags that were handed out as a slice, and marked
+pub flags_taken : (n : ℕ) (p : ℕ → Type 0) (items new : List Bool) (len : ℕ) → len ≡ length items → length items ≡ n → ((t : ℕ) → flag_at items t ≡ false)
+    → IsMarked p items new → AreFlags n p (take len (new ++ drop (length new) items))
+flags_taken n p items new len e size none m =
+    let same : length new ≡ length items = m.size in
+    let rest : drop (length new) items ≡ [] = drop_all (length new) items (omega arith) in
+    let whole : take len (new ++ drop (length new) items) ≡ new =
+    ap (λ (l : List Bool). take len (new ++ l)) rest ∙ ap (λ (l : List Bool). take len l) (append-nil new) ∙ take_all len new (omega arith) in
+    subst (λ (l : List Bool). AreFlags n p l) (sym whole) (flags_of n p items new size none m)

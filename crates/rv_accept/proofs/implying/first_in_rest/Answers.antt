@@ -1,0 +1,44 @@
+use Rattle.std.proofs.Common.{◌≡◌, ◌∙◌, ◌+◌, ◌<◌, ◌≤◌, ◌^◌, ◌++◌, ℕ, List, Option, Some, length, sym, subst, arith}
+use Rattle.std.proofs.Common.{None as Nothing}
+use Rattle.rv_rows.specs.declared.linear.Row.{Row}
+use Rattle.rv_proofs.specs.Systems.{System, IsSystem}
+use Rattle.rv_proofs.specs.Scopes.{before, after, each, Implication}
+use Rattle.rv_accept.specs.Passing.{AreLimited, AreAsked, AreJudged}
+use Rattle.rv_accept.proofs.Listing.{length_each}
+use Rattle.rv_accept.proofs.Judged.{judged_left, found_few, asked_few, both_few}
+use Rattle.rv_accept.proofs.implying.first_in_rest.Goals as goal
+
+pub first_before-requires : goal.first_before-requires
+first_before-requires c = let (s, is, limits, a, b, d) = c.requires in (s, is, limits, a)
+
+pub returns-in-Some : goal.returns-in-Some
+returns-in-Some c = let h = rw c.in-Some.is at c.in_ok-n.ensures in judged_left c.args.facts.now.rows c.args.facts.now.forms
+    (each before c.args.location.now.first c.args.location.now.around c.args.before_all.now) ((each after
+    (c.args.location.now.around ++ c.args.location.now.state) c.args.location.now.around c.args.around.now) ++ (each after
+    (c.args.location.now.around ++ c.args.location.now.state) c.args.location.now.state c.args.state.now)) c.in-Some.n h
+
+pub first_in_turns-requires : goal.first_in_turns-requires
+first_in_turns-requires c = let (s, is, limits, a, b, d) = c.requires in (s, is, limits, b, d)
+
+pub later-requires-clause-many : goal.later-requires-clause-many
+later-requires-clause-many c = let (s, is, limits, a, b, d) = c.requires in let few : length c.args.location.now.around ≤ 1024 = a.kept.1 in omega
+    (arith, c.len.ensures)
+
+pub later-requires-clause-found : goal.later-requires-clause-found
+later-requires-clause-found c = let (s, is, limits, a, b, d) = c.requires in
+    let few = both_few (each after (c.args.location.now.around ++ c.args.location.now.state) c.args.location.now.around c.args.around.now) (each after
+    (c.args.location.now.around ++ c.args.location.now.state) c.args.location.now.state c.args.state.now) 1024 1024 (asked_few s after
+    (c.args.location.now.around ++ c.args.location.now.state) c.args.location.now.around c.args.around.now b)
+    (asked_few s after (c.args.location.now.around ++ c.args.location.now.state) c.args.location.now.state c.args.state.now d) in
+    found_few c.args.facts.now.rows c.args.facts.now.forms ((each after
+    (c.args.location.now.around ++ c.args.location.now.state) c.args.location.now.around c.args.around.now) ++ (each after
+    (c.args.location.now.around ++ c.args.location.now.state) c.args.location.now.state c.args.state.now)) c.in_ok-found.found
+    (omega arith) c.in_ok-found.ensures
+
+pub returns : goal.returns
+returns c = let (s, is, limits, a, b, d) = c.requires in
+    let none = rw c.in_default.is at c.in_ok-n.ensures in
+    c.later.ensures c.args.facts.now.rows c.args.facts.now.forms (each before c.args.location.now.first c.args.location.now.around c.args.before_all.now)
+    ((each after (c.args.location.now.around ++ c.args.location.now.state) c.args.location.now.around c.args.around.now) ++ (each after
+    (c.args.location.now.around ++ c.args.location.now.state) c.args.location.now.state c.args.state.now))
+    (length_each before c.args.location.now.first c.args.location.now.around c.args.before_all.now a.counts ∙ sym c.len.ensures) none c.in_ok-found.ensures

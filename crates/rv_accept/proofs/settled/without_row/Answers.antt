@@ -1,0 +1,45 @@
+use Rattle.std.proofs.Common.{◌≡◌, ◌∙◌, ◌+◌, ◌<◌, ◌≤◌, ◌↔◌, ℕ, List, [], pos, true, length, sym, ap, subst, arith, IsTrue}
+use Rattle.std.proofs.lemmas.Option.{get_or_from_slice_get}
+use Rattle.rv_diagram.specs.Nodes.{IsRef}
+use Rattle.rv_diagram.specs.Several.{ref_at}
+use Rattle.rv_rows.specs.declared.linear.Row.{Row}
+use Rattle.rv_rows.specs.Rows.{row_at}
+use Rattle.rv_terms.proofs.Growths.{extends_refl, extends_trans}
+use Rattle.rv_accept.proofs.Growing.{found_later}
+use Rattle.rv_accept.proofs.Stays.{narrow_none, narrow_more}
+use Rattle.rv_accept.proofs.settled.without_row.Goals as goal
+
+pub loop-i-init : goal.loop-i-init
+loop-i-init c = record {
+  extends = extends_refl c.args.store.now;
+  rest = narrow_none (λ (k : ℕ). ref_at c.args.answers.now (k + 1)) (λ (k : ℕ). row_at c.args.rows.now k) (λ
+      (r : Row). r) c.args.store.now c.args.scope c.args.row.now c.requires.scope;
+}
+
+pub without_if-requires-clause-b : goal.without_if-requires-clause-b
+without_if-requires-clause-b c =
+    let e = get_or_from_slice_get c.args.answers.now (c.loop-i.i + 1) c.at-answer.result.now 0 c.at-answer.ensures.value in
+    let found = c.requires.answers (c.loop-i.i + 1) (omega (arith, c.loop-i-test.true, c.len-i-end.ensures, c.requires.counts)) in
+    found_later c.args.store.now c.loop-i.store c.at-answer.result.now c.loop-i.invariant.extends (rw e at found)
+
+pub loop-i-preserved : goal.loop-i-preserved
+loop-i-preserved c =
+    let e = get_or_from_slice_get c.args.answers.now (c.loop-i.i + 1) c.at-answer.result.now 0 c.at-answer.ensures.value in
+    let found = c.requires.answers (c.loop-i.i + 1) (omega (arith, c.loop-i-test.true, c.len-i-end.ensures, c.requires.counts)) in
+    record {
+      extends = extends_trans c.args.store.now c.loop-i.store c.without_if.new.store c.loop-i.invariant.extends c.without_if.ensures.extends;
+      rest = narrow_more (λ (k : ℕ). ref_at c.args.answers.now (k + 1)) (λ (k : ℕ). row_at c.args.rows.now k) (λ
+          (r : Row). r) c.args.store.now c.loop-i.store c.without_if.new.store c.args.scope c.loop-i.rest c.in_ok-rest.rest
+          c.loop-i.i c.at-answer.result.now c.args.row.now c.at.result.now c.is_row-same.result c.loop-i.invariant.extends e
+          (get_or_from_slice_get c.args.rows.now c.loop-i.i c.at.result.now (record { coefficients = []; bound = pos 0 }) c.at.ensures.value) (rw e at found)
+          c.is_row-same.ensures c.loop-i.invariant.rest c.in_ok-rest.ensures.ok;
+    }
+
+pub returns-clause-ok : goal.returns-clause-ok
+returns-clause-ok c = record {
+  found = c.loop-i.invariant.rest.found;
+  exact = λ v. (
+    λ h. let x = (c.loop-i.invariant.rest.exact v).0 h in (x.0, λ i low same. x.1 i (omega (arith, low, c.len-i-end.ensures)) same),
+    λ (s, none). (c.loop-i.invariant.rest.exact v).1 (s, λ k low same. none k (omega (arith, low, c.len-i-end.ensures)) same),
+  );
+}

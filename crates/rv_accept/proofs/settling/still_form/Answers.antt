@@ -1,0 +1,22 @@
+use Rattle.std.proofs.Common.{◌≡◌, ◌∙◌, ℕ, [], pos, true, false, sym, ap, subst}
+use Rattle.std.proofs.lemmas.Option.{get_or_from_slice_get}
+use Rattle.rv_diagram.specs.Nodes.{value_of}
+use Rattle.rv_rows.specs.declared.linear.Form.{Form}
+use Rattle.rv_proofs.specs.Implied.{form_at}
+use Rattle.rv_accept.specs.Needs.{StaysForm, IsPointOf}
+use Rattle.rv_accept.proofs.Growing.{clash}
+use Rattle.rv_accept.proofs.settling.still_form.Goals as goal
+
+pub returns-in_default-clause-exact : goal.returns-in_default-clause-exact
+returns-in_default-clause-exact c = λ s t are x still.
+    let none = rw c.in_default.is at c.requires.point in clash (value_of c.args.store.now.nodes c.args.scope still.some.0) still.some.1 (none still.some.0)
+
+pub returns-in_default-2-clause-exact : goal.returns-in_default-2-clause-exact
+returns-in_default-2-clause-exact c = λ s t are. rw c.in_default-2.is at (c.in_ok-place.ensures.exact s t are)
+
+pub returns-clause-exact : goal.returns-clause-exact
+returns-clause-exact c = λ s t are.
+    let h = rw c.in-Some-2.is at (c.in_ok-place.ensures.exact s t are) in
+    subst (λ (x : Form). StaysForm s c.args.store.now.nodes c.args.scope t x)
+    (get_or_from_slice_get c.args.forms.now c.in-Some-2.place c.at.result.now (record { coefficients = []; constant = pos 0 }) c.at.ensures.value
+    ∙ sym c.in_ok-form.ensures) h

@@ -1,0 +1,13 @@
+use Rattle.std.proofs.Common.{◌≡◌, ◌∙◌, sym, ap, refl, ◌&&◌, not}
+use Rattle.rv_diagram.specs.Nodes.{value_of}
+use Rattle.rv_terms.proofs.Growths.{extends_trans}
+use Rattle.rv_accept.proofs.Growing.{found_later}
+use Rattle.rv_accept.proofs.Failing.{without_start}
+use Rattle.rv_accept.proofs.words.lacks_initial.Goals as goal
+
+pub returns-clause-exact : goal.returns-clause-exact
+returns-clause-exact c = λ s read range.
+    without_start s c.args.certificate.now c.args.parts.now c.args.store.now c.entered.new.store c.without.new.store c.in_ok-entered.entered
+    c.in_ok-rest.rest c.in_ok-pick.field-0 read range
+    (c.without.ensures.extends.variables ∙ c.entered.ensures.extends.variables ∙ read.means.variables) c.in_ok-entered.ensures.ok c.in_ok-rest.ensures.found
+    c.in_ok-rest.ensures.means (c.entered.ensures.extends.kept c.args.parts.now.initial c.requires.initial) c.in_ok-pick.ensures

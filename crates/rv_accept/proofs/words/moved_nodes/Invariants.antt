@@ -1,0 +1,17 @@
+use Rattle.std.proofs.Common.{◌≡◌, ℕ, length}
+use Rattle.rv_terms.specs.Growing.{Extends}
+use Rattle.rv_accept.specs.Steps.{AreRefs}
+use Rattle.rv_accept.specs.Held.{AreMoved}
+use Rattle.rv_accept.proofs.words.moved_nodes.Given as goal
+use Rattle.rv_diagram.specs.Nodes.{value_of, Valuation}
+use Rattle.rv_diagram.specs.Several.{ref_at}
+use Rattle.rv_accept.specs.Held.{follow}
+use Rattle.std.proofs.Common.{◌<◌, ◌+◌}
+
+abbrev pub invariant-loop-i : goal.invariant-loop-i
+invariant-loop-i l = record {
+  extends : Extends l.initial.store l.store;
+  size : length l.moved.items ≡ l.i;
+  refs : AreRefs l.store l.moved.items;
+  means : (n : ℕ) → n < l.i → (v : Valuation) → value_of l.store.nodes (ref_at l.moved.items n) v ≡ value_of l.nodes (n + 2) (follow l.initial.store l.next v);
+}

@@ -1,0 +1,5 @@
+pub mod Steps
+pub mod Held
+pub mod Needs
+pub mod Passing
+pub mod Samples

@@ -1,0 +1,25 @@
+//! The checker of certificates: whether a certificate is accepted for a system of valuations, by the references of the system in a
+//! diagram store.
+//!
+//! It promises that the answer is Accepted exactly where the certificate is accepted by its definition (`IsAccepted` of `rv_proofs`), and
+//! otherwise the first reason in the order of the tests, with its least valuation or control state; that an accepted certificate implies
+//! safety along each run of the system; and that the store is left as it was. It knows systems alone, and no programs. It stands on
+//! `rv_proofs` for certificates, on `rv_symbolic` and `rv_cases` for the references of a system, on `rv_rows` for multipliers and on
+//! `rv_diagram`. Begin with checker.rt, then specs/Passing.antt for what is given and what passes at each level.
+#![tactic(auto)]
+
+mod checker;
+mod entry;
+mod facts;
+mod implying;
+mod including;
+mod laws;
+mod naming;
+mod sets;
+mod settled;
+mod settling;
+mod showing;
+mod words;
+
+pub use checker::accept;
+pub use laws::{counting_is_given, levels_compose, places_are_apart};

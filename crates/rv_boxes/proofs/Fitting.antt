@@ -1,0 +1,203 @@
+-- The premises and the updates of a case.
+use Rattle.std.proofs.Common.{◌≡◌, ◌≢◌, ℕ, zero, suc, ◌^◌, ◌<◌, ◌≤◌, ℤ, pos, negsuc, List, [], ◌∷◌, ◌++◌, length, get_or, All, Some, slice_get, arith}
+use Rattle.std.proofs.Common.{refl, sym, ap, ◌∙◌, subst, ◌⊎◌, inl, inr}
+use Rattle.std.proofs.Common.{None as Nothing}
+use Rattle.std.specs.Int.RustNames.{unsigned_abs}
+use Rattle.std.proofs.lemmas.Bool.{cases_lt, cases_eq}
+use Rattle.std.proofs.lemmas.Option.{slice_get_within, same_Some, slice_get-get_or}
+use Rattle.std.proofs.lemmas.List.{length-append, get_or_append_left}
+use Rattle.std.proofs.lemmas.List.Elements.{All-append, All-weaker, All-nil, All-from_get_or}
+use Rattle.std.proofs.Math.Seq.{get_or-append_seam}
+use Rattle.rv_diagram.specs.Nodes.{Valuation}
+use Rattle.rv_diagram.specs.declared.frozen.Frozen.{Frozen}
+use Rattle.rv_rows.specs.declared.linear.Row.{Row}
+use Rattle.rv_rows.specs.declared.linear.Form.{Form}
+use Rattle.rv_rows.specs.Rows.{row_at, RowWithin}
+use Rattle.rv_rows.specs.Forms.{FormWithin}
+use Rattle.rv_proofs.specs.Systems.{System, IsSystem, IsTestRow, IsUpdate, updates_among}
+use Rattle.rv_proofs.specs.Scopes.{IsIn}
+use Rattle.rv_proofs.specs.Implied.{form_at}
+use Rattle.rv_proofs.specs.Samples.{by_none}
+use Rattle.rv_proofs.specs.Boxes.{BoxClaim, HasUnit, IsUnitAt}
+use Rattle.rv_proofs.specs.declared.report.Case.{Case}
+use Rattle.rv_proofs.specs.declared.certificate.Entry.{Entry}
+use Rattle.rv_proofs.specs.declared.certificate.EntryKind.TheVariants.{Dead}
+use Rattle.rv_proofs.proofs.Tightened.{tight_unit}
+use Rattle.rv_proofs.proofs.Rooms.{premise_of_test, premise_of_kept}
+use Rattle.rv_boxes.specs.declared.frame.Frame.{Frame}
+use Rattle.rv_boxes.specs.Boxed.{ArePremises}
+use Rattle.rv_boxes.specs.Built.{nothing, IsToldCase, IsUpperRow, IsLowerRow}
+use Rattle.rv_boxes.specs.Opening.{IsFrameOf, IsTold, HasTests, AreUpdates}
+use Rattle.rv_boxes.specs.Rounds.{place, IsSetting, IsCaseIn}
+
+-- a number is in a list, with its place, or it is not
+find_in : (xs : List ℕ) (t : ℕ) → ((i : ℕ) × (slice_get xs i ≡ Some t)) ⊎ ((i : ℕ) → slice_get xs i ≡ Some t → ⊥)
+find_in [] t = inr (λ i e. cc)
+find_in (x ∷ xs) t = go (cases_eq x t) (find_in xs t)
+  where
+    go : (x ≡ t) ⊎ (x ≢ t) → ((i : ℕ) × (slice_get xs i ≡ Some t)) ⊎ ((i : ℕ) → slice_get xs i ≡ Some t → ⊥)
+        → ((i : ℕ) × (slice_get (x ∷ xs) i ≡ Some t)) ⊎ ((i : ℕ) → slice_get (x ∷ xs) i ≡ Some t → ⊥)
+    go (inl e) r = inl (0, ap Some e)
+    go (inr ne) (inl (i, at)) = inl (suc i, at)
+    go (inr ne) (inr none) = inr no
+      where
+        no : (i : ℕ) → slice_get (x ∷ xs) i ≡ Some t → ⊥
+        no zero e = ne (same_Some x t e)
+        no (suc i) e = none i e
+
+-- the updates of a valuation, one by one
+updates_long : (s : System) (v : Valuation) (n : ℕ) → length (updates_among s v n) ≡ n
+updates_long s v zero = refl
+updates_long s v (suc n) = omega (arith, length-append (updates_among s v n) (s.update v n ∷ []), updates_long s v n)
+
+pub update_at : (s : System) (v : Valuation) (d : Form) (n k : ℕ) → k < n → get_or (updates_among s v n) k d ≡ s.update v k
+update_at s v d zero k l = absurd (omega arith)
+update_at s v d (suc n) k l = go (update_at s v d n k) (cases_lt k n)
+  where
+    go : (k < n → get_or (updates_among s v n) k d ≡ s.update v k) → (k < n) ⊎ (n ≤ k) → get_or (updates_among s v n ++ s.update v n ∷ []) k d ≡ s.update v k
+    go before (inl less) = get_or_append_left (updates_among s v n) (s.update v n ∷ []) d k (omega (arith, updates_long s v n)) ∙ before less
+    go before (inr more) =
+        let e : k ≡ n = omega arith in
+        ap (λ (x : ℕ). get_or (updates_among s v n ++ s.update v n ∷ []) x d) (e ∙ sym (updates_long s v n))
+        ∙ get_or-append_seam (updates_among s v n) (s.update v n) [] d ∙ ap (s.update v) (sym e)
+
+-- what a premise is asked for
+abbrev pub IsFit : System → Row → Type 0
+IsFit s r = RowWithin (2 ^ 60) r × (length r.coefficients ≤ s.columns) × All (λ c. unsigned_abs c ≤ 2 ^ 41) r.coefficients × HasUnit r
+
+nothing_fits : (s : System) → IsFit s nothing
+nothing_fits s = (
+  (All-nil (λ (c : ℤ). unsigned_abs c ≤ 2 ^ 60), omega arith),
+  omega arith,
+  All-nil (λ (c : ℤ). unsigned_abs c ≤ 2 ^ 41),
+  λ (k, ne, only). absurd (ne refl),
+)
+
+test_fits : (s : System) (r : Row) → IsTestRow s r → IsFit s r
+test_fits s r is = (premise_of_test s r is, omega (arith, is.wide), is.coefficients, tight_unit r r is.tight)
+
+-- the case as an entry
+abbrev pub case_entry : Case → Entry
+case_entry case = record { condition = case.condition; kind = Dead by_none }
+
+module _ (s : System) (is : IsSystem s) (f : Frame) (frame : IsFrameOf s f) (base : BoxClaim) (from : Frozen) (given : List Row)
+    (setting : IsSetting s base from given) (case : Case) (of : IsCaseIn s from case) where
+  pub has_tests : HasTests f.tests case.tests case.rows
+  has_tests = let t = of.case.tests in record {
+    known = λ i n at. let k = t.known i n at in omega (arith, k, frame.tests);
+    rising = t.rising;
+    counts = t.counts;
+  }
+
+  pub updates_of_case : (v : Valuation) (k : ℕ) → IsIn case.condition v → k < s.memories → s.update v k ≡ form_at case.updates k
+  updates_of_case v k i known =
+      sym (update_at s v (record { coefficients = []; constant = pos 0 }) s.memories k known)
+      ∙ ap (λ (fs : List Form). form_at fs k) (of.case.updates v i)
+
+  pub many_updates : length case.updates ≡ s.memories
+  many_updates = ap length (sym (of.case.updates of.case.some.0 of.case.some.1)) ∙ updates_long s of.case.some.0 s.memories
+
+  pub are_updates : AreUpdates f.columns s.memories case.updates
+  are_updates = record {
+    size = many_updates;
+    widths = All-from_get_or (λ (g : Form). length g.coefficients ≤ f.columns) case.updates no_form (λ k l. (each k (omega (arith, l, many_updates))).0);
+    sizes = All-from_get_or (FormWithin (2 ^ 41)) case.updates no_form (λ k l. (each k (omega (arith, l, many_updates))).1);
+  }
+    where
+      no_form : Form
+      no_form = record { coefficients = []; constant = pos 0 }
+
+      each : (k : ℕ) → k < s.memories → (length (form_at case.updates k).coefficients ≤ f.columns) × FormWithin (2 ^ 41) (form_at case.updates k)
+      each k known =
+          let u = is.updates of.case.some.0 k known in
+          let e = updates_of_case of.case.some.0 k of.case.some.1 known in
+          subst (λ (g : Form). (length g.coefficients ≤ f.columns) × FormWithin (2 ^ 41) g) e (
+            omega (arith, u.wide, frame.columns),
+            (
+              All-weaker (λ (c : ℤ). unsigned_abs c ≤ 2 ^ 40) (λ (c : ℤ). unsigned_abs c ≤ 2 ^ 41)
+                  (λ c m. omega (arith, m)) (s.update of.case.some.0 k).coefficients u.small.0,
+              let m = u.small.1 in omega (arith, m),
+            ),
+          )
+
+  pub all_updates : All (IsUpdate s) case.updates
+  all_updates = All-from_get_or (IsUpdate s) case.updates (record { coefficients = []; constant = pos 0 }) (λ k l.
+      let known : k < s.memories = omega (arith, l, many_updates) in
+      subst (IsUpdate s) (updates_of_case of.case.some.0 k of.case.some.1 known) (is.updates of.case.some.0 k known))
+
+  given_fits : All (IsFit s) given
+  given_fits = All-from_get_or (IsFit s) given nothing (λ p l. fit p l (setting.bounds p (row_at given p) (slice_get-get_or given p nothing l)))
+    where
+      fit : (p : ℕ) → p < length given
+          → (length (row_at given p).coefficients ≡ s.memories) × ((k : ℕ) × (k < s.memories)
+          × (IsUpperRow base k (row_at given p) ⊎ IsLowerRow base k (row_at given p))) → IsFit s (row_at given p)
+      fit p l (wide, (k, known, side)) =
+          let fits = (setting.kept.0 p nothing l).1 in (
+            premise_of_kept (row_at given p) fits,
+            omega (arith, wide, is.few_memories),
+            All-weaker (λ (c : ℤ). unsigned_abs c ≤ 2 ^ 30) (λ (c : ℤ). unsigned_abs c ≤ 2 ^ 41) (λ c m. omega (arith, m))
+                (row_at given p).coefficients fits.coefficients,
+            λ one. (k, unit side),
+          )
+        where
+          unit : IsUpperRow base k (row_at given p) ⊎ IsLowerRow base k (row_at given p) → IsUnitAt (row_at given p) k (pos 1)
+              ⊎ IsUnitAt (row_at given p) k (negsuc 0)
+          unit (inl u) = inl u.0
+          unit (inr u) = inr u.0
+
+  module _ (told : List Row) (is_told : IsTold f.tests (length case.tests) case.tests case.rows told) where
+    pub told_row : (t : ℕ) → t < s.tests
+        → ((v : Valuation) → IsIn case.condition v → s.row v t ≡ Some (row_at told t))
+        ⊎ (((v : Valuation) → IsIn case.condition v → s.row v t ≡ Nothing) × (row_at told t ≡ nothing))
+    told_row t known = go (find_in case.tests t)
+      where
+        go : ((i : ℕ) × (slice_get case.tests i ≡ Some t)) ⊎ ((i : ℕ) → slice_get case.tests i ≡ Some t → ⊥)
+            → ((v : Valuation) → IsIn case.condition v → s.row v t ≡ Some (row_at told t))
+            ⊎ (((v : Valuation) → IsIn case.condition v → s.row v t ≡ Nothing) × (row_at told t ≡ nothing))
+        go (inl (i, at)) =
+            let inside : i < length case.tests = slice_get_within case.tests i t at in
+            let counts = of.case.tests.counts in
+            let row_there = slice_get-get_or case.rows i nothing (omega (arith, counts, inside)) in
+            let e : row_at told t ≡ get_or case.rows i nothing = is_told.present i t (get_or case.rows i nothing) inside at row_there in
+            inl (λ v on. of.case.tests.present i t (get_or case.rows i nothing) v at row_there on ∙ ap Some (sym e))
+        go (inr none) = inr (
+          (λ v on. of.case.tests.absent t v known (λ (k, l, e). none k (slice_get-get_or case.tests k t l ∙ ap Some e)) on),
+          is_told.absent t (λ i l at. none i at),
+        )
+
+    abbrev pub here : IsToldCase s (place from given) (case_entry case)
+    here = record {
+      condition = of.case.given.condition;
+      some = of.case.some;
+      allowed = of.case.given.allowed;
+      control = of.within;
+      tests = told;
+      told = record { size = is_told.size ∙ frame.tests; told = told_row };
+      forms = case.updates;
+      size = many_updates;
+      updates = λ v k i known. updates_of_case v k i known;
+    }
+
+    told_fits : All (IsFit s) told
+    told_fits = All-from_get_or (IsFit s) told nothing (λ t l. let size = is_told.size in let known : t < s.tests = omega
+        (arith, l, size, frame.tests) in fit t known (told_row t known))
+      where
+        fit : (t : ℕ) → t < s.tests
+            → ((v : Valuation) → IsIn case.condition v → s.row v t ≡ Some (row_at told t))
+            ⊎ (((v : Valuation) → IsIn case.condition v → s.row v t ≡ Nothing) × (row_at told t ≡ nothing)) → IsFit s (row_at told t)
+        fit t known (inl same) = test_fits s (row_at told t) (is.rows of.case.some.0 t (row_at told t) known (same of.case.some.0 of.case.some.1))
+        fit t known (inr (absent, void)) = subst (IsFit s) (sym void) (nothing_fits s)
+
+    pub premises_fit : ArePremises s.columns (given ++ told)
+    premises_fit =
+        let all : All (IsFit s) (given ++ told) = All-append (IsFit s) given told given_fits told_fits in
+        let few = setting.few in
+        let limits = is.limits in
+        let many = limits.tests in
+        record {
+          few = omega (arith, length-append given told, is_told.size, frame.tests, few, many);
+          within = All-weaker (IsFit s) (RowWithin (2 ^ 60)) (λ r h. h.0) (given ++ told) all;
+          wide = λ p l. (all p nothing l).1;
+          sizes = λ p l. (all p nothing l).2;
+          units = λ p l. (all p nothing l).3;
+        }

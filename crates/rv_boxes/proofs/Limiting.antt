@@ -1,0 +1,222 @@
+-- Lists that grow along a loop: copies, rows of limits, loosened limits.
+use Rattle.std.proofs.Common.{◌≡◌, ◌≢◌, ℕ, suc, ◌+◌, ◌^◌, ◌<◌, ◌≤◌, ℤ, pos, negsuc, ◌+ℤ◌, ◌-ℤ◌, ◌*ℤ◌, ◌≤ℤ◌, ◌<ℤ◌, Bool, true, false, ◌||◌, List, []}
+use Rattle.std.proofs.Common.{◌∷◌, ◌++◌, length, take, All, Option, Some, slice_get, arith, refl, sym, ap, ◌∙◌, subst, ◌⊎◌, inl, inr}
+use Rattle.std.proofs.Common.{None as Nothing}
+use Rattle.std.specs.Int.RustNames.{unsigned_abs}
+use Rattle.std.proofs.lemmas.Int.{ints}
+use Rattle.std.proofs.lemmas.Bool.{cases_lt}
+use Rattle.std.proofs.lemmas.Option.{same_Some, slice_get_within, get_or_from_slice_get}
+use Rattle.std.proofs.lemmas.List.{take_more, length_push, get_or_push, get_or_append_left}
+use Rattle.std.proofs.lemmas.List.Elements.{All-contains, All-from_get_or}
+use Rattle.rv_rows.specs.declared.linear.Row.{Row}
+use Rattle.rv_rows.specs.declared.linear.Form.{Form}
+use Rattle.rv_rows.specs.Rows.{row_at, dot}
+use Rattle.rv_rows.specs.Forms.{value, number, FormWithin, IsMultiple}
+use Rattle.std.specs.Prelude.{IfOk, MatchBool}
+use Rattle.std.proofs.Common.{Result, Ok, Err}
+use Rattle.rv_boxes.specs.declared.peaks.Peak.{Peak}
+use Rattle.rv_proofs.specs.Implied.{form_at}
+use Rattle.rv_proofs.specs.Boxes.{IsUnitAt}
+use Rattle.rv_boxes.specs.Boxed.{IsGreatest, IsUnbounded}
+use Rattle.rv_boxes.specs.Orders.{IsLeastAbove}
+use Rattle.rv_boxes.specs.Built.{nothing}
+use Rattle.rv_boxes.specs.Bounding.{IsLimitRow, AreLimitRows, IsNoted}
+use Rattle.rv_boxes.specs.Limits.{limit_at, IsLoosened, AreLoosened, HasChanged, room_of, room}
+
+-- one element more of a copy
+pub take_push : {X : Type 0} (xs ys : List X) (i : ℕ) (x : X) → ys ≡ take i xs → slice_get xs i ≡ Some x → ys ++ x ∷ [] ≡ take (i + 1) xs
+take_push xs ys i x e at =
+    let l = slice_get_within xs i x at in
+    ap (λ zs. zs ++ x ∷ []) e
+    ∙ ap (λ y. take i xs ++ y ∷ []) (sym (get_or_from_slice_get xs i x x at)) ∙ sym (take_more xs i x l)
+
+-- the row of one memory's limit more
+pub limit_noted : (limits : List (Option ℤ)) (memories : ℕ) (sign : ℤ) (n : ℕ) (old new : List Row) → n < memories → AreLimitRows limits memories sign n old
+    → (o : Option ℤ) → limit_at limits n ≡ o → IsNoted memories n sign o old new → AreLimitRows limits memories sign (n + 1) new
+limit_noted limits memories sign n old new known are Nothing is same = record {
+  each = λ p l. subst (λ (rs : List Row). IsLimitRow limits memories sign (row_at rs p)) (sym same) (are.each p (omega (arith, l, ap length same)));
+  some = λ k b l at. go k b at l (cases_lt k n);
+  few = let f = are.few in omega (arith, f, ap length same);
+}
+  where
+    clash : (b : ℤ) → Some b ≡ Nothing → ⊥
+    clash b e = cc
+
+    go : (k : ℕ) (b : ℤ) → limit_at limits k ≡ Some b → k < n + 1 → (k < n) ⊎ (n ≤ k) → (p : ℕ) × (p < length new) × IsUnitAt (row_at new p) k sign
+        × ((row_at new p).bound ≡ b)
+    go k b at inside (inl l) = subst (λ (rs : List Row). (p : ℕ) × (p < length rs) × IsUnitAt (row_at rs p) k sign
+        × ((row_at rs p).bound ≡ b)) (sym same) (are.some k b l at)
+    go k b at inside (inr m) = let e : k ≡ n = omega (arith, m, inside) in absurd (clash b (sym at ∙ ap (limit_at limits) e ∙ is))
+limit_noted limits memories sign n old new known are (Some a) is (r, grown, unit, bound, width) = record {
+  each = λ p l. each p (cases_lt p (length old)) l;
+  some = λ k b l at. go k b at (cases_lt k n) l;
+  few = let f = are.few in omega (arith, f, ap length grown, length_push old r);
+}
+  where
+    before : (p : ℕ) → p < length old → row_at new p ≡ row_at old p
+    before p l = ap (λ (rs : List Row). row_at rs p) grown ∙ get_or_append_left old (r ∷ []) nothing p l
+
+    last : row_at new (length old) ≡ r
+    last = ap (λ (rs : List Row). row_at rs (length old)) grown ∙ get_or_push old r nothing (length old) refl
+
+    here : IsLimitRow limits memories sign r
+    here = record { memory = n; known = known; unit = unit; limit = is ∙ ap Some (sym bound); width = width }
+
+    each : (p : ℕ) → (p < length old) ⊎ (length old ≤ p) → p < length new → IsLimitRow limits memories sign (row_at new p)
+    each p (inl l) inside = subst (IsLimitRow limits memories sign) (sym (before p l)) (are.each p l)
+    each p (inr m) inside =
+        let e : p ≡ length old = omega (arith, m, inside, ap length grown, length_push old r) in
+        subst (IsLimitRow limits memories sign) (sym (ap (row_at new) e ∙ last)) here
+
+    go : (k : ℕ) (b : ℤ) → limit_at limits k ≡ Some b → (k < n) ⊎ (n ≤ k) → k < n + 1 → (p : ℕ) × (p < length new) × IsUnitAt (row_at new p) k sign
+        × ((row_at new p).bound ≡ b)
+    go k b at (inl l) inside =
+        let (p, q, u, e) = are.some k b l at in (
+          p,
+          omega (arith, q, ap length grown, length_push old r),
+          subst (λ (x : Row). IsUnitAt x k sign) (sym (before p q)) u,
+          ap
+              (λ (x : Row). x.bound) (before p q) ∙ e,
+        )
+    go k b at (inr m) inside =
+        let e : k ≡ n = omega (arith, m, inside) in (
+          length old,
+          omega (arith, ap length grown, length_push old r),
+          subst (λ (j : ℕ). IsUnitAt (row_at new (length old)) j sign) (sym e) (subst (λ (x : Row). IsUnitAt x n sign) (sym last) unit),
+          ap (λ (x : Row). x.bound) last ∙ bound ∙ same_Some a b (sym is ∙ ap (limit_at limits) (sym e) ∙ at),
+        )
+
+-- room
+pub room_nothing : room_of Nothing ≡ 0
+unfolding room_of
+room_nothing = refl
+
+pub room_some : (b : ℤ) → room_of (Some b) ≡ suc (unsigned_abs (pos (2 ^ 42) -ℤ b))
+unfolding room_of
+room_some b = refl
+
+room_push : (os : List (Option ℤ)) (o : Option ℤ) → room (os ++ o ∷ []) ≡ room os + room_of o
+unfolding room
+room_push [] o = omega arith
+room_push (x ∷ os) o = omega (arith, room_push os o)
+
+closer : (a b : ℤ) → a <ℤ b → b ≤ℤ pos (2 ^ 41) → unsigned_abs (pos (2 ^ 42) -ℤ b) < unsigned_abs (pos (2 ^ 42) -ℤ a)
+closer a b l m = omega (arith, ints)
+
+-- A loosened limit leaves less room, or is as before.
+pub loosened_room : (thresholds : List ℤ) (width : ℕ) (rows : List Row) (f : Form) (old new : Option ℤ) → All (λ t. unsigned_abs t ≤ 2 ^ 41) thresholds
+    → IsLoosened thresholds width rows f old new → (new ≡ old) ⊎ (room_of new < room_of old)
+loosened_room thresholds width rows f old new small (inl stayed) = inl stayed.same
+loosened_room thresholds width rows f old new small (inr (inl risen)) =
+    inr (subst (λ (o : Option ℤ). room_of new < room_of o) (sym risen.was) (of new risen.least))
+  where
+    of : (o : Option ℤ) → IsLeastAbove thresholds (value f risen.point) o → room_of o < room_of (Some risen.from)
+    of (Some b) least =
+        let (known, above, _) = least.some in
+        let m : unsigned_abs b ≤ 2 ^ 41 = All-contains (λ (t : ℤ). unsigned_abs t ≤ 2 ^ 41) thresholds b small known in
+        let l = closer risen.from b (chain risen.from (value f risen.point) b risen.past above) (below b m) in
+        omega (arith, l, room_some b, room_some risen.from)
+      where
+        chain : (a x b : ℤ) → a <ℤ x → x ≤ℤ b → a <ℤ b
+        chain a x b l m = omega (arith, ints)
+
+        below : (b : ℤ) → unsigned_abs b ≤ 2 ^ 41 → b ≤ℤ pos (2 ^ 41)
+        below b m = omega (arith, ints)
+    of Nothing least = omega (arith, room_nothing, room_some risen.from)
+loosened_room thresholds width rows f old new small (inr (inr gone)) =
+    inr (subst (λ (o : Option ℤ). room_of new < room_of o) (sym gone.was) (subst (λ (o : Option ℤ). room_of o < room_of (Some gone.from)) (sym gone.gone)
+    (omega (arith, room_nothing, room_some gone.from))))
+
+changed_le : (b : Bool) (old new : List (Option ℤ)) → HasChanged b old new → room new ≤ room old
+changed_le true old new h = omega (arith, h)
+changed_le false old new h = let e : room new ≡ room old = ap room h in omega (arith, e)
+
+-- one limit more, changed or not
+pub changed_more : (a b : Bool) (olds news : List (Option ℤ)) (old new : Option ℤ) → HasChanged a olds news
+    → (new ≡ old) ⊎ (room_of new < room_of old) → (b ≡ true → new ≢ old) → (b ≡ false → new ≡ old) → HasChanged (a || b) (olds ++ old ∷ []) (news ++ new ∷ [])
+changed_more true b olds news old new h (inl e) t u = omega (arith, h, room_push olds old, room_push news new, ap room_of e)
+changed_more true b olds news old new h (inr l) t u = omega (arith, h, l, room_push olds old, room_push news new)
+changed_more false true olds news old new h (inl e) t u = absurd (t refl e)
+changed_more false true olds news old new h (inr l) t u = omega (arith, ap room h, l, room_push olds old, room_push news new)
+changed_more false false olds news old new h s t u = ap (λ (os : List (Option ℤ)). os ++ new ∷ []) h ∙ ap (λ (o : Option ℤ). olds ++ o ∷ []) (u refl)
+
+pub loosened_more : (thresholds : List ℤ) (width : ℕ) (rows : List Row) (forms : List Form) (n : ℕ) (old news : List (Option ℤ)) (o new : Option ℤ) (f : Form)
+    → AreLoosened thresholds width rows forms n old news → limit_at old n ≡ o → form_at forms n ≡ f → IsLoosened thresholds width rows f o new
+    → AreLoosened thresholds width rows forms (n + 1) old (news ++ new ∷ [])
+loosened_more thresholds width rows forms n old news o new f are is is_form here = record {
+  size = let s = are.size in omega (arith, s, length_push news new);
+  each = λ k l. go k l (cases_lt k n);
+}
+  where
+    go : (k : ℕ) → k < n + 1 → (k < n) ⊎ (n ≤ k) → IsLoosened thresholds width rows (form_at forms k) (limit_at old k) (limit_at (news ++ new ∷ []) k)
+    go k l (inl m) =
+        let s = are.size in
+        subst (IsLoosened thresholds width rows (form_at forms k) (limit_at old k))
+        (sym (get_or_append_left news (new ∷ []) Nothing k (omega (arith, m, s)))) (are.each k m)
+    go k l (inr m) =
+        let e : k ≡ n = omega (arith, l, m) in
+        let s = are.size in
+        subst (λ (x : Option ℤ). IsLoosened thresholds width rows (form_at forms k) (limit_at old k) x) (sym (get_or_push news new Nothing k (s ∙ sym e)))
+        (subst (λ (x : Option ℤ). IsLoosened thresholds width rows (form_at forms k) x new) (sym (ap (limit_at old) e ∙ is))
+        (subst (λ (g : Form). IsLoosened thresholds width rows g o new) (sym (ap (form_at forms) e ∙ is_form)) here))
+
+-- a limit and the greatest value of a form
+pub limit_risen : (thresholds : List ℤ) (width : ℕ) (rows : List Row) (f : Form) (limit : ℤ) (g : Peak) → IsGreatest width rows f.coefficients g
+    → (v : ℤ) → v ≡ g.bound +ℤ f.constant → (new : Option ℤ) → ((v ≤ℤ limit) × (new ≡ Some limit)) ⊎ ((limit <ℤ v) × IsLeastAbove thresholds v new)
+    → IsLoosened thresholds width rows f (Some limit) new
+limit_risen thresholds width rows f limit g great v is new (inl (low, same)) = inl (record {
+  same = same;
+  held = λ b e point boxed. chain (dot f.coefficients point) f.constant g.bound v limit b is (great.most point boxed) low (same_Some limit b e);
+})
+  where
+    chain : (d k g v l b : ℤ) → v ≡ g +ℤ k → d ≤ℤ g → v ≤ℤ l → l ≡ b → (d +ℤ k) ≤ℤ b
+    chain d k g v l b e m n q = omega (arith, ints)
+limit_risen thresholds width rows f limit g great v is new (inr (past, least)) =
+    let (point, boxed, at) = great.reached in
+    let worth : v ≡ value f point = total (dot f.coefficients point) f.constant g.bound v is at in
+    inr (inl (record {
+      from = limit;
+      was = refl;
+      point = point;
+      boxed = boxed;
+      past = subst (λ (z : ℤ). limit <ℤ z) worth past;
+      least = subst (λ (z : ℤ). IsLeastAbove thresholds z new) worth least;
+    }))
+  where
+    total : (d k g v : ℤ) → v ≡ g +ℤ k → d ≡ g → v ≡ d +ℤ k
+    total d k g v e q = omega (arith, ints)
+
+pub limit_gone : (thresholds : List ℤ) (width : ℕ) (rows : List Row) (f : Form) (limit : ℤ) → IsUnbounded width rows f.coefficients
+    → IsLoosened thresholds width rows f (Some limit) Nothing
+limit_gone thresholds width rows f limit free = inr (inr (record {
+  from = limit;
+  was = refl;
+  gone = refl;
+  far = λ z. let (point, boxed, m) = free (z -ℤ f.constant) in (point, boxed, above z f.constant (dot f.coefficients point) m);
+}))
+  where
+    above : (z k d : ℤ) → (z -ℤ k) ≤ℤ d → z ≤ℤ (d +ℤ k)
+    above z k d m = omega (arith, ints)
+
+pub map_ok : {A E : Type 0} (o : Result A E) (P Q : A → Type 0) → ((r : A) → P r → Q r) → IfOk o P → IfOk o Q
+map_ok (Ok r) P Q f h = f r h
+map_ok (Err e) P Q f h = h
+
+-- the opposite of a form is within the same numbers
+pub multiple_within : (f g : Form) → IsMultiple (negsuc 0) f g → FormWithin (2 ^ 41) f → FormWithin (2 ^ 41) g
+multiple_within f g m h = (
+  All-from_get_or (λ (z : ℤ). unsigned_abs z ≤ 2 ^ 41) g.coefficients (pos 0) (λ k l.
+      let w = m.width in flip (number k f.coefficients) (number k g.coefficients) (m.coefficients k) (h.0 k (pos 0) (omega (arith, l, w)))),
+  flip f.constant g.constant m.constant h.1,
+)
+  where
+    flip : (x y : ℤ) → y ≡ negsuc 0 *ℤ x → unsigned_abs x ≤ 2 ^ 41 → unsigned_abs y ≤ 2 ^ 41
+    flip x y e l = omega (arith, ints)
+
+pub match_true : (b : Bool) (P Q : Type 0) → MatchBool b P Q → b ≡ true → P
+match_true true P Q h e = h
+match_true false P Q h e = cc
+
+pub match_false : (b : Bool) (P Q : Type 0) → MatchBool b P Q → b ≡ false → Q
+match_false true P Q h e = cc
+match_false false P Q h e = h

@@ -1,0 +1,14 @@
+use Rattle.std.proofs.Common.{◌≡◌, ◌++◌, length}
+use Rattle.rv_diagram.specs.declared.frozen.Frozen.{Frozen}
+use Rattle.rv_proofs.specs.Systems.{System}
+use Rattle.rv_proofs.specs.Boxes.{BoxClaim}
+use Rattle.rv_boxes.specs.Rounds.{IsSetting}
+use Rattle.rv_boxes.specs.Certifying.{IsJudgeable, AreCasesIn, AreEntriesOf}
+use Rattle.rv_boxes.proofs.entries.entries.Given as goal
+
+abbrev pub invariant-loop-case : goal.invariant-loop-case
+invariant-loop-case l = record {
+  all : l.fn.cases ≡ l.yielded ++ l.case-iterator.rest.items;
+  entries : (s : System) (c : BoxClaim) (from : Frozen) → IsJudgeable s l.frame c l.wanted → IsSetting s c from l.given → AreCasesIn s from l.fn.cases
+      → AreEntriesOf s c from l.given l.wanted l.yielded (length l.yielded) l.list;
+}

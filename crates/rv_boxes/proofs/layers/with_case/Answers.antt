@@ -1,0 +1,43 @@
+use Rattle.std.proofs.Common.{◌||◌, sym, subst}
+use Rattle.rv_diagram.specs.Nodes.{value_of, IsOrderedOver}
+use Rattle.rv_symbolic.specs.Growing.{Makes}
+use Rattle.rv_proofs.specs.Scopes.{IsIn}
+use Rattle.rv_proofs.specs.Boxes.{IsTaken}
+use Rattle.rv_walk.specs.Ends.{has}
+use Rattle.rv_boxes.specs.Boxed.{IsOpenBox}
+use Rattle.rv_boxes.specs.Layering.{IsCollected}
+use Rattle.rv_boxes.proofs.Limiting.{map_ok}
+use Rattle.rv_boxes.proofs.Stepping.{premises_are, all_taken, none_taken}
+use Rattle.rv_boxes.proofs.Collecting.{collected_open, collected_shut}
+use Rattle.rv_boxes.proofs.layers.with_case.Goals as goal
+
+pub open_ends-requires-clause-premises : goal.open_ends-requires-clause-premises
+open_ends-requires-clause-premises c =
+    let (s, d, from, o, of) = c.requires.opening in
+    premises_are s o.system c.args.frame.now o.frame d from c.args.given.now o.setting c.args.case.now of c.in_ok-premises.premises c.in_ok-premises.ensures
+
+pub with_condition-requires-clause-condition : goal.with_condition-requires-clause-condition
+with_condition-requires-clause-condition c =
+    let (s, d, from, o, of) = c.requires.opening in
+    let k = of.case in
+    let g = k.given in
+    let x = g.condition in
+    subst (λ m. IsOrderedOver m c.args.case.now.condition) (sym o.variables) x.ordered
+
+pub returns-in-Some-clause-collected : goal.returns-in-Some-clause-collected
+returns-in-Some-clause-collected c s d from o of =
+    let opened : IsOpenBox c.args.frame.now.columns c.in_ok-premises.premises = rw c.in-Some.is at c.in_ok-open_ends.ensures.opened in
+    let all = all_taken s o.system c.args.frame.now o.frame d from c.args.given.now o.setting c.args.case.now of c.in_ok-premises.premises
+    c.in_ok-premises.ensures opened in
+    map_ok c.with_condition.result (Makes c.args.store.now c.with_condition.new.store
+    (λ v. value_of c.args.store.now.nodes c.args.sum v || has c.args.case.now.condition v))
+    (IsCollected c.args.store.now c.with_condition.new.store c.args.sum (λ v. IsIn c.args.case.now.condition v × IsTaken s d v))
+    (λ r m. collected_open s d c.args.store.now c.with_condition.new.store c.args.sum r c.args.case.now.condition m.found m.means all)
+    c.with_condition.ensures.made
+
+pub returns-clause-collected : goal.returns-clause-collected
+returns-clause-collected c s d from o of =
+    let shut = rw c.in-None.is at c.in_ok-open_ends.ensures.shut in
+    collected_shut s d c.args.store.now c.args.sum c.args.case.now.condition c.requires.sum
+    (none_taken s o.system c.args.frame.now o.frame d from c.args.given.now o.setting c.args.case.now of c.in_ok-premises.premises
+    c.in_ok-premises.ensures shut)

@@ -1,0 +1,9 @@
+use Rattle.std.proofs.Common.{◌^◌, negsuc}
+use Rattle.rv_rows.specs.Forms.{FormWithin, IsMultiple}
+use Rattle.rv_boxes.proofs.Limiting.{map_ok, multiple_within}
+use Rattle.rv_boxes.proofs.opening.opposite_form.Goals as goal
+
+pub returns-clause-within : goal.returns-clause-within
+returns-clause-within c =
+    map_ok c.scale.result (IsMultiple (negsuc 0) c.args.form.now) (FormWithin (2 ^ 41)) (λ g m. multiple_within c.args.form.now g m c.requires)
+    c.scale.ensures.exact

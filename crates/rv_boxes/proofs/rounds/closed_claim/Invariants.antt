@@ -1,0 +1,20 @@
+use Rattle.std.proofs.Common.{◌≡◌, ◌+◌, cond, false, length}
+use Rattle.rv_proofs.specs.Systems.{System}
+use Rattle.rv_proofs.specs.Boxes.{IsClosed}
+use Rattle.rv_boxes.specs.Orders.{IsBelowClosed}
+use Rattle.rv_boxes.specs.Claiming.{claim_of}
+use Rattle.rv_boxes.specs.Rounds.{IsGiven, IsStart, IsKeptClaim, left_of}
+use Rattle.rv_boxes.proofs.rounds.closed_claim.Given as goal
+
+abbrev pub invariant-loop-more : goal.invariant-loop-more
+invariant-loop-more l = record {
+  same : l.store ≡ l.initial.store;
+  kept : (s : System) → IsGiven s l.initial.store l.relation l.questions l.frame → IsStart s l.first l.from_first → IsKeptClaim s l.frame l.claim;
+  below : (s : System) → IsGiven s l.initial.store l.relation l.questions l.frame → IsStart s l.first l.from_first
+      → IsBelowClosed s l.frame.thresholds (claim_of l.claim);
+  closed : (s : System) → IsGiven s l.initial.store l.relation l.questions l.frame → IsStart s l.first l.from_first → l.more ≡ false
+      → IsClosed s (claim_of l.claim);
+}
+
+abbrev pub decreases-loop-more : goal.decreases-loop-more
+decreases-loop-more l = left_of (length l.relation.parts.next) l.claim (λ x. false) + cond l.more 1 0

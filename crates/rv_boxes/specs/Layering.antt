@@ -1,0 +1,44 @@
+-- Where a claim takes a valuation, in a store.
+use Rattle.std.specs.Prelude.{◌≡◌, ◌⊎◌, ◌↔◌, ℕ, Bool, true, List}
+use Rattle.rv_diagram.specs.Nodes.{Valuation, Diagrams, IsRef, value_of}
+use Rattle.rv_diagram.specs.declared.frozen.Frozen.{Frozen}
+use Rattle.rv_rows.specs.declared.linear.Row.{Row}
+use Rattle.rv_proofs.specs.Systems.{System, IsSystem}
+use Rattle.rv_proofs.specs.Boxes.{BoxClaim, IsTaken}
+use Rattle.rv_symbolic.specs.declared.relation.Parts.{Parts}
+use Rattle.rv_boxes.specs.declared.frame.Frame.{Frame}
+use Rattle.rv_symbolic.specs.declared.relation.Relation.{Relation}
+use Rattle.rv_symbolic.specs.Represented.{IsRelationOf}
+use Rattle.rv_boxes.specs.Narrowed.{narrowed}
+use Rattle.rv_boxes.specs.Opening.{IsFrameOf}
+use Rattle.rv_boxes.specs.Rounds.{IsSetting}
+
+-- Control states of a claim with the rows of its bounds, in a store with the variables of the system.
+pub record IsOpening (s : System) (d : Diagrams) (f : Frame) (c : BoxClaim) (from : Frozen) (given : List Row) : Type 0 where
+  pub system : IsSystem s
+  pub frame : IsFrameOf s f
+  pub variables : d.variables ≡ s.variables
+  pub setting : IsSetting s c from given
+
+-- The reference is true exactly where the old one was, or where this holds.
+pub record IsCollected (old new : Diagrams) (sum : ℕ) (holds : Valuation → Type 0) (r : ℕ) : Type 0 where
+  pub found : IsRef new.nodes r
+  pub exact : (v : Valuation) → (value_of new.nodes r v ≡ true) ↔ ((value_of old.nodes sum v ≡ true) ⊎ holds v)
+
+-- The reference is true exactly where the claim takes the valuation.
+pub record IsTakenAt (s : System) (d : Diagrams) (c : BoxClaim) (r : ℕ) : Type 0 where
+  pub found : IsRef d.nodes r
+  pub exact : (v : Valuation) → (value_of d.nodes r v ≡ true) ↔ IsTaken s c v
+
+-- The same parts, but for which valuations are allowed.
+pub record ArePartsWith (old : Parts) (allowed : ℕ) (new : Parts) : Type 0 where
+  pub allowed_is : new.allowed ≡ allowed
+  pub observer : new.observer ≡ old.observer
+  pub initial : new.initial ≡ old.initial
+  pub next : new.next ≡ old.next
+
+-- The relation is that of the system whose allowed valuations are those that the claim takes, without integers.
+pub record IsNarrowedTo (s : System) (d : Diagrams) (c : BoxClaim) (r : Relation) : Type 0 where
+  pub taken : Valuation → Bool
+  pub exact : (v : Valuation) → (taken v ≡ true) ↔ IsTaken s c v
+  pub relation : IsRelationOf (narrowed s taken) d r

@@ -1,0 +1,14 @@
+pub mod Ends
+pub mod Weighing
+pub mod Boxed
+pub mod Orders
+pub mod Built
+pub mod Limits
+pub mod Bounding
+pub mod Opening
+pub mod Claiming
+pub mod Rounds
+pub mod Certifying
+pub mod Narrowed
+pub mod Layering
+pub mod Passing

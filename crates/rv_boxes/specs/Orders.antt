@@ -1,0 +1,15 @@
+-- Claims that are within each closed one, and the least threshold above a value.
+use Rattle.std.specs.Prelude.{ℤ, ◌≤ℤ◌, ◌<ℤ◌, List, Option, IfSome, IfNone}
+use Rattle.std.specs.List.{Contains}
+use Rattle.rv_proofs.specs.Systems.{System}
+use Rattle.rv_proofs.specs.Boxes.{BoxClaim, IsBoxClaim, IsClosed}
+use Rattle.rv_proofs.specs.Reached.{IsTighter}
+
+-- The claim claims no less than each closed one.
+abbrev pub IsBelowClosed : System → List ℤ → BoxClaim → Type 0
+IsBelowClosed s thresholds c = (d : BoxClaim) → IsBoxClaim s thresholds d → IsClosed s d → IsTighter s c d
+
+-- The least of the thresholds that is not below the value, or none where all are below it.
+pub record IsLeastAbove (thresholds : List ℤ) (x : ℤ) (bound : Option ℤ) : Type 0 where
+  pub some : IfSome bound (λ b. Contains thresholds b × (x ≤ℤ b) × ((t : ℤ) → Contains thresholds t → x ≤ℤ t → b ≤ℤ t))
+  pub none : IfNone bound ((t : ℤ) → Contains thresholds t → t <ℤ x)

@@ -1,0 +1,24 @@
+-- What a box pass is given, and how it ends.
+use Rattle.std.specs.Prelude.{◌≡◌, ℕ, ℤ, List}
+use Rattle.rv_diagram.specs.Nodes.{Diagrams}
+use Rattle.rv_proofs.specs.Systems.{System}
+use Rattle.rv_proofs.specs.Accepted.{IsAccepted}
+use Rattle.rv_proofs.specs.Boxes.{BoxClaim, HasGoodBox}
+use Rattle.rv_proofs.specs.Reached.{IsLeastClosed, AreLayers}
+use Rattle.rv_symbolic.specs.declared.relation.Relation.{Relation}
+use Rattle.rv_symbolic.specs.Represented.{IsRelationOf}
+use Rattle.rv_cases.specs.declared.asking.Questions.{Questions}
+use Rattle.rv_cases.specs.Questions.{AreQuestions}
+use Rattle.rv_walk.specs.declared.end.BoxEnd.{BoxEnd}
+use Rattle.rv_walk.specs.declared.end.BoxEnd.TheVariants.{Good, Bad}
+
+-- The relation and the questions are those of the system in the store, and the system has so many columns.
+pub record IsPassOf (s : System) (d : Diagrams) (r : Relation) (q : Questions) (columns : ℕ) : Type 0 where
+  pub relation : IsRelationOf s d r
+  pub questions : AreQuestions s d q
+  pub wide : s.columns ≡ columns
+
+-- Good has an accepted certificate where some closed claim is good. Bad has the layers of the least closed claim, where none is.
+abbrev pub IsEndOf : System → List ℤ → BoxEnd → Type 0
+IsEndOf s thresholds (Good c) = IsAccepted s c × HasGoodBox s thresholds
+IsEndOf s thresholds (Bad l) = (¬ HasGoodBox s thresholds) × ((c : BoxClaim) × IsLeastClosed s thresholds c × AreLayers s c l.sets)

@@ -1,0 +1,129 @@
+//! What a case does to limits: nothing where its box is shut, else what its updates loosen.
+
+ghost use Rattle.std.specs.Prelude.{◌≡◌, ◌<◌, ◌≤◌, ◌^◌, ℤ, negsuc, ◌*ℤ◌, List, length, All, IfOk, IfSome, IfNone};
+ghost use Rattle.std.specs.Int.RustNames.{unsigned_abs};
+ghost use Rattle.rv_rows.specs.declared.linear.Form.{Form as FormModel};
+ghost use Rattle.rv_rows.specs.Forms.{value, FormWithin};
+ghost use Rattle.rv_boxes.specs.Ends.{AreEnds};
+ghost use Rattle.rv_boxes.specs.Boxed.{ArePremises, IsUncrossed, IsOpenBox};
+ghost use Rattle.rv_boxes.specs.Limits.{AreLoosened, HasChanged};
+ghost use Rattle.rv_boxes.specs.Opening.{AreOppositeForms, AreUpdates, IsOpened};
+
+use crate::ends::{End, narrow};
+use crate::frame::Frame;
+use crate::limits::{Loosened, loosen};
+use crate::shut::shut_of;
+use rv_base::{Many, Memory};
+use rv_rows::{Form, Row};
+use std::alloc::Global;
+
+/// The limits after a case whose box is open.
+#[derive(Debug, Drop)]
+pub struct Opened {
+    /// The limits of the memories.
+    pub upper: Loosened,
+    /// The limits of their opposites.
+    pub lower: Loosened,
+}
+
+/// The ends of the box of the premises, or none where it is shut: it is empty, or the least value of a premise over it is above the
+/// premise's bound.
+pub fn open_ends(
+    alloc: Global,
+    premises: &Many<Row>,
+    columns: usize,
+) -> Result<Option<Many<End>>, Memory>
+    requires premises { ArePremises columns premises.now }
+    requires few { columns < 256 }
+    ensures size { IfOk result (λ o. IfSome o (λ ends. length ends ≡ columns)) }
+    ensures ends { IfOk result (λ o. IfSome o (AreEnds premises.now columns)) }
+    ensures uncrossed { IfOk result (λ o. IfSome o (λ ends. IsUncrossed premises.now ends columns)) }
+    ensures opened { IfOk result (λ o. IfSome o (λ ends. IsOpenBox columns premises.now)) }
+    ensures shut { IfOk result (λ o. IfNone o (¬ IsOpenBox columns premises.now)) }
+{
+    let ends = narrow(alloc, premises, columns)?;
+    match shut_of(alloc, premises, &ends)? {
+        Some(_) => Ok(None),
+        None => Ok(Some(ends)),
+    }
+}
+
+/// The form times -1.
+fn opposite_form(alloc: Global, form: &Form) -> Result<Form, Memory>
+    requires { FormWithin (2 ^ 41) form.now }
+    ensures width { IfOk result (λ f. length f.coefficients ≡ length form.now.coefficients) }
+    ensures values { IfOk result (λ f. (point : List ℤ) → value f point ≡ negsuc 0 *ℤ value form.now point) }
+    ensures within { IfOk result (FormWithin (2 ^ 41)) }
+{
+    form.scale(alloc, -1)
+}
+
+/// Each form times -1.
+fn opposite_forms(alloc: Global, forms: &Many<Form>) -> Result<Many<Form>, Memory>
+    requires { All (FormWithin (2 ^ 41)) forms.now }
+    ensures are { IfOk result (AreOppositeForms forms.now) }
+    ensures within { IfOk result (All (FormWithin (2 ^ 41))) }
+{
+    let mut opposites = Many::new(alloc);
+    for memory in 0..forms.len() {
+        let form = opposite_form(alloc, forms.at(memory))?;
+        opposites.push(form)?;
+    }
+    Ok(opposites)
+}
+
+/// The limits of the opposites, loosened by the opposites of the updates.
+fn loosen_lower(
+    alloc: Global,
+    frame: &Frame,
+    premises: &Many<Row>,
+    ends: &Many<End>,
+    updates: &Many<Form>,
+    lower: &Many<Option<i128>>,
+) -> Result<Loosened, Memory>
+    requires premises { ArePremises frame.now.columns premises.now }
+    requires size { length ends.now ≡ frame.now.columns }
+    requires ends { AreEnds premises.now frame.now.columns ends.now }
+    requires some { IsUncrossed premises.now ends.now frame.now.columns }
+    requires few { frame.now.columns < 256 }
+    requires updates { AreUpdates frame.now.columns (length lower.now) updates.now }
+    requires thresholds { All (λ t. unsigned_abs t ≤ 2 ^ 41) frame.now.opposites }
+    ensures loosened { IfOk result (λ r. (opposites : List FormModel) × AreOppositeForms updates.now opposites
+        × AreLoosened frame.now.opposites frame.now.columns premises.now opposites (length lower.now) lower.now r.limits) }
+    ensures changed { IfOk result (λ r. HasChanged r.changed lower.now r.limits) }
+{
+    let opposites = opposite_forms(alloc, updates)?;
+    loosen(alloc, premises, ends, &opposites, &frame.opposites, lower)
+}
+
+/// The limits, loosened by the updates over the box of the premises, or none where that is shut.
+pub fn open_limits(
+    alloc: Global,
+    frame: &Frame,
+    premises: &Many<Row>,
+    updates: &Many<Form>,
+    upper: &Many<Option<i128>>,
+    lower: &Many<Option<i128>>,
+) -> Result<Option<Opened>, Memory>
+    requires premises { ArePremises frame.now.columns premises.now }
+    requires few { frame.now.columns < 256 }
+    requires updates { AreUpdates frame.now.columns (length upper.now) updates.now }
+    requires sizes { length lower.now ≡ length upper.now }
+    requires thresholds { All (λ t. unsigned_abs t ≤ 2 ^ 41) frame.now.thresholds }
+    requires opposites { All (λ t. unsigned_abs t ≤ 2 ^ 41) frame.now.opposites }
+    ensures some { IfOk result (λ o. IfSome o (IsOpened frame.now premises.now updates.now upper.now lower.now)) }
+    ensures none { IfOk result (λ o. IfNone o (¬ IsOpenBox frame.now.columns premises.now)) }
+{
+    match open_ends(alloc, premises, frame.columns)? {
+        Some(ends) => {
+            let thresholds = &frame.thresholds;
+            let above = loosen(alloc, premises, &ends, updates, thresholds, upper)?;
+            let below = loosen_lower(alloc, frame, premises, &ends, updates, lower)?;
+            Ok(Some(Opened {
+                upper: above,
+                lower: below,
+            }))
+        }
+        None => Ok(None),
+    }
+}

@@ -1,0 +1,197 @@
+//! The box pass.
+
+ghost use Rattle.std.specs.Prelude.{◌≡◌, ◌↔◌, ◌<◌, ◌≤◌, ◌^◌, All, length, IfOk, IfSome, IfNone, IsErrOf, Ok};
+ghost use Rattle.std.specs.Int.RustNames.{unsigned_abs};
+ghost use Rattle.rv_proofs.specs.Systems.{System};
+ghost use Rattle.rv_proofs.specs.Accepted.{IsAccepted};
+ghost use Rattle.rv_proofs.specs.Boxes.{BoxClaim, IsGood, HasGoodBox};
+ghost use Rattle.rv_proofs.specs.Reached.{IsLeastClosed, AreLayers};
+ghost use Rattle.rv_proofs.specs.declared.certificate.Certificate.{Certificate as CertificateModel};
+ghost use Rattle.rv_proofs.specs.declared.report.Layers.{Layers as LayersModel};
+ghost use Rattle.rv_walk.specs.Ends.{IsGoodEnd};
+ghost use Rattle.rv_boxes.specs.declared.frame.Frame.{Frame as FrameModel};
+ghost use Rattle.rv_boxes.specs.Claiming.{claim_of};
+ghost use Rattle.rv_boxes.specs.Opening.{IsFrameOf};
+ghost use Rattle.rv_boxes.specs.Rounds.{IsGiven, IsStart, IsLeastClaim};
+ghost use Rattle.rv_boxes.specs.Certifying.{IsBad};
+ghost use Rattle.rv_boxes.specs.Passing.{IsPassOf, IsEndOf};
+
+use crate::claim::Claim;
+use crate::frame::Frame;
+use crate::layers::layers;
+use crate::locations::certify;
+use crate::rounds::{closed_claim, others_of};
+use crate::shut::negated;
+use rv_base::{Many, Memory};
+use rv_cases::{Questions, cases};
+use rv_diagram::{Frozen, Store, StoreFault};
+use rv_proofs::{Case, Certificate, Layers};
+use rv_symbolic::Relation;
+use rv_walk::BoxEnd;
+use std::alloc::Global;
+
+/// What is the same throughout the pass.
+fn frame_of(
+    alloc: Global,
+    questions: &Questions,
+    thresholds: &[i128],
+    columns: usize,
+) -> Result<Frame, Memory>
+    requires { All (λ t. unsigned_abs t ≤ 2 ^ 41) thresholds.now }
+    ensures thresholds { IfOk result (λ f. f.thresholds ≡ thresholds.now) }
+    ensures frame { (s : System) → s.columns ≡ columns → s.tests ≡ length questions.now.rows → IfOk result (IsFrameOf s) }
+{
+    let list = Vec::from_slice(alloc, thresholds)?;
+    let thresholds = Many::from_vec(list);
+    let opposites = negated(alloc, &thresholds)?;
+    Ok(Frame {
+        columns,
+        tests: questions.rows.len(),
+        thresholds,
+        opposites,
+    })
+}
+
+/// The initial control states, and their cases.
+#[derive(Debug, Drop)]
+struct Start {
+    first: Frozen,
+    from_first: Many<Case>,
+}
+
+/// The initial control states, and their cases.
+fn start_of(
+    alloc: Global,
+    store: &mut Store,
+    relation: &Relation,
+    questions: &Questions,
+) -> Result<Start, StoreFault>
+    requires { (s : System) × (f : FrameModel) × IsGiven s store.old relation.now questions.now f }
+    ensures start { (s : System) (f : FrameModel) → IsGiven s store.old relation.now questions.now f → IfOk result (λ x. IsStart s x.first x.from_first) }
+    ensures same { store.new ≡ store.old }
+    ensures roomy { IsErrOf result StoreFault.Nodes → store.old.limit < 2 ^ (2 ^ store.old.variables) }
+{
+    let first = relation.initial(store)?;
+    let allowed = relation.parts().allowed;
+    let from_first = cases(alloc, store, allowed, questions, &first)?;
+    Ok(Start { first, from_first })
+}
+
+/// The certificate of the least closed claim, or none where it is not good.
+fn good_end(
+    alloc: Global,
+    store: &mut Store,
+    relation: &Relation,
+    questions: &Questions,
+    frame: &Frame,
+    claim: &Claim,
+) -> Result<Option<Certificate>, StoreFault>
+    requires { (s : System) × IsGiven s store.old relation.now questions.now frame.now × IsLeastClaim s frame.now claim.now }
+    ensures some { (s : System) → IsGiven s store.old relation.now questions.now frame.now → IsLeastClaim s frame.now claim.now
+        → IfOk result (λ o. IfSome o (λ x. IsAccepted s x)) }
+    ensures good { (s : System) → IsGiven s store.old relation.now questions.now frame.now → IsLeastClaim s frame.now claim.now
+        → IfOk result (λ o. IfSome o (λ x. IsGood s (claim_of claim.now))) }
+    ensures none { (s : System) → IsGiven s store.old relation.now questions.now frame.now → IsLeastClaim s frame.now claim.now
+        → IfOk result (λ o. IfNone o (IsBad s (claim_of claim.now))) }
+    ensures same { store.new ≡ store.old }
+    ensures roomy { IsErrOf result StoreFault.Nodes → store.old.limit < 2 ^ (2 ^ store.old.variables) }
+{
+    let start = start_of(alloc, store, relation, questions)?;
+    let others = others_of(alloc, store, relation, questions, &start.first, claim)?;
+    let Start { first, from_first } = start;
+    Ok(certify(alloc, frame, first, from_first, others)?)
+}
+
+/// The layers of the least closed claim, which is not good.
+fn bad_end(
+    alloc: Global,
+    store: &mut Store,
+    relation: &Relation,
+    questions: &Questions,
+    frame: &Frame,
+    claim: &Claim,
+) -> Result<Layers, StoreFault>
+    requires { (s : System) × IsGiven s store.old relation.now questions.now frame.now × IsLeastClaim s frame.now claim.now
+        × IsBad s (claim_of claim.now) }
+    ensures layers { (s : System) → IsGiven s store.old relation.now questions.now frame.now → IsLeastClaim s frame.now claim.now
+        → IfOk result (λ l. AreLayers s (claim_of claim.now) l.sets) }
+    ensures same { store.new ≡ store.old }
+    ensures roomy { IsErrOf result StoreFault.Nodes → store.old.limit < 2 ^ (2 ^ store.old.variables) }
+{
+    let start = start_of(alloc, store, relation, questions)?;
+    let others = others_of(alloc, store, relation, questions, &start.first, claim)?;
+    layers(alloc, store, relation, frame, &start.from_first, &others)
+}
+
+/// How the pass ends at the least closed claim.
+fn end_of(
+    alloc: Global,
+    store: &mut Store,
+    relation: &Relation,
+    questions: &Questions,
+    frame: &Frame,
+    claim: &Claim,
+) -> Result<BoxEnd, StoreFault>
+    requires { (s : System) × IsGiven s store.old relation.now questions.now frame.now × IsLeastClaim s frame.now claim.now }
+    ensures ends { (s : System) → IsGiven s store.old relation.now questions.now frame.now → IsLeastClaim s frame.now claim.now
+        → IfOk result (IsEndOf s frame.now.thresholds) }
+    ensures same { store.new ≡ store.old }
+    ensures roomy { IsErrOf result StoreFault.Nodes → store.old.limit < 2 ^ (2 ^ store.old.variables) }
+{
+    match good_end(alloc, store, relation, questions, frame, claim)? {
+        Some(certificate) => Ok(BoxEnd::Good(certificate)),
+        None => {
+            let layers = bad_end(alloc, store, relation, questions, frame, claim)?;
+            Ok(BoxEnd::Bad(layers))
+        }
+    }
+}
+
+/// The pass within a frame.
+fn pass_in(
+    alloc: Global,
+    store: &mut Store,
+    relation: &Relation,
+    questions: &Questions,
+    frame: &Frame,
+) -> Result<BoxEnd, StoreFault>
+    requires { (s : System) × IsGiven s store.old relation.now questions.now frame.now }
+    ensures ends { (s : System) → IsGiven s store.old relation.now questions.now frame.now → IfOk result (IsEndOf s frame.now.thresholds) }
+    ensures same { store.new ≡ store.old }
+    ensures roomy { IsErrOf result StoreFault.Nodes → store.old.limit < 2 ^ (2 ^ store.old.variables) }
+{
+    let start = start_of(alloc, store, relation, questions)?;
+    let first = &start.first;
+    let from_first = &start.from_first;
+    let claim = closed_claim(alloc, store, relation, questions, frame, first, from_first)?;
+    end_of(alloc, store, relation, questions, frame, &claim)
+}
+
+/// The box pass: the least closed box claim of a system, upward from the initial control states and the closest thresholds. A bound
+/// rises only to the least threshold that holds a value that it must, and disappears past the last one. `relation` and `questions` are
+/// those of the system in the store, `columns` says how many integer memories and inputs it has. Good comes exactly where a closed good
+/// claim exists, and its certificate is accepted: one location for the initial control states, one for the others, with the bounds as
+/// rows. Bad has the layers of the least closed claim. The store is left as it was, after a fault too. Nodes comes where the store has no
+/// room for what is built on the way, never where its limit holds every function of its variables, and Memory where there is none.
+pub fn box_pass(
+    alloc: Global,
+    store: &mut Store,
+    relation: &Relation,
+    questions: &Questions,
+    thresholds: &[i128],
+    columns: usize,
+) -> Result<BoxEnd, StoreFault>
+    requires system { (s : System) × IsPassOf s store.old relation.now questions.now columns }
+    requires thresholds { All (λ t. unsigned_abs t ≤ 2 ^ 41) thresholds.now }
+    ensures good { (s : System) (c : CertificateModel) → IsPassOf s store.old relation.now questions.now columns → result ≡ Ok (BoxEnd.Good c)
+        → IsAccepted s c }
+    ensures exactly { (s : System) → IsPassOf s store.old relation.now questions.now columns
+        → IfOk result (λ e. IsGoodEnd e ↔ HasGoodBox s thresholds.now) }
+    ensures bad { (s : System) (l : LayersModel) → IsPassOf s store.old relation.now questions.now columns → result ≡ Ok (BoxEnd.Bad l)
+        → (c : BoxClaim) × IsLeastClosed s thresholds.now c × AreLayers s c l.sets }
+    ensures same { store.new ≡ store.old }
+    ensures roomy { IsErrOf result StoreFault.Nodes → store.old.limit < 2 ^ (2 ^ store.old.variables) }
+{
+    let frame = frame_of(alloc, questions, thresholds, columns)?;
+    pass_in(alloc, store, relation, questions, &frame)
+}
