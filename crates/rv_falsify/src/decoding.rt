@@ -13,8 +13,8 @@ ghost use Rattle.rv_control.specs.Spelled.{value_at, decoded, spelled_starts, sp
 ghost use Rattle.rv_falsify.specs.Decoding.{bits_before, bit_behind, bits_along};
 
 use rv_base::{Many, Memory, Text, Trace, Value};
+use rv_bits::bits_of_kind;
 use rv_flat::Flat;
-use rv_reading::bits_of_kind;
 use rv_types::Kind;
 use std::alloc::Global;
 

@@ -1,15 +1,1 @@
-pub mod Codes
-pub mod Making
-pub mod Naming
-pub mod Showing
-pub mod Keeping
-pub mod Trees
-pub mod Listing
-pub mod Fitting
-pub mod Flowing
-pub mod Asserting
-pub mod Labels
-pub mod Nexting
-pub mod Spelling
-pub mod Wholes
 pub mod Representing

@@ -9,12 +9,24 @@ use Rattle.rv_flat.specs.declared.flat.Flat.{Flat}
 use Rattle.rv_flat.specs.FlatInstants.{system_of}
 use Rattle.rv_flat.specs.Lists.{variable_of}
 use Rattle.rv_proofs.specs.Systems.{IsSystem}
+use Rattle.rv_proofs.specs.Systems as proofs
 use Rattle.rv_control.specs.Control.{control_of}
 use Rattle.rv_control.specs.Named.{named}
 use Rattle.rv_control.specs.Symbolic.{symbolic}
 use Rattle.rv_symbolic.specs.Represented.{AreParts, HaveRefs}
-use Rattle.rv_symbolic.specs.declared.symbolic.Parts.{Parts}
-use Rattle.rv_reading.specs.Whole.{ArePartsRead}
+use Rattle.rv_symbolic.specs.declared.relation.Parts.{Parts}
+use Rattle.rv_symbolic.specs.Growing.{Extends}
+use Rattle.rv_terms.specs.Growing as terms
+use Rattle.rv_cases.specs.declared.asking.Questions.{Questions}
+use Rattle.rv_cases.specs.Questions.{AreQuestions}
+use Rattle.rv_cases.proofs.Keeping.{questions_later}
+use Rattle.rv_bits.specs.Whole.{ArePartsRead}
+use Rattle.rv_proofs.specs.Counts.{HasFree}
+use Rattle.rv_proofs.specs.Ranges.{IsInRange}
+use Rattle.rv_proofs.specs.declared.certificate.Certificate.{Certificate}
+use Rattle.rv_accept.specs.Passing.{IsGiven}
+use Rattle.rv_reading.specs.declared.reading.Reading.{Reading}
+use Rattle.rv_reading.specs.Read.{system_read, diagrams_of, relation_of, questions_of, IsRead}
 
 module _ (f : Flat) (well : IsWell (system_of f)) (computed : (s : System) (w : Valuation) → IsWell s → IsSymbolic s w (symbolic s w)) (a b : Diagrams) (p : Parts)
     (size : a.variables ≡ length f.variables) (are : ArePartsRead f a b p) where
@@ -36,3 +48,20 @@ module _ (f : Flat) (well : IsWell (system_of f)) (computed : (s : System) (w : 
     next = λ i lt. are.next.are_refs i (omega (arith, are.next.size));
     copies = omega (arith, system.bits, are.next.size, are.extends.variables, size, length-map f.variables variable_of);
   }
+
+-- ---- What is read stays read while the store grows.
+terms_extends : (a b : Diagrams) → Extends a b → terms.Extends a b
+terms_extends a b e = record { begins = e.begins; longer = e.longer; kept = e.kept; variables = e.variables; limit = e.limit }
+
+pub questions_kept : (s : proofs.System) (a b : Diagrams) (q : Questions) → Extends a b → AreQuestions s a q → AreQuestions s b q
+questions_kept s a b q e are = questions_later s a b q (terms_extends a b e) are
+
+-- What a checker is given of a reading.
+pub is_given : (r : Reading) (c : Certificate) → IsRead r → IsInRange (system_read r) c → HasFree c
+    → IsGiven (system_read r) (diagrams_of r) (relation_of r).parts (questions_of r) c
+is_given r c read range free = record {
+  held = record { system = read.relation.system; refs = read.relation.laid_out.refs; means = read.relation.parts };
+  questions = read.questions;
+  range = range;
+  free = free;
+}

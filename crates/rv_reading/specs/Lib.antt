@@ -1,12 +1,2 @@
-pub mod Bits
-pub mod Constants
-pub mod Names
-pub mod Operators
-pub mod Shown
-pub mod Reads
-pub mod Tables
-pub mod Flows
-pub mod Asserted
-pub mod Following
-pub mod Whole
 pub mod Read
+pub mod Lending

@@ -3,23 +3,31 @@ use Rattle.rv_diagram.specs.Nodes.{Diagrams}
 use Rattle.rv_proofs.specs.Systems.{System}
 use Rattle.rv_flat.specs.declared.flat.Flat.{Flat}
 use Rattle.rv_control.specs.Control.{control_of}
-use Rattle.rv_symbolic.specs.Represented.{store_of, IsSymbolicOf}
-use Rattle.rv_symbolic.specs.declared.symbolic.Symbolic.{Symbolic}
+use Rattle.rv_symbolic.specs.Represented.{IsRelationOf}
+use Rattle.rv_symbolic.specs.declared.relation.Relation.{Relation}
+use Rattle.rv_cases.specs.declared.asking.Questions.{Questions}
+use Rattle.rv_cases.specs.Questions.{AreQuestions, AreDistinct}
 use Rattle.rv_reading.specs.declared.reading.Reading.{Reading}
 
--- the flat system of a reading, what it is at a valuation, and the store of a reading
+-- the flat system of a reading, what it is at a valuation, its relation in the store, the store, and its questions
 abbrev pub flat_of : Reading → Flat
 flat_of r = r.flat.now
 
 abbrev pub system_read : Reading → System
 system_read r = control_of (flat_of r)
 
-abbrev pub symbolic_of : Reading → Symbolic
-symbolic_of r = r.symbolic
+abbrev pub relation_of : Reading → Relation
+relation_of r = r.relation
 
 abbrev pub diagrams_of : Reading → Diagrams
-diagrams_of r = store_of (symbolic_of r)
+diagrams_of r = r.store
 
--- The references of the reading have in its store the meanings of its flat system.
-abbrev pub IsRead : Reading → Type 0
-IsRead r = IsSymbolicOf (system_read r) (symbolic_of r)
+abbrev pub questions_of : Reading → Questions
+questions_of r = r.questions
+
+-- The references of the reading have in its store the meanings of its flat system, and the answers to its questions what order tests,
+-- integer memories and the observer are, no row and no form in two answers to one question.
+pub record IsRead (r : Reading) : Type 0 where
+  pub relation : IsRelationOf (system_read r) (diagrams_of r) (relation_of r)
+  pub questions : AreQuestions (system_read r) (diagrams_of r) (questions_of r)
+  pub distinct : AreDistinct (questions_of r)

@@ -1,6 +1,7 @@
 //! The control reading of a flat system.
 
-ghost use Rattle.std.specs.Prelude.{◌≡◌, ◌↔◌, ◌<◌, ◌≤◌, ◌^◌, ℕ, ℤ, Bool, List, Ok, None, Some, length, slice_get, IfOk, IsErrOf};
+ghost use Rattle.std.specs.Prelude.{◌≡◌, ◌↔◌, ◌<◌, ◌≤◌, ◌^◌, ℕ, ℤ, Bool, List, Ok, None, Some, length, slice_get, IfOk, OnOk, IsErrOf};
+ghost use Rattle.std.specs.Borrow.{sem};
 ghost use Rattle.rv_diagram.specs.declared.frozen.Frozen.{Frozen as FrozenModel};
 ghost use Rattle.rv_tree.specs.Tree.{ProgramTree};
 ghost use Rattle.rv_tree.specs.Places.{Identifier};
@@ -8,32 +9,82 @@ ghost use Rattle.rv_types.specs.Instances.{IsNode};
 ghost use Rattle.rv_types.specs.WellFormed.{AreWell};
 ghost use Rattle.rv_flat.specs.FlatOf.{IsFlatOf};
 ghost use Rattle.rv_proofs.specs.Cases.{IsCase, AreCases, IsImage, IsPreimage, IsInitialSet};
-ghost use Rattle.rv_proofs.specs.Ranges.{IsControlSet};
+ghost use Rattle.rv_proofs.specs.Ranges.{IsControlSet, IsInRange};
 ghost use Rattle.rv_proofs.specs.Reached.{HasNoIntegers};
 ghost use Rattle.rv_proofs.specs.Runs.{IsSafeSystem};
 ghost use Rattle.rv_proofs.specs.Boxes.{HasGoodBox};
-ghost use Rattle.rv_proofs.specs.declared.certificate.Certificate.{Certificate};
+ghost use Rattle.rv_proofs.specs.Counts.{HasFree};
+ghost use Rattle.rv_proofs.specs.Verdicts.{IsVerdict};
+ghost use Rattle.rv_proofs.specs.declared.certificate.Certificate.{Certificate as CertificateModel};
+ghost use Rattle.rv_control.specs.Control.{control_of};
+ghost use Rattle.rv_cases.specs.Questions.{AreQuestions, AreDistinct};
+ghost use Rattle.rv_cases.specs.Made.{AreDifferent};
+ghost use Rattle.rv_symbolic.specs.Growing.{Extends};
+ghost use Rattle.rv_symbolic.specs.Represented.{AreParts, HaveRefs};
 ghost use Rattle.rv_proofs.specs.declared.report.Layers.{Layers as LayersModel};
 ghost use Rattle.rv_walk.specs.Ends.{IsGoodCertificate, AreBadLayers, IsGoodEnd};
 ghost use Rattle.rv_walk.specs.Paths.{IsFalsifyingPath, IsShortestPath};
+ghost use Rattle.rv_reading.specs.Lending.{LendsStore};
 ghost use Rattle.rv_reading.specs.Read.{flat_of, system_read, diagrams_of, IsRead};
 
-use crate::whole::read_parts;
+use rv_accept::accept;
 use rv_base::Many;
+use rv_bits::{Around, ReadSystem, read_system};
+use rv_cases::{Questions, cases};
 use rv_control::{computed_instants, control_is_a_system};
 use rv_diagram::{Frozen, Store, StoreFault};
 use rv_flat::Flat;
-use rv_proofs::{Case, Layers};
-use rv_symbolic::Symbolic;
+use rv_proofs::{Case, Certificate, Layers, Verdict};
+use rv_symbolic::{Parts, Relation, relation_stays};
+use rv_tested::ask_system;
 use rv_walk::{BoxEnd, falsifying_path, walk};
 use std::alloc::Global;
 
-/// The control reading of a flat system: its control as diagrams in a store. Sets and cases that are handed in, and those that
+/// The control reading of a flat system: its control as diagrams in a store of its own, and the questions by which its cases are split:
+/// which row each order test has, which form each integer memory becomes, whether the observer is true. Sets and cases that are handed in, and those that
 /// it answers, are ordered, and use state variables only, or no next copies. After a fault it is as before.
 #[derive(Drop)]
 pub struct Reading<'a> {
     flat: &'a Flat,
-    symbolic: Symbolic,
+    store: Store,
+    relation: Relation,
+    questions: Questions,
+    alloc: Global,
+}
+
+/// What is read of a flat system: the references of its control, and its questions.
+#[derive(Debug, Drop)]
+struct Asked {
+    parts: Parts,
+    questions: Questions,
+}
+
+/// Reads a flat system. Each flow, each body of a memory and each assertion is read once. After a fault nodes may be left.
+fn read_control(alloc: Global, store: &mut Store, flat: &Flat) -> Result<Asked, StoreFault>
+    requires program { (program : ProgramTree) × (main : Identifier) × AreWell program × IsNode program main × IsFlatOf program main flat.now }
+    requires variables { store.old.variables ≡ length flat.now.variables }
+    ensures refs { IfOk result (λ a. HaveRefs store.new a.parts) }
+    ensures parts { IfOk result (λ a. AreParts (control_of flat.now) store.new a.parts) }
+    ensures questions { IfOk result (λ a. AreQuestions (control_of flat.now) store.new a.questions × AreDistinct a.questions) }
+    ensures extends { OnOk result (Extends store.old store.new) }
+    ensures roomy { IsErrOf result StoreFault.Nodes → store.old.limit < 2 ^ (2 ^ store.old.variables) }
+{
+    control_is_a_system();
+    computed_instants();
+    relation_stays();
+    let ReadSystem {
+        parts,
+        tables,
+        read,
+        mut shown,
+    } = read_system(alloc, store, flat)?;
+    let around = Around {
+        flat,
+        tables: &tables,
+        read: &read,
+    };
+    let questions = ask_system(alloc, store, &around, &mut shown, parts.observer)?;
+    Ok(Asked { parts, questions })
 }
 
 impl<'a> Reading<'a> {
@@ -49,24 +100,50 @@ impl<'a> Reading<'a> {
         ensures roomy { IsErrOf result StoreFault.Nodes → nodes < 2 ^ (2 ^ length flat.now.variables) }
     {
         control_is_a_system();
-        computed_instants();
         let mut store = Store::new(alloc, flat.variables.len() as u32, nodes)?;
-        let parts = read_parts(alloc, &mut store, flat)?;
-        let symbolic = Symbolic::new(alloc, store, parts)?;
-        Ok(Reading { flat, symbolic })
+        let Asked { parts, questions } = read_control(alloc, &mut store, flat)?;
+        let relation = Relation::new(alloc, &mut store, parts)?;
+        Ok(Reading {
+            flat,
+            store,
+            relation,
+            questions,
+            alloc,
+        })
     }
 
-    /// The cases of a set of control states of a flat system without integers: each allowed valuation whose control state is in
-    /// the set is in exactly one condition, and no other valuation is in any. No condition is empty.
+    /// The cases of a set of control states: each allowed valuation whose control state is in the set is in exactly one condition, and
+    /// no other valuation is in any. No condition is empty, and no two cases have the same tests, rows, updates and observer. They are
+    /// split by the order tests first, then by the updates, then by the observer.
     pub fn cases(&mut self, from: &Frozen) -> Result<Many<Case>, StoreFault>
         requires read { IsRead self.old }
-        requires control { HasNoIntegers (system_read self.old) }
         requires from { IsControlSet (system_read self.old) from.now }
         ensures parted { IfOk result (AreCases (system_read self.old) from.now) }
+        ensures different { IfOk result AreDifferent }
         ensures same { self.new ≡ self.old }
         ensures roomy { IsErrOf result StoreFault.Nodes → (diagrams_of self.old).limit < 2 ^ (2 ^ (diagrams_of self.old).variables) }
     {
-        self.symbolic.cases(from)
+        let allowed = self.relation.parts().allowed;
+        cases(self.alloc, &mut self.store, allowed, &self.questions, from)
+    }
+
+    /// The verdict on a certificate with the counts and ranges of a document, in which a location without a loop has empty `first` and
+    /// `around`: Accepted exactly where it is accepted for the system of the flat system, and otherwise the first reason, with the least
+    /// valuation or control state that fails.
+    pub fn accept(
+        &mut self,
+        alloc: Global,
+        certificate: &Certificate,
+    ) -> Result<Verdict, StoreFault>
+        requires read { IsRead self.old }
+        requires range { IsInRange (system_read self.old) certificate.now }
+        requires free { HasFree certificate.now }
+        ensures exact { IfOk result (IsVerdict (system_read self.old) certificate.now) }
+        ensures same { self.new ≡ self.old }
+        ensures roomy { IsErrOf result StoreFault.Nodes → (diagrams_of self.old).limit < 2 ^ (2 ^ (diagrams_of self.old).variables) }
+    {
+        let parts = self.relation.parts();
+        accept(alloc, &mut self.store, parts, &self.questions, certificate)
     }
 
     /// Exactly the next control states of the case's valuations from a set.
@@ -78,7 +155,7 @@ impl<'a> Reading<'a> {
         ensures same { self.new ≡ self.old }
         ensures roomy { IsErrOf result StoreFault.Nodes → (diagrams_of self.old).limit < 2 ^ (2 ^ (diagrams_of self.old).variables) }
     {
-        self.symbolic.image(from, case)
+        self.relation.image(&mut self.store, from, case)
     }
 
     /// Exactly the control states of the case with a valuation that leads into a set.
@@ -90,7 +167,7 @@ impl<'a> Reading<'a> {
         ensures same { self.new ≡ self.old }
         ensures roomy { IsErrOf result StoreFault.Nodes → (diagrams_of self.old).limit < 2 ^ (2 ^ (diagrams_of self.old).variables) }
     {
-        self.symbolic.preimage(to, case)
+        self.relation.preimage(&mut self.store, to, case)
     }
 
     /// The initial control states: all tick bits false, every code a label.
@@ -100,21 +177,21 @@ impl<'a> Reading<'a> {
         ensures same { self.new ≡ self.old }
         ensures roomy { IsErrOf result StoreFault.Nodes → (diagrams_of self.old).limit < 2 ^ (2 ^ (diagrams_of self.old).variables) }
     {
-        self.symbolic.initial()
+        Ok(self.relation.initial(&self.store)?)
     }
 
     /// The walk through the layers of control states of a flat system without integers: how it ends.
     pub fn walk(&mut self, alloc: Global) -> Result<BoxEnd, StoreFault>
         requires read { IsRead self.old }
         requires control { HasNoIntegers (system_read self.old) }
-        ensures good { (c : Certificate) → result ≡ Ok (BoxEnd.Good c) → IsGoodCertificate (system_read self.old) c }
+        ensures good { (c : CertificateModel) → result ≡ Ok (BoxEnd.Good c) → IsGoodCertificate (system_read self.old) c }
         ensures bad { (l : LayersModel) → result ≡ Ok (BoxEnd.Bad l) → AreBadLayers (system_read self.old) l }
         ensures exactly { (thresholds : List ℤ) → IfOk result (λ e. IsGoodEnd e ↔ HasGoodBox (system_read self.old) thresholds) }
         ensures decides { IfOk result (λ e. IsGoodEnd e ↔ IsSafeSystem (system_read self.old)) }
         ensures same { self.new ≡ self.old }
         ensures roomy { IsErrOf result StoreFault.Nodes → (diagrams_of self.old).limit < 2 ^ (2 ^ (diagrams_of self.old).variables) }
     {
-        walk(alloc, &mut self.symbolic)
+        walk(alloc, &mut self.store, &self.relation)
     }
 
     /// A run of the system of a flat system without integers, along which the assertions hold and at whose last instant the observer is
@@ -136,7 +213,7 @@ impl<'a> Reading<'a> {
         ensures same { self.new ≡ self.old }
         ensures roomy { IsErrOf result StoreFault.Nodes → (diagrams_of self.old).limit < 2 ^ (2 ^ (diagrams_of self.old).variables) }
     {
-        falsifying_path(alloc, &mut self.symbolic, layers)
+        falsifying_path(alloc, &mut self.store, &self.relation, layers)
     }
 
     /// The flat system.
@@ -151,20 +228,29 @@ impl<'a> Reading<'a> {
         requires { IsRead self.now }
         ensures { result ≡ (system_read self.now).states }
     {
-        self.symbolic.state_bits()
+        self.relation.state_bits()
     }
 
     /// How many nodes the store has.
     pub fn held(&self) -> u32
         ensures { result ≡ length (diagrams_of self.now).nodes }
     {
-        self.symbolic.held()
+        self.store.mark()
     }
 
     /// How many nodes the store may have.
     pub fn limit(&self) -> u32
         ensures { result ≡ (diagrams_of self.now).limit }
     {
-        self.symbolic.limit()
+        self.store.limit()
+    }
+
+    /// The store. Whoever takes it gives it back with the list, the limit and the number of variables that it had, and then the reading
+    /// is as it was.
+    pub fn store(&mut self) -> &mut Store
+        ensures* lends { sem 𝓛 (LendsStore self.entry result) }
+        ensures is { result.now ≡ diagrams_of self.old }
+    {
+        &mut self.store
     }
 }

@@ -1,9 +1,0 @@
-use Rattle.rv_reading.specs.Flows.{AreFlowsRead}
-use Rattle.rv_reading.specs.Shown.{AreAfter}
-use Rattle.rv_reading.proofs.flows.read_flows.Given as goal
-
-abbrev pub invariant-loop-flow : goal.invariant-loop-flow
-invariant-loop-flow l = record {
-  read : AreFlowsRead l.flat l.initial.store l.store l.flow-index l.read;
-  shown : AreAfter l.flat l.store.nodes l.shown;
-}

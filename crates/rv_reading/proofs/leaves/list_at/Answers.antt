@@ -1,6 +1,0 @@
-use Rattle.std.proofs.Common.{[], sym}
-use Rattle.rv_reading.proofs.Naming.{nothing_there}
-use Rattle.rv_reading.proofs.leaves.list_at.Goals as goal
-
-pub returns-in-None : goal.returns-in-None
-returns-in-None c = sym (nothing_there c.args.lists.now c.args.number [] (sym c.in-None.ensures.value))
