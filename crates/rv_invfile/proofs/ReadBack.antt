@@ -44,7 +44,7 @@ use Rattle.rv_invfile.proofs.Decimals.{within}
 use Rattle.rv_invfile.proofs.SameFields.{same-row}
 
 -- ---- A right record is one at which nothing is at fault.
-right-fault : (f : Form) (r : Fields) → Right f r → fault_in (f ∷ []) r ≡ None
+pub right-fault : (f : Form) (r : Fields) → Right f r → fault_in (f ∷ []) r ≡ None
 right-fault f r h =
     ap (λ b. cond b (fault_by (form_of (f ∷ []) r) r) (Some why.NotRecords)) h.plain
     ∙ ap (λ b. fault_by (cond b (Some f) None) r) h.of_kind
@@ -64,13 +64,13 @@ is_plain_text text = list_all is_plain_byte text
 digit-plain : (d : ℕ) → d < 10 → is_plain_byte (48 + d) ≡ true
 digit-plain d h = ap (λ b. b && nat_le (48 + d) 126) (le-leb 32 (48 + d) (omega arith)) ∙ le-leb (48 + d) 126 (omega arith)
 
-decimal-plain : (n : ℕ) → is_plain_text (decimal n) ≡ true
+pub decimal-plain : (n : ℕ) → is_plain_text (decimal n) ≡ true
 decimal-plain = decimal-all is_plain_byte digit-plain
 
-dotted-plain : (sites : List ℕ) → is_plain_text (dotted sites) ≡ true
+pub dotted-plain : (sites : List ℕ) → is_plain_text (dotted sites) ≡ true
 dotted-plain = dotted-all is_plain_byte digit-plain refl
 
-signed-plain : (z : ℤ) → is_plain_text (signed_decimal z) ≡ true
+pub signed-plain : (z : ℤ) → is_plain_text (signed_decimal z) ≡ true
 signed-plain = signed-all is_plain_byte digit-plain refl
 
 letter-plain : (b : ℕ) → is_name_byte b ≡ true → (nat_le 32 b && nat_le b 126) ≡ true
@@ -179,22 +179,22 @@ value-plain labels n (kind.Labels e) (Label m) h = name-plain (label_at labels e
 value-plain labels n (kind.Labels e) (Whole z) h = absurd h
 
 -- ---- Single records.
-pair-plain : (a b : List ℕ) → is_plain_text a ≡ true → is_plain_text b ≡ true → is_plain (a ∷ b ∷ []) ≡ true
+pub pair-plain : (a b : List ℕ) → is_plain_text a ≡ true → is_plain_text b ≡ true → is_plain (a ∷ b ∷ []) ≡ true
 pair-plain a b h k = ap (λ c. c && (is_plain_text b && true)) h ∙ ap (λ c. c && true) k
 
-exactly-right : (x : Fields) → is_plain x ≡ true → Spells (exactly x) tt (x ∷ [])
+pub exactly-right : (x : Fields) → is_plain x ≡ true → Spells (exactly x) tt (x ∷ [])
 exactly-right x h = right-spells (fixed x) (λ r. tt) x (record { plain = h; of_kind = same-row x x refl; of_program = refl; allowed = λ k l. refl })
 
 two-kind : (w t : List ℕ) → (bytes_eq w w && nat_eq 2 2) ≡ true
 two-kind w t = ap (λ b. b && nat_eq 2 2) (same-bytes w w refl)
 
-names-right : (w t : List ℕ) → is_plain_text w ≡ true → is_plain_text t ≡ true → Spells (names w t) tt ((w ∷ t ∷ []) ∷ [])
+pub names-right : (w t : List ℕ) → is_plain_text w ≡ true → is_plain_text t ≡ true → Spells (names w t) tt ((w ∷ t ∷ []) ∷ [])
 names-right w t h k = right-spells (named w t) (λ r. tt) (w ∷ t ∷ []) (record { plain = pair-plain w t h k; of_kind = two-kind w t; of_program = same-bytes t t refl; allowed = λ k l. refl })
 
-lists-right : (w : List ℕ) (ts : List (List ℕ)) → is_plain (w ∷ ts) ≡ true → Spells (lists w ts) tt ((w ∷ ts) ∷ [])
+pub lists-right : (w : List ℕ) (ts : List (List ℕ)) → is_plain (w ∷ ts) ≡ true → Spells (lists w ts) tt ((w ∷ ts) ∷ [])
 lists-right w ts h = right-spells (listed w ts) (λ r. tt) (w ∷ ts) (record { plain = h; of_kind = same-bytes w w refl; of_program = same-row (w ∷ ts) (w ∷ ts) refl; allowed = λ k l. refl })
 
-counts-right : (w : List ℕ) (low high n : ℕ) → is_plain_text w ≡ true → low ≤ n → n ≤ high → high < 2 ^ 64 → Spells (counts w low high) n ((w ∷ decimal n ∷ []) ∷ [])
+pub counts-right : (w : List ℕ) (low high n : ℕ) → is_plain_text w ≡ true → low ≤ n → n ≤ high → high < 2 ^ 64 → Spells (counts w low high) n ((w ∷ decimal n ∷ []) ∷ [])
 counts-right w low high n p l h s =
     let small : n < 2 ^ 64 = omega arith in
     subst (λ m. Spells (counts w low high) m ((w ∷ decimal n ∷ []) ∷ [])) (natural-is (decimal n) n small refl)

@@ -70,7 +70,7 @@ right-program true None h = (refl, refl)
 right-program true (Some i) h = cc
 right-program false o h = cc
 
-right-record : (f : Form) (r : Fields) → fault_in (f ∷ []) r ≡ None → Right f r
+pub right-record : (f : Form) (r : Fields) → fault_in (f ∷ []) r ≡ None → Right f r
 right-record f r h =
     let a = right-plain (is_plain r) (fault_by (form_of (f ∷ []) r) r) h in
     let b = right-kind (f.is_kind r) f r a.1 in
@@ -84,12 +84,12 @@ pub record Single {A : Type 0} (f : Form) (g : Fields → A) (a : A) (rs : List 
   pub right : Right f here
   pub value : a ≡ g here
 
-single : {A : Type 0} (f : Form) (g : Fields → A) (a : A) (rs : List Fields) → Spells (await (f ∷ []) (λ r. done (g r))) a rs → Single f g a rs
+pub single : {A : Type 0} (f : Form) (g : Fields → A) (a : A) (rs : List Fields) → Spells (await (f ∷ []) (λ r. done (g r))) a rs → Single f g a rs
 single f g a [] s = absurd s
 single f g a (r ∷ rs) s = record { here = r; alone = ap (λ l. r ∷ l) s.1.0; right = right-record f r s.0; value = s.1.1 }
 
 -- ---- The forms.
-worded : (w : List ℕ) (n : ℕ) (r : Fields) → is_worded w n r ≡ true → (word_of r ≡ w) × (length r ≡ n)
+pub worded : (w : List ℕ) (n : ℕ) (r : Fields) → is_worded w n r ≡ true → (word_of r ≡ w) × (length r ≡ n)
 worded w n r h = let p = both (bytes_eq (word_of r) w) (nat_eq (length r) n) h in (bytes-same (word_of r) w p.0, eqb-true (length r) n p.1)
 
 two-fields : (r : Fields) → length r ≡ 2 → r ≡ field r 0 ∷ field r 1 ∷ []
@@ -187,7 +187,7 @@ start-written labels m v rs s =
     ∙ ap (λ x. codes "start" ∷ dotted m.place.sites ∷ x ∷ []) (t.1 ∙ ap (value_text labels m.kind) (sym o.value)) in
     (subst (HasKind labels m.kind) (sym o.value) t.0, o.alone ∙ ap (λ r. r ∷ []) r)
 
-list-first : {A : Type 0} (p : Rule A) (q : Rule (List A)) (vs : List A) (rs : List Fields) → Spells (more p q) vs rs → (a : A) × (rest : List A) × (u : List Fields) × (v : List Fields) × (rs ≡ u ++ v) × Spells p a u × Spells q rest v × (vs ≡ a ∷ rest)
+pub list-first : {A : Type 0} (p : Rule A) (q : Rule (List A)) (vs : List A) (rs : List Fields) → Spells (more p q) vs rs → (a : A) × (rest : List A) × (u : List Fields) × (v : List Fields) × (rs ≡ u ++ v) × Spells p a u × Spells q rest v × (vs ≡ a ∷ rest)
 list-first p q vs rs s =
     let x = bind-parts p (λ a. bind q (λ rest. done (a ∷ rest))) vs rs s in
     let y = bind-parts q (λ rest. done (x.value ∷ rest)) vs x.back x.second in

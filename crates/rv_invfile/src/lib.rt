@@ -18,5 +18,10 @@ mod writing;
 
 pub use fault::{FileFault, Why, fault_at};
 pub use laws::{awaited_records, fitting_traces, one_trace_rule, told_systems};
+pub use numbers::{natural_in, natural_of};
+pub use records::Records;
+pub use singles::{read_count, read_exactly, read_name};
 pub use trace_writing::write_trace;
-pub use traces::read_trace;
+pub use traces::{dotted, expect_nothing, read_trace};
+pub use values::whole_of;
+pub use writing::{finish, new_writer, put, put_count, put_row};

@@ -167,7 +167,7 @@ fn read_all(alloc: Global, records: &mut Records<'_>, flat: &Flat) -> Result<Tra
 }
 
 /// Nothing may follow.
-fn finish(records: &Records<'_>) -> Result<(), FileFault>
+pub fn expect_nothing(records: &Records<'_>) -> Result<(), FileFault>
     ensures { Gives (closing tt records.now) result }
 {
     if !records.has_record() {
@@ -187,7 +187,7 @@ fn read_whole(alloc: Global, flat: &Flat, bytes: &[u8]) -> Result<Trace, FileFau
 {
     let mut records = Records::new(alloc, bytes)?;
     let trace = read_all(alloc, &mut records, flat)?;
-    finish(&records)?;
+    expect_nothing(&records)?;
     Ok(trace)
 }
 

@@ -1,0 +1,237 @@
+-- A certificate that has a document has the counts and ranges of one.
+use Rattle.std.proofs.Common.{◌++◌, ◌≡◌, ◌+◌, ◌*◌, ◌/◌, ◌%◌, ◌^◌, ◌<◌, ◌≤◌, ℕ, zero, suc, Bool, true, false, List, [], ◌∷◌, length, get_or, refl, sym, ap, ◌∙◌, subst, arith}
+use Rattle.std.specs.Prelude.{flat_map, decimal, ◌||◌, nat_eq, nat_le, nat_lt, pos, Option, Some, None, slice_get, replicate, codes}
+use Rattle.std.specs.List.{All, AllByRecursion}
+use Rattle.std.proofs.lemmas.Bool.{eqb-true, leb-true, ltb-true, ltb-false}
+use Rattle.std.proofs.lemmas.List.{length-replicate, get_or-replicate, get_or_past}
+use Rattle.std.proofs.lemmas.Option.{slice_get-get_or}
+use Rattle.rv_diagram.specs.Nodes.{node_at}
+use Rattle.rv_diagram.specs.declared.frozen.Frozen.{Frozen}
+use Rattle.rv_rows.specs.declared.linear.Row.{Row}
+use Rattle.rv_rows.specs.declared.farkas.Multipliers.{Multipliers}
+use Rattle.rv_flat.specs.declared.flat.Flat.{Flat}
+use Rattle.rv_control.specs.Control.{control_of}
+use Rattle.rv_proofs.specs.Systems.{System, IsState}
+use Rattle.rv_proofs.specs.Scopes.{Implication, refutation, after, each, implications, rows_into}
+use Rattle.rv_proofs.specs.Counts.{IsLoopKind, HasLoop, HasKindCounts, HasLocationCounts, HasFree}
+use Rattle.rv_proofs.specs.Ranges.{AreKept, IsRecord, HasDivisor, IsControlSet, IsCondition, IsLocationInRange}
+use Rattle.rv_proofs.specs.declared.certificate.Certificate.{Certificate}
+use Rattle.rv_proofs.specs.declared.certificate.Location.{Location}
+use Rattle.rv_proofs.specs.declared.certificate.Entry.{Entry}
+use Rattle.rv_proofs.specs.declared.certificate.EntryKind.{EntryKind}
+use Rattle.rv_proofs.specs.declared.certificate.EntryKind.TheVariants.{Dead, Go, Loop}
+use Rattle.rv_invfile.specs.Rules.{Fields, IsDocument}
+use Rattle.rv_invfile.specs.Parts.{bind}
+use Rattle.rv_invfile.specs.Forms.{exactly, names, counts}
+use Rattle.rv_invfile.specs.Spells.{Spells}
+use Rattle.rv_invfile.proofs.Spelled.{document-spells, bind-parts}
+use Rattle.rv_invfile.proofs.Written.{counts-written, exactly-written, names-written, lists-written}
+use Rattle.rv_invariant.specs.Continues.{Known}
+use Rattle.rv_invariant.specs.Shapes.{shape, shape_of, is_state}
+use Rattle.rv_invariant.specs.Naming.{bit_texts, column_texts}
+use Rattle.rv_invariant.specs.Certificates.{first_record, last_record, location_records, certificate_records, IsPlainLocation, FitsCertificate, bits_rule, columns_rule, head_rule, all_locations, certificate_rule}
+use Rattle.rv_invariant.proofs.Grouping.{both}
+use Rattle.rv_invariant.proofs.Knowing.{KindFits, EntryFits, LocationFits, AllLocated, Sound, all-located, all-map, some-is}
+use Rattle.rv_invariant.proofs.Ranging.{SetFits, KeptRow, ProofFits, is-record}
+use Rattle.rv_invariant.proofs.Spelling.{all-of}
+
+all-at : {A : Type 0} (P : A → Type 0) (xs : List A) (j : ℕ) (x : A) → AllByRecursion P xs → slice_get xs j ≡ Some x → P x
+all-at P [] j x h e = cc
+all-at P (y ∷ ys) zero x h e = subst P (same y x e) h.0
+  where
+    same : {A : Type 0} (a b : A) → Some a ≡ Some b → a ≡ b
+    same a b e = cc
+all-at P (y ∷ ys) (suc j) x h e = all-at P ys j x h.1 e
+
+-- ---- No entry is a turn of a loop, and each `go` has as many multipliers as its target has entry rows.
+module _ (s : System) (locations : ℕ) (c : Certificate) (a : AllLocated (shape_of s) locations c) where
+  no-turn : (state : ℕ) (k : EntryKind) → KindFits (shape_of s) locations state a.known k → IsLoopKind k → ⊥
+  no-turn state (Dead by) h x = x
+  no-turn state (Go target reach) h x = x
+  no-turn state (Loop first before around rest) h x = h
+
+  kind-counts : (l : Location) (k : EntryKind) → KindFits (shape_of s) locations (length l.state) a.known k → HasKindCounts c l k
+  kind-counts l (Dead by) h = tt
+  kind-counts l (Go target reach) h =
+      let size = a.size in
+      let there = slice_get-get_or c.locations target l (omega (arith, h.0, size)) in
+      let into = a.fits target (get_or c.locations target l) there in
+      (get_or c.locations target l, there, some-is (length reach) (length (get_or c.locations target l).entry) (sym h.1 ∙ into.told))
+  kind-counts l (Loop first before around rest) h = absurd h
+
+  module _ (k : ℕ) (l : Location) (fits : LocationFits (shape_of s) locations a.known k l) where
+    entry-at : (j : ℕ) (e : Entry) → slice_get l.entries j ≡ Some e → EntryFits (shape_of s) locations (length l.state) a.known e
+    entry-at j e h = all-at (EntryFits (shape_of s) locations (length l.state) a.known) l.entries j e fits.entries h
+
+    no-loop : HasLoop l → ⊥
+    no-loop p = no-turn (length l.state) p.1.kind (entry-at p.0 p.1 p.2).kind p.3
+
+    location-counts : HasLocationCounts c l
+    location-counts = record {
+      by_entry = fits.counted;
+      by_first = record { some = λ h. absurd (no-loop h); none = λ n. fits.no_by_first };
+      entries = λ j e h. kind-counts l e.kind (entry-at j e h).kind;
+    }
+
+    plain : IsPlainLocation l
+    plain = record {
+      no_loop = no-loop;
+      no_first = fits.no_first;
+      no_around = fits.no_around;
+      control = fits.control.held;
+      conditions = λ j e h. (entry-at j e h).condition.held;
+    }
+
+-- ---- What diagrams read.
+module _ (s : System) where
+  state-bit : (x : ℕ) → is_state (shape_of s) x ≡ true → IsState s x
+  state-bit x h =
+      let p = both (nat_lt x (2 * s.states)) (nat_eq (x % 2) 0) h in
+      let low = ltb-true x (2 * s.states) p.0 in
+      let even = eqb-true (x % 2) 0 p.1 in
+      (x / 2, omega (arith, low, even), omega (arith, even))
+
+  no-copy : (x : ℕ) (b : Bool) → nat_le (2 * s.states) x ≡ b → (b || nat_eq (x % 2) 0) ≡ true → (i : ℕ) → i < s.states → x ≡ 2 * i + 1 → ⊥
+  no-copy x true e h i l odd = let past = leb-true (2 * s.states) x e in omega (arith, past, l, odd)
+  no-copy x false e h i l odd = let even = eqb-true (x % 2) 0 h in omega (arith, even, odd)
+
+  control-set : (set : Frozen) → SetFits (shape_of s) true set → IsControlSet s set
+  control-set set h = record { ordered = h.ordered; states = λ n l. state-bit (node_at set.nodes n).var (h.may n l) }
+
+  condition-set : (set : Frozen) → SetFits (shape_of s) false set → IsCondition s set
+  condition-set set h = record {
+    ordered = h.ordered;
+    read = λ n l. (h.ordered.low n l, no-copy (node_at set.nodes n).var (nat_le (2 * s.states) (node_at set.nodes n).var) refl (h.may n l));
+  }
+
+  -- ---- What entries prove.
+  abbrev Proved : Implication → Type 0
+  Proved i = IsRecord (length i.given + s.tests) i.by × HasDivisor i.wanted i.by.divisor
+
+  refuted : (given : List Row) (m : Multipliers) → ProofFits 1 (length given + s.tests) m → Proved (record { given = given; wanted = refutation; by = m })
+  refuted given m h =
+      let low = h.positive in
+      let high = h.small in
+      let one : h.divisor ≡ 1 = omega (arith, low, high) in
+      (is-record 1 (length given + s.tests) m (omega arith) h, h.divides ∙ ap pos one)
+
+  each-proved : (given rows : List Row) (ms : List Multipliers) → AllByRecursion (ProofFits (2 ^ 30) (length given + s.tests)) ms
+      → AllByRecursion Proved (each after given rows ms)
+  each-proved given [] ms h = tt
+  each-proved given (r ∷ rs) [] h = tt
+  each-proved given (r ∷ rs) (m ∷ ms) h = ((is-record (2 ^ 30) (length given + s.tests) m (omega arith) h.0, tt), each-proved given rs ms h.1)
+
+  kind-proved : (locations : ℕ) (known : Known) (c : Certificate) (l : Location) (k : EntryKind)
+      → KindFits (shape_of s) locations (length l.state) known k → AllByRecursion Proved (implications c l k)
+  kind-proved locations known c l (Dead by) h = (refuted l.state by h, tt)
+  kind-proved locations known c l (Go target reach) h = each-proved l.state (rows_into (slice_get c.locations target)) reach h.2
+  kind-proved locations known c l (Loop first before around rest) h = absurd h
+
+  kept : (rows : List Row) → length rows ≤ 1024 → AllByRecursion (KeptRow s.memories) rows → AreKept s rows
+  kept rows few h = (all-of (KeptRow s.memories) rows h, few)
+
+  none-kept : (rows : List Row) → rows ≡ [] → AreKept s rows
+  none-kept rows e = subst (AreKept s) (sym e) (kept [] (omega arith) tt)
+
+  none-recorded : (premises : ℕ) (ms : List Multipliers) → ms ≡ [] → All (IsRecord premises) ms
+  none-recorded premises ms e = subst (All (IsRecord premises)) (sym e) (all-of (IsRecord premises) [] tt)
+
+  location-range : (locations : ℕ) (c : Certificate) (a : AllLocated (shape_of s) locations c) (k : ℕ) (l : Location)
+      → LocationFits (shape_of s) locations a.known k l → IsLocationInRange s c l
+  location-range locations c a k l fits = record {
+    control = control-set l.control fits.control;
+    entry = kept l.entry fits.few_entry fits.entry;
+    first = none-kept l.first fits.no_first;
+    around = none-kept l.around fits.no_around;
+    state = kept l.state fits.few_state fits.state;
+    by_entry = all-of (IsRecord (length l.entry)) l.by_entry
+        (all-map (ProofFits (2 ^ 30) (length l.entry)) (IsRecord (length l.entry))
+        (λ m h. is-record (2 ^ 30) (length l.entry) m (omega arith) h) l.by_entry fits.by_entry);
+    by_first = none-recorded (length l.first) l.by_first fits.no_by_first;
+    few = fits.few;
+    entries = λ j e h. let x = entry-at s locations c a k l fits j e h in record {
+      condition = condition-set e.condition x.condition;
+      by = all-of Proved (implications c l e.kind) (kind-proved locations a.known c l e.kind x.kind);
+    };
+  }
+
+-- ---- The whole.
+head-few : (f : Flat) (n : ℕ) (rs : List Fields) → Spells (head_rule f) n rs → n ≤ 4096
+head-few f n rs h =
+    let a = bind-parts (exactly first_record) (λ a. bind (names (codes "main") f.main)
+    (λ b. bind (bits_rule f) (λ c. bind (columns_rule f) (λ d. counts (codes "locations") 0 4096)))) n rs h in
+    let b = bind-parts (names (codes "main") f.main)
+    (λ b. bind (bits_rule f) (λ c. bind (columns_rule f) (λ d. counts (codes "locations") 0 4096))) n a.back a.second in
+    let c = bind-parts (bits_rule f) (λ c. bind (columns_rule f) (λ d. counts (codes "locations") 0 4096)) n b.back b.second in
+    let d = bind-parts (columns_rule f) (λ d. counts (codes "locations") 0 4096) n c.back c.second in
+    (counts-written (codes "locations") 0 4096 n d.back d.second).2
+
+abbrev nothing : Option ℕ
+nothing = None
+
+nothing-told : (n i : ℕ) (b : Bool) → nat_lt i n ≡ b → get_or (replicate n nothing) i nothing ≡ nothing
+nothing-told n i true e = get_or-replicate n i nothing nothing (ltb-true i n e)
+nothing-told n i false e = let past = ltb-false i n e in let size = length-replicate n nothing in get_or_past (replicate n nothing) i nothing
+    (omega (arith, past, size))
+
+none-is : (m : ℕ) → None ≡ Some m → ⊥
+none-is m e = cc
+
+begins : (n : ℕ) → Sound n (replicate n None)
+begins n = record {
+  size = length-replicate n None;
+  small = λ i m h. absurd (none-is m (sym (nothing-told n i (nat_lt i n) refl) ∙ h));
+}
+
+nothing-there : {X : Type 0} (k : ℕ) (l : Location) → slice_get [] k ≡ Some l → X
+nothing-there k l e = absurd (clash e)
+  where
+    clash : None ≡ Some l → ⊥
+    clash e = cc
+
+pub documents-fit : (f : Flat) (rs : List Fields) (c : Certificate) → IsDocument (certificate_rule f) rs c → FitsCertificate f c
+documents-fit f rs c d =
+    let x = bind-parts (head_rule f) (all_locations f) c rs (document-spells (certificate_rule f) c rs d) in
+    let few = head-few f x.value x.front x.first in
+    let a = (all-located (shape f) x.value x.value [] (replicate x.value None) c x.back (begins x.value) (omega arith)
+    (λ k l e. nothing-there k l e) x.second).located in
+    let size = a.size in
+    record {
+      range = record {
+        counts = λ k l e. location-counts (control_of f) x.value c a k l (a.fits k l e);
+        few = omega (arith, few, size);
+        locations = λ k l e. location-range (control_of f) x.value c a k l (a.fits k l e);
+      };
+      plain = λ k l e. plain (control_of f) x.value c a k l (a.fits k l e);
+    }
+
+pub documents-free : (f : Flat) (rs : List Fields) (c : Certificate) → IsDocument (certificate_rule f) rs c → HasFree c
+documents-free f rs c d k l e none = let p = (documents-fit f rs c d).plain k l e in (p.no_first, p.no_around)
+
+-- ---- The records of a document.
+head-written : (f : Flat) (n : ℕ) (rs : List Fields) → Spells (head_rule f) n rs
+    → rs ≡ first_record ∷ (codes "main" ∷ f.main ∷ []) ∷ (codes "bits" ∷ bit_texts f) ∷ (codes "columns" ∷ column_texts f) ∷ (codes "locations" ∷ decimal n ∷ []) ∷ []
+head-written f n rs h =
+    let a = bind-parts (exactly first_record) (λ a. bind (names (codes "main") f.main)
+    (λ b. bind (bits_rule f) (λ c. bind (columns_rule f) (λ d. counts (codes "locations") 0 4096)))) n rs h in
+    let b = bind-parts (names (codes "main") f.main)
+    (λ b. bind (bits_rule f) (λ c. bind (columns_rule f) (λ d. counts (codes "locations") 0 4096))) n a.back a.second in
+    let c = bind-parts (bits_rule f) (λ c. bind (columns_rule f) (λ d. counts (codes "locations") 0 4096)) n b.back b.second in
+    let d = bind-parts (columns_rule f) (λ d. counts (codes "locations") 0 4096) n c.back c.second in
+    a.records ∙ ap (λ l. l ++ a.back) (exactly-written first_record a.value a.front a.first)
+    ∙ ap (λ l. first_record ∷ l) (b.records ∙ ap (λ l. l ++ b.back) (names-written (codes "main") f.main b.value b.front b.first)
+    ∙ ap (λ l. (codes "main" ∷ f.main ∷ []) ∷ l) (c.records ∙ ap (λ l. l ++ c.back) (lists-written (codes "bits") (bit_texts f) c.value c.front c.first)
+    ∙ ap (λ l. (codes "bits" ∷ bit_texts f) ∷ l) (d.records ∙ ap (λ l. l ++ d.back) (lists-written (codes "columns") (column_texts f) d.value d.front d.first)
+    ∙ ap (λ l. (codes "columns" ∷ column_texts f) ∷ l) (counts-written (codes "locations") 0 4096 n d.back d.second).0)))
+
+pub documents-written : (f : Flat) (rs : List Fields) (c : Certificate) → IsDocument (certificate_rule f) rs c → rs ≡ certificate_records f c
+documents-written f rs c d =
+    let x = bind-parts (head_rule f) (all_locations f) c rs (document-spells (certificate_rule f) c rs d) in
+    let a = all-located (shape f) x.value x.value [] (replicate x.value None) c x.back (begins x.value) (omega arith) (λ k l e. nothing-there k l e) x.second in
+    x.records ∙ ap (λ l. l ++ x.back) (head-written f x.value x.front x.first)
+    ∙ ap (λ l. first_record ∷ (codes "main" ∷ f.main ∷ []) ∷ (codes "bits" ∷ bit_texts f) ∷ (codes "columns" ∷ column_texts f) ∷
+    (codes "locations" ∷ decimal x.value ∷ []) ∷ l)
+    (a.written ∙ ap (λ ls. flat_map location_records ls ++ last_record ∷ []) (sym a.grown))
+    ∙ ap (λ n. first_record ∷ (codes "main" ∷ f.main ∷ []) ∷ (codes "bits" ∷ bit_texts f) ∷ (codes "columns" ∷ column_texts f) ∷
+    (codes "locations" ∷ decimal n ∷ [])
+    ∷ (flat_map location_records c.locations ++ last_record ∷ [])) (sym a.located.size)

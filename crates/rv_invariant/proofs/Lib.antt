@@ -1,0 +1,13 @@
+pub mod Upto
+pub mod Grouping
+pub mod Counting
+pub mod Choices
+pub mod Looping
+pub mod Going
+pub mod Rowing
+pub mod Spelling
+pub mod Bounds
+pub mod Ranging
+pub mod Recorded
+pub mod Knowing
+pub mod Fitting

@@ -1,0 +1,30 @@
+use Rattle.std.proofs.Common.{◌∙◌, length, refl, sym}
+use Rattle.rv_proofs.specs.declared.certificate.Entry.{Entry}
+use Rattle.rv_invfile.specs.Readers.{run}
+use Rattle.rv_invariant.specs.Certificates.{entry_rule, whole_go, whole_dead}
+use Rattle.rv_invariant.specs.Continues.{Then}
+use Rattle.rv_invariant.proofs.Going.{entry-go, entry-dead}
+use Rattle.rv_invariant.proofs.Choices.{continues-after}
+use Rattle.rv_invariant.proofs.entries.read_entry.Goals as goal
+
+pub returns-then-is_word : goal.returns-then-is_word
+returns-then-is_word c =
+    let s = c.args.shape in
+    let known = c.args.known.now in
+    let a = c.args.records.now in
+    record {
+      read = continues-after (λ (next : Then Entry). run (entry_rule s (length known) c.args.state next known) a) (λ (next : Then Entry). run (whole_go s (length known) c.args.state next known) a)
+          c.read_go.result c.read_go.new.known c.read_go.new.records (λ next w. entry-go s (length known) c.args.state next known a (sym c.is_word.ensures ∙ c.if-is_word.true)) c.read_go.ensures.read;
+      same = c.read_go.ensures.same;
+    }
+
+pub returns-else-is_word : goal.returns-else-is_word
+returns-else-is_word c =
+    let s = c.args.shape in
+    let known = c.args.known.now in
+    let a = c.args.records.now in
+    record {
+      read = continues-after (λ (next : Then Entry). run (entry_rule s (length known) c.args.state next known) a) (λ (next : Then Entry). run (whole_dead s c.args.state next known) a)
+          c.read_dead.result known c.read_dead.new.records (λ next w. entry-dead s (length known) c.args.state next known a (sym c.is_word.ensures ∙ c.if-is_word.false)) c.read_dead.ensures;
+      same = refl;
+    }

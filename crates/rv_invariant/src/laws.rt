@@ -1,0 +1,21 @@
+//! Laws of documents of certificates, each the contract of a function that does nothing.
+
+ghost use Rattle.std.specs.Prelude.{◌≡◌, List};
+ghost use Rattle.rv_flat.specs.declared.flat.Flat.{Flat as FlatModel};
+ghost use Rattle.rv_invfile.specs.Rules.{Fields, IsDocument};
+ghost use Rattle.rv_proofs.specs.Counts.{HasFree};
+ghost use Rattle.rv_proofs.specs.declared.certificate.Certificate.{Certificate as CertificateModel};
+ghost use Rattle.rv_invariant.specs.Certificates.{FitsCertificate, certificate_records, certificate_rule};
+
+/// A certificate that has a document has the counts and ranges of one, of whatever flat system; and its locations, none of which
+/// has a loop, have no rows in `first` and `around`.
+pub fn documents_fit()
+    ensures fits { (f : FlatModel) (rs : List Fields) (c : CertificateModel) → IsDocument (certificate_rule f) rs c → FitsCertificate f c }
+    ensures free { (f : FlatModel) (rs : List Fields) (c : CertificateModel) → IsDocument (certificate_rule f) rs c → HasFree c }
+{}
+
+/// A document of a certificate is written by the rules of formats: its records are those of the certificate. So a certificate has no
+/// other document.
+pub fn documents_are_written()
+    ensures { (f : FlatModel) (rs : List Fields) (c : CertificateModel) → IsDocument (certificate_rule f) rs c → rs ≡ certificate_records f c }
+{}

@@ -1,0 +1,42 @@
+//! Documents of certificates: an invariant of a program with what proves it, as records of comma-separated fields.
+//!
+//! What it promises. `read_certificate` answers the certificate whose document the bytes are, exactly where they are one, and
+//! else the first fault: the record that is not awaited after those before it, and what of it is wrong. Whether records are a
+//! document, and of which certificate, is told by a rule (`certificate_rule` in specs/Certificates.antt) in the way of
+//! `rv_invfile`: which records are awaited after which, by the records so far alone. `documents_fit` says that a certificate
+//! which has a document has the counts and ranges of one, so that it may be judged as it was read. `documents_are_written` says
+//! that the records of a document are those of its certificate.
+//!
+//! What a document is. First the names of the program: its node, its diagram variables and columns. Then for each location its
+//! control set, its rows, a proof of each row of `state` from those of `entry`, and its entries: a condition on valuations with a
+//! step into a location and what proves it, or with what shows that no point is there. Multipliers after `go` are as many as the
+//! target has rows in `entry`. Where that is not known yet, as many as come, up to 1,024, and the target's own record must then
+//! agree. So the rule hands on what is known of each location, and takes what comes after a part as an argument: what follows an
+//! open list is awaited beside its records. Turns of loops are not in these documents yet; their writing rules are.
+//!
+//! What it stands on: `rv_invfile` for rules, records, numbers and faults, `rv_proofs` for certificates and their ranges,
+//! `rv_control` for the numbers of variables that a flat system has, `rv_diagram` and `rv_rows` for what a certificate holds.
+//!
+//! Where to begin: specs/Certificates.antt, then specs/Pieces.antt for single records (diagrams, rows, multipliers) and
+//! specs/Groups.antt for records of groups of fields; in the code reading.rt, and down from there locations.rt, entries.rt,
+//! fronts.rt. A function that reads a part of open end tells by `Continues` (specs/Continues.antt) what it read, whatever comes
+//! after it.
+#![tactic(auto)]
+
+mod counts;
+mod diagrams;
+mod entries;
+mod fronts;
+mod groups;
+mod laws;
+mod locations;
+mod multipliers;
+mod naming;
+mod numbers;
+mod reading;
+mod rows;
+
+pub use counts::Shape;
+pub use fronts::{Front, Lists};
+pub use laws::{documents_are_written, documents_fit};
+pub use reading::read_certificate;
