@@ -7,7 +7,7 @@ mod Weighing
 mod Sites
 mod Integers
 mod MainNode
-mod Judging
+pub mod Judging
 mod Reported
 mod Joined
 pub mod Told

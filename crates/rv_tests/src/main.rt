@@ -13,6 +13,7 @@
 //!   (`runs.rt`).
 #![tactic(auto)]
 
+mod cased;
 mod causes;
 mod diagrams;
 mod limits;

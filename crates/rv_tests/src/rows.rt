@@ -1,5 +1,6 @@
 //! A row of the table: what kind of text it is, the text, and what is answered on it.
 
+use crate::cased::cased;
 use crate::causes::ordered;
 use crate::diagrams::diagram;
 use crate::linear::linear;
@@ -76,7 +77,8 @@ fn on_call(alloc: Global, kind: &str, fields: &str) -> Result<Option<String>, Me
 /// `source`: a whole program with the main node `m`, and its order of evaluation;
 /// `steps`: what the memories start with, what the inputs are at each instant, and a whole program with the main node `m`;
 /// `presence`: the same, told by the comparisons that are present at each instant;
-/// `memories`: a whole program with the main node `m`, and the places of its memories with their types.
+/// `memories`: a whole program with the main node `m`, and the places of its memories with their types;
+/// `cases`: a whole program with the main node `m`, and its cases.
 fn on_text(alloc: Global, kind: &str, text: &str) -> Result<Option<String>, Memory> {
     let told = match kind {
         "program" => verdict(alloc, &with_line_feeds(alloc, text)?),
@@ -105,6 +107,7 @@ fn on_program(alloc: Global, kind: &str, text: &str) -> Result<Option<String>, M
         "steps" => stepped(alloc, text, Telling::Values),
         "presence" => stepped(alloc, text, Telling::Presence),
         "memories" => remembered(alloc, text),
+        "cases" => cased(alloc, text),
         _ => return Ok(None),
     };
     Ok(Some(told?))
