@@ -14,7 +14,11 @@ use std::alloc::Global;
 /// The verdict on a certificate with the counts and ranges of a document, in which a location without a loop has empty `first` and
 /// `around`: Accepted exactly where it is accepted, and otherwise the first reason, in the order of places, with the least valuation or
 /// control state that fails. The reading is left as it was.
-pub fn accept(alloc: Global, r: &mut Reading, certificate: &Certificate) -> Result<Verdict, StoreFault>
+pub fn accept(
+    alloc: Global,
+    r: &mut Reading,
+    certificate: &Certificate,
+) -> Result<Verdict, StoreFault>
     requires read { IsRead r.old }
     requires range { IsInRange (system_read r.old) certificate.now }
     requires free { HasFree certificate.now }
