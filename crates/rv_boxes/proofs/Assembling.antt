@@ -9,7 +9,6 @@ use Rattle.rv_rows.specs.declared.linear.Row.{Row}
 use Rattle.rv_proofs.specs.Systems.{System}
 use Rattle.rv_proofs.specs.Scopes.{IsIn}
 use Rattle.rv_proofs.specs.Ranges.{IsControlSet, AreKept}
-use Rattle.rv_proofs.specs.Accepted.{IsAccepted}
 use Rattle.rv_proofs.specs.Boxes.{BoxClaim, IsTaken, IsGood}
 use Rattle.rv_proofs.specs.Cases.{AreCases, IsInitialSet}
 use Rattle.rv_proofs.specs.declared.certificate.Certificate.{Certificate}
@@ -24,7 +23,8 @@ use Rattle.rv_boxes.specs.Built.{AreBounds, HasBounds, IsBuiltEntry, IsBuiltLoca
 use Rattle.rv_boxes.specs.Claiming.{claim_of}
 use Rattle.rv_boxes.specs.Rounds.{IsSetting, IsInCases}
 use Rattle.rv_boxes.specs.Certifying.{IsJudgeable, AreEntriesOf, IsLocationOf, IsPart, IsCertifiable}
-use Rattle.rv_boxes.proofs.Building.{accepted}
+use Rattle.rv_boxes.specs.Passing.{IsProof}
+use Rattle.rv_boxes.proofs.Building.{accepted, plain}
 use Rattle.rv_boxes.proofs.Rounding.{setting_first, setting_others, in_a_case, and_not}
 
 some_at : {X : Type 0} (xs : List X) (j : ℕ) → j < length xs → (x : X) × (slice_get xs j ≡ Some x)
@@ -120,8 +120,11 @@ module _ (s : System) (f : Frame) (c : Claim) (first : Frozen) (from_first : Lis
         go (inl i) = one.good v i t
         go (inr n) = let os = can.others in two.good v (os.exact v ∙ and_not (has c.reached v) (has first v) t.reached n) t
 
-    pub built_certificate : (x : Certificate) → x.locations ≡ initial ∷ rest ∷ [] → IsAccepted s x
-    built_certificate x are = let l = can.least in let m = l.least in accepted s can.system (claim_of c) m.closed good_claim x built
+    pub built_certificate : (x : Certificate) → x.locations ≡ initial ∷ rest ∷ [] → IsProof s x
+    built_certificate x are = let l = can.least in let m = l.least in record {
+      accepted = accepted s can.system (claim_of c) m.closed good_claim x built;
+      plain = plain s can.system (claim_of c) m.closed good_claim x built;
+    }
       where
         not_first : (v : Valuation) → ¬ IsTrue (s.initial v) → (has first v ≡ true) ⊎ (has first v ≡ false) → has first v ≡ false
         not_first v denied (inl i) = absurd (denied ((initial_set.exact v).0 i))

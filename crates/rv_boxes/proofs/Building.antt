@@ -32,6 +32,7 @@ use Rattle.rv_proofs.specs.declared.certificate.Location.{Location}
 use Rattle.rv_proofs.specs.declared.certificate.Entry.{Entry}
 use Rattle.rv_proofs.specs.declared.certificate.EntryKind.{EntryKind}
 use Rattle.rv_proofs.specs.declared.certificate.EntryKind.TheVariants.{Dead, Go, Loop}
+use Rattle.rv_walk.specs.Plain.{ArePlain}
 use Rattle.rv_boxes.specs.declared.peaks.Peak.{Peak}
 use Rattle.rv_proofs.specs.Boxes.{IsUnitAt}
 use Rattle.rv_boxes.specs.Boxed.{IsBoxed, IsOpenBox, IsGreatest, IsUnbounded, IsVoid}
@@ -421,6 +422,9 @@ module _ (s : System) (is : IsSystem s) (c : BoxClaim) (closed : IsClosed s c) (
       go zero f = subst (IsBuiltLocation s c built.rest.entry) (same_Some built.initial l f) built.initial_is
       go (suc zero) f = subst (IsBuiltLocation s c built.rest.entry) (same_Some built.rest l f) built.rest_is
       go (suc (suc k)) f = cc
+
+  pub plain : ArePlain certificate
+  plain k l at = let b = location k l at in record { no_loop = no_loop s l built.rest.entry b.entries; no_first = b.first; no_around = b.around }
 
   range : IsInRange s certificate
   range = record {

@@ -3,7 +3,6 @@ use Rattle.std.proofs.Common.{◌≡◌, ◌↔◌, ℤ, Bool, true, false, List
 use Rattle.rv_proofs.specs.Systems.{System}
 use Rattle.rv_proofs.specs.Boxes.{IsGood, HasGoodBox}
 use Rattle.rv_proofs.specs.Reached.{AreLayers}
-use Rattle.rv_proofs.specs.Accepted.{IsAccepted}
 use Rattle.rv_proofs.specs.declared.certificate.Certificate.{Certificate}
 use Rattle.rv_proofs.specs.declared.report.Layers.{Layers}
 use Rattle.rv_proofs.proofs.Leasts.{least_good}
@@ -15,15 +14,15 @@ use Rattle.rv_boxes.specs.declared.claim.Claim.{Claim}
 use Rattle.rv_boxes.specs.Claiming.{claim_of}
 use Rattle.rv_boxes.specs.Rounds.{IsLeastClaim}
 use Rattle.rv_boxes.specs.Certifying.{IsBad}
-use Rattle.rv_boxes.specs.Passing.{IsEndOf}
+use Rattle.rv_boxes.specs.Passing.{IsProof, IsEndOf}
 
 clash : (b : Bool) → b ≡ true → b ≡ false → ⊥
 clash true e d = cc
 clash false e d = cc
 
-pub ends_good : (s : System) (f : Frame) (c : Claim) (x : Certificate) → IsLeastClaim s f c → IsAccepted s x → IsGood s (claim_of c)
+pub ends_good : (s : System) (f : Frame) (c : Claim) (x : Certificate) → IsLeastClaim s f c → IsProof s x → IsGood s (claim_of c)
     → IsEndOf s f.thresholds (Good x)
-ends_good s f c x least accepted good = let m = least.least in (accepted, (claim_of c, m.claim, m.closed, good))
+ends_good s f c x least proof good = let m = least.least in (proof, (claim_of c, m.claim, m.closed, good))
 
 pub ends_bad : (s : System) (f : Frame) (c : Claim) (l : Layers) → IsLeastClaim s f c → IsBad s (claim_of c) → AreLayers s (claim_of c) l.sets
     → IsEndOf s f.thresholds (Bad l)
@@ -31,5 +30,5 @@ ends_bad s f c l least (v, taken, bad) layers =
     ((λ has. clash (s.observer v) (least_good s f.thresholds (claim_of c) least.least has v taken) bad), (claim_of c, least.least, layers))
 
 pub exactly : (s : System) (thresholds : List ℤ) (e : BoxEnd) → IsEndOf s thresholds e → IsGoodEnd e ↔ HasGoodBox s thresholds
-exactly s thresholds (Good x) (accepted, has) = ((λ _. has), (λ _. tt))
+exactly s thresholds (Good x) (proof, has) = ((λ _. has), (λ _. tt))
 exactly s thresholds (Bad l) (none, _) = ((λ i. absurd i), (λ has. absurd (none has)))

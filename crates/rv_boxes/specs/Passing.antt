@@ -9,6 +9,8 @@ use Rattle.rv_symbolic.specs.declared.relation.Relation.{Relation}
 use Rattle.rv_symbolic.specs.Represented.{IsRelationOf}
 use Rattle.rv_cases.specs.declared.asking.Questions.{Questions}
 use Rattle.rv_cases.specs.Questions.{AreQuestions}
+use Rattle.rv_proofs.specs.declared.certificate.Certificate.{Certificate}
+use Rattle.rv_walk.specs.Plain.{ArePlain}
 use Rattle.rv_walk.specs.declared.end.BoxEnd.{BoxEnd}
 use Rattle.rv_walk.specs.declared.end.BoxEnd.TheVariants.{Good, Bad}
 
@@ -18,7 +20,12 @@ pub record IsPassOf (s : System) (d : Diagrams) (r : Relation) (q : Questions) (
   pub questions : AreQuestions s d q
   pub wide : s.columns ≡ columns
 
--- Good has an accepted certificate where some closed claim is good. Bad has the layers of the least closed claim, where none is.
+-- The certificate is accepted, and has no loop.
+pub record IsProof (s : System) (c : Certificate) : Type 0 where
+  pub accepted : IsAccepted s c
+  pub plain : ArePlain c
+
+-- Good has an accepted certificate without loops where some closed claim is good. Bad has the layers of the least closed claim, where none is.
 abbrev pub IsEndOf : System → List ℤ → BoxEnd → Type 0
-IsEndOf s thresholds (Good c) = IsAccepted s c × HasGoodBox s thresholds
+IsEndOf s thresholds (Good c) = IsProof s c × HasGoodBox s thresholds
 IsEndOf s thresholds (Bad l) = (¬ HasGoodBox s thresholds) × ((c : BoxClaim) × IsLeastClosed s thresholds c × AreLayers s c l.sets)

@@ -4,7 +4,6 @@ ghost use Rattle.std.specs.Prelude.{◌≡◌, ◌<◌, ◌^◌, ℕ, List, [], 
 ghost use Rattle.rv_diagram.specs.declared.frozen.Frozen.{Frozen as FrozenModel};
 ghost use Rattle.rv_proofs.specs.Systems.{System};
 ghost use Rattle.rv_proofs.specs.Samples.{by_one};
-ghost use Rattle.rv_proofs.specs.Accepted.{IsAccepted};
 ghost use Rattle.rv_proofs.specs.Boxes.{BoxClaim, IsGood};
 ghost use Rattle.rv_proofs.specs.Cases.{AreCases};
 ghost use Rattle.rv_proofs.specs.declared.report.Case.{Case as CaseModel};
@@ -12,6 +11,7 @@ ghost use Rattle.rv_boxes.specs.declared.claim.Claim.{Claim as ClaimModel};
 ghost use Rattle.rv_boxes.specs.Claiming.{claim_of};
 ghost use Rattle.rv_boxes.specs.Rounds.{IsSetting};
 ghost use Rattle.rv_boxes.specs.Certifying.{IsJudgeable, IsBad, IsLocationOf, IsPart, IsCertifiable};
+ghost use Rattle.rv_boxes.specs.Passing.{IsProof};
 
 use crate::bounding::copy_rows;
 use crate::entries::entries;
@@ -112,7 +112,7 @@ fn with_others(
         × IsCertifiable s frame.now c first from_first others × IsPart s (claim_of c) first [] others.given initial }
     ensures some { (s : System) (c : ClaimModel) (first : FrozenModel) (from_first : List CaseModel)
         → IsCertifiable s frame.now c first from_first others → IsPart s (claim_of c) first [] others.given initial
-        → IfOk result (λ o. IfSome o (λ x. IsAccepted s x)) }
+        → IfOk result (λ o. IfSome o (λ x. IsProof s x)) }
     ensures good { (s : System) (c : ClaimModel) (first : FrozenModel) (from_first : List CaseModel)
         → IsCertifiable s frame.now c first from_first others → IsPart s (claim_of c) first [] others.given initial
         → IfOk result (λ o. IfSome o (λ x. IsGood s (claim_of c))) }
@@ -152,7 +152,7 @@ pub fn certify(
 ) -> Result<Option<Certificate>, Memory>
     requires { (s : System) × (c : ClaimModel) × IsCertifiable s frame.now c first from_first others }
     ensures some { (s : System) (c : ClaimModel) → IsCertifiable s frame.now c first from_first others
-        → IfOk result (λ o. IfSome o (λ x. IsAccepted s x)) }
+        → IfOk result (λ o. IfSome o (λ x. IsProof s x)) }
     ensures good { (s : System) (c : ClaimModel) → IsCertifiable s frame.now c first from_first others
         → IfOk result (λ o. IfSome o (λ x. IsGood s (claim_of c))) }
     ensures none { (s : System) (c : ClaimModel) → IsCertifiable s frame.now c first from_first others

@@ -9,12 +9,13 @@ ghost use Rattle.rv_proofs.specs.Reached.{IsLeastClosed, AreLayers};
 ghost use Rattle.rv_proofs.specs.declared.certificate.Certificate.{Certificate as CertificateModel};
 ghost use Rattle.rv_proofs.specs.declared.report.Layers.{Layers as LayersModel};
 ghost use Rattle.rv_walk.specs.Ends.{IsGoodEnd};
+ghost use Rattle.rv_walk.specs.Plain.{ArePlain};
 ghost use Rattle.rv_boxes.specs.declared.frame.Frame.{Frame as FrameModel};
 ghost use Rattle.rv_boxes.specs.Claiming.{claim_of};
 ghost use Rattle.rv_boxes.specs.Opening.{IsFrameOf};
 ghost use Rattle.rv_boxes.specs.Rounds.{IsGiven, IsStart, IsLeastClaim};
 ghost use Rattle.rv_boxes.specs.Certifying.{IsBad};
-ghost use Rattle.rv_boxes.specs.Passing.{IsPassOf, IsEndOf};
+ghost use Rattle.rv_boxes.specs.Passing.{IsPassOf, IsProof, IsEndOf};
 
 use crate::claim::Claim;
 use crate::frame::Frame;
@@ -88,7 +89,7 @@ fn good_end(
 ) -> Result<Option<Certificate>, StoreFault>
     requires { (s : System) × IsGiven s store.old relation.now questions.now frame.now × IsLeastClaim s frame.now claim.now }
     ensures some { (s : System) → IsGiven s store.old relation.now questions.now frame.now → IsLeastClaim s frame.now claim.now
-        → IfOk result (λ o. IfSome o (λ x. IsAccepted s x)) }
+        → IfOk result (λ o. IfSome o (λ x. IsProof s x)) }
     ensures good { (s : System) → IsGiven s store.old relation.now questions.now frame.now → IsLeastClaim s frame.now claim.now
         → IfOk result (λ o. IfSome o (λ x. IsGood s (claim_of claim.now))) }
     ensures none { (s : System) → IsGiven s store.old relation.now questions.now frame.now → IsLeastClaim s frame.now claim.now
@@ -170,8 +171,8 @@ fn pass_in(
 /// The box pass: the least closed box claim of a system, upward from the initial control states and the closest thresholds. A bound
 /// rises only to the least threshold that holds a value that it must, and disappears past the last one. `relation` and `questions` are
 /// those of the system in the store, `columns` says how many integer memories and inputs it has. Good comes exactly where a closed good
-/// claim exists, and its certificate is accepted: one location for the initial control states, one for the others, with the bounds as
-/// rows. Bad has the layers of the least closed claim. The store is left as it was, after a fault too. Nodes comes where the store has no
+/// claim exists, and its certificate is accepted and has no loop: one location for the initial control states, one for the others, with
+/// the bounds as rows. Bad has the layers of the least closed claim. The store is left as it was, after a fault too. Nodes comes where the store has no
 /// room for what is built on the way, never where its limit holds every function of its variables, and Memory where there is none.
 pub fn box_pass(
     alloc: Global,
@@ -185,6 +186,8 @@ pub fn box_pass(
     requires thresholds { All (λ t. unsigned_abs t ≤ 2 ^ 41) thresholds.now }
     ensures good { (s : System) (c : CertificateModel) → IsPassOf s store.old relation.now questions.now columns → result ≡ Ok (BoxEnd.Good c)
         → IsAccepted s c }
+    ensures plain { (s : System) (c : CertificateModel) → IsPassOf s store.old relation.now questions.now columns → result ≡ Ok (BoxEnd.Good c)
+        → ArePlain c }
     ensures exactly { (s : System) → IsPassOf s store.old relation.now questions.now columns
         → IfOk result (λ e. IsGoodEnd e ↔ HasGoodBox s thresholds.now) }
     ensures bad { (s : System) (l : LayersModel) → IsPassOf s store.old relation.now questions.now columns → result ≡ Ok (BoxEnd.Bad l)

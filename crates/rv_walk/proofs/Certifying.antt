@@ -1,12 +1,12 @@
 -- The certificate of one location that holds a closed good set of control states is accepted.
-use Rattle.std.proofs.Common.{ℕ, ◌<◌, ◌≤◌, ◌≡◌, List, [], length, map, refl, sym, ap, ◌∙◌, subst, ⊎_elim, arith, slice_get, Some, Option, All}
+use Rattle.std.proofs.Common.{ℕ, zero, suc, ◌<◌, ◌≤◌, ◌≡◌, List, [], ◌∷◌, length, map, refl, sym, ap, ◌∙◌, subst, ⊎_elim, arith, slice_get, Some, Option, All}
 use Rattle.std.proofs.lemmas.List.{length-map}
 use Rattle.std.proofs.lemmas.List.Elements.{All-nil}
 use Rattle.std.proofs.lemmas.Option.{slice_get_within, slice_get_cases, slice_get-map}
 use Rattle.std.specs.Option.{option_map}
 use Rattle.rv_diagram.specs.declared.frozen.Frozen.{Frozen}
 use Rattle.rv_proofs.specs.Systems.{System}
-use Rattle.rv_proofs.specs.Counts.{HasLocationCounts, HasEntryCounts}
+use Rattle.rv_proofs.specs.Counts.{IsLoop, HasLoop, HasLocationCounts, HasEntryCounts}
 use Rattle.rv_proofs.specs.Scopes.{IsIn, Implication, implications, each, after, rows_into, IsSettled}
 use Rattle.rv_proofs.specs.Ranges.{IsControlSet, AreKept, IsEntryInRange, IsLocationInRange}
 use Rattle.rv_proofs.specs.Accepted.{IsIncluded, IsCovered, Leads, IsDeadKind, IsObserved, AreImplied, IsAccepted}
@@ -17,6 +17,7 @@ use Rattle.rv_proofs.specs.declared.certificate.Entry.{Entry}
 use Rattle.rv_proofs.specs.declared.report.Case.{Case}
 use Rattle.rv_symbolic.proofs.Parting.{got-append, new-append, none-at}
 use Rattle.rv_walk.specs.Ends.{has}
+use Rattle.rv_walk.specs.Plain.{IsPlain, ArePlain}
 use Rattle.rv_walk.specs.Walks.{entry_of, location_of, certificate_of}
 
 some_same : {A : Type 0} (x y : A) → Some x ≡ Some y → x ≡ y
@@ -31,6 +32,22 @@ got-map {A} {B} f xs k y h = ⊎_elim
 
 map-got : {A B : Type 0} (f : A → B) (xs : List A) (k : ℕ) (x : A) → slice_get xs k ≡ Some x → slice_get (map f xs) k ≡ Some (f x)
 map-got f xs k x got = slice_get-map f xs k ∙ ap (option_map f) got
+
+-- what a list of one holds
+only-one : {A : Type 0} (x y : A) (k : ℕ) → slice_get (x ∷ []) k ≡ Some y → x ≡ y
+only-one x y zero e = some_same x y e
+only-one x y (suc k) e = cc
+
+-- the entries of cases are steps
+no-loop : (control : Frozen) (cases : List Case) → ¬ HasLoop (location_of control cases)
+no-loop control cases (j, e, got, loop) =
+    let q : (c : Case) × (slice_get cases j ≡ Some c) × (entry_of c ≡ e) = got-map entry_of cases j e got in
+    subst IsLoop (sym q.2) loop
+
+-- the certificate has no loop
+pub plain : (control : Frozen) (cases : List Case) → ArePlain (certificate_of control cases)
+plain control cases k l h =
+    subst IsPlain (only-one (location_of control cases) l k h) (record { no_loop = no-loop control cases; no_first = refl; no_around = refl })
 
 module _ (s : System) (control : Frozen) (cases : List Case) (set : IsControlSet s control) (closed : IsControlClosed s (has control))
     (good : IsControlGood s (has control)) (parts : AreCases s control cases) (few : length cases ≤ 2) where

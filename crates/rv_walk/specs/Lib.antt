@@ -1,4 +1,5 @@
 pub mod Ends
+pub mod Plain
 pub mod Walks
 pub mod Extended
 pub mod Falsified

@@ -10,6 +10,7 @@ ghost use Rattle.rv_proofs.specs.declared.certificate.Certificate.{Certificate};
 ghost use Rattle.rv_proofs.specs.declared.report.Layers.{Layers};
 ghost use Rattle.rv_symbolic.specs.Represented.{parts_of, IsRelationOf};
 ghost use Rattle.rv_walk.specs.Ends.{has, IsGoodCertificate, AreBadLayers, IsEnd, IsGoodEnd};
+ghost use Rattle.rv_walk.specs.Plain.{ArePlain, IsPlainEnd};
 ghost use Rattle.rv_walk.specs.Walks.{missing, IsWalk, IsDone, IsWalking};
 
 use crate::certify::certify;
@@ -89,6 +90,7 @@ fn explore(alloc: Global, store: &mut Store, relation: &Relation) -> Result<Prog
 fn end_of(alloc: Global, store: &mut Store, relation: &Relation) -> Result<BoxEnd, StoreFault>
     requires { (s : System) × IsRelationOf s store.old relation.now × HasNoIntegers s }
     ensures ends { (s : System) → IsRelationOf s store.old relation.now → HasNoIntegers s → IfOk result (IsEnd s) }
+    ensures plain { IfOk result IsPlainEnd }
     ensures same { store.new ≡ store.old }
     ensures roomy { IsErrOf result StoreFault.Nodes → store.old.limit < 2 ^ (2 ^ store.old.variables) }
 {
@@ -107,11 +109,12 @@ fn end_of(alloc: Global, store: &mut Store, relation: &Relation) -> Result<BoxEn
 }
 
 /// The control states that a system without integers reaches, layer by layer, each from what is new in the one before.
-/// Good has a certificate whose one location holds them, and comes exactly where a closed good box claim exists, which is
-/// exactly where the observer is true along each run. Bad has the layers.
+/// Good has a certificate whose one location holds them, without a loop, and comes exactly where a closed good box claim exists,
+/// which is exactly where the observer is true along each run. Bad has the layers.
 pub fn walk(alloc: Global, store: &mut Store, relation: &Relation) -> Result<BoxEnd, StoreFault>
     requires { (s : System) × IsRelationOf s store.old relation.now × HasNoIntegers s }
     ensures good { (s : System) (c : Certificate) → IsRelationOf s store.old relation.now → HasNoIntegers s → result ≡ Ok (BoxEnd.Good c) → IsGoodCertificate s c }
+    ensures plain { (c : Certificate) → result ≡ Ok (BoxEnd.Good c) → ArePlain c }
     ensures bad { (s : System) (l : Layers) → IsRelationOf s store.old relation.now → HasNoIntegers s → result ≡ Ok (BoxEnd.Bad l) → AreBadLayers s l }
     ensures exactly { (s : System) (thresholds : List ℤ) → IsRelationOf s store.old relation.now → HasNoIntegers s
         → IfOk result (λ e. IsGoodEnd e ↔ HasGoodBox s thresholds) }

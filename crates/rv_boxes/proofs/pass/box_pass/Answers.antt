@@ -22,7 +22,15 @@ returns-clause-good c s x p e =
     let given : IsGiven s c.args.store.now c.args.relation.now c.args.questions.now c.in_ok-frame.frame =
     record { relation = p.relation; questions = p.questions; frame = c.in_ok-frame.ensures.frame s p.wide (sym q.many_tests) } in
     let ends = subst (λ (ts : List ℤ). IfOk c.pass_in.result (IsEndOf s ts)) c.in_ok-frame.ensures.thresholds (c.pass_in.ensures.ends s given) in
-    (subst (λ (o : Result BoxEnd StoreFault). IfOk o (IsEndOf s c.args.thresholds.now)) e ends).0
+    (subst (λ (o : Result BoxEnd StoreFault). IfOk o (IsEndOf s c.args.thresholds.now)) e ends).0.accepted
+
+pub returns-clause-plain : goal.returns-clause-plain
+returns-clause-plain c s x p e =
+    let q = p.questions in
+    let given : IsGiven s c.args.store.now c.args.relation.now c.args.questions.now c.in_ok-frame.frame =
+    record { relation = p.relation; questions = p.questions; frame = c.in_ok-frame.ensures.frame s p.wide (sym q.many_tests) } in
+    let ends = subst (λ (ts : List ℤ). IfOk c.pass_in.result (IsEndOf s ts)) c.in_ok-frame.ensures.thresholds (c.pass_in.ensures.ends s given) in
+    (subst (λ (o : Result BoxEnd StoreFault). IfOk o (IsEndOf s c.args.thresholds.now)) e ends).0.plain
 
 pub returns-clause-exactly : goal.returns-clause-exactly
 returns-clause-exactly c s p =

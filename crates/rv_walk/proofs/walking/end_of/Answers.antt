@@ -3,7 +3,9 @@ use Rattle.rv_diagram.specs.Nodes.{Diagrams}
 use Rattle.rv_proofs.specs.Cases.{AreCases}
 use Rattle.rv_symbolic.specs.Represented.{IsRelationOf}
 use Rattle.rv_walk.specs.Ends.{IsGoodCertificate}
+use Rattle.rv_walk.specs.Plain.{ArePlain}
 use Rattle.rv_walk.specs.Walks.{IsDone}
+use Rattle.rv_walk.proofs.Certifying.{plain}
 use Rattle.rv_walk.proofs.Ending.{done_bad, done_good}
 use Rattle.rv_walk.proofs.walking.end_of.Goals as goal
 
@@ -20,3 +22,6 @@ returns-clause-ends c s is without =
     let a : AreCases s c.in_ok-walk.walk.reached c.in_ok-cases.cases = c.in_ok-cases.ensures.parted s still without d.control in
     subst (IsGoodCertificate s) (sym c.in_ok-certify.ensures)
     (done_good s c.in_ok-walk.walk.sets c.in_ok-walk.walk.reached c.in_ok-cases.cases d a c.in_ok-cases.ensures.few)
+
+pub returns-clause-plain : goal.returns-clause-plain
+returns-clause-plain c = subst ArePlain (sym c.in_ok-certify.ensures) (plain c.in_ok-walk.walk.reached c.in_ok-cases.cases)

@@ -3,11 +3,15 @@ use Rattle.rv_diagram.specs.declared.store.StoreFault.{StoreFault}
 use Rattle.rv_symbolic.proofs.Extending.{map_ok}
 use Rattle.rv_walk.specs.declared.end.BoxEnd.{BoxEnd}
 use Rattle.rv_walk.specs.Ends.{IsEnd}
+use Rattle.rv_walk.specs.Plain.{IsPlainEnd}
 use Rattle.rv_walk.proofs.Ending.{good_exactly, good_decides}
 use Rattle.rv_walk.proofs.walking.walk.Goals as goal
 
 pub returns-clause-good : goal.returns-clause-good
 returns-clause-good c s x is without e = subst (λ (o : Result BoxEnd StoreFault). IfOk o (IsEnd s)) e (c.end_of.ensures.ends s is without)
+
+pub returns-clause-plain : goal.returns-clause-plain
+returns-clause-plain c x e = subst (λ (o : Result BoxEnd StoreFault). IfOk o IsPlainEnd) e c.end_of.ensures.plain
 
 pub returns-clause-bad : goal.returns-clause-bad
 returns-clause-bad c s l is without e = subst (λ (o : Result BoxEnd StoreFault). IfOk o (IsEnd s)) e (c.end_of.ensures.ends s is without)
