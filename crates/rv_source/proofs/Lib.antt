@@ -1,1 +1,3 @@
 pub mod ReadSource
+mod SmallParts
+mod SmallConstants

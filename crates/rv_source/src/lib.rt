@@ -5,7 +5,9 @@
 #![tactic(auto)]
 
 mod fault;
+mod numbers;
 mod reading;
 
 pub use fault::SourceFault;
+pub use numbers::numbers_are_small;
 pub use reading::read_source;

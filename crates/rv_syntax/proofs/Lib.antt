@@ -24,4 +24,6 @@ pub mod Earlier
 pub mod OneFault
 pub mod FirstFault
 pub mod Placed
+pub mod FineTokens
 pub mod PlainNames
+pub mod SmallLiterals

@@ -4,6 +4,7 @@ pub mod Nesting
 pub mod Rules
 pub mod ProgramText
 pub mod TextTrees
+pub mod Literals
 pub mod Marks
 pub mod Machine
 pub mod Limited

@@ -17,6 +17,7 @@ ghost use Rattle.rv_tree.specs.Bounded.{IsBounded};
 ghost use Rattle.rv_tree.specs.SourceTrees.{IsSourceTree};
 ghost use Rattle.rv_tree.specs.Words.{HasPlainNames};
 ghost use Rattle.rv_syntax.specs.TextTrees.{IsTreeOfText};
+ghost use Rattle.rv_syntax.specs.Literals.{HasSmallLiterals};
 ghost use Rattle.rv_syntax.specs.declared.fault.TextFault.{TextFault as FaultModel};
 ghost use Rattle.rv_tree.specs.Limits.{source_limit};
 ghost use Rattle.rv_syntax.specs.Longest.{AreTokens, IsLongest};
@@ -123,6 +124,11 @@ pub fn source_trees()
 /// In the tree of a text the labels of types, the names of nodes and those of their inputs are letters, digits and `_`.
 pub fn plain_names()
     ensures { (bytes : List ℕ) (t : ProgramTree) → IsTextOf bytes t → HasPlainNames t }
+{}
+
+/// In the tree of a text each integer literal is at most 2^40 + 1, as which a larger one is kept.
+pub fn small_literals()
+    ensures { (bytes : List ℕ) (t : ProgramTree) → IsTextOf bytes t → HasSmallLiterals t }
 {}
 
 /// Tokens are at most one expression.

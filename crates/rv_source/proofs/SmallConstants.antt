@@ -1,0 +1,103 @@
+-- A constant expression counts as no more than its weight, and as no more than 2^40 + 1 where constants do.
+use Rattle.std.proofs.Common.{◌≡◌, ℕ, ◌+◌, ◌*◌, ◌≤◌, ◌<◌, min, max, Bool, true, false, cond, nat_le, List, [], ◌∷◌, reverse, ℤ, pos, ◌+ℤ◌, ◌-ℤ◌, ◌*ℤ◌, neg_ℤ, nat_abs, Option, Some, refl, arith}
+use Rattle.std.proofs.Common.{None as Nothing}
+use Rattle.std.specs.List.{All}
+use Rattle.std.proofs.lemmas.List.Elements.{All-nil, All-push}
+use Rattle.std.proofs.Math.Nat.{mul-le-mul_left}
+use Rattle.std.proofs.lemmas.Int.{unsigned_abs-mul, ints}
+use Rattle.std.proofs.lemmas.Bool.Decides.{nat_tests}
+use Rattle.rv_base.specs.declared.value.Value.{Value}
+use Rattle.rv_base.specs.declared.value.Value.TheVariants.{Flag, Whole}
+use Rattle.rv_base.specs.declared.value.Value.TheVariants as value
+use Rattle.rv_tree.specs.declared.tree.Op.{Op}
+use Rattle.rv_tree.specs.declared.tree.Op.TheVariants as op
+use Rattle.rv_tree.specs.Tree.{Tree, Form, Node, Number, Named, Minus, Binary, If, ConstantTree, ProgramTree}
+use Rattle.rv_tree.specs.Places.{Identifier, is_same}
+use Rattle.rv_tree.specs.Limits.{heaviest, too_heavy}
+use Rattle.rv_types.specs.Kinds.{LabelPlace, label_of}
+use Rattle.rv_types.specs.Constants.{flag_in, whole_in, counted, counted_part, value_under, weight_under, value_of, form_value, weight_of, form_weight}
+use Rattle.rv_types.specs.Scopes.{constant_value_after, constant_values_of, constant_values}
+
+-- the magnitude of a value's integer
+abbrev pub size : Value → ℕ
+size v = nat_abs (whole_in v)
+
+counted_small : (m : ℕ) (z : ℤ) → nat_abs z ≤ m → size (counted m z) ≤ min m too_heavy
+counted_small m z h = tested (nat_le m heaviest) refl
+  where
+    tested : (b : Bool) → nat_le m heaviest ≡ b → size (cond b (Whole z) (Whole (pos too_heavy))) ≤ min m too_heavy
+    tested true e = let l : m ≤ heaviest = grind (arith, nat_tests) in omega (arith, h, l)
+    tested false e = let l : heaviest < m = grind (arith, nat_tests) in omega (arith, l)
+
+sum_small : (y z : ℤ) (v w : ℕ) → nat_abs y ≤ v → nat_abs z ≤ w → nat_abs (y +ℤ z) ≤ v + w
+sum_small y z v w g h = omega (arith, ints)
+
+difference_small : (y z : ℤ) (v w : ℕ) → nat_abs y ≤ v → nat_abs z ≤ w → nat_abs (y -ℤ z) ≤ v + w
+difference_small y z v w g h = omega (arith, ints)
+
+product_small : (y z : ℤ) (w : ℕ) → nat_abs z ≤ w → nat_abs (y *ℤ z) ≤ nat_abs y * w
+product_small y z w h = rw (unsigned_abs-mul y z) (mul-le-mul_left (nat_abs y) h)
+
+negated_small : (m : ℕ) (z : ℤ) → nat_abs z ≤ m → nat_abs (neg_ℤ z) ≤ m
+negated_small m z h = omega (arith, ints)
+
+under_small : (o : Op) (x y : Value) (v w : ℕ) → size x ≤ v → size y ≤ w → size (value_under (weight_under o (size x) v w) o x y) ≤ min (weight_under o (size x) v w) too_heavy
+under_small op.Plus x y v w g h = counted_small (v + w) (whole_in x +ℤ whole_in y) (sum_small (whole_in x) (whole_in y) v w g h)
+under_small op.Minus x y v w g h = counted_small (v + w) (whole_in x -ℤ whole_in y) (difference_small (whole_in x) (whole_in y) v w g h)
+under_small op.Times x y v w g h = counted_small (size x * w) (whole_in x *ℤ whole_in y) (product_small (whole_in x) (whole_in y) w h)
+under_small _ x y v w g h = omega arith
+
+part_small : (m : ℕ) (v : Value) → size v ≤ m → size (counted_part m v) ≤ min m too_heavy
+part_small m (Whole z) h = counted_small m z h
+part_small m (Flag b) h = omega arith
+part_small m (value.Label k) h = omega arith
+
+chosen_small : (b : Bool) (v w : Value) (m n : ℕ) → size v ≤ m → size w ≤ n → size (cond b v w) ≤ max m n
+chosen_small true v w m n g h = omega (arith, g)
+chosen_small false v w m n g h = omega (arith, h)
+
+less : (k m : ℕ) → k ≤ min m too_heavy → k ≤ m
+less k m h = omega (arith, h)
+
+module _ (known : Identifier → Value) (small : (x : Identifier) → size (known x) ≤ too_heavy) where
+  mutual
+    value_small : (e : Tree) → size (value_of known e) ≤ min (weight_of known e) too_heavy
+    value_small (Node at site form) = form_small form
+
+    form_small : (form : Form) → size (form_value known form) ≤ min (form_weight known form) too_heavy
+    form_small (Number n) = counted_small n (pos n) (omega (arith, ints))
+    form_small (Named x) = let h = small x in omega (arith, h)
+    form_small (Minus e) =
+        counted_small (weight_of known e) (neg_ℤ (whole_in (value_of known e)))
+        (negated_small (weight_of known e) (whole_in (value_of known e)) (less (size (value_of known e)) (weight_of known e) (value_small e)))
+    form_small (Binary o a b) =
+        under_small o (value_of known a) (value_of known b) (weight_of known a) (weight_of known b)
+        (less (size (value_of known a)) (weight_of known a) (value_small a)) (less (size (value_of known b)) (weight_of known b) (value_small b))
+    form_small (If i a b) =
+        part_small (max (weight_of known a) (weight_of known b)) (cond (flag_in (value_of known i)) (value_of known a) (value_of known b))
+        (chosen_small (flag_in (value_of known i)) (value_of known a) (value_of known b) (weight_of known a) (weight_of known b)
+        (less (size (value_of known a)) (weight_of known a) (value_small a)) (less (size (value_of known b)) (weight_of known b) (value_small b)))
+    form_small _ = omega arith
+
+module _ (p : ProgramTree) where
+  label_small : (o : Option LabelPlace) → size (elim o as (λ _. Value) [ Nothing ↦ Flag false | Some l ↦ value.Label l.number ]) ≤ too_heavy
+  label_small Nothing = omega arith
+  label_small (Some l) = omega arith
+
+  after_small : (before : List ConstantTree) (x : Identifier) → size (constant_value_after p before x) ≤ too_heavy
+  after_small [] x = label_small (label_of p x)
+  after_small (c ∷ before) x = tested (is_same c.name.text x) (after_small before)
+    where
+      tested : (b : Bool) → ((y : Identifier) → size (constant_value_after p before y) ≤ too_heavy)
+          → size (cond b (value_of (constant_value_after p before) c.body) (constant_value_after p before x)) ≤ too_heavy
+      tested true small = let h = value_small (constant_value_after p before) small c.body in omega (arith, h)
+      tested false small = small x
+
+  listed_small : (cs : List ConstantTree) → All (λ v. size v ≤ too_heavy) (constant_values_of p cs)
+  listed_small [] = All-nil (λ v. size v ≤ too_heavy)
+  listed_small (c ∷ before) =
+      All-push (λ v. size v ≤ too_heavy) (constant_values_of p before) (value_of (constant_value_after p before) c.body) (listed_small before)
+      (let h = value_small (constant_value_after p before) (after_small before) c.body in omega (arith, h))
+
+  pub constants_small : All (λ v. size v ≤ too_heavy) (constant_values p)
+  constants_small = listed_small (reverse p.constants)
