@@ -1,7 +1,9 @@
-//! The box pass over the control reading of a flat system without integers.
+//! The box pass over the control reading of a flat system.
 //!
-//! It promises Good, with an accepted certificate, exactly where a closed good box claim exists, else the layers of control states
-//! up to one at which the observer is false. It stands on `rv_reading`; `prove` decides by it. Begin with pass.rt.
+//! It promises Good, with an accepted certificate without loops, exactly where a closed box claim with bounds among the thresholds is
+//! good, else the layers of the least closed claim. Where the flat system has no integers, these are the control states that it reaches,
+//! and Good comes exactly where it is safe. It stands on `rv_reading`, and that on the box pass and the walk over any system, `rv_boxes`
+//! and `rv_walk`; `prove` decides by it. Begin with pass.rt.
 #![tactic(auto)]
 
 mod pass;

@@ -1,1 +1,2 @@
 pub mod Representing
+pub mod Columns

@@ -1,5 +1,5 @@
 -- References of what a flat system is have the meanings of its system of valuations.
-use Rattle.std.proofs.Common.{◌≡◌, ◌∙◌, length, sym, arith}
+use Rattle.std.proofs.Common.{◌≡◌, ◌∙◌, ℕ, List, [], ◌∷◌, length, refl, sym, ap, arith}
 use Rattle.std.proofs.lemmas.List.{length-map}
 use Rattle.rv_diagram.specs.Nodes.{Diagrams}
 use Rattle.rv_agreement.specs.Agreement.{IsWell}
@@ -23,10 +23,12 @@ use Rattle.rv_cases.proofs.Keeping.{questions_later}
 use Rattle.rv_bits.specs.Whole.{ArePartsRead}
 use Rattle.rv_proofs.specs.Counts.{HasFree}
 use Rattle.rv_proofs.specs.Ranges.{IsInRange}
+use Rattle.rv_proofs.specs.Reached.{HasNoIntegers}
 use Rattle.rv_proofs.specs.declared.certificate.Certificate.{Certificate}
 use Rattle.rv_accept.specs.Passing.{IsGiven}
 use Rattle.rv_reading.specs.declared.reading.Reading.{Reading}
-use Rattle.rv_reading.specs.Read.{system_read, diagrams_of, relation_of, questions_of, IsRead}
+use Rattle.rv_boxes.specs.Passing.{IsPassOf}
+use Rattle.rv_reading.specs.Read.{flat_of, system_read, diagrams_of, relation_of, questions_of, IsRead}
 
 module _ (f : Flat) (well : IsWell (system_of f)) (computed : (s : System) (w : Valuation) → IsWell s → IsSymbolic s w (symbolic s w)) (a b : Diagrams) (p : Parts)
     (size : a.variables ≡ length f.variables) (are : ArePartsRead f a b p) where
@@ -65,3 +67,31 @@ is_given r c read range free = record {
   range = range;
   free = free;
 }
+
+-- ---- What a box pass is given of a reading.
+pub is_pass : (r : Reading) (columns : ℕ) → IsRead r → columns ≡ length (flat_of r).columns
+    → IsPassOf (system_read r) (diagrams_of r) (relation_of r) (questions_of r) columns
+is_pass r columns read many = record { relation = read.relation; questions = read.questions; wide = sym (many ∙ read.wide) }
+
+-- ---- Whether there are integers.
+none_left : {X : Type 0} (xs : List X) → length xs ≡ 0 → xs ≡ []
+none_left [] e = refl
+none_left (x ∷ xs) e = absurd (omega (arith, e))
+
+module _ (r : Reading) (read : IsRead r) where
+  pub no_integers : (flat_of r).columns ≡ [] → (questions_of r).rows ≡ [] → HasNoIntegers (system_read r)
+  no_integers columns tests =
+      let system = read.relation.system in
+      let asked = read.questions in
+      let none : (system_read r).columns ≡ 0 = sym read.wide ∙ ap length columns in
+      record {
+        memories = let few = system.few_memories in omega (arith, few, none);
+        columns = none;
+        tests = sym asked.many_tests ∙ ap length tests;
+      }
+
+  pub no_columns : HasNoIntegers (system_read r) → (flat_of r).columns ≡ []
+  no_columns none = none_left (flat_of r).columns (read.wide ∙ none.columns)
+
+  pub no_tests : HasNoIntegers (system_read r) → (questions_of r).rows ≡ []
+  no_tests none = let asked = read.questions in none_left (questions_of r).rows (asked.many_tests ∙ none.tests)

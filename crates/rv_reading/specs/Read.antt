@@ -1,4 +1,5 @@
 -- When a reading is one of its flat system.
+use Rattle.std.specs.Prelude.{◌≡◌, length}
 use Rattle.rv_diagram.specs.Nodes.{Diagrams}
 use Rattle.rv_proofs.specs.Systems.{System}
 use Rattle.rv_flat.specs.declared.flat.Flat.{Flat}
@@ -26,8 +27,10 @@ abbrev pub questions_of : Reading → Questions
 questions_of r = r.questions
 
 -- The references of the reading have in its store the meanings of its flat system, and the answers to its questions what order tests,
--- integer memories and the observer are, no row and no form in two answers to one question.
+-- integer memories and the observer are, no row and no form in two answers to one question. The flat system lists as many columns
+-- as its system has.
 pub record IsRead (r : Reading) : Type 0 where
   pub relation : IsRelationOf (system_read r) (diagrams_of r) (relation_of r)
   pub questions : AreQuestions (system_read r) (diagrams_of r) (questions_of r)
   pub distinct : AreDistinct (questions_of r)
+  pub wide : length (flat_of r).columns ≡ (system_read r).columns

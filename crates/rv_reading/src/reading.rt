@@ -1,6 +1,7 @@
 //! The control reading of a flat system.
 
-ghost use Rattle.std.specs.Prelude.{◌≡◌, ◌↔◌, ◌<◌, ◌≤◌, ◌^◌, ℕ, ℤ, Bool, List, Ok, None, Some, length, slice_get, IfOk, OnOk, IsErrOf};
+ghost use Rattle.std.specs.Prelude.{◌≡◌, ◌↔◌, ◌<◌, ◌≤◌, ◌^◌, ℕ, ℤ, Bool, List, Ok, None, Some, All, length, slice_get, IfOk, OnOk, IsErrOf, IsTrue};
+ghost use Rattle.std.specs.Int.RustNames.{unsigned_abs};
 ghost use Rattle.std.specs.Borrow.{sem};
 ghost use Rattle.rv_diagram.specs.declared.frozen.Frozen.{Frozen as FrozenModel};
 ghost use Rattle.rv_tree.specs.Tree.{ProgramTree};
@@ -10,9 +11,10 @@ ghost use Rattle.rv_types.specs.WellFormed.{AreWell};
 ghost use Rattle.rv_flat.specs.FlatOf.{IsFlatOf};
 ghost use Rattle.rv_proofs.specs.Cases.{IsCase, AreCases, IsImage, IsPreimage, IsInitialSet};
 ghost use Rattle.rv_proofs.specs.Ranges.{IsControlSet, IsInRange};
-ghost use Rattle.rv_proofs.specs.Reached.{HasNoIntegers};
+ghost use Rattle.rv_proofs.specs.Accepted.{IsAccepted};
+ghost use Rattle.rv_proofs.specs.Reached.{HasNoIntegers, IsLeastClosed, AreLayers};
 ghost use Rattle.rv_proofs.specs.Runs.{IsSafeSystem};
-ghost use Rattle.rv_proofs.specs.Boxes.{HasGoodBox};
+ghost use Rattle.rv_proofs.specs.Boxes.{BoxClaim, HasGoodBox};
 ghost use Rattle.rv_proofs.specs.Counts.{HasFree};
 ghost use Rattle.rv_proofs.specs.Verdicts.{IsVerdict};
 ghost use Rattle.rv_proofs.specs.declared.certificate.Certificate.{Certificate as CertificateModel};
@@ -23,6 +25,7 @@ ghost use Rattle.rv_symbolic.specs.Growing.{Extends};
 ghost use Rattle.rv_symbolic.specs.Represented.{AreParts, HaveRefs};
 ghost use Rattle.rv_proofs.specs.declared.report.Layers.{Layers as LayersModel};
 ghost use Rattle.rv_walk.specs.Ends.{IsGoodCertificate, AreBadLayers, IsGoodEnd};
+ghost use Rattle.rv_walk.specs.Plain.{ArePlain};
 ghost use Rattle.rv_walk.specs.Paths.{IsFalsifyingPath, IsShortestPath};
 ghost use Rattle.rv_reading.specs.Lending.{LendsStore};
 ghost use Rattle.rv_reading.specs.Read.{flat_of, system_read, diagrams_of, IsRead};
@@ -30,6 +33,7 @@ ghost use Rattle.rv_reading.specs.Read.{flat_of, system_read, diagrams_of, IsRea
 use rv_accept::accept;
 use rv_base::Many;
 use rv_bits::{Around, ReadSystem, read_system};
+use rv_boxes::box_pass;
 use rv_cases::{Questions, cases};
 use rv_control::{computed_instants, control_is_a_system};
 use rv_diagram::{Frozen, Store, StoreFault};
@@ -185,6 +189,7 @@ impl<'a> Reading<'a> {
         requires read { IsRead self.old }
         requires control { HasNoIntegers (system_read self.old) }
         ensures good { (c : CertificateModel) → result ≡ Ok (BoxEnd.Good c) → IsGoodCertificate (system_read self.old) c }
+        ensures plain { (c : CertificateModel) → result ≡ Ok (BoxEnd.Good c) → ArePlain c }
         ensures bad { (l : LayersModel) → result ≡ Ok (BoxEnd.Bad l) → AreBadLayers (system_read self.old) l }
         ensures exactly { (thresholds : List ℤ) → IfOk result (λ e. IsGoodEnd e ↔ HasGoodBox (system_read self.old) thresholds) }
         ensures decides { IfOk result (λ e. IsGoodEnd e ↔ IsSafeSystem (system_read self.old)) }
@@ -192,6 +197,31 @@ impl<'a> Reading<'a> {
         ensures roomy { IsErrOf result StoreFault.Nodes → (diagrams_of self.old).limit < 2 ^ (2 ^ (diagrams_of self.old).variables) }
     {
         walk(alloc, &mut self.store, &self.relation)
+    }
+
+    /// The box pass over the flat system, with bounds among its thresholds: how it ends. Good has an accepted certificate without loops,
+    /// and comes exactly where some closed box claim is good. Bad has the layers of the least closed claim.
+    pub fn box_pass(&mut self, alloc: Global) -> Result<BoxEnd, StoreFault>
+        requires read { IsRead self.old }
+        requires thresholds { All (λ t. unsigned_abs t ≤ 2 ^ 41) (flat_of self.old).thresholds }
+        ensures good { (c : CertificateModel) → result ≡ Ok (BoxEnd.Good c) → IsAccepted (system_read self.old) c }
+        ensures plain { (c : CertificateModel) → result ≡ Ok (BoxEnd.Good c) → ArePlain c }
+        ensures exactly { IfOk result (λ e. IsGoodEnd e ↔ HasGoodBox (system_read self.old) (flat_of self.old).thresholds) }
+        ensures bad { (l : LayersModel) → result ≡ Ok (BoxEnd.Bad l) → (c : BoxClaim)
+            × IsLeastClosed (system_read self.old) (flat_of self.old).thresholds c × AreLayers (system_read self.old) c l.sets }
+        ensures same { self.new ≡ self.old }
+        ensures roomy { IsErrOf result StoreFault.Nodes → (diagrams_of self.old).limit < 2 ^ (2 ^ (diagrams_of self.old).variables) }
+    {
+        let thresholds = self.flat.thresholds.as_slice();
+        let columns = self.flat.columns.len();
+        box_pass(
+            alloc,
+            &mut self.store,
+            &self.relation,
+            &self.questions,
+            thresholds,
+            columns,
+        )
     }
 
     /// A run of the system of a flat system without integers, along which the assertions hold and at whose last instant the observer is
@@ -221,6 +251,14 @@ impl<'a> Reading<'a> {
         ensures { result.now ≡ flat_of self.now }
     {
         self.flat
+    }
+
+    /// Whether the flat system has no integers: no columns and no order tests.
+    pub fn has_no_integers(&self) -> bool
+        requires { IsRead self.now }
+        ensures { IsTrue result ↔ HasNoIntegers (system_read self.now) }
+    {
+        self.flat.columns.is_empty() && self.questions.rows.is_empty()
     }
 
     /// How many state bits there are.

@@ -1,5 +1,4 @@
-use Rattle.std.proofs.Common.{◌≡◌, ◌∙◌, ◌≤◌, length, sym, subst, rules}
-use Rattle.std.proofs.lemmas.List.{length-map}
+use Rattle.std.proofs.Common.{◌∙◌, ◌≤◌, length, sym, subst, rules}
 use Rattle.rv_flat.proofs.Inlining.{is_table}
 use Rattle.rv_control.specs.Control.{control_of}
 use Rattle.rv_proofs.specs.Systems.{IsSystem}

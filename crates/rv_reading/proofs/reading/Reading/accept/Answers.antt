@@ -1,10 +1,8 @@
 use Rattle.std.proofs.Common.{sym, subst}
-use Rattle.rv_proofs.specs.Systems.{System}
-use Rattle.rv_proofs.specs.Verdicts.{IsVerdict}
 use Rattle.rv_symbolic.specs.declared.relation.Parts.{Parts}
 use Rattle.rv_symbolic.proofs.Extending.{map_ok}
 use Rattle.rv_accept.specs.Passing.{IsGiven}
-use Rattle.rv_reading.specs.Read.{system_read, diagrams_of, relation_of, questions_of}
+use Rattle.rv_reading.specs.Read.{system_read, diagrams_of, questions_of}
 use Rattle.rv_reading.proofs.Representing.{is_given}
 use Rattle.rv_reading.proofs.reading.Reading.accept.Goals as goal
 

@@ -1,6 +1,6 @@
-use Rattle.std.proofs.Common.{rules}
 use Rattle.rv_control.specs.Control.{control_of}
 use Rattle.rv_proofs.specs.Systems.{IsSystem}
+use Rattle.rv_reading.proofs.Columns.{columns_many}
 use Rattle.rv_reading.proofs.Representing.{questions_kept}
 use Rattle.rv_reading.proofs.reading.Reading.new.Goals as goal
 
@@ -13,4 +13,5 @@ returns-clause-read c =
       relation = c.in_ok-relation.ensures.means (control_of f) system c.in_ok-parts.ensures.parts;
       questions = questions_kept (control_of f) c.read_control.new.store c.new-2.new.store c.in_ok-parts.field-0.questions c.in_ok-relation.ensures.extends asked.0;
       distinct = asked.1;
+      wide = columns_many c.requires.program.0 c.requires.program.1 f c.requires.program.4;
     }
