@@ -45,7 +45,7 @@ tests-none : order_tests (map variable_of []) ≡ 0
 unfolding order_tests
 tests-none = refl
 
-tests-count : (bs : List Bit) → order_tests (map variable_of bs) ≡ count_by is_test bs
+pub tests-count : (bs : List Bit) → order_tests (map variable_of bs) ≡ count_by is_test bs
 tests-count = is_count_by (λ bs. order_tests (map variable_of bs)) is_test tests-none tests-more
 
 by-one : (b : Bool) (n : ℕ) → cond b 1 0 + n ≡ cond b (1 + n) n

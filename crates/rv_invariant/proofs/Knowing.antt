@@ -83,11 +83,11 @@ none-written word n rs s =
     c.0 ∙ ap (λ m. (word ∷ decimal m ∷ []) ∷ []) zero-rows
 
 -- the four lists of rows, and what comes after them
-abbrev row_records : List Row → List Row → List Fields → List Fields
+abbrev pub row_records : List Row → List Row → List Fields → List Fields
 row_records entry state x =
     list_records (codes "entry") entry ++ (list_records (codes "first") [] ++ (list_records (codes "around") [] ++ (list_records (codes "state") state ++ x)))
 
-row-records-more : (entry state : List Row) (x y : List Fields) → row_records entry state x ++ y ≡ row_records entry state (x ++ y)
+pub row-records-more : (entry state : List Row) (x y : List Fields) → row_records entry state x ++ y ≡ row_records entry state (x ++ y)
 row-records-more entry state x y =
     let e = list_records (codes "entry") entry in
     let f = list_records (codes "first") [] in
@@ -113,11 +113,11 @@ lists-written memories low high lists rs s =
     ∙ ap (λ (l : Lists). row_records l.entry l.state []) (sym e.second.1)
 
 -- what stands before the entries, and what comes after it
-abbrev front_records : Front → List Fields → List Fields
+abbrev pub front_records : Front → List Fields → List Fields
 front_records front x =
     diagram_record (codes "control") front.control ∷ row_records front.lists.entry front.lists.state (map by_record front.by_entry ++ x)
 
-front-records-more : (front : Front) (x y : List Fields) → front_records front x ++ y ≡ front_records front (x ++ y)
+pub front-records-more : (front : Front) (x y : List Fields) → front_records front x ++ y ≡ front_records front (x ++ y)
 front-records-more front x y =
     ap (λ l. diagram_record (codes "control") front.control ∷ l) (row-records-more front.lists.entry front.lists.state (map by_record front.by_entry ++ x) y
     ∙ ap (row_records front.lists.entry front.lists.state) (append_assoc (map by_record front.by_entry) x y))

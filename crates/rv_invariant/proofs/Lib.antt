@@ -11,3 +11,9 @@ pub mod Ranging
 pub mod Recorded
 pub mod Knowing
 pub mod Fitting
+pub mod Standing
+pub mod Documented
+pub mod Located
+pub mod Adding
+pub mod Sounding
+pub mod Lined

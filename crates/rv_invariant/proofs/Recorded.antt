@@ -1,13 +1,13 @@
 -- Single records of a certificate are what they are written as.
-use Rattle.std.proofs.Common.{◌≡◌, ◌+◌, ◌-◌, ◌*◌, ◌^◌, ◌<◌, ◌≤◌, ℕ, zero, suc, Bool, true, false, List, [], ◌∷◌, ◌++◌, length, map, get_or, refl, sym, ap, ◌∙◌, subst, arith}
-use Rattle.std.specs.Prelude.{◌&&◌, ◌||◌, nat_le, nat_lt, ℤ, pos, codes, decimal, flat_map}
+use Rattle.std.proofs.Common.{◌≡◌, ◌+◌, ◌-◌, ◌*◌, ◌^◌, ◌<◌, ℕ, zero, suc, Bool, true, List, [], ◌∷◌, length, map, get_or, refl, sym, ap, ◌∙◌, arith}
+use Rattle.std.specs.Prelude.{◌&&◌, ◌||◌, nat_le, nat_lt, ℤ, codes, decimal, flat_map}
 use Rattle.std.specs.Str.{bytes_eq}
 use Rattle.std.specs.Fmt.{signed_decimal}
 use Rattle.std.specs.Int.RustNames.{unsigned_abs}
 use Rattle.rv_diagram.specs.declared.frozen.Frozen.{Frozen}
 use Rattle.rv_rows.specs.declared.linear.Row.{Row}
 use Rattle.rv_rows.specs.declared.farkas.Multipliers.{Multipliers}
-use Rattle.rv_invfile.specs.Rules.{Fields, Form}
+use Rattle.rv_invfile.specs.Rules.{Fields}
 use Rattle.rv_invfile.specs.Forms.{field}
 use Rattle.rv_invfile.specs.Spells.{Spells}
 use Rattle.rv_invfile.specs.Texts.{natural, whole}

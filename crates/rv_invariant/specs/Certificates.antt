@@ -49,6 +49,14 @@ entry_records e = kind_records e.condition e.kind
 abbrev pub cases_records : List Entry → List Fields
 cases_records entries = (codes "cases" ∷ decimal (length entries) ∷ []) ∷ flat_map entry_records entries
 
+-- the records of the four lists of rows
+abbrev pub rows_of : Location → List Fields
+rows_of l =
+    list_records (codes "entry") l.entry
+    ++ (list_records (codes "first") l.first
+    ++ (list_records (codes "around") l.around
+    ++ list_records (codes "state") l.state))
+
 abbrev pub location_records : Location → List Fields
 location_records l =
     diagram_record (codes "control") l.control
@@ -57,6 +65,10 @@ location_records l =
     ++ (list_records (codes "around") l.around
     ++ (list_records (codes "state") l.state
     ++ (map by_record l.by_entry ++ (map by_record l.by_first ++ cases_records l.entries))))))
+
+-- what names the flat system
+abbrev pub name_records : Flat → List Fields
+name_records f = first_record ∷ (codes "main" ∷ f.main ∷ []) ∷ (codes "bits" ∷ bit_texts f) ∷ (codes "columns" ∷ column_texts f) ∷ []
 
 -- the records of a certificate
 abbrev pub certificate_records : Flat → Certificate → List Fields
@@ -87,6 +99,10 @@ pub record IsPlainLocation (l : Location) : Type 0 where
 pub record FitsCertificate (f : Flat) (c : Certificate) : Type 0 where
   pub range : IsInRange (control_of f) c
   pub plain : (k : ℕ) (l : Location) → slice_get c.locations k ≡ Some l → IsPlainLocation l
+
+-- No location has a turn of a loop, nor rows in `first` and `around`.
+abbrev pub IsWithoutLoops : Certificate → Type 0
+IsWithoutLoops c = (k : ℕ) (l : Location) → slice_get c.locations k ≡ Some l → (¬ HasLoop l) × (l.first ≡ []) × (l.around ≡ [])
 
 -- ---- By which rule it is read: one location.
 abbrev pub known_at : Known → ℕ → Option ℕ

@@ -5,3 +5,4 @@ pub mod Judging
 pub mod Pieces
 pub mod Continues
 pub mod Certificates
+pub mod Writes

@@ -3,6 +3,7 @@
 ghost use Rattle.std.specs.Prelude.{◌≡◌, List};
 ghost use Rattle.rv_flat.specs.declared.flat.Flat.{Flat as FlatModel};
 ghost use Rattle.rv_invfile.specs.Rules.{Fields, IsDocument};
+ghost use Rattle.rv_invfile.specs.Told.{IsTold};
 ghost use Rattle.rv_proofs.specs.Counts.{HasFree};
 ghost use Rattle.rv_proofs.specs.declared.certificate.Certificate.{Certificate as CertificateModel};
 ghost use Rattle.rv_invariant.specs.Certificates.{FitsCertificate, certificate_records, certificate_rule};
@@ -18,4 +19,10 @@ pub fn documents_fit()
 /// other document.
 pub fn documents_are_written()
     ensures { (f : FlatModel) (rs : List Fields) (c : CertificateModel) → IsDocument (certificate_rule f) rs c → rs ≡ certificate_records f c }
+{}
+
+/// A certificate that has the counts and ranges of a document of a flat system, and no turn of a loop, has a document: the
+/// records that the rules of formats write for it. The names in the text of the flat system are letters, digits and `_`.
+pub fn documents_exist()
+    ensures { (f : FlatModel) (c : CertificateModel) → IsTold f → FitsCertificate f c → IsDocument (certificate_rule f) (certificate_records f c) c }
 {}

@@ -5,7 +5,9 @@
 //! document, and of which certificate, is told by a rule (`certificate_rule` in specs/Certificates.antt) in the way of
 //! `rv_invfile`: which records are awaited after which, by the records so far alone. `documents_fit` says that a certificate
 //! which has a document has the counts and ranges of one, so that it may be judged as it was read. `documents_are_written` says
-//! that the records of a document are those of its certificate.
+//! that the records of a document are those of its certificate. `write_certificate` writes the document of a certificate that has
+//! the counts and ranges of one and no turn of a loop, and only want of memory stops it; that each such certificate has a
+//! document is `documents_exist`.
 //!
 //! What a document is. First the names of the program: its node, its diagram variables and columns. Then for each location its
 //! control set, its rows, a proof of each row of `state` from those of `entry`, and its entries: a condition on valuations with a
@@ -20,7 +22,7 @@
 //! Where to begin: specs/Certificates.antt, then specs/Pieces.antt for single records (diagrams, rows, multipliers) and
 //! specs/Groups.antt for records of groups of fields; in the code reading.rt, and down from there locations.rt, entries.rt,
 //! fronts.rt. A function that reads a part of open end tells by `Continues` (specs/Continues.antt) what it read, whatever comes
-//! after it.
+//! after it. The writer is writing.rt, over lines.rt for single records.
 #![tactic(auto)]
 
 mod counts;
@@ -29,14 +31,17 @@ mod entries;
 mod fronts;
 mod groups;
 mod laws;
+mod lines;
 mod locations;
 mod multipliers;
 mod naming;
 mod numbers;
 mod reading;
 mod rows;
+mod writing;
 
 pub use counts::Shape;
 pub use fronts::{Front, Lists};
-pub use laws::{documents_are_written, documents_fit};
+pub use laws::{documents_are_written, documents_exist, documents_fit};
 pub use reading::read_certificate;
+pub use writing::write_certificate;

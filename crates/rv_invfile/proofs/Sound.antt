@@ -40,7 +40,7 @@ both true false e = cc
 both false b e = cc
 
 -- ---- The texts.
-name-sound : (text : List ℕ) → is_name text ≡ true → is_sound_text text ≡ true
+pub name-sound : (text : List ℕ) → is_name text ≡ true → is_sound_text text ≡ true
 name-sound [] h = refl
 name-sound (b ∷ bs) h =
     let p = both (is_name_byte b) (is_name bs) h in
@@ -53,13 +53,13 @@ byte-sound d h =
     ap (λ a. (a && nat_le (48 + d) 57) || (nat_le 65 (48 + d) && nat_le (48 + d) 90) || nat_eq (48 + d) 95 || (nat_le 97 (48 + d) && nat_le (48 + d) 122) || nat_eq (48 + d) 45 || nat_eq (48 + d) 46) low
     ∙ ap (λ a. (true && a) || (nat_le 65 (48 + d) && nat_le (48 + d) 90) || nat_eq (48 + d) 95 || (nat_le 97 (48 + d) && nat_le (48 + d) 122) || nat_eq (48 + d) 45 || nat_eq (48 + d) 46) high
 
-decimal-sound : (n : ℕ) → is_sound_text (decimal n) ≡ true
+pub decimal-sound : (n : ℕ) → is_sound_text (decimal n) ≡ true
 decimal-sound = decimal-all is_sound byte-sound
 
-dotted-sound : (sites : List ℕ) → is_sound_text (dotted sites) ≡ true
+pub dotted-sound : (sites : List ℕ) → is_sound_text (dotted sites) ≡ true
 dotted-sound = dotted-all is_sound byte-sound refl
 
-signed-sound : (z : ℤ) → is_sound_text (signed_decimal z) ≡ true
+pub signed-sound : (z : ℤ) → is_sound_text (signed_decimal z) ≡ true
 signed-sound = signed-all is_sound byte-sound refl
 
 name-at : (ls : List (List ℕ)) (n : ℕ) → list_all is_name ls ≡ true → is_sound_text (get_or ls n []) ≡ true
@@ -145,7 +145,7 @@ trace-lines f t told =
 sound-needs : (b : ℕ) → is_sound b ≡ true → needs_byte default_writer b ≡ false
 sound-needs b h = grind (arith, nat_tests)
 
-sound-quiet : (f : List ℕ) → is_sound_text f ≡ true → list_any (needs_byte default_writer) f ≡ false
+pub sound-quiet : (f : List ℕ) → is_sound_text f ≡ true → list_any (needs_byte default_writer) f ≡ false
 sound-quiet [] h = refl
 sound-quiet (b ∷ bs) h =
     let p = both (is_sound b) (is_sound_text bs) h in
@@ -161,7 +161,7 @@ fields-same (f ∷ fs) h =
     let p = both (is_sound_text f) (list_all is_sound_text fs) h in
     ap (λ l. 44 ∷ (l ++ fields_text default_writer fs)) (field-same f p.0) ∙ ap (λ l. 44 ∷ (f ++ l)) (fields-same fs p.1)
 
-not-blank : (f : List ℕ) (fs : List (List ℕ)) → 0 < length f → field_text default_writer f ≡ f → is_blank default_writer (f ∷ fs) ≡ false
+pub not-blank : (f : List ℕ) (fs : List (List ℕ)) → 0 < length f → field_text default_writer f ≡ f → is_blank default_writer (f ∷ fs) ≡ false
 unfolding is_blank
 not-blank f [] l e = ap (λ x. length x == 0) e ∙ ne_eqb (length f) 0 (λ z. omega (arith, z))
 not-blank f (g ∷ gs) l e = refl

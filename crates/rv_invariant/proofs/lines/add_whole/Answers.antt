@@ -1,0 +1,13 @@
+use Rattle.std.proofs.Common.{◌∷◌, [], List, ℕ, ap, ◌∙◌, subst}
+use Rattle.std.specs.Fmt.{signed_decimal}
+use Rattle.std.specs.Int.{w128}
+use Rattle.std.proofs.lemmas.Int.{to_z-of_z}
+use Rattle.rv_invariant.specs.Writes.{Extends}
+use Rattle.rv_invariant.proofs.Adding.{pushed}
+use Rattle.rv_invariant.proofs.lines.add_whole.Goals as goal
+
+pub returns : goal.returns
+returns c =
+    subst (λ (t : List ℕ). Extends c.args.row.now c.push_field.new.self (t ∷ []))
+    (c.as_bytes.ensures.value ∙ c.in_ok-text.ensures.ok ∙ ap signed_decimal (to_z-of_z w128 c.args.number c.ranges.number))
+    (pushed c.args.row.now c.push_field.new.self c.as_bytes.result.now c.in_ok-push_field.ensures.fields c.in_ok-push_field.ensures.partial)
