@@ -13,6 +13,9 @@ mod Joined
 pub mod Told
 mod Retraced
 mod Faults
-mod Replaying
+mod Attached
+mod Claimed
+mod Thresholds
+mod Inspected
 mod Judged
 mod More

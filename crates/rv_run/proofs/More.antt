@@ -1,16 +1,22 @@
 -- What holds of less holds of more, and what is shown of a report.
-use Rattle.std.proofs.Common.{◌≡◌, ℕ, List, Some, None, Option, refl, IsSomeAnd}
+use Rattle.std.proofs.Common.{◌≡◌, ℕ, List, ◌⊎◌, inl, inr, Some, None, Option, refl, IsSomeAnd}
 use Rattle.rv_base.specs.Shelf.{Shelf, HoldsUnder}
 use Rattle.rv_base.specs.declared.value.Trace.{Trace}
 use Rattle.rv_tree.specs.Tree.{ProgramTree}
 use Rattle.rv_tree.specs.Places.{Identifier}
 use Rattle.rv_run.specs.Words.{command}
-use Rattle.rv_run.specs.Answers.{OnFile, IsShown}
+use Rattle.rv_run.specs.Answers.{OnFile, OnDocument, IsShown}
+use Rattle.rv_run.specs.Checked.{IsInvariantFault, IsInvariantReport, IsReportOf, SaysOf, SaysOfInvariant}
+use Rattle.rv_run.specs.Traced.{IsFileFault, IsTraceReport, OnAccepted, SaysOfTrace}
+use Rattle.rv_run.specs.declared.words.Task.{Task}
+use Rattle.rv_run.specs.declared.words.Task.TheVariants.{Replay, Check}
+use Rattle.rv_invfile.specs.declared.fault.FileFault.{FileFault}
 use Rattle.rv_run.specs.Printed.{shown_of}
 use Rattle.rv_run.specs.Programs.{OnProgram, WithRuns}
-use Rattle.rv_run.specs.Verdicts.{IsDocumentOf}
+use Rattle.rv_run.specs.Verdicts.{IsDocumentOf, IsInvariantOf}
+use Rattle.rv_proofs.specs.declared.certificate.Certificate.{Certificate}
 use Rattle.rv_run.specs.declared.report.Report.{Report}
-use Rattle.rv_run.specs.declared.report.Report.TheVariants.{Violated}
+use Rattle.rv_run.specs.declared.report.Report.TheVariants.{Safe, Violated, BadFile}
 use Rattle.rv_run.proofs.Named.{more_under}
 
 pub runs_more : (P Q : ProgramTree → Identifier → Type 0) (p : ProgramTree) (m : Identifier) → (P p m → Q p m) → WithRuns P p m → WithRuns Q p m
@@ -29,6 +35,25 @@ file_more held words P Q to = by (command words)
     by (Some n) h = more_under held n.0 (λ bytes. OnProgram P bytes n.1) (λ bytes. OnProgram Q bytes n.1) (λ bytes. program_more P Q bytes n.1 to) h
 
 pub is_shown : (held : Option Shelf) (words : List (List ℕ)) (r : Report) (document : List ℕ)
+    → ((c : Certificate) → r ≡ Safe c → OnFile held words (OnProgram (IsInvariantOf c document)))
     → ((t : Trace) → r ≡ Violated t → OnFile held words (OnProgram (IsDocumentOf t document))) → IsShown held words r (shown_of r document)
-is_shown held words (Violated t) document of = of t refl
-is_shown held words r document of = refl
+is_shown held words (Safe c) document safe violated = safe c refl
+is_shown held words (Violated t) document safe violated = violated t refl
+is_shown held words r document safe violated = refl
+
+-- ---- Of what is told of a document, what is told of a trace or of an invariant file.
+module _ (held : Option Shelf) (words : List (List ℕ)) where
+  pub of_replay : (x : Report) → (IsInvariantReport x → ⊥) → (task : Task) × IsReportOf task x × OnDocument held words task (OnAccepted (SaysOf task x))
+      → OnDocument held words Replay (OnAccepted (SaysOfTrace x))
+  of_replay x other (Replay, is, on) = on
+  of_replay x other (Check, is, on) = absurd (other is)
+
+  pub of_check : (x : Report) → (IsTraceReport x → ⊥) → (task : Task) × IsReportOf task x × OnDocument held words task (OnAccepted (SaysOf task x))
+      → OnDocument held words Check (OnAccepted (SaysOfInvariant x))
+  of_check x other (Check, is, on) = on
+  of_check x other (Replay, is, on) = absurd (other is)
+
+  pub of_either : (fault : FileFault) → (task : Task) × IsReportOf task (BadFile fault) × OnDocument held words task (OnAccepted (SaysOf task (BadFile fault)))
+      → OnDocument held words Replay (OnAccepted (IsFileFault fault)) ⊎ OnDocument held words Check (OnAccepted (IsInvariantFault fault))
+  of_either fault (Replay, is, on) = inl on
+  of_either fault (Check, is, on) = inr on

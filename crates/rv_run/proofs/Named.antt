@@ -1,9 +1,10 @@
 -- What holds of the loaded bytes holds of the file that the words name.
-use Rattle.std.proofs.Common.{◌≡◌, ℕ, ◌≤◌, List, length, Some, None, Option, subst, sym, ◌∙◌, IsSomeAnd}
+use Rattle.std.proofs.Common.{◌≡◌, ℕ, ◌≤◌, List, length, Some, None, Option, refl, subst, sym, ap, ◌∙◌, IsSomeAnd}
 use Rattle.std.specs.FinMap.{get}
 use Rattle.rv_base.specs.Shelf.{Shelf, HoldsUnder}
-use Rattle.rv_run.specs.Words.{command, trace_file}
-use Rattle.rv_run.specs.Answers.{OnFile, OnTraceFile, Tells, IsTold, IsToldTrace}
+use Rattle.rv_run.specs.Words.{command, beside}
+use Rattle.rv_run.specs.declared.words.Task.{Task}
+use Rattle.rv_run.specs.Answers.{OnFile, OnDocument, Tells, IsTold, IsToldDocument}
 
 -- what is true of bytes is true of equal bytes
 held_too : (found : Option (List ℕ)) (loaded : List ℕ) (limit : ℕ) (P : List ℕ → Type 0)
@@ -55,33 +56,34 @@ more_under (Some shelf) name P Q to h = more (get shelf name) h
     more None h = h
     more (Some bytes) h = to bytes h
 
--- The same of both files that the words of a replay name.
-module _ (held : Option Shelf) (words : List (List ℕ)) (named : List ℕ × List ℕ) (trace loaded given : List ℕ) (limit : ℕ) (P : List ℕ → List ℕ → List ℕ → Type 0)
-    (is : command words ≡ Some named) (traced : trace_file words ≡ Some trace)
+-- The same of both files that the words of a command with a document name.
+module _ (held : Option Shelf) (words : List (List ℕ)) (named : List ℕ × List ℕ) (other : Task × List ℕ) (loaded given : List ℕ) (limit : ℕ) (P : List ℕ → List ℕ → List ℕ → Type 0)
+    (is : command words ≡ Some named) (with_other : beside words ≡ Some other)
     (whole : HoldsUnder held named.0 (λ bytes. (loaded ≡ bytes) × (length bytes ≤ limit))) (same : given ≡ loaded) where
-  pub on_trace_file : HoldsUnder held trace (P given named.1) → OnTraceFile held words P
-  on_trace_file h =
-      subst (λ o. IsSomeAnd o (λ n. IsSomeAnd (trace_file words) (λ t. HoldsUnder held n.0 (λ bytes. HoldsUnder held t (P bytes n.1))))) (sym is)
-      (subst (λ o. IsSomeAnd o (λ t. HoldsUnder held named.0 (λ bytes. HoldsUnder held t (P bytes named.1)))) (sym traced)
-      (under_name held named.0 loaded limit (λ bytes. HoldsUnder held trace (P bytes named.1)) whole (subst (λ bytes. HoldsUnder held trace (P bytes named.1)) same h)))
+  pub on_document : HoldsUnder held other.1 (P given named.1) → OnDocument held words other.0 P
+  on_document h =
+      subst (λ o. IsSomeAnd o (λ n. IsSomeAnd (beside words) (λ t. (t.0 ≡ other.0) × HoldsUnder held n.0 (λ bytes. HoldsUnder held t.1 (P bytes n.1))))) (sym is)
+      (subst (λ o. IsSomeAnd o (λ t. (t.0 ≡ other.0) × HoldsUnder held named.0 (λ bytes. HoldsUnder held t.1 (P bytes named.1)))) (sym with_other)
+      (refl, under_name held named.0 loaded limit (λ bytes. HoldsUnder held other.1 (P bytes named.1)) whole (subst (λ bytes. HoldsUnder held other.1 (P bytes named.1)) same h)))
 
-  pub told_of_trace : (told : IsToldTrace held words P) → Tells held trace told.document × P given named.1 told.document
-  told_of_trace told =
+  pub told_of_document : (task : Task) (told : IsToldDocument held words task P) → (task ≡ other.0) × Tells held other.1 told.document × P given named.1 told.document
+  told_of_document task told =
       let pair : named ≡ (told.file, told.node) = same_pair named (told.file, told.node) (sym is ∙ told.named) in
-      let name : told.trace ≡ trace = same_name told.trace trace (sym told.traced ∙ traced) in
+      let both : (task, told.other) ≡ other = same_other (task, told.other) other (sym told.with_other ∙ with_other) in
       let there : HoldsUnder held told.file (λ bytes. (loaded ≡ bytes) × (length bytes ≤ limit)) =
       subst (λ n. HoldsUnder held n.0 (λ bytes. (loaded ≡ bytes) × (length bytes ≤ limit))) pair whole in (
-        subst (λ n. Tells held n told.document) name told.told_trace,
+        ap (λ (o : Task × List ℕ). o.0) both,
+        subst (λ (o : Task × List ℕ). Tells held o.1 told.document) both told.told_other,
         subst (λ n. P given n.1 told.document) (sym pair)
             (subst (λ bytes. P bytes told.node told.document) (sym (same ∙ loaded_is held told.file loaded told.bytes limit there told.told)) told.holds),
       )
     where
-      same_name : (a b : List ℕ) → Some a ≡ Some b → a ≡ b
-      same_name a b e = cc
+      same_other : (a b : Task × List ℕ) → Some a ≡ Some b → a ≡ b
+      same_other a b e = cc
 
--- where the words name no trace, they are no replay
-pub no_replay : (held : Option Shelf) (words : List (List ℕ)) (P : List ℕ → List ℕ → List ℕ → Type 0) → trace_file words ≡ None → IsToldTrace held words P → ⊥
-no_replay held words P none told = absurd (let bad : Some told.trace ≡ None = sym told.traced ∙ none in different told.trace bad)
+-- where the words name no document, they are no command with one
+pub no_document : (held : Option Shelf) (words : List (List ℕ)) (task : Task) (P : List ℕ → List ℕ → List ℕ → Type 0) → beside words ≡ None → IsToldDocument held words task P → ⊥
+no_document held words task P none told = absurd (let bad : Some (task, told.other) ≡ None = sym told.with_other ∙ none in different (task, told.other) bad)
   where
-    different : (x : List ℕ) → Some x ≡ None → ⊥
+    different : (x : Task × List ℕ) → Some x ≡ None → ⊥
     different x e = cc

@@ -1,6 +1,9 @@
 -- What a report says of the bytes of a source, and that no other comes.
 use Rattle.std.proofs.Common.{◌≡◌, ◌⊎◌, inl, inr, ℕ, List, refl, sym, ◌∙◌, ap, subst}
+use Rattle.rv_base.specs.declared.value.Place.{Place}
 use Rattle.rv_base.specs.declared.value.Trace.{Trace}
+use Rattle.rv_invfile.specs.declared.fault.FileFault.{FileFault}
+use Rattle.rv_proofs.specs.declared.verdict.Reason.{Reason}
 use Rattle.rv_tree.specs.Tree.{ProgramTree, program_tree}
 use Rattle.rv_tree.specs.Places.{Identifier}
 use Rattle.rv_syntax.specs.ProgramText.{IsTextOf}
@@ -11,12 +14,15 @@ use Rattle.rv_source.specs.declared.fault.SourceFault.{SourceFault}
 use Rattle.rv_source.specs.declared.fault.SourceFault.TheVariants.{Text, Names, Cause, Memory as NoMemory}
 use Rattle.rv_source.specs.Sources.{IsSource, IsSourceOf, HasSourceCause, AreSame}
 use Rattle.rv_proofs.specs.declared.certificate.Certificate.{Certificate}
-use Rattle.rv_run.specs.Answers.{IsOnSource, IsRefusalUnlessCutOff, IsUnlessCutOff, IsVerdict}
+use Rattle.rv_run.specs.Answers.{IsNodesReport, IsOnSource, IsRefusalUnlessCutOff, IsVerdict}
+use Rattle.rv_run.specs.Checked.{IsAnswerOf, IsDocumentAnswer, IsDocumentReport, IsInvariantReport, IsLimit, IsReportOf, IsUnlessCut, IsUnlessLimit}
+use Rattle.rv_run.specs.declared.words.Task.{Task}
+use Rattle.rv_run.specs.declared.words.Task.TheVariants.{Replay, Check}
 use Rattle.rv_run.specs.Programs.{OnProgram, IsRefusedFor}
 use Rattle.rv_run.specs.Refusals.{refusal_of}
 use Rattle.rv_run.specs.declared.report.Report.{Report}
-use Rattle.rv_run.specs.declared.report.Report.TheVariants.{Safe, Violated, Unknown, Nodes, Falsified, AssertionFails, NeverFalse, Outgrown, Refused, BadFile, TooLong, ReadFault, Usage, Memory}
-use Rattle.rv_run.specs.Traced.{IsReplayReport, IsTraceAnswer, IsTraceReport, IsUnlessNoMemory}
+use Rattle.rv_run.specs.declared.report.Report.TheVariants.{Safe, Violated, Unknown, Nodes, Accepted, Rejected, Falsified, AssertionFails, NeverFalse, Outgrown, Refused, BadFile, TooLong, ReadFault, Usage, Memory}
+use Rattle.rv_run.specs.Traced.{IsTraceAnswer, IsTraceReport, IsUnlessNoMemory}
 use Rattle.rv_run.proofs.MainNode.{main_named}
 
 -- a refusal is no verdict
@@ -50,15 +56,21 @@ refusal-on_source (Text f) = tt
 refusal-on_source (Names f) = tt
 refusal-on_source (Cause f) = tt
 
--- nor one on a trace, nor on a file
-pub refusal-not_trace : (e : SourceFault) (x : Report) → IsTraceReport x → refusal_of e ≡ x → ⊥
-refusal-not_trace e x is h = by e (subst IsTraceReport (sym h) is)
+-- nor one on a document, nor on a file
+pub refusal-not_document : (e : SourceFault) (x : Report) → IsDocumentAnswer x → refusal_of e ≡ x → ⊥
+refusal-not_document e x is h = by e (subst IsDocumentAnswer (sym h) is)
   where
-    by : (e : SourceFault) → IsTraceReport (refusal_of e) → ⊥
+    by : (e : SourceFault) → IsDocumentAnswer (refusal_of e) → ⊥
     by NoMemory is = is
     by (Text f) is = is
     by (Names f) is = is
     by (Cause f) is = is
+
+pub refusal-not_accepted : (e : SourceFault) → refusal_of e ≡ Accepted → ⊥
+refusal-not_accepted NoMemory h = cc
+refusal-not_accepted (Text f) h = cc
+refusal-not_accepted (Names f) h = cc
+refusal-not_accepted (Cause f) h = cc
 
 pub refusal-not_long : (e : SourceFault) (n : ℕ) → refusal_of e ≡ TooLong n → ⊥
 refusal-not_long NoMemory n h = cc
@@ -72,83 +84,177 @@ refusal-not_read_fault (Text f) h = cc
 refusal-not_read_fault (Names f) h = cc
 refusal-not_read_fault (Cause f) h = cc
 
-pub refusal-of_replay : (e : SourceFault) → IsReplayReport (refusal_of e)
-refusal-of_replay NoMemory = tt
-refusal-of_replay (Text f) = tt
-refusal-of_replay (Names f) = tt
-refusal-of_replay (Cause f) = tt
+pub refusal-of_document : (e : SourceFault) → IsDocumentReport (refusal_of e)
+refusal-of_document NoMemory = tt
+refusal-of_document (Text f) = tt
+refusal-of_document (Names f) = tt
+refusal-of_document (Cause f) = tt
 
--- ---- Reports on traces, on sources and of replays are of different kinds.
-pub answer-of_replay : (x : Report) → IsTraceAnswer x → IsReplayReport x
-answer-of_replay x (inr none) = subst IsReplayReport (sym none) tt
-answer-of_replay x (inl is) = by x is
+-- ---- Reports on documents, on sources and of commands with a document are of different kinds.
+-- What is neither a report on the bytes of a document nor one of want of memory or of the limit of diagrams.
+pub answer-is : (P : Report → Type 0) (task : Task) (x : Report) → P Memory → ((n : ℕ) → P (Nodes n)) → P Accepted → ((r : Reason) → P (Rejected r)) → ((k : ℕ) → P (Falsified k))
+    → ((k : ℕ) (at : Place) → P (AssertionFails k at)) → P NeverFalse → ((k : ℕ) (at : Place) → P (Outgrown k at)) → ((e : FileFault) → P (BadFile e)) → IsAnswerOf task x → P x
+answer-is P Replay (Falsified k) m n a r f s v o b (inl is) = f k
+answer-is P Replay (AssertionFails k at) m n a r f s v o b (inl is) = s k at
+answer-is P Replay NeverFalse m n a r f s v o b (inl is) = v
+answer-is P Replay (Outgrown k at) m n a r f s v o b (inl is) = o k at
+answer-is P Replay (BadFile e) m n a r f s v o b (inl is) = b e
+answer-is P Replay x m n a r f s v o b (inl is) = absurd is
+answer-is P Check Accepted m n a r f s v o b (inl is) = a
+answer-is P Check (Rejected reason) m n a r f s v o b (inl is) = r reason
+answer-is P Check (BadFile e) m n a r f s v o b (inl is) = b e
+answer-is P Check x m n a r f s v o b (inl is) = absurd is
+answer-is P Check (Nodes k) m n a r f s v o b (inr is) = n k
+answer-is P task Memory m n a r f s v o b (inr is) = m
+answer-is P task x m n a r f s v o b (inr is) = absurd is
+
+pub answer-of_document : (task : Task) (x : Report) → IsAnswerOf task x → IsDocumentReport x
+answer-of_document Replay (Falsified k) is = tt
+answer-of_document Replay (AssertionFails k at) is = tt
+answer-of_document Replay NeverFalse is = tt
+answer-of_document Replay (Outgrown k at) is = tt
+answer-of_document Replay (BadFile e) is = tt
+answer-of_document Replay Memory is = tt
+answer-of_document Replay (Safe c) (inl is) = is
+answer-of_document Replay (Safe c) (inr is) = is
+answer-of_document Replay (Violated t) (inl is) = is
+answer-of_document Replay (Violated t) (inr is) = is
+answer-of_document Replay Unknown (inl is) = is
+answer-of_document Replay Unknown (inr is) = is
+answer-of_document Replay Usage (inl is) = is
+answer-of_document Replay Usage (inr is) = is
+answer-of_document Replay x is = tt
+answer-of_document Check (Safe c) (inl is) = is
+answer-of_document Check (Safe c) (inr is) = is
+answer-of_document Check (Violated t) (inl is) = is
+answer-of_document Check (Violated t) (inr is) = is
+answer-of_document Check Unknown (inl is) = is
+answer-of_document Check Unknown (inr is) = is
+answer-of_document Check Usage (inl is) = is
+answer-of_document Check Usage (inr is) = is
+answer-of_document Check x is = tt
+
+different : (x y : Report) → (P : Report → Type 0) → P x → (P y → ⊥) → x ≡ y → ⊥
+different x y P is never e = never (subst P e is)
+
+abbrev not_refused : Report → Type 0
+not_refused (Refused fault) = ⊥
+not_refused x = Unit {0}
+
+abbrev not_long : Report → Type 0
+not_long (TooLong n) = ⊥
+not_long x = Unit {0}
+
+abbrev not_read_fault : Report → Type 0
+not_read_fault ReadFault = ⊥
+not_read_fault x = Unit {0}
+
+pub document-not_refused : (task : Task) (x : Report) (fault : SourceFault) → IsAnswerOf task x → x ≡ Refused fault → ⊥
+document-not_refused task x fault is h =
+    different x (Refused fault) not_refused (answer-is not_refused task x tt (λ n. tt) tt (λ r. tt) (λ k. tt) (λ k at. tt) tt (λ k at. tt) (λ e. tt) is) (λ impossible. impossible) h
+
+pub document-not_long : (task : Task) (x : Report) (n : ℕ) → IsAnswerOf task x → x ≡ TooLong n → ⊥
+document-not_long task x n is h =
+    different x (TooLong n) not_long (answer-is not_long task x tt (λ n. tt) tt (λ r. tt) (λ k. tt) (λ k at. tt) tt (λ k at. tt) (λ e. tt) is) (λ impossible. impossible) h
+
+pub document-not_read_fault : (task : Task) (x : Report) → IsAnswerOf task x → x ≡ ReadFault → ⊥
+document-not_read_fault task x is h =
+    different x ReadFault not_read_fault (answer-is not_read_fault task x tt (λ n. tt) tt (λ r. tt) (λ k. tt) (λ k at. tt) tt (λ k at. tt) (λ e. tt) is) (λ impossible. impossible) h
+
+-- a report on a document that an answer of a command is, is one of that command
+pub answer-reports : (task : Task) (x : Report) → IsAnswerOf task x → IsDocumentAnswer x → IsReportOf task x
+answer-reports task x (inl is) answer = is
+answer-reports task x (inr limit) answer = absurd (by task x limit answer)
   where
-    by : (x : Report) → IsTraceReport x → IsReplayReport x
-    by (Falsified k) is = tt
-    by (AssertionFails k at) is = tt
-    by NeverFalse is = tt
-    by (Outgrown k at) is = tt
-    by (BadFile fault) is = tt
-    by x is = absurd is
+    by : (task : Task) (x : Report) → IsLimit task x → IsDocumentAnswer x → ⊥
+    by Replay Memory limit answer = answer
+    by Check Memory limit answer = answer
+    by Check (Nodes n) limit answer = answer
+    by task x limit answer = absurd limit
 
-pub trace-not_refused : (x : Report) (fault : SourceFault) → IsTraceAnswer x → x ≡ Refused fault → ⊥
-trace-not_refused x fault (inl is) h = let bad : IsTraceReport (Refused fault) = subst IsTraceReport h is in bad
-trace-not_refused x fault (inr none) h = let bad : Memory ≡ Refused fault = sym none ∙ h in different bad
+-- a report that is none on a document
+pub other-not_document : (x y : Report) → (IsDocumentAnswer x → ⊥) → IsDocumentAnswer y → x ≡ y → ⊥
+other-not_document x y other is e = other (subst IsDocumentAnswer (sym e) is)
+
+pub source-not_document : (x : Report) → IsOnSource x → IsDocumentAnswer x → ⊥
+source-not_document Accepted on is = on
+source-not_document (Rejected r) on is = on
+source-not_document (Falsified k) on is = on
+source-not_document (AssertionFails k at) on is = on
+source-not_document NeverFalse on is = on
+source-not_document (Outgrown k at) on is = on
+source-not_document (BadFile fault) on is = on
+source-not_document x on is = is
+
+-- the report of a command with a document is no verdict
+pub document-not_safe : (x : Report) (c : Certificate) → IsDocumentReport x → x ≡ Safe c → ⊥
+document-not_safe x c is h = let bad : IsDocumentReport (Safe c) = subst IsDocumentReport h is in bad
+
+pub document-not_violated : (x : Report) (t : Trace) → IsDocumentReport x → x ≡ Violated t → ⊥
+document-not_violated x t is h = let bad : IsDocumentReport (Violated t) = subst IsDocumentReport h is in bad
+
+pub document-not_unknown : (x : Report) → IsDocumentReport x → x ≡ Unknown → ⊥
+document-not_unknown x is h = let bad : IsDocumentReport Unknown = subst IsDocumentReport h is in bad
+
+pub document-not_usage : (x : Report) → IsDocumentReport x → x ≡ Usage → ⊥
+document-not_usage x is h = let bad : IsDocumentReport Usage = subst IsDocumentReport h is in bad
+
+pub document-not_verdict : (x : Report) → IsDocumentReport x → IsVerdict x → ⊥
+document-not_verdict x is (inl (c, h)) = document-not_safe x c is h
+document-not_verdict x is (inr (inl (t, h))) = document-not_violated x t is h
+document-not_verdict x is (inr (inr h)) = document-not_unknown x is h
+
+pub cut_off : (task : Task) (expected x : Report) → IsUnlessLimit task expected x → IsUnlessCut task expected x
+cut_off Replay expected x (inl is) = inl is
+cut_off Check expected x (inl is) = inl is
+cut_off Replay expected Memory (inr limit) = inr (inr refl)
+cut_off Check expected Memory (inr limit) = inr (inr (inr refl))
+cut_off Check expected (Nodes n) (inr limit) = inr (inl (n, refl))
+cut_off task expected x (inr limit) = absurd limit
+
+pub cut_memory : (task : Task) (expected x : Report) → x ≡ Memory → IsUnlessCut task expected x
+cut_memory Replay expected x none = inr (inr none)
+cut_memory Check expected x none = inr (inr (inr none))
+
+pub cut_read_fault : (task : Task) (expected : Report) → IsUnlessCut task expected ReadFault
+cut_read_fault Replay expected = inr (inl refl)
+cut_read_fault Check expected = inr (inr (inl refl))
+
+-- a report on a file that is too long is no other
+pub long-not_accepted : (n : ℕ) → TooLong n ≡ Accepted → ⊥
+long-not_accepted n h = cc
+
+pub long-not_nodes : (n m : ℕ) → TooLong n ≡ Nodes m → ⊥
+long-not_nodes n m h = cc
+
+pub long-not_refused : (n : ℕ) (fault : SourceFault) → TooLong n ≡ Refused fault → ⊥
+long-not_refused n fault h = cc
+
+pub long-not_read_fault : (n : ℕ) → TooLong n ≡ ReadFault → ⊥
+long-not_read_fault n h = cc
+
+-- what is said of a trace
+pub trace-answers : (x : Report) → IsTraceAnswer x → IsAnswerOf Replay x
+trace-answers x (inl is) = inl is
+trace-answers x (inr none) = inr (subst (IsLimit Replay) (sym none) tt)
+
+pub trace-not_accepted : (x : Report) → IsTraceAnswer x → x ≡ Accepted → ⊥
+trace-not_accepted x (inl is) h = let bad : IsTraceReport Accepted = subst IsTraceReport h is in bad
+trace-not_accepted x (inr none) h = memory-not_accepted (sym none ∙ h)
   where
-    different : Memory ≡ Refused fault → ⊥
-    different e = cc
+    memory-not_accepted : Memory ≡ Accepted → ⊥
+    memory-not_accepted e = cc
 
-pub trace-not_long : (x : Report) (n : ℕ) → IsTraceAnswer x → x ≡ TooLong n → ⊥
-trace-not_long x n (inl is) h = let bad : IsTraceReport (TooLong n) = subst IsTraceReport h is in bad
-trace-not_long x n (inr none) h = let bad : Memory ≡ TooLong n = sym none ∙ h in different bad
+pub trace-not_nodes : (x : Report) (n : ℕ) → IsTraceAnswer x → x ≡ Nodes n → ⊥
+trace-not_nodes x n (inl is) h = let bad : IsTraceReport (Nodes n) = subst IsTraceReport h is in bad
+trace-not_nodes x n (inr none) h = memory-not_nodes (sym none ∙ h)
   where
-    different : Memory ≡ TooLong n → ⊥
-    different e = cc
+    memory-not_nodes : Memory ≡ Nodes n → ⊥
+    memory-not_nodes e = cc
 
-pub trace-not_read_fault : (x : Report) → IsTraceAnswer x → x ≡ ReadFault → ⊥
-trace-not_read_fault x (inl is) h = let bad : IsTraceReport ReadFault = subst IsTraceReport h is in bad
-trace-not_read_fault x (inr none) h = let bad : Memory ≡ ReadFault = sym none ∙ h in different bad
-  where
-    different : Memory ≡ ReadFault → ⊥
-    different e = cc
-
--- a report that is none on a trace
-pub other-not_trace : (x y : Report) → (IsTraceReport x → ⊥) → IsTraceReport y → x ≡ y → ⊥
-other-not_trace x y other is e = other (subst IsTraceReport (sym e) is)
-
-pub source-not_trace : (x : Report) → IsOnSource x → IsTraceReport x → ⊥
-source-not_trace (Falsified k) on is = on
-source-not_trace (AssertionFails k at) on is = on
-source-not_trace NeverFalse on is = on
-source-not_trace (Outgrown k at) on is = on
-source-not_trace (BadFile fault) on is = on
-source-not_trace x on is = is
-
--- the report of a replay is no verdict
-pub replay-not_safe : (x : Report) (c : Certificate) → IsReplayReport x → x ≡ Safe c → ⊥
-replay-not_safe x c is h = let bad : IsReplayReport (Safe c) = subst IsReplayReport h is in bad
-
-pub replay-not_violated : (x : Report) (t : Trace) → IsReplayReport x → x ≡ Violated t → ⊥
-replay-not_violated x t is h = let bad : IsReplayReport (Violated t) = subst IsReplayReport h is in bad
-
-pub replay-not_unknown : (x : Report) → IsReplayReport x → x ≡ Unknown → ⊥
-replay-not_unknown x is h = let bad : IsReplayReport Unknown = subst IsReplayReport h is in bad
-
-pub replay-not_nodes : (x : Report) (n : ℕ) → IsReplayReport x → x ≡ Nodes n → ⊥
-replay-not_nodes x n is h = let bad : IsReplayReport (Nodes n) = subst IsReplayReport h is in bad
-
-pub replay-not_usage : (x : Report) → IsReplayReport x → x ≡ Usage → ⊥
-replay-not_usage x is h = let bad : IsReplayReport Usage = subst IsReplayReport h is in bad
-
-pub replay-not_verdict : (x : Report) → IsReplayReport x → IsVerdict x → ⊥
-replay-not_verdict x is (inl (c, h)) = replay-not_safe x c is h
-replay-not_verdict x is (inr (inl (t, h))) = replay-not_violated x t is h
-replay-not_verdict x is (inr (inr (inl h))) = replay-not_unknown x is h
-replay-not_verdict x is (inr (inr (inr (n, h)))) = replay-not_nodes x n is h
-
-pub cut_off : (expected x : Report) → IsUnlessNoMemory expected x → IsUnlessCutOff expected x
-cut_off expected x (inl is) = inl is
-cut_off expected x (inr none) = inr (inr none)
+pub trace-unless : (expected x : Report) → IsUnlessNoMemory expected x → IsUnlessLimit Replay expected x
+trace-unless expected x (inl is) = inl is
+trace-unless expected x (inr none) = inr (subst (IsLimit Replay) (sym none) tt)
 
 inner : (f g : SourceFault) → Refused f ≡ Refused g → f ≡ g
 inner f g h = cc

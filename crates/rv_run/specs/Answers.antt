@@ -6,23 +6,24 @@ use Rattle.rv_base.specs.declared.value.Trace.{Trace}
 use Rattle.rv_source.specs.declared.fault.SourceFault.{SourceFault}
 use Rattle.rv_source.specs.Sources.{AreSame}
 use Rattle.rv_proofs.specs.declared.certificate.Certificate.{Certificate}
-use Rattle.rv_run.specs.Words.{command, trace_file}
+use Rattle.rv_run.specs.Words.{command, beside}
+use Rattle.rv_run.specs.declared.words.Task.{Task}
 use Rattle.rv_run.specs.Printed.{text_of}
 use Rattle.rv_run.specs.Programs.{OnProgram}
-use Rattle.rv_run.specs.Verdicts.{IsDocumentOf}
+use Rattle.rv_run.specs.Verdicts.{IsDocumentOf, IsInvariantOf}
 use Rattle.rv_run.specs.declared.report.Report.{Report}
-use Rattle.rv_run.specs.declared.report.Report.TheVariants.{Safe, Violated, Unknown, Nodes, Falsified, AssertionFails, NeverFalse, Outgrown, Refused, BadFile, TooLong, ReadFault, Usage, Memory}
+use Rattle.rv_run.specs.declared.report.Report.TheVariants.{Safe, Violated, Unknown, Nodes, Accepted, Rejected, Falsified, AssertionFails, NeverFalse, Outgrown, Refused, BadFile, TooLong, ReadFault, Usage, Memory}
 
 -- The words are a command, and what is held under its file has P, beside its node, where the files tell what they
 -- hold.
 abbrev pub OnFile : Option Shelf → List (List ℕ) → (List ℕ → List ℕ → Type 0) → Type 0
 OnFile held words P = IsSomeAnd (command words) (λ named. HoldsUnder held named.0 (λ bytes. P bytes named.1))
 
--- The words name a trace besides, and what is held under both files has P, beside the command's node, where the files tell what they
--- hold.
-abbrev pub OnTraceFile : Option Shelf → List (List ℕ) → (List ℕ → List ℕ → List ℕ → Type 0) → Type 0
-OnTraceFile held words P = IsSomeAnd (command words) (λ named. IsSomeAnd (trace_file words) (λ trace.
-    HoldsUnder held named.0 (λ bytes. HoldsUnder held trace (λ document. P bytes named.1 document))))
+-- The words name a document besides with which this is done, and what is held under both files has P, beside the command's node, where
+-- the files tell what they hold.
+abbrev pub OnDocument : Option Shelf → List (List ℕ) → Task → (List ℕ → List ℕ → List ℕ → Type 0) → Type 0
+OnDocument held words task P = IsSomeAnd (command words) (λ named. IsSomeAnd (beside words) (λ other. (other.0 ≡ task)
+    × HoldsUnder held named.0 (λ bytes. HoldsUnder held other.1 (λ document. P bytes named.1 document))))
 
 -- The files tell what they hold, and under this name they hold these bytes.
 abbrev pub Tells : Option Shelf → List ℕ → List ℕ → Type 0
@@ -69,6 +70,8 @@ IsViolatedUnlessCutOff report = IsViolatedReport report ⊎ (IsNodesReport repor
 
 -- The report is one on the bytes of a source, and not on the words or the file.
 abbrev pub IsOnSource : Report → Type 0
+IsOnSource Accepted = ⊥
+IsOnSource (Rejected reason) = ⊥
 IsOnSource (Falsified at) = ⊥
 IsOnSource (AssertionFails at place) = ⊥
 IsOnSource NeverFalse = ⊥
@@ -79,25 +82,31 @@ IsOnSource ReadFault = ⊥
 IsOnSource Usage = ⊥
 IsOnSource report = Unit {0}
 
--- The words are a replay, the files tell what they hold under both its files, and that has P, beside the command's node.
-pub record IsToldTrace (held : Option Shelf) (words : List (List ℕ)) (P : List ℕ → List ℕ → List ℕ → Type 0) : Type 0 where
+-- The words are a command that does this with a document, the files tell what they hold under both its files, and that has P, beside the
+-- command's node.
+pub record IsToldDocument (held : Option Shelf) (words : List (List ℕ)) (task : Task) (P : List ℕ → List ℕ → List ℕ → Type 0) : Type 0 where
   pub file : List ℕ
   pub node : List ℕ
-  pub trace : List ℕ
+  pub other : List ℕ
   pub bytes : List ℕ
   pub document : List ℕ
   pub named : command words ≡ Some (file, node)
-  pub traced : trace_file words ≡ Some trace
+  pub with_other : beside words ≡ Some (task, other)
   pub told : Tells held file bytes
-  pub told_trace : Tells held trace document
+  pub told_other : Tells held other document
   pub holds : P bytes node document
 
--- The report is one of `prove` on an accepted source.
+-- The report is one that `prove` alone gives on an accepted source.
 abbrev pub IsVerdict : Report → Type 0
-IsVerdict report = IsSafeReport report ⊎ (IsViolatedReport report ⊎ ((report ≡ Unknown) ⊎ IsNodesReport report))
+IsVerdict report = IsSafeReport report ⊎ (IsViolatedReport report ⊎ (report ≡ Unknown))
 
--- What is shown of a report on the file that the words name: of Violated the document of its trace over the program there, of any other
--- its text.
+-- The report is this one, unless the diagrams grew past their limit, a file could not be read or there was no memory.
+abbrev pub IsUnlessLimited : Report → Report → Type 0
+IsUnlessLimited expected report = (report ≡ expected) ⊎ (IsNodesReport report ⊎ ((report ≡ ReadFault) ⊎ (report ≡ Memory)))
+
+-- What is shown of a report on the file that the words name: of Safe and Violated the document of its certificate or trace over the
+-- program there, of any other its text.
 abbrev pub IsShown : Option Shelf → List (List ℕ) → Report → List ℕ → Type 0
+IsShown held words (Safe c) shown = OnFile held words (OnProgram (IsInvariantOf c shown))
 IsShown held words (Violated t) shown = OnFile held words (OnProgram (IsDocumentOf t shown))
 IsShown held words report shown = shown ≡ text_of report

@@ -11,7 +11,6 @@ use Rattle.rv_tree.specs.Places.{Identifier}
 use Rattle.rv_types.specs.Instances.{IsNode}
 use Rattle.rv_types.specs.WellFormed.{AreWell}
 use Rattle.rv_meaning.specs.Runs.{IsSafe}
-use Rattle.rv_meaning.specs.Integers.{IsControl}
 use Rattle.rv_proofs.specs.Runs.{IsSafeSystem}
 use Rattle.rv_control.specs.Control.{control_of}
 
@@ -27,10 +26,9 @@ pub record IsControlSystem (f : Flat) : Type 0 where
   pub inputs : All (λ i. is_integer i.kind ≡ false) f.inputs
   pub untested : All (λ b. is_test b ≡ false) f.variables
 
--- The flat system is that of a well formed program without integers, which is safe where the system of valuations is.
+-- The flat system is that of a well formed program, which is safe where the system of valuations is.
 pub record IsKnown (program : ProgramTree) (main : Identifier) (f : Flat) : Type 0 where
   pub well : AreWell program
   pub named : IsNode program main
   pub flat : IsFlatOf program main f
-  pub control : IsControl program main
   pub safe : IsSafeSystem (control_of f) → IsSafe program main

@@ -7,3 +7,4 @@ pub mod Judged
 pub mod Verdicts
 pub mod Loaded
 pub mod Traced
+pub mod Checked

@@ -1,5 +1,5 @@
 -- The text and the status of a report.
-use Rattle.std.specs.Prelude.{ℕ, Bool, true, false, cond, List, [], ◌∷◌, ◌++◌, codes, flat_map}
+use Rattle.std.specs.Prelude.{ℕ, Bool, true, false, cond, List, [], ◌∷◌, ◌++◌, codes, map, flat_map}
 use Rattle.std.specs.Fmt.{decimal}
 use Rattle.rv_base.specs.declared.value.Place.{Place}
 use Rattle.rv_syntax.specs.declared.fault.TextFault.{TextFault}
@@ -12,10 +12,12 @@ use Rattle.rv_causality.specs.declared.fault.Quantity.{Quantity}
 use Rattle.rv_causality.specs.declared.fault.Quantity.TheVariants as quantity
 use Rattle.rv_invfile.specs.declared.fault.FileFault.{FileFault}
 use Rattle.rv_invfile.specs.declared.fault.FileFault.TheVariants.{NotRecords, WrongKind, WrongProgram, BadNumber, Ends, Memory as FileMemory}
+use Rattle.rv_proofs.specs.declared.verdict.Reason.{Reason}
+use Rattle.rv_proofs.specs.declared.verdict.Reason.TheVariants.{NoInitial, Uncovered, Unsettled, Observer, Target, Multipliers, Inclusion}
 use Rattle.rv_source.specs.declared.fault.SourceFault.{SourceFault}
 use Rattle.rv_source.specs.declared.fault.SourceFault.TheVariants.{Text, Names, Cause, Memory as SourceMemory}
 use Rattle.rv_run.specs.declared.report.Report.{Report}
-use Rattle.rv_run.specs.declared.report.Report.TheVariants.{Safe, Violated, Unknown, Nodes, Falsified, AssertionFails, NeverFalse, Outgrown, Refused, BadFile, TooLong, ReadFault, Usage, Memory}
+use Rattle.rv_run.specs.declared.report.Report.TheVariants.{Safe, Violated, Unknown, Nodes, Accepted, Rejected, Falsified, AssertionFails, NeverFalse, Outgrown, Refused, BadFile, TooLong, ReadFault, Usage, Memory}
 use Rattle.rv_run.specs.declared.report.Sent.{Sent}
 use Rattle.rv_run.specs.declared.report.Sent.TheVariants.{Whole, Failed, Memory as SentMemory}
 
@@ -85,14 +87,32 @@ text_of_file_fault (BadNumber n field) = record_of (codes "reaver,badfile,4,badn
 text_of_file_fault (Ends n) = record_of (codes "reaver,badfile,5,ends," ++ decimal n)
 text_of_file_fault FileMemory = record_of (codes "reaver,memory")
 
--- a report that has a trace
-abbrev pub is_violated : Report → Bool
-is_violated (Violated trace) = true
-is_violated report = false
+-- a valuation, a digit for each diagram variable
+abbrev pub digits : List Bool → List ℕ
+digits word = map (λ bit. cond bit 49 48) word
 
--- What is printed for a report. Violated has no text of its own: the document of its trace is shown.
+-- The record of a reason: its number, its name and its fields.
+abbrev pub text_of_reason : Reason → List ℕ
+text_of_reason (NoInitial word) = record_of (codes "reaver,rejected,1,noinitial," ++ digits word)
+text_of_reason (Uncovered location word) = record_of (codes "reaver,rejected,2,uncovered," ++ decimal location ++ 44 ∷ digits word)
+text_of_reason (Unsettled location entry) = record_of (codes "reaver,rejected,3,unsettled," ++ decimal location ++ 44 ∷ decimal entry)
+text_of_reason (Observer location entry word) = record_of (codes "reaver,rejected,4,observer," ++ decimal location ++ 44 ∷ decimal entry ++ 44 ∷ digits word)
+text_of_reason (Target location entry word) = record_of (codes "reaver,rejected,5,target," ++ decimal location ++ 44 ∷ decimal entry ++ 44 ∷ digits word)
+text_of_reason (Multipliers location entry number) =
+    record_of (codes "reaver,rejected,6,multipliers," ++ decimal location ++ 44 ∷ decimal entry ++ 44 ∷ decimal number)
+text_of_reason (Inclusion location row) = record_of (codes "reaver,rejected,7,inclusion," ++ decimal location ++ 44 ∷ decimal row)
+
+-- a report whose document is shown
+abbrev pub is_documented : Report → Bool
+is_documented (Safe certificate) = true
+is_documented (Violated trace) = true
+is_documented report = false
+
+-- What is printed for a report. Safe and Violated have no text of their own: the document of their certificate or trace is shown.
 abbrev pub text_of : Report → List ℕ
-text_of (Safe certificate) = record_of (codes "reaver,safe")
+text_of (Safe certificate) = []
+text_of Accepted = record_of (codes "reaver,accepted")
+text_of (Rejected reason) = text_of_reason reason
 text_of (Violated trace) = []
 text_of Unknown = record_of (codes "reaver,unknown")
 text_of (Nodes limit) = record_of (codes "reaver,nodes," ++ decimal limit)
@@ -109,7 +129,7 @@ text_of Memory = record_of (codes "reaver,memory")
 
 -- What is shown of a report and the document beside it.
 abbrev pub shown_of : Report → List ℕ → List ℕ
-shown_of report document = cond (is_violated report) document (text_of report)
+shown_of report document = cond (is_documented report) document (text_of report)
 
 -- The status of a report that was shown whole.
 abbrev pub report_status : Report → ℕ
@@ -117,6 +137,8 @@ report_status (Safe certificate) = 0
 report_status (Violated trace) = 1
 report_status Unknown = 2
 report_status (Nodes limit) = 2
+report_status Accepted = 0
+report_status (Rejected reason) = 1
 report_status (Falsified at) = 0
 report_status (AssertionFails at place) = 1
 report_status NeverFalse = 1

@@ -14,6 +14,7 @@ use Rattle.rv_flat.specs.declared.flat.Flat.{Flat}
 use Rattle.rv_flat.specs.FlatOf.{IsFlatOf}
 use Rattle.rv_control.specs.Control.{control_of}
 use Rattle.rv_proofs.specs.Accepted.{IsAccepted}
+use Rattle.rv_proofs.specs.Boxes.{HasGoodBox}
 use Rattle.rv_proofs.specs.declared.certificate.Certificate.{Certificate}
 
 -- The bytes are the text of a program that is settled and accepted with this node, and P holds of the program and the node.
@@ -53,13 +54,25 @@ HasIntegers program node = ¬ (IsControl program node)
 abbrev pub IsCertified : Certificate → ProgramTree → Identifier → Type 0
 IsCertified c program node = (f : Flat) × IsFlatOf program node f × IsAccepted (control_of f) c
 
+-- Some closed box claim of the program's flat system is good, with bounds among the program's thresholds.
+abbrev pub HasGoodClaim : ProgramTree → Identifier → Type 0
+HasGoodClaim program node = (f : Flat) × IsFlatOf program node f × HasGoodBox (control_of f) f.thresholds
+
+-- None is.
+abbrev pub LacksGoodClaim : ProgramTree → Identifier → Type 0
+LacksGoodClaim program node = (f : Flat) × IsFlatOf program node f × (¬ HasGoodBox (control_of f) f.thresholds)
+
+-- With integers, and no closed box claim is good.
+abbrev pub IsUnknown : ProgramTree → Identifier → Type 0
+IsUnknown program node = HasIntegers program node × LacksGoodClaim program node
+
 -- how many nodes a store of diagrams may have
 abbrev pub nodes_limit : ℕ
 nodes_limit = 4194304
 
--- Without integers, and with so many diagram variables that there are more functions of them than nodes that a store may have.
-abbrev pub IsWide : ProgramTree → Identifier → Type 0
-IsWide program node = IsControl program node × (nodes_limit < 2 ^ (2 ^ variable_count program node))
+-- With so many diagram variables that there are more functions of them than nodes that a store may have.
+abbrev pub HasManyVariables : ProgramTree → Identifier → Type 0
+HasManyVariables program node = nodes_limit < 2 ^ (2 ^ variable_count program node)
 
 -- Why a source is refused: for the fault of its first offending token; or, where it has a tree, for its first fault of
 -- names, types and clocks; or, where it has none, for its first of recursion, sizes, cycles and weights.

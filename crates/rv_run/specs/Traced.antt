@@ -13,10 +13,10 @@ use Rattle.rv_invfile.specs.Traces.{trace_rule}
 use Rattle.rv_invfile.specs.declared.fault.FileFault.{FileFault}
 use Rattle.rv_replay.specs.Replays.{FailsAt, IsFalsifiedAt, NeverEnds, OutgrowsAt}
 use Rattle.rv_run.specs.declared.report.Report.{Report}
-use Rattle.rv_run.specs.declared.report.Report.TheVariants.{Safe, Violated, Unknown, Nodes, Falsified, AssertionFails, NeverFalse, Outgrown, BadFile, Usage, Memory}
+use Rattle.rv_run.specs.declared.report.Report.TheVariants.{Falsified, AssertionFails, NeverFalse, Outgrown, BadFile, Memory}
 use Rattle.rv_run.specs.Programs.{OnProgram}
 
--- how many bytes a file with a trace may have
+-- how many bytes a file with a document may have
 abbrev pub file_limit : ℕ
 file_limit = 67108864
 
@@ -58,20 +58,11 @@ IsTraceAnswer report = IsTraceReport report ⊎ (report ≡ Memory)
 abbrev pub IsUnlessNoMemory : Report → Report → Type 0
 IsUnlessNoMemory expected report = (report ≡ expected) ⊎ (report ≡ Memory)
 
--- The report is one that a replay can give once its words and its source have been read.
-abbrev pub IsReplayReport : Report → Type 0
-IsReplayReport (Safe certificate) = ⊥
-IsReplayReport (Violated trace) = ⊥
-IsReplayReport Unknown = ⊥
-IsReplayReport (Nodes limit) = ⊥
-IsReplayReport Usage = ⊥
-IsReplayReport report = Unit {0}
+-- The source and the document are no longer than they may be, the source is accepted with this node, and P holds of the bytes of the
+-- document, the program and the node.
+abbrev pub OnAccepted : (List ℕ → ProgramTree → Identifier → Type 0) → List ℕ → Identifier → List ℕ → Type 0
+OnAccepted P bytes node document = (length bytes ≤ source_limit) × (length document ≤ file_limit) × OnProgram (P document) bytes node
 
--- The source and the trace are no longer than they may be, the source is accepted with this node, and P holds of the bytes of the
--- trace, the program and the node.
-abbrev pub OnReplay : (List ℕ → ProgramTree → Identifier → Type 0) → List ℕ → Identifier → List ℕ → Type 0
-OnReplay P bytes node document = (length bytes ≤ source_limit) × (length document ≤ file_limit) × OnProgram (P document) bytes node
-
--- The source is no longer than it may be and accepted with this node, and the trace is longer than it may be.
-abbrev pub IsLongTrace : List ℕ → Identifier → List ℕ → Type 0
-IsLongTrace bytes node document = (length bytes ≤ source_limit) × (file_limit < length document) × OnProgram (λ program main. ⊤) bytes node
+-- The source is no longer than it may be and accepted with this node, and the document is longer than it may be.
+abbrev pub IsLongDocument : List ℕ → Identifier → List ℕ → Type 0
+IsLongDocument bytes node document = (length bytes ≤ source_limit) × (file_limit < length document) × OnProgram (λ program main. ⊤) bytes node

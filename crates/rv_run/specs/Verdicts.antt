@@ -9,12 +9,16 @@ use Rattle.rv_diagram.specs.declared.store.StoreFault.{StoreFault}
 use Rattle.rv_diagram.specs.declared.store.StoreFault.TheVariants as fault
 use Rattle.rv_flat.specs.declared.flat.Flat.{Flat}
 use Rattle.rv_flat.specs.FlatOf.{IsFlatOf}
+use Rattle.rv_control.specs.Control.{control_of}
+use Rattle.rv_proofs.specs.Accepted.{IsAccepted}
 use Rattle.rv_invfile.specs.Csv.{records_of}
 use Rattle.rv_invfile.specs.Rules.{IsDocument}
 use Rattle.rv_invfile.specs.Writes.{lines}
 use Rattle.rv_invfile.specs.Traces.{trace_records, trace_rule}
+use Rattle.rv_invariant.specs.Certificates.{certificate_records, certificate_rule}
+use Rattle.rv_proofs.specs.declared.certificate.Certificate.{Certificate}
 use Rattle.rv_falsify.specs.Falsifying.{IsFalsifying, IsShortest}
-use Rattle.rv_run.specs.Programs.{IsSafeControl, IsCertified, HasIntegers, nodes_limit}
+use Rattle.rv_run.specs.Programs.{IsCertified, HasGoodClaim, HasIntegers, LacksGoodClaim, nodes_limit}
 use Rattle.rv_run.specs.declared.report.Report.{Report}
 use Rattle.rv_run.specs.declared.report.Report.TheVariants as report
 use Rattle.rv_run.specs.declared.verdict.Verdict.{Verdict}
@@ -27,6 +31,14 @@ pub record IsDocumentOf (t : Trace) (text : List ℕ) (program : ProgramTree) (m
   pub written : text ≡ lines (trace_records system t)
   pub read : IsDocument (trace_rule system) (records_of text) t
 
+-- The text is the document of the certificate over the program, as it is written and as it is read, and the certificate is accepted.
+pub record IsInvariantOf (c : Certificate) (text : List ℕ) (program : ProgramTree) (main : Identifier) : Type 0 where
+  pub system : Flat
+  pub flat : IsFlatOf program main system
+  pub written : text ≡ lines (certificate_records system c)
+  pub read : IsDocument (certificate_rule system) (records_of text) c
+  pub accepted : IsAccepted (control_of system) c
+
 -- Without integers, and falsified by the trace at its last instant; no trace that falsifies has fewer.
 pub record IsViolated (t : Trace) (program : ProgramTree) (main : Identifier) : Type 0 where
   pub control : IsControl program main
@@ -35,13 +47,14 @@ pub record IsViolated (t : Trace) (program : ProgramTree) (main : Identifier) : 
 
 -- The verdict is right of the program.
 abbrev pub IsVerdictOf : Verdict → ProgramTree → Identifier → Type 0
-IsVerdictOf (Safe c) program main = IsSafeControl program main × IsCertified c program main
-IsVerdictOf (Violated t text) program main = IsViolated t program main × IsDocumentOf t text.items program main
-IsVerdictOf Undecided program main = HasIntegers program main
+IsVerdictOf (Safe c text) program main =
+    IsSafe program main × HasGoodClaim program main × IsCertified c program main × IsInvariantOf c text.items program main
+IsVerdictOf (Violated t text) program main = IsViolated t program main × IsDocumentOf t text.items program main × LacksGoodClaim program main
+IsVerdictOf Undecided program main = HasIntegers program main × LacksGoodClaim program main
 
 -- The report on a verdict, or on why there is none.
 abbrev pub verdict_report : Result Verdict StoreFault → Report
-verdict_report (Ok (Safe c)) = report.Safe c
+verdict_report (Ok (Safe c text)) = report.Safe c
 verdict_report (Ok (Violated t text)) = report.Violated t
 verdict_report (Ok Undecided) = report.Unknown
 verdict_report (Err fault.Nodes) = report.Nodes nodes_limit
@@ -49,7 +62,7 @@ verdict_report (Err fault.Memory) = report.Memory
 
 -- The document that is shown of it.
 abbrev pub verdict_document : Result Verdict StoreFault → List ℕ
-verdict_document (Ok (Safe c)) = []
+verdict_document (Ok (Safe c text)) = text.items
 verdict_document (Ok (Violated t text)) = text.items
 verdict_document (Ok Undecided) = []
 verdict_document (Err e) = []

@@ -1,16 +1,24 @@
-//! Which sources are judged, and how: those without integers, by the control states that their flat systems reach.
+//! How sources are judged: by the least closed box claims of their flat systems, which for those without integers are the control states
+//! that are reached.
 
-ghost use Rattle.std.specs.Prelude.{◌≡◌, ◌<◌, ◌^◌, false, length, IsTrue, IfOk, IsErrOf, ◌↔◌};
+ghost use Rattle.std.specs.Prelude.{◌≡◌, ◌<◌, ◌≤◌, ◌^◌, false, length, IsTrue, IfOk, IsErrOf, ◌↔◌};
+ghost use Rattle.std.specs.Int.RustNames.{unsigned_abs};
 ghost use Rattle.std.specs.List.{All};
 ghost use Rattle.rv_tree.specs.Tree.{program_tree};
 ghost use Rattle.rv_tree.specs.Words.{HasPlainNames};
 ghost use Rattle.rv_types.specs.Instances.{name_at};
 ghost use Rattle.rv_types.specs.Variables.{is_integer};
 ghost use Rattle.rv_instances.specs.Fitting.{Fits};
+ghost use Rattle.rv_control.specs.Control.{control_of};
+ghost use Rattle.rv_invariant.specs.Certificates.{IsWithoutLoops};
+ghost use Rattle.rv_meaning.specs.Integers.{IsControl};
+ghost use Rattle.rv_proofs.specs.Accepted.{IsAccepted};
+ghost use Rattle.rv_proofs.specs.Boxes.{HasGoodBox};
 ghost use Rattle.rv_proofs.specs.Reached.{HasNoIntegers};
+ghost use Rattle.rv_source.specs.Numbers.{HasSmallNumbers};
 ghost use Rattle.rv_reading.specs.Read.{flat_of, system_read, diagrams_of, IsRead};
 ghost use Rattle.rv_walk.specs.Ends.{AreBadLayers};
-ghost use Rattle.rv_run.specs.Programs.{nodes_limit, IsWide};
+ghost use Rattle.rv_run.specs.Programs.{nodes_limit, HasManyVariables};
 ghost use Rattle.rv_run.specs.Judged.{is_test, IsControlSystem, IsKnown};
 ghost use Rattle.rv_run.specs.Verdicts.{IsVerdictOf};
 
@@ -22,8 +30,9 @@ use rv_falsify::find;
 use rv_flat::{Bit, Flat};
 use rv_flatten::flatten;
 use rv_instances::Source;
+use rv_invariant::write_certificate;
 use rv_invfile::{fitting_traces, told_systems, write_trace};
-use rv_proofs::{Layers, certificates_are_safe};
+use rv_proofs::{Certificate, Layers, certificates_are_safe};
 use rv_reading::Reading;
 use rv_replay::flat_traces;
 use rv_types::{Kind, well_formed_programs};
@@ -33,39 +42,83 @@ use std::alloc::Global;
 /// How many nodes the diagrams may have.
 pub const MOST_NODES: u32 = 4_194_304;
 
-/// The verdict on a source: a certificate where it has no integers and is safe, a shortest trace that falsifies it and the document of
-/// that trace where it has none and is not safe. Nodes comes only where it has none, and has many diagram variables.
+/// The verdict on a source: a certificate and its document where some closed box claim is good; where none is, Undecided for a source
+/// with integers, and a shortest trace that falsifies it with its document for one without. Nodes comes only where it has many diagram
+/// variables. Names are letters, digits and `_`, and literals and constants at most 2^40 + 1, as in the tree of each text.
 pub fn judge(alloc: Global, source: &Source) -> Result<Verdict, StoreFault>
     requires fits { Fits (program_tree source.now.program) source.now.typed source.now.order }
     requires plain { HasPlainNames (program_tree source.now.program) }
+    requires small { HasSmallNumbers (program_tree source.now.program) }
     ensures judged { IfOk result (λ v. IsVerdictOf v (program_tree source.now.program) (name_at (program_tree source.now.program) source.now.typed.main)) }
     ensures wide { IsErrOf result StoreFault.Nodes
-        → IsWide (program_tree source.now.program) (name_at (program_tree source.now.program) source.now.typed.main) }
+        → HasManyVariables (program_tree source.now.program) (name_at (program_tree source.now.program) source.now.typed.main) }
 {
     well_formed_programs();
     runs_are_abstract();
     let flat = flatten(alloc, source)?;
-    if is_control(&flat) {
-        return decided(alloc, source, &flat);
-    }
-    Ok(Verdict::Undecided)
+    decided(alloc, source, &flat)
 }
 
-/// The verdict on a source without integers, by its flat system.
+/// The verdict on a source by its flat system.
 fn decided(alloc: Global, source: &Source, flat: &Flat) -> Result<Verdict, StoreFault>
     requires fits { Fits (program_tree source.now.program) source.now.typed source.now.order }
     requires plain { HasPlainNames (program_tree source.now.program) }
     requires known { IsKnown (program_tree source.now.program) (name_at (program_tree source.now.program) source.now.typed.main) flat.now }
-    requires control { IsControlSystem flat.now }
+    requires thresholds { All (λ t. unsigned_abs t ≤ 2 ^ 41) flat.now.thresholds }
     ensures judged { IfOk result (λ v. IsVerdictOf v (program_tree source.now.program) (name_at (program_tree source.now.program) source.now.typed.main)) }
     ensures wide { IsErrOf result StoreFault.Nodes → nodes_limit < 2 ^ (2 ^ length flat.now.variables) }
 {
-    certificates_are_safe();
     let mut reading = Reading::new(alloc, flat, MOST_NODES)?;
     match box_pass(alloc, &mut reading)? {
-        BoxEnd::Good(certificate) => Ok(Verdict::Safe(certificate)),
-        BoxEnd::Bad(layers) => violated(alloc, source, &mut reading, &layers),
+        BoxEnd::Good(certificate) => safe(alloc, source, flat, certificate),
+        BoxEnd::Bad(layers) => not_good(alloc, source, &mut reading, &layers),
     }
+}
+
+/// The verdict on a source with an accepted certificate without loops.
+fn safe(
+    alloc: Global,
+    source: &Source,
+    flat: &Flat,
+    certificate: Certificate,
+) -> Result<Verdict, StoreFault>
+    requires fits { Fits (program_tree source.now.program) source.now.typed source.now.order }
+    requires plain { HasPlainNames (program_tree source.now.program) }
+    requires known { IsKnown (program_tree source.now.program) (name_at (program_tree source.now.program) source.now.typed.main) flat.now }
+    requires claim { HasGoodBox (control_of flat.now) flat.now.thresholds }
+    requires accepted { IsAccepted (control_of flat.now) certificate }
+    requires loops { IsWithoutLoops certificate }
+    ensures judged { IfOk result (λ v. IsVerdictOf v (program_tree source.now.program) (name_at (program_tree source.now.program) source.now.typed.main)) }
+    ensures memory { IsErrOf result StoreFault.Nodes → ⊥ }
+{
+    certificates_are_safe();
+    told_systems();
+    let _count = flat.memories.len();
+    let document = write_certificate(alloc, flat, &certificate)?;
+    Ok(Verdict::Safe(certificate, document))
+}
+
+/// The verdict on a source of which no closed box claim is good.
+fn not_good(
+    alloc: Global,
+    source: &Source,
+    reading: &mut Reading,
+    layers: &Layers,
+) -> Result<Verdict, StoreFault>
+    requires fits { Fits (program_tree source.now.program) source.now.typed source.now.order }
+    requires plain { HasPlainNames (program_tree source.now.program) }
+    requires read { IsRead reading.old }
+    requires known { IsKnown (program_tree source.now.program) (name_at (program_tree source.now.program) source.now.typed.main) (flat_of reading.old) }
+    requires lacks { HasGoodBox (system_read reading.old) (flat_of reading.old).thresholds → ⊥ }
+    requires bad { HasNoIntegers (system_read reading.old) → AreBadLayers (system_read reading.old) layers.now }
+    ensures judged { IfOk result (λ v. IsVerdictOf v (program_tree source.now.program) (name_at (program_tree source.now.program) source.now.typed.main)) }
+    ensures wide { IsErrOf result StoreFault.Nodes → (diagrams_of reading.old).limit < 2 ^ (2 ^ (diagrams_of reading.old).variables) }
+{
+    let flat = reading.flat();
+    if is_control(flat) {
+        return violated(alloc, source, reading, layers);
+    }
+    Ok(Verdict::Undecided)
 }
 
 /// The verdict on a source without integers whose layers have a false observer.
@@ -79,7 +132,9 @@ fn violated(
     requires plain { HasPlainNames (program_tree source.now.program) }
     requires read { IsRead reading.old }
     requires known { IsKnown (program_tree source.now.program) (name_at (program_tree source.now.program) source.now.typed.main) (flat_of reading.old) }
+    requires program_control { IsControl (program_tree source.now.program) (name_at (program_tree source.now.program) source.now.typed.main) }
     requires control { HasNoIntegers (system_read reading.old) }
+    requires lacks { HasGoodBox (system_read reading.old) (flat_of reading.old).thresholds → ⊥ }
     requires bad { AreBadLayers (system_read reading.old) layers.now }
     ensures judged { IfOk result (λ v. IsVerdictOf v (program_tree source.now.program) (name_at (program_tree source.now.program) source.now.typed.main)) }
     ensures wide { IsErrOf result StoreFault.Nodes → (diagrams_of reading.old).limit < 2 ^ (2 ^ (diagrams_of reading.old).variables) }

@@ -7,6 +7,7 @@
 //! reports say.
 #![tactic(auto)]
 
+mod inspect;
 mod judge;
 mod load;
 mod prove;

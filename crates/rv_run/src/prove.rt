@@ -4,48 +4,54 @@ ghost use Rattle.std.specs.Prelude.{◌≡◌, ◌≤◌, ℕ, [], length, Resul
 ghost use Rattle.rv_base.specs.declared.value.Trace.{Trace as TraceModel};
 ghost use Rattle.rv_source.specs.declared.fault.SourceFault.{SourceFault as FaultModel};
 ghost use Rattle.rv_meaning.specs.Runs.{IsSafe};
-ghost use Rattle.rv_meaning.specs.Integers.{IsControl};
 ghost use Rattle.rv_proofs.specs.declared.certificate.Certificate.{Certificate as CertificateModel};
-ghost use Rattle.rv_run.specs.Answers.{IsOnSource, IsUnlessCutOff, IsSafeUnlessCutOff, IsViolatedUnlessCutOff, IsRefusalUnlessCutOff};
-ghost use Rattle.rv_run.specs.Programs.{OnProgram, WithRuns, nodes_limit, IsSafeControl, IsUnsafeControl, HasIntegers, IsCertified, IsWide, IsRefusedFor};
+ghost use Rattle.rv_run.specs.Answers.{IsOnSource, IsSafeUnlessCutOff, IsUnlessLimited, IsViolatedUnlessCutOff, IsRefusalUnlessCutOff};
+ghost use Rattle.rv_run.specs.Programs.{OnProgram, WithRuns, nodes_limit, IsSafeControl, IsUnsafeControl, IsCertified, HasGoodClaim, HasManyVariables, IsUnknown, IsRefusedFor};
 ghost use Rattle.rv_run.specs.Refusals.{refusal_of};
-ghost use Rattle.rv_run.specs.Verdicts.{IsDocumentOf, IsViolated, verdict_document, verdict_report};
+ghost use Rattle.rv_run.specs.Verdicts.{IsDocumentOf, IsInvariantOf, IsViolated, verdict_document, verdict_report};
 
 use crate::judge::{MOST_NODES, judge};
 use crate::report::{Answer, Report};
 use crate::verdict::Verdict;
+use rv_alike::{alike_names, alike_systems};
 use rv_diagram::StoreFault;
 use rv_meaning::{one_run, some_run};
-use rv_source::{SourceFault, read_source};
+use rv_source::{SourceFault, numbers_are_small, read_source};
 use rv_syntax::{SOURCE_LIMIT, one_tree, plain_names};
 use rv_types::well_formed_programs;
 use std::alloc::Global;
 
-/// The report on a source, and the document of its trace where it is Violated. Refused where the bytes have no tree, where their
-/// program breaks a rule of names, types or clocks, and where it breaks one of recursion, sizes, cycles or weights, with the first
-/// fault. Otherwise Unknown where the program has integers; where it has none, Safe with a certificate where it is safe, and Violated
-/// with a shortest trace that falsifies it where it is not. Nodes comes only where it has none, and has many diagram variables.
+/// The report on a source, and the document of its certificate or trace where it is Safe or Violated. Refused where the bytes have no
+/// tree, where their program breaks a rule of names, types or clocks, and where it breaks one of recursion, sizes, cycles or weights,
+/// with the first fault. Otherwise Safe with a certificate where some closed box claim is good; where none is, Unknown for a program with
+/// integers. One without integers has such a claim exactly where it is safe, and is else Violated, with a shortest trace that falsifies
+/// it. Nodes comes only where it has many diagram variables.
 pub fn report_on_source(alloc: Global, bytes: &[u8], node: &str) -> Answer
     requires { length bytes.now ≤ SOURCE_LIMIT }
     ensures safe { (c : CertificateModel) → result.report ≡ Report.Safe c → OnProgram (WithRuns IsSafe) bytes.now node.now }
     ensures certified { (c : CertificateModel) → result.report ≡ Report.Safe c → OnProgram (IsCertified c) bytes.now node.now }
-    ensures decided_safe { (c : CertificateModel) → result.report ≡ Report.Safe c → OnProgram IsControl bytes.now node.now }
+    ensures claimed { (c : CertificateModel) → result.report ≡ Report.Safe c → OnProgram HasGoodClaim bytes.now node.now }
+    ensures invariant { (c : CertificateModel) → result.report ≡ Report.Safe c → OnProgram (IsInvariantOf c result.document.items) bytes.now node.now }
     ensures violated { (t : TraceModel) → result.report ≡ Report.Violated t → OnProgram (WithRuns (IsViolated t)) bytes.now node.now }
     ensures document { (t : TraceModel) → result.report ≡ Report.Violated t → OnProgram (IsDocumentOf t result.document.items) bytes.now node.now }
-    ensures unknown { result.report ≡ Report.Unknown → OnProgram (WithRuns HasIntegers) bytes.now node.now }
-    ensures nodes { (n : ℕ) → result.report ≡ Report.Nodes n → (n ≡ nodes_limit) × OnProgram IsWide bytes.now node.now }
+    ensures unknown { result.report ≡ Report.Unknown → OnProgram (WithRuns IsUnknown) bytes.now node.now }
+    ensures nodes { (n : ℕ) → result.report ≡ Report.Nodes n → (n ≡ nodes_limit) × OnProgram HasManyVariables bytes.now node.now }
     ensures refused { (fault : FaultModel) → result.report ≡ Report.Refused fault → IsRefusedFor fault bytes.now node.now }
     ensures only { IsOnSource result.report }
     ensures only_safe { OnProgram IsSafeControl bytes.now node.now → IsSafeUnlessCutOff result.report }
     ensures only_violated { OnProgram IsUnsafeControl bytes.now node.now → IsViolatedUnlessCutOff result.report }
-    ensures only_unknown { OnProgram HasIntegers bytes.now node.now → IsUnlessCutOff Report.Unknown result.report }
+    ensures only_claimed { OnProgram HasGoodClaim bytes.now node.now → IsSafeUnlessCutOff result.report }
+    ensures only_unknown { OnProgram IsUnknown bytes.now node.now → IsUnlessLimited Report.Unknown result.report }
     ensures only_refused { (fault : FaultModel) → IsRefusedFor fault bytes.now node.now → IsRefusalUnlessCutOff fault result.report }
 {
     one_tree();
     plain_names();
+    numbers_are_small();
     well_formed_programs();
     one_run();
     some_run();
+    alike_names();
+    alike_systems();
     match read_source(alloc, bytes, node) {
         Ok(source) => on_verdict(alloc, judge(alloc, &source)),
         Err(fault) => Answer {
@@ -62,7 +68,10 @@ fn on_verdict(alloc: Global, judged: Result<Verdict, StoreFault>) -> Answer
 {
     let mut document = Vec::new(alloc);
     let report = match judged {
-        Ok(Verdict::Safe(certificate)) => Report::Safe(certificate),
+        Ok(Verdict::Safe(certificate, text)) => {
+            document = text;
+            Report::Safe(certificate)
+        }
         Ok(Verdict::Violated(trace, text)) => {
             document = text;
             Report::Violated(trace)

@@ -2,12 +2,12 @@
 
 ghost use Rattle.std.specs.Prelude.{◌≡◌, ◌++◌, ◌∷◌, codes, decimal, IfOk, OnOk};
 ghost use Rattle.std.specs.String.{string_bytes};
-ghost use Rattle.rv_run.specs.Printed.{record_of, text_of, text_of_refusal, text_of_fault, text_of_name_fault, text_of_cause, text_of_file_fault, dotted, listed, quantity_name, status_of, report_status};
+ghost use Rattle.rv_run.specs.Printed.{record_of, text_of, text_of_reason, digits, text_of_refusal, text_of_fault, text_of_name_fault, text_of_cause, text_of_file_fault, dotted, listed, quantity_name, status_of, report_status};
 
-use rv_base::{Place, Sites, Trace};
+use rv_base::{Many, Place, Sites, Trace};
 use rv_causality::{CauseFault, Quantity};
 use rv_invfile::FileFault;
-use rv_proofs::Certificate;
+use rv_proofs::{Certificate, Reason};
 use rv_source::SourceFault;
 use rv_syntax::TextFault;
 use rv_types::NameFault;
@@ -25,6 +25,10 @@ pub enum Report {
     Unknown,
     /// The diagrams grew past their limit of nodes, which is told.
     Nodes(u32),
+    /// The certificate in the invariant file is accepted.
+    Accepted,
+    /// It is not: the first reason.
+    Rejected(Reason),
     /// The trace, cut after this instant, falsifies: its run is allowed up to there, and the observer is false there for the first time.
     Falsified(u32),
     /// This instant is the first that ends the replay of the trace, and this is the least place of an assertion that is false there.
@@ -35,9 +39,9 @@ pub enum Report {
     Outgrown(u32, Place),
     /// The source is not one that is accepted.
     Refused(SourceFault),
-    /// The file with the trace is no document of one.
+    /// The file with the trace or the invariant is no document of one.
     BadFile(FileFault),
-    /// The file is longer than a source, or a trace, may be. The number is how many bytes were read of it: one more than that.
+    /// The file is longer than a source, or a document, may be. The number is how many bytes were read of it: one more than that.
     TooLong(u64),
     /// The file could not be read.
     ReadFault,
@@ -82,10 +86,11 @@ pub fn text(alloc: Global, report: &Report) -> Result<String, AllocError>
     ensures { IfOk result (λ text. string_bytes text ≡ text_of report.now) }
 {
     match report {
-        Report::Safe(_) => String::from_str(alloc, "reaver,safe\n"),
-        Report::Violated(_) => Ok(String::new(alloc)),
+        Report::Safe(_) | Report::Violated(_) => Ok(String::new(alloc)),
         Report::Unknown => String::from_str(alloc, "reaver,unknown\n"),
         Report::Nodes(limit) => format!(in alloc; "reaver,nodes,{limit}\n"),
+        Report::Accepted => String::from_str(alloc, "reaver,accepted\n"),
+        Report::Rejected(reason) => reason_text(alloc, reason),
         Report::Falsified(at) => format!(in alloc; "reaver,falsified,{at}\n"),
         Report::AssertionFails(at, place) => placed_text(alloc, "reaver,assertion,", *at, place),
         Report::NeverFalse => String::from_str(alloc, "reaver,neverfalse\n"),
@@ -97,6 +102,109 @@ pub fn text(alloc: Global, report: &Report) -> Result<String, AllocError>
         Report::Usage => String::from_str(alloc, "reaver,usage\n"),
         Report::Memory => String::from_str(alloc, "reaver,memory\n"),
     }
+}
+
+/// The text of a reason: its number, its name in lower case letters, and its fields.
+fn reason_text(alloc: Global, reason: &Reason) -> Result<String, AllocError>
+    ensures { IfOk result (λ text. string_bytes text ≡ text_of_reason reason.now) }
+{
+    match reason {
+        Reason::NoInitial(word) => word_text(alloc, "reaver,rejected,1,noinitial,", word),
+        Reason::Uncovered(location, word) => uncovered_text(alloc, *location, word),
+        Reason::Unsettled(location, entry) => {
+            entry_text(alloc, "reaver,rejected,3,unsettled,", *location, *entry)
+        }
+        Reason::Observer(location, entry, word) => {
+            seen_text(
+                alloc,
+                "reaver,rejected,4,observer,",
+                *location,
+                *entry,
+                word,
+            )
+        }
+        Reason::Target(location, entry, word) => {
+            seen_text(alloc, "reaver,rejected,5,target,", *location, *entry, word)
+        }
+        Reason::Multipliers(location, entry, number) => {
+            multipliers_text(alloc, *location, *entry, *number)
+        }
+        Reason::Inclusion(location, row) => {
+            entry_text(alloc, "reaver,rejected,7,inclusion,", *location, *row)
+        }
+    }
+}
+
+/// A record of this front and a valuation, a digit for each diagram variable.
+fn word_text(alloc: Global, front: &str, word: &Many<bool>) -> Result<String, AllocError>
+    ensures { IfOk result (λ text. string_bytes text ≡ record_of (front.now ++ digits word.now)) }
+{
+    let mut text = String::from_str(alloc, front)?;
+    add_digits(&mut text, word.as_slice())?;
+    text.push('\n')?;
+    Ok(text)
+}
+
+/// The record of a valuation that no entry of a location covers.
+fn uncovered_text(alloc: Global, location: u32, word: &Many<bool>) -> Result<String, AllocError>
+    ensures { IfOk result (λ text. string_bytes text ≡ record_of (codes "reaver,rejected,2,uncovered," ++ decimal location ++ 44 ∷ digits word.now)) }
+{
+    let mut text = format!(in alloc; "reaver,rejected,2,uncovered,{location},")?;
+    add_digits(&mut text, word.as_slice())?;
+    text.push('\n')?;
+    Ok(text)
+}
+
+/// Adds `1` for each true value and `0` for each false one.
+fn add_digits(text: &mut String, word: &[bool]) -> Result<(), AllocError>
+    ensures { OnOk result (string_bytes text.new ≡ string_bytes text.old ++ digits word.now) }
+{
+    for bit in word {
+        text.push(if *bit { '1' } else { '0' })?;
+    }
+    Ok(())
+}
+
+/// A record of this front and two numbers.
+fn entry_text(alloc: Global, front: &str, location: u32, entry: u32) -> Result<String, AllocError>
+    ensures { IfOk result (λ text. string_bytes text ≡ record_of (front.now ++ decimal location ++ 44 ∷ decimal entry)) }
+{
+    let mut text = format!(in alloc; "{front}{location},")?;
+    write!(text, "{entry}")?;
+    text.push('\n')?;
+    Ok(text)
+}
+
+/// A record of this front, the numbers of an entry and a valuation.
+fn seen_text(
+    alloc: Global,
+    front: &str,
+    location: u32,
+    entry: u32,
+    word: &Many<bool>,
+) -> Result<String, AllocError>
+    ensures { IfOk result (λ text. string_bytes text ≡ record_of (front.now ++ decimal location ++ 44 ∷ decimal entry ++ 44 ∷ digits word.now)) }
+{
+    let mut text = format!(in alloc; "{front}{location},")?;
+    write!(text, "{entry},")?;
+    add_digits(&mut text, word.as_slice())?;
+    text.push('\n')?;
+    Ok(text)
+}
+
+/// The record of an implication that its multipliers do not prove.
+fn multipliers_text(
+    alloc: Global,
+    location: u32,
+    entry: u32,
+    number: u32,
+) -> Result<String, AllocError>
+    ensures { IfOk result (λ text. string_bytes text ≡ record_of (codes "reaver,rejected,6,multipliers," ++ decimal location ++ 44 ∷ decimal entry ++ 44 ∷ decimal number)) }
+{
+    let mut text = format!(in alloc; "reaver,rejected,6,multipliers,{location},{entry},")?;
+    write!(text, "{number}")?;
+    text.push('\n')?;
+    Ok(text)
 }
 
 /// The text of a report on an instant of a trace and a place there, behind this front.
@@ -253,8 +361,11 @@ pub fn status_of_report(report: &Report) -> u8
     ensures { result ≡ report_status report.now }
 {
     match report {
-        Report::Safe(_) | Report::Falsified(_) => 0,
-        Report::Violated(_) | Report::AssertionFails(_, _) | Report::NeverFalse => 1,
+        Report::Safe(_) | Report::Accepted | Report::Falsified(_) => 0,
+        Report::Violated(_)
+        | Report::Rejected(_)
+        | Report::AssertionFails(_, _)
+        | Report::NeverFalse => 1,
         Report::Unknown | Report::Nodes(_) => 2,
         Report::Refused(_) => 3,
         Report::Usage => 4,

@@ -60,8 +60,8 @@ fn on_replay(end: Result<Replayed, ReplayFault>) -> Report
     }
 }
 
-/// The report on a file that is no trace. Want of memory is no fault of it.
-fn on_fault(fault: FileFault) -> Report
+/// The report on a file that is no document. Want of memory is no fault of it.
+pub fn on_fault(fault: FileFault) -> Report
     ensures { result ≡ file_report fault }
 {
     match fault {

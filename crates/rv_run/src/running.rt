@@ -10,66 +10,105 @@ ghost use Rattle.rv_base.specs.declared.value.Place.{Place as PlaceModel};
 ghost use Rattle.rv_base.specs.declared.value.Trace.{Trace as TraceModel};
 ghost use Rattle.rv_invfile.specs.declared.fault.FileFault.{FileFault};
 ghost use Rattle.rv_meaning.specs.Runs.{IsSafe};
-ghost use Rattle.rv_meaning.specs.Integers.{IsControl};
 ghost use Rattle.rv_proofs.specs.declared.certificate.Certificate.{Certificate as CertificateModel};
 ghost use Rattle.rv_replay.specs.Replays.{FailsAt, IsFalsifiedAt, NeverEnds, OutgrowsAt};
 ghost use Rattle.rv_run.specs.declared.report.Report.{Report as ReportModel};
-ghost use Rattle.rv_run.specs.Words.{texts, command, trace_file};
-ghost use Rattle.rv_run.specs.Answers.{OnFile, OnTraceFile, Tells, IsTold, IsToldTrace, IsVerdict, IsShown, IsUnlessCutOff, IsSafeUnlessCutOff, IsViolatedUnlessCutOff, IsRefusalUnlessCutOff};
-ghost use Rattle.rv_run.specs.Programs.{OnProgram, WithRuns, nodes_limit, IsSafeControl, IsUnsafeControl, HasIntegers, IsCertified, IsWide, IsRefusedFor};
-ghost use Rattle.rv_run.specs.Traced.{IsFileFault, IsLongTrace, IsReplayReport, IsTraceReport, OnReplay, OnTrace, SaysOfTrace};
-ghost use Rattle.rv_run.specs.Printed.{is_violated, shown_of, status_of};
-ghost use Rattle.rv_run.specs.Verdicts.{IsDocumentOf, IsViolated};
+ghost use Rattle.rv_run.specs.Words.{texts, command, beside};
+ghost use Rattle.rv_run.specs.Answers.{OnFile, OnDocument, Tells, IsTold, IsToldDocument, IsVerdict, IsNodesReport, IsShown, IsUnlessCutOff, IsUnlessLimited, IsSafeUnlessCutOff, IsViolatedUnlessCutOff, IsRefusalUnlessCutOff};
+ghost use Rattle.rv_run.specs.Checked.{HasAccepted, HasRejected, IsAnswerOf, IsDocumentAnswer, IsDocumentReport, IsInvariantFault, IsReportOf, IsUnlessCut, IsUnlessLimit, SaysOf};
+ghost use Rattle.rv_meaning.specs.Integers.{IsControl};
+ghost use Rattle.rv_run.specs.Programs.{OnProgram, WithRuns, nodes_limit, HasGoodClaim, IsSafeControl, IsUnsafeControl, HasManyVariables, IsCertified, IsUnknown, IsRefusedFor};
+ghost use Rattle.rv_run.specs.Traced.{IsFileFault, IsLongDocument, OnAccepted, OnTrace};
+ghost use Rattle.rv_run.specs.Printed.{is_documented, shown_of, status_of};
+ghost use Rattle.rv_run.specs.Verdicts.{IsDocumentOf, IsInvariantOf, IsViolated};
+ghost use Rattle.rv_run.specs.declared.words.Task.{Task as TaskModel};
+ghost use Rattle.rv_run.specs.declared.words.Task.TheVariants as tasks;
+ghost use Rattle.rv_proofs.specs.declared.verdict.Reason.{Reason as ReasonModel};
+ghost use Rattle.rv_tree.specs.Tree.{program_tree};
+ghost use Rattle.rv_tree.specs.Words.{HasPlainNames};
+ghost use Rattle.rv_types.specs.Instances.{name_at};
+ghost use Rattle.rv_instances.specs.Fitting.{Fits};
 ghost use Rattle.rv_falsify.specs.Falsifying.{IsFalsifying, IsShortest};
 ghost use Rattle.rv_source.specs.declared.fault.SourceFault.{SourceFault};
 
+use crate::inspect::report_on_invariant;
 use crate::load::{WholeFault, load_whole};
 use crate::prove::{refusal, report_on_source};
 use crate::report::{Answer, Outcome, Report, Sent, status, text};
 use crate::retrace::{FILE_LIMIT, report_on_trace};
-use crate::words::read_words;
+use crate::words::{Task, read_words};
 use rv_base::{Files, PutFault, Sink};
+use rv_instances::Source;
+use rv_meaning::{one_run, some_run};
 use rv_source::read_source;
 use rv_syntax::{SOURCE_LIMIT, one_tree, plain_names};
+use rv_types::well_formed_programs;
 use std::alloc::Global;
 
-/// The report on the replay of the trace in a file over a source. Refused as for `prove`; otherwise the file is loaded, and what its
+/// The report on what is done with the document in a file over a source. Refused as for `prove`; otherwise the file is loaded, and what its
 /// bytes are and do is told.
-fn report_on_replay<F: Files>(
+fn report_on_document<F: Files>(
     alloc: Global,
     bytes: &[u8],
     node: &str,
-    trace: &str,
+    task: Task,
+    other: &str,
     files: &mut F,
 ) -> Report
     requires short { length bytes.now ≤ SOURCE_LIMIT }
-    requires served { IsTrue (F.serves files.old trace.now) }
-    ensures replayed { (report : ReportModel) → IsTraceReport report → result ≡ report
-        → HoldsUnder (F.held files.old) trace.now (OnReplay (SaysOfTrace report) bytes.now node.now) }
+    requires served { IsTrue (F.serves files.old other.now) }
+    ensures told { (report : ReportModel) → IsDocumentAnswer report → result ≡ report
+        → IsReportOf task report × HoldsUnder (F.held files.old) other.now (OnAccepted (SaysOf task report) bytes.now node.now) }
+    ensures safe { result ≡ Report.Accepted → OnProgram (WithRuns IsSafe) bytes.now node.now }
+    ensures nodes { (n : ℕ) → result ≡ Report.Nodes n → (n ≡ nodes_limit) × OnProgram HasManyVariables bytes.now node.now }
     ensures refused { (fault : SourceFault) → result ≡ Report.Refused fault → IsRefusedFor fault bytes.now node.now }
     ensures too_long { (n : ℕ) → result ≡ Report.TooLong n
-        → (n ≡ FILE_LIMIT + 1) × HoldsUnder (F.held files.old) trace.now (IsLongTrace bytes.now node.now) }
+        → (n ≡ FILE_LIMIT + 1) × HoldsUnder (F.held files.old) other.now (IsLongDocument bytes.now node.now) }
     ensures read_fault { result ≡ Report.ReadFault → Rose (F.faults files.old) (F.faults files.new) }
-    ensures only { IsReplayReport result }
-    ensures only_replayed { (report : ReportModel) (document : List ℕ) → Tells (F.held files.old) trace.now document
-        → OnReplay (SaysOfTrace report) bytes.now node.now document → IsUnlessCutOff report result }
+    ensures only { IsDocumentReport result }
+    ensures only_told { (report : ReportModel) (document : List ℕ) → Tells (F.held files.old) other.now document
+        → OnAccepted (SaysOf task report) bytes.now node.now document → IsUnlessCut task report result }
     ensures only_refused { (fault : SourceFault) → IsRefusedFor fault bytes.now node.now → IsRefusalUnlessCutOff fault result }
-    ensures only_too_long { (document : List ℕ) → Tells (F.held files.old) trace.now document → IsLongTrace bytes.now node.now document
+    ensures only_too_long { (document : List ℕ) → Tells (F.held files.old) other.now document → IsLongDocument bytes.now node.now document
         → IsUnlessCutOff (Report.TooLong (FILE_LIMIT + 1)) result }
     ensures same_held { F.held files.new ≡ F.held files.old }
     ensures same_serves { F.serves files.new ≡ F.serves files.old }
 {
     one_tree();
     plain_names();
+    well_formed_programs();
+    one_run();
+    some_run();
     let source = match read_source(alloc, bytes, node) {
         Ok(source) => source,
         Err(fault) => return refusal(fault),
     };
-    match load_whole(alloc, files, trace, FILE_LIMIT as u64) {
-        Ok(document) => report_on_trace(alloc, &source, &document),
+    match load_whole(alloc, files, other, FILE_LIMIT as u64) {
+        Ok(document) => report_on_bytes(alloc, &source, &document, task),
         Err(WholeFault::TooLong(count)) => Report::TooLong(count),
         Err(WholeFault::Failed) => Report::ReadFault,
         Err(WholeFault::Memory) => Report::Memory,
+    }
+}
+
+/// The report on the bytes of a document over an accepted source.
+fn report_on_bytes(alloc: Global, source: &Source, document: &[u8], task: Task) -> Report
+    requires fits { Fits (program_tree source.now.program) source.now.typed source.now.order }
+    requires plain { HasPlainNames (program_tree source.now.program) }
+    requires short { length document.now ≤ FILE_LIMIT }
+    ensures says { (report : ReportModel) → IsReportOf task report → result ≡ report
+        → SaysOf task report document.now (program_tree source.now.program) (name_at (program_tree source.now.program) source.now.typed.main) }
+    ensures safe { result ≡ Report.Accepted → IsSafe (program_tree source.now.program) (name_at (program_tree source.now.program) source.now.typed.main) }
+    ensures wide { (n : ℕ) → result ≡ Report.Nodes n → (n ≡ nodes_limit)
+        × HasManyVariables (program_tree source.now.program) (name_at (program_tree source.now.program) source.now.typed.main) }
+    ensures only { IsAnswerOf task result }
+    ensures only_says { (report : ReportModel)
+        → SaysOf task report document.now (program_tree source.now.program) (name_at (program_tree source.now.program) source.now.typed.main)
+        → IsUnlessLimit task report result }
+{
+    match task {
+        Task::Replay => report_on_trace(alloc, source, document),
+        Task::Check => report_on_invariant(alloc, source, document),
     }
 }
 
@@ -83,43 +122,50 @@ fn bare(alloc: Global, report: Report) -> Answer
     }
 }
 
-/// The report on the words, and the document that is shown of it where it is Violated.
+/// The report on the words, and the document that is shown of it where it is Safe or Violated.
 fn report_on<F: Files>(alloc: Global, words: &[String], files: &mut F) -> Answer
     requires { All (λ word. IsTrue (F.serves files.old (string_bytes word))) words.now }
     ensures safe { (c : CertificateModel) → result.report ≡ Report.Safe c → OnFile (F.held files.old) (texts words.now) (OnProgram (WithRuns IsSafe)) }
     ensures certified { (c : CertificateModel) → result.report ≡ Report.Safe c → OnFile (F.held files.old) (texts words.now) (OnProgram (IsCertified c)) }
-    ensures decided_safe { (c : CertificateModel) → result.report ≡ Report.Safe c → OnFile (F.held files.old) (texts words.now) (OnProgram IsControl) }
+    ensures claimed { (c : CertificateModel) → result.report ≡ Report.Safe c → OnFile (F.held files.old) (texts words.now) (OnProgram HasGoodClaim) }
+    ensures invariant { (c : CertificateModel) → result.report ≡ Report.Safe c → OnFile (F.held files.old) (texts words.now) (OnProgram (IsInvariantOf c result.document.items)) }
     ensures violated { (t : TraceModel) → result.report ≡ Report.Violated t → OnFile (F.held files.old) (texts words.now) (OnProgram (WithRuns (IsViolated t))) }
     ensures document { (t : TraceModel) → result.report ≡ Report.Violated t → OnFile (F.held files.old) (texts words.now) (OnProgram (IsDocumentOf t result.document.items)) }
-    ensures unknown { result.report ≡ Report.Unknown → OnFile (F.held files.old) (texts words.now) (OnProgram (WithRuns HasIntegers)) }
-    ensures nodes { (n : ℕ) → result.report ≡ Report.Nodes n → (n ≡ nodes_limit) × OnFile (F.held files.old) (texts words.now) (OnProgram IsWide) }
-    ensures not_too_long { IsVerdict result.report → OnFile (F.held files.old) (texts words.now) (λ bytes _. length bytes ≤ SOURCE_LIMIT) }
-    ensures proved { IsVerdict result.report → trace_file (texts words.now) ≡ None }
-    ensures replayed { (report : ReportModel) → IsTraceReport report → result.report ≡ report
-        → OnTraceFile (F.held files.old) (texts words.now) (OnReplay (SaysOfTrace report)) }
+    ensures unknown { result.report ≡ Report.Unknown → OnFile (F.held files.old) (texts words.now) (OnProgram (WithRuns IsUnknown)) }
+    ensures nodes { (n : ℕ) → result.report ≡ Report.Nodes n
+        → (n ≡ nodes_limit) × OnFile (F.held files.old) (texts words.now) (OnProgram HasManyVariables) }
+    ensures checked_safe { result.report ≡ Report.Accepted → OnFile (F.held files.old) (texts words.now) (OnProgram (WithRuns IsSafe)) }
+    ensures not_too_long { IsVerdict result.report ⊎ IsNodesReport result.report
+        → OnFile (F.held files.old) (texts words.now) (λ bytes _. length bytes ≤ SOURCE_LIMIT) }
+    ensures proved { IsVerdict result.report → beside (texts words.now) ≡ None }
+    ensures told { (report : ReportModel) → IsDocumentAnswer report → result.report ≡ report
+        → (task : TaskModel) × IsReportOf task report × OnDocument (F.held files.old) (texts words.now) task (OnAccepted (SaysOf task report)) }
     ensures refused { (fault : SourceFault) → result.report ≡ Report.Refused fault
         → OnFile (F.held files.old) (texts words.now) (λ bytes node. (length bytes ≤ SOURCE_LIMIT) × IsRefusedFor fault bytes node) }
     ensures too_long { (n : ℕ) → result.report ≡ Report.TooLong n
         → ((n ≡ SOURCE_LIMIT + 1) × OnFile (F.held files.old) (texts words.now) (λ bytes _. SOURCE_LIMIT < length bytes))
-        ⊎ ((n ≡ FILE_LIMIT + 1) × OnTraceFile (F.held files.old) (texts words.now) IsLongTrace) }
+        ⊎ ((n ≡ FILE_LIMIT + 1) × (task : TaskModel) × OnDocument (F.held files.old) (texts words.now) task IsLongDocument) }
     ensures read_fault { result.report ≡ Report.ReadFault → Rose (F.faults files.old) (F.faults files.new) }
     ensures usage { (result.report ≡ Report.Usage) ↔ (command (texts words.now) ≡ None) }
-    ensures only_safe { trace_file (texts words.now) ≡ None
+    ensures only_safe { beside (texts words.now) ≡ None
         → IsTold (F.held files.old) (texts words.now) (λ bytes node. (length bytes ≤ SOURCE_LIMIT) × OnProgram IsSafeControl bytes node)
         → IsSafeUnlessCutOff result.report }
-    ensures only_violated { trace_file (texts words.now) ≡ None
+    ensures only_violated { beside (texts words.now) ≡ None
         → IsTold (F.held files.old) (texts words.now) (λ bytes node. (length bytes ≤ SOURCE_LIMIT) × OnProgram IsUnsafeControl bytes node)
         → IsViolatedUnlessCutOff result.report }
-    ensures only_unknown { trace_file (texts words.now) ≡ None
-        → IsTold (F.held files.old) (texts words.now) (λ bytes node. (length bytes ≤ SOURCE_LIMIT) × OnProgram HasIntegers bytes node)
-        → IsUnlessCutOff Report.Unknown result.report }
-    ensures only_replayed { (report : ReportModel) → IsToldTrace (F.held files.old) (texts words.now) (OnReplay (SaysOfTrace report))
-        → IsUnlessCutOff report result.report }
+    ensures only_claimed { beside (texts words.now) ≡ None
+        → IsTold (F.held files.old) (texts words.now) (λ bytes node. (length bytes ≤ SOURCE_LIMIT) × OnProgram HasGoodClaim bytes node)
+        → IsSafeUnlessCutOff result.report }
+    ensures only_unknown { beside (texts words.now) ≡ None
+        → IsTold (F.held files.old) (texts words.now) (λ bytes node. (length bytes ≤ SOURCE_LIMIT) × OnProgram IsUnknown bytes node)
+        → IsUnlessLimited Report.Unknown result.report }
+    ensures only_told { (task : TaskModel) (report : ReportModel)
+        → IsToldDocument (F.held files.old) (texts words.now) task (OnAccepted (SaysOf task report)) → IsUnlessCut task report result.report }
     ensures only_refused { (fault : SourceFault) → IsTold (F.held files.old) (texts words.now) (λ bytes node. (length bytes ≤ SOURCE_LIMIT) × IsRefusedFor fault bytes node)
         → IsRefusalUnlessCutOff fault result.report }
     ensures only_too_long { IsTold (F.held files.old) (texts words.now) (λ bytes _. SOURCE_LIMIT < length bytes)
         → IsUnlessCutOff (Report.TooLong (SOURCE_LIMIT + 1)) result.report }
-    ensures only_long_trace { IsToldTrace (F.held files.old) (texts words.now) IsLongTrace
+    ensures only_long_document { (task : TaskModel) → IsToldDocument (F.held files.old) (texts words.now) task IsLongDocument
         → IsUnlessCutOff (Report.TooLong (FILE_LIMIT + 1)) result.report }
     ensures same_held { F.held files.new ≡ F.held files.old }
     ensures same_serves { F.serves files.new ≡ F.serves files.old }
@@ -133,20 +179,20 @@ fn report_on<F: Files>(alloc: Global, words: &[String], files: &mut F) -> Answer
         Err(WholeFault::Failed) => return bare(alloc, Report::ReadFault),
         Err(WholeFault::Memory) => return bare(alloc, Report::Memory),
     };
-    match command.trace {
+    match command.beside {
         None => report_on_source(alloc, &source, command.node),
-        Some(trace) => Answer {
-            report: report_on_replay(alloc, &source, command.node, trace, files),
+        Some(other) => Answer {
+            report: report_on_document(alloc, &source, command.node, other.task, other.file, files),
             document: Vec::new(alloc),
         },
     }
 }
 
-/// Whether the report has a trace, whose document is shown.
-fn is_violated(report: &Report) -> bool
-    ensures { result ≡ is_violated report.now }
+/// Whether the report has a certificate or a trace, whose document is shown.
+fn is_documented(report: &Report) -> bool
+    ensures { result ≡ is_documented report.now }
 {
-    matches!(report, Report::Violated(_))
+    matches!(report, Report::Safe(_) | Report::Violated(_))
 }
 
 /// Gives bytes to one put.
@@ -174,7 +220,7 @@ fn show<S: Sink>(alloc: Global, answer: &Answer, out: &mut S) -> Sent
     ensures one_put { (result ≡ Sent.Whole) ⊎ (result ≡ Sent.Failed) → S.puts out.new ≡ raised (S.puts out.old) }
     ensures no_put { result ≡ Sent.Memory → S.puts out.new ≡ S.puts out.old }
 {
-    if is_violated(&answer.report) {
+    if is_documented(&answer.report) {
         return put(out, &answer.document);
     }
     let Ok(text) = text(alloc, &answer.report) else {
@@ -208,57 +254,76 @@ pub fn run<F: Files, S: Sink>(
     requires { All (λ word. IsTrue (F.serves files.old (string_bytes word))) words.now.items }
     ensures safe { (c : CertificateModel) → result.report ≡ Report.Safe c → OnFile (F.held files.old) (texts words.now.items) (OnProgram (WithRuns IsSafe)) }
     ensures certified { (c : CertificateModel) → result.report ≡ Report.Safe c → OnFile (F.held files.old) (texts words.now.items) (OnProgram (IsCertified c)) }
-    ensures decided_safe { (c : CertificateModel) → result.report ≡ Report.Safe c → OnFile (F.held files.old) (texts words.now.items) (OnProgram IsControl) }
+    ensures claimed { (c : CertificateModel) → result.report ≡ Report.Safe c → OnFile (F.held files.old) (texts words.now.items) (OnProgram HasGoodClaim) }
     ensures violated { (t : TraceModel) → result.report ≡ Report.Violated t
         → OnFile (F.held files.old) (texts words.now.items) (OnProgram (WithRuns (λ program main. IsFalsifying program main t))) }
     ensures shortest { (t : TraceModel) → result.report ≡ Report.Violated t
         → OnFile (F.held files.old) (texts words.now.items) (OnProgram (λ program main. IsShortest program main t)) }
     ensures decided_violated { (t : TraceModel) → result.report ≡ Report.Violated t → OnFile (F.held files.old) (texts words.now.items) (OnProgram IsControl) }
-    ensures unknown { result.report ≡ Report.Unknown → OnFile (F.held files.old) (texts words.now.items) (OnProgram (WithRuns HasIntegers)) }
-    ensures nodes { (n : ℕ) → result.report ≡ Report.Nodes n → (n ≡ nodes_limit) × OnFile (F.held files.old) (texts words.now.items) (OnProgram IsWide) }
-    ensures not_too_long { IsVerdict result.report → OnFile (F.held files.old) (texts words.now.items) (λ bytes _. length bytes ≤ SOURCE_LIMIT) }
-    ensures proved { IsVerdict result.report → trace_file (texts words.now.items) ≡ None }
+    ensures unknown { result.report ≡ Report.Unknown → OnFile (F.held files.old) (texts words.now.items) (OnProgram (WithRuns IsUnknown)) }
+    ensures nodes { (n : ℕ) → result.report ≡ Report.Nodes n
+        → (n ≡ nodes_limit) × OnFile (F.held files.old) (texts words.now.items) (OnProgram HasManyVariables) }
+    ensures not_too_long { IsVerdict result.report ⊎ IsNodesReport result.report
+        → OnFile (F.held files.old) (texts words.now.items) (λ bytes _. length bytes ≤ SOURCE_LIMIT) }
+    ensures proved { IsVerdict result.report → beside (texts words.now.items) ≡ None }
+    ensures accepted { result.report ≡ Report.Accepted
+        → OnDocument (F.held files.old) (texts words.now.items) tasks.Check (OnAccepted HasAccepted) }
+    ensures checked_safe { result.report ≡ Report.Accepted → OnFile (F.held files.old) (texts words.now.items) (OnProgram (WithRuns IsSafe)) }
+    ensures rejected { (reason : ReasonModel) → result.report ≡ Report.Rejected reason
+        → OnDocument (F.held files.old) (texts words.now.items) tasks.Check (OnAccepted (HasRejected reason)) }
     ensures falsified { (k : ℕ) → result.report ≡ Report.Falsified k
-        → OnTraceFile (F.held files.old) (texts words.now.items) (OnReplay (OnTrace (λ p m t. IsFalsifiedAt p m t k))) }
+        → OnDocument (F.held files.old) (texts words.now.items) tasks.Replay (OnAccepted (OnTrace (λ p m t. IsFalsifiedAt p m t k))) }
     ensures fails { (k : ℕ) (at : PlaceModel) → result.report ≡ Report.AssertionFails k at
-        → OnTraceFile (F.held files.old) (texts words.now.items) (OnReplay (OnTrace (λ p m t. FailsAt p m t k at))) }
+        → OnDocument (F.held files.old) (texts words.now.items) tasks.Replay (OnAccepted (OnTrace (λ p m t. FailsAt p m t k at))) }
     ensures never { result.report ≡ Report.NeverFalse
-        → OnTraceFile (F.held files.old) (texts words.now.items) (OnReplay (OnTrace (λ p m t. NeverEnds p m t))) }
+        → OnDocument (F.held files.old) (texts words.now.items) tasks.Replay (OnAccepted (OnTrace (λ p m t. NeverEnds p m t))) }
     ensures outgrown { (k : ℕ) (at : PlaceModel) → result.report ≡ Report.Outgrown k at
-        → OnTraceFile (F.held files.old) (texts words.now.items) (OnReplay (OnTrace (λ p m t. OutgrowsAt p m t k at))) }
+        → OnDocument (F.held files.old) (texts words.now.items) tasks.Replay (OnAccepted (OnTrace (λ p m t. OutgrowsAt p m t k at))) }
     ensures bad_file { (fault : FileFault) → result.report ≡ Report.BadFile fault
-        → OnTraceFile (F.held files.old) (texts words.now.items) (OnReplay (IsFileFault fault)) }
+        → OnDocument (F.held files.old) (texts words.now.items) tasks.Replay (OnAccepted (IsFileFault fault))
+        ⊎ OnDocument (F.held files.old) (texts words.now.items) tasks.Check (OnAccepted (IsInvariantFault fault)) }
     ensures refused { (fault : SourceFault) → result.report ≡ Report.Refused fault
         → OnFile (F.held files.old) (texts words.now.items) (λ bytes node. (length bytes ≤ SOURCE_LIMIT) × IsRefusedFor fault bytes node) }
     ensures too_long { (n : ℕ) → result.report ≡ Report.TooLong n
         → ((n ≡ SOURCE_LIMIT + 1) × OnFile (F.held files.old) (texts words.now.items) (λ bytes _. SOURCE_LIMIT < length bytes))
-        ⊎ ((n ≡ FILE_LIMIT + 1) × OnTraceFile (F.held files.old) (texts words.now.items) IsLongTrace) }
+        ⊎ ((n ≡ FILE_LIMIT + 1) × (task : TaskModel) × OnDocument (F.held files.old) (texts words.now.items) task IsLongDocument) }
     ensures read_fault { result.report ≡ Report.ReadFault → Rose (F.faults files.old) (F.faults files.new) }
     ensures usage { (result.report ≡ Report.Usage) ↔ (command (texts words.now.items) ≡ None) }
-    ensures only_safe { trace_file (texts words.now.items) ≡ None
+    ensures only_safe { beside (texts words.now.items) ≡ None
         → IsTold (F.held files.old) (texts words.now.items) (λ bytes node. (length bytes ≤ SOURCE_LIMIT) × OnProgram IsSafeControl bytes node)
         → IsSafeUnlessCutOff result.report }
-    ensures only_violated { trace_file (texts words.now.items) ≡ None
+    ensures only_violated { beside (texts words.now.items) ≡ None
         → IsTold (F.held files.old) (texts words.now.items) (λ bytes node. (length bytes ≤ SOURCE_LIMIT) × OnProgram IsUnsafeControl bytes node)
         → IsViolatedUnlessCutOff result.report }
-    ensures only_unknown { trace_file (texts words.now.items) ≡ None
-        → IsTold (F.held files.old) (texts words.now.items) (λ bytes node. (length bytes ≤ SOURCE_LIMIT) × OnProgram HasIntegers bytes node)
-        → IsUnlessCutOff Report.Unknown result.report }
-    ensures only_falsified { (k : ℕ) → IsToldTrace (F.held files.old) (texts words.now.items) (OnReplay (OnTrace (λ p m t. IsFalsifiedAt p m t k)))
+    ensures only_claimed { beside (texts words.now.items) ≡ None
+        → IsTold (F.held files.old) (texts words.now.items) (λ bytes node. (length bytes ≤ SOURCE_LIMIT) × OnProgram HasGoodClaim bytes node)
+        → IsSafeUnlessCutOff result.report }
+    ensures only_unknown { beside (texts words.now.items) ≡ None
+        → IsTold (F.held files.old) (texts words.now.items) (λ bytes node. (length bytes ≤ SOURCE_LIMIT) × OnProgram IsUnknown bytes node)
+        → IsUnlessLimited Report.Unknown result.report }
+    ensures only_falsified { (k : ℕ) → IsToldDocument (F.held files.old) (texts words.now.items) tasks.Replay (OnAccepted (OnTrace (λ p m t. IsFalsifiedAt p m t k)))
         → IsUnlessCutOff (Report.Falsified k) result.report }
-    ensures only_fails { (k : ℕ) (at : PlaceModel) → IsToldTrace (F.held files.old) (texts words.now.items) (OnReplay (OnTrace (λ p m t. FailsAt p m t k at)))
+    ensures only_fails { (k : ℕ) (at : PlaceModel) → IsToldDocument (F.held files.old) (texts words.now.items) tasks.Replay (OnAccepted (OnTrace (λ p m t. FailsAt p m t k at)))
         → IsUnlessCutOff (Report.AssertionFails k at) result.report }
-    ensures only_never { IsToldTrace (F.held files.old) (texts words.now.items) (OnReplay (OnTrace (λ p m t. NeverEnds p m t)))
+    ensures only_never { IsToldDocument (F.held files.old) (texts words.now.items) tasks.Replay (OnAccepted (OnTrace (λ p m t. NeverEnds p m t)))
         → IsUnlessCutOff Report.NeverFalse result.report }
-    ensures only_outgrown { (k : ℕ) (at : PlaceModel) → IsToldTrace (F.held files.old) (texts words.now.items) (OnReplay (OnTrace (λ p m t. OutgrowsAt p m t k at)))
+    ensures only_outgrown { (k : ℕ) (at : PlaceModel) → IsToldDocument (F.held files.old) (texts words.now.items) tasks.Replay (OnAccepted (OnTrace (λ p m t. OutgrowsAt p m t k at)))
         → IsUnlessCutOff (Report.Outgrown k at) result.report }
-    ensures only_bad_file { (fault : FileFault) → IsToldTrace (F.held files.old) (texts words.now.items) (OnReplay (IsFileFault fault))
+    ensures only_bad_file { (fault : FileFault) → IsToldDocument (F.held files.old) (texts words.now.items) tasks.Replay (OnAccepted (IsFileFault fault))
         → IsUnlessCutOff (Report.BadFile fault) result.report }
+    ensures only_accepted { IsToldDocument (F.held files.old) (texts words.now.items) tasks.Check (OnAccepted HasAccepted)
+        → IsUnlessLimited Report.Accepted result.report }
+    ensures only_rejected { (reason : ReasonModel)
+        → IsToldDocument (F.held files.old) (texts words.now.items) tasks.Check (OnAccepted (HasRejected reason))
+        → IsUnlessLimited (Report.Rejected reason) result.report }
+    ensures only_bad_invariant { (fault : FileFault)
+        → IsToldDocument (F.held files.old) (texts words.now.items) tasks.Check (OnAccepted (IsInvariantFault fault))
+        → IsUnlessLimited (Report.BadFile fault) result.report }
     ensures only_refused { (fault : SourceFault) → IsTold (F.held files.old) (texts words.now.items) (λ bytes node. (length bytes ≤ SOURCE_LIMIT) × IsRefusedFor fault bytes node)
         → IsRefusalUnlessCutOff fault result.report }
     ensures only_too_long { IsTold (F.held files.old) (texts words.now.items) (λ bytes _. SOURCE_LIMIT < length bytes)
         → IsUnlessCutOff (Report.TooLong (SOURCE_LIMIT + 1)) result.report }
-    ensures only_long_trace { IsToldTrace (F.held files.old) (texts words.now.items) IsLongTrace
+    ensures only_long_document { (task : TaskModel) → IsToldDocument (F.held files.old) (texts words.now.items) task IsLongDocument
         → IsUnlessCutOff (Report.TooLong (FILE_LIMIT + 1)) result.report }
     ensures same_held { F.held files.new ≡ F.held files.old }
     ensures same_serves { F.serves files.new ≡ F.serves files.old }

@@ -4,10 +4,10 @@ use rv_proofs::Certificate;
 /// What is found of an accepted source.
 #[derive(Debug, Drop)]
 pub enum Verdict {
-    /// It has no integers and is safe: a certificate of it.
-    Safe(Certificate),
+    /// It is safe: a certificate of it, and the document of the certificate.
+    Safe(Certificate, Vec<u8>),
     /// It has no integers and is not safe: a trace that falsifies it, and the document of the trace.
     Violated(Trace, Vec<u8>),
-    /// It has integers.
+    /// It has integers, and no closed box claim of it is good.
     Undecided,
 }

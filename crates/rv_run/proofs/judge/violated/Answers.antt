@@ -46,9 +46,10 @@ returns-clause-judged c =
     let t = c.in-Some.trace in
     let flat : IsFlatOf p main f = subst (IsFlatOf p main) (sym (c.flat-flat.ensures ∙ ap (λ (r : Reading). flat_of r) c.in_ok-found.ensures.same)) c.requires.known.flat in (
       record {
-        control = c.requires.known.control;
+        control = c.requires.program_control;
         falsifying = c.in_ok-found.ensures.falsifies t (ap Ok c.in-Some.is);
         shortest = c.in_ok-found.ensures.shortest t c.requires.bad (ap Ok c.in-Some.is);
       },
       record { system = f; flat = flat; written = c.in_ok-document.ensures.text; read = c.in_ok-document.ensures.document },
+      (flat_of c.args.reading.now, c.requires.known.flat, c.requires.lacks),
     )

@@ -4,19 +4,25 @@ use Rattle.rv_tree.specs.Places.{Identifier}
 use Rattle.rv_types.specs.Instances.{name_at}
 use Rattle.rv_types.specs.Lists.{sites_of}
 use Rattle.rv_meaning.specs.Runs.{IsSafe}
-use Rattle.rv_meaning.specs.Integers.{IsControl}
-use Rattle.rv_run.specs.Answers.{IsOnSource, IsRefusalUnlessCutOff, IsSafeUnlessCutOff, IsUnlessCutOff, IsViolatedUnlessCutOff}
-use Rattle.rv_run.specs.Programs.{OnProgram, WithRuns, HasIntegers, IsSafeControl, IsUnsafeControl, IsCertified, IsWide}
-use Rattle.rv_run.specs.Verdicts.{IsDocumentOf, IsViolated}
+use Rattle.rv_run.specs.Answers.{IsOnSource, IsRefusalUnlessCutOff, IsSafeUnlessCutOff, IsUnlessLimited, IsViolatedUnlessCutOff}
+use Rattle.rv_run.specs.Programs.{OnProgram, WithRuns, HasGoodClaim, HasManyVariables, IsSafeControl, IsUnsafeControl, IsCertified, IsUnknown, LacksGoodClaim}
+use Rattle.rv_run.specs.Verdicts.{IsDocumentOf, IsInvariantOf, IsViolated}
 use Rattle.rv_run.specs.declared.report.Report.{Report}
 use Rattle.rv_run.specs.declared.report.Report.TheVariants.{Unknown}
-use Rattle.rv_run.proofs.Judging.{with_runs}
-use Rattle.rv_run.proofs.Judged.{verdict-on_source, verdict-not_refused, said_safe, said_violated, said_unknown, said_nodes, must_safe, must_violated, must_unknown}
+use Rattle.rv_tree.specs.SourceTrees.{IsSourceTree}
+use Rattle.rv_types.specs.Settled.{IsSettled}
+use Rattle.rv_types.specs.WellFormed.{AreWell}
+use Rattle.rv_run.proofs.Claimed.{one_claim}
+use Rattle.rv_run.proofs.Judging.{is_node, well, with_runs}
+use Rattle.rv_run.proofs.Judged.{verdict-on_source, verdict-not_refused, said_safe, said_violated, said_unknown, said_nodes, must_claim, must_safe, must_violated, must_unknown}
 use Rattle.rv_run.proofs.Reported.{refusal-not_safe, refusal-not_violated, refusal-not_unknown, refusal-not_nodes, refusal-on_source, refusal-refused, refused_accepted, refused_same, named, told, told_back}
 use Rattle.rv_run.proofs.prove.report_on_source.Goals as goal
 
 pub judge-requires-clause-plain : goal.judge-requires-clause-plain
 judge-requires-clause-plain c = c.plain_names.ensures c.args.bytes.now (program_tree c.in-Ok.source.program) c.in-Ok.ensures.found.text
+
+pub judge-requires-clause-small : goal.judge-requires-clause-small
+judge-requires-clause-small c = c.numbers_are_small.ensures c.args.bytes.now (program_tree c.in-Ok.source.program) c.in-Ok.ensures.found.text
 
 pub returns-in-Err : goal.returns-in-Err
 returns-in-Err c =
@@ -27,7 +33,8 @@ returns-in-Err c =
     record {
       safe = λ d h. absurd (refusal-not_safe fault d (sym is ∙ h));
       certified = λ d h. absurd (refusal-not_safe fault d (sym is ∙ h));
-      decided_safe = λ d h. absurd (refusal-not_safe fault d (sym is ∙ h));
+      claimed = λ d h. absurd (refusal-not_safe fault d (sym is ∙ h));
+      invariant = λ d h. absurd (refusal-not_safe fault d (sym is ∙ h));
       violated = λ t h. absurd (refusal-not_violated fault t (sym is ∙ h));
       document = λ t h. absurd (refusal-not_violated fault t (sym is ∙ h));
       unknown = λ h. absurd (refusal-not_unknown fault (sym is ∙ h));
@@ -36,7 +43,8 @@ returns-in-Err c =
       only = subst IsOnSource (sym is) (refusal-on_source fault);
       only_safe = λ on. inr (inr (inr (is ∙ refused_accepted bytes node IsSafeControl fault c.in-Err.ensures.only on)));
       only_violated = λ on. inr (inr (inr (is ∙ refused_accepted bytes node IsUnsafeControl fault c.in-Err.ensures.only on)));
-      only_unknown = λ on. inr (inr (is ∙ refused_accepted bytes node HasIntegers fault c.in-Err.ensures.only on));
+      only_claimed = λ on. inr (inr (inr (is ∙ refused_accepted bytes node HasGoodClaim fault c.in-Err.ensures.only on)));
+      only_unknown = λ on. inr (inr (inr (is ∙ refused_accepted bytes node IsUnknown fault c.in-Err.ensures.only on)));
       only_refused = λ found h. subst (IsRefusalUnlessCutOff found) (sym is) (refused_same bytes node fault found (c.in-Err.ensures.only_refused found h));
     }
 
@@ -54,20 +62,28 @@ returns-in-Ok c =
     let wide = c.judge.ensures.wide in
     let runs : (P : ProgramTree → Identifier → Type 0) → P p m → WithRuns P p m = λ P holds. with_runs p s.typed s.order source.fits (λ n text settled. c.well_formed_programs.ensures p n s.typed text settled) P
     (c.one_run.ensures p m (sites_of s.order.sequence)) (c.some_run.ensures p m (sites_of s.order.sequence)) holds in
+    let well_formed : (n : Identifier) → IsSourceTree p → IsSettled p n s.typed → AreWell p = λ n text settled. c.well_formed_programs.ensures p n s.typed text settled in
+    let is_well = well p s.typed s.order source.fits well_formed in
+    let is_main = is_node p s.typed s.order source.fits well_formed in
+    let one : HasGoodClaim p m → LacksGoodClaim p m → ⊥ = λ has lacks.
+    one_claim p m (λ f g first second. c.alike_systems.ensures p m f g is_well is_main first second) (λ f g first second. c.alike_names.ensures.thresholds p m f g is_well is_main first second) has lacks in
     let back : (P : ProgramTree → Identifier → Type 0) → OnProgram P bytes node → P p m = λ P on. subst (P p) (sym (named bytes node s source)) (told_back bytes node s source (c.one_tree.ensures bytes) P on) in
     record {
-      safe = λ d h. told bytes node s source (WithRuns IsSafe) (runs IsSafe (said_safe p m r d judged (sym is ∙ h)).0.1);
-      certified = λ d h. told bytes node s source (IsCertified d) (said_safe p m r d judged (sym is ∙ h)).1;
-      decided_safe = λ d h. told bytes node s source IsControl (said_safe p m r d judged (sym is ∙ h)).0.0;
+      safe = λ d h. told bytes node s source (WithRuns IsSafe) (runs IsSafe (said_safe p m r d judged (sym is ∙ h)).0);
+      certified = λ d h. told bytes node s source (IsCertified d) (said_safe p m r d judged (sym is ∙ h)).2;
+      claimed = λ d h. told bytes node s source HasGoodClaim (said_safe p m r d judged (sym is ∙ h)).1;
+      invariant = λ d h. told bytes node s source (IsInvariantOf d c.on_verdict.result.document.items)
+          (subst (λ text. IsInvariantOf d text p m) (sym c.on_verdict.ensures.document) (said_safe p m r d judged (sym is ∙ h)).3);
       violated = λ t h. told bytes node s source (WithRuns (IsViolated t)) (runs (IsViolated t) (said_violated p m r t judged (sym is ∙ h)).0);
       document = λ t h. told bytes node s source (IsDocumentOf t c.on_verdict.result.document.items)
           (subst (λ text. IsDocumentOf t text p m) (sym c.on_verdict.ensures.document) (said_violated p m r t judged (sym is ∙ h)).1);
-      unknown = λ h. told bytes node s source (WithRuns HasIntegers) (runs HasIntegers (said_unknown p m r judged (sym is ∙ h)));
-      nodes = λ n h. let both = said_nodes p m r n wide (sym is ∙ h) in (both.0, told bytes node s source IsWide both.1);
+      unknown = λ h. told bytes node s source (WithRuns IsUnknown) (runs IsUnknown (said_unknown p m r judged (sym is ∙ h)));
+      nodes = λ n h. let both = said_nodes p m r n wide (sym is ∙ h) in (both.0, told bytes node s source HasManyVariables both.1);
       refused = λ found h. absurd (verdict-not_refused r found (sym is ∙ h));
       only = subst IsOnSource (sym is) (verdict-on_source r);
       only_safe = λ on. subst IsSafeUnlessCutOff (sym is) (must_safe p m r judged (back IsSafeControl on));
       only_violated = λ on. subst IsViolatedUnlessCutOff (sym is) (must_violated p m r judged (back IsUnsafeControl on));
-      only_unknown = λ on. subst (IsUnlessCutOff Unknown) (sym is) (must_unknown p m r judged wide (back HasIntegers on));
+      only_claimed = λ on. subst IsSafeUnlessCutOff (sym is) (must_claim p m r one judged (back HasGoodClaim on));
+      only_unknown = λ on. subst (IsUnlessLimited Unknown) (sym is) (must_unknown p m r one judged (back IsUnknown on));
       only_refused = λ found h. absurd (c.in-Ok.ensures.only_refused found h);
     }

@@ -1,18 +1,23 @@
-use Rattle.std.proofs.Common.{◌≤◌, List, length, subst, ◌≡◌, None}
+use Rattle.std.proofs.Common.{◌≤◌, ◌<◌, ◌+◌, ◌⊎◌, inl, inr, List, length, subst, ◌≡◌, None}
+use Rattle.std.specs.Prelude.{◌↔◌}
 use Rattle.std.specs.Prelude.{String}
 use Rattle.std.specs.Global.{Global}
 use Rattle.rv_replay.specs.Replays.{FailsAt, IsFalsifiedAt, NeverEnds, OutgrowsAt}
 use Rattle.rv_tree.specs.Limits.{source_limit}
-use Rattle.rv_run.specs.declared.report.Report.TheVariants.{Falsified, AssertionFails, NeverFalse, Outgrown, BadFile, Unknown}
-use Rattle.rv_run.specs.Words.{texts, trace_file}
-use Rattle.rv_run.specs.Answers.{IsTold, IsToldTrace, IsRefusalUnlessCutOff, IsUnlessCutOff, OnFile, OnTraceFile, IsShown, IsSafeUnlessCutOff, IsViolatedUnlessCutOff}
-use Rattle.rv_run.specs.Programs.{IsRefusedFor, OnProgram, WithRuns, HasIntegers, IsSafeControl, IsUnsafeControl}
-use Rattle.rv_run.specs.Traced.{IsFileFault, OnReplay, OnTrace}
+use Rattle.rv_run.specs.declared.report.Report.TheVariants.{Accepted, Rejected, Falsified, AssertionFails, NeverFalse, Outgrown, BadFile, TooLong, Unknown, Usage}
+use Rattle.rv_run.specs.declared.words.Task.{Task}
+use Rattle.rv_run.specs.declared.words.Task.TheVariants.{Replay, Check}
+use Rattle.rv_meaning.specs.Runs.{IsSafe}
+use Rattle.rv_run.specs.Words.{texts, beside, command}
+use Rattle.rv_run.specs.Answers.{IsTold, IsToldDocument, IsRefusalUnlessCutOff, IsUnlessCutOff, IsUnlessLimited, OnFile, OnDocument, IsShown, IsSafeUnlessCutOff, IsViolatedUnlessCutOff}
+use Rattle.rv_run.specs.Programs.{HasGoodClaim, HasManyVariables, IsCertified, IsRefusedFor, IsSafeControl, IsUnknown, IsUnsafeControl, OnProgram, WithRuns}
+use Rattle.rv_run.specs.Checked.{HasAccepted, HasRejected, IsInvariantFault}
+use Rattle.rv_run.specs.Traced.{IsFileFault, IsLongDocument, OnAccepted, OnTrace, file_limit}
 use Rattle.rv_meaning.specs.Integers.{IsControl}
 use Rattle.rv_falsify.specs.Falsifying.{IsFalsifying, IsShortest}
 use Rattle.rv_run.specs.Printed.{shown_of}
 use Rattle.rv_run.specs.Verdicts.{IsViolated}
-use Rattle.rv_run.proofs.More.{file_more, is_shown, runs_more}
+use Rattle.rv_run.proofs.More.{file_more, is_shown, of_check, of_either, of_replay, runs_more}
 use Rattle.rv_run.proofs.running.run.Goals as goal
 
 pub returns-clause-not_too_long : goal.returns-clause-not_too_long
@@ -22,53 +27,94 @@ returns-clause-not_too_long g c = λ verdict.
 
 pub returns-clause-falsified : goal.returns-clause-falsified
 returns-clause-falsified g c = λ k h.
-    subst (λ (ws : List (String Global)). OnTraceFile (g.F.Files.held c.args.files.now) (texts ws) (OnReplay (OnTrace (λ p m t. IsFalsifiedAt p m t k))))
-    c.as_slice.ensures.value (c.report_on-answer.ensures.replayed (Falsified k) tt h)
+    subst (λ (ws : List (String Global)). OnDocument (g.F.Files.held c.args.files.now) (texts ws) Replay (OnAccepted (OnTrace (λ p m t. IsFalsifiedAt p m t k))))
+    c.as_slice.ensures.value (of_replay (g.F.Files.held c.args.files.now) (texts c.as_slice.result.now) (Falsified k) (λ is. is) (c.report_on-answer.ensures.told (Falsified k) tt h))
 
 pub returns-clause-fails : goal.returns-clause-fails
 returns-clause-fails g c = λ k at h.
-    subst (λ (ws : List (String Global)). OnTraceFile (g.F.Files.held c.args.files.now) (texts ws) (OnReplay (OnTrace (λ p m t. FailsAt p m t k at))))
-    c.as_slice.ensures.value (c.report_on-answer.ensures.replayed (AssertionFails k at) tt h)
+    subst (λ (ws : List (String Global)). OnDocument (g.F.Files.held c.args.files.now) (texts ws) Replay (OnAccepted (OnTrace (λ p m t. FailsAt p m t k at))))
+    c.as_slice.ensures.value (of_replay (g.F.Files.held c.args.files.now) (texts c.as_slice.result.now) (AssertionFails k at) (λ is. is) (c.report_on-answer.ensures.told (AssertionFails k at) tt h))
 
 pub returns-clause-never : goal.returns-clause-never
 returns-clause-never g c = λ h.
-    subst (λ (ws : List (String Global)). OnTraceFile (g.F.Files.held c.args.files.now) (texts ws) (OnReplay (OnTrace (λ p m t. NeverEnds p m t))))
-    c.as_slice.ensures.value (c.report_on-answer.ensures.replayed NeverFalse tt h)
+    subst (λ (ws : List (String Global)). OnDocument (g.F.Files.held c.args.files.now) (texts ws) Replay (OnAccepted (OnTrace (λ p m t. NeverEnds p m t))))
+    c.as_slice.ensures.value (of_replay (g.F.Files.held c.args.files.now) (texts c.as_slice.result.now) NeverFalse (λ is. is) (c.report_on-answer.ensures.told NeverFalse tt h))
 
 pub returns-clause-outgrown : goal.returns-clause-outgrown
 returns-clause-outgrown g c = λ k at h.
-    subst (λ (ws : List (String Global)). OnTraceFile (g.F.Files.held c.args.files.now) (texts ws) (OnReplay (OnTrace (λ p m t. OutgrowsAt p m t k at))))
-    c.as_slice.ensures.value (c.report_on-answer.ensures.replayed (Outgrown k at) tt h)
+    subst (λ (ws : List (String Global)). OnDocument (g.F.Files.held c.args.files.now) (texts ws) Replay (OnAccepted (OnTrace (λ p m t. OutgrowsAt p m t k at))))
+    c.as_slice.ensures.value (of_replay (g.F.Files.held c.args.files.now) (texts c.as_slice.result.now) (Outgrown k at) (λ is. is) (c.report_on-answer.ensures.told (Outgrown k at) tt h))
 
 pub returns-clause-bad_file : goal.returns-clause-bad_file
 returns-clause-bad_file g c = λ fault h.
-    subst (λ (ws : List (String Global)). OnTraceFile (g.F.Files.held c.args.files.now) (texts ws) (OnReplay (IsFileFault fault)))
-    c.as_slice.ensures.value (c.report_on-answer.ensures.replayed (BadFile fault) tt h)
+    subst (λ (ws : List (String Global)). OnDocument (g.F.Files.held c.args.files.now) (texts ws) Replay (OnAccepted (IsFileFault fault))
+    ⊎ OnDocument (g.F.Files.held c.args.files.now) (texts ws) Check (OnAccepted (IsInvariantFault fault)))
+    c.as_slice.ensures.value (of_either (g.F.Files.held c.args.files.now) (texts c.as_slice.result.now) fault (c.report_on-answer.ensures.told (BadFile fault) tt h))
+
+pub returns-clause-accepted : goal.returns-clause-accepted
+returns-clause-accepted g c = λ h.
+    subst (λ (ws : List (String Global)). OnDocument (g.F.Files.held c.args.files.now) (texts ws) Check (OnAccepted HasAccepted))
+    c.as_slice.ensures.value (of_check (g.F.Files.held c.args.files.now) (texts c.as_slice.result.now) Accepted (λ is. is) (c.report_on-answer.ensures.told Accepted tt h))
+
+pub returns-clause-rejected : goal.returns-clause-rejected
+returns-clause-rejected g c = λ reason h.
+    subst (λ (ws : List (String Global)). OnDocument (g.F.Files.held c.args.files.now) (texts ws) Check (OnAccepted (HasRejected reason)))
+    c.as_slice.ensures.value
+    (of_check (g.F.Files.held c.args.files.now) (texts c.as_slice.result.now) (Rejected reason) (λ is. is) (c.report_on-answer.ensures.told (Rejected reason) tt h))
+
+pub returns-clause-only_accepted : goal.returns-clause-only_accepted
+returns-clause-only_accepted g c =
+    subst (λ (ws : List (String Global)). IsToldDocument (g.F.Files.held c.args.files.now) (texts ws) Check (OnAccepted HasAccepted) → IsUnlessLimited Accepted c.report_on-answer.result.report)
+    c.as_slice.ensures.value (c.report_on-answer.ensures.only_told Check Accepted)
+
+pub returns-clause-only_rejected : goal.returns-clause-only_rejected
+returns-clause-only_rejected g c = λ reason.
+    subst (λ (ws : List (String Global)). IsToldDocument (g.F.Files.held c.args.files.now) (texts ws) Check (OnAccepted (HasRejected reason))
+    → IsUnlessLimited (Rejected reason) c.report_on-answer.result.report)
+    c.as_slice.ensures.value (c.report_on-answer.ensures.only_told Check (Rejected reason))
+
+pub returns-clause-only_bad_invariant : goal.returns-clause-only_bad_invariant
+returns-clause-only_bad_invariant g c = λ fault.
+    subst (λ (ws : List (String Global)). IsToldDocument (g.F.Files.held c.args.files.now) (texts ws) Check (OnAccepted (IsInvariantFault fault))
+    → IsUnlessLimited (BadFile fault) c.report_on-answer.result.report)
+    c.as_slice.ensures.value (c.report_on-answer.ensures.only_told Check (BadFile fault))
+
+pub returns-clause-too_long : goal.returns-clause-too_long
+returns-clause-too_long g c = λ n.
+    subst (λ (ws : List (String Global)). c.report_on-answer.result.report ≡ TooLong n
+    → ((n ≡ source_limit + 1) × OnFile (g.F.Files.held c.args.files.now) (texts ws) (λ bytes node. source_limit < length bytes))
+    ⊎ ((n ≡ file_limit + 1) × (task : Task) × OnDocument (g.F.Files.held c.args.files.now) (texts ws) task IsLongDocument))
+    c.as_slice.ensures.value (c.report_on-answer.ensures.too_long n)
+
+pub returns-clause-only_long_document : goal.returns-clause-only_long_document
+returns-clause-only_long_document g c = λ task.
+    subst (λ (ws : List (String Global)). IsToldDocument (g.F.Files.held c.args.files.now) (texts ws) task IsLongDocument → IsUnlessCutOff (TooLong (file_limit + 1)) c.report_on-answer.result.report)
+    c.as_slice.ensures.value (c.report_on-answer.ensures.only_long_document task)
 
 pub returns-clause-only_falsified : goal.returns-clause-only_falsified
 returns-clause-only_falsified g c = λ k.
-    subst (λ (ws : List (String Global)). IsToldTrace (g.F.Files.held c.args.files.now) (texts ws) (OnReplay (OnTrace (λ p m t. IsFalsifiedAt p m t k))) → IsUnlessCutOff (Falsified k) c.report_on-answer.result.report)
-    c.as_slice.ensures.value (c.report_on-answer.ensures.only_replayed (Falsified k))
+    subst (λ (ws : List (String Global)). IsToldDocument (g.F.Files.held c.args.files.now) (texts ws) Replay (OnAccepted (OnTrace (λ p m t. IsFalsifiedAt p m t k))) → IsUnlessCutOff (Falsified k) c.report_on-answer.result.report)
+    c.as_slice.ensures.value (c.report_on-answer.ensures.only_told Replay (Falsified k))
 
 pub returns-clause-only_fails : goal.returns-clause-only_fails
 returns-clause-only_fails g c = λ k at.
-    subst (λ (ws : List (String Global)). IsToldTrace (g.F.Files.held c.args.files.now) (texts ws) (OnReplay (OnTrace (λ p m t. FailsAt p m t k at))) → IsUnlessCutOff (AssertionFails k at) c.report_on-answer.result.report)
-    c.as_slice.ensures.value (c.report_on-answer.ensures.only_replayed (AssertionFails k at))
+    subst (λ (ws : List (String Global)). IsToldDocument (g.F.Files.held c.args.files.now) (texts ws) Replay (OnAccepted (OnTrace (λ p m t. FailsAt p m t k at))) → IsUnlessCutOff (AssertionFails k at) c.report_on-answer.result.report)
+    c.as_slice.ensures.value (c.report_on-answer.ensures.only_told Replay (AssertionFails k at))
 
 pub returns-clause-only_never : goal.returns-clause-only_never
 returns-clause-only_never g c =
-    subst (λ (ws : List (String Global)). IsToldTrace (g.F.Files.held c.args.files.now) (texts ws) (OnReplay (OnTrace (λ p m t. NeverEnds p m t))) → IsUnlessCutOff NeverFalse c.report_on-answer.result.report)
-    c.as_slice.ensures.value (c.report_on-answer.ensures.only_replayed NeverFalse)
+    subst (λ (ws : List (String Global)). IsToldDocument (g.F.Files.held c.args.files.now) (texts ws) Replay (OnAccepted (OnTrace (λ p m t. NeverEnds p m t))) → IsUnlessCutOff NeverFalse c.report_on-answer.result.report)
+    c.as_slice.ensures.value (c.report_on-answer.ensures.only_told Replay NeverFalse)
 
 pub returns-clause-only_outgrown : goal.returns-clause-only_outgrown
 returns-clause-only_outgrown g c = λ k at.
-    subst (λ (ws : List (String Global)). IsToldTrace (g.F.Files.held c.args.files.now) (texts ws) (OnReplay (OnTrace (λ p m t. OutgrowsAt p m t k at))) → IsUnlessCutOff (Outgrown k at) c.report_on-answer.result.report)
-    c.as_slice.ensures.value (c.report_on-answer.ensures.only_replayed (Outgrown k at))
+    subst (λ (ws : List (String Global)). IsToldDocument (g.F.Files.held c.args.files.now) (texts ws) Replay (OnAccepted (OnTrace (λ p m t. OutgrowsAt p m t k at))) → IsUnlessCutOff (Outgrown k at) c.report_on-answer.result.report)
+    c.as_slice.ensures.value (c.report_on-answer.ensures.only_told Replay (Outgrown k at))
 
 pub returns-clause-only_bad_file : goal.returns-clause-only_bad_file
 returns-clause-only_bad_file g c = λ fault.
-    subst (λ (ws : List (String Global)). IsToldTrace (g.F.Files.held c.args.files.now) (texts ws) (OnReplay (IsFileFault fault)) → IsUnlessCutOff (BadFile fault) c.report_on-answer.result.report)
-    c.as_slice.ensures.value (c.report_on-answer.ensures.only_replayed (BadFile fault))
+    subst (λ (ws : List (String Global)). IsToldDocument (g.F.Files.held c.args.files.now) (texts ws) Replay (OnAccepted (IsFileFault fault)) → IsUnlessCutOff (BadFile fault) c.report_on-answer.result.report)
+    c.as_slice.ensures.value (c.report_on-answer.ensures.only_told Replay (BadFile fault))
 
 pub returns-clause-only_refused : goal.returns-clause-only_refused
 returns-clause-only_refused g c = λ fault.
@@ -103,7 +149,7 @@ returns-clause-shown_whole g c = λ h.
       shown_of answer.report answer.document.items,
       subst (λ (ws : List (String Global)). IsShown (g.F.Files.held c.args.files.now) (texts ws) answer.report (shown_of answer.report answer.document.items))
           c.as_slice.ensures.value
-          (is_shown (g.F.Files.held c.args.files.now) (texts c.as_slice.result.now) answer.report answer.document.items c.report_on-answer.ensures.document),
+          (is_shown (g.F.Files.held c.args.files.now) (texts c.as_slice.result.now) answer.report answer.document.items c.report_on-answer.ensures.invariant c.report_on-answer.ensures.document),
       c.show-sent.ensures.whole h,
     )
 
@@ -113,28 +159,88 @@ returns-clause-shown_prefix g c = λ h.
       shown_of answer.report answer.document.items,
       subst (λ (ws : List (String Global)). IsShown (g.F.Files.held c.args.files.now) (texts ws) answer.report (shown_of answer.report answer.document.items))
           c.as_slice.ensures.value
-          (is_shown (g.F.Files.held c.args.files.now) (texts c.as_slice.result.now) answer.report answer.document.items c.report_on-answer.ensures.document),
+          (is_shown (g.F.Files.held c.args.files.now) (texts c.as_slice.result.now) answer.report answer.document.items c.report_on-answer.ensures.invariant c.report_on-answer.ensures.document),
       c.show-sent.ensures.failed h,
     )
 
 pub returns-clause-proved : goal.returns-clause-proved
 returns-clause-proved g c = λ verdict.
-    subst (λ (ws : List (String Global)). trace_file (texts ws) ≡ None) c.as_slice.ensures.value (c.report_on-answer.ensures.proved verdict)
+    subst (λ (ws : List (String Global)). beside (texts ws) ≡ None) c.as_slice.ensures.value (c.report_on-answer.ensures.proved verdict)
 
 pub returns-clause-only_safe : goal.returns-clause-only_safe
 returns-clause-only_safe g c =
-    subst (λ (ws : List (String Global)). trace_file (texts ws) ≡ None → IsTold (g.F.Files.held c.args.files.now) (texts ws)
+    subst (λ (ws : List (String Global)). beside (texts ws) ≡ None → IsTold (g.F.Files.held c.args.files.now) (texts ws)
     (λ bytes node. (length bytes ≤ source_limit) × OnProgram IsSafeControl bytes node) → IsSafeUnlessCutOff c.report_on-answer.result.report)
     c.as_slice.ensures.value c.report_on-answer.ensures.only_safe
 
 pub returns-clause-only_violated : goal.returns-clause-only_violated
 returns-clause-only_violated g c =
-    subst (λ (ws : List (String Global)). trace_file (texts ws) ≡ None → IsTold (g.F.Files.held c.args.files.now) (texts ws)
+    subst (λ (ws : List (String Global)). beside (texts ws) ≡ None → IsTold (g.F.Files.held c.args.files.now) (texts ws)
     (λ bytes node. (length bytes ≤ source_limit) × OnProgram IsUnsafeControl bytes node) → IsViolatedUnlessCutOff c.report_on-answer.result.report)
     c.as_slice.ensures.value c.report_on-answer.ensures.only_violated
 
 pub returns-clause-only_unknown : goal.returns-clause-only_unknown
 returns-clause-only_unknown g c =
-    subst (λ (ws : List (String Global)). trace_file (texts ws) ≡ None → IsTold (g.F.Files.held c.args.files.now) (texts ws)
-    (λ bytes node. (length bytes ≤ source_limit) × OnProgram HasIntegers bytes node) → IsUnlessCutOff Unknown c.report_on-answer.result.report)
+    subst (λ (ws : List (String Global)). beside (texts ws) ≡ None → IsTold (g.F.Files.held c.args.files.now) (texts ws)
+    (λ bytes node. (length bytes ≤ source_limit) × OnProgram IsUnknown bytes node) → IsUnlessLimited Unknown c.report_on-answer.result.report)
     c.as_slice.ensures.value c.report_on-answer.ensures.only_unknown
+
+pub returns-clause-only_claimed : goal.returns-clause-only_claimed
+returns-clause-only_claimed g c =
+    subst (λ (ws : List (String Global)). beside (texts ws) ≡ None → IsTold (g.F.Files.held c.args.files.now) (texts ws)
+    (λ bytes node. (length bytes ≤ source_limit) × OnProgram HasGoodClaim bytes node) → IsSafeUnlessCutOff c.report_on-answer.result.report)
+    c.as_slice.ensures.value c.report_on-answer.ensures.only_claimed
+
+pub returns-clause-safe : goal.returns-clause-safe
+returns-clause-safe g c = λ d h.
+    subst (λ (ws : List (String Global)). OnFile (g.F.Files.held c.args.files.now) (texts ws) (OnProgram (WithRuns IsSafe)))
+    c.as_slice.ensures.value (c.report_on-answer.ensures.safe d h)
+
+pub returns-clause-certified : goal.returns-clause-certified
+returns-clause-certified g c = λ d h.
+    subst (λ (ws : List (String Global)). OnFile (g.F.Files.held c.args.files.now) (texts ws) (OnProgram (IsCertified d)))
+    c.as_slice.ensures.value (c.report_on-answer.ensures.certified d h)
+
+pub returns-clause-claimed : goal.returns-clause-claimed
+returns-clause-claimed g c = λ d h.
+    subst (λ (ws : List (String Global)). OnFile (g.F.Files.held c.args.files.now) (texts ws) (OnProgram HasGoodClaim))
+    c.as_slice.ensures.value (c.report_on-answer.ensures.claimed d h)
+
+pub returns-clause-unknown : goal.returns-clause-unknown
+returns-clause-unknown g c = λ h.
+    subst (λ (ws : List (String Global)). OnFile (g.F.Files.held c.args.files.now) (texts ws) (OnProgram (WithRuns IsUnknown)))
+    c.as_slice.ensures.value (c.report_on-answer.ensures.unknown h)
+
+pub returns-clause-nodes : goal.returns-clause-nodes
+returns-clause-nodes g c = λ n h.
+    let two = c.report_on-answer.ensures.nodes n h in
+    (two.0, subst (λ (ws : List (String Global)). OnFile (g.F.Files.held c.args.files.now) (texts ws) (OnProgram HasManyVariables)) c.as_slice.ensures.value two.1)
+
+pub returns-clause-checked_safe : goal.returns-clause-checked_safe
+returns-clause-checked_safe g c = λ h.
+    subst (λ (ws : List (String Global)). OnFile (g.F.Files.held c.args.files.now) (texts ws) (OnProgram (WithRuns IsSafe)))
+    c.as_slice.ensures.value (c.report_on-answer.ensures.checked_safe h)
+
+pub returns-clause-refused : goal.returns-clause-refused
+returns-clause-refused g c = λ fault h.
+    subst (λ (ws : List (String Global)). OnFile (g.F.Files.held c.args.files.now) (texts ws) (λ bytes node. (length bytes ≤ source_limit) × IsRefusedFor fault bytes node))
+    c.as_slice.ensures.value (c.report_on-answer.ensures.refused fault h)
+
+pub returns-clause-read_fault : goal.returns-clause-read_fault
+returns-clause-read_fault g c = c.report_on-answer.ensures.read_fault
+
+pub returns-clause-usage : goal.returns-clause-usage
+returns-clause-usage g c =
+    subst (λ (ws : List (String Global)). (c.report_on-answer.result.report ≡ Usage) ↔ (command (texts ws) ≡ None))
+    c.as_slice.ensures.value c.report_on-answer.ensures.usage
+
+pub returns-clause-only_too_long : goal.returns-clause-only_too_long
+returns-clause-only_too_long g c =
+    subst (λ (ws : List (String Global)). IsTold (g.F.Files.held c.args.files.now) (texts ws) (λ bytes node. source_limit < length bytes) → IsUnlessCutOff (TooLong (source_limit + 1)) c.report_on-answer.result.report)
+    c.as_slice.ensures.value c.report_on-answer.ensures.only_too_long
+
+pub returns-clause-same_held : goal.returns-clause-same_held
+returns-clause-same_held g c = c.report_on-answer.ensures.same_held
+
+pub returns-clause-same_serves : goal.returns-clause-same_serves
+returns-clause-same_serves g c = c.report_on-answer.ensures.same_serves
