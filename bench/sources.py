@@ -1,7 +1,7 @@
 #!/usr/bin/env python3
 """Prints a Lustre program to time the search through its control states by: `sources.py FAMILY N`.
 
-Each program has a node `main` and no integers. FAMILY is one of
+Each program has a node `main`, and no integers but in the last two families. FAMILY is one of
 
     links       N latches in a row, each a step after the one before; the observer is true
     links-bad   the same, whose observer is false once an input has come through all of them
@@ -10,6 +10,8 @@ Each program has a node `main` and no integers. FAMILY is one of
     ring        N stations that hand a token on; no two of them have it
     modes       N latches, each with an input of its own, that are kept in one mode alone
     shared      the same with one input for all of them
+    counters    N counters, of which an input of N labels chooses the one that steps
+    memories    N counters up to ten: the one that is chosen is compared with ten, and steps where it is less
 """
 import sys
 
@@ -62,6 +64,33 @@ def modes(n, shared=False):
     return program(inputs, ["m", "mode"] + names("p", n) + names("l", n), held + ["mode = m xor toggle"] + after + [ok])
 
 
+def choice(n):
+    """A type of n labels."""
+    return f"type place = enum {{ {', '.join(names('P', n))} }};\n"
+
+
+def integers(n, local, equations):
+    """The text of a node of n integers and these Booleans over an input of n labels."""
+    body = "".join(f"  {line};\n" for line in equations)
+    ints = f"{', '.join(names('x', n))}: int;"
+    return f"{choice(n)}node main(at: place) returns (ok: bool);\nvar {ints} {local}\nlet\n{body}tel\n"
+
+
+def counters(n):
+    """n counters, of which one steps."""
+    steps = [f"x{i} = 0 -> if at = P{i} then pre x{i} + 1 else pre x{i}" for i in range(n)]
+    return integers(n, "", steps + ["ok = true"])
+
+
+def memories(n):
+    """n counters, of which one is compared with ten, and steps where it is less."""
+    local = " ".join(f"d{i}: bool; y{i}: bool when d{i};" for i in range(n))
+    here = [f"d{i} = at = P{i}" for i in range(n)]
+    less = [f"y{i} = ((0 -> pre x{i}) when d{i}) < (10 when d{i})" for i in range(n)]
+    steps = [f"x{i} = 0 -> if d{i} and current y{i} then pre x{i} + 1 else pre x{i}" for i in range(n)]
+    return integers(n, local, here + less + steps + ["ok = true"])
+
+
 FAMILIES = {
     "links": links,
     "links-bad": lambda n: links(n, strict=True),
@@ -70,6 +99,8 @@ FAMILIES = {
     "ring": ring,
     "modes": modes,
     "shared": lambda n: modes(n, shared=True),
+    "counters": counters,
+    "memories": memories,
 }
 
 

@@ -4,7 +4,7 @@ use crate::outside::add_bytes;
 use rv_base::{Many, Memory, Place, Sites};
 use rv_causality::{CauseFault, Quantity};
 use rv_invfile::FileFault;
-use rv_proofs::Certificate;
+use rv_proofs::{Certificate, Reason};
 use rv_run::{Report, text};
 use rv_source::SourceFault;
 use rv_syntax::TextFault;
@@ -32,6 +32,9 @@ fn report_in(alloc: Global, name: &str, rest: &str) -> Result<Option<Report>, Al
     if let Some(report) = replay_report(alloc, name, rest)? {
         return Ok(Some(report));
     }
+    if let Some(reason) = reason_in(alloc, name, rest)? {
+        return Ok(Some(Report::Rejected(reason)));
+    }
     match fault_in(alloc, name, rest)? {
         Some(fault) => Ok(Some(Report::Refused(fault))),
         None => Ok(None),
@@ -51,6 +54,44 @@ fn replay_report(alloc: Global, name: &str, rest: &str) -> Result<Option<Report>
         _ => file_fault(name, number, second).map(|fault| Report::BadFile(fault)),
     };
     Ok(report)
+}
+
+/// A reason by its name, its numbers and its valuation, as `noinitial 01`, `uncovered 1 10010` or `multipliers 1 2 0`.
+fn reason_in(alloc: Global, name: &str, rest: &str) -> Result<Option<Reason>, AllocError> {
+    if name == "noinitial" {
+        return Ok(Some(Reason::NoInitial(word_in(alloc, rest)?)));
+    }
+    let (first, rest) = rest.split_once(' ').unwrap_or((rest, ""));
+    let Ok(location) = first.parse::<u32>() else {
+        return Ok(None);
+    };
+    if name == "uncovered" {
+        return Ok(Some(Reason::Uncovered(location, word_in(alloc, rest)?)));
+    }
+    let (second, rest) = rest.split_once(' ').unwrap_or((rest, ""));
+    let Ok(entry) = second.parse::<u32>() else {
+        return Ok(None);
+    };
+    Ok(match name {
+        "unsettled" => Some(Reason::Unsettled(location, entry)),
+        "inclusion" => Some(Reason::Inclusion(location, entry)),
+        "observer" => Some(Reason::Observer(location, entry, word_in(alloc, rest)?)),
+        "target" => Some(Reason::Target(location, entry, word_in(alloc, rest)?)),
+        "multipliers" => match rest.parse::<u32>() {
+            Ok(number) => Some(Reason::Multipliers(location, entry, number)),
+            Err(_) => None,
+        },
+        _ => None,
+    })
+}
+
+/// A valuation by its digits.
+fn word_in(alloc: Global, digits: &str) -> Result<Many<bool>, AllocError> {
+    let mut word = Many::new(alloc);
+    for digit in digits.bytes() {
+        word.push(digit == b'1')?;
+    }
+    Ok(word)
 }
 
 /// A fault of a file.
@@ -75,6 +116,7 @@ fn plain_report(alloc: Global, name: &str, rest: &str) -> Option<Report> {
         "nodes" => Some(Report::Nodes(rest.parse::<u32>().ok()?)),
         "toolong" => Some(Report::TooLong(rest.parse::<u64>().ok()?)),
         "neverfalse" => Some(Report::NeverFalse),
+        "accepted" => Some(Report::Accepted),
         "readfault" => Some(Report::ReadFault),
         "usage" => Some(Report::Usage),
         "memory" => Some(Report::Memory),

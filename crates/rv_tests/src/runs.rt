@@ -25,6 +25,9 @@ const PROVE: &str = "reaver prove f m";
 /// The words of the one that replays the trace in the file `t` over it.
 const REPLAY: &str = "reaver replay f m t";
 
+/// The words of the one that checks the invariant in the file `t` over it.
+const CHECK: &str = "reaver check f m t";
+
 /// The answer on a row of one of these kinds. It is what is reported, whether it was shown, the status, and what is
 /// shown, with a backtick for its line feed.
 /// `run`: the words, the numbers of the loads and of the puts that fail, the text of the file `f`, and that of `t` where the row
@@ -32,8 +35,9 @@ const REPLAY: &str = "reaver replay f m t";
 /// `prove`: the text of `f`, whose node `m` is proved, where nothing fails;
 /// `replay`: the text of `f` and that of `t`, whose trace is replayed over the node `m` of `f`, where nothing fails. In a trace a
 /// `^` stands for a carriage return;
-/// `found`: the text of `f`, whose node `m` is proved, and what is shown of it replayed;
-/// `replaylong`: the same of a trace by its front, a part, how often it is repeated, and the back;
+/// `check`: the same of an invariant, which is checked;
+/// `found`: the text of `f`, whose node `m` is proved, and what is shown of it checked where it is Safe, and else replayed;
+/// `replaylong`: what `replay` does, the trace told by its front, a part, how often it is repeated, and the back;
 /// `surely`: the same over files and a sink that never fail;
 /// `long`: the same of a text by its front, a part, how often it is repeated, and the back. A `%` in the part stands for
 /// how often it stood before;
@@ -46,10 +50,11 @@ pub fn ran(alloc: Global, kind: &str, fields: &str) -> Result<Option<String>, Me
             let text = with_line_feeds(alloc, fields)?;
             Ok(Some(proved(alloc, text.as_bytes())?))
         }
-        "replay" => replayed(alloc, fields),
+        "replay" => done_with(alloc, REPLAY, fields),
+        "check" => done_with(alloc, CHECK, fields),
         "found" => {
             let text = with_line_feeds(alloc, fields)?;
-            Ok(Some(found_replayed(alloc, text.as_bytes())?))
+            Ok(Some(found_again(alloc, text.as_bytes())?))
         }
         "replaylong" => replayed_long(alloc, fields),
         "surely" => Ok(Some(ran_surely(alloc, fields)?)),
@@ -130,7 +135,7 @@ fn ran_with(alloc: Global, fields: &str) -> Result<Option<String>, Memory> {
     }
 }
 
-/// The text of a trace, with line feeds in place of backticks and carriage returns in place of `^`.
+/// The text of a document, with line feeds in place of backticks and carriage returns in place of `^`.
 fn with_line_ends(alloc: Global, text: &str) -> Result<String, AllocError> {
     let mut whole = String::new(alloc);
     for c in text.chars() {
@@ -143,42 +148,51 @@ fn with_line_ends(alloc: Global, text: &str) -> Result<String, AllocError> {
     Ok(whole)
 }
 
-/// What the replay of a trace does, both files told by their texts.
-fn replayed(alloc: Global, fields: &str) -> Result<Option<String>, Memory> {
-    let Some((source, trace)) = fields.split_once('~') else {
+/// What a command with a document does, both files told by their texts.
+fn done_with(alloc: Global, command: &str, fields: &str) -> Result<Option<String>, Memory> {
+    let Some((source, document)) = fields.split_once('~') else {
         return Ok(None);
     };
     let source = with_line_feeds(alloc, source)?;
-    let trace = with_line_ends(alloc, trace)?;
-    Ok(Some(replayed_over(alloc, source.as_bytes(), trace.as_bytes())?))
+    let document = with_line_ends(alloc, document)?;
+    Ok(Some(done_over(alloc, command, source.as_bytes(), document.as_bytes())?))
 }
 
-/// The same of a trace by its front, a part, how often it is repeated, and the back.
+/// What the replay of a trace does that is told by its front, a part, how often it is repeated, and the back.
 fn replayed_long(alloc: Global, fields: &str) -> Result<Option<String>, Memory> {
-    let Some((source, trace)) = fields.split_once('~') else {
+    let Some((source, document)) = fields.split_once('~') else {
         return Ok(None);
     };
     let source = with_line_feeds(alloc, source)?;
-    let text = repeated(alloc, trace)?;
-    let trace = with_line_ends(alloc, text.as_str())?;
-    Ok(Some(replayed_over(alloc, source.as_bytes(), trace.as_bytes())?))
+    let text = repeated(alloc, document)?;
+    let document = with_line_ends(alloc, text.as_str())?;
+    Ok(Some(done_over(alloc, REPLAY, source.as_bytes(), document.as_bytes())?))
 }
 
-/// What is done with these bytes of a trace under `t` and these of a source under `f`, where nothing fails.
-fn replayed_over(alloc: Global, source: &[u8], trace: &[u8]) -> Result<String, Memory> {
-    let words = words_of(alloc, REPLAY)?;
+/// What is done with these bytes of a document under `t` and these of a source under `f`, where nothing fails.
+fn done_over(
+    alloc: Global,
+    command: &str,
+    source: &[u8],
+    document: &[u8],
+) -> Result<String, Memory> {
+    let words = words_of(alloc, command)?;
     let mut files = files_of(alloc, source)?;
-    files.add("t", trace)?;
+    files.add("t", document)?;
     ran_failing(alloc, &words, &[], &[], &mut files)
 }
 
-/// What the replay of what `prove` shows of these bytes of a source does.
-fn found_replayed(alloc: Global, source: &[u8]) -> Result<String, Memory> {
+/// What the check or the replay of what `prove` shows of these bytes of a source does.
+fn found_again(alloc: Global, source: &[u8]) -> Result<String, Memory> {
     let words = words_of(alloc, PROVE)?;
     let mut files = files_of(alloc, source)?;
     let mut out = MemorySink::new(alloc);
-    let _outcome = run_in_memory(alloc, &words, &mut files, &mut out);
-    replayed_over(alloc, source, out.bytes())
+    let outcome = run_in_memory(alloc, &words, &mut files, &mut out);
+    let command = match outcome.report {
+        Report::Safe(_) => CHECK,
+        _ => REPLAY,
+    };
+    done_over(alloc, command, source, out.bytes())
 }
 
 /// Files that hold these bytes under `f`.
@@ -246,6 +260,8 @@ fn report_name(report: &Report) -> &'static str {
         Report::Violated(_) => "violated",
         Report::Unknown => "unknown",
         Report::Nodes(_) => "nodes",
+        Report::Accepted => "accepted",
+        Report::Rejected(_) => "rejected",
         Report::Falsified(_) => "falsified",
         Report::AssertionFails(_, _) => "assertion",
         Report::NeverFalse => "neverfalse",
