@@ -18,12 +18,11 @@ use rv_types::well_formed_programs;
 use std::alloc::Global;
 
 /// How many nodes the diagrams may have.
-const NODES: u32 = 4_194_304;
+const NODES: u32 = 200_000;
 
-/// What is counted: the nodes that the reading holds, the cases of the initial control states and those of all.
+/// What is counted: the cases of the initial control states and those of all.
 #[derive(Debug, Drop)]
 pub struct Counted {
-    pub held: u32,
     pub initial: usize,
     pub all: usize,
 }
@@ -43,7 +42,6 @@ fn cases_of(alloc: Global, flat: &Flat) -> Result<Counted, StoreFault>
     requires program { (program : ProgramTree) × (main : Identifier) × AreWell program × IsNode program main × IsFlatOf program main flat.now }
 {
     let mut reading = Reading::new(alloc, flat, NODES)?;
-    let held = reading.held();
     let first = reading.initial()?;
     let initial = reading.cases(&first)?;
     let every = Frozen {
@@ -52,14 +50,13 @@ fn cases_of(alloc: Global, flat: &Flat) -> Result<Counted, StoreFault>
     };
     let all = reading.cases(&every)?;
     Ok(Counted {
-        held,
         initial: initial.len(),
         all: all.len(),
     })
 }
 
 /// The cases of the source with the main node `main`.
-pub fn counted(alloc: Global, text: &str) -> Result<Ended, Memory> {
+pub fn count_cases(alloc: Global, text: &str) -> Result<Ended, Memory> {
     if text.len() > SOURCE_LIMIT {
         return Ok(Ended::NoSource);
     }

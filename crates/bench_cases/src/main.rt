@@ -1,10 +1,10 @@
 //! The cases of a source, to time them by. Reads from standard input a source whose main node is `main`, and prints how many cases its
-//! initial control states and all its control states have, and how many nodes the reading of its control has.
+//! initial control states and all its control states have, where they take no more than 200,000 nodes.
 #![tactic(auto)]
 
 mod counted;
 
-use crate::counted::{Counted, Ended, counted};
+use crate::counted::{Counted, Ended, count_cases};
 use rv_base::Memory;
 use std::alloc::{AllocError, Global};
 use std::io;
@@ -17,9 +17,9 @@ fn add_line(text: &mut String, line: &str) -> Result<(), AllocError> {
 
 /// Prints what was counted of a text.
 fn tell(rt: &impl Print, alloc: Global, text: &str) -> io::Result<()> {
-    match counted(alloc, text) {
-        Ok(Ended::Counted(Counted { held, initial, all })) => println!(rt;
-            "{initial} cases of the initial control states, {all} of all, {held} nodes"
+    match count_cases(alloc, text) {
+        Ok(Ended::Counted(Counted { initial, all })) => println!(rt;
+            "{initial} cases of the initial control states, {all} of all"
         ),
         Ok(Ended::NoSource) => println!(rt; "no source"),
         Ok(Ended::Nodes) => println!(rt; "more nodes than the limit"),

@@ -1,7 +1,7 @@
 use Rattle.rv_tree.specs.Tree.{program_tree}
 use Rattle.rv_types.specs.Instances.{name_at}
 use Rattle.rv_run.proofs.Judging.{well, is_node}
-use Rattle.bench_cases.proofs.counted.counted.Goals as goal
+use Rattle.bench_cases.proofs.counted.count_cases.Goals as goal
 
 pub cases_of-requires-clause-program : goal.cases_of-requires-clause-program
 cases_of-requires-clause-program c =
