@@ -3,8 +3,8 @@ use Rattle.rv_types.specs.Instances.{name_at}
 use Rattle.rv_run.proofs.Judging.{well, is_node}
 use Rattle.rv_tests.proofs.cased.cased.Goals as goal
 
-pub told-requires-clause-program : goal.told-requires-clause-program
-told-requires-clause-program c =
+pub told-requires : goal.told-requires
+told-requires c =
     let s = c.in-Ok.source in
     let p = program_tree s.program in
     let fits = c.in-Ok.ensures.found.fits in (
