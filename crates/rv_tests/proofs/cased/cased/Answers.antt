@@ -7,10 +7,13 @@ pub told-requires : goal.told-requires
 told-requires c =
     let s = c.in-Ok.source in
     let p = program_tree s.program in
-    let fits = c.in-Ok.ensures.found.fits in (
-      p,
-      name_at p s.typed.main,
-      well p s.typed s.order fits (λ m text settled. c.well_formed_programs.ensures p m s.typed text settled),
-      is_node p s.typed s.order fits (λ m text settled. c.well_formed_programs.ensures p m s.typed text settled),
-      c.in_ok-flat.ensures.flat,
-    )
+    let fits = c.in-Ok.ensures.found.fits in
+    record {
+      program = (
+        p,
+        name_at p s.typed.main,
+        well p s.typed s.order fits (λ m text settled. c.well_formed_programs.ensures p m s.typed text settled),
+        is_node p s.typed s.order fits (λ m text settled. c.well_formed_programs.ensures p m s.typed text settled),
+        c.in_ok-flat.ensures.flat,
+      );
+    }
