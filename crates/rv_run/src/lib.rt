@@ -1,10 +1,10 @@
-//! What the program does with the words of its command line: over any files and any sink it reads a source, judges it or replays a
-//! trace over it, and shows one report.
+//! What the program does with the words of its command line: over any files and any sink it reads a source, judges it, replays a
+//! trace over it or checks an invariant file, and shows one report.
 //!
 //! It promises what each report says of the bytes under the named files, which report comes where, what is shown and the status
-//! (the clauses of `run`). It joins the readers of sources and of traces, the builder of flat systems, the box pass and the replay.
-//! Begin with running.rt, then prove.rt with judge.rt and retrace.rt, and specs/Programs.antt and specs/Traced.antt for what the
-//! reports say.
+//! (the clauses of `run`). It joins the readers of sources, traces and invariant files, the builder of flat systems, the box pass, the
+//! checker and the replay. Begin with running.rt, then prove.rt with judge.rt, retrace.rt and inspect.rt, and specs/Programs.antt,
+//! specs/Traced.antt and specs/Checked.antt for what the reports say.
 #![tactic(auto)]
 
 mod inspect;

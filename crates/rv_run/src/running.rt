@@ -232,19 +232,23 @@ fn show<S: Sink>(alloc: Global, answer: &Answer, out: &mut S) -> Sent
 /// Does what the words ask for, and shows the text of the report, or the document of a trace, by one put. The words are those of the command
 /// line, the program's name first; each has to be served by the files.
 ///
-/// `prove FILE NODE` answers Safe, Violated or Unknown on the source under FILE and its node NODE, and `replay FILE NODE TRACE` what the
-/// trace under TRACE does to it. Usage comes exactly where the words are neither: not four of which the second is `prove`, and not
-/// five of which it is `replay`. ReadFault comes only where the files count one more fault, and Memory where there is no memory.
-/// Beside these two, TooLong comes exactly where the source is longer than 1,048,576 bytes, or where it is accepted and the trace
+/// `prove FILE NODE` answers Safe, Violated or Unknown on the source under FILE and its node NODE, `replay FILE NODE TRACE` what the
+/// trace under TRACE does to it, and `check FILE NODE INVARIANT` whether the invariant file under INVARIANT is accepted for it. Usage
+/// comes exactly where the words are none of these: not four of which the second is `prove`, and not five of which it is `replay` or
+/// `check`. ReadFault comes only where the files count one more fault, and Memory where there is no memory.
+/// Beside these two, TooLong comes exactly where the source is longer than 1,048,576 bytes, or where it is accepted and the document
 /// is longer than 67,108,864 bytes; Refused exactly where the source's bytes have no tree, with the fault of their first offending
 /// token, or where their program breaks a rule with this main node, with its first fault of names, types and clocks, and then of
 /// recursion, sizes, cycles and weights, where any cycle may be told.
 ///
-/// Of an accepted program that has no integers and is safe `prove` answers Safe, with a certificate of it; of one that has none and is not
-/// safe, Violated, with a shortest trace that falsifies it, whose document is shown in place of a text; of one that has integers, Unknown.
-/// Nodes comes in place of the first two only where the program has many diagram variables. Of an accepted program `replay` answers BadFile exactly where the trace's bytes are the document of no trace of it,
-/// with their first fault; otherwise the first instant that ends the replay decides, by Outgrown, AssertionFails or Falsified in
-/// this order, and NeverFalse comes exactly where there is none.
+/// Of an accepted program `prove` answers Safe exactly where some closed box claim of it is good, with a certificate, whose document is
+/// shown in place of a text. Where none is, it answers Unknown for a program with integers. One without integers has such a claim
+/// exactly where it is safe, and is else Violated, with a shortest trace that falsifies it, whose document is shown. `replay` answers
+/// BadFile exactly where the trace's bytes are the document of no trace of the program, with their first fault; otherwise the first
+/// instant that ends the replay decides, by Outgrown, AssertionFails or Falsified in this order, and NeverFalse comes exactly where
+/// there is none. `check` answers BadFile exactly where the file's bytes are the document of no certificate of the program, with their
+/// first fault; otherwise Accepted where the certificate is accepted, and Rejected with the first reason where it is not. Nodes comes
+/// in place of what `prove` and `check` answer only where the program has many diagram variables.
 pub fn run<F: Files, S: Sink>(
     alloc: Global,
     words: &Vec<String>,
