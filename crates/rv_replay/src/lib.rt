@@ -11,4 +11,4 @@ mod replaying;
 
 pub use laws::flat_traces;
 pub use replayed::{ReplayFault, Replayed};
-pub use replaying::replay;
+pub use replaying::{replay, replay_flat};

@@ -5,13 +5,14 @@ ghost use Rattle.rv_base.specs.declared.value.Place.{Place as PlaceModel};
 ghost use Rattle.rv_tree.specs.Tree.{program_tree};
 ghost use Rattle.rv_types.specs.Instances.{name_at};
 ghost use Rattle.rv_instances.specs.Fitting.{Fits};
+ghost use Rattle.rv_flat.specs.FlatOf.{IsFlatOf};
 ghost use Rattle.rv_replay.specs.Replays.{FailsAt, IsFalsifiedAt, IsUnlessMemory, NeverEnds, OutgrowsAt};
 ghost use Rattle.rv_replay.specs.Traces.{IsTrace};
 
 use crate::playing::play;
 use crate::replayed::{ReplayFault, Replayed};
 use rv_base::Trace;
-use rv_flat::{flat_states, steps_give_run};
+use rv_flat::{Flat, flat_states, steps_give_run};
 use rv_flatten::flatten;
 use rv_instances::Source;
 use rv_meaning::{run_is_instants, some_run, states_of_run};
@@ -47,12 +48,45 @@ pub fn replay(alloc: Global, source: &Source, trace: &Trace) -> Result<Replayed,
         → OutgrowsAt (program_tree source.now.program) (name_at (program_tree source.now.program) source.now.typed.main) trace.now k p
         → IsUnlessMemory (Err (ReplayFault.Outgrown k p)) result }
 {
+    let flat = flatten(alloc, source)?;
+    replay_flat(alloc, source, &flat, trace)
+}
+
+/// The same of an accepted source with its flat system, which is handed in: who replays many traces flattens the source once.
+pub fn replay_flat(
+    alloc: Global,
+    source: &Source,
+    flat: &Flat,
+    trace: &Trace,
+) -> Result<Replayed, ReplayFault>
+    requires fits { Fits (program_tree source.now.program) source.now.typed source.now.order }
+    requires flat { IsFlatOf (program_tree source.now.program) (name_at (program_tree source.now.program) source.now.typed.main) flat.now }
+    requires trace { IsTrace (program_tree source.now.program) (name_at (program_tree source.now.program) source.now.typed.main) trace.now }
+    ensures falsified { (k : ℕ) → result ≡ Ok (Replayed.Falsified k)
+        → IsFalsifiedAt (program_tree source.now.program) (name_at (program_tree source.now.program) source.now.typed.main) trace.now k }
+    ensures only_falsified { (k : ℕ)
+        → IsFalsifiedAt (program_tree source.now.program) (name_at (program_tree source.now.program) source.now.typed.main) trace.now k
+        → IsUnlessMemory (Ok (Replayed.Falsified k)) result }
+    ensures fails { (k : ℕ) (p : PlaceModel) → result ≡ Ok (Replayed.AssertionFails k p)
+        → FailsAt (program_tree source.now.program) (name_at (program_tree source.now.program) source.now.typed.main) trace.now k p }
+    ensures only_fails { (k : ℕ) (p : PlaceModel)
+        → FailsAt (program_tree source.now.program) (name_at (program_tree source.now.program) source.now.typed.main) trace.now k p
+        → IsUnlessMemory (Ok (Replayed.AssertionFails k p)) result }
+    ensures never { result ≡ Ok Replayed.NeverFalse
+        → NeverEnds (program_tree source.now.program) (name_at (program_tree source.now.program) source.now.typed.main) trace.now }
+    ensures only_never { NeverEnds (program_tree source.now.program) (name_at (program_tree source.now.program) source.now.typed.main) trace.now
+        → IsUnlessMemory (Ok Replayed.NeverFalse) result }
+    ensures outgrown { (k : ℕ) (p : PlaceModel) → result ≡ Err (ReplayFault.Outgrown k p)
+        → OutgrowsAt (program_tree source.now.program) (name_at (program_tree source.now.program) source.now.typed.main) trace.now k p }
+    ensures only_outgrown { (k : ℕ) (p : PlaceModel)
+        → OutgrowsAt (program_tree source.now.program) (name_at (program_tree source.now.program) source.now.typed.main) trace.now k p
+        → IsUnlessMemory (Err (ReplayFault.Outgrown k p)) result }
+{
     well_formed_programs();
     run_is_instants();
     states_of_run();
     some_run();
     steps_give_run();
     flat_states();
-    let flat = flatten(alloc, source)?;
-    play(alloc, &flat, trace)
+    play(alloc, flat, trace)
 }
