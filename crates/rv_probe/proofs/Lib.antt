@@ -1,0 +1,5 @@
+pub mod Cuts
+pub mod Found
+pub mod Labelled
+pub mod Made
+pub mod Typed
