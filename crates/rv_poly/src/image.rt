@@ -1,0 +1,222 @@
+// The image of a polyhedron under updates.
+ghost use Rattle.std.specs.Prelude.{◌≡◌, ◌⊎◌, ℕ, ◌<◌, ◌≤◌, ◌+◌, ◌^◌, ℤ, pos, ◌-ℤ◌, ◌≤ℤ◌, List, ◌++◌, length, take, All, MatchBool, IfOk, IfSome, IsSomeAnd, slice_index_or};
+ghost use Rattle.std.specs.Int.RustNames.{unsigned_abs};
+ghost use Rattle.rv_rows.specs.declared.linear.Row.{Row as RowModel};
+ghost use Rattle.rv_rows.specs.Rows.{Holds, RowWithin, coefficient};
+ghost use Rattle.rv_rows.specs.Forms.{FormWithin, forms_width, number, values};
+ghost use Rattle.rv_rows.specs.Tight.{Fits};
+ghost use Rattle.rv_seek.specs.Least.{bounded};
+ghost use Rattle.rv_poly.specs.Points.{HasPoint};
+ghost use Rattle.rv_poly.specs.Polys.{IsPoly};
+ghost use Rattle.rv_poly.specs.Images.{IsImage, ShowsAfter, AreUpdates, AreMoves, IsNarrow, StaysWithin, IsCut, AreCut};
+
+use crate::bounds::{Bounding, form_bound};
+use crate::close::{add_sides, copy};
+use crate::meet::add_rows;
+use crate::poly::Poly;
+use crate::units::add_units;
+use rv_base::{Many, Memory};
+use rv_rows::{Form, Row, number_at};
+use std::alloc::Global;
+
+/// The greatest magnitude of a number of an update.
+const MOST_NUMBER: u128 = 1 << 41;
+
+/// How many updates there may be.
+const MOST_UPDATES: usize = 128;
+
+/// The points that updates give at the whole points of rows, inputs included.
+#[derive(Clone, Copy)]
+pub struct Image<'a> {
+    /// The rows.
+    pub rows: &'a Many<Row>,
+    /// The form that gives each column of a new point.
+    pub updates: &'a Many<Form>,
+}
+
+/// The row's left side minus its bound.
+fn form_of(row: Row) -> Form
+    requires { unsigned_abs row.bound ≤ 2 ^ 78 }
+    ensures coefficients { result.coefficients ≡ row.coefficients }
+    ensures constant { result.constant ≡ pos 0 -ℤ row.bound }
+{
+    let Row {
+        coefficients,
+        bound,
+    } = row;
+    Form {
+        coefficients,
+        constant: 0 - bound,
+    }
+}
+
+/// A bound of the left side after the updates.
+fn bound_after(
+    alloc: Global,
+    rows: &Many<Row>,
+    updates: &Many<Form>,
+    side: &Many<i128>,
+) -> Result<Option<i128>, Memory>
+    requires rows { All (RowWithin (2 ^ 60)) rows.now × (length rows.now < 2 ^ 32) }
+    requires updates { AreUpdates updates.now }
+    requires width { length side.now ≡ length updates.now }
+    requires side { All (λ c. unsigned_abs c ≤ 2 ^ 30) side.now }
+    ensures fits { IfOk result (λ o. IfSome o (λ k. unsigned_abs k ≤ 2 ^ 60)) }
+    ensures sound { IfOk result (λ o. IfSome o (λ k. (point : List ℤ) → IsImage rows.now updates.now point → Holds (bounded side.now k) point)) }
+    ensures shown { IfOk result (λ o. (x : ℤ) → unsigned_abs x ≤ 2 ^ 60 → ShowsAfter rows.now updates.now (bounded side.now x) → IsSomeAnd o (λ k. k ≤ℤ x)) }
+{
+    let row = Row {
+        coefficients: copy(alloc, side)?,
+        bound: 0,
+    };
+    let before = row.substitute(alloc, updates)?;
+    let form = form_of(before);
+    let found = form_bound(alloc, rows, &form)?;
+    Ok(found)
+}
+
+impl Bounding for Image<'_> {
+    ghost has = { λ i point. IsImage i.rows.now i.updates.now point };
+
+    ghost shows = { λ i r. ShowsAfter i.rows.now i.updates.now r };
+
+    ghost ready = { λ i. (All (RowWithin (2 ^ 60)) i.rows.now × (length i.rows.now < 2 ^ 32)) × AreUpdates i.updates.now };
+
+    ghost takes = { λ i side. length side ≡ length i.updates.now };
+
+    fn bound_of(&self, alloc: Global, side: &Many<i128>) -> Result<Option<i128>, Memory> {
+        let found = bound_after(alloc, self.rows, self.updates, side)?;
+        Ok(found)
+    }
+}
+
+/// Whether no number has a magnitude above that of an update's numbers.
+fn are_small(numbers: &Many<i128>) -> bool
+    ensures { MatchBool result (All (λ c. unsigned_abs c ≤ 2 ^ 41) numbers.now) (¬ (All (λ c. unsigned_abs c ≤ 2 ^ 41) numbers.now)) }
+{
+    for number in numbers.as_slice() {
+        if number.unsigned_abs() > MOST_NUMBER {
+            return false;
+        }
+    }
+    true
+}
+
+/// Whether no number of the form, its constant included, has a magnitude above that.
+fn is_small(form: &Form) -> bool
+    ensures { MatchBool result (FormWithin (2 ^ 41) form.now) (¬ (FormWithin (2 ^ 41) form.now)) }
+{
+    if !are_small(&form.coefficients) {
+        return false;
+    }
+    form.constant.unsigned_abs() <= MOST_NUMBER
+}
+
+/// Whether no form has a number with a magnitude above that.
+fn are_all_small(forms: &Many<Form>) -> bool
+    ensures { MatchBool result (All (FormWithin (2 ^ 41)) forms.now) (¬ (All (FormWithin (2 ^ 41)) forms.now)) }
+{
+    for form in forms.as_slice() {
+        if !is_small(form) {
+            return false;
+        }
+    }
+    true
+}
+
+/// Whether all numbers of the forms, and how many forms there are, are within the limits of updates.
+fn are_updates(updates: &Many<Form>) -> bool
+    requires { All (λ f. length f.coefficients ≡ forms_width updates.now) updates.now }
+    ensures { MatchBool result (AreUpdates updates.now) (¬ (AreUpdates updates.now)) }
+{
+    if !are_all_small(updates) {
+        return false;
+    }
+    updates.len() <= MOST_UPDATES
+}
+
+/// The row, cut or filled with zeros to so many columns.
+fn cut(alloc: Global, row: &Row, width: usize) -> Result<Row, Memory>
+    requires { Fits row.now }
+    ensures cut { IfOk result (IsCut width row.now) }
+    ensures fits { IfOk result Fits }
+{
+    let mut coefficients = Many::new(alloc);
+    for column in 0..width {
+        let number = number_at(&row.coefficients, column);
+        coefficients.push(number)?;
+    }
+    Ok(Row {
+        coefficients,
+        bound: row.bound,
+    })
+}
+
+/// The rows, each cut or filled with zeros to so many columns.
+fn cut_rows(alloc: Global, rows: &Many<Row>, width: usize) -> Result<Many<Row>, Memory>
+    requires { All Fits rows.now }
+    ensures { IfOk result (AreCut width rows.now (length rows.now)) }
+{
+    let mut new = Many::new(alloc);
+    for row in rows.as_slice() {
+        let one = cut(alloc, row, width)?;
+        new.push(one)?;
+    }
+    Ok(new)
+}
+
+/// Rows that each updated point of the premises meets.
+fn updated_rows(alloc: Global, premises: &Many<Row>, updates: &Many<Form>) -> Result<Poly, Memory>
+    requires fits { All Fits premises.now }
+    requires few { length premises.now ≤ 1024 }
+    requires updates { AreUpdates updates.now }
+    ensures poly { IfOk result (λ p. IsPoly p.rows) }
+    ensures few { IfOk result (λ p. length p.rows ≤ 1024) }
+    ensures width { IfOk result (λ p. All (λ r. length r.coefficients ≡ length updates.now) p.rows) }
+    ensures contains { IfOk result (λ p. (point : List ℤ) → IsImage premises.now updates.now point → HasPoint p.rows point) }
+    ensures exact { IfOk result (λ p. AreMoves updates.now → All (IsNarrow (length updates.now)) premises.now → All (StaysWithin updates.now) premises.now → (point : List ℤ) → length point ≡ length updates.now → HasPoint p.rows point → IsImage premises.now updates.now point) }
+{
+    let width = updates.len();
+    let sides = cut_rows(alloc, premises, width)?;
+    let set = Image {
+        rows: premises,
+        updates,
+    };
+    let mut rows = Many::new(alloc);
+    add_sides(alloc, &set, &sides, width, &mut rows)?;
+    add_units(alloc, &set, width, &mut rows)?;
+    Ok(Poly { rows })
+}
+
+impl Poly {
+    /// Rows that the updated points meet: those that the updates give at each point of the polyhedron that meets the rows, too. There is one
+    /// update for each column; the rows and the updates may be wider, and the further columns are inputs, which a point may have any of. Where
+    /// each update is its own column plus a constant, the rows have no input, and the rows of both lists, as they are and moved by the constants,
+    /// are within the limits of kept rows and at most 1,024, the answer has no other points. The only error is want of memory.
+    pub fn after(
+        &self,
+        alloc: Global,
+        rows: &Many<Row>,
+        updates: &Many<Form>,
+    ) -> Result<Poly, Memory>
+        requires poly { IsPoly self.now.rows }
+        requires width { All (λ r. length r.coefficients ≡ length updates.now) self.now.rows }
+        requires updates { All (λ f. length f.coefficients ≡ forms_width updates.now) updates.now }
+        ensures poly { IfOk result (λ p. IsPoly p.rows) }
+        ensures few { IfOk result (λ p. length p.rows ≤ 1024) }
+        ensures width { IfOk result (λ p. All (λ r. length r.coefficients ≡ length updates.now) p.rows) }
+        ensures contains { IfOk result (λ p. (point : List ℤ) → HasPoint self.now.rows point → HasPoint rows.now point → HasPoint p.rows (values updates.now point)) }
+        ensures exact { IfOk result (λ p. AreUpdates updates.now → AreMoves updates.now → All (IsNarrow (length updates.now)) rows.now → All Fits rows.now → All (StaysWithin updates.now) (self.now.rows ++ rows.now) → length self.now.rows + length rows.now ≤ 1024 → (point : List ℤ) → length point ≡ length updates.now → HasPoint p.rows point → IsImage (self.now.rows ++ rows.now) updates.now point) }
+    {
+        if !are_updates(updates) {
+            return Ok(Poly {
+                rows: Many::new(alloc),
+            });
+        }
+        let mut premises = Many::new(alloc);
+        add_rows(alloc, &mut premises, &self.rows)?;
+        add_rows(alloc, &mut premises, rows)?;
+        let found = updated_rows(alloc, &premises, updates)?;
+        Ok(found)
+    }
+}
