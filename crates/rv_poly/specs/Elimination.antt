@@ -51,7 +51,8 @@ pub record AreFreeTaken (k : ℕ) (rows : List Row) (n : ℕ) (old new : Elimina
 
 -- The combination with a row whose coefficient at column k is negative was handed in, and none with another.
 abbrev pub IsPairTaken : ℕ → Row → Row → Eliminated → Eliminated → Type 0
-IsPairTaken k p q old new = ((coefficient k q <ℤ pos 0) × ((r : Row) × IsCombined k p q r × AreKept (r ∷ []) old new)) ⊎ ((pos 0 ≤ℤ coefficient k q) × (new ≡ old))
+IsPairTaken k p q old new = ((coefficient k q <ℤ pos 0) × ((r : Row) × IsCombined k p q r × AreKept (r ∷ []) old new))
+    ⊎ ((pos 0 ≤ℤ coefficient k q) × (new ≡ old))
 
 -- So were the combinations of a row with those of the first n rows whose coefficient is negative.
 pub record ArePairsTaken (k : ℕ) (p : Row) (rows : List Row) (n : ℕ) (old new : Eliminated) : Type 0 where
@@ -72,6 +73,7 @@ pub record AreRowsPaired (k : ℕ) (rows : List Row) (n : ℕ) (old new : Elimin
   pub kept : AreKept part old new
   pub known : (r : Row) → Contains part r
       → (p : Row) × (q : Row) × Contains rows p × Contains rows q × (pos 0 <ℤ coefficient k p) × (coefficient k q <ℤ pos 0) × IsCombined k p q r
-  pub found : (i : ℕ) (d : Row) (q : Row) → i < n → i < length rows → pos 0 <ℤ coefficient k (slice_index_or rows i d) → Contains rows q → coefficient k q <ℤ pos 0
+  pub found : (i : ℕ) (d : Row) (q : Row) → i < n → i < length rows → pos 0 <ℤ coefficient k (slice_index_or rows i d) → Contains rows q
+      → coefficient k q <ℤ pos 0
       → (r : Row) × IsCombined k (slice_index_or rows i d) q r × Contains part r
   pub count : length part ≤ positives k (take n rows) * negatives k rows

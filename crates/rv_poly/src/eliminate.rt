@@ -7,7 +7,8 @@ ghost use Rattle.rv_rows.specs.Tight.{Fits};
 ghost use Rattle.rv_poly.specs.Points.{HasPoint, HasRational};
 ghost use Rattle.rv_poly.specs.Polys.{IsPoly, rows_width};
 ghost use Rattle.rv_poly.specs.Projection.{IsCombined, IsProjected};
-ghost use Rattle.rv_poly.specs.Elimination.{AreKept, IsFreeTaken, AreFreeTaken, IsPairTaken, ArePairsTaken, IsRowPaired, AreRowsPaired, IsRowWithin, positives, negatives, zeros};
+ghost use Rattle.rv_poly.specs.Elimination.{AreKept, IsFreeTaken, AreFreeTaken, IsPairTaken, ArePairsTaken};
+ghost use Rattle.rv_poly.specs.Elimination.{IsRowPaired, AreRowsPaired, IsRowWithin, positives, negatives, zeros};
 
 use crate::meet::copied;
 use crate::poly::Poly;
@@ -223,7 +224,9 @@ impl Poly {
         ensures free { IfOk result (λ e. All (λ r. coefficient k r ≡ pos 0) e.rows) }
         ensures points { IfOk result (λ e. (point : List ℤ) → HasPoint self.now.rows point → HasPoint e.rows point) }
         ensures exact { IfOk result (λ e. e.dropped ≡ 0 → (d : ℕ) (xs : List ℤ) → k < length xs → HasRational e.rows d xs ↔ IsProjected self.now.rows k d xs) }
-        ensures sizes { IfOk result (λ e. (m c : ℕ) → All (IsRowWithin m c) self.now.rows → positives k self.now.rows * negatives k self.now.rows + zeros k self.now.rows ≤ 1024 → 2 * m * m ≤ 2 ^ 30 → 2 * m * c ≤ 2 ^ 60 → e.dropped ≡ 0) }
+        ensures sizes { IfOk result (λ e. (m c : ℕ) → All (IsRowWithin m c) self.now.rows
+            → positives k self.now.rows * negatives k self.now.rows + zeros k self.now.rows ≤ 1024 → 2 * m * m ≤ 2 ^ 30 → 2 * m * c ≤ 2 ^ 60
+            → e.dropped ≡ 0) }
     {
         let column = k as usize;
         let mut step = Eliminated {

@@ -1,5 +1,6 @@
 // The image of a polyhedron under updates.
-ghost use Rattle.std.specs.Prelude.{◌≡◌, ◌⊎◌, ℕ, ◌<◌, ◌≤◌, ◌+◌, ◌^◌, ℤ, pos, ◌-ℤ◌, ◌≤ℤ◌, List, ◌++◌, length, take, All, MatchBool, IfOk, IfSome, IsSomeAnd, slice_index_or};
+ghost use Rattle.std.specs.Prelude.{◌≡◌, ◌⊎◌, ℕ, ◌<◌, ◌≤◌, ◌+◌, ◌^◌, ℤ, pos, ◌-ℤ◌};
+ghost use Rattle.std.specs.Prelude.{◌≤ℤ◌, List, ◌++◌, length, take, All, MatchBool, IfOk, IfSome, IsSomeAnd, slice_index_or};
 ghost use Rattle.std.specs.Int.RustNames.{unsigned_abs};
 ghost use Rattle.rv_rows.specs.declared.linear.Row.{Row as RowModel};
 ghost use Rattle.rv_rows.specs.Rows.{Holds, RowWithin, coefficient};
@@ -174,7 +175,9 @@ fn updated_rows(alloc: Global, premises: &Many<Row>, updates: &Many<Form>) -> Re
     ensures few { IfOk result (λ p. length p.rows ≤ 1024) }
     ensures width { IfOk result (λ p. All (λ r. length r.coefficients ≡ length updates.now) p.rows) }
     ensures contains { IfOk result (λ p. (point : List ℤ) → IsImage premises.now updates.now point → HasPoint p.rows point) }
-    ensures exact { IfOk result (λ p. AreMoves updates.now → All (IsNarrow (length updates.now)) premises.now → All (StaysWithin updates.now) premises.now → (point : List ℤ) → length point ≡ length updates.now → HasPoint p.rows point → IsImage premises.now updates.now point) }
+    ensures exact { IfOk result (λ p. AreMoves updates.now → All (IsNarrow (length updates.now)) premises.now
+        → All (StaysWithin updates.now) premises.now → (point : List ℤ) → length point ≡ length updates.now → HasPoint p.rows point
+        → IsImage premises.now updates.now point) }
 {
     let width = updates.len();
     let sides = cut_rows(alloc, premises, width)?;
@@ -205,8 +208,11 @@ impl Poly {
         ensures poly { IfOk result (λ p. IsPoly p.rows) }
         ensures few { IfOk result (λ p. length p.rows ≤ 1024) }
         ensures width { IfOk result (λ p. All (λ r. length r.coefficients ≡ length updates.now) p.rows) }
-        ensures contains { IfOk result (λ p. (point : List ℤ) → HasPoint self.now.rows point → HasPoint rows.now point → HasPoint p.rows (values updates.now point)) }
-        ensures exact { IfOk result (λ p. AreUpdates updates.now → AreMoves updates.now → All (IsNarrow (length updates.now)) rows.now → All Fits rows.now → All (StaysWithin updates.now) (self.now.rows ++ rows.now) → length self.now.rows + length rows.now ≤ 1024 → (point : List ℤ) → length point ≡ length updates.now → HasPoint p.rows point → IsImage (self.now.rows ++ rows.now) updates.now point) }
+        ensures contains { IfOk result (λ p. (point : List ℤ) → HasPoint self.now.rows point → HasPoint rows.now point
+            → HasPoint p.rows (values updates.now point)) }
+        ensures exact { IfOk result (λ p. AreUpdates updates.now → AreMoves updates.now → All (IsNarrow (length updates.now)) rows.now
+            → All Fits rows.now → All (StaysWithin updates.now) (self.now.rows ++ rows.now) → length self.now.rows + length rows.now ≤ 1024
+            → (point : List ℤ) → length point ≡ length updates.now → HasPoint p.rows point → IsImage (self.now.rows ++ rows.now) updates.now point) }
     {
         if !are_updates(updates) {
             return Ok(Poly {

@@ -46,10 +46,18 @@ impl Poly {
         ensures poly { IfOk result (λ p. IsPoly p.rows) }
         ensures few { IfOk result (λ p. length p.rows ≤ 1024) }
         ensures contains { IfOk result (λ p. (point : List ℤ) → HasPoint self.now.rows point ⊎ HasPoint other.now.rows point → HasPoint p.rows point) }
-        ensures first { IfOk result (λ p. length self.now.rows + length other.now.rows ≤ 1024 → (i : ℕ) (d : RowModel) → i < length self.now.rows → ShowsAtOnce other.now.rows (slice_index_or self.now.rows i d) → Covers p.rows (slice_index_or self.now.rows i d)) }
-        ensures second { IfOk result (λ p. length self.now.rows + length other.now.rows ≤ 1024 → (i : ℕ) (d : RowModel) → i < length other.now.rows → ShowsAtOnce self.now.rows (slice_index_or other.now.rows i d) → Covers p.rows (slice_index_or other.now.rows i d)) }
-        ensures sides { IfOk result (λ p. length self.now.rows + length other.now.rows ≤ 1024 → (i : ℕ) (d : RowModel) (x : ℤ) → i < length (self.now.rows ++ other.now.rows) → unsigned_abs x ≤ 2 ^ 60 → ShowsAtOnce self.now.rows (bounded (slice_index_or (self.now.rows ++ other.now.rows) i d).coefficients x) → ShowsAtOnce other.now.rows (bounded (slice_index_or (self.now.rows ++ other.now.rows) i d).coefficients x) → HasSide p.rows (slice_index_or (self.now.rows ++ other.now.rows) i d).coefficients x) }
-        ensures units { IfOk result (λ p. length p.rows < 1024 → (side : List ℤ) (x : ℤ) → IsUnitSide (rows_width (self.now.rows ++ other.now.rows)) side → unsigned_abs x ≤ 2 ^ 60 → ShowsAtOnce self.now.rows (bounded side x) → ShowsAtOnce other.now.rows (bounded side x) → HasSide p.rows side x) }
+        ensures first { IfOk result (λ p. length self.now.rows + length other.now.rows ≤ 1024 → (i : ℕ) (d : RowModel) → i < length self.now.rows
+            → ShowsAtOnce other.now.rows (slice_index_or self.now.rows i d) → Covers p.rows (slice_index_or self.now.rows i d)) }
+        ensures second { IfOk result (λ p. length self.now.rows + length other.now.rows ≤ 1024 → (i : ℕ) (d : RowModel) → i < length other.now.rows
+            → ShowsAtOnce self.now.rows (slice_index_or other.now.rows i d) → Covers p.rows (slice_index_or other.now.rows i d)) }
+        ensures sides { IfOk result (λ p. length self.now.rows + length other.now.rows ≤ 1024 → (i : ℕ) (d : RowModel) (x : ℤ)
+            → i < length (self.now.rows ++ other.now.rows) → unsigned_abs x ≤ 2 ^ 60
+            → ShowsAtOnce self.now.rows (bounded (slice_index_or (self.now.rows ++ other.now.rows) i d).coefficients x)
+            → ShowsAtOnce other.now.rows (bounded (slice_index_or (self.now.rows ++ other.now.rows) i d).coefficients x)
+            → HasSide p.rows (slice_index_or (self.now.rows ++ other.now.rows) i d).coefficients x) }
+        ensures units { IfOk result (λ p. length p.rows < 1024 → (side : List ℤ) (x : ℤ)
+            → IsUnitSide (rows_width (self.now.rows ++ other.now.rows)) side → unsigned_abs x ≤ 2 ^ 60 → ShowsAtOnce self.now.rows (bounded side x)
+            → ShowsAtOnce other.now.rows (bounded side x) → HasSide p.rows side x) }
     {
         let width = width_of_both(&self.rows, &other.rows);
         let set = Either {
