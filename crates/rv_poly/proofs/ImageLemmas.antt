@@ -3,7 +3,7 @@ use Rattle.std.proofs.Common.{◌≡◌, ◌⊎◌, ℕ, zero, suc, ◌+◌, ◌
 use Rattle.std.specs.Prelude.{IfSome}
 use Rattle.std.specs.Int.{w128}
 use Rattle.std.specs.Int.RustNames.{unsigned_abs}
-use Rattle.std.proofs.Math.IntN.{*ℤ-zero, zero-*ℤ}
+use Rattle.std.proofs.Math.IntN.{*ℤ-zero}
 use Rattle.std.proofs.Math.Nat.{mul-le-mul}
 use Rattle.std.proofs.lemmas.Bool.{cases_lt}
 use Rattle.std.proofs.lemmas.Int.{ints, unsigned_abs-mul, fits_signed_from_abs}
@@ -11,8 +11,8 @@ use Rattle.std.proofs.lemmas.List.{length-map, length-take, length_push, get_or-
 use Rattle.std.proofs.lemmas.List.Elements.{All-map, All-nil, All-push, All-take, All-head, All-tail, All-append}
 use Rattle.rv_rows.specs.declared.linear.Row.{Row}
 use Rattle.rv_rows.specs.declared.linear.Form.{Form}
-use Rattle.rv_rows.specs.Rows.{dot, Holds, coefficient, row_at}
-use Rattle.rv_rows.specs.Forms.{number, value, values, IsSubstituted, CanSubstitute, SumsStay, forms_width, FormWithin}
+use Rattle.rv_rows.specs.Rows.{dot, Holds, coefficient}
+use Rattle.rv_rows.specs.Forms.{number, value, values, IsSubstituted, CanSubstitute, SumsStay, FormWithin}
 use Rattle.rv_rows.specs.Multipliers.{ShowsAtOnce, by_none, by_one, by_two}
 use Rattle.rv_rows.specs.Tight.{Fits}
 use Rattle.rv_rows.proofs.IntLemmas.{abs-add, mul_comm_int, mul_add}
@@ -20,7 +20,7 @@ use Rattle.rv_rows.proofs.RowLemmas.{dot-cons, get_or-tail, dot-none, tail_of}
 use Rattle.rv_rows.proofs.FormLemmas.{substituted_same}
 use Rattle.rv_seek.specs.Least.{bounded}
 use Rattle.rv_poly.specs.Points.{HasPoint}
-use Rattle.rv_poly.specs.Closing.{HasSide, AreSidesAdded, AreUnitsAdded}
+use Rattle.rv_poly.specs.Closing.{AreSidesAdded, AreUnitsAdded}
 use Rattle.rv_poly.specs.Images.{IsImage, AreUpdates, ShowsAfter, AreMoves, IsNarrow, StaysWithin, IsCut, AreCut}
 use Rattle.rv_poly.proofs.EliminateLemmas.{number_within}
 use Rattle.rv_poly.proofs.ClosingLemmas.{own_shown, keeps-later, covers-side}

@@ -1,5 +1,5 @@
 -- How the rows of the step of Fourier and Motzkin are kept, or dropped and counted, and how many there are.
-use Rattle.std.specs.Prelude.{◌≡◌, ◌⊎◌, ℕ, ◌<◌, ◌≤◌, ◌+◌, ◌*◌, ℤ, pos, ◌≤ℤ◌, ◌<ℤ◌, List, [], ◌∷◌, length, take, All, slice_index_or, int_lt}
+use Rattle.std.specs.Prelude.{◌≡◌, ◌⊎◌, ℕ, ◌<◌, ◌≤◌, ◌+◌, ◌*◌, pos, ◌≤ℤ◌, ◌<ℤ◌, List, [], ◌∷◌, length, take, All, slice_index_or, int_lt}
 use Rattle.std.specs.Ordering.{int_eq}
 use Rattle.std.specs.List.{Contains, count_by}
 use Rattle.std.specs.Int.RustNames.{unsigned_abs}

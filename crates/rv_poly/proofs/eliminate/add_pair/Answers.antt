@@ -1,4 +1,4 @@
-use Rattle.std.proofs.Common.{◌≡◌, ◌<ℤ◌, pos, FitsSigned, arith, rules, inl}
+use Rattle.std.proofs.Common.{◌<ℤ◌, pos, FitsSigned, arith, rules, inl}
 use Rattle.std.specs.Int.{w128}
 use Rattle.std.proofs.lemmas.Int.{ints}
 use Rattle.rv_rows.specs.Rows.{coefficient}

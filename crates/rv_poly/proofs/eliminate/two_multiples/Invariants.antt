@@ -1,4 +1,4 @@
-use Rattle.std.proofs.Common.{◌≡◌, ℕ, ◌<◌, ◌≤◌, ◌+ℤ◌, ◌*ℤ◌, length}
+use Rattle.std.proofs.Common.{◌≡◌, ℕ, ◌<◌, ◌+ℤ◌, ◌*ℤ◌, length}
 use Rattle.rv_rows.specs.Forms.{number}
 use Rattle.rv_poly.proofs.eliminate.two_multiples.Given as goal
 

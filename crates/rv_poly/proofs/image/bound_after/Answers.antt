@@ -1,8 +1,5 @@
-use Rattle.std.proofs.Common.{◌≡◌, FitsSigned, rules, subst}
+use Rattle.std.proofs.Common.{FitsSigned, rules}
 use Rattle.std.specs.Int.{w128}
-use Rattle.std.proofs.lemmas.Int.{to_z-of_z}
-use Rattle.rv_rows.specs.Forms.{IsSubstituted}
-use Rattle.rv_seek.specs.Least.{bounded}
 use Rattle.rv_poly.proofs.ImageLemmas.{can-substitute, before-small, form-within, after-sound-some, after-shown}
 use Rattle.rv_poly.proofs.image.bound_after.Goals as goal
 

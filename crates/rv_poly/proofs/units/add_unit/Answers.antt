@@ -1,4 +1,4 @@
-use Rattle.std.proofs.Common.{◌≡◌, ℕ, ◌<◌, FitsSigned, rules}
+use Rattle.std.proofs.Common.{◌≡◌, ℕ, ◌<◌}
 use Rattle.std.proofs.lemmas.Int.{to_z-of_z}
 use Rattle.rv_rows.specs.Forms.{number}
 use Rattle.rv_poly.specs.Closing.{unit_number}
