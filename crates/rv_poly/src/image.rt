@@ -195,7 +195,8 @@ impl Poly {
     /// Rows that the updated points meet: those that the updates give at each point of the polyhedron that meets the rows, too. There is one
     /// update for each column; the rows and the updates may be wider, and the further columns are inputs, which a point may have any of. Where
     /// each update is its own column plus a constant, the rows have no input, and the rows of both lists, as they are and moved by the constants,
-    /// are within the limits of kept rows and at most 1,024, the answer has no other points. The only error is want of memory.
+    /// are within the limits of kept rows and at most 1,024, the answer has no other points. Where the updates are beyond those of a source (128
+    /// updates, numbers of magnitude 2^41), the answer has no rows, so every point. The only error is want of memory.
     pub fn after(
         &self,
         alloc: Global,
