@@ -1,0 +1,12 @@
+pub mod Lists
+pub mod Links
+pub mod Program
+pub mod Named
+pub mod Kinded
+pub mod Paced
+pub mod Settled
+pub mod Instances
+pub mod Ranked
+pub mod Sized
+pub mod Weighed
+pub mod Accepted

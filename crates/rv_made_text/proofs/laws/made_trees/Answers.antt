@@ -1,0 +1,20 @@
+use Rattle.std.proofs.Common.{sym, subst}
+use Rattle.rv_syntax.specs.Nesting.{Outside, IsShallowText}
+use Rattle.rv_syntax.specs.ProgramText.{IsProgram}
+use Rattle.rv_made_text.proofs.Lexed.{made-tokens}
+use Rattle.rv_made_text.proofs.Trees.{offsets_of, plain_program}
+use Rattle.rv_made_text.proofs.Derived.{made-derived}
+use Rattle.rv_made_text.proofs.Nested.{made-shallow}
+use Rattle.rv_made_text.proofs.Sited.{made-sited}
+use Rattle.rv_made_text.proofs.laws.made_trees.Goals as goal
+
+pub returns : goal.returns
+returns c n = (
+  offsets_of n,
+  (
+    plain_program n,
+    made-sited n,
+    subst (IsProgram (plain_program n)) (sym (made-tokens n)) (made-derived n),
+    subst (IsShallowText Outside) (sym (made-tokens n)) (made-shallow n),
+  ),
+)

@@ -1,0 +1,5 @@
+pub mod Reaver
+pub mod Asked
+pub mod Plain
+pub mod Words
+pub mod Ranges
