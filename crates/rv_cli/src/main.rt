@@ -1,5 +1,6 @@
 //! `reaver prove FILE NODE` tells whether the observer of a Lustre node is true in every run, or shows a trace of one in which it is not;
-//! `reaver replay FILE NODE TRACE` plays a trace.
+//! `reaver replay FILE NODE TRACE` plays a trace, `reaver check FILE NODE INVARIANT` judges an invariant file, `reaver make N` shows a
+//! source of N calls, and `reaver tour N` proves it.
 #![tactic(auto)]
 
 use rv_machine::{DiskFiles, StandardOut, ended_by, words};

@@ -12,28 +12,28 @@ use Rattle.rv_diagram.specs.declared.store.StoreFault.{StoreFault}
 use Rattle.rv_diagram.specs.declared.store.StoreFault.TheVariants as fault
 use Rattle.rv_proofs.specs.declared.certificate.Certificate.{Certificate}
 use Rattle.rv_run.specs.Answers.{IsOnSource, IsUnlessLimited, IsSafeUnlessCutOff, IsViolatedUnlessCutOff}
-use Rattle.rv_run.specs.Programs.{IsSafeControl, IsUnsafeControl, IsCertified, HasGoodClaim, HasManyVariables, IsUnknown, LacksGoodClaim, nodes_limit}
+use Rattle.rv_run.specs.Programs.{IsSafeControl, IsUnsafeControl, IsCertified, HasGoodClaim, HasManyVariables, IsUnknown, LacksGoodClaim}
 use Rattle.rv_run.specs.Verdicts.{IsViolated, IsDocumentOf, IsInvariantOf, IsVerdictOf, verdict_report, verdict_document}
 use Rattle.rv_run.specs.declared.report.Report.{Report}
 use Rattle.rv_run.specs.declared.report.Report.TheVariants as report
 use Rattle.rv_run.specs.declared.verdict.Verdict.{Verdict}
 use Rattle.rv_run.specs.declared.verdict.Verdict.TheVariants.{Safe, Violated, Undecided}
 
-pub verdict-on_source : (r : Result Verdict StoreFault) → IsOnSource (verdict_report r)
-verdict-on_source (Ok (Safe c text)) = tt
-verdict-on_source (Ok (Violated t text)) = tt
-verdict-on_source (Ok Undecided) = tt
-verdict-on_source (Err fault.Nodes) = tt
-verdict-on_source (Err fault.Memory) = tt
+pub verdict-on_source : (nodes : ℕ) (r : Result Verdict StoreFault) → IsOnSource (verdict_report nodes r)
+verdict-on_source nodes (Ok (Safe c text)) = tt
+verdict-on_source nodes (Ok (Violated t text)) = tt
+verdict-on_source nodes (Ok Undecided) = tt
+verdict-on_source nodes (Err fault.Nodes) = tt
+verdict-on_source nodes (Err fault.Memory) = tt
 
-pub verdict-not_refused : (r : Result Verdict StoreFault) (e : SourceFault) → verdict_report r ≡ report.Refused e → ⊥
-verdict-not_refused (Ok (Safe c text)) e is = cc
-verdict-not_refused (Ok (Violated t text)) e is = cc
-verdict-not_refused (Ok Undecided) e is = cc
-verdict-not_refused (Err fault.Nodes) e is = cc
-verdict-not_refused (Err fault.Memory) e is = cc
+pub verdict-not_refused : (nodes : ℕ) (r : Result Verdict StoreFault) (e : SourceFault) → verdict_report nodes r ≡ report.Refused e → ⊥
+verdict-not_refused nodes (Ok (Safe c text)) e is = cc
+verdict-not_refused nodes (Ok (Violated t text)) e is = cc
+verdict-not_refused nodes (Ok Undecided) e is = cc
+verdict-not_refused nodes (Err fault.Nodes) e is = cc
+verdict-not_refused nodes (Err fault.Memory) e is = cc
 
-module _ (p : ProgramTree) (m : Identifier) where
+module _ (nodes : ℕ) (p : ProgramTree) (m : Identifier) where
   -- a program that a trace falsifies is not safe
   pub violated-unsafe : (t : Trace) → IsViolated t p m → IsSafe p m → ⊥
   violated-unsafe t is safe =
@@ -46,7 +46,7 @@ module _ (p : ProgramTree) (m : Identifier) where
       different : Some (Flag false) ≡ Some (Flag true) → ⊥
       different e = cc
 
-  pub said_safe : (r : Result Verdict StoreFault) (c : Certificate) → IfOk r (λ v. IsVerdictOf v p m) → verdict_report r ≡ report.Safe c
+  pub said_safe : (r : Result Verdict StoreFault) (c : Certificate) → IfOk r (λ v. IsVerdictOf v p m) → verdict_report nodes r ≡ report.Safe c
       → IsSafe p m × HasGoodClaim p m × IsCertified c p m × IsInvariantOf c (verdict_document r) p m
   said_safe (Ok (Safe d text)) c judged is =
       subst (λ (e : Certificate). IsSafe p m × HasGoodClaim p m × IsCertified e p m × IsInvariantOf e text.items p m) (same d c is) judged
@@ -58,7 +58,7 @@ module _ (p : ProgramTree) (m : Identifier) where
   said_safe (Err fault.Nodes) c judged is = absurd (let different : ⊥ = cc in different)
   said_safe (Err fault.Memory) c judged is = absurd (let different : ⊥ = cc in different)
 
-  pub said_violated : (r : Result Verdict StoreFault) (t : Trace) → IfOk r (λ v. IsVerdictOf v p m) → verdict_report r ≡ report.Violated t
+  pub said_violated : (r : Result Verdict StoreFault) (t : Trace) → IfOk r (λ v. IsVerdictOf v p m) → verdict_report nodes r ≡ report.Violated t
       → IsViolated t p m × IsDocumentOf t (verdict_document r) p m × LacksGoodClaim p m
   said_violated (Ok (Violated u text)) t judged is = subst (λ (e : Trace). IsViolated e p m × IsDocumentOf e text.items p m × LacksGoodClaim p m) (same u t is) judged
     where
@@ -69,17 +69,17 @@ module _ (p : ProgramTree) (m : Identifier) where
   said_violated (Err fault.Nodes) t judged is = absurd (let different : ⊥ = cc in different)
   said_violated (Err fault.Memory) t judged is = absurd (let different : ⊥ = cc in different)
 
-  pub said_unknown : (r : Result Verdict StoreFault) → IfOk r (λ v. IsVerdictOf v p m) → verdict_report r ≡ report.Unknown → IsUnknown p m
+  pub said_unknown : (r : Result Verdict StoreFault) → IfOk r (λ v. IsVerdictOf v p m) → verdict_report nodes r ≡ report.Unknown → IsUnknown p m
   said_unknown (Ok Undecided) judged is = judged
   said_unknown (Ok (Safe d text)) judged is = absurd (let different : ⊥ = cc in different)
   said_unknown (Ok (Violated t text)) judged is = absurd (let different : ⊥ = cc in different)
   said_unknown (Err fault.Nodes) judged is = absurd (let different : ⊥ = cc in different)
   said_unknown (Err fault.Memory) judged is = absurd (let different : ⊥ = cc in different)
 
-  pub said_nodes : (r : Result Verdict StoreFault) (n : ℕ) → (IsErrOf r fault.Nodes → HasManyVariables p m) → verdict_report r ≡ report.Nodes n → (n ≡ nodes_limit) × HasManyVariables p m
+  pub said_nodes : (r : Result Verdict StoreFault) (n : ℕ) → (IsErrOf r fault.Nodes → HasManyVariables nodes p m) → verdict_report nodes r ≡ report.Nodes n → (n ≡ nodes) × HasManyVariables nodes p m
   said_nodes (Err fault.Nodes) n wide is = (same n is, wide refl)
     where
-      same : (n : ℕ) → report.Nodes nodes_limit ≡ report.Nodes n → n ≡ nodes_limit
+      same : (n : ℕ) → report.Nodes nodes ≡ report.Nodes n → n ≡ nodes
       same n e = cc
   said_nodes (Ok (Safe d text)) n wide is = absurd (let different : ⊥ = cc in different)
   said_nodes (Ok (Violated t text)) n wide is = absurd (let different : ⊥ = cc in different)
@@ -87,30 +87,30 @@ module _ (p : ProgramTree) (m : Identifier) where
   said_nodes (Err fault.Memory) n wide is = absurd (let different : ⊥ = cc in different)
 
   -- no other report comes
-  pub must_safe : (r : Result Verdict StoreFault) → IfOk r (λ v. IsVerdictOf v p m) → IsSafeControl p m → IsSafeUnlessCutOff (verdict_report r)
+  pub must_safe : (r : Result Verdict StoreFault) → IfOk r (λ v. IsVerdictOf v p m) → IsSafeControl p m → IsSafeUnlessCutOff (verdict_report nodes r)
   must_safe (Ok (Safe c text)) judged is = inl (c, refl)
   must_safe (Ok (Violated t text)) judged is = absurd (violated-unsafe t judged.0 is.1)
   must_safe (Ok Undecided) judged is = absurd (judged.0 is.0)
-  must_safe (Err fault.Nodes) judged is = inr (inl (nodes_limit, refl))
+  must_safe (Err fault.Nodes) judged is = inr (inl (nodes, refl))
   must_safe (Err fault.Memory) judged is = inr (inr (inr refl))
 
-  pub must_violated : (r : Result Verdict StoreFault) → IfOk r (λ v. IsVerdictOf v p m) → IsUnsafeControl p m → IsViolatedUnlessCutOff (verdict_report r)
+  pub must_violated : (r : Result Verdict StoreFault) → IfOk r (λ v. IsVerdictOf v p m) → IsUnsafeControl p m → IsViolatedUnlessCutOff (verdict_report nodes r)
   must_violated (Ok (Safe c text)) judged is = absurd (is.1 judged.0)
   must_violated (Ok (Violated t text)) judged is = inl (t, refl)
   must_violated (Ok Undecided) judged is = absurd (judged.0 is.0)
-  must_violated (Err fault.Nodes) judged is = inr (inl (nodes_limit, refl))
+  must_violated (Err fault.Nodes) judged is = inr (inl (nodes, refl))
   must_violated (Err fault.Memory) judged is = inr (inr (inr refl))
 
-  pub must_claim : (r : Result Verdict StoreFault) → (HasGoodClaim p m → LacksGoodClaim p m → ⊥) → IfOk r (λ v. IsVerdictOf v p m) → HasGoodClaim p m → IsSafeUnlessCutOff (verdict_report r)
+  pub must_claim : (r : Result Verdict StoreFault) → (HasGoodClaim p m → LacksGoodClaim p m → ⊥) → IfOk r (λ v. IsVerdictOf v p m) → HasGoodClaim p m → IsSafeUnlessCutOff (verdict_report nodes r)
   must_claim (Ok (Safe c text)) one judged is = inl (c, refl)
   must_claim (Ok (Violated t text)) one judged is = absurd (one is judged.2)
   must_claim (Ok Undecided) one judged is = absurd (one is judged.1)
-  must_claim (Err fault.Nodes) one judged is = inr (inl (nodes_limit, refl))
+  must_claim (Err fault.Nodes) one judged is = inr (inl (nodes, refl))
   must_claim (Err fault.Memory) one judged is = inr (inr (inr refl))
 
-  pub must_unknown : (r : Result Verdict StoreFault) → (HasGoodClaim p m → LacksGoodClaim p m → ⊥) → IfOk r (λ v. IsVerdictOf v p m) → IsUnknown p m → IsUnlessLimited report.Unknown (verdict_report r)
+  pub must_unknown : (r : Result Verdict StoreFault) → (HasGoodClaim p m → LacksGoodClaim p m → ⊥) → IfOk r (λ v. IsVerdictOf v p m) → IsUnknown p m → IsUnlessLimited report.Unknown (verdict_report nodes r)
   must_unknown (Ok (Safe c text)) one judged is = absurd (one judged.1 is.1)
   must_unknown (Ok (Violated t text)) one judged is = absurd (is.0 judged.0.control)
   must_unknown (Ok Undecided) one judged is = inl refl
-  must_unknown (Err fault.Nodes) one judged is = inr (inl (nodes_limit, refl))
+  must_unknown (Err fault.Nodes) one judged is = inr (inl (nodes, refl))
   must_unknown (Err fault.Memory) one judged is = inr (inr (inr refl))

@@ -20,7 +20,7 @@ use Rattle.rv_control.specs.Control.{control_of}
 use Rattle.rv_proofs.specs.Accepted.{IsAccepted}
 use Rattle.rv_proofs.specs.Runs.{IsSafeSystem}
 use Rattle.rv_proofs.specs.declared.certificate.Certificate.{Certificate}
-use Rattle.rv_run.specs.Programs.{WithRuns, nodes_limit, HasManyVariables}
+use Rattle.rv_run.specs.Programs.{WithRuns, HasManyVariables}
 use Rattle.rv_run.proofs.MainNode.{main_named, main_is_node}
 
 -- Where the programs that keep every rule are well formed, and at each state and inputs there is one instant.
@@ -54,5 +54,5 @@ module _ (p : ProgramTree) (t : Typed) (o : Order) (fits : Fits p t o)
   }
 
   -- many variables
-  pub wide : (f : Flat) → IsFlatOf p main f → nodes_limit < 2 ^ (2 ^ length f.variables) → HasManyVariables p main
-  wide f flat many = subst (λ n. nodes_limit < 2 ^ (2 ^ n)) flat.counted many
+  pub wide : (nodes : ℕ) (f : Flat) → IsFlatOf p main f → nodes < 2 ^ (2 ^ length f.variables) → HasManyVariables nodes p main
+  wide nodes f flat many = subst (λ n. nodes < 2 ^ (2 ^ n)) flat.counted many

@@ -1,4 +1,3 @@
-mod Served
 mod Known
 mod Found
 mod Named
@@ -15,7 +14,9 @@ mod Retraced
 mod Faults
 mod Attached
 mod Claimed
+mod Cut
 mod Thresholds
 mod Inspected
 mod Judged
 mod More
+mod Toured

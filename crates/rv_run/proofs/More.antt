@@ -4,7 +4,7 @@ use Rattle.rv_base.specs.Shelf.{Shelf, HoldsUnder}
 use Rattle.rv_base.specs.declared.value.Trace.{Trace}
 use Rattle.rv_tree.specs.Tree.{ProgramTree}
 use Rattle.rv_tree.specs.Places.{Identifier}
-use Rattle.rv_run.specs.Words.{command}
+use Rattle.rv_run.specs.Words.{Wanted}
 use Rattle.rv_run.specs.Answers.{OnFile, OnDocument, IsShown}
 use Rattle.rv_run.specs.Checked.{IsInvariantFault, IsInvariantReport, IsReportOf, SaysOf, SaysOfInvariant}
 use Rattle.rv_run.specs.Traced.{IsFileFault, IsTraceReport, OnAccepted, SaysOfTrace}
@@ -26,34 +26,34 @@ pub program_more : (P Q : ProgramTree → Identifier → Type 0) (bytes : List �
     → OnProgram P bytes node → OnProgram Q bytes node
 program_more P Q bytes node to is = record { program = is.program; typed = is.typed; source = is.source; holds = to is.program node is.holds }
 
-pub file_more : (held : Option Shelf) (words : List (List ℕ)) (P Q : ProgramTree → Identifier → Type 0) → ((p : ProgramTree) (m : Identifier) → P p m → Q p m)
-    → OnFile held words (OnProgram P) → OnFile held words (OnProgram Q)
-file_more held words P Q to = by (command words)
+pub file_more : (held : Option Shelf) (w : Wanted) (P Q : ProgramTree → Identifier → Type 0) → ((p : ProgramTree) (m : Identifier) → P p m → Q p m)
+    → OnFile held w (OnProgram P) → OnFile held w (OnProgram Q)
+file_more held w P Q to = by (w.named)
   where
     by : (o : Option (List ℕ × List ℕ)) → IsSomeAnd o (λ n. HoldsUnder held n.0 (λ bytes. OnProgram P bytes n.1)) → IsSomeAnd o (λ n. HoldsUnder held n.0 (λ bytes. OnProgram Q bytes n.1))
     by None h = h
     by (Some n) h = more_under held n.0 (λ bytes. OnProgram P bytes n.1) (λ bytes. OnProgram Q bytes n.1) (λ bytes. program_more P Q bytes n.1 to) h
 
-pub is_shown : (held : Option Shelf) (words : List (List ℕ)) (r : Report) (document : List ℕ)
-    → ((c : Certificate) → r ≡ Safe c → OnFile held words (OnProgram (IsInvariantOf c document)))
-    → ((t : Trace) → r ≡ Violated t → OnFile held words (OnProgram (IsDocumentOf t document))) → IsShown held words r (shown_of r document)
-is_shown held words (Safe c) document safe violated = safe c refl
-is_shown held words (Violated t) document safe violated = violated t refl
-is_shown held words r document safe violated = refl
+pub is_shown : (held : Option Shelf) (w : Wanted) (r : Report) (document : List ℕ)
+    → ((c : Certificate) → r ≡ Safe c → OnFile held w (OnProgram (IsInvariantOf c document)))
+    → ((t : Trace) → r ≡ Violated t → OnFile held w (OnProgram (IsDocumentOf t document))) → IsShown held w r (shown_of r document)
+is_shown held w (Safe c) document safe violated = safe c refl
+is_shown held w (Violated t) document safe violated = violated t refl
+is_shown held w r document safe violated = refl
 
 -- ---- Of what is told of a document, what is told of a trace or of an invariant file.
-module _ (held : Option Shelf) (words : List (List ℕ)) where
-  pub of_replay : (x : Report) → (IsInvariantReport x → ⊥) → (task : Task) × IsReportOf task x × OnDocument held words task (OnAccepted (SaysOf task x))
-      → OnDocument held words Replay (OnAccepted (SaysOfTrace x))
+module _ (held : Option Shelf) (w : Wanted) where
+  pub of_replay : (x : Report) → (IsInvariantReport x → ⊥) → (task : Task) × IsReportOf task x × OnDocument held w task (OnAccepted (SaysOf task x))
+      → OnDocument held w Replay (OnAccepted (SaysOfTrace x))
   of_replay x other (Replay, is, on) = on
   of_replay x other (Check, is, on) = absurd (other is)
 
-  pub of_check : (x : Report) → (IsTraceReport x → ⊥) → (task : Task) × IsReportOf task x × OnDocument held words task (OnAccepted (SaysOf task x))
-      → OnDocument held words Check (OnAccepted (SaysOfInvariant x))
+  pub of_check : (x : Report) → (IsTraceReport x → ⊥) → (task : Task) × IsReportOf task x × OnDocument held w task (OnAccepted (SaysOf task x))
+      → OnDocument held w Check (OnAccepted (SaysOfInvariant x))
   of_check x other (Check, is, on) = on
   of_check x other (Replay, is, on) = absurd (other is)
 
-  pub of_either : (fault : FileFault) → (task : Task) × IsReportOf task (BadFile fault) × OnDocument held words task (OnAccepted (SaysOf task (BadFile fault)))
-      → OnDocument held words Replay (OnAccepted (IsFileFault fault)) ⊎ OnDocument held words Check (OnAccepted (IsInvariantFault fault))
+  pub of_either : (fault : FileFault) → (task : Task) × IsReportOf task (BadFile fault) × OnDocument held w task (OnAccepted (SaysOf task (BadFile fault)))
+      → OnDocument held w Replay (OnAccepted (IsFileFault fault)) ⊎ OnDocument held w Check (OnAccepted (IsInvariantFault fault))
   of_either fault (Replay, is, on) = inl on
   of_either fault (Check, is, on) = inr on

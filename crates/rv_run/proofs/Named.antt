@@ -2,7 +2,7 @@
 use Rattle.std.proofs.Common.{◌≡◌, ℕ, ◌≤◌, List, length, Some, None, Option, refl, subst, sym, ap, ◌∙◌, IsSomeAnd}
 use Rattle.std.specs.FinMap.{get}
 use Rattle.rv_base.specs.Shelf.{Shelf, HoldsUnder}
-use Rattle.rv_run.specs.Words.{command, beside}
+use Rattle.rv_run.specs.Words.{Wanted}
 use Rattle.rv_run.specs.declared.words.Task.{Task}
 use Rattle.rv_run.specs.Answers.{OnFile, OnDocument, Tells, IsTold, IsToldDocument}
 
@@ -17,9 +17,9 @@ pub under_name : (held : Option Shelf) (name loaded : List ℕ) (limit : ℕ) (P
 under_name None name loaded limit P h p = tt
 under_name (Some shelf) name loaded limit P h p = held_too (get shelf name) loaded limit P h p
 
-pub on_file : (held : Option Shelf) (words : List (List ℕ)) (named : List ℕ × List ℕ) (loaded given : List ℕ) (limit : ℕ) (P : List ℕ → List ℕ → Type 0)
-    → command words ≡ Some named → HoldsUnder held named.0 (λ bytes. (loaded ≡ bytes) × (length bytes ≤ limit)) → given ≡ loaded → P given named.1 → OnFile held words P
-on_file held words named loaded given limit P is h same p =
+pub on_file : (held : Option Shelf) (w : Wanted) (named : List ℕ × List ℕ) (loaded given : List ℕ) (limit : ℕ) (P : List ℕ → List ℕ → Type 0)
+    → w.named ≡ Some named → HoldsUnder held named.0 (λ bytes. (loaded ≡ bytes) × (length bytes ≤ limit)) → given ≡ loaded → P given named.1 → OnFile held w P
+on_file held w named loaded given limit P is h same p =
     subst (λ o. IsSomeAnd o (λ n. HoldsUnder held n.0 (λ bytes. P bytes n.1))) (sym is)
     (under_name held named.0 loaded limit (λ bytes. P bytes named.1) h (subst (λ bytes. P bytes named.1) same p))
 
@@ -33,9 +33,9 @@ loaded_is (Some shelf) name loaded bytes limit h told =
     (subst (λ o. IsSomeAnd o (λ bytes. (loaded ≡ bytes) × (length bytes ≤ limit))) told h).0
 
 -- what the files tell of the file that the words name is so of the loaded bytes
-pub told_of : (held : Option Shelf) (words : List (List ℕ)) (named : List ℕ × List ℕ) (loaded given : List ℕ) (limit : ℕ) (P : List ℕ → List ℕ → Type 0)
-    → command words ≡ Some named → HoldsUnder held named.0 (λ bytes. (loaded ≡ bytes) × (length bytes ≤ limit)) → given ≡ loaded → IsTold held words P → P given named.1
-told_of held words named loaded given limit P is h same told =
+pub told_of : (held : Option Shelf) (w : Wanted) (named : List ℕ × List ℕ) (loaded given : List ℕ) (limit : ℕ) (P : List ℕ → List ℕ → Type 0)
+    → w.named ≡ Some named → HoldsUnder held named.0 (λ bytes. (loaded ≡ bytes) × (length bytes ≤ limit)) → given ≡ loaded → IsTold held w P → P given named.1
+told_of held w named loaded given limit P is h same told =
     let pair : named ≡ (told.file, told.node) = same_pair named (told.file, told.node) (sym is ∙ told.named) in
     let there : HoldsUnder held told.file (λ bytes. (loaded ≡ bytes) × (length bytes ≤ limit)) =
     subst (λ n. HoldsUnder held n.0 (λ bytes. (loaded ≡ bytes) × (length bytes ≤ limit))) pair h in
@@ -57,16 +57,16 @@ more_under (Some shelf) name P Q to h = more (get shelf name) h
     more (Some bytes) h = to bytes h
 
 -- The same of both files that the words of a command with a document name.
-module _ (held : Option Shelf) (words : List (List ℕ)) (named : List ℕ × List ℕ) (other : Task × List ℕ) (loaded given : List ℕ) (limit : ℕ) (P : List ℕ → List ℕ → List ℕ → Type 0)
-    (is : command words ≡ Some named) (with_other : beside words ≡ Some other)
+module _ (held : Option Shelf) (w : Wanted) (named : List ℕ × List ℕ) (other : Task × List ℕ) (loaded given : List ℕ) (limit : ℕ) (P : List ℕ → List ℕ → List ℕ → Type 0)
+    (is : w.named ≡ Some named) (with_other : w.beside ≡ Some other)
     (whole : HoldsUnder held named.0 (λ bytes. (loaded ≡ bytes) × (length bytes ≤ limit))) (same : given ≡ loaded) where
-  pub on_document : HoldsUnder held other.1 (P given named.1) → OnDocument held words other.0 P
+  pub on_document : HoldsUnder held other.1 (P given named.1) → OnDocument held w other.0 P
   on_document h =
-      subst (λ o. IsSomeAnd o (λ n. IsSomeAnd (beside words) (λ t. (t.0 ≡ other.0) × HoldsUnder held n.0 (λ bytes. HoldsUnder held t.1 (P bytes n.1))))) (sym is)
+      subst (λ o. IsSomeAnd o (λ n. IsSomeAnd (w.beside) (λ t. (t.0 ≡ other.0) × HoldsUnder held n.0 (λ bytes. HoldsUnder held t.1 (P bytes n.1))))) (sym is)
       (subst (λ o. IsSomeAnd o (λ t. (t.0 ≡ other.0) × HoldsUnder held named.0 (λ bytes. HoldsUnder held t.1 (P bytes named.1)))) (sym with_other)
       (refl, under_name held named.0 loaded limit (λ bytes. HoldsUnder held other.1 (P bytes named.1)) whole (subst (λ bytes. HoldsUnder held other.1 (P bytes named.1)) same h)))
 
-  pub told_of_document : (task : Task) (told : IsToldDocument held words task P) → (task ≡ other.0) × Tells held other.1 told.document × P given named.1 told.document
+  pub told_of_document : (task : Task) (told : IsToldDocument held w task P) → (task ≡ other.0) × Tells held other.1 told.document × P given named.1 told.document
   told_of_document task told =
       let pair : named ≡ (told.file, told.node) = same_pair named (told.file, told.node) (sym is ∙ told.named) in
       let both : (task, told.other) ≡ other = same_other (task, told.other) other (sym told.with_other ∙ with_other) in
@@ -82,8 +82,8 @@ module _ (held : Option Shelf) (words : List (List ℕ)) (named : List ℕ × Li
       same_other a b e = cc
 
 -- where the words name no document, they are no command with one
-pub no_document : (held : Option Shelf) (words : List (List ℕ)) (task : Task) (P : List ℕ → List ℕ → List ℕ → Type 0) → beside words ≡ None → IsToldDocument held words task P → ⊥
-no_document held words task P none told = absurd (let bad : Some (task, told.other) ≡ None = sym told.with_other ∙ none in different (task, told.other) bad)
+pub no_document : (held : Option Shelf) (w : Wanted) (task : Task) (P : List ℕ → List ℕ → List ℕ → Type 0) → w.beside ≡ None → IsToldDocument held w task P → ⊥
+no_document held w task P none told = absurd (let bad : Some (task, told.other) ≡ None = sym told.with_other ∙ none in different (task, told.other) bad)
   where
     different : (x : Task × List ℕ) → Some x ≡ None → ⊥
     different x e = cc

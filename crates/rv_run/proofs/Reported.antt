@@ -21,7 +21,7 @@ use Rattle.rv_run.specs.declared.words.Task.TheVariants.{Replay, Check}
 use Rattle.rv_run.specs.Programs.{OnProgram, IsRefusedFor}
 use Rattle.rv_run.specs.Refusals.{refusal_of}
 use Rattle.rv_run.specs.declared.report.Report.{Report}
-use Rattle.rv_run.specs.declared.report.Report.TheVariants.{Safe, Violated, Unknown, Nodes, Accepted, Rejected, Falsified, AssertionFails, NeverFalse, Outgrown, Refused, BadFile, TooLong, ReadFault, Usage, Memory}
+use Rattle.rv_run.specs.declared.report.Report.TheVariants.{Safe, Violated, Unknown, Nodes, Accepted, Rejected, Falsified, AssertionFails, NeverFalse, Outgrown, Made, Toured, Refused, BadFile, TooLong, ReadFault, Usage, Memory}
 use Rattle.rv_run.specs.Traced.{IsTraceAnswer, IsTraceReport, IsUnlessNoMemory}
 use Rattle.rv_run.proofs.MainNode.{main_named}
 
@@ -123,6 +123,10 @@ answer-of_document Replay Unknown (inl is) = is
 answer-of_document Replay Unknown (inr is) = is
 answer-of_document Replay Usage (inl is) = is
 answer-of_document Replay Usage (inr is) = is
+answer-of_document Replay (Made source) (inl is) = is
+answer-of_document Replay (Made source) (inr is) = is
+answer-of_document Replay (Toured n size c) (inl is) = is
+answer-of_document Replay (Toured n size c) (inr is) = is
 answer-of_document Replay x is = tt
 answer-of_document Check (Safe c) (inl is) = is
 answer-of_document Check (Safe c) (inr is) = is
@@ -132,6 +136,10 @@ answer-of_document Check Unknown (inl is) = is
 answer-of_document Check Unknown (inr is) = is
 answer-of_document Check Usage (inl is) = is
 answer-of_document Check Usage (inr is) = is
+answer-of_document Check (Made source) (inl is) = is
+answer-of_document Check (Made source) (inr is) = is
+answer-of_document Check (Toured n size c) (inl is) = is
+answer-of_document Check (Toured n size c) (inr is) = is
 answer-of_document Check x is = tt
 
 different : (x y : Report) → (P : Report → Type 0) → P x → (P y → ⊥) → x ≡ y → ⊥
@@ -184,6 +192,8 @@ source-not_document (AssertionFails k at) on is = on
 source-not_document NeverFalse on is = on
 source-not_document (Outgrown k at) on is = on
 source-not_document (BadFile fault) on is = on
+source-not_document (Made source) on is = on
+source-not_document (Toured n size c) on is = on
 source-not_document x on is = is
 
 -- the report of a command with a document is no verdict
@@ -195,6 +205,12 @@ document-not_violated x t is h = let bad : IsDocumentReport (Violated t) = subst
 
 pub document-not_unknown : (x : Report) → IsDocumentReport x → x ≡ Unknown → ⊥
 document-not_unknown x is h = let bad : IsDocumentReport Unknown = subst IsDocumentReport h is in bad
+
+pub document-not_made : (x : Report) (source : List ℕ) → IsDocumentReport x → x ≡ Made source → ⊥
+document-not_made x source is h = let bad : IsDocumentReport (Made source) = subst IsDocumentReport h is in bad
+
+pub document-not_toured : (x : Report) (n size : ℕ) (c : Certificate) → IsDocumentReport x → x ≡ Toured n size c → ⊥
+document-not_toured x n size c is h = let bad : IsDocumentReport (Toured n size c) = subst IsDocumentReport h is in bad
 
 pub document-not_usage : (x : Report) → IsDocumentReport x → x ≡ Usage → ⊥
 document-not_usage x is h = let bad : IsDocumentReport Usage = subst IsDocumentReport h is in bad

@@ -1,29 +1,38 @@
 -- What an answer says of the file that the words name.
-use Rattle.std.specs.Prelude.{◌≡◌, ◌⊎◌, ℕ, List, Option, Some, None, IsSomeAnd}
+use Rattle.std.specs.Prelude.{◌≡◌, ◌⊎◌, ℕ, List, Option, Some, None, IsSomeAnd, codes}
 use Rattle.std.specs.FinMap.{get}
 use Rattle.rv_base.specs.Shelf.{Shelf, HoldsUnder}
 use Rattle.rv_base.specs.declared.value.Trace.{Trace}
 use Rattle.rv_source.specs.declared.fault.SourceFault.{SourceFault}
 use Rattle.rv_source.specs.Sources.{AreSame}
 use Rattle.rv_proofs.specs.declared.certificate.Certificate.{Certificate}
-use Rattle.rv_run.specs.Words.{command, beside}
+use Rattle.rv_run.specs.Words.{Wanted}
 use Rattle.rv_run.specs.declared.words.Task.{Task}
+use Rattle.rv_make.specs.Made.{made_text}
 use Rattle.rv_run.specs.Printed.{text_of}
 use Rattle.rv_run.specs.Programs.{OnProgram}
 use Rattle.rv_run.specs.Verdicts.{IsDocumentOf, IsInvariantOf}
 use Rattle.rv_run.specs.declared.report.Report.{Report}
-use Rattle.rv_run.specs.declared.report.Report.TheVariants.{Safe, Violated, Unknown, Nodes, Accepted, Rejected, Falsified, AssertionFails, NeverFalse, Outgrown, Refused, BadFile, TooLong, ReadFault, Usage, Memory}
+use Rattle.rv_run.specs.declared.report.Report.TheVariants.{Safe, Violated, Unknown, Nodes, Accepted, Rejected, Falsified, AssertionFails, NeverFalse, Outgrown, Made, Toured, Refused, BadFile, TooLong, ReadFault, Usage, Memory}
 
 -- The words are a command, and what is held under its file has P, beside its node, where the files tell what they
 -- hold.
-abbrev pub OnFile : Option Shelf → List (List ℕ) → (List ℕ → List ℕ → Type 0) → Type 0
-OnFile held words P = IsSomeAnd (command words) (λ named. HoldsUnder held named.0 (λ bytes. P bytes named.1))
+abbrev pub OnFile : Option Shelf → Wanted → (List ℕ → List ℕ → Type 0) → Type 0
+OnFile held w P = IsSomeAnd w.named (λ named. HoldsUnder held named.0 (λ bytes. P bytes named.1))
 
 -- The words name a document besides with which this is done, and what is held under both files has P, beside the command's node, where
 -- the files tell what they hold.
-abbrev pub OnDocument : Option Shelf → List (List ℕ) → Task → (List ℕ → List ℕ → List ℕ → Type 0) → Type 0
-OnDocument held words task P = IsSomeAnd (command words) (λ named. IsSomeAnd (beside words) (λ other. (other.0 ≡ task)
+abbrev pub OnDocument : Option Shelf → Wanted → Task → (List ℕ → List ℕ → List ℕ → Type 0) → Type 0
+OnDocument held w task P = IsSomeAnd w.named (λ named. IsSomeAnd w.beside (λ other. (other.0 ≡ task)
     × HoldsUnder held named.0 (λ bytes. HoldsUnder held other.1 (λ document. P bytes named.1 document))))
+
+-- The words ask for the proof of a source that is made, and its text has P, beside its main node.
+abbrev pub OnMade : Wanted → (List ℕ → List ℕ → Type 0) → Type 0
+OnMade w P = IsSomeAnd w.toured (λ n. P (made_text n) (codes "main"))
+
+-- The source that is proved or checked has P, whether it is in a file or made.
+abbrev pub OnSource : Option Shelf → Wanted → (List ℕ → List ℕ → Type 0) → Type 0
+OnSource held w P = OnFile held w P ⊎ OnMade w P
 
 -- The files tell what they hold, and under this name they hold these bytes.
 abbrev pub Tells : Option Shelf → List ℕ → List ℕ → Type 0
@@ -31,11 +40,11 @@ Tells None name bytes = ⊥
 Tells (Some shelf) name bytes = get shelf name ≡ Some bytes
 
 -- The words are a command, the files tell what they hold under its file, and that has P, beside the command's node.
-pub record IsTold (held : Option Shelf) (words : List (List ℕ)) (P : List ℕ → List ℕ → Type 0) : Type 0 where
+pub record IsTold (held : Option Shelf) (w : Wanted) (P : List ℕ → List ℕ → Type 0) : Type 0 where
   pub file : List ℕ
   pub node : List ℕ
   pub bytes : List ℕ
-  pub named : command words ≡ Some (file, node)
+  pub named : w.named ≡ Some (file, node)
   pub told : Tells held file bytes
   pub holds : P bytes node
 
@@ -68,6 +77,10 @@ IsViolatedReport report = (t : Trace) × (report ≡ Violated t)
 abbrev pub IsViolatedUnlessCutOff : Report → Type 0
 IsViolatedUnlessCutOff report = IsViolatedReport report ⊎ (IsNodesReport report ⊎ ((report ≡ ReadFault) ⊎ (report ≡ Memory)))
 
+-- The report is that a source that was made is safe.
+abbrev pub IsTouredReport : Report → Type 0
+IsTouredReport report = (count : ℕ) × (length : ℕ) × (c : Certificate) × (report ≡ Toured count length c)
+
 -- The report is one on the bytes of a source, and not on the words or the file.
 abbrev pub IsOnSource : Report → Type 0
 IsOnSource Accepted = ⊥
@@ -80,18 +93,20 @@ IsOnSource (BadFile fault) = ⊥
 IsOnSource (TooLong count) = ⊥
 IsOnSource ReadFault = ⊥
 IsOnSource Usage = ⊥
+IsOnSource (Made source) = ⊥
+IsOnSource (Toured count length certificate) = ⊥
 IsOnSource report = Unit {0}
 
 -- The words are a command that does this with a document, the files tell what they hold under both its files, and that has P, beside the
 -- command's node.
-pub record IsToldDocument (held : Option Shelf) (words : List (List ℕ)) (task : Task) (P : List ℕ → List ℕ → List ℕ → Type 0) : Type 0 where
+pub record IsToldDocument (held : Option Shelf) (w : Wanted) (task : Task) (P : List ℕ → List ℕ → List ℕ → Type 0) : Type 0 where
   pub file : List ℕ
   pub node : List ℕ
   pub other : List ℕ
   pub bytes : List ℕ
   pub document : List ℕ
-  pub named : command words ≡ Some (file, node)
-  pub with_other : beside words ≡ Some (task, other)
+  pub named : w.named ≡ Some (file, node)
+  pub with_other : w.beside ≡ Some (task, other)
   pub told : Tells held file bytes
   pub told_other : Tells held other document
   pub holds : P bytes node document
@@ -106,7 +121,7 @@ IsUnlessLimited expected report = (report ≡ expected) ⊎ (IsNodesReport repor
 
 -- What is shown of a report on the file that the words name: of Safe and Violated the document of its certificate or trace over the
 -- program there, of any other its text.
-abbrev pub IsShown : Option Shelf → List (List ℕ) → Report → List ℕ → Type 0
-IsShown held words (Safe c) shown = OnFile held words (OnProgram (IsInvariantOf c shown))
-IsShown held words (Violated t) shown = OnFile held words (OnProgram (IsDocumentOf t shown))
-IsShown held words report shown = shown ≡ text_of report
+abbrev pub IsShown : Option Shelf → Wanted → Report → List ℕ → Type 0
+IsShown held w (Safe c) shown = OnFile held w (OnProgram (IsInvariantOf c shown))
+IsShown held w (Violated t) shown = OnFile held w (OnProgram (IsDocumentOf t shown))
+IsShown held w report shown = shown ≡ text_of report

@@ -18,7 +18,7 @@ use Rattle.rv_proofs.specs.declared.verdict.Verdict.TheVariants as verdict
 use Rattle.rv_run.specs.declared.words.Task.{Task}
 use Rattle.rv_run.specs.declared.words.Task.TheVariants.{Replay, Check}
 use Rattle.rv_run.specs.declared.report.Report.{Report}
-use Rattle.rv_run.specs.declared.report.Report.TheVariants.{Safe, Violated, Unknown, Nodes, Accepted, Rejected, Falsified, AssertionFails, NeverFalse, Outgrown, BadFile, Usage, Memory}
+use Rattle.rv_run.specs.declared.report.Report.TheVariants.{Safe, Violated, Unknown, Nodes, Accepted, Rejected, Falsified, AssertionFails, NeverFalse, Outgrown, Made, Toured, BadFile, Usage, Memory}
 use Rattle.rv_run.specs.Answers.{IsUnlessCutOff, IsUnlessLimited}
 use Rattle.rv_run.specs.Traced.{IsTraceReport, SaysOfTrace}
 
@@ -82,6 +82,8 @@ IsDocumentReport (Safe certificate) = ⊥
 IsDocumentReport (Violated trace) = ⊥
 IsDocumentReport Unknown = ⊥
 IsDocumentReport Usage = ⊥
+IsDocumentReport (Made source) = ⊥
+IsDocumentReport (Toured count length certificate) = ⊥
 IsDocumentReport report = Unit {0}
 
 -- The report is one on the bytes of a trace or of an invariant file.

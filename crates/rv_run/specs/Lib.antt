@@ -8,3 +8,4 @@ pub mod Verdicts
 pub mod Loaded
 pub mod Traced
 pub mod Checked
+pub mod Replies

@@ -1,5 +1,5 @@
 -- The reports on a document that was read or not.
-use Rattle.std.specs.Prelude.{Result, Ok, Err}
+use Rattle.std.specs.Prelude.{ℕ, Result, Ok, Err}
 use Rattle.rv_invfile.specs.declared.fault.FileFault.{FileFault}
 use Rattle.rv_invfile.specs.declared.fault.FileFault.TheVariants.{NotRecords, WrongKind, WrongProgram, BadNumber, Ends, Memory as NoMemory}
 use Rattle.rv_replay.specs.declared.replayed.Replayed.{Replayed}
@@ -11,7 +11,6 @@ use Rattle.rv_diagram.specs.declared.store.StoreFault.{StoreFault}
 use Rattle.rv_diagram.specs.declared.store.StoreFault.TheVariants as store
 use Rattle.rv_proofs.specs.declared.verdict.Verdict.{Verdict}
 use Rattle.rv_proofs.specs.declared.verdict.Verdict.TheVariants as verdict
-use Rattle.rv_run.specs.Programs.{nodes_limit}
 use Rattle.rv_run.specs.declared.report.Report.TheVariants.{Nodes, Accepted, Rejected, Falsified, AssertionFails, NeverFalse, Outgrown, BadFile, Memory}
 
 -- The report on a fault of the file: want of memory is none.
@@ -31,9 +30,9 @@ replay_report (Ok replayed.NeverFalse) = NeverFalse
 replay_report (Err (replay_fault.Outgrown k at)) = Outgrown k at
 replay_report (Err replay_fault.Memory) = Memory
 
--- The report on the verdict on a certificate, or on why there is none.
-abbrev pub accepted_report : Result Verdict StoreFault → Report
-accepted_report (Ok verdict.Accepted) = Accepted
-accepted_report (Ok (verdict.Rejected reason)) = Rejected reason
-accepted_report (Err store.Nodes) = Nodes nodes_limit
-accepted_report (Err store.Memory) = Memory
+-- The report on the verdict on a certificate, or on why there is none where diagrams may have so many nodes.
+abbrev pub accepted_report : ℕ → Result Verdict StoreFault → Report
+accepted_report nodes (Ok verdict.Accepted) = Accepted
+accepted_report nodes (Ok (verdict.Rejected reason)) = Rejected reason
+accepted_report nodes (Err store.Nodes) = Nodes nodes
+accepted_report nodes (Err store.Memory) = Memory

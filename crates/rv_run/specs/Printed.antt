@@ -17,7 +17,7 @@ use Rattle.rv_proofs.specs.declared.verdict.Reason.TheVariants.{NoInitial, Uncov
 use Rattle.rv_source.specs.declared.fault.SourceFault.{SourceFault}
 use Rattle.rv_source.specs.declared.fault.SourceFault.TheVariants.{Text, Names, Cause, Memory as SourceMemory}
 use Rattle.rv_run.specs.declared.report.Report.{Report}
-use Rattle.rv_run.specs.declared.report.Report.TheVariants.{Safe, Violated, Unknown, Nodes, Accepted, Rejected, Falsified, AssertionFails, NeverFalse, Outgrown, Refused, BadFile, TooLong, ReadFault, Usage, Memory}
+use Rattle.rv_run.specs.declared.report.Report.TheVariants.{Safe, Violated, Unknown, Nodes, Accepted, Rejected, Falsified, AssertionFails, NeverFalse, Outgrown, Made, Toured, Refused, BadFile, TooLong, ReadFault, Usage, Memory}
 use Rattle.rv_run.specs.declared.report.Sent.{Sent}
 use Rattle.rv_run.specs.declared.report.Sent.TheVariants.{Whole, Failed, Memory as SentMemory}
 
@@ -108,6 +108,15 @@ is_documented (Safe certificate) = true
 is_documented (Violated trace) = true
 is_documented report = false
 
+-- What is printed where the words are no command: what they may be.
+abbrev pub usage_text : List ℕ
+usage_text = record_of (codes "reaver,usage")
+    ++ record_of (codes "prove FILE NODE [--nodes N] [--locations L] [--accelerate yes|no]")
+    ++ record_of (codes "check FILE NODE INVARIANT [--nodes N]")
+    ++ record_of (codes "replay FILE NODE TRACE")
+    ++ record_of (codes "make N")
+    ++ record_of (codes "tour N")
+
 -- What is printed for a report. Safe and Violated have no text of their own: the document of their certificate or trace is shown.
 abbrev pub text_of : Report → List ℕ
 text_of (Safe certificate) = []
@@ -124,7 +133,9 @@ text_of (Refused fault) = text_of_refusal fault
 text_of (BadFile fault) = text_of_file_fault fault
 text_of (TooLong count) = record_of (codes "reaver,toolong," ++ decimal count)
 text_of ReadFault = record_of (codes "reaver,readfault")
-text_of Usage = record_of (codes "reaver,usage")
+text_of Usage = usage_text
+text_of (Made source) = source
+text_of (Toured count length certificate) = record_of (codes "reaver,tour," ++ decimal count ++ 44 ∷ decimal length ++ codes ",safe")
 text_of Memory = record_of (codes "reaver,memory")
 
 -- What is shown of a report and the document beside it.
@@ -146,6 +157,8 @@ report_status (Outgrown at place) = 10
 report_status (BadFile fault) = 8
 report_status (Refused fault) = 3
 report_status Usage = 4
+report_status (Made source) = 0
+report_status (Toured count length certificate) = 0
 report_status ReadFault = 5
 report_status Memory = 7
 report_status (TooLong count) = 9

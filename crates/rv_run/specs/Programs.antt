@@ -66,13 +66,9 @@ LacksGoodClaim program node = (f : Flat) × IsFlatOf program node f × (¬ HasGo
 abbrev pub IsUnknown : ProgramTree → Identifier → Type 0
 IsUnknown program node = HasIntegers program node × LacksGoodClaim program node
 
--- how many nodes a store of diagrams may have
-abbrev pub nodes_limit : ℕ
-nodes_limit = 4194304
-
--- With so many diagram variables that there are more functions of them than nodes that a store may have.
-abbrev pub HasManyVariables : ProgramTree → Identifier → Type 0
-HasManyVariables program node = nodes_limit < 2 ^ (2 ^ variable_count program node)
+-- With so many diagram variables that there are more functions of them than this number of nodes.
+abbrev pub HasManyVariables : ℕ → ProgramTree → Identifier → Type 0
+HasManyVariables nodes program node = nodes < 2 ^ (2 ^ variable_count program node)
 
 -- Why a source is refused: for the fault of its first offending token; or, where it has a tree, for its first fault of
 -- names, types and clocks; or, where it has none, for its first of recursion, sizes, cycles and weights.

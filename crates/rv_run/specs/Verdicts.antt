@@ -18,7 +18,7 @@ use Rattle.rv_invfile.specs.Traces.{trace_records, trace_rule}
 use Rattle.rv_invariant.specs.Certificates.{certificate_records, certificate_rule}
 use Rattle.rv_proofs.specs.declared.certificate.Certificate.{Certificate}
 use Rattle.rv_falsify.specs.Falsifying.{IsFalsifying, IsShortest}
-use Rattle.rv_run.specs.Programs.{IsCertified, HasGoodClaim, HasIntegers, LacksGoodClaim, nodes_limit}
+use Rattle.rv_run.specs.Programs.{IsCertified, HasGoodClaim, HasIntegers, LacksGoodClaim}
 use Rattle.rv_run.specs.declared.report.Report.{Report}
 use Rattle.rv_run.specs.declared.report.Report.TheVariants as report
 use Rattle.rv_run.specs.declared.verdict.Verdict.{Verdict}
@@ -52,13 +52,13 @@ IsVerdictOf (Safe c text) program main =
 IsVerdictOf (Violated t text) program main = IsViolated t program main × IsDocumentOf t text.items program main × LacksGoodClaim program main
 IsVerdictOf Undecided program main = HasIntegers program main × LacksGoodClaim program main
 
--- The report on a verdict, or on why there is none.
-abbrev pub verdict_report : Result Verdict StoreFault → Report
-verdict_report (Ok (Safe c text)) = report.Safe c
-verdict_report (Ok (Violated t text)) = report.Violated t
-verdict_report (Ok Undecided) = report.Unknown
-verdict_report (Err fault.Nodes) = report.Nodes nodes_limit
-verdict_report (Err fault.Memory) = report.Memory
+-- The report on a verdict, or on why there is none where diagrams may have so many nodes.
+abbrev pub verdict_report : ℕ → Result Verdict StoreFault → Report
+verdict_report nodes (Ok (Safe c text)) = report.Safe c
+verdict_report nodes (Ok (Violated t text)) = report.Violated t
+verdict_report nodes (Ok Undecided) = report.Unknown
+verdict_report nodes (Err fault.Nodes) = report.Nodes nodes
+verdict_report nodes (Err fault.Memory) = report.Memory
 
 -- The document that is shown of it.
 abbrev pub verdict_document : Result Verdict StoreFault → List ℕ

@@ -1,27 +1,62 @@
--- The words of the command line.
-use Rattle.std.specs.Prelude.{String, ℕ, List, [], ◌∷◌, map, codes, option_map, Option, Some, None, if◌then◌else◌}
-use Rattle.std.specs.Str.{bytes_eq}
-use Rattle.std.specs.String.{string_bytes}
-use Rattle.std.specs.Global.{Global}
+-- What the words of the command line ask the program to do.
+use Rattle.std.specs.Prelude.{◌≡◌, ◌≤◌, ◌⊎◌, ℕ, List, Option, Some, None, option_map}
+use Rattle.rv_words.specs.Asked.{Asked, prove, check, replay, make, tour}
+use Rattle.rv_words.specs.Words.{command}
 use Rattle.rv_run.specs.declared.words.Task.{Task}
-use Rattle.rv_run.specs.declared.words.Task.TheVariants.{Replay, Check}
+use Rattle.rv_run.specs.declared.words.Task.TheVariants as task
+use Rattle.rv_run.specs.declared.words.Beside.{Beside}
+use Rattle.rv_run.specs.declared.words.FileCommand.{FileCommand}
+use Rattle.rv_run.specs.declared.words.Request.{Request}
+use Rattle.rv_run.specs.declared.words.Request.TheVariants as request
 
--- The words as texts.
-abbrev pub texts : List (String Global) → List (List ℕ)
-texts words = map (λ word. string_bytes word) words
+-- What words ask for: the file of a source and the node in it, what is done with which document beside it, how many nodes the diagrams
+-- may have, and of how many calls a source is made and shown, or made and proved. Words that are no command ask for nothing.
+pub record Wanted : Type 0 where
+  pub named : Option (List ℕ × List ℕ)
+  pub beside : Option (Task × List ℕ)
+  pub nodes : ℕ
+  pub made : Option ℕ
+  pub toured : Option ℕ
 
--- What a command with a document beside the source does.
-abbrev pub task_named : List ℕ → Option Task
-task_named verb = if bytes_eq verb (codes "replay") then Some Replay else (if bytes_eq verb (codes "check") then Some Check else None)
+-- how many nodes the diagrams may have where the words do not say so
+abbrev pub usual_nodes : ℕ
+usual_nodes = 4194304
 
--- The file and the node that the words name, none where they are no command: `prove` with a file and a node, `replay` with a
--- file, a node and a trace, or `check` with a file, a node and an invariant file. The first word is the program's name.
-abbrev pub command : List (List ℕ) → Option (List ℕ × List ℕ)
-command (program ∷ verb ∷ file ∷ node ∷ []) = if bytes_eq verb (codes "prove") then Some (file, node) else None
-command (program ∷ verb ∷ file ∷ node ∷ document ∷ []) = option_map (λ task. (file, node)) (task_named verb)
-command words = None
+abbrev pub wanted_of : Option Asked → Wanted
+wanted_of None = record { named = None; beside = None; nodes = usual_nodes; made = None; toured = None }
+wanted_of (Some (prove file node nodes locations accelerate)) = record { named = Some (file, node); beside = None; nodes = nodes; made = None; toured = None }
+wanted_of (Some (check file node invariant nodes)) = record { named = Some (file, node); beside = Some (task.Check, invariant); nodes = nodes; made = None; toured = None }
+wanted_of (Some (replay file node trace)) = record { named = Some (file, node); beside = Some (task.Replay, trace); nodes = usual_nodes; made = None; toured = None }
+wanted_of (Some (make n)) = record { named = None; beside = None; nodes = usual_nodes; made = Some n; toured = None }
+wanted_of (Some (tour n)) = record { named = None; beside = None; nodes = usual_nodes; made = None; toured = Some n }
 
--- What is done with which document, where the words are a command with one.
-abbrev pub beside : List (List ℕ) → Option (Task × List ℕ)
-beside (program ∷ verb ∷ file ∷ node ∷ document ∷ []) = option_map (λ task. (task, document)) (task_named verb)
-beside words = None
+-- What these words ask for.
+abbrev pub wanted : List (List ℕ) → Wanted
+wanted words = wanted_of (command words)
+
+-- The words name this file.
+abbrev pub IsNamed : Wanted → List ℕ → Type 0
+IsNamed w file = ((node : List ℕ) × (w.named ≡ Some (file, node))) ⊎ ((task : Task) × (w.beside ≡ Some (task, file)))
+
+-- ---- What the program takes them for.
+abbrev pub wanted_on_file : FileCommand → Wanted
+wanted_on_file c = record {
+  named = Some (c.file.now, c.node.now);
+  beside = option_map (λ b. (b.task, b.file.now)) c.beside;
+  nodes = c.nodes;
+  made = None;
+  toured = None;
+}
+
+abbrev pub wanted_by : Option Request → Wanted
+wanted_by None = wanted_of None
+wanted_by (Some (request.File c)) = wanted_on_file c
+wanted_by (Some (request.Make n)) = wanted_of (Some (make n))
+wanted_by (Some (request.Tour n)) = wanted_of (Some (tour n))
+
+-- The numbers are within their ranges.
+abbrev pub HasRanges : Option Request → Type 0
+HasRanges None = Unit {0}
+HasRanges (Some (request.File c)) = (1 ≤ c.nodes) × (c.nodes ≤ 33554432)
+HasRanges (Some (request.Make n)) = (1 ≤ n) × (n ≤ 2000)
+HasRanges (Some (request.Tour n)) = (1 ≤ n) × (n ≤ 2000)

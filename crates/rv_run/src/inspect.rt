@@ -17,9 +17,8 @@ ghost use Rattle.rv_run.specs.declared.report.Report.{Report as ReportModel};
 ghost use Rattle.rv_run.specs.declared.words.Task.TheVariants as tasks;
 ghost use Rattle.rv_run.specs.Checked.{IsAnswerOf, IsInvariantReport, IsUnlessLimit, SaysOfInvariant};
 ghost use Rattle.rv_run.specs.Loaded.{accepted_report};
-ghost use Rattle.rv_run.specs.Programs.{HasManyVariables, nodes_limit};
+ghost use Rattle.rv_run.specs.Programs.{HasManyVariables};
 
-use crate::judge::MOST_NODES;
 use crate::report::Report;
 use crate::retrace::{FILE_LIMIT, on_fault};
 use rv_alike::{alike_documents, alike_systems};
@@ -38,16 +37,17 @@ use std::alloc::Global;
 /// The report on the bytes of an invariant file over an accepted source, in whose text names are letters, digits and `_`. BadFile where
 /// they are the document of no certificate of its program, with the first fault. Otherwise Accepted where the certificate is accepted
 /// for the system of the program's flat system, and Rejected with the first reason where it is not. Nodes comes only where the program
-/// has many diagram variables.
-pub fn report_on_invariant(alloc: Global, source: &Source, document: &[u8]) -> Report
+/// has many diagram variables for the number of nodes that the diagrams may have.
+pub fn report_on_invariant(alloc: Global, source: &Source, document: &[u8], nodes: u32) -> Report
+    requires limit { nodes ≤ 33554432 }
     requires fits { Fits (program_tree source.now.program) source.now.typed source.now.order }
     requires plain { HasPlainNames (program_tree source.now.program) }
     requires short { length document.now ≤ FILE_LIMIT }
     ensures says { (report : ReportModel) → IsInvariantReport report → result ≡ report
         → SaysOfInvariant report document.now (program_tree source.now.program) (name_at (program_tree source.now.program) source.now.typed.main) }
     ensures safe { result ≡ Report.Accepted → IsSafe (program_tree source.now.program) (name_at (program_tree source.now.program) source.now.typed.main) }
-    ensures wide { (n : ℕ) → result ≡ Report.Nodes n → (n ≡ nodes_limit)
-        × HasManyVariables (program_tree source.now.program) (name_at (program_tree source.now.program) source.now.typed.main) }
+    ensures wide { (n : ℕ) → result ≡ Report.Nodes n → (n ≡ nodes)
+        × HasManyVariables nodes (program_tree source.now.program) (name_at (program_tree source.now.program) source.now.typed.main) }
     ensures only { IsAnswerOf tasks.Check result }
     ensures only_says { (report : ReportModel)
         → SaysOfInvariant report document.now (program_tree source.now.program) (name_at (program_tree source.now.program) source.now.typed.main)
@@ -64,31 +64,37 @@ pub fn report_on_invariant(alloc: Global, source: &Source, document: &[u8]) -> R
         return Report::Memory;
     };
     match read_certificate(alloc, &flat, document) {
-        Ok(certificate) => on_accepted(accepted(alloc, &flat, &certificate)),
+        Ok(certificate) => on_accepted(accepted(alloc, &flat, &certificate, nodes), nodes),
         Err(fault) => on_fault(fault),
     }
 }
 
 /// The verdict on a certificate of the flat system of a well formed program.
-fn accepted(alloc: Global, flat: &Flat, certificate: &Certificate) -> Result<Verdict, StoreFault>
+fn accepted(
+    alloc: Global,
+    flat: &Flat,
+    certificate: &Certificate,
+    nodes: u32,
+) -> Result<Verdict, StoreFault>
+    requires limit { nodes ≤ 33554432 }
     requires program { (program : ProgramTree) × (main : Identifier) × AreWell program × IsNode program main × IsFlatOf program main flat.now }
     requires fits { FitsCertificate flat.now certificate.now }
     requires free { HasFree certificate.now }
     ensures exact { IfOk result (λ v. IsVerdict (control_of flat.now) certificate.now v) }
-    ensures wide { IsErrOf result StoreFault.Nodes → nodes_limit < 2 ^ (2 ^ length flat.now.variables) }
+    ensures wide { IsErrOf result StoreFault.Nodes → nodes < 2 ^ (2 ^ length flat.now.variables) }
 {
-    let mut reading = Reading::new(alloc, flat, MOST_NODES)?;
+    let mut reading = Reading::new(alloc, flat, nodes)?;
     accept(alloc, &mut reading, certificate)
 }
 
 /// The report on a verdict, or on why there is none.
-fn on_accepted(judged: Result<Verdict, StoreFault>) -> Report
-    ensures { result ≡ accepted_report judged }
+fn on_accepted(judged: Result<Verdict, StoreFault>, nodes: u32) -> Report
+    ensures { result ≡ accepted_report nodes judged }
 {
     match judged {
         Ok(Verdict::Accepted) => Report::Accepted,
         Ok(Verdict::Rejected(reason)) => Report::Rejected(reason),
-        Err(StoreFault::Nodes) => Report::Nodes(MOST_NODES),
+        Err(StoreFault::Nodes) => Report::Nodes(nodes),
         Err(StoreFault::Memory) => Report::Memory,
     }
 }

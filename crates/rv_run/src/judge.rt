@@ -18,7 +18,7 @@ ghost use Rattle.rv_proofs.specs.Reached.{HasNoIntegers};
 ghost use Rattle.rv_source.specs.Numbers.{HasSmallNumbers};
 ghost use Rattle.rv_reading.specs.Read.{flat_of, system_read, diagrams_of, IsRead};
 ghost use Rattle.rv_walk.specs.Ends.{AreBadLayers};
-ghost use Rattle.rv_run.specs.Programs.{nodes_limit, HasManyVariables};
+ghost use Rattle.rv_run.specs.Programs.{HasManyVariables};
 ghost use Rattle.rv_run.specs.Judged.{is_test, IsControlSystem, IsKnown};
 ghost use Rattle.rv_run.specs.Verdicts.{IsVerdictOf};
 
@@ -39,36 +39,35 @@ use rv_types::{Kind, well_formed_programs};
 use rv_walk::BoxEnd;
 use std::alloc::Global;
 
-/// How many nodes the diagrams may have.
-pub const MOST_NODES: u32 = 4_194_304;
-
 /// The verdict on a source: a certificate and its document where some closed box claim is good; where none is, Undecided for a source
 /// with integers, and a shortest trace that falsifies it with its document for one without. Nodes comes only where it has many diagram
-/// variables. Names are letters, digits and `_`, and literals and constants at most 2^40 + 1, as in the tree of each text.
-pub fn judge(alloc: Global, source: &Source) -> Result<Verdict, StoreFault>
+/// variables for the number of nodes that the diagrams may have. Names are letters, digits and `_`, and literals and constants at most 2^40 + 1, as in the tree of each text.
+pub fn judge(alloc: Global, source: &Source, nodes: u32) -> Result<Verdict, StoreFault>
+    requires limit { nodes ≤ 33554432 }
     requires fits { Fits (program_tree source.now.program) source.now.typed source.now.order }
     requires plain { HasPlainNames (program_tree source.now.program) }
     requires small { HasSmallNumbers (program_tree source.now.program) }
     ensures judged { IfOk result (λ v. IsVerdictOf v (program_tree source.now.program) (name_at (program_tree source.now.program) source.now.typed.main)) }
     ensures wide { IsErrOf result StoreFault.Nodes
-        → HasManyVariables (program_tree source.now.program) (name_at (program_tree source.now.program) source.now.typed.main) }
+        → HasManyVariables nodes (program_tree source.now.program) (name_at (program_tree source.now.program) source.now.typed.main) }
 {
     well_formed_programs();
     runs_are_abstract();
     let flat = flatten(alloc, source)?;
-    decided(alloc, source, &flat)
+    decided(alloc, source, &flat, nodes)
 }
 
 /// The verdict on a source by its flat system.
-fn decided(alloc: Global, source: &Source, flat: &Flat) -> Result<Verdict, StoreFault>
+fn decided(alloc: Global, source: &Source, flat: &Flat, nodes: u32) -> Result<Verdict, StoreFault>
+    requires limit { nodes ≤ 33554432 }
     requires fits { Fits (program_tree source.now.program) source.now.typed source.now.order }
     requires plain { HasPlainNames (program_tree source.now.program) }
     requires known { IsKnown (program_tree source.now.program) (name_at (program_tree source.now.program) source.now.typed.main) flat.now }
     requires thresholds { All (λ t. unsigned_abs t ≤ 2 ^ 41) flat.now.thresholds }
     ensures judged { IfOk result (λ v. IsVerdictOf v (program_tree source.now.program) (name_at (program_tree source.now.program) source.now.typed.main)) }
-    ensures wide { IsErrOf result StoreFault.Nodes → nodes_limit < 2 ^ (2 ^ length flat.now.variables) }
+    ensures wide { IsErrOf result StoreFault.Nodes → nodes < 2 ^ (2 ^ length flat.now.variables) }
 {
-    let mut reading = Reading::new(alloc, flat, MOST_NODES)?;
+    let mut reading = Reading::new(alloc, flat, nodes)?;
     match box_pass(alloc, &mut reading)? {
         BoxEnd::Good(certificate) => safe(alloc, source, flat, certificate),
         BoxEnd::Bad(layers) => not_good(alloc, source, &mut reading, &layers),

@@ -10,6 +10,7 @@
 mod inspect;
 mod judge;
 mod load;
+mod made;
 mod prove;
 mod report;
 mod retrace;

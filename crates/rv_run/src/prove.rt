@@ -6,11 +6,11 @@ ghost use Rattle.rv_source.specs.declared.fault.SourceFault.{SourceFault as Faul
 ghost use Rattle.rv_meaning.specs.Runs.{IsSafe};
 ghost use Rattle.rv_proofs.specs.declared.certificate.Certificate.{Certificate as CertificateModel};
 ghost use Rattle.rv_run.specs.Answers.{IsOnSource, IsSafeUnlessCutOff, IsUnlessLimited, IsViolatedUnlessCutOff, IsRefusalUnlessCutOff};
-ghost use Rattle.rv_run.specs.Programs.{OnProgram, WithRuns, nodes_limit, IsSafeControl, IsUnsafeControl, IsCertified, HasGoodClaim, HasManyVariables, IsUnknown, IsRefusedFor};
+ghost use Rattle.rv_run.specs.Programs.{OnProgram, WithRuns, IsSafeControl, IsUnsafeControl, IsCertified, HasGoodClaim, HasManyVariables, IsUnknown, IsRefusedFor};
 ghost use Rattle.rv_run.specs.Refusals.{refusal_of};
 ghost use Rattle.rv_run.specs.Verdicts.{IsDocumentOf, IsInvariantOf, IsViolated, verdict_document, verdict_report};
 
-use crate::judge::{MOST_NODES, judge};
+use crate::judge::judge;
 use crate::report::{Answer, Report};
 use crate::verdict::Verdict;
 use rv_alike::{alike_names, alike_systems};
@@ -25,9 +25,10 @@ use std::alloc::Global;
 /// tree, where their program breaks a rule of names, types or clocks, and where it breaks one of recursion, sizes, cycles or weights,
 /// with the first fault. Otherwise Safe with a certificate where some closed box claim is good; where none is, Unknown for a program with
 /// integers. One without integers has such a claim exactly where it is safe, and is else Violated, with a shortest trace that falsifies
-/// it. Nodes comes only where it has many diagram variables.
-pub fn report_on_source(alloc: Global, bytes: &[u8], node: &str) -> Answer
-    requires { length bytes.now ≤ SOURCE_LIMIT }
+/// it. Nodes comes only where it has many diagram variables for the number of nodes that the diagrams may have.
+pub fn report_on_source(alloc: Global, bytes: &[u8], node: &str, nodes: u32) -> Answer
+    requires short { length bytes.now ≤ SOURCE_LIMIT }
+    requires limit { nodes ≤ 33554432 }
     ensures safe { (c : CertificateModel) → result.report ≡ Report.Safe c → OnProgram (WithRuns IsSafe) bytes.now node.now }
     ensures certified { (c : CertificateModel) → result.report ≡ Report.Safe c → OnProgram (IsCertified c) bytes.now node.now }
     ensures claimed { (c : CertificateModel) → result.report ≡ Report.Safe c → OnProgram HasGoodClaim bytes.now node.now }
@@ -35,7 +36,7 @@ pub fn report_on_source(alloc: Global, bytes: &[u8], node: &str) -> Answer
     ensures violated { (t : TraceModel) → result.report ≡ Report.Violated t → OnProgram (WithRuns (IsViolated t)) bytes.now node.now }
     ensures document { (t : TraceModel) → result.report ≡ Report.Violated t → OnProgram (IsDocumentOf t result.document.items) bytes.now node.now }
     ensures unknown { result.report ≡ Report.Unknown → OnProgram (WithRuns IsUnknown) bytes.now node.now }
-    ensures nodes { (n : ℕ) → result.report ≡ Report.Nodes n → (n ≡ nodes_limit) × OnProgram HasManyVariables bytes.now node.now }
+    ensures nodes { (n : ℕ) → result.report ≡ Report.Nodes n → (n ≡ nodes) × OnProgram (HasManyVariables nodes) bytes.now node.now }
     ensures refused { (fault : FaultModel) → result.report ≡ Report.Refused fault → IsRefusedFor fault bytes.now node.now }
     ensures only { IsOnSource result.report }
     ensures only_safe { OnProgram IsSafeControl bytes.now node.now → IsSafeUnlessCutOff result.report }
@@ -53,7 +54,7 @@ pub fn report_on_source(alloc: Global, bytes: &[u8], node: &str) -> Answer
     alike_names();
     alike_systems();
     match read_source(alloc, bytes, node) {
-        Ok(source) => on_verdict(alloc, judge(alloc, &source)),
+        Ok(source) => on_verdict(alloc, judge(alloc, &source, nodes), nodes),
         Err(fault) => Answer {
             report: refusal(fault),
             document: Vec::new(alloc),
@@ -62,8 +63,8 @@ pub fn report_on_source(alloc: Global, bytes: &[u8], node: &str) -> Answer
 }
 
 /// The answer on a verdict, or on why there is none.
-fn on_verdict(alloc: Global, judged: Result<Verdict, StoreFault>) -> Answer
-    ensures report { result.report ≡ verdict_report judged }
+fn on_verdict(alloc: Global, judged: Result<Verdict, StoreFault>, nodes: u32) -> Answer
+    ensures report { result.report ≡ verdict_report nodes judged }
     ensures document { result.document.items ≡ verdict_document judged }
 {
     let mut document = Vec::new(alloc);
@@ -77,7 +78,7 @@ fn on_verdict(alloc: Global, judged: Result<Verdict, StoreFault>) -> Answer
             Report::Violated(trace)
         }
         Ok(Verdict::Undecided) => Report::Unknown,
-        Err(StoreFault::Nodes) => Report::Nodes(MOST_NODES),
+        Err(StoreFault::Nodes) => Report::Nodes(nodes),
         Err(StoreFault::Memory) => Report::Memory,
     };
     Answer { report, document }

@@ -4,7 +4,7 @@ ghost use Rattle.std.specs.Prelude.{◌≡◌, ◌++◌, ◌∷◌, codes, decim
 ghost use Rattle.std.specs.String.{string_bytes};
 ghost use Rattle.rv_run.specs.Printed.{record_of, text_of, text_of_reason, digits, text_of_refusal, text_of_fault, text_of_name_fault, text_of_cause, text_of_file_fault, dotted, listed, quantity_name, status_of, report_status};
 
-use rv_base::{Many, Place, Sites, Trace};
+use rv_base::{Many, Place, Sites, Text, Trace};
 use rv_causality::{CauseFault, Quantity};
 use rv_invfile::FileFault;
 use rv_proofs::{Certificate, Reason};
@@ -37,6 +37,17 @@ pub enum Report {
     NeverFalse,
     /// This instant is the first that ends the replay of the trace, and this is the least place at which a value leaves the range there.
     Outgrown(u32, Place),
+    /// A source that was made.
+    Made(Text),
+    /// In every run of the source with this many calls the observer is true at each instant. The certificate, which is not shown, proves it.
+    Toured {
+        /// The number of calls.
+        count: u32,
+        /// The length of the source in bytes.
+        length: u64,
+        /// The certificate.
+        certificate: Certificate,
+    },
     /// The source is not one that is accepted.
     Refused(SourceFault),
     /// The file with the trace or the invariant is no document of one.
@@ -50,6 +61,15 @@ pub enum Report {
     /// There was no memory.
     Memory,
 }
+
+/// What is shown where the words are no command: what they may be.
+const USAGE: &str = "reaver,usage
+prove FILE NODE [--nodes N] [--locations L] [--accelerate yes|no]
+check FILE NODE INVARIANT [--nodes N]
+replay FILE NODE TRACE
+make N
+tour N
+";
 
 /// Whether the text of the report was shown.
 #[derive(Clone, Copy, Debug, PartialEq, Eq)]
@@ -99,9 +119,22 @@ pub fn text(alloc: Global, report: &Report) -> Result<String, AllocError>
         Report::BadFile(fault) => file_fault_text(alloc, *fault),
         Report::TooLong(count) => format!(in alloc; "reaver,toolong,{count}\n"),
         Report::ReadFault => String::from_str(alloc, "reaver,readfault\n"),
-        Report::Usage => String::from_str(alloc, "reaver,usage\n"),
+        Report::Made(source) => String::from_str(alloc, source.as_str()),
+        Report::Toured { count, length, .. } => toured_text(alloc, *count, *length),
+        Report::Usage => String::from_str(alloc, USAGE),
         Report::Memory => String::from_str(alloc, "reaver,memory\n"),
     }
+}
+
+/// The text of the report on a tour: the number of calls, and the length of the source in bytes.
+fn toured_text(alloc: Global, count: u32, length: u64) -> Result<String, AllocError>
+    ensures { IfOk result (λ text. string_bytes text ≡ record_of (codes "reaver,tour," ++ decimal count ++ 44 ∷ decimal length ++ codes ",safe")) }
+{
+    let mut text = format!(in alloc; "reaver,tour,{count},")?;
+    write!(text, "{length}")?;
+    text.push_str(",safe")?;
+    text.push('\n')?;
+    Ok(text)
 }
 
 /// The text of a reason: its number, its name in lower case letters, and its fields.
@@ -361,7 +394,11 @@ pub fn status_of_report(report: &Report) -> u8
     ensures { result ≡ report_status report.now }
 {
     match report {
-        Report::Safe(_) | Report::Accepted | Report::Falsified(_) => 0,
+        Report::Safe(_)
+        | Report::Accepted
+        | Report::Falsified(_)
+        | Report::Made(_)
+        | Report::Toured { .. } => 0,
         Report::Violated(_)
         | Report::Rejected(_)
         | Report::AssertionFails(_, _)

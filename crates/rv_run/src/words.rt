@@ -1,7 +1,13 @@
-//! The words of the command line.
+//! What the words of the command line ask the program to do.
 
-ghost use Rattle.std.specs.Prelude.{◌≡◌, IfSome, option_map};
-ghost use Rattle.rv_run.specs.Words.{texts, command, beside, task_named};
+ghost use Rattle.std.specs.Prelude.{◌≡◌, IfOk, None, Some};
+ghost use Rattle.rv_words.specs.Ranges.{HasRanges as AskedRanges};
+ghost use Rattle.rv_words.specs.Words.{command, said, texts};
+ghost use Rattle.rv_run.specs.Words.{wanted, wanted_by, wanted_of, HasRanges};
+
+use rv_base::Memory;
+use rv_words::{Command, numbers_have_ranges, read_words};
+use std::alloc::Global;
 
 /// What is done with a document beside the source.
 #[derive(Clone, Copy, Debug, PartialEq, Eq)]
@@ -21,53 +27,79 @@ pub struct Beside<'a> {
     pub file: &'a str,
 }
 
-/// What the words ask for: to prove the node of the source in the file, or to do something with a document beside it.
+/// A command on the source in a file: to prove its node, or to do something with a document beside it.
 #[derive(Clone, Copy)]
-pub struct Command<'a> {
+pub struct FileCommand<'a> {
     /// The name of the file with the source.
     pub file: &'a str,
     /// The name of the node.
     pub node: &'a str,
+    /// How many nodes the diagrams may have.
+    pub nodes: u32,
     /// The document, none where the node is to be proved.
     pub beside: Option<Beside<'a>>,
 }
 
-/// The command that the words are, the program's name passed over. None exactly where they are not four of which the second is
-/// `prove`, and not five of which it is `replay` or `check`.
-pub fn read_words<'a>(words: &'a [String]) -> Option<Command<'a>>
-    ensures command { option_map (λ found. (found.file.now, found.node.now)) result ≡ command (texts words.now) }
-    ensures beside { IfSome result (λ found. option_map (λ b. (b.task, b.file.now)) found.beside ≡ beside (texts words.now)) }
+/// What is to be done.
+#[derive(Clone, Copy)]
+pub enum Request<'a> {
+    /// Something on the source in a file.
+    File(FileCommand<'a>),
+    /// To show a source of this many calls.
+    Make(u32),
+    /// To prove that source.
+    Tour(u32),
+}
+
+/// How many nodes the diagrams may have where the words do not say so.
+pub const USUAL_NODES: u32 = 4_194_304;
+
+/// What the words ask for, None exactly where they are no command. `Memory` comes where memory runs out.
+pub fn read_request<'a>(alloc: Global, words: &'a [String]) -> Result<Option<Request<'a>>, Memory>
+    ensures wanted { IfOk result (λ found. wanted_by found ≡ wanted (texts words.now)) }
+    ensures none { IfOk result (λ found. found ≡ None → command (texts words.now) ≡ None) }
+    ensures only_none { IfOk result (λ found. command (texts words.now) ≡ None → found ≡ None) }
+    ensures ranges { IfOk result HasRanges }
 {
-    match words {
-        [_, verb, file, node] if verb.as_str() == "prove" => Some(Command {
-            file: file.as_str(),
-            node: node.as_str(),
-            beside: None,
-        }),
-        [_, verb, file, node, other] => match task_of(verb.as_str()) {
-            Some(task) => Some(Command {
-                file: file.as_str(),
-                node: node.as_str(),
-                beside: Some(Beside {
-                    task,
-                    file: other.as_str(),
-                }),
-            }),
-            None => None,
-        },
-        _ => None,
+    numbers_have_ranges();
+    match read_words(alloc, words)? {
+        Some(command) => Ok(Some(request_of(command))),
+        None => Ok(None),
     }
 }
 
-/// What a command with a document does.
-fn task_of(verb: &str) -> Option<Task>
-    ensures { result ≡ task_named verb.now }
+/// What a command asks for.
+fn request_of<'a>(command: Command<'a>) -> Request<'a>
+    requires ranges { AskedRanges (said command) }
+    ensures wanted { wanted_by (Some result) ≡ wanted_of (Some (said command.entry)) }
+    ensures ranges { HasRanges (Some result) }
 {
-    if verb == "replay" {
-        Some(Task::Replay)
-    } else if verb == "check" {
-        Some(Task::Check)
-    } else {
-        None
+    match command {
+        Command::Prove(p) => Request::File(FileCommand {
+            file: p.file,
+            node: p.node,
+            nodes: p.nodes,
+            beside: None,
+        }),
+        Command::Check(c) => Request::File(FileCommand {
+            file: c.file,
+            node: c.node,
+            nodes: c.nodes,
+            beside: Some(Beside {
+                task: Task::Check,
+                file: c.invariant,
+            }),
+        }),
+        Command::Replay(r) => Request::File(FileCommand {
+            file: r.file,
+            node: r.node,
+            nodes: USUAL_NODES,
+            beside: Some(Beside {
+                task: Task::Replay,
+                file: r.trace,
+            }),
+        }),
+        Command::Make(n) => Request::Make(n),
+        Command::Tour(n) => Request::Tour(n),
     }
 }

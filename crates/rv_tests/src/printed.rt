@@ -117,11 +117,24 @@ fn plain_report(alloc: Global, name: &str, rest: &str) -> Option<Report> {
         "toolong" => Some(Report::TooLong(rest.parse::<u64>().ok()?)),
         "neverfalse" => Some(Report::NeverFalse),
         "accepted" => Some(Report::Accepted),
+        "toured" => toured_report(alloc, rest),
         "readfault" => Some(Report::ReadFault),
         "usage" => Some(Report::Usage),
         "memory" => Some(Report::Memory),
         _ => None,
     }
+}
+
+/// The report on a tour, by its number of calls and the length of its source.
+fn toured_report(alloc: Global, numbers: &str) -> Option<Report> {
+    let (count, length) = numbers.split_once(' ')?;
+    Some(Report::Toured {
+        count: count.parse::<u32>().ok()?,
+        length: length.parse::<u64>().ok()?,
+        certificate: Certificate {
+            locations: Many::new(alloc),
+        },
+    })
 }
 
 /// A fault by its name, and what it tells.

@@ -1,7 +1,6 @@
 //! What the whole program does over files and sinks in memory. What cannot be read has no answer.
 
-ghost use Rattle.std.specs.Prelude.{◌≡◌, ◌≢◌, ◌⊎◌, Some, All, IsTrue, IfOk};
-ghost use Rattle.std.specs.String.{string_bytes};
+ghost use Rattle.std.specs.Prelude.{◌≡◌, ◌≢◌, ◌⊎◌, ℕ, List, Some, IsTrue, IfOk};
 ghost use Rattle.std.specs.FinMap.{contains_key};
 ghost use Rattle.rv_base.specs.SureFiles.{held_by};
 ghost use Rattle.rv_base.specs.MemoryFiles as memory_files;
@@ -10,13 +9,15 @@ ghost use Rattle.rv_meaning.specs.Runs.{IsSafe};
 ghost use Rattle.rv_proofs.specs.declared.certificate.Certificate.{Certificate};
 ghost use Rattle.rv_run.specs.Answers.{OnFile};
 ghost use Rattle.rv_run.specs.Programs.{OnProgram, WithRuns};
-ghost use Rattle.rv_run.specs.Words.{texts};
+ghost use Rattle.rv_run.specs.Words.{IsNamed, wanted};
+ghost use Rattle.rv_words.specs.Words.{texts};
 
 use crate::outside::{add_bytes, calls_in};
 use crate::printed::printed;
 use crate::rows::with_line_feeds;
 use rv_base::{Memory, MemoryFiles, MemorySink, SureFiles, SureSink};
 use rv_run::{Outcome, Report, Sent, run};
+use rv_words::{Command, read_words};
 use std::alloc::{AllocError, Global};
 
 /// The words of the command line that proves the node `m` of the file `f`.
@@ -57,7 +58,7 @@ pub fn ran(alloc: Global, kind: &str, fields: &str) -> Result<Option<String>, Me
             Ok(Some(found_again(alloc, text.as_bytes())?))
         }
         "replaylong" => replayed_long(alloc, fields),
-        "surely" => Ok(Some(ran_surely(alloc, fields)?)),
+        "surely" => ran_surely(alloc, fields),
         "long" => {
             let text = repeated(alloc, fields)?;
             Ok(Some(proved(alloc, text.as_bytes())?))
@@ -234,7 +235,7 @@ fn run_in_memory(
 ) -> Outcome
     requires { memory_sink.calls_of out.old ≡ 0 }
     ensures safe { (c : Certificate) → result.report ≡ Report.Safe c
-        → OnFile (Some (memory_files.held_by files.old)) (texts words.now.items) (OnProgram (WithRuns IsSafe)) }
+        → OnFile (Some (memory_files.held_by files.old)) (wanted (texts words.now.items)) (OnProgram (WithRuns IsSafe)) }
     ensures one_put { (result.sent ≡ Sent.Whole) ⊎ (result.sent ≡ Sent.Failed) → memory_sink.calls_of out.new ≡ 1 }
 {
     run(alloc, words, files, out)
@@ -266,6 +267,8 @@ fn report_name(report: &Report) -> &'static str {
         Report::AssertionFails(_, _) => "assertion",
         Report::NeverFalse => "neverfalse",
         Report::Outgrown(_, _) => "outgrown",
+        Report::Made(_) => "made",
+        Report::Toured { .. } => "toured",
         Report::BadFile(_) => "badfile",
         Report::Refused(_) => "refused",
         Report::TooLong(_) => "toolong",
@@ -276,23 +279,16 @@ fn report_name(report: &Report) -> &'static str {
 }
 
 /// What is done over files and a sink that never fail.
-fn ran_surely(alloc: Global, source: &str) -> Result<String, Memory> {
+fn ran_surely(alloc: Global, source: &str) -> Result<Option<String>, Memory> {
     let words = words_of(alloc, PROVE)?;
-    let mut files = sure_files(alloc, &words, source.as_bytes())?;
+    let Some(Command::Prove(asked)) = read_words(alloc, words.as_slice())? else {
+        return Ok(None);
+    };
+    let mut files = SureFiles::new(alloc);
+    files.add(asked.file, source.as_bytes())?;
     let mut out = SureSink::new(alloc);
     let outcome = run_surely(alloc, &words, &mut files, &mut out);
-    outcome_text(alloc, &outcome, out.bytes())
-}
-
-/// Files that hold these bytes under each of the words.
-fn sure_files(alloc: Global, words: &Vec<String>, bytes: &[u8]) -> Result<SureFiles, Memory>
-    ensures { IfOk result (λ files. All (λ word. IsTrue (contains_key (held_by files) (string_bytes word))) words.now.items) }
-{
-    let mut files = SureFiles::new(alloc);
-    for word in words {
-        files.add(word.as_str(), bytes)?;
-    }
-    Ok(files)
+    Ok(Some(outcome_text(alloc, &outcome, out.bytes())?))
 }
 
 /// Where nothing can fail, no fault is answered.
@@ -302,7 +298,7 @@ fn run_surely(
     files: &mut SureFiles,
     out: &mut SureSink,
 ) -> Outcome
-    requires { All (λ word. IsTrue (contains_key (held_by files.old) (string_bytes word))) words.now.items }
+    requires { (name : List ℕ) → IsNamed (wanted (texts words.now.items)) name → IsTrue (contains_key (held_by files.old) name) }
     ensures reads { result.report ≢ Report.ReadFault }
     ensures writes { result.sent ≢ Sent.Failed }
 {

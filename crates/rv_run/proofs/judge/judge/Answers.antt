@@ -31,4 +31,4 @@ pub returns-clause-wide : goal.returns-clause-wide
 returns-clause-wide c = λ nodes.
     let s = c.args.source.now in
     let p = program_tree s.program in
-    wide p s.typed s.order c.requires.fits (λ m text settled. c.well_formed_programs.ensures p m s.typed text settled) c.in_ok-flat.flat c.in_ok-flat.ensures.flat (c.decided.ensures.wide nodes)
+    wide p s.typed s.order c.requires.fits (λ m text settled. c.well_formed_programs.ensures p m s.typed text settled) c.args.nodes c.in_ok-flat.flat c.in_ok-flat.ensures.flat (c.decided.ensures.wide nodes)

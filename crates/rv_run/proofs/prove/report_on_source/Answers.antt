@@ -18,6 +18,15 @@ use Rattle.rv_run.proofs.Judged.{verdict-on_source, verdict-not_refused, said_sa
 use Rattle.rv_run.proofs.Reported.{refusal-not_safe, refusal-not_violated, refusal-not_unknown, refusal-not_nodes, refusal-on_source, refusal-refused, refused_accepted, refused_same, named, told, told_back}
 use Rattle.rv_run.proofs.prove.report_on_source.Goals as goal
 
+pub read_source-requires : goal.read_source-requires
+read_source-requires c = c.requires.short
+
+pub judge-requires-clause-fits : goal.judge-requires-clause-fits
+judge-requires-clause-fits c = c.in-Ok.ensures.found.fits
+
+pub judge-requires-clause-limit : goal.judge-requires-clause-limit
+judge-requires-clause-limit c = c.requires.limit
+
 pub judge-requires-clause-plain : goal.judge-requires-clause-plain
 judge-requires-clause-plain c = c.plain_names.ensures c.args.bytes.now (program_tree c.in-Ok.source.program) c.in-Ok.ensures.found.text
 
@@ -69,21 +78,21 @@ returns-in-Ok c =
     one_claim p m (λ f g first second. c.alike_systems.ensures p m f g is_well is_main first second) (λ f g first second. c.alike_names.ensures.thresholds p m f g is_well is_main first second) has lacks in
     let back : (P : ProgramTree → Identifier → Type 0) → OnProgram P bytes node → P p m = λ P on. subst (P p) (sym (named bytes node s source)) (told_back bytes node s source (c.one_tree.ensures bytes) P on) in
     record {
-      safe = λ d h. told bytes node s source (WithRuns IsSafe) (runs IsSafe (said_safe p m r d judged (sym is ∙ h)).0);
-      certified = λ d h. told bytes node s source (IsCertified d) (said_safe p m r d judged (sym is ∙ h)).2;
-      claimed = λ d h. told bytes node s source HasGoodClaim (said_safe p m r d judged (sym is ∙ h)).1;
+      safe = λ d h. told bytes node s source (WithRuns IsSafe) (runs IsSafe (said_safe c.args.nodes p m r d judged (sym is ∙ h)).0);
+      certified = λ d h. told bytes node s source (IsCertified d) (said_safe c.args.nodes p m r d judged (sym is ∙ h)).2;
+      claimed = λ d h. told bytes node s source HasGoodClaim (said_safe c.args.nodes p m r d judged (sym is ∙ h)).1;
       invariant = λ d h. told bytes node s source (IsInvariantOf d c.on_verdict.result.document.items)
-          (subst (λ text. IsInvariantOf d text p m) (sym c.on_verdict.ensures.document) (said_safe p m r d judged (sym is ∙ h)).3);
-      violated = λ t h. told bytes node s source (WithRuns (IsViolated t)) (runs (IsViolated t) (said_violated p m r t judged (sym is ∙ h)).0);
+          (subst (λ text. IsInvariantOf d text p m) (sym c.on_verdict.ensures.document) (said_safe c.args.nodes p m r d judged (sym is ∙ h)).3);
+      violated = λ t h. told bytes node s source (WithRuns (IsViolated t)) (runs (IsViolated t) (said_violated c.args.nodes p m r t judged (sym is ∙ h)).0);
       document = λ t h. told bytes node s source (IsDocumentOf t c.on_verdict.result.document.items)
-          (subst (λ text. IsDocumentOf t text p m) (sym c.on_verdict.ensures.document) (said_violated p m r t judged (sym is ∙ h)).1);
-      unknown = λ h. told bytes node s source (WithRuns IsUnknown) (runs IsUnknown (said_unknown p m r judged (sym is ∙ h)));
-      nodes = λ n h. let both = said_nodes p m r n wide (sym is ∙ h) in (both.0, told bytes node s source HasManyVariables both.1);
-      refused = λ found h. absurd (verdict-not_refused r found (sym is ∙ h));
-      only = subst IsOnSource (sym is) (verdict-on_source r);
-      only_safe = λ on. subst IsSafeUnlessCutOff (sym is) (must_safe p m r judged (back IsSafeControl on));
-      only_violated = λ on. subst IsViolatedUnlessCutOff (sym is) (must_violated p m r judged (back IsUnsafeControl on));
-      only_claimed = λ on. subst IsSafeUnlessCutOff (sym is) (must_claim p m r one judged (back HasGoodClaim on));
-      only_unknown = λ on. subst (IsUnlessLimited Unknown) (sym is) (must_unknown p m r one judged (back IsUnknown on));
+          (subst (λ text. IsDocumentOf t text p m) (sym c.on_verdict.ensures.document) (said_violated c.args.nodes p m r t judged (sym is ∙ h)).1);
+      unknown = λ h. told bytes node s source (WithRuns IsUnknown) (runs IsUnknown (said_unknown c.args.nodes p m r judged (sym is ∙ h)));
+      nodes = λ n h. let both = said_nodes c.args.nodes p m r n wide (sym is ∙ h) in (both.0, told bytes node s source (HasManyVariables c.args.nodes) both.1);
+      refused = λ found h. absurd (verdict-not_refused c.args.nodes r found (sym is ∙ h));
+      only = subst IsOnSource (sym is) (verdict-on_source c.args.nodes r);
+      only_safe = λ on. subst IsSafeUnlessCutOff (sym is) (must_safe c.args.nodes p m r judged (back IsSafeControl on));
+      only_violated = λ on. subst IsViolatedUnlessCutOff (sym is) (must_violated c.args.nodes p m r judged (back IsUnsafeControl on));
+      only_claimed = λ on. subst IsSafeUnlessCutOff (sym is) (must_claim c.args.nodes p m r one judged (back HasGoodClaim on));
+      only_unknown = λ on. subst (IsUnlessLimited Unknown) (sym is) (must_unknown c.args.nodes p m r one judged (back IsUnknown on));
       only_refused = λ found h. absurd (c.in-Ok.ensures.only_refused found h);
     }

@@ -1,147 +1,33 @@
-use Rattle.std.proofs.Common.{◌≡◌, ℕ, ◌≤◌, ◌<◌, ◌⊎◌, inl, inr, Bool, List, length, IsTrue, Option, Some, None, sym, ◌∙◌, ap, subst, arith}
-use Rattle.std.specs.Prelude.{option_map}
-use Rattle.rv_tree.specs.Limits.{source_limit}
-use Rattle.rv_meaning.specs.Runs.{IsSafe}
-use Rattle.rv_base.specs.Shelf.{Shelf, HoldsUnder}
-use Rattle.rv_run.specs.Words.{texts, beside, command}
-use Rattle.rv_run.specs.declared.words.Task.{Task}
-use Rattle.rv_run.specs.declared.words.Beside.{Beside}
+use Rattle.std.proofs.Common.{◌≡◌, ℕ, List, Some, ap, sym, ◌∙◌, subst}
+use Rattle.rv_words.specs.Asked.{make, tour}
+use Rattle.rv_words.specs.Words.{texts}
+use Rattle.rv_run.specs.Words.{HasRanges, IsNamed, Wanted, wanted_by, wanted_of}
+use Rattle.rv_run.specs.declared.words.Request.{Request}
+use Rattle.rv_run.specs.Replies.{Replies}
 use Rattle.rv_run.specs.declared.report.Report.{Report}
-use Rattle.rv_run.specs.declared.report.Report.TheVariants.{Accepted, ReadFault, TooLong, Usage}
-use Rattle.rv_run.specs.Answers.{IsOnSource, IsTold, IsToldDocument, OnDocument, OnFile, Tells}
-use Rattle.rv_run.specs.Programs.{HasGoodClaim, HasManyVariables, IsCertified, IsRefusedFor, IsSafeControl, IsUnknown, IsUnsafeControl, OnProgram, WithRuns}
-use Rattle.rv_run.specs.Checked.{IsReportOf, IsUnlessCut, SaysOf}
-use Rattle.rv_run.specs.Traced.{IsLongDocument, OnAccepted}
-use Rattle.rv_run.specs.Verdicts.{IsDocumentOf, IsInvariantOf, IsViolated}
-use Rattle.rv_run.proofs.Named.{no_document, on_document, on_file, told_of, told_of_document}
-use Rattle.rv_run.proofs.Reported.{document-not_safe, document-not_unknown, document-not_usage, document-not_verdict, document-not_violated, source-not_document}
-use Rattle.rv_run.proofs.Served.{served, served_other}
+use Rattle.rv_run.proofs.Cut.{make_replies, tour_replies}
 use Rattle.rv_run.proofs.running.report_on.Goals as goal
 
-pub load_whole-requires : goal.load_whole-requires
-load_whole-requires g c = served (g.F.Files.serves c.args.files.now) c.args.words.now _ c.requires (sym c.in-Some.ensures.command)
+pub report_on_file-requires-clause-served : goal.report_on_file-requires-clause-served
+report_on_file-requires-clause-served g c = λ name is.
+    c.requires name (subst (λ (w : Wanted). IsNamed w name) (ap wanted_by (sym (c.in-Ok-Some-File.field-0-is ∙ ap (λ (r : Request). Some r) c.in-Ok-Some-File.field-0-0-is)) ∙ c.in-Ok-Some-File.ensures.wanted) is)
 
-pub report_on_document-requires-clause-served : goal.report_on_document-requires-clause-served
-report_on_document-requires-clause-served g c =
-    let other = c.in-Some-beside.other in
-    let with_other : beside (texts c.args.words.now) ≡ Some (other.task, other.file.now) =
-    sym c.in-Some.ensures.beside ∙ ap (option_map (λ (b : Beside). (b.task, b.file.now))) c.in-Some-beside.is in
-    subst (λ (serves : List ℕ → Bool). IsTrue (serves other.file.now)) (sym c.load_whole.ensures.same_serves)
-    (served_other (g.F.Files.serves c.args.files.now) c.args.words.now (other.task, other.file.now) c.requires with_other)
-
-some_none : {X : Type 0} (x : X) → Some x ≡ None → ⊥
-some_none x e = cc
-
--- The node is proved.
-pub returns-in-None : goal.returns-in-None
-returns-in-None g c =
+pub returns-in-Ok-Some-Make-clause-replies : goal.returns-in-Ok-Some-Make-clause-replies
+returns-in-Ok-Some-Make-clause-replies g c =
     let held = g.F.Files.held c.args.files.now in
-    let words = texts c.args.words.now in
-    let file = c.in-Some.command.file.now in
-    let node = c.in-Some.command.node.now in
-    let named : command words ≡ Some (file, node) = sym c.in-Some.ensures.command in
-    let loaded = c.in-Ok.source.items in
-    let given = c.deref.result.now in
-    let whole = c.in-Ok.ensures.whole in
-    let same = c.deref.ensures.value in
-    let fits : length given ≤ source_limit = subst (λ (bytes : List ℕ). length bytes ≤ source_limit) (sym same) c.in-Ok.ensures.fits in
-    let answer = c.report_on_source.ensures in
-    let r = c.report_on_source.result.report in
-    let none : beside words ≡ None = sym c.in-Some.ensures.beside ∙ ap (option_map (λ (b : Beside). (b.task, b.file.now))) c.in-None.is in
-    let lift : (P : List ℕ → List ℕ → Type 0) → P given node → OnFile held words P = λ P holds. on_file held words (file, node) loaded given source_limit P named whole same holds in
-    let back : (P : List ℕ → List ℕ → Type 0) → IsTold held words P → P given node = λ P told. told_of held words (file, node) loaded given source_limit P named whole same told in
-    record {
-      safe = λ d h. lift (OnProgram (WithRuns IsSafe)) (answer.safe d h);
-      certified = λ d h. lift (OnProgram (IsCertified d)) (answer.certified d h);
-      claimed = λ d h. lift (OnProgram HasGoodClaim) (answer.claimed d h);
-      invariant = λ d h. lift (OnProgram (IsInvariantOf d c.report_on_source.result.document.items)) (answer.invariant d h);
-      violated = λ t h. lift (OnProgram (WithRuns (IsViolated t))) (answer.violated t h);
-      document = λ t h. lift (OnProgram (IsDocumentOf t c.report_on_source.result.document.items)) (answer.document t h);
-      unknown = λ h. lift (OnProgram (WithRuns IsUnknown)) (answer.unknown h);
-      nodes = λ n h. let two = answer.nodes n h in (two.0, lift (OnProgram HasManyVariables) two.1);
-      checked_safe = λ h. absurd (let bad : IsOnSource Accepted = subst IsOnSource h answer.only in bad);
-      not_too_long = λ verdict. lift (λ bytes node. length bytes ≤ source_limit) fits;
-      proved = λ verdict. none;
-      told = λ x is e. absurd (source-not_document x (subst IsOnSource e answer.only) is);
-      refused = λ fault h. lift (λ bytes node. (length bytes ≤ source_limit) × IsRefusedFor fault bytes node) (fits, answer.refused fault h);
-      too_long = λ n h. absurd (let bad : IsOnSource (TooLong n) = subst IsOnSource h answer.only in bad);
-      read_fault = λ h. absurd (let bad : IsOnSource ReadFault = subst IsOnSource h answer.only in bad);
-      usage = (λ h. absurd (let bad : IsOnSource Usage = subst IsOnSource h answer.only in bad), λ nothing. absurd (some_none (file, node) (sym named ∙ nothing)));
-      only_safe = λ alone told. answer.only_safe (back (λ bytes node. (length bytes ≤ source_limit) × OnProgram IsSafeControl bytes node) told).1;
-      only_claimed = λ alone told. answer.only_claimed (back (λ bytes node. (length bytes ≤ source_limit) × OnProgram HasGoodClaim bytes node) told).1;
-      only_violated = λ alone told. answer.only_violated (back (λ bytes node. (length bytes ≤ source_limit) × OnProgram IsUnsafeControl bytes node) told).1;
-      only_unknown = λ alone told. answer.only_unknown (back (λ bytes node. (length bytes ≤ source_limit) × OnProgram IsUnknown bytes node) told).1;
-      only_told = λ task x told. absurd (no_document held words task (OnAccepted (SaysOf task x)) none told);
-      only_refused = λ fault told. answer.only_refused fault (back (λ bytes node. (length bytes ≤ source_limit) × IsRefusedFor fault bytes node) told).1;
-      only_too_long = λ told. let over = back (λ bytes node. source_limit < length bytes) told in absurd (omega (arith, over, fits));
-      only_long_document = λ task told. absurd (no_document held words task IsLongDocument none told);
-      same_held = c.load_whole.ensures.same_held;
-      same_serves = c.load_whole.ensures.same_serves;
-    }
+    let n = c.in-Ok-Some-Make.n in
+    subst (λ (w : Wanted). Replies held w c.bare.result.report c.bare.result.document.items) (ap wanted_by (sym (c.in-Ok-Some-Make.field-0-is ∙ ap (λ (r : Request). Some r) c.in-Ok-Some-Make.field-0-0-is)) ∙ c.in-Ok-Some-Make.ensures.wanted)
+    (subst (λ (r : Report). Replies held (wanted_of (Some (make n))) r c.bare.result.document.items) (sym c.bare.ensures)
+    (make_replies held c.bare.result.document.items n c.report_on_make.result c.report_on_make.ensures))
 
--- Something is done with a document.
-pub returns : goal.returns
-returns g c =
+pub returns-in-Ok-Some-Tour-clause-replies : goal.returns-in-Ok-Some-Tour-clause-replies
+returns-in-Ok-Some-Tour-clause-replies g c =
     let held = g.F.Files.held c.args.files.now in
-    let words = texts c.args.words.now in
-    let file = c.in-Some.command.file.now in
-    let node = c.in-Some.command.node.now in
-    let other = c.in-Some-beside.other in
-    let named : command words ≡ Some (file, node) = sym c.in-Some.ensures.command in
-    let with_other : beside words ≡ Some (other.task, other.file.now) =
-    sym c.in-Some.ensures.beside ∙ ap (option_map (λ (b : Beside). (b.task, b.file.now))) c.in-Some-beside.is in
-    let loaded = c.in-Ok.source.items in
-    let given = c.deref-in-Some-beside.result.now in
-    let whole = c.in-Ok.ensures.whole in
-    let same = c.deref-in-Some-beside.ensures.value in
-    let fits : length given ≤ source_limit = subst (λ (bytes : List ℕ). length bytes ≤ source_limit) (sym same) c.in-Ok.ensures.fits in
-    let answer = c.report_on_document.ensures in
-    let r = c.report_on_document.result in
-    let kept = c.load_whole.ensures.same_held in
-    let lift : (P : List ℕ → List ℕ → Type 0) → P given node → OnFile held words P = λ P holds. on_file held words (file, node) loaded given source_limit P named whole same holds in
-    let back : (P : List ℕ → List ℕ → Type 0) → IsTold held words P → P given node = λ P told. told_of held words (file, node) loaded given source_limit P named whole same told in
-    let attach : (P : List ℕ → List ℕ → List ℕ → Type 0) → HoldsUnder held other.file.now (P given node) → OnDocument held words other.task P = λ P h.
-    on_document held words (file, node) (other.task, other.file.now) loaded given source_limit P named with_other whole same h in
-    let attached : (P : List ℕ → List ℕ → List ℕ → Type 0) (task : Task) (told : IsToldDocument held words task P)
-    → (task ≡ other.task) × Tells held other.file.now told.document × P given node told.document = λ P task told.
-    told_of_document held words (file, node) (other.task, other.file.now) loaded given source_limit P named with_other whole same task told in
-    record {
-      safe = λ d h. absurd (document-not_safe r d answer.only h);
-      certified = λ d h. absurd (document-not_safe r d answer.only h);
-      claimed = λ d h. absurd (document-not_safe r d answer.only h);
-      invariant = λ d h. absurd (document-not_safe r d answer.only h);
-      violated = λ t h. absurd (document-not_violated r t answer.only h);
-      document = λ t h. absurd (document-not_violated r t answer.only h);
-      unknown = λ h. absurd (document-not_unknown r answer.only h);
-      nodes = λ n h. let two = answer.nodes n h in (two.0, lift (OnProgram HasManyVariables) two.1);
-      checked_safe = λ h. lift (OnProgram (WithRuns IsSafe)) (answer.safe h);
-      not_too_long = λ verdict. lift (λ bytes node. length bytes ≤ source_limit) fits;
-      proved = λ verdict. absurd (document-not_verdict r answer.only verdict);
-      told = λ x is e. let two = answer.told x is e in (
-        other.task,
-        two.0,
-        attach (OnAccepted (SaysOf other.task x)) (subst (λ (h : Option Shelf). HoldsUnder h other.file.now (OnAccepted (SaysOf other.task x) given node)) kept two.1),
-      );
-      refused = λ fault h. lift (λ bytes node. (length bytes ≤ source_limit) × IsRefusedFor fault bytes node) (fits, answer.refused fault h);
-      too_long = λ n h. let two = answer.too_long n h in inr (
-        two.0,
-        other.task,
-        attach IsLongDocument (subst (λ (h : Option Shelf). HoldsUnder h other.file.now (IsLongDocument given node)) kept two.1),
-      );
-      read_fault = λ h. let rose = answer.read_fault h in let later = c.load_whole.ensures.later in omega (arith, rose, later);
-      usage = (λ h. absurd (document-not_usage r answer.only h), λ nothing. absurd (some_none (file, node) (sym named ∙ nothing)));
-      only_safe = λ alone told. absurd (some_none (other.task, other.file.now) (sym with_other ∙ alone));
-      only_claimed = λ alone told. absurd (some_none (other.task, other.file.now) (sym with_other ∙ alone));
-      only_violated = λ alone told. absurd (some_none (other.task, other.file.now) (sym with_other ∙ alone));
-      only_unknown = λ alone told. absurd (some_none (other.task, other.file.now) (sym with_other ∙ alone));
-      only_told = λ task x told. let all = attached (OnAccepted (SaysOf task x)) task told in
-          subst (λ (t : Task). IsUnlessCut t x r) (sym all.0)
-          (answer.only_told x told.document (subst (λ (h : Option Shelf). Tells h other.file.now told.document) (sym kept) all.1)
-          (subst (λ (t : Task). OnAccepted (SaysOf t x) given node told.document) all.0 all.2));
-      only_refused = λ fault told. answer.only_refused fault (back (λ bytes node. (length bytes ≤ source_limit) × IsRefusedFor fault bytes node) told).1;
-      only_too_long = λ told. let over = back (λ bytes node. source_limit < length bytes) told in absurd (omega (arith, over, fits));
-      only_long_document = λ task told. let all = attached IsLongDocument task told in
-          answer.only_too_long told.document (subst (λ (h : Option Shelf). Tells h other.file.now told.document) (sym kept) all.1) all.2;
-      same_held = answer.same_held ∙ kept;
-      same_serves = answer.same_serves ∙ c.load_whole.ensures.same_serves;
-    }
+    let n = c.in-Ok-Some-Tour.n in
+    let answer = c.report_on_tour.ensures in
+    let shown = c.bare-in-Ok-Some-Tour.result in
+    let ranges = subst HasRanges (c.in-Ok-Some-Tour.field-0-is ∙ ap (λ (r : Request). Some r) c.in-Ok-Some-Tour.field-0-0-is) c.in-Ok-Some-Tour.ensures.ranges in
+    subst (λ (w : Wanted). Replies held w shown.report shown.document.items) (ap wanted_by (sym (c.in-Ok-Some-Tour.field-0-is ∙ ap (λ (r : Request). Some r) c.in-Ok-Some-Tour.field-0-0-is)) ∙ c.in-Ok-Some-Tour.ensures.wanted)
+    (subst (λ (r : Report). Replies held (wanted_of (Some (tour n))) r shown.document.items) (sym c.bare-in-Ok-Some-Tour.ensures)
+    (tour_replies held shown.document.items n (c.made_texts_are_short.ensures n ranges.1) c.report_on_tour.result
+    answer.toured answer.safe answer.certified answer.nodes answer.only))

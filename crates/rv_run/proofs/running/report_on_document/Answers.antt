@@ -31,7 +31,7 @@ returns-in-Err g c =
       too_long = λ n h. absurd (refusal-not_long fault n (sym is ∙ h));
       read_fault = λ h. absurd (refusal-not_read_fault fault (sym is ∙ h));
       only = subst IsDocumentReport (sym is) (refusal-of_document fault);
-      only_told = λ x document tells on. cut_memory c.args.task x c.refusal.result (is ∙ refused_accepted bytes node (SaysOf c.args.task x document) fault c.in-Err.ensures.only on.2);
+      only_told = λ x document tells on. cut_memory c.args.other.task x c.refusal.result (is ∙ refused_accepted bytes node (SaysOf c.args.other.task x document) fault c.in-Err.ensures.only on.2);
       only_refused = λ found h. subst (IsRefusalUnlessCutOff found) (sym is) (refused_same bytes node fault found (c.in-Err.ensures.only_refused found h));
       only_too_long = λ document tells long. inr (inr (is ∙ refused_accepted bytes node (λ p m. ⊤) fault c.in-Err.ensures.only long.2));
       same_held = refl;
@@ -40,11 +40,11 @@ returns-in-Err g c =
 
 pub returns-in-Ok-load_whole-clause-told : goal.returns-in-Ok-load_whole-clause-told
 returns-in-Ok-load_whole-clause-told g c = λ x answer e.
-    let task = c.args.task in
+    let task = c.args.other.task in
     let r = c.report_on_bytes.result in
     let is : IsReportOf task x = subst (IsReportOf task) e (answer-reports task r c.report_on_bytes.ensures.only (subst IsDocumentAnswer (sym e) answer)) in (
       is,
-      document_said (g.F.Files.held c.args.files.now) c.args.other.now c.args.bytes.now c.args.node.now c.in-Ok.source c.in-Ok.ensures.found c.requires.short task
+      document_said (g.F.Files.held c.args.files.now) c.args.other.file.now c.args.bytes.now c.args.node.now c.in-Ok.source c.in-Ok.ensures.found c.requires.short task
           c.in-Ok-load_whole.document.items c.deref.result.now c.in-Ok-load_whole.ensures.whole c.in-Ok-load_whole.ensures.fits c.deref.ensures.value x
           (c.report_on_bytes.ensures.says x is e),
     )
@@ -62,20 +62,20 @@ returns-in-Ok-load_whole-clause-safe g c = λ h.
 pub returns-in-Ok-load_whole-clause-nodes : goal.returns-in-Ok-load_whole-clause-nodes
 returns-in-Ok-load_whole-clause-nodes g c = λ n h.
     let both = c.report_on_bytes.ensures.wide n h in
-    (both.0, told c.args.bytes.now c.args.node.now c.in-Ok.source c.in-Ok.ensures.found HasManyVariables both.1)
+    (both.0, told c.args.bytes.now c.args.node.now c.in-Ok.source c.in-Ok.ensures.found (HasManyVariables c.args.nodes) both.1)
 
 pub returns-in-Ok-load_whole-clause-only : goal.returns-in-Ok-load_whole-clause-only
-returns-in-Ok-load_whole-clause-only g c = answer-of_document c.args.task c.report_on_bytes.result c.report_on_bytes.ensures.only
+returns-in-Ok-load_whole-clause-only g c = answer-of_document c.args.other.task c.report_on_bytes.result c.report_on_bytes.ensures.only
 
 pub returns-in-Ok-load_whole-clause-only_told : goal.returns-in-Ok-load_whole-clause-only_told
 returns-in-Ok-load_whole-clause-only_told g c =
-    document_told (g.F.Files.held c.args.files.now) c.args.other.now c.args.bytes.now c.args.node.now c.in-Ok.source c.in-Ok.ensures.found c.requires.short c.args.task
+    document_told (g.F.Files.held c.args.files.now) c.args.other.file.now c.args.bytes.now c.args.node.now c.in-Ok.source c.in-Ok.ensures.found c.requires.short c.args.other.task
     c.in-Ok-load_whole.document.items c.deref.result.now c.in-Ok-load_whole.ensures.whole c.in-Ok-load_whole.ensures.fits c.deref.ensures.value
     (c.one_tree.ensures c.args.bytes.now) c.report_on_bytes.result c.report_on_bytes.ensures.only_says
 
 pub returns-in-Ok-load_whole-clause-only_too_long : goal.returns-in-Ok-load_whole-clause-only_too_long
 returns-in-Ok-load_whole-clause-only_too_long g c = λ document tells long. absurd (
-    whole-not_long (g.F.Files.held c.args.files.now) c.args.other.now c.args.bytes.now c.args.node.now c.in-Ok.source c.in-Ok.ensures.found c.requires.short c.args.task
+    whole-not_long (g.F.Files.held c.args.files.now) c.args.other.file.now c.args.bytes.now c.args.node.now c.in-Ok.source c.in-Ok.ensures.found c.requires.short c.args.other.task
     c.in-Ok-load_whole.document.items c.deref.result.now c.in-Ok-load_whole.ensures.whole c.in-Ok-load_whole.ensures.fits c.deref.ensures.value document tells long)
 
 pub returns-in-Err-TooLong-clause-too_long : goal.returns-in-Err-TooLong-clause-too_long
@@ -83,22 +83,22 @@ returns-in-Err-TooLong-clause-too_long g c = λ n h.
     let told = c.in-Err-TooLong.ensures.too_long c.in-Err-TooLong.count (ap Err c.in-Err-TooLong.field-0-is) in
     let many = told.0 in (
       search rules,
-      long_said (g.F.Files.held c.args.files.now) c.args.other.now c.args.bytes.now c.args.node.now c.in-Ok.source c.in-Ok.ensures.found c.requires.short c.args.task told.1,
+      long_said (g.F.Files.held c.args.files.now) c.args.other.file.now c.args.bytes.now c.args.node.now c.in-Ok.source c.in-Ok.ensures.found c.requires.short c.args.other.task told.1,
     )
 
 pub returns-in-Err-TooLong-clause-only_told : goal.returns-in-Err-TooLong-clause-only_told
 returns-in-Err-TooLong-clause-only_told g c = λ x document tells on.
     let told = c.in-Err-TooLong.ensures.too_long c.in-Err-TooLong.count (ap Err c.in-Err-TooLong.field-0-is) in absurd (
-    long-not_said (g.F.Files.held c.args.files.now) c.args.other.now c.args.bytes.now c.args.node.now c.in-Ok.source c.in-Ok.ensures.found c.requires.short c.args.task told.1 x document tells on)
+    long-not_said (g.F.Files.held c.args.files.now) c.args.other.file.now c.args.bytes.now c.args.node.now c.in-Ok.source c.in-Ok.ensures.found c.requires.short c.args.other.task told.1 x document tells on)
 
 pub returns-in-Ok-load_whole-clause-refused : goal.returns-in-Ok-load_whole-clause-refused
-returns-in-Ok-load_whole-clause-refused g c = λ fault h. absurd (document-not_refused c.args.task c.report_on_bytes.result fault c.report_on_bytes.ensures.only h)
+returns-in-Ok-load_whole-clause-refused g c = λ fault h. absurd (document-not_refused c.args.other.task c.report_on_bytes.result fault c.report_on_bytes.ensures.only h)
 
 pub returns-in-Ok-load_whole-clause-too_long : goal.returns-in-Ok-load_whole-clause-too_long
-returns-in-Ok-load_whole-clause-too_long g c = λ n h. absurd (document-not_long c.args.task c.report_on_bytes.result n c.report_on_bytes.ensures.only h)
+returns-in-Ok-load_whole-clause-too_long g c = λ n h. absurd (document-not_long c.args.other.task c.report_on_bytes.result n c.report_on_bytes.ensures.only h)
 
 pub returns-in-Ok-load_whole-clause-read_fault : goal.returns-in-Ok-load_whole-clause-read_fault
-returns-in-Ok-load_whole-clause-read_fault g c = λ h. absurd (document-not_read_fault c.args.task c.report_on_bytes.result c.report_on_bytes.ensures.only h)
+returns-in-Ok-load_whole-clause-read_fault g c = λ h. absurd (document-not_read_fault c.args.other.task c.report_on_bytes.result c.report_on_bytes.ensures.only h)
 
 pub returns-in-Ok-load_whole-clause-only_refused : goal.returns-in-Ok-load_whole-clause-only_refused
 returns-in-Ok-load_whole-clause-only_refused g c = λ fault h. absurd (c.in-Ok.ensures.only_refused fault h)
@@ -125,7 +125,7 @@ pub returns-in-Err-Failed-clause-told : goal.returns-in-Err-Failed-clause-told
 returns-in-Err-Failed-clause-told g c = λ x answer e. absurd (other-not_document ReadFault x (λ i. i) answer e)
 
 pub returns-in-Err-Failed-clause-only_told : goal.returns-in-Err-Failed-clause-only_told
-returns-in-Err-Failed-clause-only_told g c = λ x document tells on. cut_read_fault c.args.task x
+returns-in-Err-Failed-clause-only_told g c = λ x document tells on. cut_read_fault c.args.other.task x
 
 pub returns-in-Err-Failed-clause-only_refused : goal.returns-in-Err-Failed-clause-only_refused
 returns-in-Err-Failed-clause-only_refused g c = λ fault h. absurd (c.in-Ok.ensures.only_refused fault h)
@@ -137,7 +137,7 @@ pub returns-clause-told : goal.returns-clause-told
 returns-clause-told g c = λ x answer e. absurd (other-not_document Memory x (λ i. i) answer e)
 
 pub returns-clause-only_told : goal.returns-clause-only_told
-returns-clause-only_told g c = λ x document tells on. cut_memory c.args.task x Memory refl
+returns-clause-only_told g c = λ x document tells on. cut_memory c.args.other.task x Memory refl
 
 pub returns-clause-only_refused : goal.returns-clause-only_refused
 returns-clause-only_refused g c = λ fault h. absurd (c.in-Ok.ensures.only_refused fault h)
