@@ -10,7 +10,7 @@ use Rattle.rv_words.specs.Asked.{make, tour}
 use Rattle.rv_run.specs.Words.{Wanted, usual_nodes, wanted_of}
 use Rattle.rv_run.specs.Answers.{OnFile, OnSource, IsNodesReport, IsTold, IsToldDocument, IsTouredReport, IsVerdict, Tells}
 use Rattle.rv_run.specs.Checked.{IsDocumentAnswer, SaysOf}
-use Rattle.rv_run.specs.Programs.{HasManyVariables, IsCertified, OnProgram, WithRuns}
+use Rattle.rv_run.specs.Programs.{HasManyVariables, IsCertified, LacksProbe, OnProgram, WithRuns}
 use Rattle.rv_run.specs.Replies.{Replies}
 use Rattle.rv_run.specs.Traced.{IsLongDocument, OnAccepted, file_limit}
 use Rattle.rv_run.specs.declared.words.Task.{Task}
@@ -60,6 +60,7 @@ module _ (held : Option Shelf) (w : Wanted) (document : List ℕ) where
     document_of = λ t h. absurd (let bad : IsCut (Violated t) = subst IsCut h tt in bad);
     unknown = λ h. absurd (let bad : IsCut Unknown = subst IsCut h tt in bad);
     nodes = λ n h. absurd (let bad : IsCut (Nodes n) = subst IsCut h tt in bad);
+    unprobed = λ alone n h. absurd (let bad : IsCut (Nodes n) = subst IsCut h tt in bad);
     checked_safe = λ h. absurd (let bad : IsCut Accepted = subst IsCut h tt in bad);
     not_too_long = λ h. absurd (elim h [
       | inl verdict ↦ cut-not_verdict Memory tt verdict
@@ -73,6 +74,7 @@ module _ (held : Option Shelf) (w : Wanted) (document : List ℕ) where
     toured = λ n size c h. absurd (let bad : IsCut (Toured n size c) = subst IsCut h tt in bad);
     only_safe = λ alone told. inr (inr (inr refl));
     only_violated = λ alone told. inr (inr (inr refl));
+    only_probed = λ alone told. inr (inr refl);
     only_claimed = λ alone told. inr (inr (inr refl));
     only_unknown = λ alone told. inr (inr (inr refl));
     only_told = λ task x told. cut_memory task x Memory refl;
@@ -94,6 +96,7 @@ module _ (held : Option Shelf) (w : Wanted) (document : List ℕ) where
     document_of = λ t h. absurd (let bad : IsCut (Violated t) = subst IsCut h tt in bad);
     unknown = λ h. absurd (let bad : IsCut Unknown = subst IsCut h tt in bad);
     nodes = λ n h. absurd (let bad : IsCut (Nodes n) = subst IsCut h tt in bad);
+    unprobed = λ alone n h. absurd (let bad : IsCut (Nodes n) = subst IsCut h tt in bad);
     checked_safe = λ h. absurd (let bad : IsCut Accepted = subst IsCut h tt in bad);
     not_too_long = λ h. absurd (elim h [
       | inl verdict ↦ cut-not_verdict ReadFault tt verdict
@@ -107,6 +110,7 @@ module _ (held : Option Shelf) (w : Wanted) (document : List ℕ) where
     toured = λ n size c h. absurd (let bad : IsCut (Toured n size c) = subst IsCut h tt in bad);
     only_safe = λ alone told. inr (inr (inl refl));
     only_violated = λ alone told. inr (inr (inl refl));
+    only_probed = λ alone told. inr (inl refl);
     only_claimed = λ alone told. inr (inr (inl refl));
     only_unknown = λ alone told. inr (inr (inl refl));
     only_told = λ task x told. cut_read_fault task x;
@@ -164,6 +168,7 @@ module _ (held : Option Shelf) (w : Wanted) (named : List ℕ × List ℕ) (docu
     document_of = λ t h. absurd (let bad : IsLong (Violated t) = subst IsLong h tt in bad);
     unknown = λ h. absurd (let bad : IsLong Unknown = subst IsLong h tt in bad);
     nodes = λ n h. absurd (let bad : IsLong (Nodes n) = subst IsLong h tt in bad);
+    unprobed = λ alone n h. absurd (let bad : IsLong (Nodes n) = subst IsLong h tt in bad);
     checked_safe = λ h. absurd (let bad : IsLong Accepted = subst IsLong h tt in bad);
     not_too_long = λ h. absurd (elim h [
       | inl verdict ↦ long-not_verdict (TooLong (source_limit + 1)) tt verdict
@@ -177,6 +182,7 @@ module _ (held : Option Shelf) (w : Wanted) (named : List ℕ × List ℕ) (docu
     toured = λ n size c h. absurd (let bad : IsLong (Toured n size c) = subst IsLong h tt in bad);
     only_safe = λ alone told. absurd (too_much told);
     only_violated = λ alone told. absurd (too_much told);
+    only_probed = λ alone told. absurd (too_much told);
     only_claimed = λ alone told. absurd (too_much told);
     only_unknown = λ alone told. absurd (too_much told);
     only_told = λ task x told. absurd (
@@ -220,6 +226,7 @@ off-not_verdict r off (inr (inr h)) = let bad : IsOffFile Unknown = subst IsOffF
 
 module _ (held : Option Shelf) (w : Wanted) (document : List ℕ) (none : w.named ≡ None) (r : Report) (off : IsOffFile r)
     (nodes : (n : ℕ) → r ≡ Nodes n → (n ≡ w.nodes) × OnSource held w (OnProgram (HasManyVariables n)))
+    (unprobed : (n : ℕ) → r ≡ Nodes n → OnSource held w (OnProgram LacksProbe))
     (short : IsNodesReport r → OnSource held w (λ bytes node. length bytes ≤ source_limit))
     (made : (source : List ℕ) → r ≡ Made source → (n : ℕ) × (w.made ≡ Some n) × (source ≡ made_text n))
     (toured : (n size : ℕ) (c : Certificate) → r ≡ Toured n size c
@@ -236,6 +243,7 @@ module _ (held : Option Shelf) (w : Wanted) (document : List ℕ) (none : w.name
     document_of = λ t h. absurd (let bad : IsOffFile (Violated t) = subst IsOffFile h off in bad);
     unknown = λ h. absurd (let bad : IsOffFile Unknown = subst IsOffFile h off in bad);
     nodes = nodes;
+    unprobed = λ alone. unprobed;
     checked_safe = λ h. absurd (let bad : IsOffFile Accepted = subst IsOffFile h off in bad);
     not_too_long = λ h. elim h [
       | inl verdict ↦ absurd (off-not_verdict r off verdict)
@@ -249,6 +257,7 @@ module _ (held : Option Shelf) (w : Wanted) (document : List ℕ) (none : w.name
     toured = toured;
     only_safe = λ alone told. absurd (none_some (told.file, told.node) w.named none told.named);
     only_violated = λ alone told. absurd (none_some (told.file, told.node) w.named none told.named);
+    only_probed = λ alone told. absurd (none_some (told.file, told.node) w.named none told.named);
     only_claimed = λ alone told. absurd (none_some (told.file, told.node) w.named none told.named);
     only_unknown = λ alone told. absurd (none_some (told.file, told.node) w.named none told.named);
     only_told = λ task x told. absurd (none_some (told.file, told.node) w.named none told.named);
@@ -272,7 +281,7 @@ pub make_replies : (held : Option Shelf) (document : List ℕ) (n : ℕ) (r : Re
 make_replies held document n r (inr none) = subst (λ (x : Report). Replies held (wanted_of (Some (make n))) x document) (sym none) (memory_replies held (wanted_of (Some (make n))) document)
 make_replies held document n r (inl made) = subst (λ (x : Report). Replies held (wanted_of (Some (make n))) x document) (sym made)
     (off_file held (wanted_of (Some (make n))) document refl (Made (made_text n)) tt
-    (λ k h. absurd (let bad : ⊥ = cc in bad)) (λ many. absurd (made-not_nodes many))
+    (λ k h. absurd (let bad : ⊥ = cc in bad)) (λ k h. absurd (let bad : ⊥ = cc in bad)) (λ many. absurd (made-not_nodes many))
     (λ source h. (n, refl, sym (inner_text (made_text n) source h))) (λ m size c h. absurd (let bad : ⊥ = cc in bad))
     (λ m is. inl (ap (λ (k : ℕ). Made (made_text k)) (same_number n m is))) (λ m is. absurd (let bad : ⊥ = cc in bad)))
   where
@@ -285,6 +294,7 @@ module _ (held : Option Shelf) (document : List ℕ) (n : ℕ) (short : length (
     (safe : (count size : ℕ) (c : Certificate) → r ≡ Toured count size c → OnProgram (WithRuns IsSafe) (made_text n) (codes "main"))
     (certified : (count size : ℕ) (c : Certificate) → r ≡ Toured count size c → OnProgram (IsCertified c) (made_text n) (codes "main"))
     (nodes : (k : ℕ) → r ≡ Nodes k → (k ≡ usual_nodes) × OnProgram (HasManyVariables k) (made_text n) (codes "main"))
+    (unprobed : (k : ℕ) → r ≡ Nodes k → OnProgram LacksProbe (made_text n) (codes "main"))
     (only : IsTouredReport r ⊎ (IsNodesReport r ⊎ (r ≡ Memory))) where
   off : IsOffFile r
   off = elim only [
@@ -295,7 +305,7 @@ module _ (held : Option Shelf) (document : List ℕ) (n : ℕ) (short : length (
 
   pub tour_replies : Replies held (wanted_of (Some (tour n))) r document
   tour_replies = off_file held (wanted_of (Some (tour n))) document refl r off
-      (λ k h. let two = nodes k h in (two.0, inr two.1)) (λ many. inr short)
+      (λ k h. let two = nodes k h in (two.0, inr two.1)) (λ k h. inr (unprobed k h)) (λ many. inr short)
       (λ source h. absurd (let bad : IsTouredReport (Made source) ⊎ (IsNodesReport (Made source) ⊎ (Made source ≡ Memory)) = subst (λ (x : Report). IsTouredReport x ⊎ (IsNodesReport x ⊎ (x ≡ Memory))) h only in
       made-not_toured source bad))
       (λ m size c h. let two = toured m size c h in (

@@ -11,9 +11,12 @@ use Rattle.rv_source.specs.declared.fault.SourceFault.{SourceFault}
 use Rattle.rv_diagram.specs.declared.store.StoreFault.{StoreFault}
 use Rattle.rv_diagram.specs.declared.store.StoreFault.TheVariants as fault
 use Rattle.rv_proofs.specs.declared.certificate.Certificate.{Certificate}
-use Rattle.rv_run.specs.Answers.{IsOnSource, IsUnlessLimited, IsSafeUnlessCutOff, IsViolatedUnlessCutOff}
-use Rattle.rv_run.specs.Programs.{IsSafeControl, IsUnsafeControl, IsCertified, HasGoodClaim, HasManyVariables, IsUnknown, LacksGoodClaim}
-use Rattle.rv_run.specs.Verdicts.{IsViolated, IsDocumentOf, IsInvariantOf, IsVerdictOf, verdict_report, verdict_document}
+use Rattle.rv_falsify.specs.Falsifying.{IsFalsifying}
+use Rattle.rv_probe.specs.Probes.{probe_of}
+use Rattle.rv_replay.specs.Replays.{IsFalsifiedAt}
+use Rattle.rv_run.specs.Answers.{IsOnSource, IsUnlessLimited, IsSafeUnlessCutOff, IsViolatedUnlessCutOff, IsViolatedUnlessUnread}
+use Rattle.rv_run.specs.Programs.{IsSafeControl, IsUnsafeControl, IsCertified, HasGoodClaim, HasManyVariables, HasProbe, IsUnknown, LacksGoodClaim, LacksProbe}
+use Rattle.rv_run.specs.Verdicts.{IsViolated, IsDocumentOf, IsInvariantOf, IsTraced, IsVerdictOf, verdict_report, verdict_document}
 use Rattle.rv_run.specs.declared.report.Report.{Report}
 use Rattle.rv_run.specs.declared.report.Report.TheVariants as report
 use Rattle.rv_run.specs.declared.verdict.Verdict.{Verdict}
@@ -35,18 +38,31 @@ verdict-not_refused nodes (Err fault.Memory) e is = cc
 
 module _ (nodes : ℕ) (p : ProgramTree) (m : Identifier) where
   -- a program that a trace falsifies is not safe
-  pub violated-unsafe : (t : Trace) → IsViolated t p m → IsSafe p m → ⊥
-  violated-unsafe t is safe =
-      let at = is.falsifying.falsified in
+  falsified-unsafe : (t : Trace) (k : ℕ) → IsFalsifiedAt p m t k → IsSafe p m → ⊥
+  falsified-unsafe t k at safe =
       let run = at.falsifies in
-      let held = safe (is.falsifying.last + 1) is.falsifying.last at.starts at.inputs run.0 run.1 (omega arith) run.2 in
+      let held = safe (k + 1) k at.starts at.inputs run.0 run.1 (omega arith) run.2 in
       let both : Some (Flag false) ≡ Some (Flag true) = sym run.3 ∙ held in
       different both
     where
       different : Some (Flag false) ≡ Some (Flag true) → ⊥
       different e = cc
 
-  pub said_safe : (r : Result Verdict StoreFault) (c : Certificate) → IfOk r (λ v. IsVerdictOf v p m) → verdict_report nodes r ≡ report.Safe c
+  pub falsifying-unsafe : (t : Trace) → IsFalsifying p m t → IsSafe p m → ⊥
+  falsifying-unsafe t is safe = falsified-unsafe t is.last is.falsified safe
+
+  pub probe-unsafe : HasProbe p m → IsSafe p m → ⊥
+  probe-unsafe (f, flat, (b, c, k, at)) safe = falsified-unsafe (probe_of f b c) k at.falsified safe
+
+  -- a trace that is shown is the verdict
+  pub traced-verdict : (t : Trace) → IsViolated nodes t p m → LacksGoodClaim p m → (r : Result Verdict StoreFault) → IfOk r (IsTraced t p m) → IfOk r (λ v. IsVerdictOf nodes v p m)
+  traced-verdict t is lacks (Ok (Violated u text)) (same, shown) =
+      (subst (λ (x : Trace). IsViolated nodes x p m) (sym same) is, subst (λ (x : Trace). IsDocumentOf x text.items p m) (sym same) shown, lacks)
+  traced-verdict t is lacks (Ok (Safe c text)) bad = absurd bad
+  traced-verdict t is lacks (Ok Undecided) bad = absurd bad
+  traced-verdict t is lacks (Err e) told = told
+
+  pub said_safe : (r : Result Verdict StoreFault) (c : Certificate) → IfOk r (λ v. IsVerdictOf nodes v p m) → verdict_report nodes r ≡ report.Safe c
       → IsSafe p m × HasGoodClaim p m × IsCertified c p m × IsInvariantOf c (verdict_document r) p m
   said_safe (Ok (Safe d text)) c judged is =
       subst (λ (e : Certificate). IsSafe p m × HasGoodClaim p m × IsCertified e p m × IsInvariantOf e text.items p m) (same d c is) judged
@@ -58,9 +74,9 @@ module _ (nodes : ℕ) (p : ProgramTree) (m : Identifier) where
   said_safe (Err fault.Nodes) c judged is = absurd (let different : ⊥ = cc in different)
   said_safe (Err fault.Memory) c judged is = absurd (let different : ⊥ = cc in different)
 
-  pub said_violated : (r : Result Verdict StoreFault) (t : Trace) → IfOk r (λ v. IsVerdictOf v p m) → verdict_report nodes r ≡ report.Violated t
-      → IsViolated t p m × IsDocumentOf t (verdict_document r) p m × LacksGoodClaim p m
-  said_violated (Ok (Violated u text)) t judged is = subst (λ (e : Trace). IsViolated e p m × IsDocumentOf e text.items p m × LacksGoodClaim p m) (same u t is) judged
+  pub said_violated : (r : Result Verdict StoreFault) (t : Trace) → IfOk r (λ v. IsVerdictOf nodes v p m) → verdict_report nodes r ≡ report.Violated t
+      → IsViolated nodes t p m × IsDocumentOf t (verdict_document r) p m × LacksGoodClaim p m
+  said_violated (Ok (Violated u text)) t judged is = subst (λ (e : Trace). IsViolated nodes e p m × IsDocumentOf e text.items p m × LacksGoodClaim p m) (same u t is) judged
     where
       same : (u t : Trace) → report.Violated u ≡ report.Violated t → u ≡ t
       same u t e = cc
@@ -69,7 +85,7 @@ module _ (nodes : ℕ) (p : ProgramTree) (m : Identifier) where
   said_violated (Err fault.Nodes) t judged is = absurd (let different : ⊥ = cc in different)
   said_violated (Err fault.Memory) t judged is = absurd (let different : ⊥ = cc in different)
 
-  pub said_unknown : (r : Result Verdict StoreFault) → IfOk r (λ v. IsVerdictOf v p m) → verdict_report nodes r ≡ report.Unknown → IsUnknown p m
+  pub said_unknown : (r : Result Verdict StoreFault) → IfOk r (λ v. IsVerdictOf nodes v p m) → verdict_report nodes r ≡ report.Unknown → IsUnknown p m
   said_unknown (Ok Undecided) judged is = judged
   said_unknown (Ok (Safe d text)) judged is = absurd (let different : ⊥ = cc in different)
   said_unknown (Ok (Violated t text)) judged is = absurd (let different : ⊥ = cc in different)
@@ -87,30 +103,48 @@ module _ (nodes : ℕ) (p : ProgramTree) (m : Identifier) where
   said_nodes (Err fault.Memory) n wide is = absurd (let different : ⊥ = cc in different)
 
   -- no other report comes
-  pub must_safe : (r : Result Verdict StoreFault) → IfOk r (λ v. IsVerdictOf v p m) → IsSafeControl p m → IsSafeUnlessCutOff (verdict_report nodes r)
+  pub must_safe : (r : Result Verdict StoreFault) → IfOk r (λ v. IsVerdictOf nodes v p m) → IsSafeControl p m → IsSafeUnlessCutOff (verdict_report nodes r)
   must_safe (Ok (Safe c text)) judged is = inl (c, refl)
-  must_safe (Ok (Violated t text)) judged is = absurd (violated-unsafe t judged.0 is.1)
+  must_safe (Ok (Violated t text)) judged is = absurd (falsifying-unsafe t judged.0.falsifying is.1)
   must_safe (Ok Undecided) judged is = absurd (judged.0 is.0)
   must_safe (Err fault.Nodes) judged is = inr (inl (nodes, refl))
   must_safe (Err fault.Memory) judged is = inr (inr (inr refl))
 
-  pub must_violated : (r : Result Verdict StoreFault) → IfOk r (λ v. IsVerdictOf v p m) → IsUnsafeControl p m → IsViolatedUnlessCutOff (verdict_report nodes r)
+  pub must_violated : (r : Result Verdict StoreFault) → IfOk r (λ v. IsVerdictOf nodes v p m) → IsUnsafeControl p m → IsViolatedUnlessCutOff (verdict_report nodes r)
   must_violated (Ok (Safe c text)) judged is = absurd (is.1 judged.0)
   must_violated (Ok (Violated t text)) judged is = inl (t, refl)
   must_violated (Ok Undecided) judged is = absurd (judged.0 is.0)
   must_violated (Err fault.Nodes) judged is = inr (inl (nodes, refl))
   must_violated (Err fault.Memory) judged is = inr (inr (inr refl))
 
-  pub must_claim : (r : Result Verdict StoreFault) → (HasGoodClaim p m → LacksGoodClaim p m → ⊥) → IfOk r (λ v. IsVerdictOf v p m) → HasGoodClaim p m → IsSafeUnlessCutOff (verdict_report nodes r)
+  pub must_claim : (r : Result Verdict StoreFault) → (HasGoodClaim p m → LacksGoodClaim p m → ⊥) → IfOk r (λ v. IsVerdictOf nodes v p m) → HasGoodClaim p m → IsSafeUnlessCutOff (verdict_report nodes r)
   must_claim (Ok (Safe c text)) one judged is = inl (c, refl)
   must_claim (Ok (Violated t text)) one judged is = absurd (one is judged.2)
   must_claim (Ok Undecided) one judged is = absurd (one is judged.1)
   must_claim (Err fault.Nodes) one judged is = inr (inl (nodes, refl))
   must_claim (Err fault.Memory) one judged is = inr (inr (inr refl))
 
-  pub must_unknown : (r : Result Verdict StoreFault) → (HasGoodClaim p m → LacksGoodClaim p m → ⊥) → IfOk r (λ v. IsVerdictOf v p m) → IsUnknown p m → IsUnlessLimited report.Unknown (verdict_report nodes r)
-  must_unknown (Ok (Safe c text)) one judged is = absurd (one judged.1 is.1)
-  must_unknown (Ok (Violated t text)) one judged is = absurd (is.0 judged.0.control)
-  must_unknown (Ok Undecided) one judged is = inl refl
-  must_unknown (Err fault.Nodes) one judged is = inr (inl (nodes, refl))
-  must_unknown (Err fault.Memory) one judged is = inr (inr (inr refl))
+  pub must_unknown : (r : Result Verdict StoreFault) → (HasGoodClaim p m → LacksGoodClaim p m → ⊥) → (HasProbe p m → LacksProbe p m → ⊥) → IfOk r (λ v. IsVerdictOf nodes v p m) → IsUnknown p m → IsUnlessLimited report.Unknown (verdict_report nodes r)
+  must_unknown (Ok (Safe c text)) one probe judged is = absurd (one judged.1 is.1)
+  must_unknown (Ok (Violated t text)) one probe judged is = absurd (elim judged.0.origin [
+    | inl control ↦ is.0 control.0
+    | inr probed ↦ probe (let (f, flat, (b, c, k, at, same)) = probed.0 in (f, flat, (b, c, k, at))) is.2
+  ])
+  must_unknown (Ok Undecided) one probe judged is = inl refl
+  must_unknown (Err fault.Nodes) one probe judged is = inr (inl (nodes, refl))
+  must_unknown (Err fault.Memory) one probe judged is = inr (inr (inr refl))
+
+  pub must_probe : (r : Result Verdict StoreFault) → (HasProbe p m → LacksProbe p m → ⊥) → (IsErrOf r fault.Nodes → LacksProbe p m) → IfOk r (λ v. IsVerdictOf nodes v p m) → HasProbe p m
+      → IsViolatedUnlessUnread (verdict_report nodes r)
+  must_probe (Ok (Safe c text)) probe lacks judged is = absurd (probe-unsafe is judged.0)
+  must_probe (Ok (Violated t text)) probe lacks judged is = inl (t, refl)
+  must_probe (Ok Undecided) probe lacks judged is = absurd (probe is judged.2)
+  must_probe (Err fault.Nodes) probe lacks judged is = absurd (probe is (lacks refl))
+  must_probe (Err fault.Memory) probe lacks judged is = inr (inr refl)
+
+  pub said_unprobed : (r : Result Verdict StoreFault) (n : ℕ) → (IsErrOf r fault.Nodes → LacksProbe p m) → verdict_report nodes r ≡ report.Nodes n → LacksProbe p m
+  said_unprobed (Err fault.Nodes) n lacks is = lacks refl
+  said_unprobed (Ok (Safe d text)) n lacks is = absurd (let different : ⊥ = cc in different)
+  said_unprobed (Ok (Violated t text)) n lacks is = absurd (let different : ⊥ = cc in different)
+  said_unprobed (Ok Undecided) n lacks is = absurd (let different : ⊥ = cc in different)
+  said_unprobed (Err fault.Memory) n lacks is = absurd (let different : ⊥ = cc in different)

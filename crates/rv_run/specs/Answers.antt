@@ -77,6 +77,10 @@ IsViolatedReport report = (t : Trace) × (report ≡ Violated t)
 abbrev pub IsViolatedUnlessCutOff : Report → Type 0
 IsViolatedUnlessCutOff report = IsViolatedReport report ⊎ (IsNodesReport report ⊎ ((report ≡ ReadFault) ⊎ (report ≡ Memory)))
 
+-- The report has a trace, unless the file could not be read or there was no memory.
+abbrev pub IsViolatedUnlessUnread : Report → Type 0
+IsViolatedUnlessUnread report = IsViolatedReport report ⊎ ((report ≡ ReadFault) ⊎ (report ≡ Memory))
+
 -- The report is that a source that was made is safe.
 abbrev pub IsTouredReport : Report → Type 0
 IsTouredReport report = (count : ℕ) × (length : ℕ) × (c : Certificate) × (report ≡ Toured count length c)

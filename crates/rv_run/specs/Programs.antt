@@ -16,6 +16,7 @@ use Rattle.rv_control.specs.Control.{control_of}
 use Rattle.rv_proofs.specs.Accepted.{IsAccepted}
 use Rattle.rv_proofs.specs.Boxes.{HasGoodBox}
 use Rattle.rv_proofs.specs.declared.certificate.Certificate.{Certificate}
+use Rattle.rv_probe.specs.Probes.{HasFalsifyingProbe}
 
 -- The bytes are the text of a program that is settled and accepted with this node, and P holds of the program and the node.
 pub record OnProgram (P : ProgramTree → Identifier → Type 0) (bytes : List ℕ) (node : Identifier) : Type 0 where
@@ -62,9 +63,17 @@ HasGoodClaim program node = (f : Flat) × IsFlatOf program node f × HasGoodBox 
 abbrev pub LacksGoodClaim : ProgramTree → Identifier → Type 0
 LacksGoodClaim program node = (f : Flat) × IsFlatOf program node f × (¬ HasGoodBox (control_of f) f.thresholds)
 
--- With integers, and no closed box claim is good.
+-- Some probe of the program's flat system falsifies.
+abbrev pub HasProbe : ProgramTree → Identifier → Type 0
+HasProbe program node = (f : Flat) × IsFlatOf program node f × HasFalsifyingProbe program node f
+
+-- None does.
+abbrev pub LacksProbe : ProgramTree → Identifier → Type 0
+LacksProbe program node = (f : Flat) × IsFlatOf program node f × (¬ HasFalsifyingProbe program node f)
+
+-- With integers, no closed box claim is good, and no probe falsifies.
 abbrev pub IsUnknown : ProgramTree → Identifier → Type 0
-IsUnknown program node = HasIntegers program node × LacksGoodClaim program node
+IsUnknown program node = HasIntegers program node × LacksGoodClaim program node × LacksProbe program node
 
 -- With so many diagram variables that there are more functions of them than this number of nodes.
 abbrev pub HasManyVariables : ℕ → ProgramTree → Identifier → Type 0

@@ -11,9 +11,9 @@ use Rattle.rv_run.specs.Words.{Wanted}
 use Rattle.rv_run.specs.declared.words.Task.{Task}
 use Rattle.rv_run.specs.declared.report.Report.{Report}
 use Rattle.rv_run.specs.declared.report.Report.TheVariants.{Safe, Violated, Unknown, Nodes, Accepted, Made, Toured, Refused, TooLong, Memory}
-use Rattle.rv_run.specs.Answers.{OnFile, OnDocument, OnSource, IsTold, IsToldDocument, IsVerdict, IsNodesReport, IsTouredReport, IsUnlessCutOff, IsUnlessLimited, IsSafeUnlessCutOff, IsViolatedUnlessCutOff, IsRefusalUnlessCutOff}
+use Rattle.rv_run.specs.Answers.{OnFile, OnDocument, OnSource, IsTold, IsToldDocument, IsVerdict, IsNodesReport, IsTouredReport, IsUnlessCutOff, IsUnlessLimited, IsSafeUnlessCutOff, IsViolatedUnlessCutOff, IsViolatedUnlessUnread, IsRefusalUnlessCutOff}
 use Rattle.rv_run.specs.Checked.{IsDocumentAnswer, IsReportOf, IsUnlessCut, SaysOf}
-use Rattle.rv_run.specs.Programs.{OnProgram, WithRuns, HasGoodClaim, IsSafeControl, IsUnsafeControl, HasManyVariables, IsCertified, IsUnknown, IsRefusedFor}
+use Rattle.rv_run.specs.Programs.{OnProgram, WithRuns, HasGoodClaim, IsSafeControl, IsUnsafeControl, HasManyVariables, HasProbe, LacksProbe, IsCertified, IsUnknown, IsRefusedFor}
 use Rattle.rv_run.specs.Traced.{IsLongDocument, OnAccepted, file_limit}
 use Rattle.rv_run.specs.Verdicts.{IsDocumentOf, IsInvariantOf, IsViolated}
 
@@ -24,10 +24,11 @@ pub record Replies (held : Option Shelf) (w : Wanted) (report : Report) (documen
   pub certified : (c : Certificate) → report ≡ Safe c → OnFile held w (OnProgram (IsCertified c))
   pub claimed : (c : Certificate) → report ≡ Safe c → OnFile held w (OnProgram HasGoodClaim)
   pub invariant : (c : Certificate) → report ≡ Safe c → OnFile held w (OnProgram (IsInvariantOf c document))
-  pub violated : (t : Trace) → report ≡ Violated t → OnFile held w (OnProgram (WithRuns (IsViolated t)))
+  pub violated : (t : Trace) → report ≡ Violated t → OnFile held w (OnProgram (WithRuns (IsViolated w.nodes t)))
   pub document_of : (t : Trace) → report ≡ Violated t → OnFile held w (OnProgram (IsDocumentOf t document))
   pub unknown : report ≡ Unknown → OnFile held w (OnProgram (WithRuns IsUnknown))
   pub nodes : (n : ℕ) → report ≡ Nodes n → (n ≡ w.nodes) × OnSource held w (OnProgram (HasManyVariables n))
+  pub unprobed : w.beside ≡ None → (n : ℕ) → report ≡ Nodes n → OnSource held w (OnProgram LacksProbe)
   pub checked_safe : report ≡ Accepted → OnFile held w (OnProgram (WithRuns IsSafe))
   pub not_too_long : IsVerdict report ⊎ IsNodesReport report → OnSource held w (λ bytes node. length bytes ≤ source_limit)
   pub proved : IsVerdict report → w.beside ≡ None
@@ -41,6 +42,7 @@ pub record Replies (held : Option Shelf) (w : Wanted) (report : Report) (documen
       → (w.toured ≡ Some n) × (size ≡ length (made_text n)) × OnProgram (WithRuns IsSafe) (made_text n) (codes "main") × OnProgram (IsCertified c) (made_text n) (codes "main")
   pub only_safe : w.beside ≡ None → IsTold held w (λ bytes node. (length bytes ≤ source_limit) × OnProgram IsSafeControl bytes node) → IsSafeUnlessCutOff report
   pub only_violated : w.beside ≡ None → IsTold held w (λ bytes node. (length bytes ≤ source_limit) × OnProgram IsUnsafeControl bytes node) → IsViolatedUnlessCutOff report
+  pub only_probed : w.beside ≡ None → IsTold held w (λ bytes node. (length bytes ≤ source_limit) × OnProgram HasProbe bytes node) → IsViolatedUnlessUnread report
   pub only_claimed : w.beside ≡ None → IsTold held w (λ bytes node. (length bytes ≤ source_limit) × OnProgram HasGoodClaim bytes node) → IsSafeUnlessCutOff report
   pub only_unknown : w.beside ≡ None → IsTold held w (λ bytes node. (length bytes ≤ source_limit) × OnProgram IsUnknown bytes node) → IsUnlessLimited Unknown report
   pub only_told : (task : Task) (x : Report) → IsToldDocument held w task (OnAccepted (SaysOf task x)) → IsUnlessCut task x report

@@ -1,5 +1,5 @@
 -- What is found of an accepted source, and the report on it.
-use Rattle.std.specs.Prelude.{◌≡◌, ℕ, List, [], Result, Ok, Err}
+use Rattle.std.specs.Prelude.{◌≡◌, ◌⊎◌, ℕ, ℤ, Bool, List, [], Result, Ok, Err}
 use Rattle.rv_base.specs.declared.value.Trace.{Trace}
 use Rattle.rv_tree.specs.Tree.{ProgramTree}
 use Rattle.rv_tree.specs.Places.{Identifier}
@@ -18,7 +18,8 @@ use Rattle.rv_invfile.specs.Traces.{trace_records, trace_rule}
 use Rattle.rv_invariant.specs.Certificates.{certificate_records, certificate_rule}
 use Rattle.rv_proofs.specs.declared.certificate.Certificate.{Certificate}
 use Rattle.rv_falsify.specs.Falsifying.{IsFalsifying, IsShortest}
-use Rattle.rv_run.specs.Programs.{IsCertified, HasGoodClaim, HasIntegers, LacksGoodClaim}
+use Rattle.rv_probe.specs.Probes.{FalsifiesAt, cut, probe_of}
+use Rattle.rv_run.specs.Programs.{IsCertified, HasGoodClaim, HasIntegers, HasManyVariables, IsUnknown, LacksGoodClaim}
 use Rattle.rv_run.specs.declared.report.Report.{Report}
 use Rattle.rv_run.specs.declared.report.Report.TheVariants as report
 use Rattle.rv_run.specs.declared.verdict.Verdict.{Verdict}
@@ -39,18 +40,34 @@ pub record IsInvariantOf (c : Certificate) (text : List ℕ) (program : ProgramT
   pub read : IsDocument (certificate_rule system) (records_of text) c
   pub accepted : IsAccepted (control_of system) c
 
--- Without integers, and falsified by the trace at its last instant; no trace that falsifies has fewer.
-pub record IsViolated (t : Trace) (program : ProgramTree) (main : Identifier) : Type 0 where
-  pub control : IsControl program main
-  pub falsifying : IsFalsifying program main t
-  pub shortest : IsShortest program main t
+-- The trace is a probe of the program, cut after an instant at which it falsifies.
+abbrev pub IsProbe : Trace → ProgramTree → Identifier → Type 0
+IsProbe t program main = (f : Flat) × IsFlatOf program main f
+    × ((b : Bool) × (c : ℤ) × (k : ℕ) × FalsifiesAt program main f b c k × (t ≡ cut k (probe_of f b c)))
 
--- The verdict is right of the program.
-abbrev pub IsVerdictOf : Verdict → ProgramTree → Identifier → Type 0
-IsVerdictOf (Safe c text) program main =
+-- Where a trace that falsifies comes from. It is a shortest one of a program without integers; or it is a probe, of a program that has
+-- integers, or many diagram variables for so many nodes.
+abbrev pub HasOrigin : ℕ → Trace → ProgramTree → Identifier → Type 0
+HasOrigin nodes t program main = (IsControl program main × IsShortest program main t)
+    ⊎ (IsProbe t program main × (HasIntegers program main ⊎ HasManyVariables nodes program main))
+
+-- Falsified by the trace at its last instant, where diagrams may have so many nodes.
+pub record IsViolated (nodes : ℕ) (t : Trace) (program : ProgramTree) (main : Identifier) : Type 0 where
+  pub falsifying : IsFalsifying program main t
+  pub origin : HasOrigin nodes t program main
+
+-- The verdict is this trace, with its document.
+abbrev pub IsTraced : Trace → ProgramTree → Identifier → Verdict → Type 0
+IsTraced t program main (Violated u text) = (u ≡ t) × IsDocumentOf t text.items program main
+IsTraced t program main (Safe c text) = ⊥
+IsTraced t program main Undecided = ⊥
+
+-- The verdict is right of the program, where diagrams may have so many nodes.
+abbrev pub IsVerdictOf : ℕ → Verdict → ProgramTree → Identifier → Type 0
+IsVerdictOf nodes (Safe c text) program main =
     IsSafe program main × HasGoodClaim program main × IsCertified c program main × IsInvariantOf c text.items program main
-IsVerdictOf (Violated t text) program main = IsViolated t program main × IsDocumentOf t text.items program main × LacksGoodClaim program main
-IsVerdictOf Undecided program main = HasIntegers program main × LacksGoodClaim program main
+IsVerdictOf nodes (Violated t text) program main = IsViolated nodes t program main × IsDocumentOf t text.items program main × LacksGoodClaim program main
+IsVerdictOf nodes Undecided program main = IsUnknown program main
 
 -- The report on a verdict, or on why there is none where diagrams may have so many nodes.
 abbrev pub verdict_report : ℕ → Result Verdict StoreFault → Report

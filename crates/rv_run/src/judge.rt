@@ -1,7 +1,7 @@
-//! How sources are judged: by the least closed box claims of their flat systems, which for those without integers are the control states
-//! that are reached.
+//! How sources are judged: by probes, and by the least closed box claims of their flat systems, which for those without integers are the
+//! control states that are reached.
 
-ghost use Rattle.std.specs.Prelude.{◌≡◌, ◌<◌, ◌≤◌, ◌^◌, false, length, IsTrue, IfOk, IsErrOf, ◌↔◌};
+ghost use Rattle.std.specs.Prelude.{◌≡◌, ◌<◌, ◌≤◌, ◌^◌, ℕ, false, length, IsTrue, IfOk, IsErrOf, ◌↔◌};
 ghost use Rattle.std.specs.Int.RustNames.{unsigned_abs};
 ghost use Rattle.std.specs.List.{All};
 ghost use Rattle.rv_tree.specs.Tree.{program_tree};
@@ -18,13 +18,17 @@ ghost use Rattle.rv_proofs.specs.Reached.{HasNoIntegers};
 ghost use Rattle.rv_source.specs.Numbers.{HasSmallNumbers};
 ghost use Rattle.rv_reading.specs.Read.{flat_of, system_read, diagrams_of, IsRead};
 ghost use Rattle.rv_walk.specs.Ends.{AreBadLayers};
-ghost use Rattle.rv_run.specs.Programs.{HasManyVariables};
+ghost use Rattle.rv_falsify.specs.Falsifying.{IsFalsifying};
+ghost use Rattle.rv_probe.specs.Probes.{HasFalsifyingProbe};
+ghost use Rattle.rv_replay.specs.Traces.{IsTrace};
+ghost use Rattle.rv_run.specs.Programs.{HasManyVariables, LacksProbe};
 ghost use Rattle.rv_run.specs.Judged.{is_test, IsControlSystem, IsKnown};
-ghost use Rattle.rv_run.specs.Verdicts.{IsVerdictOf};
+ghost use Rattle.rv_run.specs.Verdicts.{IsProbe, IsTraced, IsVerdictOf};
 
 use crate::verdict::Verdict;
+use rv_base::Trace;
 use rv_box::box_pass;
-use rv_control::runs_are_abstract;
+use rv_control::{control_is_a_system, runs_are_abstract};
 use rv_diagram::StoreFault;
 use rv_falsify::find;
 use rv_flat::{Bit, Flat};
@@ -32,39 +36,121 @@ use rv_flatten::flatten;
 use rv_instances::Source;
 use rv_invariant::write_certificate;
 use rv_invfile::{fitting_traces, told_systems, write_trace};
-use rv_proofs::{Certificate, Layers, certificates_are_safe};
+use rv_probe::probe;
+use rv_proofs::{Certificate, Layers, certificates_are_safe, claims_are_safe};
 use rv_reading::Reading;
 use rv_replay::flat_traces;
 use rv_types::{Kind, well_formed_programs};
 use rv_walk::BoxEnd;
 use std::alloc::Global;
 
-/// The verdict on a source: a certificate and its document where some closed box claim is good; where none is, Undecided for a source
-/// with integers, and a shortest trace that falsifies it with its document for one without. Nodes comes only where it has many diagram
-/// variables for the number of nodes that the diagrams may have. Names are letters, digits and `_`, and literals and constants at most 2^40 + 1, as in the tree of each text.
+/// The verdict on a source. A probe that falsifies it is asked for first, before any diagram is made. A source without integers has a
+/// certificate and its document where it is safe, and else a shortest trace that falsifies it with its document, or the probe where its
+/// diagrams would have more nodes than they may. One with integers has the probe where there is one, else a certificate where some
+/// closed box claim is good, and else is Undecided. Nodes comes only where no probe falsifies, and the source has many diagram variables
+/// for the number of nodes that the diagrams may have. Names are letters, digits and `_`, and literals and constants at most 2^40 + 1, as in the tree of each text.
 pub fn judge(alloc: Global, source: &Source, nodes: u32) -> Result<Verdict, StoreFault>
     requires limit { nodes ≤ 33554432 }
     requires fits { Fits (program_tree source.now.program) source.now.typed source.now.order }
     requires plain { HasPlainNames (program_tree source.now.program) }
     requires small { HasSmallNumbers (program_tree source.now.program) }
-    ensures judged { IfOk result (λ v. IsVerdictOf v (program_tree source.now.program) (name_at (program_tree source.now.program) source.now.typed.main)) }
-    ensures wide { IsErrOf result StoreFault.Nodes
-        → HasManyVariables nodes (program_tree source.now.program) (name_at (program_tree source.now.program) source.now.typed.main) }
+    ensures judged { IfOk result (λ v. IsVerdictOf nodes v (program_tree source.now.program) (name_at (program_tree source.now.program) source.now.typed.main)) }
+    ensures wide { IsErrOf result StoreFault.Nodes → HasManyVariables nodes (program_tree source.now.program) (name_at (program_tree source.now.program) source.now.typed.main) }
+    ensures unprobed { IsErrOf result StoreFault.Nodes → LacksProbe (program_tree source.now.program) (name_at (program_tree source.now.program) source.now.typed.main) }
 {
     well_formed_programs();
     runs_are_abstract();
     let flat = flatten(alloc, source)?;
-    decided(alloc, source, &flat, nodes)
+    match probe(alloc, source, &flat)? {
+        Some(trace) => probed(alloc, source, &flat, trace, nodes),
+        None => decided(alloc, source, &flat, nodes),
+    }
 }
 
-/// The verdict on a source by its flat system.
+/// The verdict on a source that a probe falsifies.
+fn probed(
+    alloc: Global,
+    source: &Source,
+    flat: &Flat,
+    trace: Trace,
+    nodes: u32,
+) -> Result<Verdict, StoreFault>
+    requires limit { nodes ≤ 33554432 }
+    requires fits { Fits (program_tree source.now.program) source.now.typed source.now.order }
+    requires plain { HasPlainNames (program_tree source.now.program) }
+    requires known { IsKnown (program_tree source.now.program) (name_at (program_tree source.now.program) source.now.typed.main) flat.now }
+    requires thresholds { All (λ t. unsigned_abs t ≤ 2 ^ 41) flat.now.thresholds }
+    requires falsifying { IsFalsifying (program_tree source.now.program) (name_at (program_tree source.now.program) source.now.typed.main) trace }
+    requires probe { IsProbe trace (program_tree source.now.program) (name_at (program_tree source.now.program) source.now.typed.main) }
+    ensures judged { IfOk result (λ v. IsVerdictOf nodes v (program_tree source.now.program) (name_at (program_tree source.now.program) source.now.typed.main)) }
+    ensures decided { IsErrOf result StoreFault.Nodes → ⊥ }
+{
+    control_is_a_system();
+    claims_are_safe();
+    if is_control(flat) {
+        return unless_shorter(alloc, source, flat, trace, nodes);
+    }
+    with_trace(alloc, source, flat, trace)
+}
+
+/// The verdict on a source without integers that a probe falsifies: a shortest trace, where the diagrams have nodes enough.
+fn unless_shorter(
+    alloc: Global,
+    source: &Source,
+    flat: &Flat,
+    trace: Trace,
+    nodes: u32,
+) -> Result<Verdict, StoreFault>
+    requires limit { nodes ≤ 33554432 }
+    requires fits { Fits (program_tree source.now.program) source.now.typed source.now.order }
+    requires plain { HasPlainNames (program_tree source.now.program) }
+    requires known { IsKnown (program_tree source.now.program) (name_at (program_tree source.now.program) source.now.typed.main) flat.now }
+    requires thresholds { All (λ t. unsigned_abs t ≤ 2 ^ 41) flat.now.thresholds }
+    requires control { IsControlSystem flat.now }
+    requires falsifying { IsFalsifying (program_tree source.now.program) (name_at (program_tree source.now.program) source.now.typed.main) trace }
+    requires probe { IsProbe trace (program_tree source.now.program) (name_at (program_tree source.now.program) source.now.typed.main) }
+    requires lacks { HasGoodBox (control_of flat.now) flat.now.thresholds → ⊥ }
+    ensures judged { IfOk result (λ v. IsVerdictOf nodes v (program_tree source.now.program) (name_at (program_tree source.now.program) source.now.typed.main)) }
+    ensures decided { IsErrOf result StoreFault.Nodes → ⊥ }
+{
+    match decided(alloc, source, flat, nodes) {
+        Ok(verdict) => Ok(verdict),
+        Err(StoreFault::Nodes) => with_trace(alloc, source, flat, trace),
+        Err(StoreFault::Memory) => Err(StoreFault::Memory),
+    }
+}
+
+/// The verdict with a trace that falsifies a source, and its document.
+fn with_trace(
+    alloc: Global,
+    source: &Source,
+    flat: &Flat,
+    trace: Trace,
+) -> Result<Verdict, StoreFault>
+    requires fits { Fits (program_tree source.now.program) source.now.typed source.now.order }
+    requires plain { HasPlainNames (program_tree source.now.program) }
+    requires known { IsKnown (program_tree source.now.program) (name_at (program_tree source.now.program) source.now.typed.main) flat.now }
+    requires trace { IsTrace (program_tree source.now.program) (name_at (program_tree source.now.program) source.now.typed.main) trace }
+    ensures traced { IfOk result (IsTraced trace.entry (program_tree source.now.program) (name_at (program_tree source.now.program) source.now.typed.main)) }
+    ensures memory { IsErrOf result StoreFault.Nodes → ⊥ }
+{
+    told_systems();
+    flat_traces();
+    fitting_traces();
+    let _count = flat.memories.len();
+    let document = write_trace(alloc, flat, &trace)?;
+    Ok(Verdict::Violated(trace, document))
+}
+
+/// The verdict on a source by the box pass over its flat system. Where a probe falsifies it, it has no integers.
 fn decided(alloc: Global, source: &Source, flat: &Flat, nodes: u32) -> Result<Verdict, StoreFault>
     requires limit { nodes ≤ 33554432 }
     requires fits { Fits (program_tree source.now.program) source.now.typed source.now.order }
     requires plain { HasPlainNames (program_tree source.now.program) }
     requires known { IsKnown (program_tree source.now.program) (name_at (program_tree source.now.program) source.now.typed.main) flat.now }
     requires thresholds { All (λ t. unsigned_abs t ≤ 2 ^ 41) flat.now.thresholds }
-    ensures judged { IfOk result (λ v. IsVerdictOf v (program_tree source.now.program) (name_at (program_tree source.now.program) source.now.typed.main)) }
+    requires unprobed { HasFalsifyingProbe (program_tree source.now.program) (name_at (program_tree source.now.program) source.now.typed.main) flat.now → IsControlSystem flat.now }
+    ensures judged { IfOk result (λ v. IsVerdictOf nodes v (program_tree source.now.program) (name_at (program_tree source.now.program) source.now.typed.main)) }
     ensures wide { IsErrOf result StoreFault.Nodes → nodes < 2 ^ (2 ^ length flat.now.variables) }
 {
     let mut reading = Reading::new(alloc, flat, nodes)?;
@@ -87,7 +173,7 @@ fn safe(
     requires claim { HasGoodBox (control_of flat.now) flat.now.thresholds }
     requires accepted { IsAccepted (control_of flat.now) certificate }
     requires loops { IsWithoutLoops certificate }
-    ensures judged { IfOk result (λ v. IsVerdictOf v (program_tree source.now.program) (name_at (program_tree source.now.program) source.now.typed.main)) }
+    ensures judged { (nodes : ℕ) → IfOk result (λ v. IsVerdictOf nodes v (program_tree source.now.program) (name_at (program_tree source.now.program) source.now.typed.main)) }
     ensures memory { IsErrOf result StoreFault.Nodes → ⊥ }
 {
     certificates_are_safe();
@@ -109,8 +195,9 @@ fn not_good(
     requires read { IsRead reading.old }
     requires known { IsKnown (program_tree source.now.program) (name_at (program_tree source.now.program) source.now.typed.main) (flat_of reading.old) }
     requires lacks { HasGoodBox (system_read reading.old) (flat_of reading.old).thresholds → ⊥ }
+    requires unprobed { HasFalsifyingProbe (program_tree source.now.program) (name_at (program_tree source.now.program) source.now.typed.main) (flat_of reading.old) → IsControlSystem (flat_of reading.old) }
     requires bad { HasNoIntegers (system_read reading.old) → AreBadLayers (system_read reading.old) layers.now }
-    ensures judged { IfOk result (λ v. IsVerdictOf v (program_tree source.now.program) (name_at (program_tree source.now.program) source.now.typed.main)) }
+    ensures judged { (nodes : ℕ) → IfOk result (λ v. IsVerdictOf nodes v (program_tree source.now.program) (name_at (program_tree source.now.program) source.now.typed.main)) }
     ensures wide { IsErrOf result StoreFault.Nodes → (diagrams_of reading.old).limit < 2 ^ (2 ^ (diagrams_of reading.old).variables) }
 {
     let flat = reading.flat();
@@ -135,21 +222,15 @@ fn violated(
     requires control { HasNoIntegers (system_read reading.old) }
     requires lacks { HasGoodBox (system_read reading.old) (flat_of reading.old).thresholds → ⊥ }
     requires bad { AreBadLayers (system_read reading.old) layers.now }
-    ensures judged { IfOk result (λ v. IsVerdictOf v (program_tree source.now.program) (name_at (program_tree source.now.program) source.now.typed.main)) }
+    ensures judged { (nodes : ℕ) → IfOk result (λ v. IsVerdictOf nodes v (program_tree source.now.program) (name_at (program_tree source.now.program) source.now.typed.main)) }
     ensures wide { IsErrOf result StoreFault.Nodes → (diagrams_of reading.old).limit < 2 ^ (2 ^ (diagrams_of reading.old).variables) }
 {
-    well_formed_programs();
-    told_systems();
-    flat_traces();
-    fitting_traces();
     let found = find(alloc, reading, source, layers)?;
     let Some(trace) = found else {
         return Ok(Verdict::Undecided);
     };
     let flat = reading.flat();
-    let _count = flat.memories.len();
-    let document = write_trace(alloc, flat, &trace)?;
-    Ok(Verdict::Violated(trace, document))
+    with_trace(alloc, source, flat, trace)
 }
 
 /// Whether a flat system has no integers.

@@ -5,7 +5,7 @@ ghost use Rattle.rv_meaning.specs.Runs.{IsSafe};
 ghost use Rattle.rv_make.specs.Made.{made_text};
 ghost use Rattle.rv_proofs.specs.declared.certificate.Certificate.{Certificate as CertificateModel};
 ghost use Rattle.rv_run.specs.Answers.{IsNodesReport, IsTouredReport};
-ghost use Rattle.rv_run.specs.Programs.{OnProgram, WithRuns, HasManyVariables, IsCertified};
+ghost use Rattle.rv_run.specs.Programs.{OnProgram, WithRuns, HasManyVariables, LacksProbe, IsCertified};
 ghost use Rattle.rv_run.specs.Traced.{IsUnlessNoMemory};
 ghost use Rattle.rv_run.specs.Words.{usual_nodes};
 
@@ -39,6 +39,7 @@ pub fn report_on_tour(alloc: Global, n: u32) -> Report
     ensures safe { (count size : ℕ) (c : CertificateModel) → result ≡ Report.Toured count size c → OnProgram (WithRuns IsSafe) (made_text n) (codes "main") }
     ensures certified { (count size : ℕ) (c : CertificateModel) → result ≡ Report.Toured count size c → OnProgram (IsCertified c) (made_text n) (codes "main") }
     ensures nodes { (k : ℕ) → result ≡ Report.Nodes k → (k ≡ usual_nodes) × OnProgram (HasManyVariables k) (made_text n) (codes "main") }
+    ensures unprobed { (k : ℕ) → result ≡ Report.Nodes k → OnProgram LacksProbe (made_text n) (codes "main") }
     ensures only { IsTouredReport result ⊎ (IsNodesReport result ⊎ (result ≡ Report.Memory)) }
 {
     made_trees();

@@ -5,8 +5,8 @@ ghost use Rattle.rv_base.specs.declared.value.Trace.{Trace as TraceModel};
 ghost use Rattle.rv_source.specs.declared.fault.SourceFault.{SourceFault as FaultModel};
 ghost use Rattle.rv_meaning.specs.Runs.{IsSafe};
 ghost use Rattle.rv_proofs.specs.declared.certificate.Certificate.{Certificate as CertificateModel};
-ghost use Rattle.rv_run.specs.Answers.{IsOnSource, IsSafeUnlessCutOff, IsUnlessLimited, IsViolatedUnlessCutOff, IsRefusalUnlessCutOff};
-ghost use Rattle.rv_run.specs.Programs.{OnProgram, WithRuns, IsSafeControl, IsUnsafeControl, IsCertified, HasGoodClaim, HasManyVariables, IsUnknown, IsRefusedFor};
+ghost use Rattle.rv_run.specs.Answers.{IsOnSource, IsSafeUnlessCutOff, IsUnlessLimited, IsViolatedUnlessCutOff, IsViolatedUnlessUnread, IsRefusalUnlessCutOff};
+ghost use Rattle.rv_run.specs.Programs.{OnProgram, WithRuns, IsSafeControl, IsUnsafeControl, IsCertified, HasGoodClaim, HasManyVariables, HasProbe, LacksProbe, IsUnknown, IsRefusedFor};
 ghost use Rattle.rv_run.specs.Refusals.{refusal_of};
 ghost use Rattle.rv_run.specs.Verdicts.{IsDocumentOf, IsInvariantOf, IsViolated, verdict_document, verdict_report};
 
@@ -23,9 +23,10 @@ use std::alloc::Global;
 
 /// The report on a source, and the document of its certificate or trace where it is Safe or Violated. Refused where the bytes have no
 /// tree, where their program breaks a rule of names, types or clocks, and where it breaks one of recursion, sizes, cycles or weights,
-/// with the first fault. Otherwise Safe with a certificate where some closed box claim is good; where none is, Unknown for a program with
-/// integers. One without integers has such a claim exactly where it is safe, and is else Violated, with a shortest trace that falsifies
-/// it. Nodes comes only where it has many diagram variables for the number of nodes that the diagrams may have.
+/// with the first fault. Otherwise Violated wherever a probe falsifies; Safe with a certificate where some closed box claim is good; and
+/// where neither is so, Unknown for a program with integers. One without integers has such a claim exactly where it is safe, and is else
+/// Violated, with a shortest trace that falsifies it, or a probe where its diagrams outgrow their limit. Nodes comes only where no probe
+/// falsifies and it has many diagram variables for the number of nodes that the diagrams may have.
 pub fn report_on_source(alloc: Global, bytes: &[u8], node: &str, nodes: u32) -> Answer
     requires short { length bytes.now ≤ SOURCE_LIMIT }
     requires limit { nodes ≤ 33554432 }
@@ -33,14 +34,16 @@ pub fn report_on_source(alloc: Global, bytes: &[u8], node: &str, nodes: u32) -> 
     ensures certified { (c : CertificateModel) → result.report ≡ Report.Safe c → OnProgram (IsCertified c) bytes.now node.now }
     ensures claimed { (c : CertificateModel) → result.report ≡ Report.Safe c → OnProgram HasGoodClaim bytes.now node.now }
     ensures invariant { (c : CertificateModel) → result.report ≡ Report.Safe c → OnProgram (IsInvariantOf c result.document.items) bytes.now node.now }
-    ensures violated { (t : TraceModel) → result.report ≡ Report.Violated t → OnProgram (WithRuns (IsViolated t)) bytes.now node.now }
+    ensures violated { (t : TraceModel) → result.report ≡ Report.Violated t → OnProgram (WithRuns (IsViolated nodes t)) bytes.now node.now }
     ensures document { (t : TraceModel) → result.report ≡ Report.Violated t → OnProgram (IsDocumentOf t result.document.items) bytes.now node.now }
     ensures unknown { result.report ≡ Report.Unknown → OnProgram (WithRuns IsUnknown) bytes.now node.now }
     ensures nodes { (n : ℕ) → result.report ≡ Report.Nodes n → (n ≡ nodes) × OnProgram (HasManyVariables nodes) bytes.now node.now }
+    ensures unprobed { (n : ℕ) → result.report ≡ Report.Nodes n → OnProgram LacksProbe bytes.now node.now }
     ensures refused { (fault : FaultModel) → result.report ≡ Report.Refused fault → IsRefusedFor fault bytes.now node.now }
     ensures only { IsOnSource result.report }
     ensures only_safe { OnProgram IsSafeControl bytes.now node.now → IsSafeUnlessCutOff result.report }
     ensures only_violated { OnProgram IsUnsafeControl bytes.now node.now → IsViolatedUnlessCutOff result.report }
+    ensures only_probed { OnProgram HasProbe bytes.now node.now → IsViolatedUnlessUnread result.report }
     ensures only_claimed { OnProgram HasGoodClaim bytes.now node.now → IsSafeUnlessCutOff result.report }
     ensures only_unknown { OnProgram IsUnknown bytes.now node.now → IsUnlessLimited Report.Unknown result.report }
     ensures only_refused { (fault : FaultModel) → IsRefusedFor fault bytes.now node.now → IsRefusalUnlessCutOff fault result.report }

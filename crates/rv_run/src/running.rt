@@ -16,13 +16,12 @@ ghost use Rattle.rv_words.specs.Words.{texts, command};
 ghost use Rattle.rv_run.specs.Words.{IsNamed, wanted, wanted_on_file};
 ghost use Rattle.rv_run.specs.Replies.{Replies};
 ghost use Rattle.rv_make.specs.Made.{made_text};
-ghost use Rattle.rv_run.specs.Answers.{OnFile, OnDocument, OnSource, Tells, IsTold, IsToldDocument, IsVerdict, IsNodesReport, IsTouredReport, IsShown, IsUnlessCutOff, IsUnlessLimited, IsSafeUnlessCutOff, IsViolatedUnlessCutOff, IsRefusalUnlessCutOff};
+ghost use Rattle.rv_run.specs.Answers.{OnFile, OnDocument, OnSource, Tells, IsTold, IsToldDocument, IsVerdict, IsNodesReport, IsTouredReport, IsShown, IsUnlessCutOff, IsUnlessLimited, IsSafeUnlessCutOff, IsViolatedUnlessCutOff, IsViolatedUnlessUnread, IsRefusalUnlessCutOff};
 ghost use Rattle.rv_run.specs.Checked.{HasAccepted, HasRejected, IsAnswerOf, IsDocumentAnswer, IsDocumentReport, IsInvariantFault, IsReportOf, IsUnlessCut, IsUnlessLimit, SaysOf};
-ghost use Rattle.rv_meaning.specs.Integers.{IsControl};
-ghost use Rattle.rv_run.specs.Programs.{OnProgram, WithRuns, HasGoodClaim, IsSafeControl, IsUnsafeControl, HasManyVariables, IsCertified, IsUnknown, IsRefusedFor};
+ghost use Rattle.rv_run.specs.Programs.{OnProgram, WithRuns, HasGoodClaim, IsSafeControl, IsUnsafeControl, HasManyVariables, HasProbe, LacksProbe, IsCertified, IsUnknown, IsRefusedFor};
 ghost use Rattle.rv_run.specs.Traced.{IsFileFault, IsLongDocument, IsUnlessNoMemory, OnAccepted, OnTrace};
 ghost use Rattle.rv_run.specs.Printed.{is_documented, shown_of, status_of};
-ghost use Rattle.rv_run.specs.Verdicts.{IsViolated};
+ghost use Rattle.rv_run.specs.Verdicts.{HasOrigin};
 ghost use Rattle.rv_run.specs.declared.words.Task.{Task as TaskModel};
 ghost use Rattle.rv_run.specs.declared.words.Task.TheVariants as tasks;
 ghost use Rattle.rv_proofs.specs.declared.verdict.Reason.{Reason as ReasonModel};
@@ -30,7 +29,7 @@ ghost use Rattle.rv_tree.specs.Tree.{program_tree};
 ghost use Rattle.rv_tree.specs.Words.{HasPlainNames};
 ghost use Rattle.rv_types.specs.Instances.{name_at};
 ghost use Rattle.rv_instances.specs.Fitting.{Fits};
-ghost use Rattle.rv_falsify.specs.Falsifying.{IsFalsifying, IsShortest};
+ghost use Rattle.rv_falsify.specs.Falsifying.{IsFalsifying};
 ghost use Rattle.rv_source.specs.declared.fault.SourceFault.{SourceFault};
 
 use crate::inspect::report_on_invariant;
@@ -234,15 +233,16 @@ fn show<S: Sink>(alloc: Global, answer: &Answer, out: &mut S) -> Sent
 /// token, or where their program breaks a rule with this main node, with its first fault of names, types and clocks, and then of
 /// recursion, sizes, cycles and weights, where any cycle may be told.
 ///
-/// Of an accepted program `prove` answers Safe exactly where some closed box claim of it is good, with a certificate, whose document is
-/// shown in place of a text. Where none is, it answers Unknown for a program with integers. One without integers has such a claim
-/// exactly where it is safe, and is else Violated, with a shortest trace that falsifies it, whose document is shown. `replay` answers
+/// Of an accepted program `prove` answers Violated wherever a probe falsifies it, with any number of nodes, Safe exactly where some closed
+/// box claim of it is good, with a certificate, and Unknown where it has integers and neither is so. A program without integers has such a
+/// claim exactly where it is safe, and is else Violated, with a shortest trace that falsifies it, or with a probe where its diagrams outgrow
+/// their limit. The document of certificate or trace is shown in place of a text. `replay` answers
 /// BadFile exactly where the trace's bytes are the document of no trace of the program, with their first fault; otherwise the first
 /// instant that ends the replay decides, by Outgrown, AssertionFails or Falsified in this order, and NeverFalse comes exactly where
 /// there is none. `check` answers BadFile exactly where the file's bytes are the document of no certificate of the program, with their
 /// first fault; otherwise Accepted where the certificate is accepted, and Rejected with the first reason where it is not. Nodes comes
 /// in place of what `prove`, `check` and `tour` answer only where the program has many diagram variables for the number of nodes that the
-/// diagrams may have, which is told.
+/// diagrams may have, which is told, and of `prove` and `tour` only where no probe falsifies.
 pub fn run<F: Files, S: Sink>(
     alloc: Global,
     words: &Vec<String>,
@@ -255,12 +255,13 @@ pub fn run<F: Files, S: Sink>(
     ensures claimed { (c : CertificateModel) → result.report ≡ Report.Safe c → OnFile (F.held files.old) (wanted (texts words.now.items)) (OnProgram HasGoodClaim) }
     ensures violated { (t : TraceModel) → result.report ≡ Report.Violated t
         → OnFile (F.held files.old) (wanted (texts words.now.items)) (OnProgram (WithRuns (λ program main. IsFalsifying program main t))) }
-    ensures shortest { (t : TraceModel) → result.report ≡ Report.Violated t
-        → OnFile (F.held files.old) (wanted (texts words.now.items)) (OnProgram (λ program main. IsShortest program main t)) }
-    ensures decided_violated { (t : TraceModel) → result.report ≡ Report.Violated t → OnFile (F.held files.old) (wanted (texts words.now.items)) (OnProgram IsControl) }
+    ensures origin { (t : TraceModel) → result.report ≡ Report.Violated t
+        → OnFile (F.held files.old) (wanted (texts words.now.items)) (OnProgram (HasOrigin (wanted (texts words.now.items)).nodes t)) }
     ensures unknown { result.report ≡ Report.Unknown → OnFile (F.held files.old) (wanted (texts words.now.items)) (OnProgram (WithRuns IsUnknown)) }
     ensures nodes { (n : ℕ) → result.report ≡ Report.Nodes n
         → (n ≡ (wanted (texts words.now.items)).nodes) × OnSource (F.held files.old) (wanted (texts words.now.items)) (OnProgram (HasManyVariables n)) }
+    ensures unprobed { (wanted (texts words.now.items)).beside ≡ None → (n : ℕ) → result.report ≡ Report.Nodes n
+        → OnSource (F.held files.old) (wanted (texts words.now.items)) (OnProgram LacksProbe) }
     ensures not_too_long { IsVerdict result.report ⊎ IsNodesReport result.report
         → OnSource (F.held files.old) (wanted (texts words.now.items)) (λ bytes _. length bytes ≤ SOURCE_LIMIT) }
     ensures proved { IsVerdict result.report → (wanted (texts words.now.items)).beside ≡ None }
@@ -303,6 +304,9 @@ pub fn run<F: Files, S: Sink>(
     ensures only_violated { (wanted (texts words.now.items)).beside ≡ None
         → IsTold (F.held files.old) (wanted (texts words.now.items)) (λ bytes node. (length bytes ≤ SOURCE_LIMIT) × OnProgram IsUnsafeControl bytes node)
         → IsViolatedUnlessCutOff result.report }
+    ensures only_probed { (wanted (texts words.now.items)).beside ≡ None
+        → IsTold (F.held files.old) (wanted (texts words.now.items)) (λ bytes node. (length bytes ≤ SOURCE_LIMIT) × OnProgram HasProbe bytes node)
+        → IsViolatedUnlessUnread result.report }
     ensures only_claimed { (wanted (texts words.now.items)).beside ≡ None
         → IsTold (F.held files.old) (wanted (texts words.now.items)) (λ bytes node. (length bytes ≤ SOURCE_LIMIT) × OnProgram HasGoodClaim bytes node)
         → IsSafeUnlessCutOff result.report }

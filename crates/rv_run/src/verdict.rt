@@ -6,8 +6,8 @@ use rv_proofs::Certificate;
 pub enum Verdict {
     /// It is safe: a certificate of it, and the document of the certificate.
     Safe(Certificate, Vec<u8>),
-    /// It has no integers and is not safe: a trace that falsifies it, and the document of the trace.
+    /// It is not safe: a trace that falsifies it, and the document of the trace.
     Violated(Trace, Vec<u8>),
-    /// It has integers, and no closed box claim of it is good.
+    /// It has integers, no closed box claim of it is good, and no probe falsifies it.
     Undecided,
 }

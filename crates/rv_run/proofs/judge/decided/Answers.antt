@@ -12,7 +12,8 @@ use Rattle.rv_walk.specs.Ends.{AreBadLayers, IsGoodEnd}
 use Rattle.rv_walk.specs.declared.end.BoxEnd.{BoxEnd}
 use Rattle.rv_reading.specs.declared.reading.Reading.{Reading}
 use Rattle.rv_reading.specs.Read.{flat_of, system_read}
-use Rattle.rv_run.specs.Judged.{IsKnown}
+use Rattle.rv_probe.specs.Probes.{HasFalsifyingProbe}
+use Rattle.rv_run.specs.Judged.{IsControlSystem, IsKnown}
 use Rattle.rv_run.proofs.judge.decided.Goals as goal
 
 pub box_pass-requires-clause-thresholds : goal.box_pass-requires-clause-thresholds
@@ -40,6 +41,13 @@ not_good-requires-clause-known c =
     let main = name_at p c.args.source.now.typed.main in
     subst (λ (r : Reading). IsKnown p main (flat_of r)) (sym c.in_ok-certificate.ensures.same)
     (subst (IsKnown p main) (sym c.in_ok-reading.ensures.flat) c.requires.known)
+
+pub not_good-requires-clause-unprobed : goal.not_good-requires-clause-unprobed
+not_good-requires-clause-unprobed c =
+    let p = program_tree c.args.source.now.program in
+    let main = name_at p c.args.source.now.typed.main in
+    subst (λ (r : Reading). HasFalsifyingProbe p main (flat_of r) → IsControlSystem (flat_of r)) (sym c.in_ok-certificate.ensures.same)
+    (subst (λ (f : Flat). HasFalsifyingProbe p main f → IsControlSystem f) (sym c.in_ok-reading.ensures.flat) c.requires.unprobed)
 
 pub not_good-requires-clause-lacks : goal.not_good-requires-clause-lacks
 not_good-requires-clause-lacks c =

@@ -1,3 +1,4 @@
+use Rattle.std.proofs.Common.{Ok, Some, ap}
 use Rattle.rv_tree.specs.Tree.{program_tree}
 use Rattle.rv_tree.specs.Places.{Identifier}
 use Rattle.rv_tree.specs.SourceTrees.{IsSourceTree}
@@ -26,6 +27,18 @@ decided-requires-clause-known c =
 
 pub decided-requires-clause-thresholds : goal.decided-requires-clause-thresholds
 decided-requires-clause-thresholds c = thresholds_small (program_tree c.args.source.now.program) c.requires.small c.in_ok-flat.flat.thresholds c.in_ok-flat.ensures.flat.thresholds
+
+pub decided-requires-clause-unprobed : goal.decided-requires-clause-unprobed
+decided-requires-clause-unprobed c = λ has. absurd (c.zzz)
+
+pub probed-requires-clause-falsifying : goal.probed-requires-clause-falsifying
+probed-requires-clause-falsifying c =
+    let is = c.in_ok-probe.ensures.falsifies c.in-Some.trace (ap Ok c.in-Some.is) in
+    record { trace = is.0; last = is.1; count = is.2; falsified = is.3 }
+
+pub probed-requires-clause-probe : goal.probed-requires-clause-probe
+probed-requires-clause-probe c =
+    (c.in_ok-flat.flat, c.in_ok-flat.ensures.flat, c.in_ok-probe.ensures.found c.in-Some.trace (ap Ok c.in-Some.is))
 
 pub returns-clause-wide : goal.returns-clause-wide
 returns-clause-wide c = λ nodes.

@@ -27,11 +27,13 @@ violated-requires-clause-bad c =
     c.requires.bad (no_integers (flat_of c.args.reading.now) (subst IsControlSystem c.flat-flat.ensures (c.is_control.ensures.0 c.if-is_control.true)))
 
 pub returns-clause-judged : goal.returns-clause-judged
-returns-clause-judged c =
+returns-clause-judged c = λ nodes.
     let p = program_tree c.args.source.now.program in
     let main = name_at p c.args.source.now.typed.main in
     let known = c.requires.known in
-    let f = flat_of c.args.reading.now in (
-      λ control. true≢false (sym (c.is_control.ensures.1 (subst IsControlSystem (sym c.flat-flat.ensures) (control_system p main f known.flat known.well known.named control))) ∙ c.if-is_control.false),
+    let f = flat_of c.args.reading.now in
+    let integers : IsControlSystem f → ⊥ = λ control. true≢false (sym (c.is_control.ensures.1 (subst IsControlSystem (sym c.flat-flat.ensures) control)) ∙ c.if-is_control.false) in (
+      λ control. integers (control_system p main f known.flat known.well known.named control),
       (f, known.flat, c.requires.lacks),
+      (f, known.flat, λ has. integers (c.requires.unprobed has)),
     )

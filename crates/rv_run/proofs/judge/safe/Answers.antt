@@ -16,7 +16,7 @@ pub write_certificate-requires-clause-range : goal.write_certificate-requires-cl
 write_certificate-requires-clause-range c = c.requires.accepted.partition.in_range
 
 pub returns-clause-judged : goal.returns-clause-judged
-returns-clause-judged c =
+returns-clause-judged c = λ nodes.
     let f = c.args.flat.now in
     let found = c.args.certificate in (
       c.requires.known.safe (c.certificates_are_safe.ensures.safe (control_of f) found c.requires.accepted),

@@ -1,10 +1,10 @@
-use Rattle.std.proofs.Common.{◌≡◌, Ok, ap, sym, ◌∙◌, subst, arith}
+use Rattle.std.proofs.Common.{Ok, inl, ap, sym, ◌∙◌, subst}
 use Rattle.rv_tree.specs.Tree.{program_tree}
 use Rattle.rv_types.specs.Instances.{name_at}
-use Rattle.rv_flat.specs.FlatOf.{IsFlatOf}
 use Rattle.rv_reading.specs.declared.reading.Reading.{Reading}
 use Rattle.rv_reading.specs.Read.{flat_of}
-use Rattle.rv_run.proofs.Told.{fits_document}
+use Rattle.rv_run.specs.Judged.{IsKnown}
+use Rattle.rv_run.proofs.Judged.{traced-verdict}
 use Rattle.rv_run.proofs.judge.violated.Goals as goal
 
 pub find-requires : goal.find-requires
@@ -16,40 +16,25 @@ find-requires c = record {
   sets = λ t set is. (c.requires.bad.layers.each t set is).control;
 }
 
-pub write_trace-requires-clause-told : goal.write_trace-requires-clause-told
-write_trace-requires-clause-told c =
-    let s = c.args.source.now in
-    let p = program_tree s.program in
-    let main = name_at p s.typed.main in
-    let f = c.flat-flat.result.now in
-    let flat : IsFlatOf p main f = subst (IsFlatOf p main) (sym (c.flat-flat.ensures ∙ ap (λ (r : Reading). flat_of r) c.in_ok-found.ensures.same)) c.requires.known.flat in
-    c.told_systems.ensures p main c.requires.fits.settled.0 s.typed f c.requires.fits.tree c.requires.plain c.requires.fits.settled.1 c.requires.known.named flat
-    (omega (arith, c.len-count.type_inv, c.len-count.ensures))
+pub with_trace-requires-clause-known : goal.with_trace-requires-clause-known
+with_trace-requires-clause-known c =
+    let p = program_tree c.args.source.now.program in
+    subst (IsKnown p (name_at p c.args.source.now.typed.main)) (sym (c.flat-flat.ensures ∙ ap (λ (r : Reading). flat_of r) c.in_ok-found.ensures.same)) c.requires.known
 
-pub write_trace-requires-clause-fits : goal.write_trace-requires-clause-fits
-write_trace-requires-clause-fits c =
-    let s = c.args.source.now in
-    let p = program_tree s.program in
-    let main = name_at p s.typed.main in
-    let f = c.flat-flat.result.now in
-    let t = c.in-Some.trace in
-    let flat : IsFlatOf p main f = subst (IsFlatOf p main) (sym (c.flat-flat.ensures ∙ ap (λ (r : Reading). flat_of r) c.in_ok-found.ensures.same)) c.requires.known.flat in
-    (c.fitting_traces.ensures f t).1
-    (fits_document f t (c.flat_traces.ensures.flat p main f t c.requires.known.well c.requires.known.named flat (c.in_ok-found.ensures.falsifies t (ap Ok c.in-Some.is)).trace))
+pub with_trace-requires-clause-trace : goal.with_trace-requires-clause-trace
+with_trace-requires-clause-trace c = (c.in_ok-found.ensures.falsifies c.in-Some.trace (ap Ok c.in-Some.is)).trace
 
 pub returns-clause-judged : goal.returns-clause-judged
-returns-clause-judged c =
-    let s = c.args.source.now in
-    let p = program_tree s.program in
-    let main = name_at p s.typed.main in
-    let f = c.flat-flat.result.now in
+returns-clause-judged c = λ nodes.
+    let p = program_tree c.args.source.now.program in
+    let main = name_at p c.args.source.now.typed.main in
     let t = c.in-Some.trace in
-    let flat : IsFlatOf p main f = subst (IsFlatOf p main) (sym (c.flat-flat.ensures ∙ ap (λ (r : Reading). flat_of r) c.in_ok-found.ensures.same)) c.requires.known.flat in (
-      record {
-        control = c.requires.program_control;
-        falsifying = c.in_ok-found.ensures.falsifies t (ap Ok c.in-Some.is);
-        shortest = c.in_ok-found.ensures.shortest t c.requires.bad (ap Ok c.in-Some.is);
-      },
-      record { system = f; flat = flat; written = c.in_ok-document.ensures.text; read = c.in_ok-document.ensures.document },
-      (flat_of c.args.reading.now, c.requires.known.flat, c.requires.lacks),
-    )
+    traced-verdict nodes p main t
+    (record {
+      falsifying = c.in_ok-found.ensures.falsifies t (ap Ok c.in-Some.is);
+      origin = inl (c.requires.program_control, c.in_ok-found.ensures.shortest t c.requires.bad (ap Ok c.in-Some.is));
+    })
+    (flat_of c.args.reading.now, c.requires.known.flat, c.requires.lacks) c.with_trace.result c.with_trace.ensures.traced
+
+pub returns-clause-wide : goal.returns-clause-wide
+returns-clause-wide c = λ nodes. absurd (c.with_trace.ensures.memory nodes)

@@ -2,7 +2,7 @@ use Rattle.std.proofs.Common.{rules, ◌≡◌, ℕ, List, length, codes, inr, s
 use Rattle.rv_meaning.specs.Runs.{IsSafe}
 use Rattle.rv_make.specs.Made.{made_text}
 use Rattle.rv_proofs.specs.declared.certificate.Certificate.{Certificate}
-use Rattle.rv_run.specs.Programs.{OnProgram, WithRuns, HasManyVariables, IsCertified, IsSafeControl}
+use Rattle.rv_run.specs.Programs.{OnProgram, WithRuns, HasManyVariables, IsCertified, IsSafeControl, LacksProbe}
 use Rattle.rv_run.specs.Answers.{IsOnSource}
 use Rattle.rv_run.specs.declared.report.Report.TheVariants.{Toured}
 use Rattle.rv_run.proofs.Toured.{below, left_over, made_is_safe, same_certificate}
@@ -41,5 +41,6 @@ returns c =
         subst (λ (bytes : List ℕ). OnProgram (HasManyVariables k) bytes (codes "main")) bytes_are
             (subst (λ (m : ℕ). OnProgram (HasManyVariables m) c.as_bytes.result.now (codes "main")) (sym two.0) two.1),
       );
+      unprobed = λ k h. subst (λ (bytes : List ℕ). OnProgram LacksProbe bytes (codes "main")) bytes_are (answer.unprobed k h);
       only = inr (left_over r answer.only (answer.only_safe (subst (λ (bytes : List ℕ). OnProgram IsSafeControl bytes (codes "main")) (sym bytes_are) source)) c.in_default-report.not-Safe);
     }

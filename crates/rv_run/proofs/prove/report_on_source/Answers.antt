@@ -4,17 +4,17 @@ use Rattle.rv_tree.specs.Places.{Identifier}
 use Rattle.rv_types.specs.Instances.{name_at}
 use Rattle.rv_types.specs.Lists.{sites_of}
 use Rattle.rv_meaning.specs.Runs.{IsSafe}
-use Rattle.rv_run.specs.Answers.{IsOnSource, IsRefusalUnlessCutOff, IsSafeUnlessCutOff, IsUnlessLimited, IsViolatedUnlessCutOff}
-use Rattle.rv_run.specs.Programs.{OnProgram, WithRuns, HasGoodClaim, HasManyVariables, IsSafeControl, IsUnsafeControl, IsCertified, IsUnknown, LacksGoodClaim}
+use Rattle.rv_run.specs.Answers.{IsOnSource, IsRefusalUnlessCutOff, IsSafeUnlessCutOff, IsUnlessLimited, IsViolatedUnlessCutOff, IsViolatedUnlessUnread}
+use Rattle.rv_run.specs.Programs.{OnProgram, WithRuns, HasGoodClaim, HasManyVariables, HasProbe, IsSafeControl, IsUnsafeControl, IsCertified, IsUnknown, LacksGoodClaim, LacksProbe}
 use Rattle.rv_run.specs.Verdicts.{IsDocumentOf, IsInvariantOf, IsViolated}
 use Rattle.rv_run.specs.declared.report.Report.{Report}
 use Rattle.rv_run.specs.declared.report.Report.TheVariants.{Unknown}
 use Rattle.rv_tree.specs.SourceTrees.{IsSourceTree}
 use Rattle.rv_types.specs.Settled.{IsSettled}
 use Rattle.rv_types.specs.WellFormed.{AreWell}
-use Rattle.rv_run.proofs.Claimed.{one_claim}
+use Rattle.rv_run.proofs.Claimed.{one_claim, one_probe}
 use Rattle.rv_run.proofs.Judging.{is_node, well, with_runs}
-use Rattle.rv_run.proofs.Judged.{verdict-on_source, verdict-not_refused, said_safe, said_violated, said_unknown, said_nodes, must_claim, must_safe, must_violated, must_unknown}
+use Rattle.rv_run.proofs.Judged.{verdict-on_source, verdict-not_refused, said_safe, said_violated, said_unknown, said_nodes, said_unprobed, must_claim, must_probe, must_safe, must_violated, must_unknown}
 use Rattle.rv_run.proofs.Reported.{refusal-not_safe, refusal-not_violated, refusal-not_unknown, refusal-not_nodes, refusal-on_source, refusal-refused, refused_accepted, refused_same, named, told, told_back}
 use Rattle.rv_run.proofs.prove.report_on_source.Goals as goal
 
@@ -48,10 +48,12 @@ returns-in-Err c =
       document = λ t h. absurd (refusal-not_violated fault t (sym is ∙ h));
       unknown = λ h. absurd (refusal-not_unknown fault (sym is ∙ h));
       nodes = λ n h. absurd (refusal-not_nodes fault n (sym is ∙ h));
+      unprobed = λ n h. absurd (refusal-not_nodes fault n (sym is ∙ h));
       refused = λ found h. refusal-refused bytes node fault found c.in-Err.ensures.refused (sym is ∙ h);
       only = subst IsOnSource (sym is) (refusal-on_source fault);
       only_safe = λ on. inr (inr (inr (is ∙ refused_accepted bytes node IsSafeControl fault c.in-Err.ensures.only on)));
       only_violated = λ on. inr (inr (inr (is ∙ refused_accepted bytes node IsUnsafeControl fault c.in-Err.ensures.only on)));
+      only_probed = λ on. inr (inr (is ∙ refused_accepted bytes node HasProbe fault c.in-Err.ensures.only on));
       only_claimed = λ on. inr (inr (inr (is ∙ refused_accepted bytes node HasGoodClaim fault c.in-Err.ensures.only on)));
       only_unknown = λ on. inr (inr (inr (is ∙ refused_accepted bytes node IsUnknown fault c.in-Err.ensures.only on)));
       only_refused = λ found h. subst (IsRefusalUnlessCutOff found) (sym is) (refused_same bytes node fault found (c.in-Err.ensures.only_refused found h));
@@ -76,6 +78,9 @@ returns-in-Ok c =
     let is_main = is_node p s.typed s.order source.fits well_formed in
     let one : HasGoodClaim p m → LacksGoodClaim p m → ⊥ = λ has lacks.
     one_claim p m (λ f g first second. c.alike_systems.ensures p m f g is_well is_main first second) (λ f g first second. c.alike_names.ensures.thresholds p m f g is_well is_main first second) has lacks in
+    let probe : HasProbe p m → LacksProbe p m → ⊥ = λ has lacks.
+    one_probe p m (λ f g first second. c.alike_names.ensures.inputs p m f g is_well is_main first second) (λ f g first second. c.alike_names.ensures.memories p m f g is_well is_main first second)
+    (λ f g first second. c.alike_names.ensures.thresholds p m f g is_well is_main first second) has lacks in
     let back : (P : ProgramTree → Identifier → Type 0) → OnProgram P bytes node → P p m = λ P on. subst (P p) (sym (named bytes node s source)) (told_back bytes node s source (c.one_tree.ensures bytes) P on) in
     record {
       safe = λ d h. told bytes node s source (WithRuns IsSafe) (runs IsSafe (said_safe c.args.nodes p m r d judged (sym is ∙ h)).0);
@@ -83,16 +88,18 @@ returns-in-Ok c =
       claimed = λ d h. told bytes node s source HasGoodClaim (said_safe c.args.nodes p m r d judged (sym is ∙ h)).1;
       invariant = λ d h. told bytes node s source (IsInvariantOf d c.on_verdict.result.document.items)
           (subst (λ text. IsInvariantOf d text p m) (sym c.on_verdict.ensures.document) (said_safe c.args.nodes p m r d judged (sym is ∙ h)).3);
-      violated = λ t h. told bytes node s source (WithRuns (IsViolated t)) (runs (IsViolated t) (said_violated c.args.nodes p m r t judged (sym is ∙ h)).0);
+      violated = λ t h. told bytes node s source (WithRuns (IsViolated c.args.nodes t)) (runs (IsViolated c.args.nodes t) (said_violated c.args.nodes p m r t judged (sym is ∙ h)).0);
       document = λ t h. told bytes node s source (IsDocumentOf t c.on_verdict.result.document.items)
           (subst (λ text. IsDocumentOf t text p m) (sym c.on_verdict.ensures.document) (said_violated c.args.nodes p m r t judged (sym is ∙ h)).1);
       unknown = λ h. told bytes node s source (WithRuns IsUnknown) (runs IsUnknown (said_unknown c.args.nodes p m r judged (sym is ∙ h)));
       nodes = λ n h. let both = said_nodes c.args.nodes p m r n wide (sym is ∙ h) in (both.0, told bytes node s source (HasManyVariables c.args.nodes) both.1);
+      unprobed = λ n h. told bytes node s source LacksProbe (said_unprobed c.args.nodes p m r n c.judge.ensures.unprobed (sym is ∙ h));
       refused = λ found h. absurd (verdict-not_refused c.args.nodes r found (sym is ∙ h));
       only = subst IsOnSource (sym is) (verdict-on_source c.args.nodes r);
       only_safe = λ on. subst IsSafeUnlessCutOff (sym is) (must_safe c.args.nodes p m r judged (back IsSafeControl on));
       only_violated = λ on. subst IsViolatedUnlessCutOff (sym is) (must_violated c.args.nodes p m r judged (back IsUnsafeControl on));
+      only_probed = λ on. subst IsViolatedUnlessUnread (sym is) (must_probe c.args.nodes p m r probe c.judge.ensures.unprobed judged (back HasProbe on));
       only_claimed = λ on. subst IsSafeUnlessCutOff (sym is) (must_claim c.args.nodes p m r one judged (back HasGoodClaim on));
-      only_unknown = λ on. subst (IsUnlessLimited Unknown) (sym is) (must_unknown c.args.nodes p m r one judged (back IsUnknown on));
+      only_unknown = λ on. subst (IsUnlessLimited Unknown) (sym is) (must_unknown c.args.nodes p m r one probe judged (back IsUnknown on));
       only_refused = λ found h. absurd (c.in-Ok.ensures.only_refused found h);
     }

@@ -30,4 +30,4 @@ returns-in-Ok-Some-Tour-clause-replies g c =
     subst (λ (w : Wanted). Replies held w shown.report shown.document.items) (ap wanted_by (sym (c.in-Ok-Some-Tour.field-0-is ∙ ap (λ (r : Request). Some r) c.in-Ok-Some-Tour.field-0-0-is)) ∙ c.in-Ok-Some-Tour.ensures.wanted)
     (subst (λ (r : Report). Replies held (wanted_of (Some (tour n))) r shown.document.items) (sym c.bare-in-Ok-Some-Tour.ensures)
     (tour_replies held shown.document.items n (c.made_texts_are_short.ensures n ranges.1) c.report_on_tour.result
-    answer.toured answer.safe answer.certified answer.nodes answer.only))
+    answer.toured answer.safe answer.certified answer.nodes answer.unprobed answer.only))

@@ -9,7 +9,7 @@ use Rattle.rv_run.specs.declared.words.Beside.{Beside}
 use Rattle.rv_run.specs.declared.report.Report.{Report}
 use Rattle.rv_run.specs.declared.report.Report.TheVariants.{Accepted, Made, Memory, Nodes, ReadFault, Toured, TooLong, Usage}
 use Rattle.rv_run.specs.Answers.{IsOnSource, IsTold, IsToldDocument, OnDocument, OnFile, Tells}
-use Rattle.rv_run.specs.Programs.{HasGoodClaim, HasManyVariables, IsCertified, IsRefusedFor, IsSafeControl, IsUnknown, IsUnsafeControl, OnProgram, WithRuns}
+use Rattle.rv_run.specs.Programs.{HasGoodClaim, HasManyVariables, HasProbe, LacksProbe, IsCertified, IsRefusedFor, IsSafeControl, IsUnknown, IsUnsafeControl, OnProgram, WithRuns}
 use Rattle.rv_run.specs.Checked.{IsReportOf, IsUnlessCut, SaysOf}
 use Rattle.rv_run.specs.Traced.{IsLongDocument, OnAccepted, file_limit}
 use Rattle.rv_run.specs.Verdicts.{IsDocumentOf, IsInvariantOf, IsViolated}
@@ -59,10 +59,11 @@ returns-in-None g c =
         certified = λ d h. lift (OnProgram (IsCertified d)) (answer.certified d h);
         claimed = λ d h. lift (OnProgram HasGoodClaim) (answer.claimed d h);
         invariant = λ d h. lift (OnProgram (IsInvariantOf d c.report_on_source.result.document.items)) (answer.invariant d h);
-        violated = λ t h. lift (OnProgram (WithRuns (IsViolated t))) (answer.violated t h);
+        violated = λ t h. lift (OnProgram (WithRuns (IsViolated c.args.command.nodes t))) (answer.violated t h);
         document_of = λ t h. lift (OnProgram (IsDocumentOf t c.report_on_source.result.document.items)) (answer.document t h);
         unknown = λ h. lift (OnProgram (WithRuns IsUnknown)) (answer.unknown h);
         nodes = λ n h. let two = answer.nodes n h in (two.0, inl (subst (λ (k : ℕ). OnFile held w (OnProgram (HasManyVariables k))) (sym two.0) (lift (OnProgram (HasManyVariables c.args.command.nodes)) two.1)));
+        unprobed = λ alone n h. inl (lift (OnProgram LacksProbe) (answer.unprobed n h));
         checked_safe = λ h. absurd (let bad : IsOnSource Accepted = subst IsOnSource h answer.only in bad);
         not_too_long = λ verdict. inl (lift (λ bytes node. length bytes ≤ source_limit) fits);
         proved = λ verdict. none;
@@ -70,6 +71,7 @@ returns-in-None g c =
         refused = λ fault h. lift (λ bytes node. (length bytes ≤ source_limit) × IsRefusedFor fault bytes node) (fits, answer.refused fault h);
         too_long = λ n h. absurd (let bad : IsOnSource (TooLong n) = subst IsOnSource h answer.only in bad);
         only_safe = λ alone told. answer.only_safe (back (λ bytes node. (length bytes ≤ source_limit) × OnProgram IsSafeControl bytes node) told).1;
+        only_probed = λ alone told. answer.only_probed (back (λ bytes node. (length bytes ≤ source_limit) × OnProgram HasProbe bytes node) told).1;
         only_claimed = λ alone told. answer.only_claimed (back (λ bytes node. (length bytes ≤ source_limit) × OnProgram HasGoodClaim bytes node) told).1;
         only_violated = λ alone told. answer.only_violated (back (λ bytes node. (length bytes ≤ source_limit) × OnProgram IsUnsafeControl bytes node) told).1;
         only_unknown = λ alone told. answer.only_unknown (back (λ bytes node. (length bytes ≤ source_limit) × OnProgram IsUnknown bytes node) told).1;
@@ -123,6 +125,7 @@ returns g c =
         document_of = λ t h. absurd (document-not_violated r t answer.only h);
         unknown = λ h. absurd (document-not_unknown r answer.only h);
         nodes = λ n h. let two = answer.nodes n h in (two.0, inl (subst (λ (k : ℕ). OnFile held w (OnProgram (HasManyVariables k))) (sym two.0) (lift (OnProgram (HasManyVariables c.args.command.nodes)) two.1)));
+        unprobed = λ alone n h. absurd (some_none (other.task, other.file.now) (sym with_other ∙ alone));
         checked_safe = λ h. lift (OnProgram (WithRuns IsSafe)) (answer.safe h);
         not_too_long = λ verdict. inl (lift (λ bytes node. length bytes ≤ source_limit) fits);
         proved = λ verdict. absurd (document-not_verdict r answer.only verdict);
@@ -138,6 +141,7 @@ returns g c =
           attach IsLongDocument (subst (λ (h : Option Shelf). HoldsUnder h other.file.now (IsLongDocument given node)) kept two.1),
         );
         only_safe = λ alone told. absurd (some_none (other.task, other.file.now) (sym with_other ∙ alone));
+        only_probed = λ alone told. absurd (some_none (other.task, other.file.now) (sym with_other ∙ alone));
         only_claimed = λ alone told. absurd (some_none (other.task, other.file.now) (sym with_other ∙ alone));
         only_violated = λ alone told. absurd (some_none (other.task, other.file.now) (sym with_other ∙ alone));
         only_unknown = λ alone told. absurd (some_none (other.task, other.file.now) (sym with_other ∙ alone));

@@ -10,14 +10,13 @@ use Rattle.rv_run.specs.declared.words.Task.TheVariants.{Replay, Check}
 use Rattle.rv_meaning.specs.Runs.{IsSafe}
 use Rattle.rv_words.specs.Words.{texts, command}
 use Rattle.rv_run.specs.Words.{wanted}
-use Rattle.rv_run.specs.Answers.{IsTold, IsToldDocument, IsRefusalUnlessCutOff, IsUnlessCutOff, IsUnlessLimited, IsNodesReport, IsTouredReport, OnFile, OnDocument, OnSource, IsShown, IsSafeUnlessCutOff, IsViolatedUnlessCutOff}
-use Rattle.rv_run.specs.Programs.{HasGoodClaim, HasManyVariables, IsCertified, IsRefusedFor, IsSafeControl, IsUnknown, IsUnsafeControl, OnProgram, WithRuns}
+use Rattle.rv_run.specs.Answers.{IsTold, IsToldDocument, IsRefusalUnlessCutOff, IsUnlessCutOff, IsUnlessLimited, IsNodesReport, IsTouredReport, OnFile, OnDocument, OnSource, IsShown, IsSafeUnlessCutOff, IsViolatedUnlessCutOff, IsViolatedUnlessUnread}
+use Rattle.rv_run.specs.Programs.{HasGoodClaim, HasManyVariables, HasProbe, IsCertified, IsRefusedFor, IsSafeControl, IsUnknown, LacksProbe, IsUnsafeControl, OnProgram, WithRuns}
 use Rattle.rv_run.specs.Checked.{HasAccepted, HasRejected, IsInvariantFault}
 use Rattle.rv_run.specs.Traced.{IsFileFault, IsLongDocument, IsUnlessNoMemory, OnAccepted, OnTrace, file_limit}
-use Rattle.rv_meaning.specs.Integers.{IsControl}
-use Rattle.rv_falsify.specs.Falsifying.{IsFalsifying, IsShortest}
+use Rattle.rv_falsify.specs.Falsifying.{IsFalsifying}
 use Rattle.rv_run.specs.Printed.{shown_of}
-use Rattle.rv_run.specs.Verdicts.{IsViolated}
+use Rattle.rv_run.specs.Verdicts.{HasOrigin, IsViolated}
 use Rattle.rv_run.proofs.More.{file_more, is_shown, of_check, of_either, of_replay, runs_more}
 use Rattle.rv_run.proofs.running.run.Goals as goal
 
@@ -125,24 +124,30 @@ returns-clause-only_refused g c = λ fault.
 
 pub returns-clause-violated : goal.returns-clause-violated
 returns-clause-violated g c = λ t h.
+    let w = wanted (texts c.as_slice.result.now) in
     subst (λ (ws : List (String Global)). OnFile (g.F.Files.held c.args.files.now) (wanted (texts ws)) (OnProgram (WithRuns (λ p m. IsFalsifying p m t))))
     c.as_slice.ensures.value
-    (file_more (g.F.Files.held c.args.files.now) (wanted (texts c.as_slice.result.now)) (WithRuns (IsViolated t)) (WithRuns (λ p m. IsFalsifying p m t))
-    (λ p m. runs_more (IsViolated t) (λ q n. IsFalsifying q n t) p m (λ is. is.falsifying)) (c.report_on-answer.ensures.replies.violated t h))
+    (file_more (g.F.Files.held c.args.files.now) w (WithRuns (IsViolated w.nodes t)) (WithRuns (λ p m. IsFalsifying p m t))
+    (λ p m. runs_more (IsViolated w.nodes t) (λ q n. IsFalsifying q n t) p m (λ is. is.falsifying)) (c.report_on-answer.ensures.replies.violated t h))
 
-pub returns-clause-shortest : goal.returns-clause-shortest
-returns-clause-shortest g c = λ t h.
-    subst (λ (ws : List (String Global)). OnFile (g.F.Files.held c.args.files.now) (wanted (texts ws)) (OnProgram (λ p m. IsShortest p m t)))
+pub returns-clause-origin : goal.returns-clause-origin
+returns-clause-origin g c = λ t h.
+    let w = wanted (texts c.as_slice.result.now) in
+    subst (λ (ws : List (String Global)). OnFile (g.F.Files.held c.args.files.now) (wanted (texts ws)) (OnProgram (HasOrigin (wanted (texts ws)).nodes t)))
     c.as_slice.ensures.value
-    (file_more (g.F.Files.held c.args.files.now) (wanted (texts c.as_slice.result.now)) (WithRuns (IsViolated t)) (λ p m. IsShortest p m t)
-    (λ p m is. is.holds.shortest) (c.report_on-answer.ensures.replies.violated t h))
+    (file_more (g.F.Files.held c.args.files.now) w (WithRuns (IsViolated w.nodes t)) (HasOrigin w.nodes t)
+    (λ p m is. is.holds.origin) (c.report_on-answer.ensures.replies.violated t h))
 
-pub returns-clause-decided_violated : goal.returns-clause-decided_violated
-returns-clause-decided_violated g c = λ t h.
-    subst (λ (ws : List (String Global)). OnFile (g.F.Files.held c.args.files.now) (wanted (texts ws)) (OnProgram IsControl))
-    c.as_slice.ensures.value
-    (file_more (g.F.Files.held c.args.files.now) (wanted (texts c.as_slice.result.now)) (WithRuns (IsViolated t)) IsControl
-    (λ p m is. is.holds.control) (c.report_on-answer.ensures.replies.violated t h))
+pub returns-clause-unprobed : goal.returns-clause-unprobed
+returns-clause-unprobed g c = λ alone n h.
+    subst (λ (ws : List (String Global)). (wanted (texts ws)).beside ≡ None → OnSource (g.F.Files.held c.args.files.now) (wanted (texts ws)) (OnProgram LacksProbe))
+    c.as_slice.ensures.value (λ none. c.report_on-answer.ensures.replies.unprobed none n h) alone
+
+pub returns-clause-only_probed : goal.returns-clause-only_probed
+returns-clause-only_probed g c =
+    subst (λ (ws : List (String Global)). (wanted (texts ws)).beside ≡ None → IsTold (g.F.Files.held c.args.files.now) (wanted (texts ws))
+    (λ bytes node. (length bytes ≤ source_limit) × OnProgram HasProbe bytes node) → IsViolatedUnlessUnread c.report_on-answer.result.report)
+    c.as_slice.ensures.value c.report_on-answer.ensures.replies.only_probed
 
 pub returns-clause-shown_whole : goal.returns-clause-shown_whole
 returns-clause-shown_whole g c = λ h.

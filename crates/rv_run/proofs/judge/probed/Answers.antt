@@ -1,0 +1,35 @@
+use Rattle.std.proofs.Common.{true≢false, inl, inr, sym, ◌∙◌}
+use Rattle.rv_tree.specs.Tree.{program_tree}
+use Rattle.rv_types.specs.Instances.{name_at}
+use Rattle.rv_control.specs.Control.{control_of}
+use Rattle.rv_proofs.specs.Boxes.{HasGoodBox}
+use Rattle.rv_run.proofs.Integers.{control_system}
+use Rattle.rv_run.proofs.Judged.{falsifying-unsafe, traced-verdict}
+use Rattle.rv_run.proofs.judge.probed.Goals as goal
+
+pub unless_shorter-requires-clause-lacks : goal.unless_shorter-requires-clause-lacks
+unless_shorter-requires-clause-lacks c = λ good.
+    let s = c.args.source.now in
+    let p = program_tree s.program in
+    let main = name_at p s.typed.main in
+    let f = c.args.flat.now in
+    let known = c.requires.known in
+    falsifying-unsafe c.args.nodes p main c.args.trace c.requires.falsifying
+    (known.safe (c.claims_are_safe.ensures.box_claim (control_of f) f.thresholds (c.control_is_a_system.ensures p main f known.well known.named known.flat) good))
+
+pub returns-clause-judged : goal.returns-clause-judged
+returns-clause-judged c =
+    let s = c.args.source.now in
+    let p = program_tree s.program in
+    let main = name_at p s.typed.main in
+    let f = c.args.flat.now in
+    let known = c.requires.known in
+    let lacks : HasGoodBox (control_of f) f.thresholds → ⊥ = λ good.
+    falsifying-unsafe c.args.nodes p main c.args.trace c.requires.falsifying
+    (known.safe (c.claims_are_safe.ensures.box_claim (control_of f) f.thresholds (c.control_is_a_system.ensures p main f known.well known.named known.flat) good)) in
+    traced-verdict c.args.nodes p main c.args.trace
+    (record {
+      falsifying = c.requires.falsifying;
+      origin = inr (c.requires.probe, inl (λ control. true≢false (sym (c.is_control.ensures.1 (control_system p main f known.flat known.well known.named control)) ∙ c.if-is_control.false)));
+    })
+    (f, known.flat, lacks) c.with_trace.result c.with_trace.ensures.traced
