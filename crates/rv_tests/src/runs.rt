@@ -19,6 +19,7 @@ use rv_base::{Memory, MemoryFiles, MemorySink, SureFiles, SureSink};
 use rv_run::{Outcome, Report, Sent, run};
 use rv_words::{Command, read_words};
 use std::alloc::{AllocError, Global};
+use std::str::from_utf8;
 
 /// The words of the command line that proves the node `m` of the file `f`.
 const PROVE: &str = "reaver prove f m";
@@ -38,6 +39,8 @@ const CHECK: &str = "reaver check f m t";
 /// `^` stands for a carriage return;
 /// `check`: the same of an invariant, which is checked;
 /// `found`: the text of `f`, whose node `m` is proved, and what is shown of it checked where it is Safe, and else replayed;
+/// `changed`: the text of `f`, and changes of what is proved of its node `m`, each the number of a record, a `=` and what stands in its place;
+/// the file with each change is checked;
 /// `replaylong`: what `replay` does, the trace told by its front, a part, how often it is repeated, and the back;
 /// `surely`: the same over files and a sink that never fail;
 /// `long`: the same of a text by its front, a part, how often it is repeated, and the back. A `%` in the part stands for
@@ -57,6 +60,7 @@ pub fn ran(alloc: Global, kind: &str, fields: &str) -> Result<Option<String>, Me
             let text = with_line_feeds(alloc, fields)?;
             Ok(Some(found_again(alloc, text.as_bytes())?))
         }
+        "changed" => checked_changed(alloc, fields),
         "replaylong" => replayed_long(alloc, fields),
         "surely" => ran_surely(alloc, fields),
         "long" => {
@@ -194,6 +198,39 @@ fn found_again(alloc: Global, source: &[u8]) -> Result<String, Memory> {
         _ => REPLAY,
     };
     done_over(alloc, command, source, out.bytes())
+}
+
+/// What the check of what `prove` shows of a source does where a record is changed, for each of the changes.
+fn checked_changed(alloc: Global, fields: &str) -> Result<Option<String>, Memory> {
+    let mut parts = fields.split('~');
+    let source = with_line_feeds(alloc, parts.next().unwrap_or(""))?;
+    let words = words_of(alloc, PROVE)?;
+    let mut files = files_of(alloc, source.as_bytes())?;
+    let mut out = MemorySink::new(alloc);
+    run_in_memory(alloc, &words, &mut files, &mut out);
+    let Ok(shown) = from_utf8(out.bytes()) else {
+        return Ok(None);
+    };
+    let mut answers = String::new(alloc);
+    for change in parts {
+        let document = with_change(alloc, shown, change)?;
+        let answer = done_over(alloc, CHECK, source.as_bytes(), document.as_bytes())?;
+        answers.push_str(answer.as_str())?;
+    }
+    Ok(Some(answers))
+}
+
+/// A document in which what a change says stands in place of the record that it numbers. The records are numbered from 0. Where a change says
+/// nothing, the record is dropped.
+fn with_change(alloc: Global, shown: &str, change: &str) -> Result<String, AllocError> {
+    let (number, record) = change.split_once('=').unwrap_or(("", ""));
+    let record = with_line_ends(alloc, record)?;
+    let number = number.parse::<usize>().unwrap_or(0);
+    let mut whole = String::new(alloc);
+    for (place, line) in shown.split_inclusive('\n').enumerate() {
+        whole.push_str(if place == number { record.as_str() } else { line })?;
+    }
+    Ok(whole)
 }
 
 /// Files that hold these bytes under `f`.
