@@ -174,28 +174,57 @@ pub fn others_of(
     })
 }
 
+/// The same after the claim has grown, given those of before: where it has no new control states their cases stay, and are not made again.
+fn others_after(
+    alloc: Global,
+    store: &mut Store,
+    relation: &Relation,
+    questions: &Questions,
+    first: &Frozen,
+    claim: &Claim,
+    others: Others,
+) -> Result<Others, StoreFault>
+    requires { (s : System) × (f : FrameModel) × IsGiven s store.old relation.now questions.now f
+        × IsInitialSet s first.now × IsKeptClaim s f claim.now × AreCases s others.control others.cases }
+    ensures others { (s : System) (f : FrameModel) → IsGiven s store.old relation.now questions.now f
+        → IsInitialSet s first.now → IsKeptClaim s f claim.now → AreCases s others.entry.control others.entry.cases
+        → IfOk result (AreOthers s first.now claim.now) }
+    ensures same { store.new ≡ store.old }
+    ensures roomy { IsErrOf result StoreFault.Nodes → store.old.limit < 2 ^ (2 ^ store.old.variables) }
+{
+    let control = without(store, &claim.reached, first)?;
+    if control != others.control {
+        return others_of(alloc, store, relation, questions, first, claim);
+    }
+    let given = bound_rows(alloc, &claim.upper, &claim.lower)?;
+    Ok(Others {
+        control,
+        given,
+        cases: others.cases,
+    })
+}
+
 /// A round over the cases of the claim's control states: of the initial ones, where no bound counts, and of the others. Whether
 /// something has changed; where nothing has, the claim is closed.
 fn round(
     alloc: Global,
     store: &mut Store,
     relation: &Relation,
-    questions: &Questions,
     frame: &Frame,
     first: &Frozen,
     from_first: &Many<Case>,
+    others: &Others,
     claim: &mut Claim,
 ) -> Result<bool, StoreFault>
-    requires { (s : System) × IsGiven s store.old relation.now questions.now frame.now
-        × IsStart s first.now from_first.now × IsKeptClaim s frame.now claim.old }
-    ensures grown { (s : System) → IsGiven s store.old relation.now questions.now frame.now
-        → IsStart s first.now from_first.now → IsKeptClaim s frame.now claim.old
+    requires { (s : System) × (q : QuestionsModel) × IsGiven s store.old relation.now q frame.now
+        × IsStart s first.now from_first.now × IsKeptClaim s frame.now claim.old × AreOthers s first.now claim.old others.now }
+    ensures grown { (s : System) (q : QuestionsModel) → IsGiven s store.old relation.now q frame.now
+        → IsStart s first.now from_first.now → IsKeptClaim s frame.now claim.old → AreOthers s first.now claim.old others.now
         → IfOk result (λ changed. IsRound s frame.now changed claim.old claim.new) }
     ensures same { store.new ≡ store.old }
     ensures roomy { IsErrOf result StoreFault.Nodes → store.old.limit < 2 ^ (2 ^ store.old.variables) }
 {
     let nothing = Many::new(alloc);
-    let others = others_of(alloc, store, relation, questions, first, claim)?;
     let one = by_cases(
         alloc, store, relation, frame, first, &nothing, from_first, claim,
     )?;
@@ -205,7 +234,7 @@ fn round(
         cases,
     } = others;
     let two = by_cases(
-        alloc, store, relation, frame, &control, &given, &cases, claim,
+        alloc, store, relation, frame, control, given, cases, claim,
     )?;
     Ok(either(one, two))
 }
@@ -250,6 +279,15 @@ fn first_claim(
     })
 }
 
+/// The least closed claim, with its control states that are not initial and their cases.
+#[derive(Debug, Drop)]
+pub struct Closed {
+    /// The claim.
+    pub claim: Claim,
+    /// Its control states that are not initial, the rows of its bounds, and their cases.
+    pub others: Others,
+}
+
 /// The least closed claim: rounds, until nothing changes.
 pub fn closed_claim(
     alloc: Global,
@@ -259,20 +297,22 @@ pub fn closed_claim(
     frame: &Frame,
     first: &Frozen,
     from_first: &Many<Case>,
-) -> Result<Claim, StoreFault>
+) -> Result<Closed, StoreFault>
     requires { (s : System) × IsGiven s store.old relation.now questions.now frame.now × IsStart s first.now from_first.now }
     ensures least { (s : System) → IsGiven s store.old relation.now questions.now frame.now → IsStart s first.now from_first.now
-        → IfOk result (IsLeastClaim s frame.now) }
+        → IfOk result (λ c. IsLeastClaim s frame.now c.claim × AreOthers s first.now c.claim c.others) }
     ensures same { store.new ≡ store.old }
     ensures roomy { IsErrOf result StoreFault.Nodes → store.old.limit < 2 ^ (2 ^ store.old.variables) }
 {
     let memories = questions.forms.len();
     let mut claim = first_claim(alloc, store, relation, frame, memories)?;
+    let mut others = others_of(alloc, store, relation, questions, first, &claim)?;
     let mut more = true;
     while more {
         more = round(
-            alloc, store, relation, questions, frame, first, from_first, &mut claim,
+            alloc, store, relation, frame, first, from_first, &others, &mut claim,
         )?;
+        others = others_after(alloc, store, relation, questions, first, &claim, others)?;
     }
-    Ok(claim)
+    Ok(Closed { claim, others })
 }
