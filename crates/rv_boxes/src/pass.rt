@@ -112,7 +112,7 @@ fn end_of(
     requires { (s : System) × IsGiven s store.old relation.now questions.now frame.now
         × IsCertifiable s frame.now closed.claim start.first start.from_first closed.others }
     ensures ends { (s : System) → IsGiven s store.old relation.now questions.now frame.now
-        → IsCertifiable s frame.now closed.entry.claim start.entry.first start.entry.from_first closed.entry.others
+        → IsCertifiable s frame.now closed.claim start.first start.from_first closed.others
         → IfOk result (IsEndOf s frame.now.thresholds) }
     ensures same { store.new ≡ store.old }
     ensures roomy { IsErrOf result StoreFault.Nodes → store.old.limit < 2 ^ (2 ^ store.old.variables) }
