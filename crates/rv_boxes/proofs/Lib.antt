@@ -19,6 +19,7 @@ pub mod Narrowing
 pub mod Collecting
 pub mod Assembling
 pub mod Giving
+mod Imagining
 pub mod Reaching
 pub mod Ending
 pub mod Relating

@@ -7,6 +7,7 @@ pub mod Limits
 pub mod Bounding
 pub mod Opening
 pub mod Claiming
+pub mod Imaging
 pub mod Rounds
 pub mod Certifying
 pub mod Narrowed

@@ -4,7 +4,7 @@ ghost use Rattle.std.specs.Prelude.{◌≡◌, ◌↔◌, ◌<◌, ◌≤◌, �
 ghost use Rattle.std.specs.Int.RustNames.{unsigned_abs};
 ghost use Rattle.rv_proofs.specs.Systems.{System};
 ghost use Rattle.rv_proofs.specs.Accepted.{IsAccepted};
-ghost use Rattle.rv_proofs.specs.Boxes.{BoxClaim, IsGood, HasGoodBox};
+ghost use Rattle.rv_proofs.specs.Boxes.{BoxClaim, HasGoodBox};
 ghost use Rattle.rv_proofs.specs.Reached.{IsLeastClosed, AreLayers};
 ghost use Rattle.rv_proofs.specs.declared.certificate.Certificate.{Certificate as CertificateModel};
 ghost use Rattle.rv_proofs.specs.declared.report.Layers.{Layers as LayersModel};
@@ -14,14 +14,14 @@ ghost use Rattle.rv_boxes.specs.declared.frame.Frame.{Frame as FrameModel};
 ghost use Rattle.rv_boxes.specs.Claiming.{claim_of};
 ghost use Rattle.rv_boxes.specs.Opening.{IsFrameOf};
 ghost use Rattle.rv_boxes.specs.Rounds.{IsGiven, IsStart, IsLeastClaim};
-ghost use Rattle.rv_boxes.specs.Certifying.{IsBad};
-ghost use Rattle.rv_boxes.specs.Passing.{IsPassOf, IsProof, IsEndOf};
+ghost use Rattle.rv_boxes.specs.Certifying.{IsBad, IsCertifiable};
+ghost use Rattle.rv_boxes.specs.Passing.{IsPassOf, IsEndOf};
 
 use crate::claim::Claim;
 use crate::frame::Frame;
 use crate::layers::layers;
 use crate::locations::certify;
-use crate::rounds::{closed_claim, others_of};
+use crate::rounds::{Closed, closed_claim, others_of};
 use crate::shut::negated;
 use rv_base::{Many, Memory};
 use rv_cases::{Questions, cases};
@@ -78,31 +78,6 @@ fn start_of(
     Ok(Start { first, from_first })
 }
 
-/// The certificate of the least closed claim, or none where it is not good.
-fn good_end(
-    alloc: Global,
-    store: &mut Store,
-    relation: &Relation,
-    questions: &Questions,
-    frame: &Frame,
-    claim: &Claim,
-) -> Result<Option<Certificate>, StoreFault>
-    requires { (s : System) × IsGiven s store.old relation.now questions.now frame.now × IsLeastClaim s frame.now claim.now }
-    ensures some { (s : System) → IsGiven s store.old relation.now questions.now frame.now → IsLeastClaim s frame.now claim.now
-        → IfOk result (λ o. IfSome o (λ x. IsProof s x)) }
-    ensures good { (s : System) → IsGiven s store.old relation.now questions.now frame.now → IsLeastClaim s frame.now claim.now
-        → IfOk result (λ o. IfSome o (λ x. IsGood s (claim_of claim.now))) }
-    ensures none { (s : System) → IsGiven s store.old relation.now questions.now frame.now → IsLeastClaim s frame.now claim.now
-        → IfOk result (λ o. IfNone o (IsBad s (claim_of claim.now))) }
-    ensures same { store.new ≡ store.old }
-    ensures roomy { IsErrOf result StoreFault.Nodes → store.old.limit < 2 ^ (2 ^ store.old.variables) }
-{
-    let start = start_of(alloc, store, relation, questions)?;
-    let others = others_of(alloc, store, relation, questions, &start.first, claim)?;
-    let Start { first, from_first } = start;
-    Ok(certify(alloc, frame, first, from_first, others)?)
-}
-
 /// The layers of the least closed claim, which is not good.
 fn bad_end(
     alloc: Global,
@@ -131,18 +106,23 @@ fn end_of(
     relation: &Relation,
     questions: &Questions,
     frame: &Frame,
-    claim: &Claim,
+    start: Start,
+    closed: Closed,
 ) -> Result<BoxEnd, StoreFault>
-    requires { (s : System) × IsGiven s store.old relation.now questions.now frame.now × IsLeastClaim s frame.now claim.now }
-    ensures ends { (s : System) → IsGiven s store.old relation.now questions.now frame.now → IsLeastClaim s frame.now claim.now
+    requires { (s : System) × IsGiven s store.old relation.now questions.now frame.now
+        × IsCertifiable s frame.now closed.claim start.first start.from_first closed.others }
+    ensures ends { (s : System) → IsGiven s store.old relation.now questions.now frame.now
+        → IsCertifiable s frame.now closed.claim start.first start.from_first closed.others
         → IfOk result (IsEndOf s frame.now.thresholds) }
     ensures same { store.new ≡ store.old }
     ensures roomy { IsErrOf result StoreFault.Nodes → store.old.limit < 2 ^ (2 ^ store.old.variables) }
 {
-    match good_end(alloc, store, relation, questions, frame, claim)? {
+    let Start { first, from_first } = start;
+    let Closed { claim, others } = closed;
+    match certify(alloc, frame, first, from_first, others)? {
         Some(certificate) => Ok(BoxEnd::Good(certificate)),
         None => {
-            let layers = bad_end(alloc, store, relation, questions, frame, claim)?;
+            let layers = bad_end(alloc, store, relation, questions, frame, &claim)?;
             Ok(BoxEnd::Bad(layers))
         }
     }
@@ -164,8 +144,8 @@ fn pass_in(
     let start = start_of(alloc, store, relation, questions)?;
     let first = &start.first;
     let from_first = &start.from_first;
-    let claim = closed_claim(alloc, store, relation, questions, frame, first, from_first)?;
-    end_of(alloc, store, relation, questions, frame, &claim)
+    let closed = closed_claim(alloc, store, relation, questions, frame, first, from_first)?;
+    end_of(alloc, store, relation, questions, frame, start, closed)
 }
 
 /// The box pass: the least closed box claim of a system, upward from the initial control states and the closest thresholds. A bound

@@ -1,17 +1,20 @@
 //! Rounds over the cases of a claim's control states, until none loosens the claim.
 
-ghost use Rattle.std.specs.Prelude.{◌≡◌, ◌<◌, ◌≤◌, ◌^◌, ◌||◌, All, length, IfOk, IsErrOf};
+ghost use Rattle.std.specs.Prelude.{◌≡◌, ◌<◌, ◌≤◌, ◌^◌, ◌||◌, All, length, IfOk, IfSome, IsErrOf, OnOk};
+ghost use Rattle.rv_diagram.specs.declared.frozen.Frozen.{Frozen as FrozenModel};
+ghost use Rattle.rv_symbolic.specs.Represented.{IsRelationOf};
 ghost use Rattle.std.specs.Int.RustNames.{unsigned_abs};
 ghost use Rattle.rv_diagram.specs.Nodes.{IsOrderedOver};
 ghost use Rattle.rv_proofs.specs.Systems.{System};
 ghost use Rattle.rv_proofs.specs.Scopes.{IsIn};
 ghost use Rattle.rv_proofs.specs.Ranges.{IsControlSet};
 ghost use Rattle.rv_proofs.specs.Boxes.{BoxClaim};
-ghost use Rattle.rv_proofs.specs.Cases.{AreCases, IsInitialSet};
+ghost use Rattle.rv_proofs.specs.Cases.{AreCases, IsCase, IsImage, IsInitialSet};
 ghost use Rattle.rv_cases.specs.declared.asking.Questions.{Questions as QuestionsModel};
 ghost use Rattle.rv_boxes.specs.declared.frame.Frame.{Frame as FrameModel};
 ghost use Rattle.rv_boxes.specs.Rounds.{IsGiven, IsSetting, IsKeptClaim, HasTaken, HasGrown, IsCaseIn, IsInCases, AreOthers, AreFirst, IsLeastClaim};
 ghost use Rattle.rv_boxes.specs.Rounds.{IsRound, IsStart};
+ghost use Rattle.rv_boxes.specs.Imaging.{AreImages, AreNone};
 ghost use Rattle.rv_boxes.specs.Orders.{IsBelowClosed};
 ghost use Rattle.rv_boxes.specs.Claiming.{claim_of};
 
@@ -53,6 +56,45 @@ fn take_set(store: &mut Store, claim: &mut Claim, set: &Frozen) -> Result<bool, 
     }
 }
 
+/// Takes the image of a case into the claim; it is made where it is not there yet. Whether some of it is new.
+fn take_image(
+    store: &mut Store,
+    relation: &Relation,
+    from: &Frozen,
+    case: &Case,
+    image: &mut Option<Frozen>,
+    claim: &mut Claim,
+) -> Result<bool, StoreFault>
+    requires { (s : System) × IsRelationOf s store.old relation.now × IsControlSet s from.now × IsCase s case.now
+        × IsControlSet s claim.old.reached × IfSome image.old (IsImage s from.now case.now) }
+    ensures same { store.new ≡ store.old }
+    ensures roomy { IsErrOf result StoreFault.Nodes → store.old.limit < 2 ^ (2 ^ store.old.variables) }
+    ensures taken { (s : System) → IsRelationOf s store.old relation.now → IsControlSet s from.now → IsCase s case.now
+        → IsControlSet s claim.old.reached → IfSome image.old (IsImage s from.now case.now)
+        → IfOk result (λ fresh. (set : FrozenModel) × IsImage s from.now case.now set × HasTaken s set fresh claim.old claim.new) }
+    ensures known { (s : System) → IsRelationOf s store.old relation.now → IsControlSet s from.now → IsCase s case.now
+        → IfSome image.old (IsImage s from.now case.now) → OnOk result (IfSome image.new (IsImage s from.now case.now)) }
+{
+    if let Some(set) = image {
+        return take_set(store, claim, set);
+    }
+    let set = relation.image(store, from, case)?;
+    let fresh = take_set(store, claim, &set)?;
+    *image = Some(set);
+    Ok(fresh)
+}
+
+/// A place for the image of each case, and none is there.
+fn no_images(alloc: Global, count: usize) -> Result<Vec<Option<Frozen>>, Memory>
+    ensures { IfOk result (λ images. AreNone count images.items) }
+{
+    let mut images = Vec::new(alloc);
+    for _case in 0..count {
+        images.push(None)?;
+    }
+    Ok(images)
+}
+
 /// Puts loosened limits into the claim. Whether something has changed, in the set or the limits.
 fn take_limits(claim: &mut Claim, opened: Opened, fresh: bool) -> bool
     ensures reached { claim.new.reached ≡ claim.old.reached }
@@ -79,13 +121,19 @@ fn by_case(
     from: &Frozen,
     given: &Many<Row>,
     case: &Case,
+    image: &mut Option<Frozen>,
     claim: &mut Claim,
 ) -> Result<bool, StoreFault>
     requires { (s : System) × (q : QuestionsModel) × (base : BoxClaim) × IsGiven s store.old relation.now q frame.now
-        × IsSetting s base from.now given.now × IsKeptClaim s frame.now claim.old × IsCaseIn s from.now case.now }
+        × IsSetting s base from.now given.now × IsKeptClaim s frame.now claim.old × IsCaseIn s from.now case.now
+        × IfSome image.old (IsImage s from.now case.now) }
     ensures grown { (s : System) (q : QuestionsModel) (base : BoxClaim) → IsGiven s store.old relation.now q frame.now
         → IsSetting s base from.now given.now → IsKeptClaim s frame.now claim.old → IsCaseIn s from.now case.now
+        → IfSome image.old (IsImage s from.now case.now)
         → IfOk result (λ changed. HasGrown s frame.now base (IsIn case.now.condition) changed claim.old claim.new) }
+    ensures known { (s : System) (q : QuestionsModel) (base : BoxClaim) → IsGiven s store.old relation.now q frame.now
+        → IsSetting s base from.now given.now → IsCaseIn s from.now case.now
+        → IfSome image.old (IsImage s from.now case.now) → OnOk result (IfSome image.new (IsImage s from.now case.now)) }
     ensures same { store.new ≡ store.old }
     ensures roomy { IsErrOf result StoreFault.Nodes → store.old.limit < 2 ^ (2 ^ store.old.variables) }
 {
@@ -100,15 +148,14 @@ fn by_case(
     )?;
     match opened {
         Some(limits) => {
-            let set = relation.image(store, from, case)?;
-            let fresh = take_set(store, claim, &set)?;
+            let fresh = take_image(store, relation, from, case, image, claim)?;
             Ok(take_limits(claim, limits, fresh))
         }
         None => Ok(false),
     }
 }
 
-/// All cases of a set of control states. Whether something has changed.
+/// All cases of a set of control states, with their images as far as they are made. Whether something has changed.
 fn by_cases(
     alloc: Global,
     store: &mut Store,
@@ -117,20 +164,29 @@ fn by_cases(
     from: &Frozen,
     given: &Many<Row>,
     cases: &Many<Case>,
+    images: &mut Vec<Option<Frozen>>,
     claim: &mut Claim,
 ) -> Result<bool, StoreFault>
     requires { (s : System) × (q : QuestionsModel) × (base : BoxClaim) × IsGiven s store.old relation.now q frame.now
-        × IsSetting s base from.now given.now × IsKeptClaim s frame.now claim.old × AreCases s from.now cases.now }
+        × IsSetting s base from.now given.now × IsKeptClaim s frame.now claim.old × AreCases s from.now cases.now
+        × AreImages s from.now cases.now images.old.items }
     ensures grown { (s : System) (q : QuestionsModel) (base : BoxClaim) → IsGiven s store.old relation.now q frame.now
         → IsSetting s base from.now given.now → IsKeptClaim s frame.now claim.old → AreCases s from.now cases.now
+        → AreImages s from.now cases.now images.old.items
         → IfOk result (λ changed. HasGrown s frame.now base (IsInCases cases.now (length cases.now)) changed claim.old claim.new) }
+    ensures known { (s : System) (q : QuestionsModel) (base : BoxClaim) → IsGiven s store.old relation.now q frame.now
+        → IsSetting s base from.now given.now → IsKeptClaim s frame.now claim.old → AreCases s from.now cases.now
+        → AreImages s from.now cases.now images.old.items → OnOk result (AreImages s from.now cases.now images.new.items) }
     ensures same { store.new ≡ store.old }
     ensures roomy { IsErrOf result StoreFault.Nodes → store.old.limit < 2 ^ (2 ^ store.old.variables) }
 {
     let mut changed = false;
     for place in 0..cases.len() {
         let case = cases.at(place);
-        let more = by_case(alloc, store, relation, frame, from, given, case, claim)?;
+        let image = &mut images[place];
+        let more = by_case(
+            alloc, store, relation, frame, from, given, case, image, claim,
+        )?;
         changed = either(changed, more);
     }
     Ok(changed)
@@ -174,30 +230,95 @@ pub fn others_of(
     })
 }
 
+/// The same after the claim has grown, given those of before: where it has no new control states their cases and images stay, and are not
+/// made again.
+fn others_after(
+    alloc: Global,
+    store: &mut Store,
+    relation: &Relation,
+    questions: &Questions,
+    first: &Frozen,
+    claim: &Claim,
+    others: Others,
+    images: &mut Vec<Option<Frozen>>,
+) -> Result<Others, StoreFault>
+    requires { (s : System) × (f : FrameModel) × IsGiven s store.old relation.now questions.now f
+        × IsInitialSet s first.now × IsKeptClaim s f claim.now × AreCases s others.control others.cases }
+    ensures others { (s : System) (f : FrameModel) → IsGiven s store.old relation.now questions.now f
+        → IsInitialSet s first.now → IsKeptClaim s f claim.now → AreCases s others.control others.cases
+        → IfOk result (AreOthers s first.now claim.now) }
+    ensures known { (s : System) (f : FrameModel) → IsGiven s store.old relation.now questions.now f
+        → IsInitialSet s first.now → IsKeptClaim s f claim.now → AreCases s others.control others.cases
+        → AreImages s others.control others.cases images.old.items
+        → IfOk result (λ o. AreImages s o.control o.cases images.new.items) }
+    ensures same { store.new ≡ store.old }
+    ensures roomy { IsErrOf result StoreFault.Nodes → store.old.limit < 2 ^ (2 ^ store.old.variables) }
+{
+    let control = without(store, &claim.reached, first)?;
+    if control != others.control {
+        let others = others_of(alloc, store, relation, questions, first, claim)?;
+        *images = no_images(alloc, others.cases.len())?;
+        return Ok(others);
+    }
+    let given = bound_rows(alloc, &claim.upper, &claim.lower)?;
+    Ok(Others {
+        control,
+        given,
+        cases: others.cases,
+    })
+}
+
+/// The images of the cases of both sets of control states, as far as they are made.
+#[derive(Debug, Drop)]
+struct Images {
+    /// Those of the initial ones.
+    first: Vec<Option<Frozen>>,
+    /// Those of the others.
+    others: Vec<Option<Frozen>>,
+}
+
 /// A round over the cases of the claim's control states: of the initial ones, where no bound counts, and of the others. Whether
 /// something has changed; where nothing has, the claim is closed.
 fn round(
     alloc: Global,
     store: &mut Store,
     relation: &Relation,
-    questions: &Questions,
     frame: &Frame,
     first: &Frozen,
     from_first: &Many<Case>,
+    others: &Others,
+    images: &mut Images,
     claim: &mut Claim,
 ) -> Result<bool, StoreFault>
-    requires { (s : System) × IsGiven s store.old relation.now questions.now frame.now
-        × IsStart s first.now from_first.now × IsKeptClaim s frame.now claim.old }
-    ensures grown { (s : System) → IsGiven s store.old relation.now questions.now frame.now
-        → IsStart s first.now from_first.now → IsKeptClaim s frame.now claim.old
+    requires { (s : System) × (q : QuestionsModel) × IsGiven s store.old relation.now q frame.now
+        × IsStart s first.now from_first.now × IsKeptClaim s frame.now claim.old × AreOthers s first.now claim.old others.now
+        × AreImages s first.now from_first.now images.old.first.items × AreImages s others.now.control others.now.cases images.old.others.items }
+    ensures grown { (s : System) (q : QuestionsModel) → IsGiven s store.old relation.now q frame.now
+        → IsStart s first.now from_first.now → IsKeptClaim s frame.now claim.old → AreOthers s first.now claim.old others.now
+        → AreImages s first.now from_first.now images.old.first.items → AreImages s others.now.control others.now.cases images.old.others.items
         → IfOk result (λ changed. IsRound s frame.now changed claim.old claim.new) }
+    ensures known { (s : System) (q : QuestionsModel) → IsGiven s store.old relation.now q frame.now
+        → IsStart s first.now from_first.now → IsKeptClaim s frame.now claim.old → AreOthers s first.now claim.old others.now
+        → AreImages s first.now from_first.now images.old.first.items → AreImages s others.now.control others.now.cases images.old.others.items
+        → OnOk result (AreImages s first.now from_first.now images.new.first.items × AreImages s others.now.control others.now.cases images.new.others.items) }
     ensures same { store.new ≡ store.old }
     ensures roomy { IsErrOf result StoreFault.Nodes → store.old.limit < 2 ^ (2 ^ store.old.variables) }
 {
     let nothing = Many::new(alloc);
-    let others = others_of(alloc, store, relation, questions, first, claim)?;
+    let Images {
+        first: first_images,
+        others: other_images,
+    } = images;
     let one = by_cases(
-        alloc, store, relation, frame, first, &nothing, from_first, claim,
+        alloc,
+        store,
+        relation,
+        frame,
+        first,
+        &nothing,
+        from_first,
+        first_images,
+        claim,
     )?;
     let Others {
         control,
@@ -205,7 +326,15 @@ fn round(
         cases,
     } = others;
     let two = by_cases(
-        alloc, store, relation, frame, &control, &given, &cases, claim,
+        alloc,
+        store,
+        relation,
+        frame,
+        control,
+        given,
+        cases,
+        other_images,
+        claim,
     )?;
     Ok(either(one, two))
 }
@@ -250,6 +379,15 @@ fn first_claim(
     })
 }
 
+/// The least closed claim, with its control states that are not initial and their cases.
+#[derive(Debug, Drop)]
+pub struct Closed {
+    /// The claim.
+    pub claim: Claim,
+    /// Its control states that are not initial, the rows of its bounds, and their cases.
+    pub others: Others,
+}
+
 /// The least closed claim: rounds, until nothing changes.
 pub fn closed_claim(
     alloc: Global,
@@ -259,20 +397,43 @@ pub fn closed_claim(
     frame: &Frame,
     first: &Frozen,
     from_first: &Many<Case>,
-) -> Result<Claim, StoreFault>
+) -> Result<Closed, StoreFault>
     requires { (s : System) × IsGiven s store.old relation.now questions.now frame.now × IsStart s first.now from_first.now }
     ensures least { (s : System) → IsGiven s store.old relation.now questions.now frame.now → IsStart s first.now from_first.now
-        → IfOk result (IsLeastClaim s frame.now) }
+        → IfOk result (λ c. IsLeastClaim s frame.now c.claim × AreOthers s first.now c.claim c.others) }
     ensures same { store.new ≡ store.old }
     ensures roomy { IsErrOf result StoreFault.Nodes → store.old.limit < 2 ^ (2 ^ store.old.variables) }
 {
     let memories = questions.forms.len();
     let mut claim = first_claim(alloc, store, relation, frame, memories)?;
+    let mut others = others_of(alloc, store, relation, questions, first, &claim)?;
+    let mut images = Images {
+        first: no_images(alloc, from_first.len())?,
+        others: no_images(alloc, others.cases.len())?,
+    };
     let mut more = true;
     while more {
         more = round(
-            alloc, store, relation, questions, frame, first, from_first, &mut claim,
+            alloc,
+            store,
+            relation,
+            frame,
+            first,
+            from_first,
+            &others,
+            &mut images,
+            &mut claim,
+        )?;
+        others = others_after(
+            alloc,
+            store,
+            relation,
+            questions,
+            first,
+            &claim,
+            others,
+            &mut images.others,
         )?;
     }
-    Ok(claim)
+    Ok(Closed { claim, others })
 }
