@@ -44,7 +44,12 @@ pub one_probe : (p : ProgramTree) (m : Identifier) → ((f g : Flat) → IsFlatO
     → ((f g : Flat) → IsFlatOf p m f → IsFlatOf p m g → map memory_of f.memories ≡ map memory_of g.memories)
     → ((f g : Flat) → IsFlatOf p m f → IsFlatOf p m g → f.thresholds ≡ g.thresholds) → HasProbe p m → LacksProbe p m → ⊥
 one_probe p m inputs memories thresholds (f, flat, (b, c, k, at)) (g, other, none) =
-    none (b, c, k, record {
-      number = subst (λ (ts : List ℤ). (c ≡ pos 0) ⊎ ((length ts ≤ 256) × Contains ts c)) (thresholds f g flat other) at.number;
-      falsified = subst (λ (t : Trace). IsFalsifiedAt p m t k) (same_probe f g b c (inputs f g flat other) (memories f g flat other)) at.falsified;
-    })
+    none (
+      b,
+      c,
+      k,
+      record {
+        number = subst (λ (ts : List ℤ). (c ≡ pos 0) ⊎ ((length ts ≤ 256) × Contains ts c)) (thresholds f g flat other) at.number;
+        falsified = subst (λ (t : Trace). IsFalsifiedAt p m t k) (same_probe f g b c (inputs f g flat other) (memories f g flat other)) at.falsified;
+      },
+    )

@@ -131,7 +131,7 @@ fn with_trace(
     requires plain { HasPlainNames (program_tree source.now.program) }
     requires known { IsKnown (program_tree source.now.program) (name_at (program_tree source.now.program) source.now.typed.main) flat.now }
     requires trace { IsTrace (program_tree source.now.program) (name_at (program_tree source.now.program) source.now.typed.main) trace }
-    ensures traced { IfOk result (IsTraced trace.entry (program_tree source.now.program) (name_at (program_tree source.now.program) source.now.typed.main)) }
+    ensures traced { IfOk result (IsTraced trace (program_tree source.now.program) (name_at (program_tree source.now.program) source.now.typed.main)) }
     ensures memory { IsErrOf result StoreFault.Nodes → ⊥ }
 {
     told_systems();

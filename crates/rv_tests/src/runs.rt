@@ -228,7 +228,11 @@ fn with_change(alloc: Global, shown: &str, change: &str) -> Result<String, Alloc
     let number = number.parse::<usize>().unwrap_or(0);
     let mut whole = String::new(alloc);
     for (place, line) in shown.split_inclusive('\n').enumerate() {
-        whole.push_str(if place == number { record.as_str() } else { line })?;
+        whole.push_str(if place == number {
+            record.as_str()
+        } else {
+            line
+        })?;
     }
     Ok(whole)
 }

@@ -58,3 +58,9 @@ pub not_good-requires-clause-bad : goal.not_good-requires-clause-bad
 not_good-requires-clause-bad c =
     subst (λ (r : Reading). HasNoIntegers (system_read r) → AreBadLayers (system_read r) c.in-Bad.layers) (sym c.in_ok-certificate.ensures.same)
     (λ none. c.in_ok-certificate.ensures.control_bad c.in-Bad.layers none (ap Ok c.in-Bad.is))
+
+pub returns-in-Good-clause-judged : goal.returns-in-Good-clause-judged
+returns-in-Good-clause-judged c = c.safe.ensures.judged c.args.nodes
+
+pub returns-clause-judged : goal.returns-clause-judged
+returns-clause-judged c = c.not_good.ensures.judged c.args.nodes

@@ -1,4 +1,5 @@
-use Rattle.std.proofs.Common.{Ok, inl, ap, sym, ◌∙◌, subst}
+use Rattle.std.proofs.Common.{◌≡◌, Ok, Option, Some, None, inl, ap, refl, sym, ◌∙◌, subst}
+use Rattle.rv_base.specs.declared.value.Trace.{Trace}
 use Rattle.rv_tree.specs.Tree.{program_tree}
 use Rattle.rv_types.specs.Instances.{name_at}
 use Rattle.rv_reading.specs.declared.reading.Reading.{Reading}
@@ -6,6 +7,10 @@ use Rattle.rv_reading.specs.Read.{flat_of}
 use Rattle.rv_run.specs.Judged.{IsKnown}
 use Rattle.rv_run.proofs.Judged.{traced-verdict}
 use Rattle.rv_run.proofs.judge.violated.Goals as goal
+
+none_of : (o : Option Trace) → ((t : Trace) → o ≡ Some t → ⊥) → o ≡ None
+none_of None h = refl
+none_of (Some t) h = absurd (h t refl)
 
 pub find-requires : goal.find-requires
 find-requires c = record {
@@ -23,6 +28,9 @@ with_trace-requires-clause-known c =
 
 pub with_trace-requires-clause-trace : goal.with_trace-requires-clause-trace
 with_trace-requires-clause-trace c = (c.in_ok-found.ensures.falsifies c.in-Some.trace (ap Ok c.in-Some.is)).trace
+
+pub returns-in_default-clause-judged : goal.returns-in_default-clause-judged
+returns-in_default-clause-judged c = λ nodes. absurd (c.in_ok-found.ensures.found c.requires.bad (none_of c.in_ok-found.found c.in_default.not-Some))
 
 pub returns-clause-judged : goal.returns-clause-judged
 returns-clause-judged c = λ nodes.
