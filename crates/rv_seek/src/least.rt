@@ -17,8 +17,11 @@ use std::collections::BTreeMap;
 /// Two places whose left sides sum to the wanted one, and the sum of their bounds.
 #[derive(Clone, Copy, Debug)]
 pub struct Best {
+    /// The lesser place. A place past the end of the list stands for no premise.
     pub first: usize,
+    /// The greater place.
     pub second: usize,
+    /// The sum of the bounds at both.
     pub bound: i128,
 }
 

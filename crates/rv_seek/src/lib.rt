@@ -15,4 +15,5 @@ mod simplex;
 mod sparse;
 mod tableau;
 
+pub use least::{Best, least_pair};
 pub use seek::{Bounded, seek_bound, seek_refutation, seek_row};
