@@ -4,7 +4,7 @@ use Rattle.std.proofs.lemmas.Int.{to_z-of_z}
 use Rattle.rv_rows.specs.Rows.{coefficient, row_at}
 use Rattle.rv_rows.specs.Forms.{number}
 use Rattle.rv_rows.proofs.FormLemmas.{pushed, length-pushed}
-use Rattle.rv_seek.proofs.sides.rest_of.Goals as goal
+use Rattle.rv_seek.proofs.sides.write_rest.Goals as goal
 
 pub loop-column-preserved : goal.loop-column-preserved
 loop-column-preserved c =

@@ -1,7 +1,7 @@
 use Rattle.std.proofs.Common.{◌≡◌, ◌<◌, ℕ, length, ◌-ℤ◌}
 use Rattle.rv_rows.specs.Rows.{coefficient, row_at}
 use Rattle.rv_rows.specs.Forms.{number}
-use Rattle.rv_seek.proofs.sides.rest_of.Given as goal
+use Rattle.rv_seek.proofs.sides.write_rest.Given as goal
 
 abbrev pub invariant-loop-column : goal.invariant-loop-column
 invariant-loop-column l = record {
