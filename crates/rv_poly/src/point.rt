@@ -1,0 +1,56 @@
+// Whole points of polyhedra whose numbers a trace may have.
+ghost use Rattle.std.specs.Prelude.{◌≡◌, ℤ, List, length, All, IfOk, IfSome, IsTrue, None};
+ghost use Rattle.rv_rows.specs.Tight.{Fits};
+ghost use Rattle.rv_poly.specs.Points.{HasPoint};
+ghost use Rattle.rv_poly.specs.Polys.{IsPoly, rows_width};
+ghost use Rattle.rv_poly.specs.Whole.{IsInReplay, IsSingle, IsCandidate};
+
+use crate::join::width_of;
+use crate::poly::Poly;
+use crate::sides::meets_all;
+use crate::spans::{nearest, span_of};
+use rv_base::{Many, Memory};
+use rv_rows::Row;
+use std::alloc::Global;
+
+/// One number for each column, one after the other: each is the nearest to the wanted one that the rows allow, so far as they have no
+/// coefficient at a later column.
+fn candidate(
+    alloc: Global,
+    rows: &Many<Row>,
+    width: usize,
+    wanted: i128,
+) -> Result<Many<i128>, Memory>
+    requires fits { All Fits rows.now }
+    requires widths { All (λ r. length r.coefficients ≡ width) rows.now }
+    requires wanted { IsInReplay wanted }
+    ensures { IfOk result (IsCandidate rows.now width) }
+{
+    let mut point = Many::new(alloc);
+    for column in 0..width {
+        let span = span_of(rows, column, &point);
+        let number = nearest(span, wanted);
+        point.push(number)?;
+    }
+    Ok(point)
+}
+
+impl Poly {
+    /// A whole point of the polyhedron, with a number for each column of its rows that a trace may have: from -2^63 to 2^63 - 1. Where each
+    /// row has at most one coefficient other than 0, None is answered exactly where there is no such point; elsewhere it promises nothing.
+    /// The only error is want of memory.
+    pub fn whole_point(&self, alloc: Global) -> Result<Option<Many<i128>>, Memory>
+        requires { IsPoly self.now.rows }
+        ensures point { IfOk result (λ o. IfSome o (λ p. HasPoint self.now.rows p)) }
+        ensures replay { IfOk result (λ o. IfSome o (λ p. All IsInReplay p)) }
+        ensures width { IfOk result (λ o. IfSome o (λ p. length p ≡ rows_width self.now.rows)) }
+        ensures none { IfOk result (λ o. All (λ r. IsSingle r.coefficients) self.now.rows → o ≡ None → (point : List ℤ) → All IsInReplay point → ¬ (HasPoint self.now.rows point)) }
+    {
+        let width = width_of(&self.rows);
+        let point = candidate(alloc, &self.rows, width, 0)?;
+        if meets_all(&self.rows, &point) {
+            return Ok(Some(point));
+        }
+        Ok(None)
+    }
+}
