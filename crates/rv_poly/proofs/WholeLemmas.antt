@@ -377,7 +377,7 @@ candidate-more rows n point z span c s r within = record {
     go single other ro h i d k l nonzero (inr b) m =
         let e : k ≡ n = omega arith in
         let kept = s.kept single (number n other) (replay-number other ro n) (λ j f o y.
-          rw (dot-single other (get_or rows j f).coefficients n (others-zero (get_or rows j f).coefficients n (single j f o) y)) at (h j f o)) in
+        rw (dot-single other (get_or rows j f).coefficients n (others-zero (get_or rows j f).coefficients n (single j f o) y)) at (h j f o)) in
         let in_span = within (up _ _ _ (kept.0) (kept.1)) in
         let here : number n (point ++ z ∷ []) ≡ z = get_or_push point z (pos 0) n c.size in
         let P : ℕ → Type 0 = λ j. (coefficient j (get_or rows i d) ≡ pos 0 → ⊥) → (coefficient j (get_or rows i d) *ℤ number j (point ++ z ∷ [])) ≤ℤ (get_or rows i d).bound in

@@ -39,7 +39,7 @@ pub record IsSpanOf (k : ℕ) (rows : List Row) (n : ℕ) (new : Span) : Type 0 
       → (x : ℤ) → new.low ≤ℤ x → x ≤ℤ new.high → (coefficient k (slice_index_or rows i d) *ℤ x) ≤ℤ (slice_index_or rows i d).bound
   pub kept : All (λ r. IsSingle r.coefficients) rows → (x : ℤ) → IsInReplay x
       → ((i : ℕ) (d : Row) → i < length rows → (coefficient k (slice_index_or rows i d) ≡ pos 0 → ⊥)
-          → (coefficient k (slice_index_or rows i d) *ℤ x) ≤ℤ (slice_index_or rows i d).bound)
+      → (coefficient k (slice_index_or rows i d) *ℤ x) ≤ℤ (slice_index_or rows i d).bound)
       → (new.low ≤ℤ x) × (x ≤ℤ new.high)
 
 -- The first n numbers of a point are in the range of a trace. Where each row has at most one coefficient other than 0, and some point whose

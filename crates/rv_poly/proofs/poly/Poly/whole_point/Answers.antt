@@ -1,6 +1,7 @@
 use Rattle.std.proofs.Common.{◌≡◌, ap, ◌∙◌, true≢false}
 use Rattle.std.specs.Prelude.{is_some}
 use Rattle.rv_poly.proofs.WholeLemmas.{replay-zero, none-left}
+use Rattle.rv_poly.proofs.GuideLemmas.{whole-has, whole-replay, whole-size}
 use Rattle.rv_poly.proofs.poly.Poly.whole_point.Goals as goal
 
 pub candidate-requires-clause-fits : goal.candidate-requires-clause-fits
@@ -26,6 +27,18 @@ returns-then-meets_all-clause-width c = c.in_ok-point.ensures.size ∙ c.width_o
 
 pub returns-then-meets_all-clause-none : goal.returns-then-meets_all-clause-none
 returns-then-meets_all-clause-none c single e = absurd (true≢false (ap is_some e))
+
+pub guided-requires : goal.guided-requires
+guided-requires c = record { rows = c.requires.fits; widths = rw c.width_of-width.ensures c.requires.widths }
+
+pub returns-clause-point : goal.returns-clause-point
+returns-clause-point c = whole-has c.args.self.now.rows c.width_of-width.result c.in_ok-found.found c.in_ok-found.ensures
+
+pub returns-clause-replay : goal.returns-clause-replay
+returns-clause-replay c = whole-replay c.args.self.now.rows c.width_of-width.result c.in_ok-found.found c.in_ok-found.ensures
+
+pub returns-clause-width : goal.returns-clause-width
+returns-clause-width c = whole-size c.args.self.now.rows c.width_of-width.result _ c.width_of-width.ensures c.in_ok-found.found c.in_ok-found.ensures
 
 pub returns-clause-none : goal.returns-clause-none
 returns-clause-none c single e other ro h =
