@@ -11,7 +11,6 @@ use Rattle.std.proofs.lemmas.List.Elements.{All-push, All-nil, All-take}
 use Rattle.rv_rows.specs.declared.linear.Row.{Row}
 use Rattle.rv_rows.specs.Rows.{dot, Holds, coefficient}
 use Rattle.rv_rows.specs.Forms.{number}
-use Rattle.rv_rows.specs.Tight.{Fits}
 use Rattle.rv_rows.proofs.IntLemmas.{mul_comm_int, mul_mono, below_next}
 use Rattle.rv_rows.proofs.RowLemmas.{dot-cons, get_or-tail, dot-none, tail_of}
 use Rattle.rv_poly.specs.declared.spans.Span.{Span}

@@ -69,11 +69,14 @@ fn is_known(rows: &Many<Row>, row: &Row) -> bool {
     false
 }
 
-/// Adds the row, tightened, where it is within the limits and does not follow at once.
+/// Adds the row, tightened, where there is room, it is within the limits, and it does not follow at once.
 fn add_tightened(guide: &mut Guide, row: Row, width: usize) -> Result<(), Memory>
     requires { length row.coefficients ≡ width }
     ensures { OnOk result (IsGuided width guide.old.rows guide.new.rows) }
 {
+    if guide.rows.len() >= MOST_ROWS {
+        return Ok(());
+    }
     let mut tight = row;
     tight.tighten();
     if !tight.fits() {
@@ -104,9 +107,6 @@ fn add_sum(
     ensures { OnOk result (IsGuided width guide.old.rows guide.new.rows) }
 {
     if guide.tries == 0 {
-        return Ok(());
-    }
-    if guide.rows.len() >= MOST_ROWS {
         return Ok(());
     }
     guide.tries -= 1;

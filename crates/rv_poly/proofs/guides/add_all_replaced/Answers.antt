@@ -1,5 +1,5 @@
 use Rattle.std.proofs.Common.{◌<◌, length, arith}
-use Rattle.rv_poly.proofs.GuideLemmas.{guided-same, guided-trans, guided-in, guided-upto}
+use Rattle.rv_poly.proofs.GuideLemmas.{guided-same, guided-trans, guided-in}
 use Rattle.rv_poly.proofs.guides.add_all_replaced.Goals as goal
 
 pub loop-row-init : goal.loop-row-init

@@ -1,12 +1,9 @@
-use Rattle.std.proofs.Common.{◌≡◌, ◌∙◌, sym}
+use Rattle.std.proofs.Common.{◌∙◌, sym}
 use Rattle.rv_poly.proofs.GuideLemmas.{guided-same, guide-fits, guide-width}
 use Rattle.rv_poly.proofs.guides.add_sum.Goals as goal
 
 pub returns-then-guide-eq0 : goal.returns-then-guide-eq0
 returns-then-guide-eq0 c = guided-same c.args.width c.args.guide.now.rows
-
-pub returns-then-len-ge-MOST_ROWS : goal.returns-then-len-ge-MOST_ROWS
-returns-then-len-ge-MOST_ROWS c = guided-same c.args.width c.args.guide.now.rows
 
 pub combine-requires : goal.combine-requires
 combine-requires c =

@@ -1,7 +1,10 @@
-use Rattle.std.proofs.Common.{◌≡◌, ◌∙◌, length}
+use Rattle.std.proofs.Common.{◌∙◌}
 use Rattle.rv_rows.specs.Tight.{Fits}
 use Rattle.rv_poly.proofs.GuideLemmas.{guided-same, guided-more, tightened-width}
 use Rattle.rv_poly.proofs.guides.add_tightened.Goals as goal
+
+pub returns-then-len-ge-MOST_ROWS : goal.returns-then-len-ge-MOST_ROWS
+returns-then-len-ge-MOST_ROWS c = guided-same c.args.width c.args.guide.now.rows
 
 pub returns-then-not-fits : goal.returns-then-not-fits
 returns-then-not-fits c = guided-same c.args.width c.args.guide.now.rows

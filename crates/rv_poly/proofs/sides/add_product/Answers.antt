@@ -1,4 +1,3 @@
-use Rattle.std.proofs.Common.{FitsSigned}
 use Rattle.std.proofs.lemmas.Int.{to_z-of_z}
 use Rattle.rv_poly.proofs.WholeLemmas.{product-fits}
 use Rattle.rv_poly.proofs.sides.add_product.Goals as goal

@@ -1,4 +1,3 @@
-use Rattle.std.proofs.Common.{◌≡◌}
 use Rattle.rv_poly.proofs.sides.meets.Goals as goal
 
 pub left_side-requires-clause-coefficients : goal.left_side-requires-clause-coefficients

@@ -1,5 +1,4 @@
-use Rattle.std.proofs.Common.{◌≡◌, ℤ, pos, ◌≤ℤ◌, ◌<ℤ◌, FitsSigned, arith, rules}
-use Rattle.std.specs.Int.{w128}
+use Rattle.std.proofs.Common.{ℤ, pos, ◌≤ℤ◌, ◌<ℤ◌, arith, rules}
 use Rattle.std.proofs.lemmas.Int.{to_z-of_z, ints}
 use Rattle.rv_poly.proofs.WholeLemmas.{below-zero}
 use Rattle.rv_poly.proofs.spans.cut_span.Goals as goal

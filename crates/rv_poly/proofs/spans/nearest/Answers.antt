@@ -1,4 +1,4 @@
-use Rattle.std.proofs.Common.{◌≡◌, pos, ◌≤ℤ◌, ◌<ℤ◌, FitsSigned, arith, rules}
+use Rattle.std.proofs.Common.{◌≤ℤ◌, FitsSigned, arith, rules}
 use Rattle.std.specs.Int.{w128}
 use Rattle.std.proofs.lemmas.Int.{to_z-of_z, ints}
 use Rattle.rv_poly.proofs.WholeLemmas.{low-replay, high-replay, le-itself}

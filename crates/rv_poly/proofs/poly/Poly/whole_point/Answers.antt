@@ -1,6 +1,6 @@
-use Rattle.std.proofs.Common.{◌≡◌, ap, ◌∙◌, true≢false}
+use Rattle.std.proofs.Common.{ap, ◌∙◌, true≢false}
 use Rattle.std.specs.Prelude.{is_some}
-use Rattle.rv_poly.proofs.WholeLemmas.{replay-zero, none-left}
+use Rattle.rv_poly.proofs.WholeLemmas.{none-left}
 use Rattle.rv_poly.proofs.GuideLemmas.{whole-has, whole-replay, whole-size}
 use Rattle.rv_poly.proofs.poly.Poly.whole_point.Goals as goal
 
