@@ -17,7 +17,7 @@ use rv_rows::Row;
 use std::alloc::Global;
 
 /// The width of the first row, 0 where there is none.
-fn width_of(rows: &Many<Row>) -> usize
+pub fn width_of(rows: &Many<Row>) -> usize
     ensures { result ≡ rows_width rows.now }
 {
     match rows.get(0) {
