@@ -1,6 +1,5 @@
 -- Successors by a case of a system, and the answers that hold them.
-use Rattle.std.proofs.Common.{◌≡◌, ◌⊎◌, ℕ, zero, suc, ◌+◌, ◌-◌, ◌^◌, ◌≤◌, ◌<◌, ℤ, pos, List, [], ◌∷◌, ◌++◌, length, get_or, All, Option, Some, None, arith, refl, ap, sym, ◌∙◌, subst, inl, inr}
-use Rattle.std.specs.Int.RustNames.{unsigned_abs}
+use Rattle.std.proofs.Common.{◌≡◌, ◌⊎◌, ℕ, zero, suc, ◌+◌, ◌-◌, ◌^◌, ◌≤◌, ◌<◌, ℤ, List, [], ◌∷◌, ◌++◌, length, All, Option, Some, None, arith, refl, ap, sym, ◌∙◌, subst, inl, inr}
 use Rattle.std.proofs.lemmas.Bool.{cases_lt}
 use Rattle.std.proofs.lemmas.List.{length-append, length_push, get_or_append_left, get_or_push}
 use Rattle.std.proofs.lemmas.List.Elements.{All-nil, All-push, All-append}
@@ -13,7 +12,7 @@ use Rattle.rv_rows.specs.Forms.{values, forms_width, FormWithin}
 use Rattle.rv_rows.specs.Tight.{Fits}
 use Rattle.rv_poly.specs.Points.{HasPoint}
 use Rattle.rv_poly.specs.Images.{IsImage as IsImagePoint, AreUpdates, AreMoves, IsNarrow, StaysWithin}
-use Rattle.rv_proofs.specs.Systems.{System, IsSystem, IsUpdate, HasSameState, Agrees, rows_of, rows_among, held_row, updates_of, updates_among}
+use Rattle.rv_proofs.specs.Systems.{System, IsSystem, Agrees, rows_among, held_row, updates_among}
 use Rattle.rv_proofs.specs.Scopes.{IsIn}
 use Rattle.rv_proofs.specs.Cases.{IsCaseOf, IsImage}
 use Rattle.rv_proofs.specs.declared.report.Case.{Case}
@@ -34,7 +33,7 @@ rows-hold s v point a (suc n) l = All-append (λ r. Holds r point) (rows_among s
 
 tests-hold : (s : System) (v : Valuation) (point : List ℤ) (n : ℕ) → HasPoint (rows_among s v n) point → (t : ℕ) (r : Row) → t < n → s.row v t ≡ Some r → Holds r point
 tests-hold s v point zero h t r l at = absurd (omega arith)
-tests-hold s v point (suc n) h t r l at = go (cases_lt t n)
+tests-hold s v point (suc n) h t r l at = go (λ less. tests-hold s v point n before t r less at) (cases_lt t n)
   where
     before : HasPoint (rows_among s v n) point
     before i d m =
@@ -48,9 +47,9 @@ tests-hold s v point (suc n) h t r l at = go (cases_lt t n)
         subst (λ (q : Row). Holds q point) (get_or_push (rows_among s v n) r r (length (rows_among s v n)) refl)
         (whole (length (rows_among s v n)) r (omega arith))
 
-    go : (t < n) ⊎ (n ≤ t) → Holds r point
-    go (inl less) = tests-hold s v point n before t r less at
-    go (inr more) = let e : t ≡ n = omega arith in last (subst (λ (k : ℕ). s.row v k ≡ Some r) e at)
+    go : (t < n → Holds r point) → (t < n) ⊎ (n ≤ t) → Holds r point
+    go earlier (inl less) = earlier less
+    go earlier (inr more) = let e : t ≡ n = omega arith in last (subst (λ (k : ℕ). s.row v k ≡ Some r) e at)
 
 updates-long : (s : System) (v : Valuation) (n : ℕ) → length (updates_among s v n) ≡ n
 updates-long s v zero = refl
@@ -121,7 +120,7 @@ module _ (s : System) (c : Case) (of : IsCaseOf s c) where
 -- in the words of the call: where its answer has no point but images of the rows together, it has only updated points
 pub only-updated : (own p : List Row) (c : Case) → All (λ r. length r.coefficients ≡ length c.updates) own
     → (AreUpdates c.updates → AreMoves c.updates → All (IsNarrow (length c.updates)) c.rows → All Fits c.rows → All (StaysWithin c.updates) (own ++ c.rows)
-        → length own + length c.rows ≤ 1024 → (point : List ℤ) → length point ≡ length c.updates → HasPoint p point → IsImagePoint (own ++ c.rows) c.updates point)
+    → length own + length c.rows ≤ 1024 → (point : List ℤ) → length point ≡ length c.updates → HasPoint p point → IsImagePoint (own ++ c.rows) c.updates point)
     → IsMove own c → AreUpdates c.updates → (inputs : ℕ) (new : List ℤ) → length new ≡ length c.updates → HasPoint p new → IsUpdated own c inputs new
 only-updated own p c widths exact m limits inputs new size has =
     image-updated own c widths m.moves m.narrow inputs new (exact limits m.moves m.narrow m.fits m.stays m.few new size has)

@@ -15,9 +15,9 @@ module _ (s0 s1 s2 : Diagrams) (a b : Frozen) (one other : ℕ) (p : Answers s0 
   first-is : (v : Valuation) → value_of s2.nodes one v ≡ value_of a.nodes a.root v
   first-is v = q.grows.kept one p.found v ∙ p.means v
 
-  pub within-exact : (yes : Bool) → (IsTrue yes ↔ ((v : Valuation) → value_of s2.nodes one v ≡ true → value_of s2.nodes other v ≡ true))
-      → IsTrue yes ↔ ((v : Valuation) → IsIn a v → IsIn b v)
-  within-exact yes h = (
+  pub within-exact : (is : Bool) → (IsTrue is ↔ ((v : Valuation) → value_of s2.nodes one v ≡ true → value_of s2.nodes other v ≡ true))
+      → IsTrue is ↔ ((v : Valuation) → IsIn a v → IsIn b v)
+  within-exact is h = (
     λ on v inside. sym (q.means v) ∙ h.0 on v (first-is v ∙ inside),
     λ all. h.1 (λ v inside. q.means v ∙ all v (sym (first-is v) ∙ inside)),
   )

@@ -5,8 +5,8 @@ ghost use Rattle.rv_rows.specs.Forms.{forms_width, values};
 ghost use Rattle.rv_poly.specs.Points.{HasPoint};
 ghost use Rattle.rv_poly.specs.Polys.{IsPoly};
 
-use rv_base::{Many, Memory};
 use crate::polys::{is_included, joined};
+use rv_base::{Many, Memory};
 use rv_poly::Poly;
 use rv_rows::{Form, Row};
 use std::alloc::Global;
@@ -38,12 +38,7 @@ pub trait Domain: Drop {
 
     /// A value with the updated points: those that the updates, one for each column, give at each point that meets the rows, too. The rows
     /// and the updates may be wider, and the further columns are inputs. The only error is want of memory.
-    fn after(
-        &self,
-        alloc: Global,
-        rows: &Many<Row>,
-        updates: &Many<Form>,
-    ) -> Result<Self, Memory>
+    fn after(&self, alloc: Global, rows: &Many<Row>, updates: &Many<Form>) -> Result<Self, Memory>
         requires own { spans self.now (length updates.now) }
         requires updates { All (λ f. length f.coefficients ≡ forms_width updates.now) updates.now }
         ensures spans { IfOk result (λ d. spans d (length updates.now)) }
@@ -70,12 +65,7 @@ impl Domain for Poly {
         Ok(found)
     }
 
-    fn after(
-        &self,
-        alloc: Global,
-        rows: &Many<Row>,
-        updates: &Many<Form>,
-    ) -> Result<Poly, Memory> {
+    fn after(&self, alloc: Global, rows: &Many<Row>, updates: &Many<Form>) -> Result<Poly, Memory> {
         let found = self.after(alloc, rows, updates)?;
         Ok(found)
     }

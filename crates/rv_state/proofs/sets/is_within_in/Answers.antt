@@ -1,4 +1,3 @@
-use Rattle.std.proofs.Common.{◌≡◌, true}
 use Rattle.rv_state.proofs.SetLemmas.{within-exact}
 use Rattle.rv_state.proofs.sets.is_within_in.Goals as goal
 
