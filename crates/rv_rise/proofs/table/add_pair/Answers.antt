@@ -1,0 +1,12 @@
+use Rattle.std.proofs.Common.{arith}
+use Rattle.rv_rise.proofs.Tabling.{pair_added, both_long}
+use Rattle.rv_rise.proofs.table.add_pair.Goals as goal
+
+pub returns-clause-after : goal.returns-clause-after
+returns-clause-after c =
+    pair_added c.args.memories c.args.first c.args.second c.requires.order c.requires.known c.requires.few c.args.sides.now c.add_signs.new.sides
+    c.add_signs-2.new.sides c.requires.before c.in_ok-add_signs.ensures c.in_ok-add_signs-2.ensures
+
+pub returns-clause-count : goal.returns-clause-count
+returns-clause-count c =
+    omega (arith, both_long _ _ _ _ _ _ c.in_ok-add_signs.ensures, both_long _ _ _ _ _ _ c.in_ok-add_signs-2.ensures)
