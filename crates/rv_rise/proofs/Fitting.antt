@@ -1,5 +1,5 @@
 -- The premises and the updates of a case, and the numbers of left sides.
-use Rattle.std.proofs.Common.{◌≡◌, ◌≢◌, ℕ, zero, suc, ◌^◌, ◌<◌, ◌≤◌, ℤ, pos, negsuc, List, [], ◌∷◌, ◌++◌, length, get_or, All, Some, slice_get, arith, refl, sym, ap, ◌∙◌, subst, ◌⊎◌, inl, inr}
+use Rattle.std.proofs.Common.{◌≡◌, ◌≢◌, ℕ, zero, suc, ◌^◌, ◌<◌, ◌≤◌, ℤ, pos, negsuc, List, [], ◌∷◌, ◌++◌, length, get_or, All, Option, Some, slice_get, arith, refl, sym, ap, ◌∙◌, subst, ◌⊎◌, inl, inr}
 use Rattle.std.specs.List.{Contains}
 use Rattle.std.specs.Int.RustNames.{unsigned_abs}
 use Rattle.std.proofs.lemmas.Int.{ints}
@@ -25,7 +25,7 @@ use Rattle.rv_rise.specs.Shown.{ArePremises, CanMove, CanMoveAll}
 use Rattle.rv_rise.specs.Sides.{IsSide, AreSides, rows_with}
 use Rattle.rv_rise.proofs.Listing.{IsRowAt, rows_with-from, rows_with-few}
 
-nothing : Row
+abbrev nothing : Row
 nothing = record { coefficients = []; bound = pos 0 }
 
 -- the updates of a valuation, one by one

@@ -71,7 +71,7 @@ pattern_of k x a y b r order known size bound last start none = record {
     others n ne me (inl l) = none n l me ne
     others n ne me (inr m) = get_or_past r.coefficients n (pos 0) (omega (arith, m, size))
 
-nothing : Row
+abbrev nothing : Row
 nothing = record { coefficients = []; bound = pos 0 }
 
 -- one left side more

@@ -38,7 +38,7 @@ returns-clause-least c s given =
     let q = given.questions in
     let within : IsGivenIn s c.args.store.now c.args.relation.now c.args.questions.now c.in_ok-frame.frame =
     record { relation = given.relation; questions = q; frame = c.in_ok-frame.ensures.frame s (sym (c.len.ensures ∙ q.many_memories)) } in
-    found_least s c.in_ok-frame.frame c.args.thresholds.now c.in_ok-risen.risen c.in_ok-claim_from.value c.in_ok-frame.ensures.thresholds
+    found_least s c.in_ok-frame.frame c.args.thresholds.now c.in_ok-risen.risen c.in_ok-claim_from.field-0 c.in_ok-frame.ensures.thresholds
     c.in_ok-claim_from.ensures.reached c.in_ok-claim_from.ensures.rows (c.in_ok-risen.ensures.least s within)
 
 pub returns-clause-kept : goal.returns-clause-kept
@@ -46,5 +46,5 @@ returns-clause-kept c s given =
     let q = given.questions in
     let within : IsGivenIn s c.args.store.now c.args.relation.now c.args.questions.now c.in_ok-frame.frame =
     record { relation = given.relation; questions = q; frame = c.in_ok-frame.ensures.frame s (sym (c.len.ensures ∙ q.many_memories)) } in
-    found_kept s c.in_ok-frame.frame c.args.thresholds.now c.in_ok-risen.risen c.in_ok-claim_from.value c.in_ok-frame.ensures.thresholds
+    found_kept s c.in_ok-frame.frame c.args.thresholds.now c.in_ok-risen.risen c.in_ok-claim_from.field-0 c.in_ok-frame.ensures.thresholds
     c.in_ok-claim_from.ensures.reached c.in_ok-claim_from.ensures.rows within.frame (c.in_ok-risen.ensures.least s within)

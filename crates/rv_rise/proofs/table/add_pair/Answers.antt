@@ -1,4 +1,4 @@
-use Rattle.std.proofs.Common.{arith}
+use Rattle.std.proofs.Common.{pos, negsuc, arith}
 use Rattle.rv_rise.proofs.Tabling.{pair_added, both_long}
 use Rattle.rv_rise.proofs.table.add_pair.Goals as goal
 
@@ -9,4 +9,6 @@ returns-clause-after c =
 
 pub returns-clause-count : goal.returns-clause-count
 returns-clause-count c =
-    omega (arith, both_long _ _ _ _ _ _ c.in_ok-add_signs.ensures, both_long _ _ _ _ _ _ c.in_ok-add_signs-2.ensures)
+    let first = both_long c.args.memories c.args.first (pos 1) c.args.second c.args.sides.now c.add_signs.new.sides c.in_ok-add_signs.ensures in
+    let second = both_long c.args.memories c.args.first (negsuc 0) c.args.second c.add_signs.new.sides c.add_signs-2.new.sides c.in_ok-add_signs-2.ensures in
+    omega (arith, first, second)
