@@ -1,5 +1,5 @@
 -- The claim that is found, as a value.
-use Rattle.std.proofs.Common.{◌≡◌, ℤ, List, All, refl, sym, ap, ◌∙◌, subst}
+use Rattle.std.proofs.Common.{◌≡◌, ℤ, List, sym, ap, ◌∙◌, subst}
 use Rattle.rv_diagram.specs.declared.frozen.Frozen.{Frozen}
 use Rattle.rv_rows.specs.declared.linear.Row.{Row}
 use Rattle.rv_proofs.specs.Systems.{System}

@@ -11,7 +11,7 @@ use Rattle.std.proofs.lemmas.List.Elements.{All-nil, All-contains}
 use Rattle.rv_diagram.specs.Nodes.{Valuation}
 use Rattle.rv_diagram.specs.declared.frozen.Frozen.{Frozen}
 use Rattle.rv_rows.specs.declared.linear.Row.{Row}
-use Rattle.rv_rows.specs.Rows.{row_at, coefficient}
+use Rattle.rv_rows.specs.Rows.{row_at}
 use Rattle.rv_rows.specs.Tight.{Fits}
 use Rattle.rv_seek.specs.Least.{bounded}
 use Rattle.rv_proofs.specs.Systems.{System, IsSystem, HasSameState, rows_of}
@@ -27,8 +27,8 @@ use Rattle.rv_rise.specs.declared.frame.Frame.{Frame}
 use Rattle.rv_rise.specs.declared.risen.Risen.{Risen}
 use Rattle.rv_rise.specs.declared.rounds.Others.{Others}
 use Rattle.rv_rise.specs.Orders.{IsLeastAbove}
-use Rattle.rv_rise.specs.Limits.{limit_at, AreAmong, AreFirst}
-use Rattle.rv_rise.specs.Sides.{IsSide, AreSides, rows_with}
+use Rattle.rv_rise.specs.Limits.{limit_at, AreFirst}
+use Rattle.rv_rise.specs.Sides.{rows_with}
 use Rattle.rv_rise.specs.Rounds.{IsFrameOf, IsSetting, IsHeld, IsKeptRisen, HasGrown, IsCaseIn, IsInCases, IsRound, AreOthers, IsLeastRisen, left_of, claim_in}
 use Rattle.rv_rise.proofs.Listing.{IsRowAt, rows_with-has, rows_with-from, rows_with-different}
 use Rattle.rv_rise.proofs.Fitting.{rows_kept}

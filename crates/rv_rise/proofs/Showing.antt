@@ -1,5 +1,5 @@
 -- What premises show at once, and the least bound of a pair.
-use Rattle.std.proofs.Common.{◌≡◌, ℕ, ◌+◌, ◌^◌, ◌<◌, ◌≤◌, ℤ, pos, negsuc, ◌+ℤ◌, ◌-ℤ◌, ◌≤ℤ◌, ◌<ℤ◌, Bool, true, false, List, [], length, map, All, Option, Some, arith, refl, sym, ap, ◌∙◌, subst, ◌⊎◌, inl, inr}
+use Rattle.std.proofs.Common.{◌≡◌, ℕ, ◌+◌, ◌^◌, ◌<◌, ◌≤◌, ℤ, pos, negsuc, ◌+ℤ◌, ◌-ℤ◌, ◌≤ℤ◌, ◌<ℤ◌, Bool, true, false, List, [], length, map, All, Some, arith, refl, sym, ap, ◌∙◌, ◌⊎◌, inl, inr}
 use Rattle.std.proofs.Common.{None as Nothing}
 use Rattle.std.specs.Prelude.{MatchBool}
 use Rattle.std.specs.Int.RustNames.{unsigned_abs}
@@ -9,14 +9,14 @@ use Rattle.std.proofs.lemmas.List.{get_or_past}
 use Rattle.rv_rows.specs.declared.linear.Row.{Row}
 use Rattle.rv_rows.specs.declared.linear.Form.{Form}
 use Rattle.rv_rows.specs.Rows.{coefficient, row_at, dot, RowWithin}
-use Rattle.rv_rows.specs.Forms.{number, IsSubstituted}
+use Rattle.rv_rows.specs.Forms.{IsSubstituted}
 use Rattle.rv_rows.specs.Multipliers.{ShowsAtOnce, AreShutAtOnce, by_none, by_one, by_two}
 use Rattle.rv_rows.proofs.RowLemmas.{bound_within}
 use Rattle.rv_seek.specs.declared.least.Best.{Best}
 use Rattle.rv_seek.specs.Pairs.{PairShows}
 use Rattle.rv_seek.specs.Least.{IsLeast, PairSums, bounded}
 use Rattle.rv_seek.proofs.PairLemmas.{pair_from}
-use Rattle.rv_rise.specs.Shown.{IsShownAfter, IsLeastShown, IsNeeded}
+use Rattle.rv_rise.specs.Shown.{IsLeastShown, IsNeeded}
 
 -- a row with the same left side and a greater bound is shown too
 pub shown_more : (rows : List Row) (a b : Row) → ((k : ℕ) → coefficient k b ≡ coefficient k a) → a.bound ≤ℤ b.bound → ShowsAtOnce rows a → ShowsAtOnce rows b

@@ -1,5 +1,5 @@
 -- What a case does to a claim.
-use Rattle.std.proofs.Common.{◌≡◌, ℕ, ◌<◌, ◌≤◌, ℤ, ◌≤ℤ◌, Bool, true, false, ◌||◌, List, [], ◌++◌, length, Option, Some, IsTrue, arith, refl, sym, ap, ◌∙◌, subst, ◌⊎◌, inl, inr}
+use Rattle.std.proofs.Common.{◌≡◌, ◌<◌, ◌≤◌, ℤ, Bool, true, false, ◌||◌, List, ◌++◌, length, Option, Some, IsTrue, arith, refl, sym, ap, ◌∙◌, subst, ◌⊎◌, inl, inr}
 use Rattle.std.proofs.Common.{None as Nothing}
 use Rattle.std.specs.List.{Contains}
 use Rattle.std.proofs.lemmas.Bool.{cases_lt, cases_Bool}
@@ -13,10 +13,10 @@ use Rattle.rv_rows.specs.Rows.{row_at}
 use Rattle.rv_rows.specs.Forms.{IsSubstituted}
 use Rattle.rv_rows.specs.Multipliers.{AreShutAtOnce, ShowsAtOnce}
 use Rattle.rv_seek.specs.Least.{bounded}
-use Rattle.rv_proofs.specs.Systems.{System, IsSystem, HasSameState, rows_of, updates_of}
+use Rattle.rv_proofs.specs.Systems.{System, IsSystem, HasSameState, updates_of}
 use Rattle.rv_proofs.specs.Scopes.{IsIn}
 use Rattle.rv_proofs.specs.Ranges.{IsControlSet}
-use Rattle.rv_proofs.specs.RowClaims.{RowClaim, IsCandidate, IsRowClaim, IsRowTaken, IsRowClosed, HasTighter, IsRowTighter, premises_at}
+use Rattle.rv_proofs.specs.RowClaims.{RowClaim, IsRowClaim, IsRowTaken, IsRowClosed, HasTighter, IsRowTighter, premises_at}
 use Rattle.rv_proofs.specs.Cases.{IsImage}
 use Rattle.rv_proofs.specs.declared.report.Case.{Case}
 use Rattle.rv_proofs.proofs.CaseRows.{case_rows}
@@ -28,7 +28,7 @@ use Rattle.rv_rise.specs.declared.frame.Frame.{Frame}
 use Rattle.rv_rise.specs.declared.risen.Risen.{Risen}
 use Rattle.rv_rise.specs.declared.limits.Loosened.{Loosened}
 use Rattle.rv_rise.specs.Shown.{IsShownAfter}
-use Rattle.rv_rise.specs.Limits.{limit_at, IsLoosened, AreLoosened, AreAmong, HasChanged, room}
+use Rattle.rv_rise.specs.Limits.{limit_at, AreLoosened, AreAmong, HasChanged, room}
 use Rattle.rv_rise.specs.Sides.{rows_with}
 use Rattle.rv_rise.specs.Opening.{IsOpened}
 use Rattle.rv_rise.specs.Rounds.{IsFrameOf, IsSetting, IsHeld, IsKeptRisen, HasGrown, HasTaken, IsCaseIn, left_of, claim_in}

@@ -1,5 +1,5 @@
 -- Rounds over the cases of a claim's control states, each of which loosens the claim.
-use Rattle.std.specs.Prelude.{◌≡◌, ◌⊎◌, ℕ, ◌+◌, ◌<◌, ◌≤◌, ◌^◌, ℤ, List, ◌++◌, length, All, Bool, true, false, not, ◌&&◌, ◌||◌, Some, IsTrue, slice_get}
+use Rattle.std.specs.Prelude.{◌≡◌, ◌⊎◌, ℕ, ◌+◌, ◌<◌, ◌≤◌, ◌^◌, List, ◌++◌, length, All, Bool, true, false, not, ◌&&◌, ◌||◌, Some, IsTrue, slice_get}
 use Rattle.std.specs.List.{Contains}
 use Rattle.std.specs.Int.RustNames.{unsigned_abs}
 use Rattle.rv_diagram.specs.Nodes.{Valuation, Diagrams}

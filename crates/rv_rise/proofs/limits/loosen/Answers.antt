@@ -1,4 +1,4 @@
-use Rattle.std.proofs.Common.{◌≡◌, ◌≢◌, ◌<◌, ◌||◌, ◌+◌, ◌++◌, ◌∷◌, [], Bool, List, ℤ, pos, length, take, subst, sym, refl, ap, ◌∙◌, Option, None, ◌⊎◌, arith}
+use Rattle.std.proofs.Common.{◌≡◌, ◌≢◌, ◌<◌, ◌||◌, ◌+◌, ◌++◌, ◌∷◌, [], Bool, List, ℤ, take, subst, sym, refl, ap, ◌∙◌, Option, None, ◌⊎◌, arith}
 use Rattle.std.proofs.lemmas.Option.{get_or_from_slice_get}
 use Rattle.rv_rows.specs.declared.linear.Row.{Row}
 use Rattle.rv_rows.specs.Rows.{row_at}

@@ -1,5 +1,5 @@
-use Rattle.std.proofs.Common.{◌≡◌, ◌<◌, ◌∙◌, ◌+◌, ◌++◌, ◌∷◌, [], List, Option, ℤ, length, take, ap, sym, refl, arith}
-use Rattle.std.proofs.lemmas.List.{take_all, length-take}
+use Rattle.std.proofs.Common.{◌≡◌, ◌∙◌, ◌++◌, ◌∷◌, [], List, Option, ℤ, length, take, ap, sym, arith}
+use Rattle.std.proofs.lemmas.List.{take_all}
 use Rattle.rv_rows.specs.declared.linear.Row.{Row}
 use Rattle.rv_rise.specs.Sides.{rows_with}
 use Rattle.rv_rise.proofs.Listing.{rows_with-nil, rows_with-more}

@@ -1,6 +1,4 @@
-use Rattle.std.proofs.Common.{◌≡◌, ◌≤◌, ◌∙◌, ℤ, List, sym, subst, arith, length}
-use Rattle.rv_diagram.specs.Nodes.{Diagrams}
-use Rattle.rv_proofs.specs.RowClaims.{IsLeastRowClosed}
+use Rattle.std.proofs.Common.{◌∙◌, sym, arith}
 use Rattle.rv_rise.specs.Rounds.{IsGivenIn}
 use Rattle.rv_rise.proofs.Finding.{found_least, found_kept}
 use Rattle.rv_rise.proofs.search.least_closed.Goals as goal

@@ -1,4 +1,3 @@
-use Rattle.rv_rise.specs.Rounds.{IsGiven}
 use Rattle.rv_rise.proofs.Giving.{given_there}
 use Rattle.rv_rise.proofs.search.least_in.Goals as goal
 

@@ -1,5 +1,4 @@
-use Rattle.std.proofs.Common.{◌≡◌, ◌∙◌, ◌<◌, ◌≤◌, ◌*◌, ℕ, List, length, arith, sym, subst, ap}
-use Rattle.rv_rows.specs.declared.linear.Row.{Row}
+use Rattle.std.proofs.Common.{◌≡◌, ◌∙◌, ◌*◌, ℕ, length, arith, subst, ap}
 use Rattle.rv_rise.specs.Table.{IsTableOf, column_places}
 use Rattle.rv_rise.proofs.Tabling.{none_added, sides_are}
 use Rattle.rv_rise.proofs.table.sides_of.Goals as goal
