@@ -62,7 +62,7 @@ fn two_multiples(
 }
 
 /// The sum of positive multiples of two rows, whose coefficients at the column have different signs, that is free of the column.
-fn combine(alloc: Global, positive: &Row, negative: &Row, column: usize) -> Result<Row, Memory>
+pub fn combine(alloc: Global, positive: &Row, negative: &Row, column: usize) -> Result<Row, Memory>
     requires positive { Fits positive.now }
     requires negative { Fits negative.now }
     requires widths { length negative.now.coefficients ≡ length positive.now.coefficients }

@@ -17,7 +17,7 @@ use rv_rows::Row;
 use std::alloc::Global;
 
 /// The width of the first row, 0 where there is none.
-fn width_of(rows: &Many<Row>) -> usize
+pub fn width_of(rows: &Many<Row>) -> usize
     ensures { result ≡ rows_width rows.now }
 {
     match rows.get(0) {
@@ -45,6 +45,7 @@ impl Poly {
         requires widths { HaveOneWidth (self.now.rows ++ other.now.rows) }
         ensures poly { IfOk result (λ p. IsPoly p.rows) }
         ensures few { IfOk result (λ p. length p.rows ≤ 1024) }
+        ensures width { IfOk result (λ p. All (λ r. length r.coefficients ≡ rows_width (self.now.rows ++ other.now.rows)) p.rows) }
         ensures contains { IfOk result (λ p. (point : List ℤ) → HasPoint self.now.rows point ⊎ HasPoint other.now.rows point → HasPoint p.rows point) }
         ensures first { IfOk result (λ p. length self.now.rows + length other.now.rows ≤ 1024 → (i : ℕ) (d : RowModel) → i < length self.now.rows
             → ShowsAtOnce other.now.rows (slice_index_or self.now.rows i d) → Covers p.rows (slice_index_or self.now.rows i d)) }

@@ -1,15 +1,13 @@
 -- The least bound that a pair of places shows.
-use Rattle.std.proofs.Common.{◌≡◌, ℕ, ◌+◌, ◌≤◌, ◌<◌, ℤ, pos, ◌+ℤ◌, ◌-ℤ◌, ◌≤ℤ◌, List, [], length, Option, None, Some, IfSome, IsSomeAnd, All, FitsSigned, ◌^◌, cond, Bool, true, false, true≢false, ◌<ℤ◌, arith, refl, ap, sym, ◌∙◌, ◌⊎◌, inl, inr}
+use Rattle.std.proofs.Common.{◌≡◌, ◌≢◌, ℕ, ◌+◌, ◌≤◌, ◌<◌, ℤ, pos, ◌+ℤ◌, ◌-ℤ◌, ◌≤ℤ◌, List, [], ◌∷◌, ◌++◌, length, Option, None, Some, IfSome, IsSome, IsSomeAnd, All, FitsSigned, ◌^◌, true≢false, ◌<ℤ◌, arith, refl, ap, sym, ◌∙◌, ◌⊎◌, inl, inr, append_assoc, append-nil}
 use Rattle.std.proofs.lemmas.Int.{ints}
-use Rattle.std.proofs.lemmas.Bool.{cases_lt}
-use Rattle.std.proofs.lemmas.List.{ext_get_or}
-use Rattle.std.specs.BTreeMap.{BTreeMap, Updates}
+use Rattle.std.proofs.lemmas.Bool.{cases_eq}
+use Rattle.std.proofs.lemmas.List.{get_or_past}
+use Rattle.std.proofs.lemmas.List.Elements.{All-nil, All-push, All-weaker}
+use Rattle.std.proofs.lemmas.Map.Views.{IfSome-lookup_from_All}
+use Rattle.std.specs.BTreeMap.{BTreeMap, values}
 use Rattle.std.specs.Cmp.Lexicographic.{slice_cmp}
-use Rattle.std.specs.Ordering.{int_cmp, is_eq, ordering_reverse}
-use Rattle.std.proofs.lemmas.Cmp.{lists_total, int_cmp_total}
-use Rattle.std.specs.declared.cmp.Ordering.{Ordering}
-use Rattle.std.specs.declared.cmp.Ordering.TheVariants.{Less, Equal, Greater}
-use Rattle.std.specs.FinMap.{slice_cmp-IsAntisymmetric, int_cmp-IsAntisymmetric}
+use Rattle.std.specs.Ordering.{int_cmp, is_eq}
 use Rattle.std.specs.Global.{Vec}
 use Rattle.rv_rows.specs.declared.linear.Row.{Row}
 use Rattle.rv_rows.specs.Rows.{coefficient, row_at, RowWithin}
@@ -19,145 +17,124 @@ use Rattle.std.specs.Int.RustNames.{unsigned_abs}
 use Rattle.std.specs.Int.{w128}
 use Rattle.rv_rows.proofs.IntLemmas.{abs-add}
 use Rattle.rv_rows.proofs.RowLemmas.{bound_within}
-use Rattle.rv_seek.proofs.PairLemmas.{pair_from}
+use Rattle.rv_seek.proofs.PairLemmas.{pair_from, row_width}
 use Rattle.rv_seek.specs.declared.least.Best.{Best}
+use Rattle.rv_seek.specs.declared.sides.Closest.{Closest}
 use Rattle.rv_seek.specs.Pairs.{PairShows}
-use Rattle.rv_seek.specs.Least.{IsLeast, PairSums, bounded}
-use Rattle.rv_seek.specs.Sides.{place_at, IsSide, IsTable}
+use Rattle.rv_seek.specs.Least.{IsLeast, IsLeastAt, PairSums, bounded}
+use Rattle.rv_seek.specs.Sides.{closest_at, IsSide, IsOther, IsClosest, IsTable}
 
--- equal lists compare equal, and the other way round
-same-cmp : (xs : List ℤ) → slice_cmp int_cmp xs xs ≡ Equal
-same-cmp xs = go (slice_cmp int_cmp xs xs) ((lists_total int_cmp_total).antisymm xs xs)
+-- what the place lacks is the left side of the other
+rest_side : (rows : List Row) (cs rest : List ℤ) (place i : ℕ) (bound : ℤ) → ((k : ℕ) → number k rest ≡ number k cs -ℤ coefficient k (row_at rows place))
+    → PairShows rows (bounded cs bound) place i → IsSide (row_at rows i) rest
+rest_side rows cs rest place i bound h p k = h k ∙ ap (λ z. z -ℤ coefficient k (row_at rows place)) (p.sides k) ∙ omega (arith, ints)
+
+module _ (rows : List Row) (cs rest : List ℤ) (n place : ℕ) (best : Option Best)
+    (rest_is : (k : ℕ) → number k rest ≡ number k cs -ℤ coefficient k (row_at rows place)) where
+  -- no other place has what this one lacks
+  pub least_at-none : IsOther rows n rest place None → IsLeastAt rows cs n best place
+  least_at-none o i l ne bound p = absurd (o.least i l ne (rest_side rows cs rest place i bound rest_is p))
+
+  module _ (other : ℕ) (o : IsOther rows n rest place (Some other)) where
+    pub least_at-some : (new : Best) → new.bound ≤ℤ ((row_at rows place).bound +ℤ (row_at rows other).bound) → IsLeastAt rows cs n (Some new) place
+    least_at-some new h i l ne bound p =
+        let f : (row_at rows other).bound ≤ℤ (row_at rows i).bound = o.least i l ne (rest_side rows cs rest place i bound rest_is p) in
+        let b = p.bounds in
+        omega (arith, ints)
+
+    pub pair_sides : (k : ℕ) → number k cs ≡ coefficient k (row_at rows place) +ℤ coefficient k (row_at rows other)
+    pair_sides k =
+        let e : number k rest ≡ coefficient k (row_at rows other) = o.found.2 k in
+        let f = rest_is k in
+        back_sum (number k cs) (coefficient k (row_at rows place)) (coefficient k (row_at rows other)) (sym e ∙ f)
+      where
+        back_sum : (a b c : ℤ) → c ≡ a -ℤ b → a ≡ b +ℤ c
+        back_sum a b c e = omega (arith, ints)
+
+-- one of two pairs that are shown
+pub shown_of : (rows : List Row) (cs : List ℤ) (best : Option Best) (new other : Best) → IfSome best (PairSums rows cs) → PairSums rows cs other
+    → (IsSomeAnd best (λ b. new ≡ b)) ⊎ (new ≡ other) → PairSums rows cs new
+shown_of rows cs (Some b) new other s o (inl e) = rw e s
+shown_of rows cs None new other s o (inl e) = absurd e
+shown_of rows cs best new other s o (inr e) = rw e o
+
+-- a lesser pair is still the least at the places before
+least_at-kept : (rows : List Row) (cs : List ℤ) (n : ℕ) (old new : Option Best) → IfSome old (λ b. IsSomeAnd new (λ c. c.bound ≤ℤ b.bound))
+    → (place : ℕ) → IsLeastAt rows cs n old place → IsLeastAt rows cs n new place
+least_at-kept rows cs n old new h place l i m ne bound p = go old new h (l i m ne bound p)
   where
-    go : (o : Ordering) → o ≡ ordering_reverse o → o ≡ Equal
-    go Equal h = refl
-    go Less h = cc
-    go Greater h = cc
+    go : (o r : Option Best) → IfSome o (λ b. IsSomeAnd r (λ c. c.bound ≤ℤ b.bound)) → IsSomeAnd o (λ b. b.bound ≤ℤ bound) → IsSomeAnd r (λ c. c.bound ≤ℤ bound)
+    go None r h k = absurd k
+    go (Some b) None h k = absurd h
+    go (Some b) (Some c) h k = omega (arith, ints)
 
-same-items : (xs ys : List ℤ) → is_eq (slice_cmp int_cmp xs ys) ≡ true → xs ≡ ys
-same-items xs ys e = slice_cmp-IsAntisymmetric int_cmp-IsAntisymmetric xs ys (go (slice_cmp int_cmp xs ys) e)
-  where
-    go : (o : Ordering) → is_eq o ≡ true → o ≡ Equal
-    go Equal h = refl
-    go Less h = cc
-    go Greater h = cc
+-- the walk over the left sides: those that are done, and those that are left
+pub record IsWalked (rows : List Row) (cs : List ℤ) (n : ℕ) (best : Option Best) (all left : List Closest) : Type 0 where
+  pub done : List Closest
+  pub parts : all ≡ done ++ left
+  pub least : All (λ c. IsLeastAt rows cs n best c.first) done
 
--- two lists of one length with a row's coefficients are one
-one_side : (r : Row) (width : ℕ) (xs ys : List ℤ) → length xs ≡ width → length ys ≡ width → IsSide r xs → IsSide r ys → xs ≡ ys
-one_side r width xs ys a b f g = ext_get_or (pos 0) xs ys (a ∙ sym b) (λ i l. f i ∙ sym (g i))
+pub walked-none : (rows : List Row) (cs : List ℤ) (n : ℕ) (all left : List Closest) → left ≡ all → IsWalked rows cs n None all left
+walked-none rows cs n all left e = record { done = []; parts = sym e; least = All-nil (λ c. IsLeastAt rows cs n None c.first) }
 
-pub table-none : (rows : List Row) (width : ℕ) (map : BTreeMap (Vec ℤ) ℕ) → map.entries ≡ [] → IsTable rows width 0 map
-table-none rows width map e = record {
-  sound = λ key. rw e tt;
-  complete = λ i l key len side. absurd (omega arith);
+pub walked-more : (rows : List Row) (cs : List ℤ) (n : ℕ) (old new : Option Best) (all left next : List Closest) (c : Closest) → IsWalked rows cs n old all left
+    → left ≡ c ∷ next → IfSome old (λ b. IsSomeAnd new (λ c. c.bound ≤ℤ b.bound)) → IsLeastAt rows cs n new c.first → IsWalked rows cs n new all next
+walked-more rows cs n old new all left next c w e h here = record {
+  done = w.done ++ c ∷ [];
+  parts = w.parts ∙ ap (λ x. w.done ++ x) e ∙ sym (append_assoc w.done (c ∷ []) next);
+  least = All-push (λ x. IsLeastAt rows cs n new x.first) w.done c
+      (All-weaker (λ x. IsLeastAt rows cs n old x.first) (λ x. IsLeastAt rows cs n new x.first) (λ x. least_at-kept rows cs n old new h x.first) w.done w.least) here;
 }
 
--- one more place
-module _ (rows : List Row) (width n p : ℕ) (m m' : BTreeMap (Vec ℤ) ℕ) (key : Vec ℤ) (table : IsTable rows width n m)
-    (len : length key.items ≡ width) (side : IsSide (row_at rows n) key.items)
-    (one : (p ≡ n) ⊎ (place_at m key.items ≡ Some p))
-    (here : (row_at rows p).bound ≤ℤ (row_at rows n).bound)
-    (there : IfSome (place_at m key.items) (λ o. (row_at rows p).bound ≤ℤ (row_at rows o).bound))
-    (updates : Updates (λ x y. slice_cmp int_cmp x.items y.items) m m' key (Some p)) where
-  own : (p < n + 1) × IsSide (row_at rows p) key.items
-  own = go one
+pub walked-all : (rows : List Row) (cs : List ℤ) (n : ℕ) (best : Option Best) (all left : List Closest) → IsWalked rows cs n best all left → left ≡ []
+    → All (λ c. IsLeastAt rows cs n best c.first) all
+walked-all rows cs n best all left w e = rw (w.parts ∙ ap (λ x. w.done ++ x) e ∙ append-nil w.done) w.least
+
+-- what holds of a value that is there
+pick : {A : Type 0} (o : Option A) (P Q : A → Type 0) (R : Type 0) → IsSome o → IfSome o P → IfSome o Q → ((x : A) → P x → Q x → R) → R
+pick None P Q R s p q f = absurd (true≢false (sym s))
+pick (Some x) P Q R s p q f = f x p q
+
+-- the least at the closest place of each left side is the least of all
+module _ (rows : List Row) (cs : List ℤ) (width n : ℕ) (map : BTreeMap (Vec ℤ) Closest) (best : Option Best)
+    (table : IsTable rows width n map) (walked : All (λ c. IsLeastAt rows cs n best c.first) (values map)) where
+  at : (i j : ℕ) → i < j → j < n → (bound : ℤ) → PairShows rows (bounded cs bound) i j → (key : List ℤ) → IsSide (row_at rows i) key
+      → (c : Closest) → IsClosest rows n key c → IsLeastAt rows cs n best c.first → (j ≡ c.first) ⊎ (j ≡ c.first → ⊥) → IsSomeAnd best (λ b. b.bound ≤ℤ bound)
+  at i j l m bound p key side c h least (inl e) =
+      least i (omega arith) (omega arith) bound (rw (sym e) (record {
+        sides = λ k. swapped (number k cs) (coefficient k (row_at rows i)) (coefficient k (row_at rows j)) (p.sides k);
+        bounds = let b = p.bounds in omega (arith, ints);
+      }))
     where
-      go : (p ≡ n) ⊎ (place_at m key.items ≡ Some p) → (p < n + 1) × IsSide (row_at rows p) key.items
-      go (inl e) = (omega arith, rw e side)
-      go (inr e) = let s = rw e at (table.sound key) in let l = s.0 in (omega arith, s.1)
+      swapped : (a b c : ℤ) → a ≡ b +ℤ c → a ≡ c +ℤ b
+      swapped a b c e = omega (arith, ints)
+  at i j l m bound p key side c h least (inr ne) =
+      least j m ne bound (record {
+        sides = λ k. p.sides k ∙ ap (λ z. z +ℤ coefficient k (row_at rows j)) (sym (side k) ∙ h.side k);
+        bounds = let b = p.bounds in let f = h.least i (omega arith) side in omega (arith, ints);
+      })
 
-  sound_at : (q : Vec ℤ) → IfSome (place_at m' q.items) (λ o. (o < n + 1) × IsSide (row_at rows o) q.items)
-  sound_at q = rw (updates.0 q) (go (is_eq (slice_cmp int_cmp key.items q.items)) refl)
-    where
-      kept : (o : Option ℕ) → IfSome o (λ x. (x < n) × IsSide (row_at rows x) q.items) → IfSome o (λ x. (x < n + 1) × IsSide (row_at rows x) q.items)
-      kept None h = tt
-      kept (Some x) h = let l = h.0 in (omega arith, h.1)
-
-      go : (b : Bool) → is_eq (slice_cmp int_cmp key.items q.items) ≡ b → IfSome (cond b (Some p) (place_at m q.items)) (λ o. (o < n + 1) × IsSide (row_at rows o) q.items)
-      go true e = let same : key.items ≡ q.items = same-items key.items q.items e in (own.0, rw (sym same) (own.1))
-      go false e = kept (place_at m q.items) (table.sound q)
-
-  complete_at : (i : ℕ) → i < n + 1 → (q : Vec ℤ) → length q.items ≡ width → IsSide (row_at rows i) q.items
-      → IsSomeAnd (place_at m' q.items) (λ o. (row_at rows o).bound ≤ℤ (row_at rows i).bound)
-  complete_at i l q qlen qside = rw (updates.0 q) (go (is_eq (slice_cmp int_cmp key.items q.items)) refl (cases_lt i n))
-    where
-      both : (o : Option ℕ) (x y : ℤ) → IfSome o (λ z. x ≤ℤ (row_at rows z).bound) → IsSomeAnd o (λ z. (row_at rows z).bound ≤ℤ y) → x ≤ℤ y
-      both None x y h k = absurd k
-      both (Some z) x y h k = omega (arith, ints)
-
-      go : (b : Bool) → is_eq (slice_cmp int_cmp key.items q.items) ≡ b → (i < n) ⊎ (n ≤ i)
-          → IsSomeAnd (cond b (Some p) (place_at m q.items)) (λ o. (row_at rows o).bound ≤ℤ (row_at rows i).bound)
-      go true e (inl s) =
-          let same : key.items ≡ q.items = same-items key.items q.items e in
-          both (place_at m key.items) (row_at rows p).bound (row_at rows i).bound there (table.complete i s key len (rw same qside))
-      go true e (inr s) = let f : i ≡ n = omega arith in rw f here
-      go false e (inl s) = table.complete i s q qlen qside
-      go false e (inr s) =
-          let f : i ≡ n = omega arith in
-          let same : key.items ≡ q.items = one_side (row_at rows n) width key.items q.items len qlen side (rw f at qside) in
-          absurd (true≢false (sym (ap is_eq (ap (slice_cmp int_cmp key.items) (sym same) ∙ same-cmp key.items)) ∙ e))
-
-  pub table-more : IsTable rows width (n + 1) m'
-  table-more = record { sound = sound_at; complete = complete_at }
-
-pub least-none : (rows : List Row) (cs : List ℤ) → IsLeast rows cs 0 None
-least-none rows cs = record { shown = tt; least = λ i j l m bound p. absurd (omega arith) }
-
--- what the second place of a pair lacks is the left side of the first
-rest_side : (rows : List Row) (cs rest : List ℤ) (i n : ℕ) (bound : ℤ) → ((k : ℕ) → number k rest ≡ number k cs -ℤ coefficient k (row_at rows n))
-    → PairShows rows (bounded cs bound) i n → IsSide (row_at rows i) rest
-rest_side rows cs rest i n bound h p k = h k ∙ ap (λ z. z -ℤ coefficient k (row_at rows n)) (p.sides k) ∙ omega (arith, ints)
-
-module _ (rows : List Row) (cs : List ℤ) (width n : ℕ) (map : BTreeMap (Vec ℤ) ℕ) (rest : Vec ℤ) (best : Option Best)
-    (table : IsTable rows width n map) (len : length rest.items ≡ width)
-    (rest_is : (k : ℕ) → number k rest.items ≡ number k cs -ℤ coefficient k (row_at rows n)) (before : IsLeast rows cs n best) where
-  found : (i : ℕ) (bound : ℤ) → i < n → PairShows rows (bounded cs bound) i n → IsSomeAnd (place_at map rest.items) (λ o. (row_at rows o).bound ≤ℤ (row_at rows i).bound)
-  found i bound l p = table.complete i l rest len (rest_side rows cs rest.items i n bound rest_is p)
-
-  pub least-skip : place_at map rest.items ≡ None → IsLeast rows cs (n + 1) best
-  least-skip none = record { shown = before.shown; least = λ i j l m bound p. go i j l m bound p (cases_lt j n) }
-    where
-      go : (i j : ℕ) → i < j → j < n + 1 → (bound : ℤ) → PairShows rows (bounded cs bound) i j → (j < n) ⊎ (n ≤ j) → IsSomeAnd best (λ b. b.bound ≤ℤ bound)
-      go i j l m bound p (inl s) = before.least i j l s bound p
-      go i j l m bound p (inr s) = let e : j ≡ n = omega arith in absurd (rw none at (found i bound (omega arith) (rw e at p)))
-
-  pub least-more : (first : ℕ) (new : Best) (sum : ℤ) → place_at map rest.items ≡ Some first
-      → sum ≡ (row_at rows first).bound +ℤ (row_at rows n).bound
-      → (IsSomeAnd best (λ b. new ≡ b)) ⊎ (new ≡ record { first = first; second = n; bound = sum })
-      → new.bound ≤ℤ sum → IfSome best (λ b. new.bound ≤ℤ b.bound)
-      → IsLeast rows cs (n + 1) (Some new)
-  least-more first new sum some sum_is kept other old = record {
-    shown = shown best before.shown kept;
-    least = λ i j l m bound p. go i j l m bound p (cases_lt j n);
+  pub least-all : IfSome best (PairSums rows cs) → IsLeast rows cs n best
+  least-all shown = record {
+    shown = shown;
+    least = λ i j l m bound p.
+        let k = table.complete i (omega arith) in
+        pick (closest_at map k.key.items) (λ c. (length k.key.items ≡ width) × IsClosest rows n k.key.items c) (λ c. IsLeastAt rows cs n best c.first)
+        (IsSomeAnd best (λ b. b.bound ≤ℤ bound)) k.kept (table.sound k.key)
+        (IfSome-lookup_from_All (λ c. IsLeastAt rows cs n best c.first) (λ key. is_eq (slice_cmp int_cmp k.key.items key.items)) map.entries walked)
+        (λ c h w. at i j l m bound p k.key.items k.side c h.1 w (cases_eq j c.first));
   }
-    where
-      here : (first < n) × IsSide (row_at rows first) rest.items
-      here = rw some at (table.sound rest)
 
-      sums : (k : ℕ) → number k cs ≡ coefficient k (row_at rows first) +ℤ coefficient k (row_at rows n)
-      sums k = let e : number k rest.items ≡ coefficient k (row_at rows first) = here.1 k in let f = rest_is k in back_sum (number k cs) (coefficient k (row_at rows first)) (coefficient k (row_at rows n)) (sym e ∙ f)
-        where
-          back_sum : (a b c : ℤ) → b ≡ a -ℤ c → a ≡ b +ℤ c
-          back_sum a b c e = omega (arith, ints)
+-- a wanted side that goes past all premises is that of no pair
+pub least-wide : (rows : List Row) (cs : List ℤ) (width n k : ℕ) → All (λ r. length r.coefficients ≤ width) rows → width ≤ k → number k cs ≢ pos 0
+    → IsLeast rows cs n None
+least-wide rows cs width n k widths far ne = record { shown = tt; least = λ i j l m bound p. absurd (ne (p.sides k ∙ zeros i j)) }
+  where
+    zero_at : (i : ℕ) → coefficient k (row_at rows i) ≡ pos 0
+    zero_at i = let w = row_width width rows widths i in get_or_past (row_at rows i).coefficients k (pos 0) (omega arith)
 
-      shown : (o : Option Best) → IfSome o (PairSums rows cs)
-          → (IsSomeAnd o (λ b. new ≡ b)) ⊎ (new ≡ record { first = first; second = n; bound = sum }) → PairSums rows cs new
-      shown (Some b) s (inl e) = rw e s
-      shown None s (inl e) = absurd e
-      shown o s (inr e) = rw e (record { order = here.0; sides = sums; bound = sum_is })
-
-      better : (o : Option Best) (most : ℤ) → IfSome o (λ b. new.bound ≤ℤ b.bound) → IsSomeAnd o (λ b. b.bound ≤ℤ most) → new.bound ≤ℤ most
-      better (Some b) most h k = omega (arith, ints)
-      better None most h k = absurd k
-
-      go : (i j : ℕ) → i < j → j < n + 1 → (bound : ℤ) → PairShows rows (bounded cs bound) i j → (j < n) ⊎ (n ≤ j) → new.bound ≤ℤ bound
-      go i j l m bound p (inl s) = better best bound old (before.least i j l s bound p)
-      go i j l m bound p (inr s) =
-          let e : j ≡ n = omega arith in
-          let q : PairShows rows (bounded cs bound) i n = rw e at p in
-          let f : (row_at rows first).bound ≤ℤ (row_at rows i).bound = rw some at (found i bound (omega arith) q) in
-          let b = q.bounds in
-          omega (arith, ints)
+    zeros : (i j : ℕ) → coefficient k (row_at rows i) +ℤ coefficient k (row_at rows j) ≡ pos 0
+    zeros i j = rw (zero_at i, zero_at j) refl
 
 -- what the pair found says
 pub sums_show : (rows : List Row) (cs : List ℤ) (b : Best) → PairSums rows cs b → PairShows rows (bounded cs b.bound) b.first b.second

@@ -1,3 +1,4 @@
 pub mod PairLemmas
+pub mod SideLemmas
 pub mod LeastLemmas
 pub mod BoundLemmas

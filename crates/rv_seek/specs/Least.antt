@@ -1,5 +1,5 @@
 -- The least bound that a pair of places shows.
-use Rattle.std.specs.Prelude.{◌≡◌, ℕ, ◌<◌, ℤ, ◌+ℤ◌, ◌-ℤ◌, ◌≤ℤ◌, List, Option, IfSome, IsSomeAnd}
+use Rattle.std.specs.Prelude.{◌≡◌, ◌≢◌, ℕ, ◌<◌, ℤ, ◌+ℤ◌, ◌-ℤ◌, ◌≤ℤ◌, List, Option, IfSome, IsSomeAnd}
 use Rattle.rv_rows.specs.declared.linear.Row.{Row}
 use Rattle.rv_rows.specs.declared.linear.Form.{Form}
 use Rattle.rv_rows.specs.Rows.{coefficient, row_at}
@@ -26,3 +26,7 @@ pub record PairSums (rows : List Row) (cs : List ℤ) (b : Best) : Type 0 where
 pub record IsLeast (rows : List Row) (cs : List ℤ) (n : ℕ) (best : Option Best) : Type 0 where
   pub shown : IfSome best (PairSums rows cs)
   pub least : (i j : ℕ) → i < j → j < n → (bound : ℤ) → PairShows rows (bounded cs bound) i j → IsSomeAnd best (λ b. b.bound ≤ℤ bound)
+
+-- No pair of the place and another one below n has a lesser sum of bounds.
+abbrev pub IsLeastAt : List Row → List ℤ → ℕ → Option Best → ℕ → Type 0
+IsLeastAt rows cs n best place = (i : ℕ) → i < n → i ≢ place → (bound : ℤ) → PairShows rows (bounded cs bound) place i → IsSomeAnd best (λ b. b.bound ≤ℤ bound)

@@ -1,24 +1,52 @@
 -- A map from left sides to places in a list of premises.
-use Rattle.std.specs.Prelude.{◌≡◌, ℕ, ◌<◌, ℤ, ◌≤ℤ◌, List, Option, IfSome, IsSomeAnd, length}
+use Rattle.std.specs.Prelude.{◌≡◌, ◌≢◌, ℕ, ◌+◌, ◌<◌, ◌≤◌, ◌^◌, ℤ, ◌≤ℤ◌, List, Option, IsSome, IfSome, IsSomeAnd, All, length}
 use Rattle.std.specs.BTreeMap.{BTreeMap, get_by}
 use Rattle.std.specs.Cmp.Lexicographic.{slice_cmp}
 use Rattle.std.specs.Ordering.{int_cmp}
 use Rattle.std.specs.Global.{Vec}
 use Rattle.rv_rows.specs.declared.linear.Row.{Row}
-use Rattle.rv_rows.specs.Rows.{coefficient, row_at}
+use Rattle.rv_rows.specs.Rows.{coefficient, row_at, RowWithin}
 use Rattle.rv_rows.specs.Forms.{number}
+use Rattle.rv_seek.specs.declared.sides.Closest.{Closest}
 
--- The place that the map has at a left side.
-abbrev pub place_at : BTreeMap (Vec ℤ) ℕ → List ℤ → Option ℕ
-place_at map cs = get_by (λ key. slice_cmp int_cmp cs key.items) map
+-- What the map has at a left side.
+abbrev pub closest_at : BTreeMap (Vec ℤ) Closest → List ℤ → Option Closest
+closest_at map cs = get_by (λ key. slice_cmp int_cmp cs key.items) map
 
 -- The list has the row's coefficients, and zeros after them.
 abbrev pub IsSide : Row → List ℤ → Type 0
 IsSide r cs = (k : ℕ) → number k cs ≡ coefficient k r
 
--- For each of the first n places the map has, at its left side over so many columns, a place with that left side
--- and the least bound.
-pub record IsTable (rows : List Row) (width n : ℕ) (map : BTreeMap (Vec ℤ) ℕ) : Type 0 where
-  pub sound : (key : Vec ℤ) → IfSome (place_at map key.items) (λ p. (p < n) × IsSide (row_at rows p) key.items)
-  pub complete : (i : ℕ) → i < n → (key : Vec ℤ) → length key.items ≡ width → IsSide (row_at rows i) key.items
-      → IsSomeAnd (place_at map key.items) (λ p. (row_at rows p).bound ≤ℤ (row_at rows i).bound)
+-- Of the first n places with this left side, other than the given place, `other` is one with the least bound; there
+-- is none where it is None.
+pub record IsOther (rows : List Row) (n : ℕ) (cs : List ℤ) (place : ℕ) (other : Option ℕ) : Type 0 where
+  pub found : IfSome other (λ p. (p < n) × (p ≢ place) × IsSide (row_at rows p) cs)
+  pub least : (i : ℕ) → i < n → i ≢ place → IsSide (row_at rows i) cs → IsSomeAnd other (λ p. (row_at rows p).bound ≤ℤ (row_at rows i).bound)
+
+-- Of the first n places with this left side, the first of these has the least bound, and the second the least
+-- bound of the others.
+pub record IsClosest (rows : List Row) (n : ℕ) (cs : List ℤ) (c : Closest) : Type 0 where
+  pub below : c.first < n
+  pub side : IsSide (row_at rows c.first) cs
+  pub least : (i : ℕ) → i < n → IsSide (row_at rows i) cs → (row_at rows c.first).bound ≤ℤ (row_at rows i).bound
+  pub others : IsOther rows n cs c.first c.second
+
+-- The map has something at the left side of the place, over so many columns.
+pub record IsKept (rows : List Row) (width : ℕ) (map : BTreeMap (Vec ℤ) Closest) (i : ℕ) : Type 0 where
+  pub key : Vec ℤ
+  pub columns : length key.items ≡ width
+  pub side : IsSide (row_at rows i) key.items
+  pub kept : IsSome (closest_at map key.items)
+
+-- The map has the left side of each of the first n places, over so many columns, and at each of its left sides the
+-- closest of these places.
+pub record IsTable (rows : List Row) (width n : ℕ) (map : BTreeMap (Vec ℤ) Closest) : Type 0 where
+  pub sound : (key : Vec ℤ) → IfSome (closest_at map key.items) (λ c. (length key.items ≡ width) × IsClosest rows n key.items c)
+  pub complete : (i : ℕ) → i < n → IsKept rows width map i
+
+-- Premises whose numbers are small enough for every question, with the table of all their places and of the two
+-- past the end, which stand for no premise.
+pub record IsPrepared (rows : List Row) (width : ℕ) (map : BTreeMap (Vec ℤ) Closest) : Type 0 where
+  pub numbers : All (RowWithin (2 ^ 60)) rows
+  pub widths : All (λ r. length r.coefficients ≤ width) rows
+  pub table : IsTable rows width (length rows + 2) map

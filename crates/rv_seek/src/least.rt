@@ -1,24 +1,25 @@
 // The least bound that a pair of places shows.
-ghost use Rattle.std.specs.Prelude.{◌≡◌, ◌⊎◌, ◌<◌, ◌≤◌, ◌^◌, ◌+◌, ◌+ℤ◌, ◌≤ℤ◌, All, length, IfSome, IfNone, IfOk, IsSomeAnd};
+ghost use Rattle.std.specs.Prelude.{◌≡◌, ◌≢◌, ◌⊎◌, ℕ, ◌<◌, ◌≤◌, ◌^◌, ◌+◌, ℤ, pos, ◌+ℤ◌, ◌≤ℤ◌, List, All, length, IfSome, IfOk, IsSomeAnd, MatchBool};
 ghost use Rattle.std.specs.Int.RustNames.{unsigned_abs};
-ghost use Rattle.rv_rows.specs.Rows.{row_at, RowWithin};
-ghost use Rattle.rv_rows.specs.Multipliers.{ShowsAtOnce};
-ghost use Rattle.rv_seek.specs.Least.{IsLeast};
-ghost use Rattle.rv_seek.specs.Pairs.{PairShows};
-ghost use Rattle.rv_seek.specs.Sides.{IsTable};
+ghost use Rattle.rv_rows.specs.Rows.{coefficient, row_at, RowWithin};
+ghost use Rattle.rv_rows.specs.Forms.{number};
+ghost use Rattle.rv_seek.specs.Least.{PairSums, IsLeast, IsLeastAt};
+ghost use Rattle.rv_seek.specs.Sides.{IsPrepared};
 
-use crate::places::{bound_of, widest};
-use crate::sides::{Sides, add_place, rest_of};
+use crate::places::bound_of;
+use crate::sides::{Sides, other_of, write_rest};
 use rv_base::{Many, Memory};
-use rv_rows::Row;
+use rv_rows::{Row, number_at};
 use std::alloc::Global;
-use std::collections::BTreeMap;
 
 /// Two places whose left sides sum to the wanted one, and the sum of their bounds.
 #[derive(Clone, Copy, Debug)]
 pub struct Best {
+    /// The lesser place. A place past the end of the list stands for no premise.
     pub first: usize,
+    /// The greater place.
     pub second: usize,
+    /// The sum of the bounds at both.
     pub bound: i128,
 }
 
@@ -40,81 +41,116 @@ fn sum_of_bounds(premises: &Many<Row>, first: usize, second: usize) -> i128
     bound_of(premises, first) + bound_of(premises, second)
 }
 
-/// The lesser of the best pair so far and the best one whose second place is the given one.
-fn with_second(
-    alloc: Global,
+/// The pair of two places, in their order.
+fn pair_of(premises: &Many<Row>, place: usize, other: usize) -> Best
+    requires premises { All (RowWithin (2 ^ 60)) premises.now }
+    requires apart { other ≢ place }
+    ensures bound { result.bound ≡ (row_at premises.now place).bound +ℤ (row_at premises.now other).bound }
+    ensures sums { (cs : List ℤ) → ((k : ℕ) → number k cs ≡ coefficient k (row_at premises.now place) +ℤ coefficient k (row_at premises.now other))
+        → PairSums premises.now cs result }
+{
+    let bound = sum_of_bounds(premises, place, other);
+    if place < other {
+        Best {
+            first: place,
+            second: other,
+            bound,
+        }
+    } else {
+        Best {
+            first: other,
+            second: place,
+            bound,
+        }
+    }
+}
+
+/// The lesser of the best pair so far and the best one of which the place is a part. What the place lacks is written
+/// to `rest`.
+fn with_place(
     premises: &Many<Row>,
     wanted: &Many<i128>,
     sides: &Sides,
+    rest: &mut Vec<i128>,
     best: Option<Best>,
-    second: usize,
+    place: usize,
     width: usize,
 ) -> Result<Option<Best>, Memory>
-    requires premises { All (RowWithin (2 ^ 60)) premises.now }
+    requires prepared { IsPrepared premises.now width sides.now }
     requires wanted { All (λ c. unsigned_abs c ≤ 2 ^ 78) wanted.now }
-    requires widths { All (λ r. length r.coefficients ≤ width) premises.now }
-    requires width { length wanted.now ≤ width }
-    requires table { IsTable premises.now width second sides.now }
-    requires before { IsLeast premises.now wanted.now second best }
-    ensures { IfOk result (λ o. IsLeast premises.now wanted.now (second + 1) o) }
+    requires past { (k : ℕ) → width ≤ k → number k wanted.now ≡ pos 0 }
+    requires best { IfSome best (PairSums premises.now wanted.now) }
+    ensures shown { IfOk result (λ o. IfSome o (PairSums premises.now wanted.now)) }
+    ensures no_more { IfOk result (λ o. IfSome best (λ b. IsSomeAnd o (λ c. c.bound ≤ℤ b.bound))) }
+    ensures here { IfOk result (λ o. IsLeastAt premises.now wanted.now (length premises.now + 2) o place) }
 {
-    let rest = rest_of(alloc, premises, wanted, second, width)?;
-    match sides.get(&rest) {
-        Some(place) => {
-            let first = *place;
-            let bound = sum_of_bounds(premises, first, second);
-            Ok(Some(lesser(
-                best,
-                Best {
-                    first,
-                    second,
-                    bound,
-                },
-            )))
+    write_rest(rest, premises, wanted, place, width)?;
+    match other_of(sides, rest, place) {
+        Some(other) => {
+            let pair = pair_of(premises, place, other);
+            Ok(Some(lesser(best, pair)))
         }
         None => Ok(best),
     }
 }
 
-/// The pair with the least sum of bounds among those whose left sides sum to the wanted one. The two places past
-/// the end of the list stand for no premise, so that single premises and none are pairs too.
-pub fn least_pair(
+/// Whether the wanted side is 0 past the width.
+fn ends_within(wanted: &Many<i128>, width: usize) -> bool
+    ensures { MatchBool result ((k : ℕ) → width ≤ k → number k wanted.now ≡ pos 0) ((k : ℕ) × (width ≤ k) × (number k wanted.now ≢ pos 0)) }
+{
+    for column in width..wanted.len() {
+        let number = number_at(wanted, column);
+        if number != 0 {
+            return false;
+        }
+    }
+    true
+}
+
+/// The least pair for a wanted side that is 0 past the width. One look-up for each left side of the table.
+fn least_within(
     alloc: Global,
     premises: &Many<Row>,
+    sides: &Sides,
+    width: usize,
     wanted: &Many<i128>,
 ) -> Result<Option<Best>, Memory>
-    requires premises { All (RowWithin (2 ^ 60)) premises.now }
+    requires prepared { IsPrepared premises.now width sides.now }
     requires wanted { All (λ c. unsigned_abs c ≤ 2 ^ 78) wanted.now }
-    requires few { length premises.now < 2 ^ 32 }
+    requires past { (k : ℕ) → width ≤ k → number k wanted.now ≡ pos 0 }
     ensures { IfOk result (λ o. IsLeast premises.now wanted.now (length premises.now + 2) o) }
 {
-    let width = widest(premises, wanted.len());
-    let mut sides: Sides = BTreeMap::new(alloc);
+    let mut rest = Vec::new(alloc);
     let mut least: Option<Best> = None;
-    for second in 0..premises.len() + 2 {
-        least = with_second(alloc, premises, wanted, &sides, least, second, width)?;
-        add_place(alloc, premises, &mut sides, second, width)?;
+    for closest in sides.values() {
+        least = with_place(
+            premises,
+            wanted,
+            sides,
+            &mut rest,
+            least,
+            closest.first,
+            width,
+        )?;
     }
     Ok(least)
 }
 
-/// Two places that show the row at once.
-pub fn shown_pair(alloc: Global, premises: &Many<Row>, wanted: &Row) -> Result<Option<Best>, Memory>
-    requires premises { All (RowWithin (2 ^ 60)) premises.now }
-    requires wanted { RowWithin (2 ^ 78) wanted.now }
-    requires few { length premises.now < 2 ^ 32 }
-    ensures found { IfOk result (λ o. IfSome o (λ b. (b.first < b.second) × PairShows premises.now wanted.now b.first b.second)) }
-    ensures missing { IfOk result (λ o. IfNone o (¬ (ShowsAtOnce premises.now wanted.now))) }
+/// The pair with the least sum of bounds among those whose left sides sum to the wanted one.
+pub fn least_in(
+    alloc: Global,
+    premises: &Many<Row>,
+    sides: &Sides,
+    width: usize,
+    wanted: &Many<i128>,
+) -> Result<Option<Best>, Memory>
+    requires prepared { IsPrepared premises.now width sides.now }
+    requires wanted { All (λ c. unsigned_abs c ≤ 2 ^ 78) wanted.now }
+    ensures { IfOk result (λ o. IsLeast premises.now wanted.now (length premises.now + 2) o) }
 {
-    let least = least_pair(alloc, premises, &wanted.coefficients)?;
-    match least {
-        Some(best) => {
-            if best.bound <= wanted.bound {
-                Ok(Some(best))
-            } else {
-                Ok(None)
-            }
-        }
-        None => Ok(None),
+    if ends_within(wanted, width) {
+        least_within(alloc, premises, sides, width, wanted)
+    } else {
+        Ok(None)
     }
 }

@@ -1,48 +1,21 @@
-ghost use Rattle.std.specs.Prelude.{◌≡◌, ◌⊎◌, ◌<◌, ◌≤◌, ◌^◌, ◌++◌, [], List, ℤ, negsuc, ◌+ℤ◌, ◌≤ℤ◌, pos, All, length, IfSome, IsSome, IfOk, OnOk, IsSomeAnd, Some};
+ghost use Rattle.std.specs.Prelude.{◌≡◌, ◌⊎◌, ◌<◌, ◌≤◌, ◌^◌, [], List, ℤ, negsuc, ◌+ℤ◌, ◌≤ℤ◌, pos, All, length, IfSome, IfNone, IsSome, IfOk, IsSomeAnd, Some};
 ghost use Rattle.std.specs.Int.RustNames.{unsigned_abs};
 ghost use Rattle.rv_rows.specs.Rows.{RowWithin, Holds};
 ghost use Rattle.rv_rows.specs.Multipliers.{Proves, Refutes, ShowsAtOnce, AreShutAtOnce};
 ghost use Rattle.rv_rows.specs.Forms.{FormWithin, value};
 ghost use Rattle.rv_seek.specs.Least.{PairSums, at_most, bounded};
-ghost use Rattle.rv_seek.specs.Pairs.{PairShows, HasRanges, unit_at};
+ghost use Rattle.rv_seek.specs.Pairs.{PairShows, HasRanges};
 
-use crate::least::{Best, least_pair, shown_pair};
+use crate::least::Best;
+use crate::pairs::pair_multipliers;
+use crate::prepared::{Premises, least_pair};
 use crate::ranges::{has_ranges, reduced, reduced_refutation};
 use crate::simplex::{Goal, simplex};
 use rv_base::{Many, Memory};
-use rv_rows::{Form, Multipliers, Row, Weight, proves, refutes};
+use rv_rows::{Form, Multipliers, Row, proves, refutes};
 use std::alloc::Global;
 
 const MOST_WANTED: u128 = 1 << 78;
-
-/// Adds the weight 1 on a premise; a place past the end stands for none.
-fn push_unit(weights: &mut Many<Weight>, premises: usize, place: usize) -> Result<(), Memory>
-    requires { premises < 2 ^ 32 }
-    ensures { OnOk result (weights.new ≡ weights.old ++ unit_at premises place) }
-{
-    if place < premises {
-        weights.push(Weight {
-            premise: place as u32,
-            by: 1,
-        })?;
-    }
-    Ok(())
-}
-
-fn unit_weights(
-    alloc: Global,
-    premises: usize,
-    first: usize,
-    second: usize,
-) -> Result<Many<Weight>, Memory>
-    requires { premises < 2 ^ 32 }
-    ensures { IfOk result (λ w. w ≡ unit_at premises first ++ unit_at premises second) }
-{
-    let mut weights = Many::new(alloc);
-    push_unit(&mut weights, premises, first)?;
-    push_unit(&mut weights, premises, second)?;
-    Ok(weights)
-}
 
 /// What was found, if it is a proof in range.
 fn checked(premises: &Many<Row>, wanted: &Row, found: Multipliers) -> Option<Multipliers>
@@ -80,45 +53,27 @@ fn checked_refutation(premises: &Many<Row>, found: Multipliers) -> Option<Multip
     Some(found)
 }
 
-/// The weight 1 on both premises of a pair.
-fn by_pair(
-    alloc: Global,
-    premises: &Many<Row>,
-    wanted: &Row,
-    first: usize,
-    second: usize,
-) -> Result<Multipliers, Memory>
+/// Two places that show the row at once.
+fn shown_pair(alloc: Global, premises: &Many<Row>, wanted: &Row) -> Result<Option<Best>, Memory>
+    requires premises { All (RowWithin (2 ^ 60)) premises.now }
+    requires wanted { RowWithin (2 ^ 78) wanted.now }
     requires few { length premises.now < 2 ^ 32 }
-    requires order { first < second }
-    requires shows { PairShows premises.now wanted.now first second }
-    ensures proof { IfOk result (λ m. Proves premises.now wanted.now m) }
-    ensures ranges { IfOk result (λ m. HasRanges (length premises.now) m) }
-    ensures divisor { IfOk result (λ m. m.divisor ≡ pos 1) }
+    ensures found { IfOk result (λ o. IfSome o (λ b. (b.first < b.second) × PairShows premises.now wanted.now b.first b.second)) }
+    ensures missing { IfOk result (λ o. IfNone o (¬ (ShowsAtOnce premises.now wanted.now))) }
 {
-    let weights = unit_weights(alloc, premises.len(), first, second)?;
-    Ok(Multipliers {
-        divisor: 1,
-        weights,
-    })
+    let prepared = Premises::new(alloc, premises)?;
+    prepared.shown(alloc, wanted)
 }
 
-/// The weight 1 on both premises of a pair that shows `0 <= -1`.
-fn refuted_by_pair(
-    alloc: Global,
-    premises: &Many<Row>,
-    wanted: &Row,
-    first: usize,
-    second: usize,
-) -> Result<Multipliers, Memory>
+/// Two places that show `0 <= -1` at once.
+fn shut_pair(alloc: Global, premises: &Many<Row>) -> Result<Option<Best>, Memory>
+    requires premises { All (RowWithin (2 ^ 60)) premises.now }
     requires few { length premises.now < 2 ^ 32 }
-    requires order { first < second }
-    requires wanted { wanted.now ≡ bounded [] (negsuc 0) }
-    requires shows { PairShows premises.now wanted.now first second }
-    ensures proof { IfOk result (λ m. Refutes premises.now m) }
-    ensures ranges { IfOk result (λ m. HasRanges (length premises.now) m) }
+    ensures found { IfOk result (λ o. IfSome o (λ b. (b.first < b.second) × PairShows premises.now (bounded [] (negsuc 0)) b.first b.second)) }
+    ensures missing { IfOk result (λ o. IfNone o (¬ (AreShutAtOnce premises.now))) }
 {
-    let multipliers = by_pair(alloc, premises, wanted, first, second)?;
-    Ok(multipliers)
+    let prepared = Premises::new(alloc, premises)?;
+    prepared.shut(alloc)
 }
 
 /// What the simplex finds for a row.
@@ -182,7 +137,7 @@ pub fn seek_row(
 {
     match shown_pair(alloc, premises, wanted)? {
         Some(best) => {
-            let multipliers = by_pair(alloc, premises, wanted, best.first, best.second)?;
+            let multipliers = pair_multipliers(alloc, premises, best.first, best.second)?;
             Ok(Some(multipliers))
         }
         None => {
@@ -202,13 +157,9 @@ pub fn seek_refutation(alloc: Global, premises: &Many<Row>) -> Result<Option<Mul
     ensures ranges { IfOk result (λ o. IfSome o (λ m. HasRanges (length premises.now) m)) }
     ensures at_once { IfOk result (λ o. AreShutAtOnce premises.now → IsSome o) }
 {
-    let wanted = Row {
-        coefficients: Many::new(alloc),
-        bound: -1,
-    };
-    match shown_pair(alloc, premises, &wanted)? {
+    match shut_pair(alloc, premises)? {
         Some(best) => {
-            let multipliers = refuted_by_pair(alloc, premises, &wanted, best.first, best.second)?;
+            let multipliers = pair_multipliers(alloc, premises, best.first, best.second)?;
             Ok(Some(multipliers))
         }
         None => {
@@ -242,13 +193,10 @@ fn bounded_by(
     ensures ranges { IfOk result (λ b. HasRanges (length premises.now) b.by) }
     ensures bound { IfOk result (λ b. b.bound ≡ best.bound +ℤ form.now.constant) }
 {
-    let weights = unit_weights(alloc, premises.len(), best.first, best.second)?;
+    let by = pair_multipliers(alloc, premises, best.first, best.second)?;
     Ok(Bounded {
         bound: best.bound + form.constant,
-        by: Multipliers {
-            divisor: 1,
-            weights,
-        },
+        by,
     })
 }
 

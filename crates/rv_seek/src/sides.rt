@@ -1,9 +1,10 @@
 // The premises by their left sides.
-ghost use Rattle.std.specs.Prelude.{◌≡◌, ◌⊎◌, ℕ, ◌^◌, ◌+◌, ◌≤◌, ◌-ℤ◌, ◌≤ℤ◌, All, length, Some, IfSome, IfOk, OnOk};
+ghost use Rattle.std.specs.Prelude.{◌≡◌, ◌⊎◌, ℕ, ◌^◌, ◌+◌, ◌≤◌, ◌-ℤ◌, ◌≤ℤ◌, ℤ, pos, All, List, length, Some, IfSome, IfOk, OnOk};
 ghost use Rattle.std.specs.Int.RustNames.{unsigned_abs};
+ghost use Rattle.rv_rows.specs.declared.linear.Row.{Row};
 ghost use Rattle.rv_rows.specs.Rows.{coefficient, row_at, RowWithin};
 ghost use Rattle.rv_rows.specs.Forms.{number};
-ghost use Rattle.rv_seek.specs.Sides.{place_at, IsSide, IsTable};
+ghost use Rattle.rv_seek.specs.Sides.{IsSide, IsClosest, IsOther, IsTable};
 
 use crate::places::{bound_of, coefficient_of};
 use rv_base::{Many, Memory};
@@ -11,8 +12,17 @@ use rv_rows::{Row, number_at};
 use std::alloc::Global;
 use std::collections::BTreeMap;
 
-/// Places in the list of premises by left side, each with the least bound of its side.
-pub type Sides = BTreeMap<Vec<i128>, usize>;
+/// Two places in the list of premises with one left side, so that a premise need not be taken twice.
+#[derive(Clone, Copy, Debug)]
+pub struct Closest {
+    /// The place with the least bound.
+    pub first: usize,
+    /// The place with the least bound of the others, where there are others.
+    pub second: Option<usize>,
+}
+
+/// The closest places of each left side.
+pub type Sides = BTreeMap<Vec<i128>, Closest>;
 
 /// The left side at a place, over so many columns.
 fn side_of(
@@ -40,22 +50,22 @@ fn difference(a: i128, b: i128) -> i128
     a - b
 }
 
-/// What the left side at a place lacks of the wanted one, over so many columns.
-pub fn rest_of(
-    alloc: Global,
+/// Writes what the left side at a place lacks of the wanted one, over so many columns.
+pub fn write_rest(
+    rest: &mut Vec<i128>,
     premises: &Many<Row>,
     wanted: &Many<i128>,
     place: usize,
     width: usize,
-) -> Result<Vec<i128>, Memory>
+) -> Result<(), Memory>
     requires premises { All (RowWithin (2 ^ 60)) premises.now }
     requires wanted { All (λ c. unsigned_abs c ≤ 2 ^ 78) wanted.now }
     requires widths { All (λ r. length r.coefficients ≤ width) premises.now }
-    requires width { length wanted.now ≤ width }
-    ensures length { IfOk result (λ rest. length rest.items ≡ width) }
-    ensures rest { IfOk result (λ rest. (k : ℕ) → number k rest.items ≡ number k wanted.now -ℤ coefficient k (row_at premises.now place)) }
+    requires past { (k : ℕ) → width ≤ k → number k wanted.now ≡ pos 0 }
+    ensures length { OnOk result (length rest.new.items ≡ width) }
+    ensures rest { OnOk result ((k : ℕ) → number k rest.new.items ≡ number k wanted.now -ℤ coefficient k (row_at premises.now place)) }
 {
-    let mut rest = Vec::new(alloc);
+    rest.clear();
     for column in 0..width {
         let number = difference(
             number_at(wanted, column),
@@ -63,24 +73,59 @@ pub fn rest_of(
         );
         rest.push(number)?;
     }
-    Ok(rest)
+    Ok(())
 }
 
-/// The place, or the one that the map has at its left side where that has no greater bound.
-fn lower_at(premises: &Many<Row>, sides: &Sides, side: &Vec<i128>, place: usize) -> usize
-    ensures one { (result ≡ place) ⊎ (place_at sides.now side.now.items ≡ Some result) }
+/// The place, or the other one where that has no greater bound.
+fn lower_of(premises: &Many<Row>, old: Option<usize>, place: usize) -> usize
+    ensures one { (result ≡ place) ⊎ (old ≡ Some result) }
     ensures here { (row_at premises.now result).bound ≤ℤ (row_at premises.now place).bound }
-    ensures there { IfSome (place_at sides.now side.now.items) (λ p. (row_at premises.now result).bound ≤ℤ (row_at premises.now p).bound) }
+    ensures there { IfSome old (λ p. (row_at premises.now result).bound ≤ℤ (row_at premises.now p).bound) }
 {
-    match sides.get(side) {
+    match old {
         Some(old) => {
-            if bound_of(premises, *old) <= bound_of(premises, place) {
-                *old
+            if bound_of(premises, old) <= bound_of(premises, place) {
+                old
             } else {
                 place
             }
         }
         None => place,
+    }
+}
+
+/// The closest of the places so far and the next one, which has the same left side.
+fn closer(premises: &Many<Row>, old: Closest, place: usize) -> Closest
+    ensures { (cs : List ℤ) → IsSide (row_at premises.now place) cs → IsClosest premises.now place cs old → IsClosest premises.now (place + 1) cs result }
+{
+    let least = bound_of(premises, old.first);
+    let here = bound_of(premises, place);
+    if here < least {
+        Closest {
+            first: place,
+            second: Some(old.first),
+        }
+    } else {
+        Closest {
+            first: old.first,
+            second: Some(lower_of(premises, old.second, place)),
+        }
+    }
+}
+
+/// The closest of the places so far and the next one, which has this left side.
+fn closest_with(premises: &Many<Row>, sides: &Sides, side: &Vec<i128>, place: usize) -> Closest
+    ensures { (width : ℕ) → IsTable premises.now width place sides.now → length side.now.items ≡ width
+        → IsSide (row_at premises.now place) side.now.items → IsClosest premises.now (place + 1) side.now.items result }
+{
+    match sides.get(side) {
+        Some(old) => closer(premises, *old, place),
+        None => {
+            Closest {
+                first: place,
+                second: None,
+            }
+        }
     }
 }
 
@@ -97,7 +142,27 @@ pub fn add_place(
     ensures { OnOk result (IsTable premises.now width (place + 1) sides.new) }
 {
     let side = side_of(alloc, premises, place, width)?;
-    let lowest = lower_at(premises, sides, &side, place);
-    sides.insert(side, lowest)?;
+    let closest = closest_with(premises, sides, &side, place);
+    sides.insert(side, closest)?;
     Ok(())
+}
+
+/// The closest place with this left side other than the given one.
+pub fn other_of(sides: &Sides, side: &Vec<i128>, place: usize) -> Option<usize>
+    ensures { (rows : List Row) (n : ℕ) → IsTable rows (length side.now.items) n sides.now → IsOther rows n side.now.items place result }
+{
+    match sides.get(side) {
+        Some(closest) => other_than(closest, place),
+        None => None,
+    }
+}
+
+fn other_than(closest: &Closest, place: usize) -> Option<usize>
+    ensures { (rows : List Row) (n : ℕ) (cs : List ℤ) → IsClosest rows n cs closest.now → IsOther rows n cs place result }
+{
+    if closest.first == place {
+        closest.second
+    } else {
+        Some(closest.first)
+    }
 }

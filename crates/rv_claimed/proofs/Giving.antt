@@ -1,0 +1,43 @@
+-- What is given in a store that is the same, and the parts of a claim.
+use Rattle.std.proofs.Common.{◌≡◌, ℕ, ◌+◌, ◌<◌, ◌^◌, ℤ, List, length, ◌∙◌, arith, subst, sym}
+use Rattle.rv_diagram.specs.Nodes.{Diagrams, IsMeant}
+use Rattle.rv_proofs.specs.Systems.{System}
+use Rattle.rv_proofs.specs.RowClaims.{IsRowClosed}
+use Rattle.rv_symbolic.specs.declared.relation.Relation.{Relation}
+use Rattle.rv_symbolic.specs.declared.relation.Parts.{Parts}
+use Rattle.rv_symbolic.specs.Represented.{parts_of}
+use Rattle.rv_cases.specs.declared.asking.Questions.{Questions}
+use Rattle.rv_claims.specs.declared.claim.Claim.{Claim}
+use Rattle.rv_claims.specs.Claiming.{claim_of, IsKeptClaim}
+use Rattle.rv_claimed.specs.declared.locations.Part.{Part}
+use Rattle.rv_claimed.specs.Certifying.{IsGiven}
+use Rattle.rv_claimed.specs.Building.{IsStart, AreOthers, ArePartsOf}
+
+pub given_allowed : (s : System) (old new : Diagrams) (r : Relation) (q : Questions) → IsGiven s old r q → new ≡ old → (p : Parts)
+    → p ≡ parts_of r
+    → IsMeant new.nodes s.allowed p.allowed
+given_allowed s old new r q given same p is =
+    let of = given.relation in
+    let parts = of.parts in
+    let out = of.laid_out in
+    let refs = out.refs in
+    let here : IsMeant old.nodes s.allowed r.parts.allowed = (refs.allowed, parts.allowed) in
+    subst (λ (d : Diagrams). IsMeant d.nodes s.allowed p.allowed) (sym same) (subst (λ (x : Parts). IsMeant old.nodes s.allowed x.allowed) (sym is) here)
+
+pub given_there : (s : System) (old new : Diagrams) (r : Relation) (q : Questions) → new ≡ old → IsGiven s old r q → IsGiven s new r q
+given_there s old new r q same given = subst (λ (d : Diagrams). IsGiven s d r q) (sym same) given
+
+pub parts_given : (s : System) (thresholds : List ℤ) (d : Diagrams) (r : Relation) (q : Questions) (c : Claim) (many : ℕ) (start others : Part)
+    → many ≡ length q.rows → IsGiven s d r q → IsKeptClaim s thresholds c → IsRowClosed s (claim_of c) → length c.rows + many < 2 ^ 32
+    → IsStart s start → AreOthers s start.control c others → ArePartsOf s many c start others
+parts_given s thresholds d r q c many start others is_many given kept closed few st ot =
+    let of = given.relation in
+    let asked = given.questions in
+    let tests = asked.many_tests in
+    record {
+      thresholds = thresholds;
+      kept = kept;
+      judge = record { system = of.system; tests = is_many ∙ tests; closed = closed; kept = kept.kept; few = omega (arith, few, is_many, tests) };
+      is_start = st;
+      are_others = ot;
+    }

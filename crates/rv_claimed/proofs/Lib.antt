@@ -1,0 +1,8 @@
+pub mod Growing
+pub mod Pairing
+pub mod Placed
+pub mod Entering
+pub mod Reaching
+pub mod Assembling
+pub mod Giving
+pub mod Mapping

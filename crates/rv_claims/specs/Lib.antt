@@ -1,0 +1,4 @@
+pub mod Claiming
+pub mod Order
+pub mod Certify
+pub mod Renumbered

@@ -1,0 +1,22 @@
+-- What is given in a store that is the same.
+use Rattle.std.proofs.Common.{◌≡◌, subst, sym}
+use Rattle.rv_diagram.specs.Nodes.{Diagrams, IsMeant}
+use Rattle.rv_proofs.specs.Systems.{System}
+use Rattle.rv_symbolic.specs.declared.relation.Relation.{Relation}
+use Rattle.rv_symbolic.specs.declared.relation.Parts.{Parts}
+use Rattle.rv_symbolic.specs.Represented.{parts_of, IsRelationOf}
+use Rattle.rv_cases.specs.declared.asking.Questions.{Questions}
+use Rattle.rv_rise.specs.declared.frame.Frame.{Frame}
+use Rattle.rv_rise.specs.Rounds.{IsGivenIn}
+
+pub given_allowed : (s : System) (old new : Diagrams) (r : Relation) → IsRelationOf s old r → new ≡ old → (p : Parts) → p ≡ parts_of r
+    → IsMeant new.nodes s.allowed p.allowed
+given_allowed s old new r of same p is =
+    let parts = of.parts in
+    let out = of.laid_out in
+    let refs = out.refs in
+    let here : IsMeant old.nodes s.allowed r.parts.allowed = (refs.allowed, parts.allowed) in
+    subst (λ (d : Diagrams). IsMeant d.nodes s.allowed p.allowed) (sym same) (subst (λ (x : Parts). IsMeant old.nodes s.allowed x.allowed) (sym is) here)
+
+pub given_there : (s : System) (old new : Diagrams) (r : Relation) (q : Questions) (f : Frame) → new ≡ old → IsGivenIn s old r q f → IsGivenIn s new r q f
+given_there s old new r q f same given = subst (λ (d : Diagrams). IsGivenIn s d r q f) (sym same) given

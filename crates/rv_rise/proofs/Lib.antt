@@ -1,0 +1,12 @@
+pub mod Rising
+pub mod Loosening
+pub mod Showing
+pub mod Listing
+pub mod Fitting
+pub mod Giving
+pub mod Taking
+pub mod Composing
+pub mod Stepping
+pub mod Rounding
+pub mod Finding
+pub mod Tabling

@@ -1,0 +1,141 @@
+-- What premises show at once, and the least bound of a pair.
+use Rattle.std.proofs.Common.{◌≡◌, ℕ, ◌+◌, ◌^◌, ◌<◌, ◌≤◌, ℤ, pos, negsuc, ◌+ℤ◌, ◌-ℤ◌, ◌≤ℤ◌, ◌<ℤ◌, Bool, true, false, List, [], length, map, All, Some, arith, refl, sym, ap, ◌∙◌, ◌⊎◌, inl, inr}
+use Rattle.std.proofs.Common.{None as Nothing}
+use Rattle.std.specs.Prelude.{MatchBool}
+use Rattle.std.specs.Int.RustNames.{unsigned_abs}
+use Rattle.std.proofs.lemmas.Int.{ints}
+use Rattle.std.proofs.lemmas.Bool.{cases_lt}
+use Rattle.std.proofs.lemmas.List.{get_or_past}
+use Rattle.rv_rows.specs.declared.linear.Row.{Row}
+use Rattle.rv_rows.specs.declared.linear.Form.{Form}
+use Rattle.rv_rows.specs.Rows.{coefficient, row_at, dot, RowWithin}
+use Rattle.rv_rows.specs.Forms.{IsSubstituted}
+use Rattle.rv_rows.specs.Multipliers.{ShowsAtOnce, AreShutAtOnce, by_none, by_one, by_two}
+use Rattle.rv_rows.proofs.RowLemmas.{bound_within}
+use Rattle.rv_seek.specs.declared.least.Best.{Best}
+use Rattle.rv_seek.specs.Pairs.{PairShows}
+use Rattle.rv_seek.specs.Least.{IsLeast, PairSums, bounded}
+use Rattle.rv_seek.proofs.PairLemmas.{pair_from}
+use Rattle.rv_rise.specs.Shown.{IsLeastShown, IsNeeded}
+
+-- a row with the same left side and a greater bound is shown too
+pub shown_more : (rows : List Row) (a b : Row) → ((k : ℕ) → coefficient k b ≡ coefficient k a) → a.bound ≤ℤ b.bound → ShowsAtOnce rows a → ShowsAtOnce rows b
+shown_more rows a b same l (by_none sides bound) = by_none (λ k. same k ∙ sides k) (omega (arith, ints))
+shown_more rows a b same l (by_one i m sides bound) = by_one i m (λ k. same k ∙ sides k) (omega (arith, ints))
+shown_more rows a b same l (by_two i j m n sides bound) = by_two i j m n (λ k. same k ∙ sides k) (omega (arith, ints))
+
+-- what a pair of places shows
+pub shows_from : (rows : List Row) (wanted : Row) (i j : ℕ) → i < j → PairShows rows wanted i j → ShowsAtOnce rows wanted
+shows_from rows wanted i j l p = go (cases_lt i (length rows)) (cases_lt j (length rows))
+  where
+    past : (n : ℕ) → length rows ≤ n → row_at rows n ≡ record { coefficients = []; bound = pos 0 }
+    past n m = get_or_past rows n (record { coefficients = []; bound = pos 0 }) m
+
+    drop_side : (a b c : ℤ) → a ≡ b +ℤ c → c ≡ pos 0 → a ≡ b
+    drop_side a b c e z = omega (arith, ints)
+
+    drop_both : (a b c : ℤ) → a ≡ b +ℤ c → b ≡ pos 0 → c ≡ pos 0 → a ≡ pos 0
+    drop_both a b c e y z = omega (arith, ints)
+
+    one_bound : (b c w : ℤ) → (b +ℤ c) ≤ℤ w → c ≡ pos 0 → b ≤ℤ w
+    one_bound b c w m z = omega (arith, ints)
+
+    no_bound : (b c w : ℤ) → (b +ℤ c) ≤ℤ w → b ≡ pos 0 → c ≡ pos 0 → pos 0 ≤ℤ w
+    no_bound b c w m y z = omega (arith, ints)
+
+    go : (i < length rows) ⊎ (length rows ≤ i) → (j < length rows) ⊎ (length rows ≤ j) → ShowsAtOnce rows wanted
+    go (inl a) (inl b) = by_two i j l b p.sides p.bounds
+    go (inl a) (inr b) = by_one i a (λ k. drop_side (coefficient k wanted) (coefficient k (row_at rows i)) (coefficient k (row_at rows j)) (p.sides k) (ap (coefficient k) (past j b)))
+        (one_bound (row_at rows i).bound (row_at rows j).bound wanted.bound p.bounds (ap (λ (r : Row). r.bound) (past j b)))
+    go (inr a) (inl b) = absurd (omega (arith, a, b, l))
+    go (inr a) (inr b) = by_none (λ k. drop_both (coefficient k wanted) (coefficient k (row_at rows i)) (coefficient k (row_at rows j)) (p.sides k) (ap (coefficient k) (past i a)) (ap (coefficient k) (past j b)))
+        (no_bound (row_at rows i).bound (row_at rows j).bound wanted.bound p.bounds (ap (λ (r : Row). r.bound) (past i a)) (ap (λ (r : Row). r.bound) (past j b)))
+
+-- the least pair gives the least bound
+pub least_some : (rows : List Row) (cs : List ℤ) (best : Best) → All (RowWithin (2 ^ 60)) rows → IsLeast rows cs (length rows + 2) (Some best) → IsLeastShown rows cs (Some best.bound)
+least_some rows cs best within h = record {
+  shown = shows_from rows (bounded cs best.bound) best.first best.second sums.order (record {
+    sides = sums.sides;
+    bounds = at_most best.bound ((row_at rows best.first).bound +ℤ (row_at rows best.second).bound) sums.bound;
+  });
+  small = small best.bound (row_at rows best.first).bound (row_at rows best.second).bound sums.bound (bound_within (2 ^ 60) rows within best.first) (bound_within (2 ^ 60) rows within best.second);
+  least = λ z shows. let (i, j, l, m, p) = pair_from rows (bounded cs z) shows in h.least i j l m z p;
+}
+  where
+    sums : PairSums rows cs best
+    sums = h.shown
+
+    at_most : (a b : ℤ) → a ≡ b → b ≤ℤ a
+    at_most a b e = omega (arith, ints)
+
+    small : (a b c : ℤ) → a ≡ b +ℤ c → unsigned_abs b ≤ 2 ^ 60 → unsigned_abs c ≤ 2 ^ 60 → unsigned_abs a ≤ 2 ^ 61
+    small a b c e l m = omega (arith, ints)
+
+pub least_none : (rows : List Row) (cs : List ℤ) → IsLeast rows cs (length rows + 2) Nothing → IsLeastShown rows cs Nothing
+least_none rows cs h = record {
+  shown = tt;
+  small = tt;
+  least = λ z shows. let (i, j, l, m, p) = pair_from rows (bounded cs z) shows in h.least i j l m z p;
+}
+
+-- whether premises are shut at once
+shut_by : (rows : List Row) (b : ℤ) → IsLeastShown rows [] (Some b) → b <ℤ pos 0 → AreShutAtOnce rows
+shut_by rows b h l = shown_more rows (bounded [] b) (bounded [] (negsuc 0)) (λ k. refl) (below b l) h.shown
+  where
+    below : (b : ℤ) → b <ℤ pos 0 → b ≤ℤ negsuc 0
+    below b l = omega (arith, ints)
+
+not_shut : (rows : List Row) (b : ℤ) → IsLeastShown rows [] (Some b) → pos 0 ≤ℤ b → ¬ AreShutAtOnce rows
+not_shut rows b h l shut = apart b l (h.least (negsuc 0) shut)
+  where
+    apart : (b : ℤ) → pos 0 ≤ℤ b → b ≤ℤ negsuc 0 → ⊥
+    apart b l m = omega (arith, ints)
+
+pub never_shut : (rows : List Row) → IsLeastShown rows [] Nothing → ¬ AreShutAtOnce rows
+never_shut rows h shut = h.least (negsuc 0) shut
+
+pub shut_decided : (shut : Bool) (rows : List Row) (b : ℤ) → IsLeastShown rows [] (Some b) → MatchBool shut (b <ℤ pos 0) (pos 0 ≤ℤ b)
+    → MatchBool shut (AreShutAtOnce rows) (¬ AreShutAtOnce rows)
+shut_decided true rows b h l = shut_by rows b h l
+shut_decided false rows b h l = not_shut rows b h l
+
+-- before the updates
+module _ (rows : List Row) (forms : List Form) (side before : Row) (zero_bound : side.bound ≡ pos 0) (sub : IsSubstituted side forms before) where
+  moved : (z : ℤ) → IsSubstituted (bounded side.coefficients z) forms (bounded before.coefficients (z +ℤ before.bound))
+  moved z = record {
+    width = sub.width;
+    coefficients = sub.coefficients;
+    bound = sum z side.bound before.bound (dot side.coefficients (map (λ f. f.constant) forms)) zero_bound sub.bound;
+  }
+    where
+      sum : (z o b d : ℤ) → o ≡ pos 0 → b ≡ o -ℤ d → z +ℤ b ≡ z -ℤ d
+      sum z o b d e q = omega (arith, ints)
+
+  moved_back : (z : ℤ) (new : Row) → IsSubstituted (bounded side.coefficients z) forms new → ShowsAtOnce rows new → ShowsAtOnce rows (bounded before.coefficients (z +ℤ before.bound))
+  moved_back z new is shows = shown_more rows new (bounded before.coefficients (z +ℤ before.bound)) (λ k. sub.coefficients k ∙ sym (is.coefficients k))
+      (same z side.bound before.bound new.bound (dot side.coefficients (map (λ f. f.constant) forms)) zero_bound sub.bound is.bound) shows
+    where
+      same : (z o b n d : ℤ) → o ≡ pos 0 → b ≡ o -ℤ d → n ≡ z -ℤ d → n ≤ℤ (z +ℤ b)
+      same z o b n d e q p = omega (arith, ints)
+
+  pub needed_some : (b v : ℤ) → IsLeastShown rows before.coefficients (Some b) → v ≡ b -ℤ before.bound → IsNeeded rows forms side (Some v)
+  needed_some b v h is = record {
+    shown = λ z l. (
+      bounded before.coefficients (z +ℤ before.bound),
+      moved z,
+      shown_more rows (bounded before.coefficients b) (bounded before.coefficients (z +ℤ before.bound)) (λ k. refl) (up v b z before.bound is l) h.shown,
+    );
+    least = λ z (new, is_new, shows). down v b z before.bound is (h.least (z +ℤ before.bound) (moved_back z new is_new shows));
+  }
+    where
+      up : (v b z c : ℤ) → v ≡ b -ℤ c → v ≤ℤ z → b ≤ℤ (z +ℤ c)
+      up v b z c e l = omega (arith, ints)
+
+      down : (v b z c : ℤ) → v ≡ b -ℤ c → b ≤ℤ (z +ℤ c) → v ≤ℤ z
+      down v b z c e l = omega (arith, ints)
+
+  pub needed_none : IsLeastShown rows before.coefficients Nothing → IsNeeded rows forms side Nothing
+  needed_none h = record {
+    shown = tt;
+    least = λ z (new, is_new, shows). h.least (z +ℤ before.bound) (moved_back z new is_new shows);
+  }

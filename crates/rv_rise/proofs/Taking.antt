@@ -1,0 +1,68 @@
+-- A set that is taken into a claim.
+use Rattle.std.proofs.Common.{◌≡◌, ℕ, Bool, true, false, not, ◌&&◌, ◌||◌, refl, sym, ap, ◌∙◌, subst}
+use Rattle.rv_diagram.specs.Nodes.{Valuation}
+use Rattle.rv_diagram.specs.declared.frozen.Frozen.{Frozen}
+use Rattle.rv_proofs.specs.Systems.{System, HasSameState}
+use Rattle.rv_proofs.specs.Ranges.{IsControlSet}
+use Rattle.rv_proofs.proofs.ControlReads.{control_same}
+use Rattle.rv_walk.specs.Ends.{has}
+use Rattle.rv_walk.specs.Extended.{fresh_of, IsExtended}
+use Rattle.rv_walk.specs.declared.sets.Extended.{Extended}
+use Rattle.rv_walk.proofs.Counting.{missing_less}
+use Rattle.rv_rise.specs.declared.risen.Risen.{Risen}
+use Rattle.rv_rise.specs.Rounds.{HasTaken}
+
+pub same_bool : (a b : Bool) → (a ≡ true → b ≡ true) → (b ≡ true → a ≡ true) → a ≡ b
+same_bool true b h k = sym (h refl)
+same_bool false true h k = k refl
+same_bool false false h k = refl
+
+pub same_states : (s : System) (set : Frozen) → IsControlSet s set → (v w : Valuation) → HasSameState s v w → has set v ≡ has set w
+same_states s set control v w same =
+    same_bool (has set v) (has set w) (control_same s set v w control same) (control_same s set w v control (λ x state. sym (same x state)))
+
+or_left : (a b : Bool) → (a && not b) ≡ false → b ≡ (a || b)
+or_left true true e = refl
+or_left true false e = cc
+or_left false b e = refl
+
+nothing_new : (a b : Bool) → (a ≡ true → b ≡ true) → (a && not b) ≡ false
+nothing_new true true h = refl
+nothing_new true false h = let e : false ≡ true = h refl in cc
+nothing_new false b h = refl
+
+into_either : (a b : Bool) → b ≡ true → (a || b) ≡ true
+into_either true b e = refl
+into_either false b e = e
+
+from_first : (a b : Bool) → a ≡ true → (a || b) ≡ true
+from_first true b e = refl
+from_first false b e = cc
+
+module _ (s : System) (old : Risen) (set : Frozen) (control : IsControlSet s old.reached) where
+  pub taken_none : ((v : Valuation) → fresh_of old.reached set v ≡ false) → HasTaken s set false old old
+  taken_none none = record {
+    control = control;
+    exact = λ v. or_left (has set v) (has old.reached v) (none v);
+    limits = refl;
+    still = λ e. refl;
+    less = λ (e : false ≡ true). cc;
+  }
+
+  pub taken_new : (m : ℕ) (e : Extended) (new : Risen) → IsControlSet s e.all → IsExtended m old.reached set e → new.reached ≡ e.all → new.limits ≡ old.limits → HasTaken s set true old new
+  taken_new m e new all x is limits = record {
+    control = there;
+    exact = exact;
+    limits = limits;
+    still = λ (d : true ≡ false). cc;
+    less = λ d v. missing_less s (has old.reached) (has new.reached) v (same_states s old.reached control) (same_states s new.reached there)
+        (λ u i. exact u ∙ into_either (has set u) (has old.reached u) i)
+        (λ within. x.some (λ u. x.fresh_is u ∙ nothing_new (has set u) (has old.reached u) (λ i. within u (exact u
+        ∙ from_first (has set u) (has old.reached u) i))));
+  }
+    where
+      there : IsControlSet s new.reached
+      there = subst (λ (f : Frozen). IsControlSet s f) (sym is) all
+
+      exact : (v : Valuation) → has new.reached v ≡ (has set v || has old.reached v)
+      exact v = ap (λ (f : Frozen). has f v) is ∙ x.all_is v

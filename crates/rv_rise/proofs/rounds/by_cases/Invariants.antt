@@ -1,0 +1,15 @@
+use Rattle.std.proofs.Common.{◌≡◌}
+use Rattle.rv_proofs.specs.Systems.{System}
+use Rattle.rv_proofs.specs.RowClaims.{RowClaim}
+use Rattle.rv_proofs.specs.Cases.{AreCases}
+use Rattle.rv_cases.specs.declared.asking.Questions.{Questions}
+use Rattle.rv_rise.specs.Rounds.{IsGivenIn, IsSetting, IsKeptRisen, HasGrown, IsInCases}
+use Rattle.rv_rise.proofs.rounds.by_cases.Given as goal
+
+abbrev pub invariant-loop-place : goal.invariant-loop-place
+invariant-loop-place l = record {
+  same : l.store ≡ l.initial.store;
+  grown : (s : System) (q : Questions) (base : RowClaim) → IsGivenIn s l.initial.store l.relation q l.frame → IsSetting s base l.from l.given
+      → IsKeptRisen s l.frame l.initial.claim → AreCases s l.from l.cases
+      → HasGrown s l.frame base (IsInCases l.cases l.place) l.changed l.initial.claim l.claim;
+}

@@ -1,0 +1,28 @@
+use Rattle.std.proofs.Common.{refl}
+use Rattle.rv_rise.proofs.Giving.{given_allowed}
+use Rattle.rv_rise.proofs.search.start_of.Goals as goal
+
+pub initial-requires : goal.initial-requires
+initial-requires c = let (s, given) = c.requires in (s, given.relation)
+
+pub cases-requires : goal.cases-requires
+cases-requires c =
+    let (s, given) = c.requires in
+    let r = given.relation in
+    let initial = c.in_ok-first.ensures s r in (
+      s,
+      r.system,
+      given.questions,
+      given_allowed s c.args.store.now c.args.store.now c.args.relation.now r refl c.parts.result.now c.parts.ensures,
+      initial.control,
+    )
+
+pub returns-clause-start : goal.returns-clause-start
+returns-clause-start c s given =
+    let r = given.relation in
+    let initial = c.in_ok-first.ensures s r in
+    record {
+      initial = initial;
+      cases = c.in_ok-from_first.ensures.parted s r.system given.questions
+          (given_allowed s c.args.store.now c.args.store.now c.args.relation.now r refl c.parts.result.now c.parts.ensures) initial.control;
+    }

@@ -1,0 +1,25 @@
+use Rattle.std.proofs.Common.{rules, FitsSigned}
+use Rattle.std.specs.Int.{w128}
+use Rattle.std.proofs.lemmas.Int.{to_z-of_z}
+use Rattle.rv_rise.proofs.Showing.{needed_some, needed_none}
+use Rattle.rv_rise.proofs.shown.needed.Goals as goal
+
+pub least_bound-requires-clause-side : goal.least_bound-requires-clause-side
+least_bound-requires-clause-side c = (c.requires.moves.small c.in_ok-before.before c.in_ok-before.ensures.exact).0
+
+pub difference-requires-clause-constant : goal.difference-requires-clause-constant
+difference-requires-clause-constant c =
+    let before_fits : FitsSigned w128 c.in_ok-before.before.bound = search rules in
+    simp to_z-of_z (c.requires.moves.small c.in_ok-before.before c.in_ok-before.ensures.exact).1
+
+pub returns-in-Some : goal.returns-in-Some
+returns-in-Some c =
+    let bound_fits : FitsSigned w128 c.in-Some.bound = search rules in
+    let before_fits : FitsSigned w128 c.in_ok-before.before.bound = search rules in
+    let result_fits : FitsSigned w128 c.difference.result = search rules in
+    let is = simp to_z-of_z at c.difference.ensures in
+    simp to_z-of_z (needed_some c.args.premises.now c.args.updates.now c.args.side.now c.in_ok-before.before c.requires.zero c.in_ok-before.ensures.exact
+    c.in-Some.bound c.difference.result (rw c.in-Some.is at c.in_ok-bound.ensures) is)
+
+pub returns : goal.returns
+returns c = needed_none c.args.premises.now c.args.updates.now c.args.side.now c.in_ok-before.before c.requires.zero c.in_ok-before.ensures.exact (rw c.in-None.is at c.in_ok-bound.ensures)

@@ -1,0 +1,11 @@
+use Rattle.std.proofs.Common.{rules, FitsSigned}
+use Rattle.std.specs.Int.{w128}
+use Rattle.std.proofs.lemmas.Int.{to_z-of_z}
+use Rattle.rv_rise.proofs.table.add_signs.Goals as goal
+
+pub returns : goal.returns
+returns c =
+    let one_fits : FitsSigned w128 c.args.one = search rules in
+    let up = simp to_z-of_z at c.in_ok-add_side.ensures in
+    let down = simp to_z-of_z at c.in_ok-add_side-2.ensures in
+    record { middle = c.add_side.new.sides; up = up; down = down }

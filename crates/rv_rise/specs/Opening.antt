@@ -1,0 +1,14 @@
+-- What a case does to limits.
+use Rattle.std.specs.Prelude.{ℤ, List, length, Option}
+use Rattle.rv_rows.specs.declared.linear.Row.{Row}
+use Rattle.rv_rows.specs.declared.linear.Form.{Form}
+use Rattle.rv_rows.specs.Multipliers.{AreShutAtOnce}
+use Rattle.rv_rise.specs.declared.frame.Frame.{Frame}
+use Rattle.rv_rise.specs.declared.limits.Loosened.{Loosened}
+use Rattle.rv_rise.specs.Limits.{AreLoosened, HasChanged}
+
+-- The premises are not shut at once, and the limits are loosened by what they show after the updates.
+pub record IsOpened (f : Frame) (premises : List Row) (updates : List Form) (limits : List (Option ℤ)) (x : Loosened) : Type 0 where
+  pub is_open : ¬ AreShutAtOnce premises
+  pub loosened : AreLoosened f.thresholds premises updates f.sides (length limits) limits x.limits
+  pub changed : HasChanged x.changed limits x.limits

@@ -1,0 +1,39 @@
+-- What premises show at once of a left side, before and after updates: the least bound.
+use Rattle.std.specs.Prelude.{ℕ, ◌<◌, ◌≤◌, ◌^◌, ℤ, ◌≤ℤ◌, List, length, All, Option, IfSome, IsSomeAnd}
+use Rattle.std.specs.Int.RustNames.{unsigned_abs}
+use Rattle.rv_rows.specs.declared.linear.Row.{Row}
+use Rattle.rv_rows.specs.declared.linear.Form.{Form}
+use Rattle.rv_rows.specs.Rows.{row_at, RowWithin}
+use Rattle.rv_rows.specs.Forms.{CanSubstitute, IsSubstituted}
+use Rattle.rv_rows.specs.Multipliers.{ShowsAtOnce}
+use Rattle.rv_seek.specs.Least.{bounded}
+
+-- Premises within the limits of the sums, fewer than 2^32.
+pub record ArePremises (rows : List Row) : Type 0 where
+  pub within : All (RowWithin (2 ^ 60)) rows
+  pub few : length rows < 2 ^ 32
+
+-- The premises show the row, after the updates, at once.
+abbrev pub IsShownAfter : List Row → List Form → Row → Type 0
+IsShownAfter rows forms r = (new : Row) × IsSubstituted r forms new × ShowsAtOnce rows new
+
+-- The bound is the least that the premises show at once of the left side; none where they show no bound of it.
+pub record IsLeastShown (rows : List Row) (cs : List ℤ) (bound : Option ℤ) : Type 0 where
+  pub shown : IfSome bound (λ b. ShowsAtOnce rows (bounded cs b))
+  pub small : IfSome bound (λ b. unsigned_abs b ≤ 2 ^ 61)
+  pub least : (z : ℤ) → ShowsAtOnce rows (bounded cs z) → IsSomeAnd bound (λ b. b ≤ℤ z)
+
+-- The bound is the least of a left side that the premises show, after the updates, at once, and they show each greater one too;
+-- none where they show no bound of it.
+pub record IsNeeded (rows : List Row) (forms : List Form) (side : Row) (bound : Option ℤ) : Type 0 where
+  pub shown : IfSome bound (λ b. (z : ℤ) → b ≤ℤ z → IsShownAfter rows forms (bounded side.coefficients z))
+  pub least : (z : ℤ) → IsShownAfter rows forms (bounded side.coefficients z) → IsSomeAnd bound (λ b. b ≤ℤ z)
+
+-- The row can be taken before the updates, and has small numbers there.
+pub record CanMove (side : Row) (forms : List Form) : Type 0 where
+  pub room : CanSubstitute side forms
+  pub small : (new : Row) → IsSubstituted side forms new → RowWithin (2 ^ 78) new
+
+-- Each of the rows can.
+abbrev pub CanMoveAll : List Row → List Form → Type 0
+CanMoveAll sides forms = (k : ℕ) → k < length sides → CanMove (row_at sides k) forms

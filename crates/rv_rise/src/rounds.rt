@@ -1,0 +1,258 @@
+//! Rounds over the cases of a claim's control states, until none loosens the claim.
+
+ghost use Rattle.std.specs.Prelude.{◌≡◌, ◌<◌, ◌≤◌, ◌^◌, ◌||◌, All, length, IfOk, IsErrOf};
+ghost use Rattle.std.specs.Int.RustNames.{unsigned_abs};
+ghost use Rattle.rv_diagram.specs.Nodes.{IsOrderedOver};
+ghost use Rattle.rv_proofs.specs.Systems.{System};
+ghost use Rattle.rv_proofs.specs.Scopes.{IsIn};
+ghost use Rattle.rv_proofs.specs.Ranges.{IsControlSet};
+ghost use Rattle.rv_proofs.specs.RowClaims.{RowClaim};
+ghost use Rattle.rv_proofs.specs.Cases.{AreCases, IsInitialSet};
+ghost use Rattle.rv_cases.specs.declared.asking.Questions.{Questions as QuestionsModel};
+ghost use Rattle.rv_claims.specs.Order.{IsBelowClosed};
+ghost use Rattle.rv_rise.specs.Limits.{AreFirst};
+ghost use Rattle.rv_rise.specs.Rounds.{IsGivenIn, IsSetting, IsKeptRisen, HasTaken, HasGrown, IsCaseIn, IsInCases, AreOthers, IsLeastRisen};
+ghost use Rattle.rv_rise.specs.Rounds.{IsRound, IsStart, claim_in};
+
+use crate::frame::Frame;
+use crate::limits::{Loosened, either};
+use crate::lists::premises_of;
+use crate::opening::open_limits;
+use crate::risen::Risen;
+use crate::rows::rows_of;
+use crate::thresholds::least_above;
+use rv_base::{Many, Memory};
+use rv_cases::{Questions, cases};
+use rv_diagram::{Frozen, Store, StoreFault};
+use rv_proofs::Case;
+use rv_rows::Row;
+use rv_symbolic::Relation;
+use rv_walk::{Extended, extend, without};
+use std::alloc::Global;
+
+/// No threshold is below it.
+const LOWEST: i128 = -2_199_023_255_552;
+
+/// Takes a set into the claim. Whether some of it is new.
+fn take_set(store: &mut Store, claim: &mut Risen, set: &Frozen) -> Result<bool, StoreFault>
+    requires reached { IsOrderedOver store.old.variables claim.old.reached }
+    requires set { IsOrderedOver store.old.variables set.now }
+    ensures same { store.new ≡ store.old }
+    ensures roomy { IsErrOf result StoreFault.Nodes → store.old.limit < 2 ^ (2 ^ store.old.variables) }
+    ensures taken { (s : System) → store.old.variables ≡ s.variables → IsControlSet s claim.old.reached → IsControlSet s set.now
+        → IfOk result (λ fresh. HasTaken s set.now fresh claim.old claim.new) }
+{
+    match extend(store, &claim.reached, set)? {
+        Some(extended) => {
+            let Extended { fresh: _, all } = extended;
+            claim.reached = all;
+            Ok(true)
+        }
+        None => Ok(false),
+    }
+}
+
+/// Puts loosened limits into the claim. Whether something has changed, in the set or the limits.
+fn take_limits(claim: &mut Risen, loosened: Loosened, fresh: bool) -> bool
+    ensures reached { claim.new.reached ≡ claim.old.reached }
+    ensures limits { claim.new.limits ≡ loosened.limits }
+    ensures changed { result ≡ (fresh || loosened.changed) }
+{
+    let Loosened { limits, changed } = loosened;
+    claim.limits = limits;
+    either(fresh, changed)
+}
+
+/// One case of a set of control states: where its premises are not shut at once, the claim takes in its next control states, and what the
+/// premises show after the updates loosens the limits. Whether something has changed.
+fn by_case(
+    alloc: Global,
+    store: &mut Store,
+    relation: &Relation,
+    frame: &Frame,
+    from: &Frozen,
+    given: &Many<Row>,
+    case: &Case,
+    claim: &mut Risen,
+) -> Result<bool, StoreFault>
+    requires { (s : System) × (q : QuestionsModel) × (base : RowClaim) × IsGivenIn s store.old relation.now q frame.now
+        × IsSetting s base from.now given.now × IsKeptRisen s frame.now claim.old × IsCaseIn s from.now case.now }
+    ensures grown { (s : System) (q : QuestionsModel) (base : RowClaim) → IsGivenIn s store.old relation.now q frame.now
+        → IsSetting s base from.now given.now → IsKeptRisen s frame.now claim.old → IsCaseIn s from.now case.now
+        → IfOk result (λ changed. HasGrown s frame.now base (IsIn case.now.condition) changed claim.old claim.new) }
+    ensures same { store.new ≡ store.old }
+    ensures roomy { IsErrOf result StoreFault.Nodes → store.old.limit < 2 ^ (2 ^ store.old.variables) }
+{
+    let premises = premises_of(alloc, &case.rows, given)?;
+    let opened = open_limits(alloc, frame, &premises, &case.updates, &claim.limits)?;
+    match opened {
+        Some(limits) => {
+            let set = relation.image(store, from, case)?;
+            let fresh = take_set(store, claim, &set)?;
+            Ok(take_limits(claim, limits, fresh))
+        }
+        None => Ok(false),
+    }
+}
+
+/// All cases of a set of control states. Whether something has changed.
+fn by_cases(
+    alloc: Global,
+    store: &mut Store,
+    relation: &Relation,
+    frame: &Frame,
+    from: &Frozen,
+    given: &Many<Row>,
+    cases: &Many<Case>,
+    claim: &mut Risen,
+) -> Result<bool, StoreFault>
+    requires { (s : System) × (q : QuestionsModel) × (base : RowClaim) × IsGivenIn s store.old relation.now q frame.now
+        × IsSetting s base from.now given.now × IsKeptRisen s frame.now claim.old × AreCases s from.now cases.now }
+    ensures grown { (s : System) (q : QuestionsModel) (base : RowClaim) → IsGivenIn s store.old relation.now q frame.now
+        → IsSetting s base from.now given.now → IsKeptRisen s frame.now claim.old → AreCases s from.now cases.now
+        → IfOk result (λ changed. HasGrown s frame.now base (IsInCases cases.now (length cases.now)) changed claim.old claim.new) }
+    ensures same { store.new ≡ store.old }
+    ensures roomy { IsErrOf result StoreFault.Nodes → store.old.limit < 2 ^ (2 ^ store.old.variables) }
+{
+    let mut changed = false;
+    for place in 0..cases.len() {
+        let case = cases.at(place);
+        let more = by_case(alloc, store, relation, frame, from, given, case, claim)?;
+        changed = either(changed, more);
+    }
+    Ok(changed)
+}
+
+/// The control states of a claim that are not initial, the claim's rows, and their cases.
+#[derive(Debug, Drop)]
+pub struct Others {
+    /// The control states.
+    pub control: Frozen,
+    /// The claim's rows.
+    pub given: Many<Row>,
+    /// The cases.
+    pub cases: Many<Case>,
+}
+
+/// The control states of a claim that are not initial, the claim's rows, and their cases.
+fn others_of(
+    alloc: Global,
+    store: &mut Store,
+    relation: &Relation,
+    questions: &Questions,
+    frame: &Frame,
+    first: &Frozen,
+    claim: &Risen,
+) -> Result<Others, StoreFault>
+    requires { (s : System) × IsGivenIn s store.old relation.now questions.now frame.now
+        × IsInitialSet s first.now × IsKeptRisen s frame.now claim.now }
+    ensures others { (s : System) → IsGivenIn s store.old relation.now questions.now frame.now
+        → IsInitialSet s first.now → IsKeptRisen s frame.now claim.now → IfOk result (AreOthers s frame.now first.now claim.now) }
+    ensures same { store.new ≡ store.old }
+    ensures roomy { IsErrOf result StoreFault.Nodes → store.old.limit < 2 ^ (2 ^ store.old.variables) }
+{
+    let control = without(store, &claim.reached, first)?;
+    let given = rows_of(alloc, &frame.sides, &claim.limits)?;
+    let allowed = relation.parts().allowed;
+    let cases = cases(alloc, store, allowed, questions, &control)?;
+    Ok(Others {
+        control,
+        given,
+        cases,
+    })
+}
+
+/// A round over the cases of the claim's control states: of the initial ones, where its rows do not count, and of the others. Whether
+/// something has changed; where nothing has, the claim is closed.
+fn round(
+    alloc: Global,
+    store: &mut Store,
+    relation: &Relation,
+    questions: &Questions,
+    frame: &Frame,
+    first: &Frozen,
+    from_first: &Many<Case>,
+    claim: &mut Risen,
+) -> Result<bool, StoreFault>
+    requires { (s : System) × IsGivenIn s store.old relation.now questions.now frame.now
+        × IsStart s first.now from_first.now × IsKeptRisen s frame.now claim.old }
+    ensures grown { (s : System) → IsGivenIn s store.old relation.now questions.now frame.now
+        → IsStart s first.now from_first.now → IsKeptRisen s frame.now claim.old
+        → IfOk result (λ changed. IsRound s frame.now changed claim.old claim.new) }
+    ensures same { store.new ≡ store.old }
+    ensures roomy { IsErrOf result StoreFault.Nodes → store.old.limit < 2 ^ (2 ^ store.old.variables) }
+{
+    let nothing = Many::new(alloc);
+    let others = others_of(alloc, store, relation, questions, frame, first, claim)?;
+    let one = by_cases(
+        alloc, store, relation, frame, first, &nothing, from_first, claim,
+    )?;
+    let Others {
+        control,
+        given,
+        cases,
+    } = others;
+    let two = by_cases(
+        alloc, store, relation, frame, &control, &given, &cases, claim,
+    )?;
+    Ok(either(one, two))
+}
+
+/// For each of so many left sides the least threshold, or none where there are none.
+fn first_limits(
+    alloc: Global,
+    thresholds: &Many<i128>,
+    many: usize,
+) -> Result<Many<Option<i128>>, Memory>
+    requires { All (λ t. unsigned_abs t ≤ 2 ^ 41) thresholds.now }
+    ensures { IfOk result (AreFirst thresholds.now many) }
+{
+    let least = least_above(thresholds, LOWEST);
+    let mut limits = Many::new(alloc);
+    for place in 0..many {
+        limits.push(least)?;
+    }
+    Ok(limits)
+}
+
+/// The claim that the search begins with: the initial control states, and at each left side the least threshold.
+fn first_claim(
+    alloc: Global,
+    store: &Store,
+    relation: &Relation,
+    frame: &Frame,
+) -> Result<Risen, Memory>
+    requires { (s : System) × (q : QuestionsModel) × IsGivenIn s store.now relation.now q frame.now }
+    ensures first { (s : System) (q : QuestionsModel) → IsGivenIn s store.now relation.now q frame.now
+        → IfOk result (λ c. IsKeptRisen s frame.now c × IsBelowClosed s frame.now.thresholds (claim_in frame.now c)) }
+{
+    let reached = relation.initial(store)?;
+    let limits = first_limits(alloc, &frame.thresholds, frame.sides.len())?;
+    Ok(Risen { reached, limits })
+}
+
+/// The least closed claim: rounds, until nothing changes.
+pub fn closed_claim(
+    alloc: Global,
+    store: &mut Store,
+    relation: &Relation,
+    questions: &Questions,
+    frame: &Frame,
+    first: &Frozen,
+    from_first: &Many<Case>,
+) -> Result<Risen, StoreFault>
+    requires { (s : System) × IsGivenIn s store.old relation.now questions.now frame.now × IsStart s first.now from_first.now }
+    ensures least { (s : System) → IsGivenIn s store.old relation.now questions.now frame.now → IsStart s first.now from_first.now
+        → IfOk result (IsLeastRisen s frame.now) }
+    ensures same { store.new ≡ store.old }
+    ensures roomy { IsErrOf result StoreFault.Nodes → store.old.limit < 2 ^ (2 ^ store.old.variables) }
+{
+    let mut claim = first_claim(alloc, store, relation, frame)?;
+    let mut more = true;
+    while more {
+        more = round(
+            alloc, store, relation, questions, frame, first, from_first, &mut claim,
+        )?;
+    }
+    Ok(claim)
+}

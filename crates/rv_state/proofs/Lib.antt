@@ -1,0 +1,4 @@
+pub mod PointLemmas
+pub mod CaseLemmas
+pub mod SetLemmas
+pub mod JoinLemmas
