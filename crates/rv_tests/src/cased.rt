@@ -86,47 +86,24 @@ fn add_listed(
     text: &mut String,
 ) -> Result<(), AllocError> {
     let mut words = Vec::new(alloc);
-    for case in cases {
-        words.push(least_word(alloc, &case.condition, variables)?)?;
+    for (number, case) in cases.iter().enumerate() {
+        words.push((least_word(alloc, &case.condition, variables)?, number))?;
     }
+    words.sort()?;
     let mut mark = "";
-    for rank in 0..cases.len() {
-        if let Some(number) = ranked(&words, rank) {
+    for (word, number) in &words {
+        if let Some(case) = cases.get(*number) {
             text.push_str(mark)?;
             mark = " / ";
-            add_case(alloc, cases, &words, number, text)?;
+            add_case(alloc, case, word.as_str(), text)?;
         }
     }
     Ok(())
 }
 
-/// The number of the word before which so many others stand.
-fn ranked(words: &[String], rank: usize) -> Option<usize> {
-    for number in 0..words.len() {
-        if before(words, words[number].as_str()) == rank {
-            return Some(number);
-        }
-    }
-    None
-}
-
-/// How many words stand before this one.
-fn before(words: &[String], word: &str) -> usize {
-    words.iter().filter(|other| other.as_str() < word).count()
-}
-
-/// Adds the case with this number.
-fn add_case(
-    alloc: Global,
-    cases: &[Case],
-    words: &[String],
-    number: usize,
-    text: &mut String,
-) -> Result<(), AllocError> {
-    let (Some(case), Some(word)) = (cases.get(number), words.get(number)) else {
-        return Ok(());
-    };
-    text.push_str(word.as_str())?;
+/// Adds a case with its least valuation.
+fn add_case(alloc: Global, case: &Case, word: &str, text: &mut String) -> Result<(), AllocError> {
+    text.push_str(word)?;
     add_rows(alloc, case, text)?;
     for form in case.updates.as_slice() {
         text.push(' ')?;
