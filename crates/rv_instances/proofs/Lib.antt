@@ -20,3 +20,4 @@ pub mod AllGiven
 pub mod ClockBounds
 pub mod Lists
 pub mod Placed
+pub mod PutCalls
