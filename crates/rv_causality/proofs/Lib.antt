@@ -33,7 +33,6 @@ pub mod TickLevels
 pub mod TickWalks
 pub mod TickSteps
 pub mod WeightParts
-pub mod TypedParts
 pub mod WeightReads
 pub mod WeightFlows
 pub mod WideFlows

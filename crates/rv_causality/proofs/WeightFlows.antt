@@ -27,7 +27,7 @@ use Rattle.rv_instances.proofs.ExpandedLaws.{node_in}
 use Rattle.rv_instances.proofs.Flowing.{site_itself, flow_of_giver, among_contains}
 use Rattle.rv_instances.proofs.GiverLaws.{flow_giver, one_giver}
 use Rattle.rv_instances.proofs.Lists.{length_map, nat_split}
-use Rattle.rv_causality.proofs.TypedParts.{IsTyped, operands_typed, one_constant, branches_typed, minus_typed, current_typed, when_typed, call_output}
+use Rattle.rv_types.proofs.TypedParts.{IsTyped, operands_typed, one_constant, branches_typed, minus_typed, current_typed, when_typed, call_output}
 use Rattle.rv_causality.proofs.WeightReads.{IsScaled, Reads, FormReads, same_weight}
 
 -- Places.

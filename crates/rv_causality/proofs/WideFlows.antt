@@ -20,7 +20,7 @@ use Rattle.rv_causality.proofs.AllInstances.{of_flat_map}
 use Rattle.rv_instances.proofs.CallsInside.{in_argument, in_right, in_body, calls_nested}
 use Rattle.rv_instances.proofs.ExpandedLaws.{node_in}
 use Rattle.rv_instances.proofs.Known.{cons_cases, nothing_in}
-use Rattle.rv_causality.proofs.TypedParts.{IsTyped, parts_typed}
+use Rattle.rv_types.proofs.TypedParts.{IsTyped, parts_typed}
 use Rattle.rv_causality.proofs.WeightFlows.{IsInside, reads_flows, one_weight}
 use Rattle.rv_causality.proofs.WeightReads.{same_weight}
 

@@ -1,15 +1,15 @@
 -- The order tests of expressions, counted along them.
-use Rattle.std.specs.Prelude.{ℕ, ◌+◌, cond, unwrap_or}
+use Rattle.std.specs.Prelude.{ℕ, ◌+◌, cond}
 use Rattle.rv_tree.specs.declared.tree.Op.{Op}
 use Rattle.rv_tree.specs.Tree.{Tree, Node, Form, True, False, Number, Named, Not, Minus, Pre, Current, When, Binary, If, AtMostOne, Call, Trees, None, More}
-use Rattle.rv_types.specs.declared.typed.Kind.TheVariants as kind
-use Rattle.rv_types.specs.Types.{Scope, kind_of}
+use Rattle.rv_types.specs.Heads.{head_kind}
+use Rattle.rv_types.specs.Types.{Scope}
 use Rattle.rv_types.specs.Variables.{is_integer, tests_of}
 
 module _ (s : Scope) where
-  -- those of an operator with this left operand
+  -- those of an operator with this left operand, whose type its head tells
   abbrev pub tests_under : Op → Tree → ℕ
-  tests_under o a = cond (is_integer (unwrap_or (kind_of s a) kind.Bool)) (tests_of o) 0
+  tests_under o a = cond (is_integer (head_kind s a)) (tests_of o) 0
 
   abbrev mutual
     -- those of an expression and of all that stand in it

@@ -12,7 +12,7 @@ ghost use Rattle.rv_types.specs.Variables.{over_instances, variable_count};
 ghost use Rattle.rv_causality.specs.Capped.{capped};
 ghost use Rattle.rv_causality.specs.Callings.{callings_of};
 ghost use Rattle.rv_causality.specs.Totals.{AreCapped, total_at};
-ghost use Rattle.rv_types.specs.WellFormed.{AreSited};
+ghost use Rattle.rv_types.specs.WellFormed.{AreSited, AreWell};
 ghost use Rattle.rv_causality.specs.Nodes.{AreOrderedNodes, IsSizeFault, IsSmall, IsSized};
 
 use crate::declared_sizes::{integer_inputs_of, labels_above};
@@ -56,6 +56,7 @@ pub fn check_sizes(alloc: Global, p: &Program, t: &Typed, nodes: &Nodes) -> Resu
     requires named { name_faults (program_tree p.now) ≡ [] }
     requires kinds { t.now.kinds ≡ map (flow_kinds (program_tree p.now)) (program_tree p.now).nodes }
     requires sited { AreSited (program_tree p.now) }
+    requires well { AreWell (program_tree p.now) }
     requires nodes { AreOrderedNodes (program_tree p.now) nodes.now }
     requires main { t.now.main < length (program_tree p.now).nodes }
     ensures small { IfOk result (IsSized (program_tree p.now) (name_at (program_tree p.now) t.now.main)) }
@@ -91,6 +92,7 @@ fn variable_total(alloc: Global, p: &Program, t: &Typed, nodes: &Nodes) -> Resul
     requires named { name_faults (program_tree p.now) ≡ [] }
     requires kinds { t.now.kinds ≡ map (flow_kinds (program_tree p.now)) (program_tree p.now).nodes }
     requires sited { AreSited (program_tree p.now) }
+    requires well { AreWell (program_tree p.now) }
     requires nodes { AreOrderedNodes (program_tree p.now) nodes.now }
     requires main { t.now.main < length (program_tree p.now).nodes }
     ensures { IfOk result (λ count. count ≡ capped (variable_count (program_tree p.now) (name_at (program_tree p.now) t.now.main))) }

@@ -6,16 +6,17 @@ ghost use Rattle.rv_types.specs.Names.{name_faults, repeated, decl_names, decls}
 ghost use Rattle.rv_types.specs.Readings.{AreTables, view_of};
 ghost use Rattle.rv_types.specs.Tables.{scope_of};
 ghost use Rattle.rv_types.specs.Variables.{total, tests_of, order_tests};
+ghost use Rattle.rv_types.specs.WellFormed.{AreWell, IsWellFormed, IsWellTyped};
 ghost use Rattle.rv_causality.specs.Capped.{capped};
 ghost use Rattle.rv_causality.specs.Tests.{tests, tests_of_all, tests_under};
 
 use crate::totals::capped_sum;
 use rv_base::{Many, Memory};
 use rv_tree::{Assertion, Equation, Expr, ExprForm, Node, Op, Program};
-use rv_types::{Kind, NodeTables, ProgramTables, node_tables, operand_kind};
+use rv_types::{Kind, NodeTables, ProgramTables, head_kind, node_tables};
 use std::alloc::Global;
 
-/// For each node the number of its order tests, or 2^40 where that is less.
+/// For each node the number of its order tests, or 2^40 where that is less. Time grows with the expressions, up to look-ups.
 pub fn order_tests_of(
     alloc: Global,
     p: &Program,
@@ -23,6 +24,7 @@ pub fn order_tests_of(
 ) -> Result<Many<u64>, Memory>
     requires tables { AreTables (program_tree p.now) tables.now }
     requires named { name_faults (program_tree p.now) ≡ [] }
+    requires well { AreWell (program_tree p.now) }
     ensures { IfOk result (λ own. own ≡ map (λ n. capped (order_tests (program_tree p.now) n)) (map node_tree p.now.nodes)) }
 {
     let mut own = Many::new(alloc);
@@ -33,9 +35,9 @@ pub fn order_tests_of(
     Ok(own)
 }
 
-/// The number of order tests of a node, whose flows have different names.
+/// The number of order tests of a node that keeps the rules.
 fn order_tests_of_node(alloc: Global, tables: &ProgramTables, node: &Node) -> Result<u64, Memory>
-    ensures { (p : ProgramTree) → AreTables p tables.now → repeated [] (decl_names (decls (node_tree node.now))) ≡ [] → IfOk result (λ count. count ≡ capped (order_tests p (node_tree node.now))) }
+    ensures { (p : ProgramTree) → AreTables p tables.now → repeated [] (decl_names (decls (node_tree node.now))) ≡ [] → IsWellFormed p (node_tree node.now) → IsWellTyped p (node_tree node.now) → IfOk result (λ count. count ≡ capped (order_tests p (node_tree node.now))) }
 {
     let own = node_tables(alloc, tables, node)?;
     Ok(capped_sum(
@@ -117,7 +119,7 @@ fn own_tests(tables: &ProgramTables, node: &NodeTables, op: Op, left: &Expr) -> 
     if count == 0 {
         return 0;
     }
-    match operand_kind(tables, node, left) {
+    match head_kind(tables, node, left) {
         Kind::Int => count,
         Kind::Bool | Kind::Labels(_) => 0,
     }

@@ -7,6 +7,7 @@ ghost use Rattle.rv_types.specs.Kinds.{flow_kinds};
 ghost use Rattle.rv_types.specs.Names.{name_faults};
 ghost use Rattle.rv_types.specs.Readings.{AreTables};
 ghost use Rattle.rv_types.specs.Instances.{node_of};
+ghost use Rattle.rv_types.specs.WellFormed.{AreWell};
 ghost use Rattle.rv_types.specs.Variables.{over_instances, memory_bits, order_tests, input_bits, ticks as tick_places, variable_count};
 ghost use Rattle.rv_causality.specs.Capped.{capped};
 ghost use Rattle.rv_types.specs.Instances.{name_at};
@@ -37,6 +38,7 @@ pub fn variables_of(
     requires bounded { IsBounded (program_tree p.now) }
     requires named { name_faults (program_tree p.now) ≡ [] }
     requires kinds { t.now.kinds ≡ map (flow_kinds (program_tree p.now)) (program_tree p.now).nodes }
+    requires well { AreWell (program_tree p.now) }
     requires nodes { AreOrderedNodes (program_tree p.now) nodes.now }
     requires main { t.now.main < length (program_tree p.now).nodes }
     requires ticks { ticks ≡ capped (length (tick_places (program_tree p.now) (name_at (program_tree p.now) t.now.main))) }
@@ -90,6 +92,7 @@ fn order_test_total(
 ) -> Result<u64, Memory>
     requires tables { AreTables (program_tree p.now) tables.now }
     requires named { name_faults (program_tree p.now) ≡ [] }
+    requires well { AreWell (program_tree p.now) }
     requires nodes { AreOrderedNodes (program_tree p.now) nodes.now }
     requires main { main < length (program_tree p.now).nodes }
     ensures { IfOk result (λ count. count ≡ capped (over_instances (program_tree p.now) (name_at (program_tree p.now) main) (order_tests (program_tree p.now)))) }

@@ -34,6 +34,7 @@ pub mod InstanceNumbers
 pub mod KeptMemories
 pub mod MemoryNumbers
 pub mod ComparedParts
+pub mod ToldTests
 pub mod ComparedPlaces
 pub mod FewMemories
 pub mod ClockedNodes

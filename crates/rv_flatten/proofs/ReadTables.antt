@@ -36,7 +36,8 @@ use Rattle.rv_instances.specs.Layouts.{Here, IsPlaced, IsClockPlaced, IsHere, al
 use Rattle.rv_instances.specs.NumberedNeeds.{flow_number, clock_number as number_of_clock, clock_of_expression, numbers_of}
 use Rattle.rv_flatten.specs.declared.frame.Frame.{Frame}
 use Rattle.rv_flat.specs.RawTree.{RawTree, Node, RawForm, Constant, Flow, Memory, Ticked, Not, Binary, Scale, If, AtMostOne, When, Current, More, raw_trees}
-use Rattle.rv_agreement.specs.Programs.{is_test, spot, operator_place, coefficient}
+use Rattle.rv_agreement.specs.Programs.{spot, operator_place, coefficient}
+use Rattle.rv_flatten.specs.Compared.{is_told_test}
 use Rattle.rv_flatten.specs.Frames.{IsFrame}
 use Rattle.rv_flatten.specs.Readings.{unplaced, product, operator, flow_at, kept_number, named, raw_of, raw_form, raws_of}
 use Rattle.rv_agreement.specs.Translation.{Numbers, clock_number, tick_number}
@@ -48,6 +49,7 @@ use Rattle.rv_flat.proofs.PlaceNumbers.{index_at, index_past}
 use Rattle.rv_flatten.proofs.WellInstances.{typed}
 use Rattle.rv_flatten.proofs.ClockKinds.{IsTrueClock, clock_taken, pace_is_true}
 use Rattle.rv_flatten.proofs.FlowKinds.{kinds_many, signature_is}
+use Rattle.rv_flatten.proofs.ToldTests.{told_is}
 
 -- the expressions of a list, each made flat
 pub each_read : (x : Frame) (es : List Expr) → raw_trees (map (λ e. tree_read x (tree_of e)) es) ≡ trees_read x (trees (map tree_of es))
@@ -134,9 +136,11 @@ module _ (numbers : Numbers) (i : Instance) (x : Frame) (is : IsFrame numbers i 
     pub path_is : path_read x ≡ i.path
     path_is = ap (λ (m : Numbered). m.path) is.number.1
 
-    -- the place of an operator
-    place_is : (site : Option ℕ) (o : Op) (a : Tree) → operator_place_read x site o a ≡ operator_place program i site o a
-    place_is site o a = λ j. cond (is_test (is.scope j) o a) (spot (path_is j) site) []
+    -- the place of an operator, whose left operand has a type
+    place_is : (site : Option ℕ) (o : Op) (a : Tree) (k : Kind) → IsTyped program i.node a k → operator_place_read x site o a ≡ operator_place program i site o a
+    place_is site o a k t =
+        (λ j. cond (is_told_test (is.scope j) o a) (spot (path_is j) site) [])
+        ∙ ap (λ (b : Bool). cond b (spot i.path site) []) (told_is (node_scope program i.node) o a k t)
 
     flow_is : (k : ℕ) (q : Sites) → IsPlaced places k q → flow_read x k ≡ index_of numbers.flows q
     flow_is k q w = is.numbering.flows k w.0 ∙ ap (index_of numbers.flows) w.1
@@ -257,7 +261,7 @@ module _ (numbers : Numbers) (i : Instance) (x : Frame) (is : IsFrame numbers i 
             let r = binary_typed program i.node at site o a b k t in
             let left = expression_is a r.left (as_child at site (tree.Binary o a b) a s of_left) r.left_is in
             let right = expression_is b r.right (as_child at site (tree.Binary o a b) b s of_right) r.right_is in
-            at_place _ _ _ _ (place_is site o a) (operator_is o _ _ _ _ (tree_read x a) (tree_read x b) (raw_of program numbers i a) (raw_of program numbers i b)
+            at_place _ _ _ _ (place_is site o a r.left r.left_is) (operator_is o _ _ _ _ (tree_read x a) (tree_read x b) (raw_of program numbers i a) (raw_of program numbers i b)
             (λ arrow. let tick = arrow_is at site o a b k s t arrow in λ j. If (unplaced (Ticked (tick j))) (right j) (left j))
             (λ times. product_read_is a b (tree_read x a) (tree_read x b) (raw_of program numbers i a) (raw_of program numbers i b)
             (scaled_product (both_are kind.Int r.left r.right) (is_constant (node_scope program i.node) a || is_constant (node_scope program i.node) b) k

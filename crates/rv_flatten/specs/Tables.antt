@@ -19,7 +19,8 @@ use Rattle.rv_instances.specs.Layouts.{path_at}
 use Rattle.rv_instances.specs.NumberedNeeds.{flow_number, clock_number, clock_of_expression, node_read, numbers_of}
 use Rattle.rv_flatten.specs.declared.frame.Frame.{Frame}
 use Rattle.rv_flat.specs.RawTree.{RawTree, Node, RawForm, RawTrees, Constant, Flow, Memory, Ticked, Not, Scale, If, AtMostOne, When, Current, None, More}
-use Rattle.rv_agreement.specs.Programs.{is_test, spot}
+use Rattle.rv_agreement.specs.Programs.{spot}
+use Rattle.rv_flatten.specs.Compared.{is_told_test}
 use Rattle.rv_flatten.specs.NodeReaders.{scope_by}
 use Rattle.rv_flatten.specs.Readings.{unplaced, operator}
 
@@ -87,9 +88,9 @@ module _ (x : Frame) where
   abbrev pub output_read : Option ℕ → ℕ
   output_read site = flow_read ((numbers_of x.reader).output (unwrap_or site 0))
 
-  -- the place of an operator with this site and left operand
+  -- the place of an operator with this site and left operand, whose type its head tells
   abbrev pub operator_place_read : Option ℕ → Op → Tree → Sites
-  operator_place_read site o a = cond (is_test (scope_by x.tables.now x.own.now) o a) (spot path_read site) []
+  operator_place_read site o a = cond (is_told_test (scope_by x.tables.now x.own.now) o a) (spot path_read site) []
 
   -- the place of an expression: only a comparison of integers has one
   abbrev pub place_read : Tree → Sites

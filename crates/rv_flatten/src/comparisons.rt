@@ -13,8 +13,7 @@ ghost use Rattle.rv_types.specs.Readings.{AreTables, view_of};
 ghost use Rattle.rv_types.specs.Tables.{scope_of};
 ghost use Rattle.rv_types.specs.Variables.{is_integer};
 ghost use Rattle.rv_instances.specs.Expanded.{IsKnown, program_of, main_of};
-ghost use Rattle.rv_agreement.specs.Programs.{is_test as tests_integers};
-ghost use Rattle.rv_flatten.specs.Compared.{own_tests, tests, tests_of_all, tests_in_equations, tests_in_assertions, tests_in, compared_at, compared_in};
+ghost use Rattle.rv_flatten.specs.Compared.{is_told_test, own_tests_by, tests_by, tests_of_all_by, tests_in_equations_by, tests_in_assertions_by, tests_in, told_tests_in, compared_at, compared_in};
 ghost use Rattle.rv_flatten.specs.Kept.{found_comparison};
 ghost use Rattle.rv_flatten.specs.NodeReaders.{scope_read, lists_to, AreSortedBy};
 
@@ -24,7 +23,7 @@ use crate::node_reader::NodeReader;
 use rv_base::{Many, Memory, Path};
 use rv_instances::{Expanded, Instance};
 use rv_tree::{Assertion, Equation, Expr, ExprForm, Op};
-use rv_types::{Kind, NodeClocks, NodeTables, ProgramTables, operand_kind};
+use rv_types::{Kind, NodeClocks, NodeTables, ProgramTables, head_kind};
 use std::alloc::Global;
 use std::cmp::Ordering;
 
@@ -37,7 +36,7 @@ pub struct Tested {
 
 /// The comparisons of integers of all instances, in the order of their places: a proper prefix first, then by the first
 /// number that differs. `Memory` comes where memory runs out. Time grows with the expressions of all nodes, with the
-/// comparisons of all instances and with the length of the places, up to look-ups, the types of left operands and one sort.
+/// comparisons of all instances and with the length of the places, up to look-ups and one sort.
 pub fn comparisons_of(
     alloc: Global,
     expanded: &Expanded,
@@ -133,13 +132,13 @@ fn tests_of_nodes(
     Ok(tested)
 }
 
-/// Those of a node, whose flows have different names.
+/// Those of a node, whose flows have different names, by what the heads of left operands tell of their types.
 fn tests_of_node(
     alloc: Global,
     tables: &ProgramTables,
     clocks: &NodeClocks,
 ) -> Result<Many<Tested>, Memory>
-    ensures { (p : ProgramTree) → AreTables p tables.now → repeated [] (flow_names (node_tree clocks.now.node.now)) ≡ [] → IfOk result (λ tested. tested ≡ tests_in p (node_tree clocks.now.node.now)) }
+    ensures { (p : ProgramTree) → AreTables p tables.now → repeated [] (flow_names (node_tree clocks.now.node.now)) ≡ [] → IfOk result (λ tested. tested ≡ told_tests_in p (node_tree clocks.now.node.now)) }
 {
     let reader = NodeReader::new(alloc, tables, clocks)?;
     let node = clocks.node;
@@ -155,7 +154,7 @@ fn gather_equations(
     equations: &[Equation],
     found: &mut Many<Tested>,
 ) -> Result<(), Memory>
-    ensures { OnOk result (found.new ≡ found.old ++ tests_in_equations (scope_read reader.now) (map equation_tree equations.now)) }
+    ensures { OnOk result (found.new ≡ found.old ++ tests_in_equations_by (is_told_test (scope_read reader.now)) (map equation_tree equations.now)) }
 {
     for equation in equations {
         gather(reader, &equation.right, found)?;
@@ -169,7 +168,7 @@ fn gather_assertions(
     assertions: &[Assertion],
     found: &mut Many<Tested>,
 ) -> Result<(), Memory>
-    ensures { OnOk result (found.new ≡ found.old ++ tests_in_assertions (scope_read reader.now) (map assertion_tree assertions.now)) }
+    ensures { OnOk result (found.new ≡ found.old ++ tests_in_assertions_by (is_told_test (scope_read reader.now)) (map assertion_tree assertions.now)) }
 {
     for assertion in assertions {
         gather(reader, &assertion.body, found)?;
@@ -180,7 +179,7 @@ fn gather_assertions(
 /// Adds those of an expression. It calls itself for each operand, so as deep as the tree is: 20,101 levels at most.
 #[cycle(gather)]
 fn gather(reader: &NodeReader, e: &Expr, found: &mut Many<Tested>) -> Result<(), Memory>
-    ensures { OnOk result (found.new ≡ found.old ++ tests (scope_read reader.now) (tree_of e.now)) }
+    ensures { OnOk result (found.new ≡ found.old ++ tests_by (is_told_test (scope_read reader.now)) (tree_of e.now)) }
 {
     match &e.form {
         ExprForm::True | ExprForm::False | ExprForm::Number(_) | ExprForm::Named(_) => Ok(()),
@@ -211,7 +210,7 @@ fn gather_all(
     expressions: &[Expr],
     found: &mut Many<Tested>,
 ) -> Result<(), Memory>
-    ensures { OnOk result (found.new ≡ found.old ++ tests_of_all (scope_read reader.now) (trees (map tree_of expressions.now))) }
+    ensures { OnOk result (found.new ≡ found.old ++ tests_of_all_by (is_told_test (scope_read reader.now)) (trees (map tree_of expressions.now))) }
 {
     for e in expressions {
         gather(reader, e, found)?;
@@ -228,7 +227,7 @@ fn add_test(
     left: &Expr,
     found: &mut Many<Tested>,
 ) -> Result<(), Memory>
-    ensures { OnOk result (found.new ≡ found.old ++ own_tests (scope_read reader.now) site operator (tree_of left.now)) }
+    ensures { OnOk result (found.new ≡ found.old ++ own_tests_by (is_told_test (scope_read reader.now)) site operator (tree_of left.now)) }
 {
     if let Some(site) = site {
         if is_test(reader.tables, &reader.own, operator, left) {
@@ -238,11 +237,12 @@ fn add_test(
     Ok(())
 }
 
-/// Whether an operator with this left operand compares integers, by the tables of its node.
+/// Whether an operator with this left operand, which has a type, compares integers, by the tables of its node. It looks at
+/// the head of the operand alone.
 pub fn is_test(tables: &ProgramTables, own: &NodeTables, operator: Op, left: &Expr) -> bool
-    ensures { result ≡ tests_integers (scope_of (view_of tables.now own.now)) operator (tree_of left.now) }
+    ensures { result ≡ is_told_test (scope_of (view_of tables.now own.now)) operator (tree_of left.now) }
 {
-    compares(operator) && is_int(operand_kind(tables, own, left))
+    compares(operator) && is_int(head_kind(tables, own, left))
 }
 
 fn is_int(kind: Kind) -> bool

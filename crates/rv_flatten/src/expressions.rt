@@ -39,8 +39,7 @@ use rv_types::{
 use std::alloc::Global;
 
 /// An expression of an instance as a flat one. Time grows with the number of its parts, up to look-ups; what stands under
-/// a `->`, or left of a comparison, is looked at once more for each of them, of which there are no more than a text is nested
-/// deep.
+/// a `->` is looked at once more for each of them, of which there are no more than a text is nested deep.
 pub fn flat_of(alloc: Global, frame: &Frame, e: &Expr) -> Result<FlatExpr, Memory>
     requires { IsReader frame.now.reader }
     ensures { (numbers : Numbers) (i : Instance) → IsFrame numbers i frame.now → AreTicks (program_of frame.now.expanded.now) (main_of frame.now.expanded.now) numbers.ticks → Contains (node_parts i.node) (tree_of e.now) → IsSome (kind_of (node_scope (program_of frame.now.expanded.now) i.node) (tree_of e.now)) → IfOk result (λ f. raw_tree f ≡ readings.raw_of (program_of frame.now.expanded.now) numbers i (tree_of e.now)) }

@@ -39,3 +39,5 @@ mod WideParts
 mod OperatorTrees
 mod PutKinds
 pub mod DelayedKinds
+pub mod HeadKinds
+pub mod TypedParts

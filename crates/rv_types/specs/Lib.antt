@@ -28,3 +28,4 @@ pub mod WellFormed
 pub mod Variables
 pub mod Lists
 pub mod Delayed
+pub mod Heads

@@ -13,6 +13,7 @@ mod delayed;
 mod fault;
 mod first;
 mod groups;
+mod heads;
 mod kinds;
 mod laws;
 mod names;
@@ -45,9 +46,7 @@ pub use laws::{
 pub use pace_steps::{
     called_pace, choice_pace, delayed_pace, joined_pace, kept_pace, operator_pace,
 };
-pub use reading::{
-    NodeTables, ProgramTables, flow_site, node_tables, operand_kind, program_tables,
-};
+pub use reading::{NodeTables, ProgramTables, flow_site, head_kind, node_tables, program_tables};
 pub use reading_clocks::{NodeClocks, node_clocks, program_clocks};
 pub use reading_values::{
     NamedValues, Trues, constant_binary, constant_flag, constant_if, constant_minus,

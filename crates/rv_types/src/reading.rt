@@ -1,24 +1,25 @@
 //! The types of the expressions of a program whose names are right.
 
-ghost use Rattle.std.specs.Prelude.{◌≡◌, [], unwrap_or, is_some, IfOk, IfSome};
+ghost use Rattle.std.specs.Prelude.{◌≡◌, [], Some, is_some, IfOk, IfSome};
 ghost use Rattle.rv_tree.specs.Bounded.{IsBounded};
 ghost use Rattle.rv_tree.specs.Places.{index_of, flows};
 ghost use Rattle.rv_tree.specs.Tree.{ProgramTree, node_tree, program_tree, tree_of};
+ghost use Rattle.rv_types.specs.Heads.{head_kind as told_by_head};
 ghost use Rattle.rv_types.specs.Known.{flow_names};
 ghost use Rattle.rv_types.specs.Names.{is_declared, name_faults, repeated, texts};
 ghost use Rattle.rv_types.specs.Readings.{AreTables, view_of};
 ghost use Rattle.rv_types.specs.Scopes.{node_scope};
 ghost use Rattle.rv_types.specs.Tables.{scope_of};
 ghost use Rattle.rv_types.specs.Types.{kind_of};
-ghost use Rattle.rv_types.specs.declared.typed.Kind.TheVariants as kind;
+ghost use Rattle.rv_types.specs.declared.typed.Kind.{Kind as AnyKind};
 
 use crate::constants::{Globals, constants_of};
+use crate::heads::head;
 use crate::kinds::{flow_kinds, label_places, signatures, type_kinds};
 use crate::names::flows_of;
 use crate::space::Space;
 use crate::spaces::{Spaces, spaces_of};
 use crate::typed::Kind;
-use crate::typing::judge;
 use crate::view::{Label, Signature, Values, View};
 use rv_base::{Many, Memory, Text};
 use rv_tree::{Expr, Node, Program};
@@ -97,15 +98,14 @@ pub(crate) fn view<'a>(tables: &'a ProgramTables, node: &'a NodeTables) -> View<
     }
 }
 
-/// The type of an expression of a node; `Bool` where it has none, as nowhere in a program whose types are right.
-pub fn operand_kind(tables: &ProgramTables, node: &NodeTables, e: &Expr) -> Kind
-    ensures { result ≡ unwrap_or (kind_of (scope_of (view_of tables.now node.now)) (tree_of e.now)) kind.Bool }
+/// The type of an expression of a node that has one, as each has in a program whose types are right. It is read off the
+/// head: of an expression without a type nothing is said.
+pub fn head_kind(tables: &ProgramTables, node: &NodeTables, e: &Expr) -> Kind
+    // What is answered is the type of the whole expression.
+    ensures whole { (k : AnyKind) → kind_of (scope_of (view_of tables.now node.now)) (tree_of e.now) ≡ Some k → result ≡ k }
+    ensures head { result ≡ told_by_head (scope_of (view_of tables.now node.now)) (tree_of e.now) }
 {
-    let view = view(tables, node);
-    match judge(&view, e).kind() {
-        Some(kind) => kind,
-        None => Kind::Bool,
-    }
+    head(&view(tables, node), e)
 }
 
 /// The site of a flow of a node, none for another name.

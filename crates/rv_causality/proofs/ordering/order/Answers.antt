@@ -13,6 +13,9 @@ check_sizes-requires-clause-bounded c = c.requires.tree.bounded
 pub check_sizes-requires-clause-sited : goal.check_sizes-requires-clause-sited
 check_sizes-requires-clause-sited c = c.sited_programs.ensures (program_tree c.args.p.now) c.requires.tree
 
+pub check_sizes-requires-clause-well : goal.check_sizes-requires-clause-well
+check_sizes-requires-clause-well c = c.well_formed_programs.ensures (program_tree c.args.p.now) c.requires.settled.0 c.args.t.now c.requires.tree c.requires.settled.1
+
 pub check_sizes-requires-clause-main : goal.check_sizes-requires-clause-main
 check_sizes-requires-clause-main c = main_within (program_tree c.args.p.now) c.args.t.now c.requires.settled
 

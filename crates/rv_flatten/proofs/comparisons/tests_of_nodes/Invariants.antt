@@ -1,9 +1,9 @@
 use Rattle.std.proofs.Common.{◌≡◌, map, take}
 use Rattle.rv_tree.specs.Tree.{program_tree, node_tree}
 use Rattle.rv_types.specs.declared.reading_clocks.NodeClocks.{NodeClocks}
-use Rattle.rv_flatten.specs.Compared.{tests_in}
+use Rattle.rv_flatten.specs.Compared.{told_tests_in}
 use Rattle.rv_flatten.proofs.comparisons.tests_of_nodes.Given as goal
 
 abbrev pub invariant-loop-clocks : goal.invariant-loop-clocks
 invariant-loop-clocks l =
-    l.tested ≡ map (λ (c : NodeClocks). tests_in (program_tree l.expanded.program.now) (node_tree c.node.now)) (take l.clocks-index l.expanded.clocks)
+    l.tested ≡ map (λ (c : NodeClocks). told_tests_in (program_tree l.expanded.program.now) (node_tree c.node.now)) (take l.clocks-index l.expanded.clocks)

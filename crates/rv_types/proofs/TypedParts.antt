@@ -1,25 +1,28 @@
--- The parts of an expression that has a type have types.
-use Rattle.std.proofs.Common.{◌≡◌, ℕ, inl, inr, Bool, true, false, ◌&&◌, ◌||◌, cond, List, [], ◌∷◌, ◌++◌, length, refl, sym, ◌∙◌, ap, subst, Option, Some, None as Nothing, unwrap_or}
+-- The parts of an expression that has a type have types, and so have the operands of each operator of a node that keeps
+-- the rules.
+use Rattle.std.proofs.Common.{◌≡◌, ℕ, suc, inl, inr, Bool, true, false, ◌&&◌, ◌||◌, cond, List, [], ◌∷◌, ◌++◌, flat_map, length, refl, sym, ◌∙◌, ap, subst, arith, Option, Some, None as Nothing, unwrap_or}
 use Rattle.std.specs.List.{Contains}
 use Rattle.std.specs.Option.{option_map}
-use Rattle.std.proofs.lemmas.List.Elements.{Contains-append_cases}
+use Rattle.std.proofs.lemmas.List.{length-map}
+use Rattle.std.proofs.lemmas.List.Elements.{Contains-append_left, Contains-append_right, Contains-append_cases}
 use Rattle.rv_tree.specs.declared.tree.Decl.{Decl}
 use Rattle.rv_tree.specs.declared.tree.Name.{Name}
 use Rattle.rv_tree.specs.declared.tree.Op.{Op}
 use Rattle.rv_tree.specs.declared.tree.Op.TheVariants as op
-use Rattle.rv_tree.specs.Tree.{Tree, Node, Form, True, False, Number, Named, Not, Minus, Pre, Current, When, Binary, If, AtMostOne, Call, Trees, None, More, NodeTree, ProgramTree}
+use Rattle.rv_tree.specs.Tree.{Tree, Node, Form, True, False, Number, Named, Not, Minus, Pre, Current, When, Binary, If, AtMostOne, Call, Trees, None, More, EquationTree, AssertionTree, NodeTree, ProgramTree}
 use Rattle.rv_tree.specs.Places.{Identifier}
 use Rattle.rv_types.specs.declared.typed.Kind.{Kind}
 use Rattle.rv_types.specs.declared.typed.Kind.TheVariants.{Bool as Boolean, Int}
 use Rattle.rv_types.specs.declared.fault.Verdict.{Verdict}
 use Rattle.rv_types.specs.declared.fault.Verdict.TheVariants.{Silent, Clashes, Multiplies}
-use Rattle.rv_types.specs.Instances.{no_node, node_of}
+use Rattle.rv_types.specs.Instances.{CallTree, calls_in, calls_in_all, calls_in_equations, calls_in_assertions, calls, alone, IsArgument, head, tail, no_node, node_of}
 use Rattle.rv_types.specs.Kinds.{kind_in_program, node_named}
+use Rattle.rv_types.specs.Names.{texts}
 use Rattle.rv_types.specs.Types.{Signature, Scope, kind_in, where_met, one_of, two_of, three_of, binary_rule, not_rule, minus_rule, memory_rule, when_rule, when_of, if_rule, all_typed, all_suit, at_most_one_of, fit, sole, call_of, both_are, is_constant, kinds_of_all, kind_of}
 use Rattle.rv_types.specs.Scopes.{node_scope, signature_of, signature_named}
-use Rattle.rv_types.specs.Variables.{parts, form_parts, parts_of_all}
-use Rattle.rv_instances.proofs.Known.{cons_cases, nothing_in}
-use Rattle.rv_instances.proofs.Lists.{length_map}
+use Rattle.rv_types.specs.Variables.{parts, form_parts, parts_of_all, node_parts}
+use Rattle.rv_types.specs.WellFormed.{IsWellFormed, IsWellTyped}
+use Rattle.rv_types.proofs.Members.{nothing_in, cons_cases, at_head, of_flat_map}
 
 -- a type is known
 abbrev pub IsKind : Option Kind → Type 0
@@ -170,4 +173,58 @@ call_output p n at site f es w = named (node_named p f) (of_call true (signature
     named Nothing c = absurd (let e = c.there in let b : ⊥ = cc in b)
     named (Some m) c =
         let e : signature_of p m ≡ c.signature = let h = c.there in cc in
-        sym (length_map (λ (d : Decl). kind_in_program p d.kind) m.outputs) ∙ ap (λ (g : Signature). length g.gives) e ∙ c.one
+        sym (length-map m.outputs (λ (d : Decl). kind_in_program p d.kind)) ∙ ap (λ (g : Signature). length g.gives) e ∙ c.one
+
+-- a part of some expressions is one of one of them
+argument_part : (es : Trees) (t : Tree) → Contains (parts_of_all es) t → (j : ℕ) × (e : Tree) × IsArgument es j e × Contains (parts e) t
+argument_part None t v = nothing_in t v
+argument_part (More e es) t v = elim (Contains-append_cases (parts e) (parts_of_all es) t v) [
+  | inl u ↦ (0, e, head, u)
+  | inr u ↦ let w = argument_part es t u in (suc w.0, w.1, tail w.2, w.3)
+]
+
+-- the calls of the right side of an equation are among those of all
+right_calls : (qs : List EquationTree) (q : EquationTree) (c : CallTree) → Contains qs q → Contains (calls_in q.right) c → Contains (calls_in_equations qs) c
+right_calls [] q c w v = nothing_in q w
+right_calls (p ∷ qs) q c w v = elim (cons_cases p qs q w) [
+  | inl same ↦ Contains-append_left (calls_in p.right) (calls_in_equations qs) c (subst (λ (r : EquationTree). Contains (calls_in r.right) c) (sym same) v)
+  | inr rest ↦ Contains-append_right (calls_in p.right) (calls_in_equations qs) c (right_calls qs q c rest v)
+]
+
+-- a call is no operator
+not_operator : (at : ℕ) (site : Option ℕ) (f : Identifier) (es : Trees) (k : ℕ) (s : Option ℕ) (o : Op) (a b : Tree) → ◌≡◌ {A = Tree} (Node at site (Call f es)) (Node k s (Binary o a b)) → ⊥
+not_operator at site f es k s o a b e = cc
+
+module _ (p : ProgramTree) (n : NodeTree) (formed : IsWellFormed p n) (typed : IsWellTyped p n) (at : ℕ) (site : Option ℕ) (o : Op) (a b : Tree) where
+  abbrev pub it : Tree
+  it = Node at site (Binary o a b)
+
+  in_typed : (e : Tree) → IsTyped (node_scope p n) e → Contains (parts e) it → IsTyped (node_scope p n) a
+  in_typed e w v = (operands_typed (node_scope p n) at site o a b (parts_typed (node_scope p n) e w it v)).0
+
+  in_several : (q : EquationTree) → Contains n.equations q → (length q.lefts ≡ 1 → ⊥) → Contains (parts q.right) it → IsTyped (node_scope p n) a
+  in_several q w other v =
+      let call = formed.sides q w other in
+      let c : CallTree = record { at = call.0; site = unwrap_or call.1 0; name = call.2; args = call.3 } in
+      let of_right : Contains (calls_in q.right) c = subst (λ (e : Tree). Contains (calls_in e) c) (sym call.4) (at_head c (calls_in_all call.3)) in
+      let there : Contains (calls n) c = Contains-append_left (calls_in_equations n.equations) (calls_in_assertions n.assertions) c (right_calls n.equations q c w of_right) in
+      let part : Contains (parts (Node call.0 call.1 (Call call.2 call.3))) it = subst (λ (e : Tree). Contains (parts e) it) call.4 v in
+      elim (cons_cases (Node call.0 call.1 (Call call.2 call.3)) (parts_of_all call.3) it part) [
+        | inl same ↦ absurd (not_operator call.0 call.1 call.2 call.3 at site o a b same)
+        | inr rest ↦ let x = argument_part call.3 it rest in let t = typed.argument c x.0 x.1 there x.2 in in_typed x.1 (t.0, t.1) x.3
+      ]
+
+  in_equation : (q : EquationTree) → Contains n.equations q → Contains (parts q.right) it → IsTyped (node_scope p n) a
+  in_equation q w v = by_lefts q.lefts refl
+    where
+      by_lefts : (ls : List Name) → q.lefts ≡ ls → IsTyped (node_scope p n) a
+      by_lefts [] e = in_several q w (λ one. let m = ap length e in omega (arith, m, one)) v
+      by_lefts (x ∷ []) e = let t = typed.body x.text q.right (alone q w (ap texts e)) in in_typed q.right (t.0, t.1) v
+      by_lefts (x ∷ y ∷ ls) e = in_several q w (λ one. let m = ap length e in omega (arith, m, one)) v
+
+  -- the left operand of an operator of a node has a type
+  pub left_typed : Contains (node_parts n) it → IsTyped (node_scope p n) a
+  left_typed w = elim (Contains-append_cases (flat_map (λ (q : EquationTree). parts q.right) n.equations) (flat_map (λ (r : AssertionTree). parts r.body) n.assertions) it w) [
+    | inl v ↦ let q = of_flat_map (λ (q : EquationTree). parts q.right) n.equations it v in in_equation q.0 q.1 q.2
+    | inr v ↦ let r = of_flat_map (λ (r : AssertionTree). parts r.body) n.assertions it v in in_typed r.0.body (Boolean, typed.assertion r.0 r.1) r.2
+  ]
