@@ -14,6 +14,7 @@ use Rattle.rv_types.specs.Kinds.{decl_kinds, kind_in_program}
 use Rattle.rv_types.specs.Names.{is_declared, is_value, node_names, node_uses}
 use Rattle.rv_types.specs.Scopes.{node_scope}
 use Rattle.rv_types.specs.Types.{kind_of}
+use Rattle.rv_types.specs.ToldPaces.{IsTimed}
 use Rattle.rv_types.specs.WellFormed.{Suits}
 use Rattle.rv_types.specs.Instances.{CallTree, calls, calls_in, calls_in_equations, calls_in_assertions, Right, IsRight, alone, in_order, IsArgument, Instance, absolute, clock_of, clock_of_args, taken, clock_taken, node_of, IsInstance}
 use Rattle.rv_types.specs.Instances as right
@@ -28,7 +29,7 @@ use Rattle.rv_instances.specs.declared.layout.Layout.{Layout}
 use Rattle.rv_instances.specs.Expanded.{IsExpanded}
 use Rattle.rv_instances.specs.Flowing.{IsKnownClock, flow_count}
 use Rattle.rv_instances.specs.Givers.{StandsFor}
-use Rattle.rv_instances.specs.Layouts.{IsPlaced, IsLayout, IsWithin, IsNumberOf, here_of, all_places}
+use Rattle.rv_instances.specs.Layouts.{IsPlaced, IsLayout, IsWithin, IsNumberOf, here_of, node_at, all_places}
 use Rattle.rv_instances.specs.NumberedNeeds.{listed, clock_number, numbers_needed, site_in, giver_numbers, IsGiver}
 use Rattle.rv_instances.proofs.ArgumentClocks.{flow_clock_known, arguments_clock_known}
 use Rattle.rv_instances.proofs.BaseClocks.{clock_within}
@@ -89,12 +90,19 @@ module _ (p : ProgramTree) (main : Identifier) (instances : List Numbered) (know
   suits_taken k Mute h = absurd h
   suits_taken k Differ h = absurd h
 
+  suits_timed : (k : Clock) (p : Pace) → Suits k p → IsTimed p
+  suits_timed k Free h = tt
+  suits_timed k (At c) h = tt
+  suits_timed k Mute h = h
+  suits_timed k Differ h = h
+
   -- what is given by an expression
   pub record IsBody (i : Instance) (k : Clock) (e : Tree) : Type 0 where
     pub uses : node_uses p i.node e ≡ []
     pub calls_there : (c : CallTree) → Contains (calls_in e) c → Contains (calls i.node) c
     pub kind : (t : Kind) × (kind_of (node_scope p i.node) e ≡ Some t)
     pub clock : clock_taken i k e ≡ k
+    pub timed : IsTimed (pace i.node e)
 
   pub body_given : (q : Sites) (i : Instance) (k : Clock) (e : Tree) → Gives p main q (Of i k (right.Body e)) → IsBody i k e
   body_given q _ _ e (by_equation i x _ is other place_is) =
@@ -108,6 +116,7 @@ module _ (p : ProgramTree) (main : Identifier) (instances : List Numbered) (know
             (in_right n.equations from.0 c from.1 (subst (λ (t : Tree). Contains (calls_in t) c) (sym from.2) w));
         kind = (kinds.0, kinds.1);
         clock = suits_taken (clock_of n x) (pace n e) ((known.well.formed n there).body_clock x e other);
+        timed = suits_timed (clock_of n x) (pace n e) ((known.well.formed n there).body_clock x e other);
       }
     where
       of_alone : (n : NodeTree) (x : Identifier) (e : Tree) → IsRight n x (right.Body e) → (q : EquationTree) × Contains n.equations q × (q.right ≡ e)
@@ -121,7 +130,18 @@ module _ (p : ProgramTree) (main : Identifier) (instances : List Numbered) (know
         calls_there = λ d v. calls_nested n c d w (in_argument c.args j e d arg v);
         kind = (kinds.0, kinds.1);
         clock = suits_taken (clock_of_args n c.args) (pace n e) ((known.well.formed n there).argument_clock c j e w arg);
+        timed = suits_timed (clock_of_args n c.args) (pace n e) ((known.well.formed n there).argument_clock c j e w arg);
       }
+
+  -- what is told is free or on a clock
+  pub body_timed : (b : BodyOf) → IsGiver p main instances (Body b) → IsTimed (pace (node_at p instances b.instance) (tree_of b.body.now))
+  body_timed b (q, Given j, gives, stands) = absurd stands
+  body_timed b (q, Of i k (right.Output c j), gives, stands) = absurd stands
+  body_timed b (q, Of i k (right.Body e), gives, stands) =
+      let from = body_given q i k e gives in
+      let g = giver_clock q i k (right.Body e) gives in
+      let node = node_is p main instances known b.instance i g.0 stands.0.1 in
+      subst IsTimed (λ t. pace (sym node t) (sym stands.2 t)) from.timed
 
   module _ (l : Layout) (laid_out : IsLayout p main instances l) where
     -- the number of the flow of the clock of what is told has 32 bits

@@ -41,6 +41,7 @@ pub mod WideLeast
 pub mod TypedCalls
 pub mod NumbersNeeded
 mod Needed
+mod ToldNeeds
 pub mod GiverNeeds
 pub mod NeedsGraph
 pub mod FewInstances

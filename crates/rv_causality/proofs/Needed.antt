@@ -5,8 +5,8 @@ use Rattle.std.proofs.lemmas.List.Elements.{Contains-append_left, Contains-appen
 use Rattle.rv_tree.specs.Tree.{Tree, Node, Form, True, False, Number, Named, Not, Minus, Pre, Current, When, Binary, If, AtMostOne, Call, Trees, None, More, NodeTree, ProgramTree, tree_of}
 use Rattle.rv_types.specs.declared.typed.Clock.TheVariants.{Base}
 use Rattle.rv_types.specs.declared.fault.Pace.{Pace}
-use Rattle.rv_types.specs.Clocks.{pace}
 use Rattle.rv_types.specs.Instances.{clock_of, taken}
+use Rattle.rv_types.specs.ToldPaces.{told_pace}
 use Rattle.rv_instances.specs.declared.answer.Instance.{Instance as Numbered}
 use Rattle.rv_instances.specs.declared.givers.Giver.{Giver}
 use Rattle.rv_instances.specs.declared.givers.Giver.TheVariants.{Input, Body, Output}
@@ -14,15 +14,15 @@ use Rattle.rv_instances.specs.declared.layout.Layout.{Layout}
 use Rattle.rv_instances.specs.declared.reader.Reader.{Reader}
 use Rattle.rv_instances.specs.Layouts.{Here, IsWithin, here_of, node_at}
 use Rattle.rv_instances.specs.NumberedNeeds.{IsReader, listed, clock_number, clock_of_expression, flow_number, numbers_needed, form_numbers, numbers_of_all, giver_numbers, node_read, numbers_of}
-use Rattle.rv_instances.proofs.ClockBounds.{low_within, taken_low, pace_low}
+use Rattle.rv_instances.proofs.ClockBounds.{low_within, taken_low, told_low}
 use Rattle.rv_instances.proofs.Known.{nothing_in}
 use Rattle.rv_causality.specs.Needed.{needed, form_needed, needed_by_all, giver_needed}
 
--- the clock of an expression is a flow with a number of 32 bits
-pub paced_within : (r : Reader) → IsReader r → (e : Tree) (k : Pace) → k ≡ pace (node_read r) e → IsWithin (numbers_of r).offset (taken Base k)
-paced_within r is e k same =
+-- the clock that an expression tells is a flow with a number of 32 bits
+pub told_within : (r : Reader) → IsReader r → (e : Tree) (k : Pace) → k ≡ told_pace (node_read r) e → IsWithin (numbers_of r).offset (taken Base k)
+told_within r is e k same =
     let n = node_read r in
-    subst (IsWithin (numbers_of r).offset) (sym (ap (taken Base) same)) (low_within n (numbers_of r).offset (taken Base (pace n e)) is.room (taken_low n (pace n e) (pace_low n e)))
+    subst (IsWithin (numbers_of r).offset) (sym (ap (taken Base) same)) (low_within n (numbers_of r).offset (taken Base (told_pace n e)) is.room (taken_low n (told_pace n e) (told_low n e)))
 
 -- each number of a list is in another
 record Among (xs ys : List ℕ) : Type 0 where

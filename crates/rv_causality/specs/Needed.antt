@@ -2,7 +2,9 @@
 -- `current` or `when` stands once, after what the operand needs.
 use Rattle.std.specs.Prelude.{ℕ, ◌+◌, List, [], ◌∷◌, ◌++◌, unwrap_or, Option}
 use Rattle.rv_tree.specs.Tree.{Tree, Node, Form, True, False, Number, Named, Not, Minus, Pre, Current, When, Binary, If, AtMostOne, Call, Trees, None, More, NodeTree, ProgramTree, tree_of}
+use Rattle.rv_types.specs.declared.typed.Clock.{Clock}
 use Rattle.rv_types.specs.Instances.{clock_of}
+use Rattle.rv_types.specs.ToldPaces.{told_clock}
 use Rattle.rv_instances.specs.declared.answer.Instance.{Instance as Numbered}
 use Rattle.rv_instances.specs.declared.givers.Giver.{Giver}
 use Rattle.rv_instances.specs.declared.givers.Giver.TheVariants.{Input, Body, Output}
@@ -10,31 +12,48 @@ use Rattle.rv_instances.specs.declared.layout.Layout.{Layout}
 use Rattle.rv_instances.specs.Layouts.{Here, here_of, node_at}
 use Rattle.rv_instances.specs.NumberedNeeds.{listed, clock_number, clock_of_expression, flow_number, site_in}
 
--- In an instance of a node with these numbers.
-module _ (n : NodeTree) (h : Here) where
+-- In an instance of a node with these numbers, where operands of `current` have these clocks.
+module _ (n : NodeTree) (h : Here) (clock : Tree → Clock) where
   abbrev mutual
-    -- The numbers of what an expression needs beside the flow of its own clock.
-    pub needed : Tree → List ℕ
-    needed (Node at site form) = form_needed site form
+    pub needed_by : Tree → List ℕ
+    needed_by (Node at site form) = form_needed_by site form
 
-    pub form_needed : Option ℕ → Form → List ℕ
-    form_needed site True = []
-    form_needed site False = []
-    form_needed site (Number v) = []
-    form_needed site (Named x) = listed (flow_number n h x)
-    form_needed site (Not e) = needed e
-    form_needed site (Minus e) = needed e
-    form_needed site (Pre e) = []
-    form_needed site (Current e) = needed e ++ listed (clock_number h (clock_of_expression n e))
-    form_needed site (When e c) = needed e ++ listed (clock_number h (clock_of n c.text))
-    form_needed site (Binary o a b) = needed a ++ needed b
-    form_needed site (If a b c) = needed a ++ (needed b ++ needed c)
-    form_needed site (AtMostOne es) = needed_by_all es
-    form_needed site (Call f args) = h.output (unwrap_or site 0) ∷ []
+    pub form_needed_by : Option ℕ → Form → List ℕ
+    form_needed_by site True = []
+    form_needed_by site False = []
+    form_needed_by site (Number v) = []
+    form_needed_by site (Named x) = listed (flow_number n h x)
+    form_needed_by site (Not e) = needed_by e
+    form_needed_by site (Minus e) = needed_by e
+    form_needed_by site (Pre e) = []
+    form_needed_by site (Current e) = needed_by e ++ listed (clock_number h (clock e))
+    form_needed_by site (When e c) = needed_by e ++ listed (clock_number h (clock_of n c.text))
+    form_needed_by site (Binary o a b) = needed_by a ++ needed_by b
+    form_needed_by site (If a b c) = needed_by a ++ (needed_by b ++ needed_by c)
+    form_needed_by site (AtMostOne es) = all_needed_by es
+    form_needed_by site (Call f args) = h.output (unwrap_or site 0) ∷ []
 
-    pub needed_by_all : Trees → List ℕ
-    needed_by_all None = []
-    needed_by_all (More e es) = needed e ++ needed_by_all es
+    pub all_needed_by : Trees → List ℕ
+    all_needed_by None = []
+    all_needed_by (More e es) = needed_by e ++ all_needed_by es
+
+module _ (n : NodeTree) (h : Here) where
+  -- the numbers of what an expression needs beside the flow of its own clock
+  abbrev pub needed : Tree → List ℕ
+  needed = needed_by n h (clock_of_expression n)
+
+  abbrev pub form_needed : Option ℕ → Form → List ℕ
+  form_needed = form_needed_by n h (clock_of_expression n)
+
+  abbrev pub needed_by_all : Trees → List ℕ
+  needed_by_all = all_needed_by n h (clock_of_expression n)
+
+  -- the same by the clocks that operands tell
+  abbrev pub told_needed : Tree → List ℕ
+  told_needed = needed_by n h (told_clock n)
+
+  abbrev pub told_needed_by_all : Trees → List ℕ
+  told_needed_by_all = all_needed_by n h (told_clock n)
 
 -- The numbers of what a flow needs, by what gives it its value.
 abbrev pub giver_needed : ProgramTree → List Numbered → Layout → Giver → List ℕ

@@ -18,8 +18,8 @@ use rv_tree::Expr;
 use std::alloc::Global;
 
 /// For each flow, by its number, the numbers of the flows that it needs at the same instant. Time grows with the number
-/// of expressions of all instances, up to look-ups of names and calls; the arguments of a call within a `current` are
-/// looked at once more for their clock, each for each such call around it.
+/// of expressions of all instances, up to look-ups of names and calls; of the arguments of a call within a `current` the
+/// first operand that has a clock tells the clock.
 pub fn flow_graph(
     alloc: Global,
     expanded: &Expanded,

@@ -3,7 +3,7 @@
 ghost use Rattle.std.specs.Prelude.{◌≡◌, ◌++◌, ◌∷◌, [], map, unwrap_or, OnOk};
 ghost use Rattle.rv_tree.specs.Tree.{tree_of, trees};
 ghost use Rattle.rv_instances.specs.NumberedNeeds.{IsReader, listed, node_read, numbers_of};
-ghost use Rattle.rv_causality.specs.Needed.{needed, needed_by_all};
+ghost use Rattle.rv_causality.specs.Needed.{told_needed, told_needed_by_all};
 
 use crate::shown::add_current;
 use rv_base::{Many, Memory};
@@ -15,7 +15,7 @@ use rv_tree::{Expr, ExprForm};
 #[cycle(needs)]
 pub fn add_needs(reader: &Reader, e: &Expr, found: &mut Many<u32>) -> Result<(), Memory>
     requires { IsReader reader.now }
-    ensures { OnOk result (found.new ≡ found.old ++ needed (node_read reader.now) (numbers_of reader.now) (tree_of e.now)) }
+    ensures { OnOk result (found.new ≡ found.old ++ told_needed (node_read reader.now) (numbers_of reader.now) (tree_of e.now)) }
 {
     match &e.form {
         ExprForm::True | ExprForm::False | ExprForm::Number(_) | ExprForm::Pre(_) => Ok(()),
@@ -47,7 +47,7 @@ pub fn add_needs(reader: &Reader, e: &Expr, found: &mut Many<u32>) -> Result<(),
 #[cycle(needs)]
 fn add_all(reader: &Reader, expressions: &[Expr], found: &mut Many<u32>) -> Result<(), Memory>
     requires { IsReader reader.now }
-    ensures { OnOk result (found.new ≡ found.old ++ needed_by_all (node_read reader.now) (numbers_of reader.now) (trees (map tree_of expressions.now))) }
+    ensures { OnOk result (found.new ≡ found.old ++ told_needed_by_all (node_read reader.now) (numbers_of reader.now) (trees (map tree_of expressions.now))) }
 {
     for e in expressions {
         add_needs(reader, e, found)?;

@@ -1,33 +1,33 @@
-//! What a `current` needs at the same instant, with the clock of what it shows.
+//! What a `current` needs at the same instant, with the clock that what it shows tells.
 
 ghost use Rattle.std.specs.Prelude.{◌≡◌, ◌++◌, ◌∷◌, [], map, unwrap_or, IfOk, OnOk};
 ghost use Rattle.rv_tree.specs.Places.{site_of};
 ghost use Rattle.rv_tree.specs.Tree.{tree_of, trees};
-ghost use Rattle.rv_types.specs.Clocks.{pace, pace_of_all, name_pace, when_pace, binary_pace, current_pace, seen, grounded, meet};
+ghost use Rattle.rv_types.specs.Clocks.{name_pace, current_pace, seen, grounded};
 ghost use Rattle.rv_types.specs.Instances.{clock_of as clock_of_name, taken};
-ghost use Rattle.rv_types.specs.declared.typed.Clock.TheVariants.{Base};
+ghost use Rattle.rv_types.specs.ToldPaces as told;
+ghost use Rattle.rv_types.specs.declared.fault.Pace.TheVariants.{At};
+ghost use Rattle.rv_types.specs.declared.typed.Clock.TheVariants.{Base, On};
 ghost use Rattle.rv_instances.specs.Layouts.{IsWithin};
-ghost use Rattle.rv_instances.specs.NumberedNeeds.{IsReader, clock_number, clock_of_expression, flow_number, listed, node_read, numbers_of};
-ghost use Rattle.rv_causality.specs.Needed.{needed, needed_by_all};
+ghost use Rattle.rv_instances.specs.NumberedNeeds.{IsReader, clock_number, flow_number, listed, node_read, numbers_of};
+ghost use Rattle.rv_causality.specs.Needed.{told_needed, told_needed_by_all};
 
 use crate::needs::{add_flow, add_output};
 use crate::ticks::clock_of;
 use rv_base::{Many, Memory, Text};
 use rv_instances::Reader;
 use rv_tree::{Expr, ExprForm, Op};
-use rv_types::{
-    Pace, called_pace, choice_pace, delayed_pace, joined_pace, kept_pace, operator_pace,
-};
+use rv_types::{Pace, called_pace, told_choice_pace, told_joined_pace, told_operator_pace};
 
-/// Adds the numbers of the flows that an expression needs beside the flow of its own clock, and answers its pace. Each
-/// part is looked at once, up to what stands in a `pre` or in the arguments of a call, of which only the pace is found. It
-/// calls itself for each operand, so as deep as the tree is: 20,101 levels at most, all but 200 of them left operands and
-/// operands of `when`. So little else stands in the frame of this function.
+/// Adds the numbers of the flows that an expression needs beside the flow of its own clock, and answers the pace that it
+/// tells. Each part is looked at once, but for what stands in a `pre` or in the arguments of a call, of which the first
+/// operand that has a clock tells the pace. It calls itself for each operand, so as deep as the tree is: 20,101 levels at
+/// most, all but 200 of them left operands and operands of `when`. So little else stands in the frame of this function.
 #[cycle(shown)]
 fn add_shown(reader: &Reader, e: &Expr, found: &mut Many<u32>) -> Result<Pace, Memory>
     requires { IsReader reader.now }
-    ensures pace { IfOk result (λ p. p ≡ pace (node_read reader.now) (tree_of e.now)) }
-    ensures found { OnOk result (found.new ≡ found.old ++ needed (node_read reader.now) (numbers_of reader.now) (tree_of e.now)) }
+    ensures pace { IfOk result (λ p. p ≡ told.told_pace (node_read reader.now) (tree_of e.now)) }
+    ensures found { OnOk result (found.new ≡ found.old ++ told_needed (node_read reader.now) (numbers_of reader.now) (tree_of e.now)) }
 {
     match &e.form {
         ExprForm::Binary(op, left, right) => {
@@ -35,13 +35,13 @@ fn add_shown(reader: &Reader, e: &Expr, found: &mut Many<u32>) -> Result<Pace, M
             add_right(reader, *op, left, right, found)
         }
         ExprForm::When(operand, clock) => {
-            let operand = add_shown(reader, operand, found)?;
-            add_when(reader, operand, &clock.text, found)
+            add_shown(reader, operand, found)?;
+            add_when(reader, &clock.text, found)
         }
         ExprForm::True | ExprForm::False | ExprForm::Number(_) => Ok(Pace::Free),
         ExprForm::Named(name) => add_name(reader, name, found),
-        ExprForm::Not(operand) | ExprForm::Minus(operand) => add_kept(reader, operand, found),
-        ExprForm::Pre(operand) => Ok(delayed_pace(reader.clocks.pace(operand))),
+        ExprForm::Not(operand) | ExprForm::Minus(operand) => add_shown(reader, operand, found),
+        ExprForm::Pre(operand) => Ok(called_pace(reader.clocks.told_pace(operand))),
         ExprForm::Current(operand) => add_current(reader, operand, found),
         ExprForm::If(condition, first, second) => {
             let condition = add_shown(reader, condition, found)?;
@@ -64,27 +64,22 @@ fn add_right(
     found: &mut Many<u32>,
 ) -> Result<Pace, Memory>
     requires { IsReader reader.now }
-    ensures pace { IfOk result (λ p. p ≡ binary_pace op (seen left) (seen (pace (node_read reader.now) (tree_of right.now)))) }
-    ensures found { OnOk result (found.new ≡ found.old ++ needed (node_read reader.now) (numbers_of reader.now) (tree_of right.now)) }
+    ensures pace { IfOk result (λ p. p ≡ told.operator_told op (told.first_pace left (told.told_pace (node_read reader.now) (tree_of right.now)))) }
+    ensures found { OnOk result (found.new ≡ found.old ++ told_needed (node_read reader.now) (numbers_of reader.now) (tree_of right.now)) }
 {
     let right = add_shown(reader, right, found)?;
-    Ok(operator_pace(op, left, right))
+    Ok(told_operator_pace(op, left, right))
 }
 
-/// Adds the flow of the clock of the operand of a `when`, which has this pace, and answers that of the `when`.
+/// Adds the flow of the clock of the operand of a `when` this flow, and answers the pace of the `when`.
 #[inline(never)]
-fn add_when(
-    reader: &Reader,
-    operand: Pace,
-    clock: &Text,
-    found: &mut Many<u32>,
-) -> Result<Pace, Memory>
+fn add_when(reader: &Reader, clock: &Text, found: &mut Many<u32>) -> Result<Pace, Memory>
     requires { IsReader reader.now }
-    ensures pace { IfOk result (λ p. p ≡ when_pace (node_read reader.now) (seen operand) (site_of (node_read reader.now) clock.now)) }
+    ensures pace { IfOk result (λ p. p ≡ At (On (site_of (node_read reader.now) clock.now))) }
     ensures found { OnOk result (found.new ≡ found.old ++ listed (clock_number (numbers_of reader.now) (clock_of_name (node_read reader.now) clock.now))) }
 {
     add_flow(reader.clock_of_flow(clock), found)?;
-    Ok(reader.clocks.when_pace(operand, clock))
+    Ok(reader.clocks.told_when_pace(clock))
 }
 
 /// Adds the flow of a name, if it has one.
@@ -98,24 +93,13 @@ fn add_name(reader: &Reader, name: &Text, found: &mut Many<u32>) -> Result<Pace,
     Ok(reader.clocks.name_pace(name))
 }
 
-/// The same of an operator that keeps the clock of its operand.
-#[cycle(shown)]
-#[inline(never)]
-fn add_kept(reader: &Reader, operand: &Expr, found: &mut Many<u32>) -> Result<Pace, Memory>
-    requires { IsReader reader.now }
-    ensures pace { IfOk result (λ p. p ≡ seen (pace (node_read reader.now) (tree_of operand.now))) }
-    ensures found { OnOk result (found.new ≡ found.old ++ needed (node_read reader.now) (numbers_of reader.now) (tree_of operand.now)) }
-{
-    Ok(kept_pace(add_shown(reader, operand, found)?))
-}
-
 /// Adds what a `current` of this operand needs: what the operand needs, and the flow of its clock.
 #[cycle(shown)]
 #[inline(never)]
 pub fn add_current(reader: &Reader, operand: &Expr, found: &mut Many<u32>) -> Result<Pace, Memory>
     requires { IsReader reader.now }
-    ensures pace { IfOk result (λ p. p ≡ current_pace (node_read reader.now) (seen (pace (node_read reader.now) (tree_of operand.now)))) }
-    ensures found { OnOk result (found.new ≡ found.old ++ (needed (node_read reader.now) (numbers_of reader.now) (tree_of operand.now) ++ listed (clock_number (numbers_of reader.now) (clock_of_expression (node_read reader.now) (tree_of operand.now))))) }
+    ensures pace { IfOk result (λ p. p ≡ current_pace (node_read reader.now) (seen (told.told_pace (node_read reader.now) (tree_of operand.now)))) }
+    ensures found { OnOk result (found.new ≡ found.old ++ (told_needed (node_read reader.now) (numbers_of reader.now) (tree_of operand.now) ++ listed (clock_number (numbers_of reader.now) (told.told_clock (node_read reader.now) (tree_of operand.now))))) }
 {
     let operand = add_shown(reader, operand, found)?;
     add_clock(reader, operand, found)?;
@@ -143,11 +127,11 @@ fn add_else(
     found: &mut Many<u32>,
 ) -> Result<Pace, Memory>
     requires { IsReader reader.now }
-    ensures pace { IfOk result (λ p. p ≡ meet (seen condition) (meet (seen first) (seen (pace (node_read reader.now) (tree_of second.now))))) }
-    ensures found { OnOk result (found.new ≡ found.old ++ needed (node_read reader.now) (numbers_of reader.now) (tree_of second.now)) }
+    ensures pace { IfOk result (λ p. p ≡ told.first_pace (told.first_pace condition first) (told.told_pace (node_read reader.now) (tree_of second.now))) }
+    ensures found { OnOk result (found.new ≡ found.old ++ told_needed (node_read reader.now) (numbers_of reader.now) (tree_of second.now)) }
 {
     let second = add_shown(reader, second, found)?;
-    Ok(choice_pace(condition, first, second))
+    Ok(told_choice_pace(condition, first, second))
 }
 
 /// Adds what some expressions need, and answers their pace together.
@@ -155,13 +139,13 @@ fn add_else(
 #[inline(never)]
 fn add_all(reader: &Reader, expressions: &[Expr], found: &mut Many<u32>) -> Result<Pace, Memory>
     requires { IsReader reader.now }
-    ensures pace { IfOk result (λ p. p ≡ pace_of_all (node_read reader.now) (trees (map tree_of expressions.now))) }
-    ensures found { OnOk result (found.new ≡ found.old ++ needed_by_all (node_read reader.now) (numbers_of reader.now) (trees (map tree_of expressions.now))) }
+    ensures pace { IfOk result (λ p. p ≡ told.told_pace_of_all (node_read reader.now) (trees (map tree_of expressions.now))) }
+    ensures found { OnOk result (found.new ≡ found.old ++ told_needed_by_all (node_read reader.now) (numbers_of reader.now) (trees (map tree_of expressions.now))) }
 {
     let mut together = Pace::Free;
     for e in expressions {
         let one = add_shown(reader, e, found)?;
-        together = joined_pace(together, one);
+        together = told_joined_pace(together, one);
     }
     Ok(together)
 }
@@ -175,9 +159,9 @@ fn add_call(
     found: &mut Many<u32>,
 ) -> Result<Pace, Memory>
     requires { IsReader reader.now }
-    ensures pace { IfOk result (λ p. p ≡ grounded (pace_of_all (node_read reader.now) (trees (map tree_of arguments.now)))) }
+    ensures pace { IfOk result (λ p. p ≡ grounded (told.told_pace_of_all (node_read reader.now) (trees (map tree_of arguments.now)))) }
     ensures found { OnOk result (found.new ≡ found.old ++ (numbers_of reader.now).output (unwrap_or site 0) ∷ []) }
 {
     add_output(reader, site, found)?;
-    Ok(called_pace(reader.clocks.pace_of_arguments(arguments)))
+    Ok(called_pace(reader.clocks.told_pace_of_arguments(arguments)))
 }

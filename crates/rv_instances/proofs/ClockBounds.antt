@@ -15,6 +15,7 @@ use Rattle.rv_types.specs.declared.fault.Pace.{Pace}
 use Rattle.rv_types.specs.declared.fault.Pace.TheVariants.{Free, At, Mute, Differ}
 use Rattle.rv_types.specs.Clocks.{base_clock, declared_clock, flow_clocks, seen, meet, grounded, same_clock, clock_at, binary_pace, when_pace, current_pace, pace, form_pace, pace_of_all}
 use Rattle.rv_types.specs.Instances.{taken}
+use Rattle.rv_types.specs.ToldPaces.{first_pace, operator_told, told_pace, form_told, told_pace_of_all}
 use Rattle.rv_instances.specs.Layouts.{IsWithin}
 use Rattle.rv_instances.proofs.Lists.{nat_split}
 use Rattle.rv_instances.proofs.Known.{of_map}
@@ -137,6 +138,41 @@ mutual
   all_low : (n : NodeTree) (es : Trees) → IsLowPace n (pace_of_all n es)
   all_low n None = tt
   all_low n (More t ts) = meet_low n (seen (pace n t)) (pace_of_all n ts) (seen_low n (pace n t) (pace_low n t)) (all_low n ts)
+
+first_low : (n : NodeTree) (p q : Pace) → IsLowPace n p → IsLowPace n q → IsLowPace n (first_pace p q)
+first_low n Free q h k = k
+first_low n (At c) q h k = h
+first_low n Mute q h k = tt
+first_low n Differ q h k = tt
+
+operator_low : (n : NodeTree) (o : Op) (p : Pace) → IsLowPace n p → IsLowPace n (operator_told o p)
+operator_low n op.Arrow p h = grounded_low n p h
+operator_low n _ p h = h
+
+mutual
+  -- the clock that an expression tells
+  pub told_low : (n : NodeTree) (e : Tree) → IsLowPace n (told_pace n e)
+  told_low n (Node at site form) = form_told_low n form
+
+  form_told_low : (n : NodeTree) (form : Form) → IsLowPace n (form_told n form)
+  form_told_low n True = tt
+  form_told_low n False = tt
+  form_told_low n (Number v) = tt
+  form_told_low n (Named x) = name_low n (is_flow n x) (site_of n x)
+  form_told_low n (Not t) = told_low n t
+  form_told_low n (Minus t) = told_low n t
+  form_told_low n (Pre t) = grounded_low n (told_pace n t) (told_low n t)
+  form_told_low n (Current t) = current_low n (seen (told_pace n t))
+  form_told_low n (When t x) = index_low (flows n) x.text
+  form_told_low n (Binary o a b) = operator_low n o (first_pace (told_pace n a) (told_pace n b)) (first_low n (told_pace n a) (told_pace n b) (told_low n a) (told_low n b))
+  form_told_low n (If i a b) =
+      first_low n (first_pace (told_pace n i) (told_pace n a)) (told_pace n b) (first_low n (told_pace n i) (told_pace n a) (told_low n i) (told_low n a)) (told_low n b)
+  form_told_low n (AtMostOne es) = all_told_low n es
+  form_told_low n (Call f es) = grounded_low n (told_pace_of_all n es) (all_told_low n es)
+
+  all_told_low : (n : NodeTree) (es : Trees) → IsLowPace n (told_pace_of_all n es)
+  all_told_low n None = tt
+  all_told_low n (More t ts) = first_low n (told_pace n t) (told_pace_of_all n ts) (told_low n t) (all_told_low n ts)
 
 pub taken_low : (n : NodeTree) (p : Pace) → IsLowPace n p → IsLow n (taken Base p)
 taken_low n Free h = tt

@@ -3,6 +3,7 @@
 ghost use Rattle.std.specs.Prelude.{◌≡◌, ◌<◌, length};
 ghost use Rattle.rv_tree.specs.Tree.{tree_of};
 ghost use Rattle.rv_types.specs.Instances.{clock_of};
+ghost use Rattle.rv_types.specs.ToldPaces.{told_clock};
 ghost use Rattle.rv_instances.specs.Expanded.{IsKnown, program_of, main_of};
 ghost use Rattle.rv_instances.specs.Layouts.{IsLayout, IsWithin, node_at};
 ghost use Rattle.rv_instances.specs.NumberedNeeds.{IsReader, clock_number, clock_of_expression, flow_number, node_read, numbers_of};
@@ -67,6 +68,14 @@ impl<'a, 'b> Reader<'a, 'b> {
         ensures { result ≡ clock_number (numbers_of self.now) (clock_of_expression (node_read self.now) (tree_of e.now)) }
     {
         self.clock(clock_or_base(self.clocks.pace(e)))
+    }
+
+    /// The number of the flow of the clock that an expression tells. Where clocks are right that is its own.
+    pub fn told_clock_of(&self, e: &Expr) -> Option<u32>
+        requires { IsReader self.now }
+        ensures { result ≡ clock_number (numbers_of self.now) (told_clock (node_read self.now) (tree_of e.now)) }
+    {
+        self.clock(clock_or_base(self.clocks.told_pace(e)))
     }
 
     /// The number of the flow of the clock of the flow of a name.

@@ -40,4 +40,5 @@ mod OperatorTrees
 mod PutKinds
 pub mod DelayedKinds
 pub mod HeadKinds
+pub mod ToldPaces
 pub mod TypedParts

@@ -14,16 +14,10 @@ use Rattle.rv_types.specs.declared.fault.Pace.TheVariants.{Free, At, Mute, Diffe
 use Rattle.rv_types.specs.Parts.{faults, faults_below, faults_of_all}
 use Rattle.rv_types.specs.Names.{texts}
 use Rattle.rv_types.specs.Clocks.{same_clock, seen, meet, grounded, clash_in, clock_at, binary_pace, when_pace, current_pace, name_pace, pace, form_pace, pace_of_all, own_clash, expression_clocks, left_pace}
+use Rattle.rv_types.specs.ToldPaces.{IsTimed}
 use Rattle.rv_types.specs.Instances.{IsArgument, head, tail, clock_of, taken, clock_of_args}
 use Rattle.rv_types.proofs.RightNames.{both_empty}
 use Rattle.rv_types.proofs.Members.{nothing_in, cons_cases}
-
--- free or on a clock
-abbrev pub IsTimed : Pace → Type 0
-IsTimed Free = Unit {0}
-IsTimed (At c) = Unit {0}
-IsTimed Mute = ⊥
-IsTimed Differ = ⊥
 
 -- its parts have clocks
 abbrev IsHeard : Pace → Type 0

@@ -29,7 +29,8 @@ use Rattle.rv_types.proofs.CallSites.{has_sites, one_call, right_site}
 use Rattle.rv_types.proofs.PartFaults.{IsRightCall, calls_right, delays_right}
 use Rattle.rv_types.proofs.ConstantContents.{contents}
 use Rattle.rv_types.proofs.ConstantKinds.{IsRising, constants_known}
-use Rattle.rv_types.proofs.Paces.{IsTimed, paced, argument_takes, sides_take, call_takes}
+use Rattle.rv_types.specs.ToldPaces.{IsTimed}
+use Rattle.rv_types.proofs.Paces.{paced, argument_takes, sides_take, call_takes}
 use Rattle.rv_types.proofs.RightSides.{IsNamedNode, named_node, flows_apart, left_flow, left_is, given_or_left, one_right, sides_known, texts_long}
 use Rattle.rv_types.proofs.NodeKinds.{the_some, fit_long, fit_at, typed_at, argument_there, argument_kind, IsTypedNode, typed_node, flow_typed, IsSided, single, several, equation_sided, several_call, assertion_typed, calls_fit, delays_typed, clock_typed, sides_typed}
 

@@ -29,3 +29,4 @@ pub mod Variables
 pub mod Lists
 pub mod Delayed
 pub mod Heads
+pub mod ToldPaces

@@ -29,6 +29,7 @@ mod sides;
 mod space;
 mod spaces;
 mod timing;
+mod told_paces;
 mod typed;
 mod types;
 mod typing;
@@ -45,6 +46,7 @@ pub use laws::{
 };
 pub use pace_steps::{
     called_pace, choice_pace, delayed_pace, joined_pace, kept_pace, operator_pace,
+    told_choice_pace, told_joined_pace, told_operator_pace,
 };
 pub use reading::{NodeTables, ProgramTables, flow_site, head_kind, node_tables, program_tables};
 pub use reading_clocks::{NodeClocks, node_clocks, program_clocks};

@@ -8,14 +8,17 @@ ghost use Rattle.rv_types.specs.Clocks.{clock_at, pace, pace_of_all};
 ghost use Rattle.rv_types.specs.Known.{flow_names};
 ghost use Rattle.rv_types.specs.Names.{name_faults, repeated};
 ghost use Rattle.rv_types.specs.Timings.{HaveFlows, IsTiming};
+ghost use Rattle.rv_types.specs.ToldPaces as told;
+ghost use Rattle.rv_types.specs.ToldPaces.{IsTimed};
 
 use crate::chains::clock_of_site;
 use crate::clocks::clocks_of;
 use crate::fault::Pace;
 use crate::names::flows_of;
-use crate::pacing::{pace_of, pace_of_all};
+use crate::pacing::pace_of;
 use crate::space::Space;
 use crate::timing::Timing;
+use crate::told_paces::{told_by, told_by_all};
 use crate::typed::Clock;
 use rv_base::{Many, Memory, Text};
 use rv_tree::{Expr, Node, Program};
@@ -79,11 +82,21 @@ impl<'a> NodeClocks<'a> {
         pace_of(&self.timing(), e).pace
     }
 
-    /// The pace of the arguments of a call together.
-    pub fn pace_of_arguments(&self, arguments: &[Expr]) -> Pace
-        ensures { result ≡ pace_of_all (node_tree self.now.node.now) (trees (map tree_of arguments.now)) }
+    /// The pace of an expression of the node whose clocks are right. Its first operand that has a clock tells it.
+    pub fn told_pace(&self, e: &Expr) -> Pace
+        // What is answered is the pace of the whole expression.
+        ensures whole { IsTimed (pace (node_tree self.now.node.now) (tree_of e.now)) → result ≡ pace (node_tree self.now.node.now) (tree_of e.now) }
+        ensures told { result ≡ told.told_pace (node_tree self.now.node.now) (tree_of e.now) }
     {
-        pace_of_all(&self.timing(), arguments).pace
+        told_by(&self.timing(), e)
+    }
+
+    /// The same of the arguments of a call together.
+    pub fn told_pace_of_arguments(&self, arguments: &[Expr]) -> Pace
+        ensures whole { IsTimed (pace_of_all (node_tree self.now.node.now) (trees (map tree_of arguments.now))) → result ≡ pace_of_all (node_tree self.now.node.now) (trees (map tree_of arguments.now)) }
+        ensures told { result ≡ told.told_pace_of_all (node_tree self.now.node.now) (trees (map tree_of arguments.now)) }
+    {
+        told_by_all(&self.timing(), arguments)
     }
 
     /// The node with the tables of its flows.
