@@ -35,6 +35,7 @@ pub mod KeptMemories
 pub mod MemoryNumbers
 pub mod ComparedParts
 pub mod ToldTests
+pub mod TimedParts
 pub mod ComparedPlaces
 pub mod FewMemories
 pub mod ClockedNodes

@@ -16,7 +16,10 @@ use Rattle.rv_types.specs.declared.typed.Clock.{Clock}
 use Rattle.rv_types.specs.declared.typed.Clock.TheVariants.{Base, On}
 use Rattle.rv_types.specs.declared.fault.Verdict.TheVariants.{Has, Clashes, Multiplies}
 use Rattle.rv_types.specs.declared.weighing.Weighed.{Weighed}
+use Rattle.rv_types.specs.declared.fault.Pace.{Pace}
 use Rattle.rv_types.specs.Clocks.{pace}
+use Rattle.rv_types.specs.ToldPaces.{IsTimed, told_pace}
+use Rattle.rv_types.proofs.ToldPaces.{told_is as told_pace_is}
 use Rattle.rv_types.specs.Kinds.{decl_kinds, flow_kind, flow_kinds, kind_in_program}
 use Rattle.rv_types.specs.Types.{kind_in, kind_of, both_are, binary_rule, is_constant}
 use Rattle.rv_types.specs.Constants.{whole_in, value_of, weight_of}
@@ -41,12 +44,13 @@ use Rattle.rv_flatten.specs.Compared.{is_told_test}
 use Rattle.rv_flatten.specs.Frames.{IsFrame}
 use Rattle.rv_flatten.specs.Readings.{unplaced, product, operator, flow_at, kept_number, named, raw_of, raw_form, raws_of}
 use Rattle.rv_agreement.specs.Translation.{Numbers, clock_number, tick_number}
-use Rattle.rv_flatten.specs.Tables.{product_read, path_read, operator_place_read, flow_read, clock_read, tick_read, clock_of_read, kept_read, flow_named, named_read, constant_read, output_read, tree_read, form_read, trees_read}
+use Rattle.rv_flatten.specs.Tables.{product_read, path_read, operator_place_read, flow_read, clock_read, tick_read, clock_of_read, told_clock_read, kept_read, flow_named, named_read, constant_read, output_read, tree_read, form_read, trees_read}
 use Rattle.rv_flatten.proofs.Standing.{Stands, as_child, of_not, of_minus, of_when, of_left, of_right, of_condition, of_first, of_second, of_operand, own_delay, own_current, own_call, stands_in}
 use Rattle.rv_flatten.proofs.PartsStand.{standing, calling, part_is}
 use Rattle.rv_flat.proofs.TypedParts.{some_is, no_flag, IsTyped, not_typed, minus_typed, when_typed, binary_typed, if_typed, most_typed, call_typed}
 use Rattle.rv_flat.proofs.PlaceNumbers.{index_at, index_past}
-use Rattle.rv_flatten.proofs.WellInstances.{typed}
+use Rattle.rv_flatten.proofs.TimedParts.{stands_timed}
+use Rattle.rv_flatten.proofs.WellInstances.{formed, typed}
 use Rattle.rv_flatten.proofs.ClockKinds.{IsTrueClock, clock_taken, pace_is_true}
 use Rattle.rv_flatten.proofs.FlowKinds.{kinds_many, signature_is}
 use Rattle.rv_flatten.proofs.ToldTests.{told_is}
@@ -171,6 +175,12 @@ module _ (numbers : Numbers) (i : Instance) (x : Frame) (is : IsFrame numbers i 
         subst (λ n. IsClockPlaced places (number_of_clock h (clock_of_expression n e)) (clock_in i Base e)) (sym is.node)
         (clock_placed (taken Base (pace i.node e)) (clock_taken program i.node (pace i.node e) (pace_is_true program i.node (typed program (main_of x.expanded.now) well is_main i is.instance) e k t)))
 
+    -- the same of the clock that is told of an expression that is free or on a clock
+    told_placed : (e : Tree) (k : Kind) → IsTyped program i.node e k → IsTimed (pace i.node e) → IsClockPlaced places (told_clock_read x e) (clock_in i Base e)
+    told_placed e k t timed =
+        subst (λ (p : Pace). IsClockPlaced places (number_of_clock h (taken Base p)) (clock_in i Base e))
+        (sym (subst (λ (n : NodeTree). told_pace n e ≡ pace n e) (sym is.node) (told_pace_is i.node e timed))) (own_placed e k t)
+
     pub own_clock_is : (e : Tree) (k : Kind) → IsTyped program i.node e k → clock_read x (clock_of_read x e) ≡ clock_number numbers (clock_in i Base e)
     own_clock_is e k t = clock_is (clock_of_read x e) (clock_in i Base e) (own_placed e k t)
 
@@ -230,10 +240,10 @@ module _ (numbers : Numbers) (i : Instance) (x : Frame) (is : IsFrame numbers i 
 
     module _ (ticks : AreTicks (program_of x.expanded.now) (main_of x.expanded.now) numbers.ticks) where
       arrow_is : (at : ℕ) (site : Option ℕ) (o : Op) (a b : Tree) (k : Kind) → Stands i.node (tree.Node at site (tree.Binary o a b)) → IsTyped program i.node (tree.Node at site (tree.Binary o a b)) k → o ≡ op.Arrow
-          → tick_read x (clock_of_read x (tree.Node 0 site (tree.Binary o a b))) ≡ tick_number numbers (clock_in i Base (tree.Node 0 site (tree.Binary o a b)))
+          → tick_read x (told_clock_read x (tree.Node 0 site (tree.Binary o a b))) ≡ tick_number numbers (clock_in i Base (tree.Node 0 site (tree.Binary o a b)))
       arrow_is at site o a b k s t arrow =
           let e : Tree = tree.Node at site (tree.Binary o a b) in
-          tick_is (clock_of_read x e) (clock_in i Base e) (own_placed e k t)
+          tick_is (told_clock_read x e) (clock_in i Base e) (told_placed e k t (stands_timed program i.node (formed program (main_of x.expanded.now) well is_main i is.instance) e s))
           (λ q there. ticks.all i e q is.instance (stands_in i.node e s) (ap (λ p. is_arrow (tree.Node at site (tree.Binary p a b))) arrow) there)
 
       mutual

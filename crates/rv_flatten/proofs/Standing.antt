@@ -134,7 +134,7 @@ delay_of_assertion (r ∷ rs) q d w v = elim (head_or_tail r rs q w) [
   | inr rest ↦ Contains-append_right (delays r.body) (delays_in_assertions rs) d (delay_of_assertion rs q d rest v)
 ]
 
-call_of_equation : (qs : List EquationTree) (q : EquationTree) (c : CallTree) → Contains qs q → Contains (calls_in q.right) c → Contains (calls_in_equations qs) c
+pub call_of_equation : (qs : List EquationTree) (q : EquationTree) (c : CallTree) → Contains qs q → Contains (calls_in q.right) c → Contains (calls_in_equations qs) c
 call_of_equation [] q c w v = none_in q w
 call_of_equation (r ∷ rs) q c w v = elim (head_or_tail r rs q w) [
   | inl is ↦ Contains-append_left (calls_in r.right) (calls_in_equations rs) c (subst (λ u. Contains (calls_in u.right) c) (sym is) v)

@@ -12,6 +12,7 @@ use Rattle.rv_types.specs.declared.reading_values.Trues.{Trues}
 use Rattle.rv_types.specs.ConstantParts.{constant_part, trues_over}
 use Rattle.rv_types.specs.Types.{Scope}
 use Rattle.rv_types.specs.Scopes.{node_scope}
+use Rattle.rv_types.specs.ToldPaces.{told_clock}
 use Rattle.rv_types.specs.ValueTables.{value_by}
 use Rattle.rv_instances.specs.Callees.{callee_in}
 use Rattle.rv_instances.specs.Expanded.{program_of}
@@ -57,6 +58,10 @@ module _ (x : Frame) where
   -- the number of the flow of the clock of an expression in the layout
   abbrev pub clock_of_read : Tree → Option ℕ
   clock_of_read e = clock_number (numbers_of x.reader) (clock_of_expression (node_read x.reader) e)
+
+  -- the same of the clock that an expression tells
+  abbrev pub told_clock_read : Tree → Option ℕ
+  told_clock_read e = clock_number (numbers_of x.reader) (told_clock (node_read x.reader) e)
 
   -- the memory of a `pre` or `current`
   abbrev pub kept_read : Option ℕ → Tree → ℕ
@@ -112,7 +117,7 @@ module _ (x : Frame) where
     form_read site (tree.Current e) = unplaced (Current (kept_read site e))
     form_read site (tree.When e c) = unplaced (When (flow_named c.text) (tree_read e))
     form_read site (tree.Binary o a b) = Node (operator_place_read site o a) (operator o
-        (If (unplaced (Ticked (tick_read (clock_of_read (tree.Node 0 site (tree.Binary o a b)))))) (tree_read b) (tree_read a))
+        (If (unplaced (Ticked (tick_read (told_clock_read (tree.Node 0 site (tree.Binary o a b)))))) (tree_read b) (tree_read a))
         (product_read (constant_read a) (constant_read b) (tree_read a) (tree_read b))
         (tree_read a) (tree_read b))
     form_read site (tree.If a b c) = unplaced (If (tree_read a) (tree_read b) (tree_read c))

@@ -38,8 +38,8 @@ use rv_types::{
 };
 use std::alloc::Global;
 
-/// An expression of an instance as a flat one. Time grows with the number of its parts, up to look-ups; what stands under
-/// a `->` is looked at once more for each of them, of which there are no more than a text is nested deep.
+/// An expression of an instance as a flat one. Time grows with the number of its parts, up to look-ups; of what stands under
+/// a `->` the first operand that has a clock tells the clock.
 pub fn flat_of(alloc: Global, frame: &Frame, e: &Expr) -> Result<FlatExpr, Memory>
     requires { IsReader frame.now.reader }
     ensures { (numbers : Numbers) (i : Instance) → IsFrame numbers i frame.now → AreTicks (program_of frame.now.expanded.now) (main_of frame.now.expanded.now) numbers.ticks → Contains (node_parts i.node) (tree_of e.now) → IsSome (kind_of (node_scope (program_of frame.now.expanded.now) i.node) (tree_of e.now)) → IfOk result (λ f. raw_tree f ≡ readings.raw_of (program_of frame.now.expanded.now) numbers i (tree_of e.now)) }
@@ -403,9 +403,9 @@ fn made_arrow(
     right: Box<FlatExpr>,
 ) -> Result<Box<FlatExpr>, Memory>
     requires { IsReader frame.now.reader }
-    ensures { IfOk result (λ f. raw_tree f ≡ unplaced (raw.If (unplaced (raw.Ticked (tick_read frame.now (tables.clock_of_read frame.now (tree_of e.now))))) (raw_tree right) (raw_tree left))) }
+    ensures { IfOk result (λ f. raw_tree f ≡ unplaced (raw.If (unplaced (raw.Ticked (tick_read frame.now (tables.told_clock_read frame.now (tree_of e.now))))) (raw_tree right) (raw_tree left))) }
 {
-    let clock = frame.reader.clock_of(e);
+    let clock = frame.reader.told_clock_of(e);
     let ticked = made_ticked(alloc, tick_number(frame, clock))?;
     made_if(alloc, ticked, right, left)
 }
