@@ -1,3 +1,4 @@
+pub mod Confirmed
 pub mod Counted
 pub mod Placed
 pub mod Spelling

@@ -108,7 +108,7 @@ fn bits_of_kinds(labels: &Many<Many<Text>>, kinds: &[Kind]) -> usize
 }
 
 /// The types of the memories.
-fn memory_kinds(alloc: Global, flat: &Flat) -> Result<Many<Kind>, Memory>
+pub fn memory_kinds(alloc: Global, flat: &Flat) -> Result<Many<Kind>, Memory>
     ensures { IfOk result (λ kinds. kinds ≡ kinds_of_memories flat.now) }
 {
     let mut kinds = Many::new(alloc);
@@ -119,7 +119,7 @@ fn memory_kinds(alloc: Global, flat: &Flat) -> Result<Many<Kind>, Memory>
 }
 
 /// The types of the inputs.
-fn input_kinds(alloc: Global, flat: &Flat) -> Result<Many<Kind>, Memory>
+pub fn input_kinds(alloc: Global, flat: &Flat) -> Result<Many<Kind>, Memory>
     ensures { IfOk result (λ kinds. kinds ≡ kinds_of_inputs flat.now) }
 {
     let mut kinds = Many::new(alloc);

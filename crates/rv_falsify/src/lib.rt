@@ -5,8 +5,10 @@
 //! runs that valuations spell, and on `rv_replay` for what falsifies. Begin with finding.rt.
 #![tactic(auto)]
 
+mod confirming;
 mod decoding;
 mod finding;
 
+pub use confirming::confirmed;
 pub use decoding::trace_of;
 pub use finding::find;

@@ -111,7 +111,7 @@ fn read_triple(
     Ok(Triple { var, lo, hi })
 }
 
-/// All nodes of the record that stands here.
+/// All nodes of the record that stands here, in a list with as much room as it takes.
 fn read_triples(
     alloc: Global,
     records: &Records<'_>,
@@ -122,7 +122,7 @@ fn read_triples(
     requires { count ≤ 1073741824 }
     ensures { ReadsGroups 3 (is_node_field shape states) records.now count (upto triple_at (here records.now) count) result }
 {
-    let mut triples = Many::new(alloc);
+    let mut triples = Many::from_vec(Vec::with_capacity(alloc, count)?);
     for index in 0..count {
         let triple = read_triple(records, shape, states, &triples)?;
         triples.push(triple)?;

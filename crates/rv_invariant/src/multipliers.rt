@@ -61,7 +61,8 @@ fn read_weight(
     Ok(Weight { premise, by })
 }
 
-/// All pairs of the record that stands here.
+/// All pairs of the record that stands here, in a list with as much room as it takes, since there are many lists of one pair. Beyond
+/// 256 pairs the record is at fault.
 fn read_weights(
     alloc: Global,
     records: &Records<'_>,
@@ -71,7 +72,8 @@ fn read_weights(
     requires { count ≤ 1073741824 }
     ensures { ReadsGroups 2 (is_pair_field premises) records.now count (upto weight_at (here records.now) count) result }
 {
-    let mut weights = Many::new(alloc);
+    let room = if count < 256 { count } else { 256 };
+    let mut weights = Many::from_vec(Vec::with_capacity(alloc, room)?);
     let mut least: u64 = 0;
     for index in 0..count {
         let weight = read_weight(records, index, premises, least)?;

@@ -20,8 +20,9 @@ use rv_replay::{ReplayFault, Replayed, flat_traces, replay_flat};
 use rv_types::well_formed_programs;
 use std::alloc::Global;
 
-/// The number of the instant at which a trace falsifies; none where it does not.
-fn falsified_at(
+/// The number of the instant at which a trace of a program falsifies it, by its replay: no assertion was false and no value left the range
+/// up to there. None where it falsifies nowhere. The only error is want of memory.
+pub fn falsified_at(
     alloc: Global,
     source: &Source,
     flat: &Flat,

@@ -28,6 +28,8 @@ use Rattle.rv_proofs.specs.declared.certificate.Certificate.{Certificate}
 use Rattle.rv_accept.specs.Passing.{IsGiven}
 use Rattle.rv_reading.specs.declared.reading.Reading.{Reading}
 use Rattle.rv_boxes.specs.Passing.{IsPassOf}
+use Rattle.rv_rise.specs.Rounds as rise
+use Rattle.rv_claimed.specs.Certifying as claimed
 use Rattle.rv_reading.specs.Read.{flat_of, system_read, diagrams_of, relation_of, questions_of, IsRead}
 
 module _ (f : Flat) (well : IsWell (system_of f)) (computed : (s : System) (w : Valuation) → IsWell s → IsSymbolic s w (symbolic s w)) (a b : Diagrams) (p : Parts)
@@ -72,6 +74,13 @@ is_given r c read range free = record {
 pub is_pass : (r : Reading) (columns : ℕ) → IsRead r → columns ≡ length (flat_of r).columns
     → IsPassOf (system_read r) (diagrams_of r) (relation_of r) (questions_of r) columns
 is_pass r columns read many = record { relation = read.relation; questions = read.questions; wide = sym (many ∙ read.wide) }
+
+-- ---- What the search for row claims and the maker of their certificates are given of a reading.
+pub is_rising : (r : Reading) → IsRead r → rise.IsGiven (system_read r) (diagrams_of r) (relation_of r) (questions_of r)
+is_rising r read = record { relation = read.relation; questions = read.questions }
+
+pub is_claimed : (r : Reading) → IsRead r → claimed.IsGiven (system_read r) (diagrams_of r) (relation_of r) (questions_of r)
+is_claimed r read = record { relation = read.relation; questions = read.questions }
 
 -- ---- Whether there are integers.
 none_left : {X : Type 0} (xs : List X) → length xs ≡ 0 → xs ≡ []

@@ -1,6 +1,6 @@
 //! The control reading of a flat system.
 
-ghost use Rattle.std.specs.Prelude.{◌≡◌, ◌↔◌, ◌<◌, ◌≤◌, ◌^◌, ℕ, ℤ, Bool, List, Ok, None, Some, All, length, slice_get, IfOk, OnOk, IsErrOf, IsTrue};
+ghost use Rattle.std.specs.Prelude.{◌≡◌, ◌↔◌, ◌<◌, ◌≤◌, ◌^◌, ℕ, ℤ, Bool, List, Ok, None, Some, All, length, slice_get, IfOk, IfSome, OnOk, IsErrOf, IsTrue, ◌≢◌};
 ghost use Rattle.std.specs.Int.RustNames.{unsigned_abs};
 ghost use Rattle.std.specs.Borrow.{sem};
 ghost use Rattle.rv_diagram.specs.declared.frozen.Frozen.{Frozen as FrozenModel};
@@ -15,6 +15,7 @@ ghost use Rattle.rv_proofs.specs.Accepted.{IsAccepted};
 ghost use Rattle.rv_proofs.specs.Reached.{HasNoIntegers, IsLeastClosed, AreLayers};
 ghost use Rattle.rv_proofs.specs.Runs.{IsSafeSystem};
 ghost use Rattle.rv_proofs.specs.Boxes.{BoxClaim, HasGoodBox};
+ghost use Rattle.rv_proofs.specs.RowClaims.{HasGoodRows};
 ghost use Rattle.rv_proofs.specs.Counts.{HasFree};
 ghost use Rattle.rv_proofs.specs.Verdicts.{IsVerdict};
 ghost use Rattle.rv_proofs.specs.declared.certificate.Certificate.{Certificate as CertificateModel};
@@ -35,10 +36,12 @@ use rv_base::Many;
 use rv_bits::{Around, ReadSystem, read_system};
 use rv_boxes::box_pass;
 use rv_cases::{Questions, cases};
+use rv_claimed::certify;
 use rv_control::{computed_instants, control_is_a_system};
 use rv_diagram::{Frozen, Store, StoreFault};
 use rv_flat::Flat;
-use rv_proofs::{Case, Certificate, Layers, Verdict};
+use rv_proofs::{Case, Certificate, Layers, Verdict, tighter_row_claims};
+use rv_rise::least_closed;
 use rv_symbolic::{Parts, Relation, relation_stays};
 use rv_tested::ask_system;
 use rv_walk::{BoxEnd, falsifying_path, walk};
@@ -221,6 +224,34 @@ impl<'a> Reading<'a> {
             &self.questions,
             thresholds,
             columns,
+        )
+    }
+
+    /// The least closed row claim of the flat system, with bounds among its thresholds, and the certificate that it gives. The certificate is
+    /// accepted, without loops, and comes exactly where some closed row claim is good.
+    pub fn row_pass(&mut self, alloc: Global) -> Result<Option<Certificate>, StoreFault>
+        requires read { IsRead self.old }
+        requires thresholds { All (λ t. unsigned_abs t ≤ 2 ^ 41) (flat_of self.old).thresholds }
+        ensures accepted { IfOk result (λ o. IfSome o (IsAccepted (system_read self.old))) }
+        ensures plain { IfOk result (λ o. IfSome o ArePlain) }
+        ensures exactly { IfOk result (λ o. (o ≢ None) ↔ HasGoodRows (system_read self.old) (flat_of self.old).thresholds) }
+        ensures same { self.new ≡ self.old }
+        ensures roomy { IsErrOf result StoreFault.Nodes → (diagrams_of self.old).limit < 2 ^ (2 ^ (diagrams_of self.old).variables) }
+    {
+        tighter_row_claims();
+        let claim = least_closed(
+            alloc,
+            &mut self.store,
+            &self.relation,
+            &self.questions,
+            self.flat.thresholds.as_slice(),
+        )?;
+        certify(
+            alloc,
+            &mut self.store,
+            &self.relation,
+            &self.questions,
+            claim,
         )
     }
 

@@ -1,5 +1,5 @@
 -- All flat systems of a program have a good claim, or none has one; and the same of a probe that falsifies.
-use Rattle.std.proofs.Common.{◌≡◌, ◌⊎◌, ◌≤◌, ℕ, ℤ, pos, Bool, List, [], ◌∷◌, length, map, refl, sym, ◌∙◌, ap, subst}
+use Rattle.std.proofs.Common.{◌≡◌, ◌⊎◌, inl, inr, ◌≤◌, ℕ, ℤ, pos, Bool, List, [], ◌∷◌, length, map, refl, sym, ◌∙◌, ap, subst}
 use Rattle.std.specs.Prelude.{replicate}
 use Rattle.std.specs.List.{Contains}
 use Rattle.rv_base.specs.declared.value.Trace.{Trace}
@@ -14,17 +14,30 @@ use Rattle.rv_flat.specs.Systems.{memory_of}
 use Rattle.rv_control.specs.Control.{control_of}
 use Rattle.rv_proofs.specs.Systems.{System}
 use Rattle.rv_proofs.specs.Boxes.{HasGoodBox}
+use Rattle.rv_proofs.specs.RowClaims.{HasGoodRows}
+use Rattle.rv_proofs.specs.Runs.{IsSafeSystem}
 use Rattle.rv_probe.specs.Probes.{probe_of, probe_value, probe_within}
 use Rattle.rv_replay.specs.Replays.{IsFalsifiedAt}
 use Rattle.rv_types.specs.Lists.{MemoryAt}
 use Rattle.rv_types.specs.declared.typed.Kind.{Kind}
-use Rattle.rv_run.specs.Programs.{HasGoodClaim, HasProbe, LacksGoodClaim, LacksProbe}
+use Rattle.rv_run.specs.Programs.{HasGood, HasGoodClaim, HasProbe, LacksGoodClaim, LacksProbe}
 
 pub one_claim : (p : ProgramTree) (m : Identifier) → ((f g : Flat) → IsFlatOf p m f → IsFlatOf p m g → control_of f ≡ control_of g)
     → ((f g : Flat) → IsFlatOf p m f → IsFlatOf p m g → f.thresholds ≡ g.thresholds) → HasGoodClaim p m → LacksGoodClaim p m → ⊥
 one_claim p m systems thresholds (f, flat, good) (g, other, none) =
-    none (subst (λ (s : System). HasGoodBox s g.thresholds) (systems f g flat other)
-    (subst (λ (ts : List ℤ). HasGoodBox (control_of f) ts) (thresholds f g flat other) good))
+    none (subst (λ (s : System). HasGood s g.thresholds) (systems f g flat other)
+    (subst (λ (ts : List ℤ). HasGood (control_of f) ts) (thresholds f g flat other) good))
+
+-- a system with a good claim of either kind is safe
+pub safe_claims : (s : System) (thresholds : List ℤ) → (HasGoodBox s thresholds → IsSafeSystem s) → (HasGoodRows s thresholds → IsSafeSystem s)
+    → HasGood s thresholds → IsSafeSystem s
+safe_claims s thresholds boxes rows (inl box) = boxes box
+safe_claims s thresholds boxes rows (inr row) = rows row
+
+-- it has none where it has none of either
+pub lacks_both : (s : System) (thresholds : List ℤ) → (HasGoodBox s thresholds → ⊥) → (HasGoodRows s thresholds → ⊥) → HasGood s thresholds → ⊥
+lacks_both s thresholds boxes rows (inl box) = boxes box
+lacks_both s thresholds boxes rows (inr row) = rows row
 
 same_kinds : (ms : List FlatMemory) → map (λ (m : FlatMemory). m.kind) ms ≡ map (λ (m : MemoryAt). m.kind) (map memory_of ms)
 same_kinds [] = refl

@@ -1,5 +1,5 @@
 -- What an answer says of the bytes of a source and the name of its main node.
-use Rattle.std.specs.Prelude.{◌≡◌, ◌<◌, ◌^◌, ℕ, List}
+use Rattle.std.specs.Prelude.{◌≡◌, ◌⊎◌, ◌<◌, ◌^◌, ℕ, ℤ, List}
 use Rattle.rv_base.specs.declared.value.Value.{Value}
 use Rattle.rv_tree.specs.Tree.{ProgramTree}
 use Rattle.rv_tree.specs.Places.{Identifier, Sites}
@@ -15,6 +15,8 @@ use Rattle.rv_flat.specs.FlatOf.{IsFlatOf}
 use Rattle.rv_control.specs.Control.{control_of}
 use Rattle.rv_proofs.specs.Accepted.{IsAccepted}
 use Rattle.rv_proofs.specs.Boxes.{HasGoodBox}
+use Rattle.rv_proofs.specs.RowClaims.{HasGoodRows}
+use Rattle.rv_proofs.specs.Systems.{System}
 use Rattle.rv_proofs.specs.declared.certificate.Certificate.{Certificate}
 use Rattle.rv_probe.specs.Probes.{HasFalsifyingProbe}
 
@@ -55,13 +57,17 @@ HasIntegers program node = ¬ (IsControl program node)
 abbrev pub IsCertified : Certificate → ProgramTree → Identifier → Type 0
 IsCertified c program node = (f : Flat) × IsFlatOf program node f × IsAccepted (control_of f) c
 
--- Some closed box claim of the program's flat system is good, with bounds among the program's thresholds.
+-- Some closed box claim or row claim is good, with bounds among the thresholds.
+abbrev pub HasGood : System → List ℤ → Type 0
+HasGood s thresholds = HasGoodBox s thresholds ⊎ HasGoodRows s thresholds
+
+-- Some closed box claim or row claim of the program's flat system is good, with bounds among the program's thresholds.
 abbrev pub HasGoodClaim : ProgramTree → Identifier → Type 0
-HasGoodClaim program node = (f : Flat) × IsFlatOf program node f × HasGoodBox (control_of f) f.thresholds
+HasGoodClaim program node = (f : Flat) × IsFlatOf program node f × HasGood (control_of f) f.thresholds
 
 -- None is.
 abbrev pub LacksGoodClaim : ProgramTree → Identifier → Type 0
-LacksGoodClaim program node = (f : Flat) × IsFlatOf program node f × (¬ HasGoodBox (control_of f) f.thresholds)
+LacksGoodClaim program node = (f : Flat) × IsFlatOf program node f × (¬ HasGood (control_of f) f.thresholds)
 
 -- Some probe of the program's flat system falsifies.
 abbrev pub HasProbe : ProgramTree → Identifier → Type 0
@@ -71,7 +77,7 @@ HasProbe program node = (f : Flat) × IsFlatOf program node f × HasFalsifyingPr
 abbrev pub LacksProbe : ProgramTree → Identifier → Type 0
 LacksProbe program node = (f : Flat) × IsFlatOf program node f × (¬ HasFalsifyingProbe program node f)
 
--- With integers, no closed box claim is good, and no probe falsifies.
+-- With integers, no closed box claim and no closed row claim is good, and no probe falsifies.
 abbrev pub IsUnknown : ProgramTree → Identifier → Type 0
 IsUnknown program node = HasIntegers program node × LacksGoodClaim program node × LacksProbe program node
 

@@ -1,7 +1,7 @@
 //! How sources are judged: by probes, and by the least closed box claims of their flat systems, which for those without integers are the
-//! control states that are reached.
+//! control states that are reached; those with integers by the least closed row claims, too.
 
-ghost use Rattle.std.specs.Prelude.{◌≡◌, ◌<◌, ◌≤◌, ◌^◌, ℕ, false, length, IsTrue, IfOk, IsErrOf, ◌↔◌};
+ghost use Rattle.std.specs.Prelude.{◌≡◌, ◌<◌, ◌≤◌, ◌^◌, ℕ, false, length, IsTrue, IfOk, IsErrOf, ◌↔◌, Some, slice_get};
 ghost use Rattle.std.specs.Int.RustNames.{unsigned_abs};
 ghost use Rattle.std.specs.List.{All};
 ghost use Rattle.rv_tree.specs.Tree.{program_tree};
@@ -12,7 +12,9 @@ ghost use Rattle.rv_instances.specs.Fitting.{Fits};
 ghost use Rattle.rv_control.specs.Control.{control_of};
 ghost use Rattle.rv_invariant.specs.Certificates.{IsWithoutLoops};
 ghost use Rattle.rv_meaning.specs.Integers.{IsControl};
+ghost use Rattle.rv_diagram.specs.declared.frozen.Frozen.{Frozen};
 ghost use Rattle.rv_proofs.specs.Accepted.{IsAccepted};
+ghost use Rattle.rv_proofs.specs.Ranges.{IsControlSet};
 ghost use Rattle.rv_proofs.specs.Boxes.{HasGoodBox};
 ghost use Rattle.rv_proofs.specs.Reached.{HasNoIntegers};
 ghost use Rattle.rv_source.specs.Numbers.{HasSmallNumbers};
@@ -21,7 +23,7 @@ ghost use Rattle.rv_walk.specs.Ends.{AreBadLayers};
 ghost use Rattle.rv_falsify.specs.Falsifying.{IsFalsifying};
 ghost use Rattle.rv_probe.specs.Probes.{HasFalsifyingProbe};
 ghost use Rattle.rv_replay.specs.Traces.{IsTrace};
-ghost use Rattle.rv_run.specs.Programs.{HasManyVariables, LacksProbe};
+ghost use Rattle.rv_run.specs.Programs.{HasGood, HasManyVariables, LacksProbe};
 ghost use Rattle.rv_run.specs.Judged.{is_test, IsControlSystem, IsKnown};
 ghost use Rattle.rv_run.specs.Verdicts.{IsProbe, IsTraced, IsVerdictOf};
 
@@ -31,6 +33,7 @@ use rv_box::box_pass;
 use rv_control::{control_is_a_system, runs_are_abstract};
 use rv_diagram::StoreFault;
 use rv_falsify::find;
+use rv_fixpoint::{End, Options, analyse};
 use rv_flat::{Bit, Flat};
 use rv_flatten::flatten;
 use rv_instances::Source;
@@ -47,7 +50,7 @@ use std::alloc::Global;
 /// The verdict on a source. A probe that falsifies it is asked for first, before any diagram is made. A source without integers has a
 /// certificate and its document where it is safe, and else a shortest trace that falsifies it with its document, or the probe where its
 /// diagrams would have more nodes than they may. One with integers has the probe where there is one, else a certificate where some
-/// closed box claim is good, and else is Undecided. Nodes comes only where no probe falsifies, and the source has many diagram variables
+/// closed box claim or row claim is good, and else is Undecided. Nodes comes only where no probe falsifies, and the source has many diagram variables
 /// for the number of nodes that the diagrams may have. Names are letters, digits and `_`, and literals and constants at most 2^40 + 1, as in the tree of each text.
 pub fn judge(alloc: Global, source: &Source, nodes: u32) -> Result<Verdict, StoreFault>
     requires limit { nodes ≤ 33554432 }
@@ -109,7 +112,7 @@ fn unless_shorter(
     requires control { IsControlSystem flat.now }
     requires falsifying { IsFalsifying (program_tree source.now.program) (name_at (program_tree source.now.program) source.now.typed.main) trace }
     requires probe { IsProbe trace (program_tree source.now.program) (name_at (program_tree source.now.program) source.now.typed.main) }
-    requires lacks { HasGoodBox (control_of flat.now) flat.now.thresholds → ⊥ }
+    requires lacks { HasGood (control_of flat.now) flat.now.thresholds → ⊥ }
     ensures judged { IfOk result (λ v. IsVerdictOf nodes v (program_tree source.now.program) (name_at (program_tree source.now.program) source.now.typed.main)) }
     ensures decided { IsErrOf result StoreFault.Nodes → ⊥ }
 {
@@ -170,7 +173,7 @@ fn safe(
     requires fits { Fits (program_tree source.now.program) source.now.typed source.now.order }
     requires plain { HasPlainNames (program_tree source.now.program) }
     requires known { IsKnown (program_tree source.now.program) (name_at (program_tree source.now.program) source.now.typed.main) flat.now }
-    requires claim { HasGoodBox (control_of flat.now) flat.now.thresholds }
+    requires claim { HasGood (control_of flat.now) flat.now.thresholds }
     requires accepted { IsAccepted (control_of flat.now) certificate }
     requires loops { IsWithoutLoops certificate }
     ensures judged { (nodes : ℕ) → IfOk result (λ v. IsVerdictOf nodes v (program_tree source.now.program) (name_at (program_tree source.now.program) source.now.typed.main)) }
@@ -183,7 +186,7 @@ fn safe(
     Ok(Verdict::Safe(certificate, document))
 }
 
-/// The verdict on a source of which no closed box claim is good.
+/// The verdict on a source of which no closed box claim is good. One with integers may have a good row claim.
 fn not_good(
     alloc: Global,
     source: &Source,
@@ -195,8 +198,10 @@ fn not_good(
     requires read { IsRead reading.old }
     requires known { IsKnown (program_tree source.now.program) (name_at (program_tree source.now.program) source.now.typed.main) (flat_of reading.old) }
     requires lacks { HasGoodBox (system_read reading.old) (flat_of reading.old).thresholds → ⊥ }
+    requires thresholds { All (λ t. unsigned_abs t ≤ 2 ^ 41) (flat_of reading.old).thresholds }
     requires unprobed { HasFalsifyingProbe (program_tree source.now.program) (name_at (program_tree source.now.program) source.now.typed.main) (flat_of reading.old) → IsControlSystem (flat_of reading.old) }
     requires bad { HasNoIntegers (system_read reading.old) → AreBadLayers (system_read reading.old) layers.now }
+    requires sets { (t : ℕ) (set : Frozen) → slice_get layers.now.sets t ≡ Some set → IsControlSet (system_read reading.old) set }
     ensures judged { (nodes : ℕ) → IfOk result (λ v. IsVerdictOf nodes v (program_tree source.now.program) (name_at (program_tree source.now.program) source.now.typed.main)) }
     ensures wide { IsErrOf result StoreFault.Nodes → (diagrams_of reading.old).limit < 2 ^ (2 ^ (diagrams_of reading.old).variables) }
 {
@@ -204,7 +209,16 @@ fn not_good(
     if is_control(flat) {
         return violated(alloc, source, reading, layers);
     }
-    Ok(Verdict::Undecided)
+    let options = Options {
+        locations: 2,
+        accelerate: true,
+    };
+    let end = analyse(alloc, reading, layers, &options)?;
+    let flat = reading.flat();
+    match end {
+        End::Proved(certificate) => safe(alloc, source, flat, certificate),
+        End::Left => Ok(Verdict::Undecided),
+    }
 }
 
 /// The verdict on a source without integers whose layers have a false observer.
@@ -220,11 +234,12 @@ fn violated(
     requires known { IsKnown (program_tree source.now.program) (name_at (program_tree source.now.program) source.now.typed.main) (flat_of reading.old) }
     requires program_control { IsControl (program_tree source.now.program) (name_at (program_tree source.now.program) source.now.typed.main) }
     requires control { HasNoIntegers (system_read reading.old) }
-    requires lacks { HasGoodBox (system_read reading.old) (flat_of reading.old).thresholds → ⊥ }
     requires bad { AreBadLayers (system_read reading.old) layers.now }
     ensures judged { (nodes : ℕ) → IfOk result (λ v. IsVerdictOf nodes v (program_tree source.now.program) (name_at (program_tree source.now.program) source.now.typed.main)) }
     ensures wide { IsErrOf result StoreFault.Nodes → (diagrams_of reading.old).limit < 2 ^ (2 ^ (diagrams_of reading.old).variables) }
 {
+    control_is_a_system();
+    claims_are_safe();
     let found = find(alloc, reading, source, layers)?;
     let Some(trace) = found else {
         return Ok(Verdict::Undecided);

@@ -8,6 +8,6 @@ pub enum Verdict {
     Safe(Certificate, Vec<u8>),
     /// It is not safe: a trace that falsifies it, and the document of the trace.
     Violated(Trace, Vec<u8>),
-    /// It has integers, no closed box claim of it is good, and no probe falsifies it.
+    /// It has integers, no closed box claim or row claim of it is good, and no probe falsifies it.
     Undecided,
 }

@@ -1,11 +1,13 @@
-use Rattle.std.proofs.Common.{Ok, ℤ, ap, sym, subst, ◌≤◌, ◌^◌}
+use Rattle.std.proofs.Common.{◌≡◌, ℕ, Ok, Some, slice_get, ℤ, inl, ap, sym, subst, ◌≤◌, ◌^◌}
 use Rattle.std.specs.Int.RustNames.{unsigned_abs}
 use Rattle.std.specs.List.{All}
 use Rattle.rv_tree.specs.Tree.{program_tree}
 use Rattle.rv_types.specs.Instances.{name_at}
 use Rattle.rv_flat.specs.declared.flat.Flat.{Flat}
 use Rattle.rv_control.specs.Control.{control_of}
+use Rattle.rv_diagram.specs.declared.frozen.Frozen.{Frozen}
 use Rattle.rv_proofs.specs.Accepted.{IsAccepted}
+use Rattle.rv_proofs.specs.Ranges.{IsControlSet}
 use Rattle.rv_proofs.specs.Boxes.{HasGoodBox}
 use Rattle.rv_proofs.specs.Reached.{HasNoIntegers}
 use Rattle.rv_walk.specs.Ends.{AreBadLayers, IsGoodEnd}
@@ -22,8 +24,8 @@ box_pass-requires-clause-thresholds c =
 
 pub safe-requires-clause-claim : goal.safe-requires-clause-claim
 safe-requires-clause-claim c =
-    subst (λ (f : Flat). HasGoodBox (control_of f) f.thresholds) c.in_ok-reading.ensures.flat
-    (c.in_ok-certificate.ensures.exactly.0 (subst IsGoodEnd (sym c.in-Good.is) tt))
+    inl (subst (λ (f : Flat). HasGoodBox (control_of f) f.thresholds) c.in_ok-reading.ensures.flat
+    (c.in_ok-certificate.ensures.exactly.0 (subst IsGoodEnd (sym c.in-Good.is) tt)))
 
 pub safe-requires-clause-accepted : goal.safe-requires-clause-accepted
 safe-requires-clause-accepted c =
@@ -49,6 +51,11 @@ not_good-requires-clause-unprobed c =
     subst (λ (r : Reading). HasFalsifyingProbe p main (flat_of r) → IsControlSystem (flat_of r)) (sym c.in_ok-certificate.ensures.same)
     (subst (λ (f : Flat). HasFalsifyingProbe p main f → IsControlSystem f) (sym c.in_ok-reading.ensures.flat) c.requires.unprobed)
 
+pub not_good-requires-clause-thresholds : goal.not_good-requires-clause-thresholds
+not_good-requires-clause-thresholds c =
+    subst (λ (r : Reading). All (λ (t : ℤ). unsigned_abs t ≤ 2 ^ 41) (flat_of r).thresholds) (sym c.in_ok-certificate.ensures.same)
+    (subst (λ (f : Flat). All (λ (t : ℤ). unsigned_abs t ≤ 2 ^ 41) f.thresholds) (sym c.in_ok-reading.ensures.flat) c.requires.thresholds)
+
 pub not_good-requires-clause-lacks : goal.not_good-requires-clause-lacks
 not_good-requires-clause-lacks c =
     subst (λ (r : Reading). HasGoodBox (system_read r) (flat_of r).thresholds → ⊥) (sym c.in_ok-certificate.ensures.same)
@@ -58,6 +65,11 @@ pub not_good-requires-clause-bad : goal.not_good-requires-clause-bad
 not_good-requires-clause-bad c =
     subst (λ (r : Reading). HasNoIntegers (system_read r) → AreBadLayers (system_read r) c.in-Bad.layers) (sym c.in_ok-certificate.ensures.same)
     (λ none. c.in_ok-certificate.ensures.control_bad c.in-Bad.layers none (ap Ok c.in-Bad.is))
+
+pub not_good-requires-clause-sets : goal.not_good-requires-clause-sets
+not_good-requires-clause-sets c =
+    subst (λ (r : Reading). (t : ℕ) (set : Frozen) → slice_get c.in-Bad.layers.sets t ≡ Some set → IsControlSet (system_read r) set) (sym c.in_ok-certificate.ensures.same)
+    (λ t set at. ((c.in_ok-certificate.ensures.bad c.in-Bad.layers (ap Ok c.in-Bad.is)).2.each t set at).control)
 
 pub returns-in-Good-clause-judged : goal.returns-in-Good-clause-judged
 returns-in-Good-clause-judged c = c.safe.ensures.judged c.args.nodes

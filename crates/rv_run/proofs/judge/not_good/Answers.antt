@@ -1,11 +1,17 @@
-use Rattle.std.proofs.Common.{true≢false, ap, sym, ◌∙◌, subst}
+use Rattle.std.proofs.Common.{Ok, inr, true≢false, ap, sym, ◌∙◌, subst}
 use Rattle.rv_tree.specs.Tree.{program_tree}
 use Rattle.rv_types.specs.Instances.{name_at}
 use Rattle.rv_flat.specs.declared.flat.Flat.{Flat}
 use Rattle.rv_control.specs.Control.{control_of}
 use Rattle.rv_proofs.specs.Reached.{HasNoIntegers}
 use Rattle.rv_reading.specs.Read.{flat_of}
-use Rattle.rv_run.specs.Judged.{IsControlSystem}
+use Rattle.rv_proofs.specs.Accepted.{IsAccepted}
+use Rattle.rv_proofs.specs.RowClaims.{HasGoodRows}
+use Rattle.rv_reading.specs.declared.reading.Reading.{Reading}
+use Rattle.rv_fixpoint.specs.Ends.{IsProved}
+use Rattle.rv_run.specs.Judged.{IsControlSystem, IsKnown}
+use Rattle.rv_run.specs.Programs.{HasGood}
+use Rattle.rv_run.proofs.Claimed.{lacks_both}
 use Rattle.rv_run.proofs.Integers.{system_control, control_system}
 use Rattle.rv_run.proofs.NoIntegers.{no_integers}
 use Rattle.rv_run.proofs.judge.not_good.Goals as goal
@@ -26,14 +32,42 @@ pub violated-requires-clause-bad : goal.violated-requires-clause-bad
 violated-requires-clause-bad c =
     c.requires.bad (no_integers (flat_of c.args.reading.now) (subst IsControlSystem c.flat-flat.ensures (c.is_control.ensures.0 c.if-is_control.true)))
 
-pub returns-clause-judged : goal.returns-clause-judged
-returns-clause-judged c = λ nodes.
+pub analyse-requires-clause-seed : goal.analyse-requires-clause-seed
+analyse-requires-clause-seed c = c.requires.sets
+
+pub safe-requires-clause-known : goal.safe-requires-clause-known
+safe-requires-clause-known c =
+    let p = program_tree c.args.source.now.program in
+    subst (IsKnown p (name_at p c.args.source.now.typed.main)) (sym (c.flat-flat-2.ensures ∙ ap (λ (r : Reading). flat_of r) c.in_ok-end.ensures.same)) c.requires.known
+
+pub safe-requires-clause-claim : goal.safe-requires-clause-claim
+safe-requires-clause-claim c =
+    subst (λ (f : Flat). HasGood (control_of f) f.thresholds) (sym (c.flat-flat-2.ensures ∙ ap (λ (r : Reading). flat_of r) c.in_ok-end.ensures.same))
+    (inr (c.in_ok-end.ensures.exactly.0 (subst IsProved (sym c.in-Proved.is) tt)))
+
+pub safe-requires-clause-accepted : goal.safe-requires-clause-accepted
+safe-requires-clause-accepted c =
+    subst (λ (f : Flat). IsAccepted (control_of f) c.in-Proved.certificate) (sym (c.flat-flat-2.ensures ∙ ap (λ (r : Reading). flat_of r) c.in_ok-end.ensures.same))
+    (c.in_ok-end.ensures.proved c.in-Proved.certificate (ap Ok c.in-Proved.is))
+
+pub safe-requires-clause-loops : goal.safe-requires-clause-loops
+safe-requires-clause-loops c = λ k l at. let plain = c.in_ok-end.ensures.plain c.in-Proved.certificate (ap Ok c.in-Proved.is) k l at in (plain.no_loop, plain.no_first, plain.no_around)
+
+pub returns-in-Proved-clause-judged : goal.returns-in-Proved-clause-judged
+returns-in-Proved-clause-judged c = c.safe.ensures.judged
+
+pub returns-in-Proved-clause-wide : goal.returns-in-Proved-clause-wide
+returns-in-Proved-clause-wide c = λ nodes. absurd (c.safe.ensures.memory nodes)
+
+pub returns-in-Left-clause-judged : goal.returns-in-Left-clause-judged
+returns-in-Left-clause-judged c = λ nodes.
     let p = program_tree c.args.source.now.program in
     let main = name_at p c.args.source.now.typed.main in
     let known = c.requires.known in
     let f = flat_of c.args.reading.now in
-    let integers : IsControlSystem f → ⊥ = λ control. true≢false (sym (c.is_control.ensures.1 (subst IsControlSystem (sym c.flat-flat.ensures) control)) ∙ c.if-is_control.false) in (
+    let integers : IsControlSystem f → ⊥ = λ control. true≢false (sym (c.is_control.ensures.1 (subst IsControlSystem (sym c.flat-flat.ensures) control)) ∙ c.if-is_control.false) in
+    let rows : HasGoodRows (control_of f) f.thresholds → ⊥ = λ has. subst IsProved c.in-Left.is (c.in_ok-end.ensures.exactly.1 has) in (
       λ control. integers (control_system p main f known.flat known.well known.named control),
-      (f, known.flat, c.requires.lacks),
+      (f, known.flat, lacks_both (control_of f) f.thresholds c.requires.lacks rows),
       (f, known.flat, λ has. integers (c.requires.unprobed has)),
     )

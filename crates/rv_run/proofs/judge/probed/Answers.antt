@@ -2,8 +2,9 @@ use Rattle.std.proofs.Common.{true≢false, inl, inr, sym, ◌∙◌}
 use Rattle.rv_tree.specs.Tree.{program_tree}
 use Rattle.rv_types.specs.Instances.{name_at}
 use Rattle.rv_control.specs.Control.{control_of}
-use Rattle.rv_proofs.specs.Boxes.{HasGoodBox}
+use Rattle.rv_run.specs.Programs.{HasGood}
 use Rattle.rv_run.proofs.Integers.{control_system}
+use Rattle.rv_run.proofs.Claimed.{safe_claims}
 use Rattle.rv_run.proofs.Judged.{falsifying-unsafe, traced-verdict}
 use Rattle.rv_run.proofs.judge.probed.Goals as goal
 
@@ -14,8 +15,9 @@ unless_shorter-requires-clause-lacks c = λ good.
     let main = name_at p s.typed.main in
     let f = c.args.flat.now in
     let known = c.requires.known in
+    let system = c.control_is_a_system.ensures p main f known.well known.named known.flat in
     falsifying-unsafe c.args.nodes p main c.args.trace c.requires.falsifying
-    (known.safe (c.claims_are_safe.ensures.box_claim (control_of f) f.thresholds (c.control_is_a_system.ensures p main f known.well known.named known.flat) good))
+    (known.safe (safe_claims (control_of f) f.thresholds (c.claims_are_safe.ensures.box_claim (control_of f) f.thresholds system) (c.claims_are_safe.ensures.row_claim (control_of f) f.thresholds system) good))
 
 pub returns-clause-judged : goal.returns-clause-judged
 returns-clause-judged c =
@@ -24,9 +26,10 @@ returns-clause-judged c =
     let main = name_at p s.typed.main in
     let f = c.args.flat.now in
     let known = c.requires.known in
-    let lacks : HasGoodBox (control_of f) f.thresholds → ⊥ = λ good.
+    let system = c.control_is_a_system.ensures p main f known.well known.named known.flat in
+    let lacks : HasGood (control_of f) f.thresholds → ⊥ = λ good.
     falsifying-unsafe c.args.nodes p main c.args.trace c.requires.falsifying
-    (known.safe (c.claims_are_safe.ensures.box_claim (control_of f) f.thresholds (c.control_is_a_system.ensures p main f known.well known.named known.flat) good)) in
+    (known.safe (safe_claims (control_of f) f.thresholds (c.claims_are_safe.ensures.box_claim (control_of f) f.thresholds system) (c.claims_are_safe.ensures.row_claim (control_of f) f.thresholds system) good)) in
     traced-verdict c.args.nodes p main c.args.trace
     (record {
       falsifying = c.requires.falsifying;

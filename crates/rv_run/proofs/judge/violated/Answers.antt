@@ -5,7 +5,10 @@ use Rattle.rv_types.specs.Instances.{name_at}
 use Rattle.rv_reading.specs.declared.reading.Reading.{Reading}
 use Rattle.rv_reading.specs.Read.{flat_of}
 use Rattle.rv_run.specs.Judged.{IsKnown}
-use Rattle.rv_run.proofs.Judged.{traced-verdict}
+use Rattle.rv_control.specs.Control.{control_of}
+use Rattle.rv_run.specs.Programs.{HasGood}
+use Rattle.rv_run.proofs.Claimed.{safe_claims}
+use Rattle.rv_run.proofs.Judged.{falsifying-unsafe, traced-verdict}
 use Rattle.rv_run.proofs.judge.violated.Goals as goal
 
 none_of : (o : Option Trace) → ((t : Trace) → o ≡ Some t → ⊥) → o ≡ None
@@ -37,12 +40,19 @@ returns-clause-judged c = λ nodes.
     let p = program_tree c.args.source.now.program in
     let main = name_at p c.args.source.now.typed.main in
     let t = c.in-Some.trace in
+    let f = flat_of c.args.reading.now in
+    let known = c.requires.known in
+    let system = c.control_is_a_system.ensures p main f known.well known.named known.flat in
+    let falsifies = c.in_ok-found.ensures.falsifies t (ap Ok c.in-Some.is) in
+    let lacks : HasGood (control_of f) f.thresholds → ⊥ = λ good.
+    falsifying-unsafe nodes p main t falsifies
+    (known.safe (safe_claims (control_of f) f.thresholds (c.claims_are_safe.ensures.box_claim (control_of f) f.thresholds system) (c.claims_are_safe.ensures.row_claim (control_of f) f.thresholds system) good)) in
     traced-verdict nodes p main t
     (record {
-      falsifying = c.in_ok-found.ensures.falsifies t (ap Ok c.in-Some.is);
+      falsifying = falsifies;
       origin = inl (c.requires.program_control, c.in_ok-found.ensures.shortest t c.requires.bad (ap Ok c.in-Some.is));
     })
-    (flat_of c.args.reading.now, c.requires.known.flat, c.requires.lacks) c.with_trace.result c.with_trace.ensures.traced
+    (f, known.flat, lacks) c.with_trace.result c.with_trace.ensures.traced
 
 pub returns-clause-wide : goal.returns-clause-wide
 returns-clause-wide c = λ nodes. absurd (c.with_trace.ensures.memory nodes)
