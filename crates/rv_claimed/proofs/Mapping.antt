@@ -17,3 +17,7 @@ map_none (Some x) P Q f h = tt
 pub map_missing : {X E : Type 0} (o : Result (Option X) E) (P Q : Type 0) → (P → Q) → IfOk o (λ a. IfNone a P) → IfOk o (λ a. IfNone a Q)
 map_missing (Ok a) P Q f h = map_none a P Q f h
 map_missing (Err e) P Q f h = tt
+
+pub map_ok : {X E : Type 0} (o : Result X E) (P Q : X → Type 0) → ((x : X) → P x → Q x) → IfOk o P → IfOk o Q
+map_ok (Ok x) P Q f h = f x h
+map_ok (Err e) P Q f h = tt
