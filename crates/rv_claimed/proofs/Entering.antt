@@ -1,5 +1,5 @@
 -- The entry of a case in the certificate of a closed row claim.
-use Rattle.std.proofs.Common.{◌≡◌, ◌↔◌, ℕ, zero, suc, ◌+◌, ◌<◌, ◌≤◌, ◌^◌, ℤ, pos, negsuc, Bool, true, false, IsTrue, List, [], ◌∷◌, ◌++◌, length, get_or, All, Option, Some, slice_get}
+use Rattle.std.proofs.Common.{◌≡◌, ◌↔◌, ℕ, zero, suc, ◌+◌, ◌<◌, ◌≤◌, ◌^◌, pos, negsuc, Bool, true, false, IsTrue, List, [], ◌∷◌, ◌++◌, length, get_or, All, Option, Some, slice_get}
 use Rattle.std.proofs.Common.{arith, refl, sym, ap, ◌∙◌, subst, ◌⊎◌, inl, inr}
 use Rattle.std.proofs.Common.{None as Nothing}
 use Rattle.std.specs.List.{Contains}
@@ -63,16 +63,11 @@ reached_from many n given premises case r new m e is sub pair = (
   subst (λ (ps : List Row). IsPairOf (length given) many case.tests ps new m) is (subst (λ (k : ℕ). IsPairOf k many case.tests premises new m) e pair),
 )
 
-pub shut_from : (many n : ℕ) (given premises : List Row) (case : Case) (cs : List ℤ) (m : Multipliers) → n ≡ length given → premises ≡ premises_in given case
-    → cs ≡ [] → IsPairOf n many case.tests premises (record { coefficients = cs; bound = negsuc 0 }) m → IsShut many given case m
-shut_from many n given premises case cs m e is none pair =
+pub shut_from : (many n : ℕ) (given premises : List Row) (case : Case) (m : Multipliers) → n ≡ length given → premises ≡ premises_in given case
+    → IsPairOf n many case.tests premises (record { coefficients = []; bound = negsuc 0 }) m → IsShut many given case m
+shut_from many n given premises case m e is pair =
     subst (λ (ps : List Row). IsPairOf (length given) many case.tests ps (record { coefficients = []; bound = negsuc 0 }) m) is
-    (subst (λ (k : ℕ). IsPairOf k many case.tests premises (record { coefficients = []; bound = negsuc 0 }) m) e
-    (subst (λ (zs : List ℤ). IsPairOf n many case.tests premises (record { coefficients = zs; bound = negsuc 0 }) m) none pair))
-
-pub open_from : (premises : List Row) (cs : List ℤ) → cs ≡ [] → ¬ ShowsAtOnce premises (record { coefficients = cs; bound = negsuc 0 })
-    → ¬ AreShutAtOnce premises
-open_from premises cs none o shut = o (subst (λ (zs : List ℤ). ShowsAtOnce premises (record { coefficients = zs; bound = negsuc 0 })) (sym none) shut)
+    (subst (λ (k : ℕ). IsPairOf k many case.tests premises (record { coefficients = []; bound = negsuc 0 }) m) e pair)
 
 -- there are at most as many rows as tests
 rows_few : (s : System) (v : Valuation) (n : ℕ) → length (rows_among s v n) ≤ n

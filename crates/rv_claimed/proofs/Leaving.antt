@@ -1,15 +1,14 @@
 -- The certificate of a closed claim that is not good is a left partition.
 use Rattle.std.proofs.Common.{◌≡◌, ℕ, zero, suc, ◌<◌, ℤ, Bool, true, false, List, [], ◌∷◌, length, Some, All, IsTrue, slice_get}
-use Rattle.std.proofs.Common.{arith, refl, ap, sym, ◌∙◌, ◌⊎◌, inl, inr, subst}
+use Rattle.std.proofs.Common.{arith, refl, ap, sym, ◌∙◌, ◌⊎◌, inl, inr}
 use Rattle.std.proofs.lemmas.Bool.{cases_Bool}
-use Rattle.std.proofs.lemmas.Option.{slice_get_within}
 use Rattle.std.proofs.lemmas.List.Elements.{All-cons, All-nil}
 use Rattle.std.specs.List.{Contains}
 use Rattle.rv_diagram.specs.Nodes.{Valuation}
 use Rattle.rv_proofs.specs.Systems.{System, IsSystem}
 use Rattle.rv_proofs.specs.Scopes.{IsIn}
-use Rattle.rv_proofs.specs.Accepted.{IsEntry, IsStepKind, IsDeadKind, IsObserved, AreImplied}
-use Rattle.rv_proofs.specs.Left.{IsNeverObserved, IsFailingStep, IsUnrefuted, IsLeftPartition}
+use Rattle.rv_proofs.specs.Accepted.{IsEntry, IsStepKind, IsObserved}
+use Rattle.rv_proofs.specs.Left.{IsFailingStep, IsUnrefuted, IsLeftPartition}
 use Rattle.rv_proofs.specs.RowClaims.{RowClaim, IsRowClaim, IsRowTaken, IsRowClosed}
 use Rattle.rv_proofs.specs.declared.certificate.Certificate.{Certificate}
 use Rattle.rv_proofs.specs.declared.certificate.Location.{Location}

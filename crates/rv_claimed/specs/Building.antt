@@ -11,13 +11,14 @@ use Rattle.rv_proofs.specs.Cases.{AreCases, IsInitialSet}
 use Rattle.rv_proofs.specs.RowClaims.{RowClaim, IsRowTaken, IsRowGood}
 use Rattle.rv_proofs.specs.Accepted.{IsAccepted}
 use Rattle.rv_proofs.specs.Left.{IsFailingStep, IsLeftPartition}
+use Rattle.rv_proofs.specs.declared.certificate.Certificate.{Certificate}
 use Rattle.rv_proofs.specs.declared.certificate.Location.{Location}
 use Rattle.rv_proofs.specs.declared.certificate.Entry.{Entry}
 use Rattle.rv_walk.specs.Ends.{has}
 use Rattle.rv_walk.specs.Plain.{ArePlain}
 use Rattle.rv_claims.specs.declared.claim.Claim.{Claim}
 use Rattle.rv_claims.specs.Claiming.{IsKeptClaim}
-use Rattle.rv_claims.specs.Certify.{IsClaimLocation}
+use Rattle.rv_claims.specs.Certify.{IsClaimLocation, IsClaimCertificate}
 use Rattle.rv_claimed.specs.declared.answer.Claimed.{Claimed}
 use Rattle.rv_claimed.specs.declared.locations.Part.{Part}
 use Rattle.rv_claimed.specs.declared.locations.Place.{Place}
@@ -78,10 +79,15 @@ number_if b k = if b then (k ∷ []) else []
 abbrev pub left_of : Bool → Bool → List ℕ
 left_of first second = number_if first 0 ++ number_if second 1
 
--- What is proved of a claim: the certificate has no loop and is accepted where no location is left, and the claim is good there. Else
--- the observer is false at a valuation that the claim takes, and the certificate is a left partition, if there is an initial control
--- state.
+-- The certificate has the two locations of the claim.
+abbrev pub IsCertificateOf : System → RowClaim → Certificate → Type 0
+IsCertificateOf s c x = (start : Location) × (later : Location) × IsClaimCertificate s c x start later
+
+-- What is proved of a claim: the certificate has its two locations and no loop. Where none is left the certificate is accepted and the
+-- claim good. Else the observer is false at a valuation that the claim takes, and the certificate is a left partition, if there is an
+-- initial control state.
 pub record IsProof (s : System) (c : RowClaim) (x : Claimed) : Type 0 where
+  pub made : IsCertificateOf s c x.certificate
   pub plain : ArePlain x.certificate
   pub accepted : x.left ≡ [] → IsAccepted s x.certificate
   pub good : x.left ≡ [] → IsRowGood s c

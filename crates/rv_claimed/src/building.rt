@@ -11,7 +11,7 @@ ghost use Rattle.rv_proofs.specs.RowClaims.{IsRowTaken, IsRowClosed, IsRowGood};
 ghost use Rattle.rv_walk.specs.Plain.{ArePlain};
 ghost use Rattle.rv_claims.specs.Claiming.{claim_of, IsKeptClaim};
 ghost use Rattle.rv_claimed.specs.Certifying.{IsGiven};
-ghost use Rattle.rv_claimed.specs.Building.{IsStart, AreOthers, IsProof};
+ghost use Rattle.rv_claimed.specs.Building.{IsStart, AreOthers, IsCertificateOf, IsProof};
 
 use crate::answer::Claimed;
 use crate::locations::{MOST, Part, assembled};
@@ -105,6 +105,9 @@ pub fn certify(
     ensures accepted { (s : System) (thresholds : List ℤ) → IsGiven s store.old relation.now questions.now → IsKeptClaim s thresholds claim
         → IsRowClosed s (claim_of claim) → All (λ t. unsigned_abs t ≤ 2 ^ 41) thresholds
         → IfOk result (λ x. x.left ≡ [] → IsAccepted s x.certificate) }
+    ensures made { (s : System) (thresholds : List ℤ) → IsGiven s store.old relation.now questions.now → IsKeptClaim s thresholds claim
+        → IsRowClosed s (claim_of claim) → All (λ t. unsigned_abs t ≤ 2 ^ 41) thresholds
+        → IfOk result (λ x. IsCertificateOf s (claim_of claim) x.certificate) }
     ensures plain { (s : System) (thresholds : List ℤ) → IsGiven s store.old relation.now questions.now → IsKeptClaim s thresholds claim
         → IsRowClosed s (claim_of claim) → All (λ t. unsigned_abs t ≤ 2 ^ 41) thresholds → IfOk result (λ x. ArePlain x.certificate) }
     ensures good { (s : System) (thresholds : List ℤ) → IsGiven s store.old relation.now questions.now → IsKeptClaim s thresholds claim

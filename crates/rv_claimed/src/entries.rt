@@ -1,5 +1,5 @@
 //! Entries of a certificate: a case whose premises are shut at once is dead, and another is a step, in which a pair of premises shows
-//! each row of the claim after the updates.
+//! each row of the claim after the updates. The premises of a case are made ready for all these questions once.
 
 ghost use Rattle.std.specs.Prelude.{◌≡◌, ◌↔◌, ◌<◌, ◌+◌, ◌^◌, ◌||◌, ℕ, false, All, Some, IsTrue, IfOk, IfSome, IfNone, length, slice_get};
 ghost use Rattle.rv_diagram.specs.declared.frozen.Frozen.{Frozen as FrozenModel};
@@ -14,57 +14,31 @@ ghost use Rattle.rv_claimed.specs.Certifying.{CanShow, premises_in, IsReached, I
 ghost use Rattle.rv_claimed.specs.Certifying.{IsJudgeable, IsSetting, IsCaseIn, AreCasesIn, IsMadeEntry, AreListed};
 
 use crate::lists::premises_of;
-use crate::pairs::{multipliers_of, shown_pair};
+use crate::pairs::multipliers_of;
 use rv_base::{Many, Memory};
 use rv_claims::Claim;
 use rv_proofs::{Case, Entry, EntryKind};
 use rv_rows::{Multipliers, Row};
+use rv_seek::Premises;
 use std::alloc::Global;
-
-/// The multipliers of a pair of a case's premises that shows a row, or none where none, one and two of them do not show it at once.
-fn shown_by(
-    alloc: Global,
-    premises: &Many<Row>,
-    given: usize,
-    many: usize,
-    case: &Case,
-    wanted: &Row,
-) -> Result<Option<Multipliers>, Memory>
-    requires premises { All (RowWithin (2 ^ 60)) premises.now }
-    requires wanted { RowWithin (2 ^ 78) wanted.now }
-    requires few { length premises.now < 2 ^ 32 }
-    requires numbers { given + many < 2 ^ 32 }
-    ensures found { IfOk result (λ o. IfSome o (IsPairOf given many case.now.tests premises.now wanted.now)) }
-    ensures missing { IfOk result (λ o. IfNone o (¬ (ShowsAtOnce premises.now wanted.now))) }
-{
-    match shown_pair(alloc, premises, wanted)? {
-        Some(pair) => {
-            let multipliers = multipliers_of(alloc, given, &case.tests, many, pair)?;
-            Ok(Some(multipliers))
-        }
-        None => Ok(None),
-    }
-}
 
 /// The multipliers that show a row after the updates.
 fn reach_row(
     alloc: Global,
-    premises: &Many<Row>,
+    premises: &Premises,
     given: &Many<Row>,
     many: usize,
     case: &Case,
     wanted: &Row,
 ) -> Result<Multipliers, Memory>
     requires are { premises.now ≡ premises_in given.now case.now }
-    requires premises { All (RowWithin (2 ^ 60)) premises.now }
-    requires few { length premises.now < 2 ^ 32 }
     requires numbers { length given.now + many < 2 ^ 32 }
     requires wanted { CanShow premises.now case.now.updates wanted.now }
     ensures { IfOk result (IsReached many given.now case.now wanted.now) }
 {
     let row = wanted.substitute(alloc, &case.updates)?;
-    match shown_by(alloc, premises, given.len(), many, case, &row)? {
-        Some(multipliers) => Ok(multipliers),
+    match premises.shown(alloc, &row)? {
+        Some(pair) => multipliers_of(alloc, given.len(), &case.tests, many, pair),
         None => unreachable!(),
     }
 }
@@ -72,15 +46,13 @@ fn reach_row(
 /// The multipliers that show each of the rows after the updates.
 fn reach_rows(
     alloc: Global,
-    premises: &Many<Row>,
+    premises: &Premises,
     given: &Many<Row>,
     many: usize,
     case: &Case,
     wanted: &Many<Row>,
 ) -> Result<Many<Multipliers>, Memory>
     requires are { premises.now ≡ premises_in given.now case.now }
-    requires premises { All (RowWithin (2 ^ 60)) premises.now }
-    requires few { length premises.now < 2 ^ 32 }
     requires numbers { length given.now + many < 2 ^ 32 }
     requires wanted { (n : ℕ) (r : RowModel) → slice_get wanted.now n ≡ Some r → CanShow premises.now case.now.updates r }
     ensures { IfOk result (AreReached many given.now case.now wanted.now (length wanted.now)) }
@@ -96,37 +68,35 @@ fn reach_rows(
 /// The multipliers that show at once that no point meets the premises of a case, or none where they do not.
 fn shut_by(
     alloc: Global,
-    premises: &Many<Row>,
+    premises: &Premises,
     given: &Many<Row>,
     many: usize,
     case: &Case,
 ) -> Result<Option<Multipliers>, Memory>
     requires are { premises.now ≡ premises_in given.now case.now }
-    requires premises { All (RowWithin (2 ^ 60)) premises.now }
-    requires few { length premises.now < 2 ^ 32 }
     requires numbers { length given.now + many < 2 ^ 32 }
     ensures shut { IfOk result (λ o. IfSome o (IsShut many given.now case.now)) }
     ensures opened { IfOk result (λ o. IfNone o (¬ (AreShutAtOnce premises.now))) }
 {
-    let wanted = Row {
-        coefficients: Many::new(alloc),
-        bound: -1,
-    };
-    shown_by(alloc, premises, given.len(), many, case, &wanted)
+    match premises.shut(alloc)? {
+        Some(pair) => {
+            let refutation = multipliers_of(alloc, given.len(), &case.tests, many, pair)?;
+            Ok(Some(refutation))
+        }
+        None => Ok(None),
+    }
 }
 
 /// A step into location 1.
 fn step_of(
     alloc: Global,
-    premises: &Many<Row>,
+    premises: &Premises,
     given: &Many<Row>,
     many: usize,
     case: &Case,
     wanted: &Many<Row>,
 ) -> Result<EntryKind, Memory>
     requires are { premises.now ≡ premises_in given.now case.now }
-    requires premises { All (RowWithin (2 ^ 60)) premises.now }
-    requires few { length premises.now < 2 ^ 32 }
     requires numbers { length given.now + many < 2 ^ 32 }
     requires opened { ¬ (AreShutAtOnce premises.now) }
     requires wanted { (n : ℕ) (r : RowModel) → slice_get wanted.now n ≡ Some r → CanShow premises.now case.now.updates r }
@@ -139,15 +109,13 @@ fn step_of(
 /// What happens in a case: it is dead where its premises are shut at once, and else a step into location 1.
 fn kind_of(
     alloc: Global,
-    premises: &Many<Row>,
+    premises: &Premises,
     given: &Many<Row>,
     many: usize,
     case: &Case,
     wanted: &Many<Row>,
 ) -> Result<EntryKind, Memory>
     requires are { premises.now ≡ premises_in given.now case.now }
-    requires premises { All (RowWithin (2 ^ 60)) premises.now }
-    requires few { length premises.now < 2 ^ 32 }
     requires numbers { length given.now + many < 2 ^ 32 }
     requires wanted { ¬ (AreShutAtOnce premises.now) → (n : ℕ) (r : RowModel) → slice_get wanted.now n ≡ Some r
         → CanShow premises.now case.now.updates r }
@@ -191,7 +159,8 @@ fn entry_of(
     ensures { (s : System) (from : FrozenModel) → IsJudgeable s many claim.now → IsSetting s (claim_of claim.now) from given.now
         → IsCaseIn s from case → IfOk result (IsMadeEntry s (claim_of claim.now) given.now case) }
 {
-    let premises = premises_of(alloc, given, &case.rows)?;
+    let rows = premises_of(alloc, given, &case.rows)?;
+    let premises = Premises::new(alloc, &rows)?;
     let kind = kind_of(alloc, &premises, given, many, &case, &claim.rows)?;
     let fails = is_failing(&case, &kind);
     let entry = Entry {

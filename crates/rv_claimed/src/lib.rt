@@ -6,8 +6,8 @@
 //! claim. It knows systems alone, and no programs.
 //!
 //! How it is built, from the bottom. The premises of a case are the rows of its location, and then those of the tests that are present.
-//! A pair of them shows a row at once (pairs.rt), and has other numbers in a certificate, where each test has one, present or not
-//! (specs/Placing.antt). A case whose premises are shut at once is dead, and another is a step into the second location (entries.rt).
+//! A pair of them that shows a row at once has other numbers in a certificate, where each test has one, present or not (pairs.rt,
+//! specs/Placing.antt). A case whose premises are shut at once is dead, and another is a step into the second location (entries.rt).
 //! The entries of all cases of a set of control states make a location, which is left where the observer is false in a step, and both
 //! locations the certificate (locations.rt, answer.rt).
 //!

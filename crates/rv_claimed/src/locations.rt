@@ -123,12 +123,7 @@ fn certificate(alloc: Global, start: Location, later: Location) -> Result<Certif
 }
 
 /// The location of the initial control states, which has no rows.
-fn first_place(
-    alloc: Global,
-    claim: &Claim,
-    many: usize,
-    start: Part,
-) -> Result<Place, Memory>
+fn first_place(alloc: Global, claim: &Claim, many: usize, start: Part) -> Result<Place, Memory>
     requires { (s : System) × (others : PartModel) × ArePartsOf s many claim.now start others }
     ensures { (s : System) (others : PartModel) → ArePartsOf s many claim.now start others
         → IfOk result (IsPlaceOf s (claim_of claim.now) start.control []) }
@@ -138,12 +133,7 @@ fn first_place(
 }
 
 /// The location of the other control states, which has the rows of the claim.
-fn later_place(
-    alloc: Global,
-    claim: &Claim,
-    many: usize,
-    others: Part,
-) -> Result<Place, Memory>
+fn later_place(alloc: Global, claim: &Claim, many: usize, others: Part) -> Result<Place, Memory>
     requires { (s : System) × (start : PartModel) × ArePartsOf s many claim.now start others }
     ensures { (s : System) (start : PartModel) → ArePartsOf s many claim.now start others
         → IfOk result (IsPlaceOf s (claim_of claim.now) others.control claim.now.rows) }

@@ -4,7 +4,7 @@ use Rattle.rv_proofs.specs.declared.report.Case.{Case}
 use Rattle.rv_claims.specs.Claiming.{claim_of}
 use Rattle.rv_claimed.specs.Certifying.{AreListed}
 use Rattle.rv_claimed.proofs.Growing.{seam_at, one_along, none_left}
-use Rattle.rv_claimed.proofs.Reaching.{listed_none, listed_more}
+use Rattle.rv_claimed.proofs.Reaching.{listed_more}
 use Rattle.rv_claimed.proofs.entries.entries.Goals as goal
 
 pub entry_of-requires : goal.entry_of-requires

@@ -1,15 +1,19 @@
+use Rattle.std.proofs.Common.{◌∙◌}
 use Rattle.rv_claimed.proofs.Entering.{within_of, few_of, numbers_few, show_of, made_entry}
 use Rattle.rv_claimed.proofs.entries.entry_of.Goals as goal
 
-pub kind_of-requires-clause-premises : goal.kind_of-requires-clause-premises
-kind_of-requires-clause-premises c =
+pub new-requires-clause-numbers : goal.new-requires-clause-numbers
+new-requires-clause-numbers c =
     let (s, from, judge, setting, of) = c.requires in
-    within_of s c.args.many c.args.claim.now judge from c.args.given.now setting c.args.case of c.in_ok-premises.premises c.in_ok-premises.ensures
+    within_of s c.args.many c.args.claim.now judge from c.args.given.now setting c.args.case of c.in_ok-rows.rows c.in_ok-rows.ensures
 
-pub kind_of-requires-clause-few : goal.kind_of-requires-clause-few
-kind_of-requires-clause-few c =
+pub new-requires-clause-few : goal.new-requires-clause-few
+new-requires-clause-few c =
     let (s, from, judge, setting, of) = c.requires in
-    few_of s c.args.many c.args.claim.now judge from c.args.given.now setting c.args.case of c.in_ok-premises.premises c.in_ok-premises.ensures
+    few_of s c.args.many c.args.claim.now judge from c.args.given.now setting c.args.case of c.in_ok-rows.rows c.in_ok-rows.ensures
+
+pub kind_of-requires-clause-are : goal.kind_of-requires-clause-are
+kind_of-requires-clause-are c = c.in_ok-premises.ensures ∙ c.in_ok-rows.ensures
 
 pub kind_of-requires-clause-numbers : goal.kind_of-requires-clause-numbers
 kind_of-requires-clause-numbers c =
@@ -19,7 +23,8 @@ kind_of-requires-clause-numbers c =
 pub kind_of-requires-clause-wanted : goal.kind_of-requires-clause-wanted
 kind_of-requires-clause-wanted c =
     let (s, from, judge, setting, of) = c.requires in
-    show_of s c.args.many c.args.claim.now judge from c.args.given.now setting c.args.case of c.in_ok-premises.premises c.in_ok-premises.ensures
+    show_of s c.args.many c.args.claim.now judge from c.args.given.now setting c.args.case of c.in_ok-premises.premises
+    (c.in_ok-premises.ensures ∙ c.in_ok-rows.ensures)
 
 pub returns : goal.returns
 returns c s from judge setting of =
