@@ -1,5 +1,5 @@
 -- The entry of a case in the certificate of a closed row claim.
-use Rattle.std.proofs.Common.{◌≡◌, ℕ, zero, suc, ◌+◌, ◌<◌, ◌≤◌, ◌^◌, ℤ, pos, negsuc, true, false, List, [], ◌∷◌, ◌++◌, length, get_or, All, Option, Some, slice_get}
+use Rattle.std.proofs.Common.{◌≡◌, ◌↔◌, ℕ, zero, suc, ◌+◌, ◌<◌, ◌≤◌, ◌^◌, pos, negsuc, Bool, true, false, IsTrue, List, [], ◌∷◌, ◌++◌, length, get_or, All, Option, Some, slice_get}
 use Rattle.std.proofs.Common.{arith, refl, sym, ap, ◌∙◌, subst, ◌⊎◌, inl, inr}
 use Rattle.std.proofs.Common.{None as Nothing}
 use Rattle.std.specs.List.{Contains}
@@ -21,6 +21,7 @@ use Rattle.rv_proofs.specs.Systems.{System, IsUpdate, rows_among, held_row, upda
 use Rattle.rv_proofs.specs.Scopes.{IsIn}
 use Rattle.rv_proofs.specs.Ranges.{IsRecord}
 use Rattle.rv_proofs.specs.Cases.{AreCases}
+use Rattle.rv_proofs.specs.Accepted.{IsStepKind}
 use Rattle.rv_proofs.specs.RowClaims.{IsRowTaken, premises_at}
 use Rattle.rv_proofs.specs.declared.certificate.EntryKind.{EntryKind}
 use Rattle.rv_proofs.specs.declared.certificate.EntryKind.TheVariants.{Dead, Go, Loop}
@@ -31,9 +32,19 @@ use Rattle.rv_claims.specs.declared.claim.Claim.{Claim}
 use Rattle.rv_claims.specs.Claiming.{claim_of}
 use Rattle.rv_claims.specs.Certify.{IsClaimKind}
 use Rattle.rv_claimed.specs.Placing.{IsPairOf}
-use Rattle.rv_claimed.specs.Certifying.{IsBad, CanShow, premises_in, IsReached, IsShut, IsMadeKind, IsJudgeable, IsSetting, IsCaseIn, AreCasesIn, IsRangedKind, IsEntryOf}
+use Rattle.rv_claimed.specs.Certifying.{CanShow, premises_in, IsReached, IsShut, IsMadeKind, IsJudgeable, IsSetting, IsCaseIn, AreCasesIn, IsRangedKind, IsEntryOf}
+use Rattle.rv_claimed.specs.Certifying.{IsGoodCase, IsBadCase, IsMadeEntry}
 use Rattle.rv_claimed.proofs.Pairing.{no_row, pair_to, shows_same, shows_swapped}
 use Rattle.rv_claimed.proofs.Placed.{pair_divisor, pair_record, reached_shown, shut_refuted}
+
+-- truth values
+pub both : (b : Bool) → b ≡ true → b ≡ false → ⊥
+both true e d = cc
+both false e d = cc
+
+pub unless : (b : Bool) → ¬ (b ≡ false) → b ≡ true
+unless true n = refl
+unless false n = absurd (n refl)
 
 pub cases_in : (s : System) (from : Frozen) (cases : List Case) → AreCases s from cases → AreCasesIn s from cases
 cases_in s from cases are j c at = record { case = are.each j c at; within = λ v i. are.within j c v at i }
@@ -52,16 +63,11 @@ reached_from many n given premises case r new m e is sub pair = (
   subst (λ (ps : List Row). IsPairOf (length given) many case.tests ps new m) is (subst (λ (k : ℕ). IsPairOf k many case.tests premises new m) e pair),
 )
 
-pub shut_from : (many n : ℕ) (given premises : List Row) (case : Case) (cs : List ℤ) (m : Multipliers) → n ≡ length given → premises ≡ premises_in given case
-    → cs ≡ [] → IsPairOf n many case.tests premises (record { coefficients = cs; bound = negsuc 0 }) m → IsShut many given case m
-shut_from many n given premises case cs m e is none pair =
+pub shut_from : (many n : ℕ) (given premises : List Row) (case : Case) (m : Multipliers) → n ≡ length given → premises ≡ premises_in given case
+    → IsPairOf n many case.tests premises (record { coefficients = []; bound = negsuc 0 }) m → IsShut many given case m
+shut_from many n given premises case m e is pair =
     subst (λ (ps : List Row). IsPairOf (length given) many case.tests ps (record { coefficients = []; bound = negsuc 0 }) m) is
-    (subst (λ (k : ℕ). IsPairOf k many case.tests premises (record { coefficients = []; bound = negsuc 0 }) m) e
-    (subst (λ (zs : List ℤ). IsPairOf n many case.tests premises (record { coefficients = zs; bound = negsuc 0 }) m) none pair))
-
-pub open_from : (premises : List Row) (cs : List ℤ) → cs ≡ [] → ¬ ShowsAtOnce premises (record { coefficients = cs; bound = negsuc 0 })
-    → ¬ AreShutAtOnce premises
-open_from premises cs none o shut = o (subst (λ (zs : List ℤ). ShowsAtOnce premises (record { coefficients = zs; bound = negsuc 0 })) (sym none) shut)
+    (subst (λ (k : ℕ). IsPairOf k many case.tests premises (record { coefficients = []; bound = negsuc 0 }) m) e pair)
 
 -- there are at most as many rows as tests
 rows_few : (s : System) (v : Valuation) (n : ℕ) → length (rows_among s v n) ≤ n
@@ -73,11 +79,11 @@ rows_few s v (suc n) = let m = rows_few s v n in omega (arith, length-append (ro
     one (Some r) = omega arith
 
 -- the updates of a valuation, one by one
-updates_long : (s : System) (v : Valuation) (n : ℕ) → length (updates_among s v n) ≡ n
+pub updates_long : (s : System) (v : Valuation) (n : ℕ) → length (updates_among s v n) ≡ n
 updates_long s v zero = refl
 updates_long s v (suc n) = omega (arith, length_push (updates_among s v n) (s.update v n), updates_long s v n)
 
-pub no_form : Form
+abbrev pub no_form : Form
 no_form = record { coefficients = []; constant = pos 0 }
 
 pub update_at : (s : System) (v : Valuation) (d : Form) (n k : ℕ) → k < n → get_or (updates_among s v n) k d ≡ s.update v k
@@ -222,17 +228,41 @@ module _ (s : System) (many : ℕ) (c : Claim) (judge : IsJudgeable s many c) (f
           (are.each j (row_at c.rows j) (get_or reach j d) (slice_get-get_or c.rows j no_row (omega (arith, l, size))) (slice_get-get_or reach j d l))
   ranged (Loop first before around state) h = absurd h
 
-  pub entry_good : (kind : EntryKind) → IsMadeKind many given c.rows case kind → (¬ AreShutAtOnce here → case.observer ≡ true)
+  entry_there : (kind : EntryKind) → IsMadeKind many given c.rows case kind
       → IsEntryOf s (claim_of c) given case (record { condition = case.condition; kind = kind })
-  entry_good kind made good = record {
+  entry_there kind made = record {
     condition = refl;
     kind = kind_at kind (made_there kind made);
     ranged = ranged kind (made_there kind made);
-    good = λ v on t. of.case.observer v on ∙ good (taken_opens v on t);
   }
 
-  pub entry_bad : ¬ AreShutAtOnce here → case.observer ≡ false → IsBad s (claim_of c)
-  entry_bad o bad = (some, taken_there o some some_in, of.case.observer some some_in ∙ bad)
+  -- a case is good but where it is a step at which the observer is false
+  good_case : (kind : EntryKind) → IsMadeKind many given c.rows case kind → ¬ ((case.observer ≡ false) × IsStepKind kind)
+      → IsGoodCase s (claim_of c) case
+  good_case (Dead m) shut n v on t = absurd (taken_opens v on t (shut_shows many given case m shut))
+  good_case (Go target reach) made n v on t = of.case.observer v on ∙ unless case.observer (λ off. n (off, tt))
+  good_case (Loop first before around state) h n v on t = absurd h
+
+  bad_case : (kind : EntryKind) → IsMadeKind many given c.rows case kind → case.observer ≡ false → IsStepKind kind
+      → IsBadCase s (claim_of c) case (record { condition = case.condition; kind = kind })
+  bad_case (Dead m) shut off step = absurd step
+  bad_case (Go target reach) (one, o, are) off step = record {
+    step = tt;
+    valuation = some;
+    within = some_in;
+    taken = taken_there o some some_in;
+    fails = of.case.observer some some_in ∙ off;
+  }
+  bad_case (Loop first before around state) h off step = absurd h
+
+  pub made_entry : (kind : EntryKind) (fails : Bool) → IsMadeKind many given c.rows case kind
+      → IsTrue fails ↔ ((case.observer ≡ false) × IsStepKind kind)
+      → IsMadeEntry s (claim_of c) given case (record { entry = record { condition = case.condition; kind = kind }; fails = fails })
+  made_entry kind fails made is = record {
+    entry = entry_there kind made;
+    good = λ off. good_case kind made (λ bad. both fails (is.1 bad) off);
+    bad = λ on. let (off, step) = is.0 on in bad_case kind made off step;
+  }
 
   -- the same of premises that are these
   module _ (premises : List Row) (is : premises ≡ here) where
@@ -242,15 +272,8 @@ module _ (s : System) (many : ℕ) (c : Claim) (judge : IsJudgeable s many c) (f
     pub few_of : length premises < 2 ^ 32
     few_of = let few = premises_few in omega (arith, few, ap length is)
 
-    opens : ¬ AreShutAtOnce premises → ¬ AreShutAtOnce here
-    opens o shut = o (subst (λ (ps : List Row). AreShutAtOnce ps) (sym is) shut)
-
     pub show_of : ¬ AreShutAtOnce premises → (n : ℕ) (r : Row) → slice_get c.rows n ≡ Some r → CanShow premises case.updates r
-    show_of o n r at = subst (λ (ps : List Row). CanShow ps case.updates r) (sym is) (can_show (opens o) n r at)
-
-    pub good_of : (kind : EntryKind) → IsMadeKind many given c.rows case kind → (¬ AreShutAtOnce premises → case.observer ≡ true)
-        → IsEntryOf s (claim_of c) given case (record { condition = case.condition; kind = kind })
-    good_of kind made good = entry_good kind made (λ o. good (λ shut. o (subst (λ (ps : List Row). AreShutAtOnce ps) is shut)))
-
-    pub bad_of : ¬ AreShutAtOnce premises → case.observer ≡ false → IsBad s (claim_of c)
-    bad_of o bad = entry_bad (opens o) bad
+    show_of o n r at = subst (λ (ps : List Row). CanShow ps case.updates r) (sym is) (can_show opens n r at)
+      where
+        opens : ¬ AreShutAtOnce here
+        opens shut = o (subst (λ (ps : List Row). AreShutAtOnce ps) (sym is) shut)

@@ -1,5 +1,5 @@
 -- Lists of multipliers and of entries that grow along a loop.
-use Rattle.std.proofs.Common.{◌≡◌, ℕ, ◌+◌, List, [], ◌∷◌, ◌++◌, length, Some, slice_get, arith, sym, ap, ◌∙◌, subst, ◌⊎◌, inl, inr}
+use Rattle.std.proofs.Common.{◌≡◌, ℕ, ◌+◌, Bool, true, false, ◌||◌, List, [], ◌∷◌, ◌++◌, length, Some, slice_get, arith, refl, sym, ap, ◌∙◌, subst, ◌⊎◌, inl, inr}
 use Rattle.std.proofs.lemmas.Option.{same_Some, slice_get_within}
 use Rattle.std.proofs.lemmas.List.{length_push}
 use Rattle.rv_rows.specs.declared.linear.Row.{Row}
@@ -8,8 +8,9 @@ use Rattle.rv_proofs.specs.Systems.{System}
 use Rattle.rv_proofs.specs.RowClaims.{RowClaim}
 use Rattle.rv_proofs.specs.declared.certificate.Entry.{Entry}
 use Rattle.rv_proofs.specs.declared.report.Case.{Case}
-use Rattle.rv_claimed.specs.Certifying.{IsReached, AreReached, IsEntryOf, AreEntriesOf}
-use Rattle.rv_claimed.proofs.Growing.{push_before}
+use Rattle.rv_claimed.specs.declared.entries.Made.{Made}
+use Rattle.rv_claimed.specs.Certifying.{IsReached, AreReached, IsEntryOf, AreEntriesOf, IsGoodCase, IsBadCase, IsMadeEntry, AreListed}
+use Rattle.rv_claimed.proofs.Growing.{push_before, push_kept, push_last}
 
 pub reached_more : (many : ℕ) (given : List Row) (c : Case) (wanted : List Row) (n : ℕ) (reach : List Multipliers) (m : Multipliers) (r : Row)
     → AreReached many given c wanted n reach → slice_get wanted n ≡ Some r → IsReached many given c r m
@@ -27,9 +28,18 @@ reached_more many given c wanted n reach m r are at here = record {
         let q : r ≡ w = same_Some r w (sym at ∙ ap (slice_get wanted) (sym (e ∙ s)) ∙ w_at) in
         subst (λ (y : Row). IsReached many given c y x) q (subst (λ (y : Multipliers). IsReached many given c r y) same here)
 
+-- truth values
+neither : (a b : Bool) → (a || b) ≡ false → (a ≡ false) × (b ≡ false)
+neither false b e = (refl, e)
+neither true b e = cc
+
+one_of : (a b : Bool) → (a || b) ≡ true → (a ≡ true) ⊎ (b ≡ true)
+one_of true b e = inl refl
+one_of false b e = inr e
+
 module _ (s : System) (c : RowClaim) (given : List Row) where
   -- one entry more, for one case more
-  pub entries_more : (cases : List Case) (es : List Entry) (x : Case) (e : Entry) → AreEntriesOf s c given cases (length cases) es
+  entries_more : (cases : List Case) (es : List Entry) (x : Case) (e : Entry) → AreEntriesOf s c given cases (length cases) es
       → IsEntryOf s c given x e → AreEntriesOf s c given (cases ++ x ∷ []) (length (cases ++ x ∷ [])) (es ++ e ∷ [])
   entries_more cases es x e are here = record {
     size = let n = are.size in omega (arith, n, length_push cases x, length_push es e);
@@ -47,3 +57,39 @@ module _ (s : System) (c : RowClaim) (given : List Row) where
       go j y z (inr (q, same)) (inl z_at) = let n = are.size in let l = slice_get_within es j z z_at in absurd (omega (arith, n, l, q))
       go j y z (inr (q, same)) (inr (p, also)) = subst (λ (u : Case). IsEntryOf s c given u z) same
           (subst (λ (u : Entry). IsEntryOf s c given x u) also here)
+
+  -- no cases
+  pub listed_none : AreListed s c given [] [] false
+  listed_none = record {
+    entries = record { size = refl; each = λ j y e y_at e_at. cc };
+    good = λ off j y at. cc;
+    bad = λ on. cc;
+  }
+
+  -- one case more
+  pub listed_more : (cases : List Case) (es : List Entry) (fails : Bool) (x : Case) (m : Made) → AreListed s c given cases es fails
+      → IsMadeEntry s c given x m → AreListed s c given (cases ++ x ∷ []) (es ++ m.entry ∷ []) (fails || m.fails)
+  listed_more cases es fails x m are here = record {
+    entries = entries_more cases es x m.entry are.entries here.entry;
+    good = λ off j y at. go (neither fails m.fails off) j y (push_before cases x y j at);
+    bad = λ on. some (one_of fails m.fails on);
+  }
+    where
+      go : (fails ≡ false) × (m.fails ≡ false) → (j : ℕ) (y : Case) → (slice_get cases j ≡ Some y) ⊎ ((j ≡ length cases) × (x ≡ y)) → IsGoodCase s c y
+      go (off, also) j y (inl at) = are.good off j y at
+      go (off, also) j y (inr (e, same)) = subst (λ (z : Case). IsGoodCase s c z) same (here.good also)
+
+      some : (fails ≡ true) ⊎ (m.fails ≡ true)
+          → (j : ℕ) × (y : Case) × (e : Entry) × (slice_get (cases ++ x ∷ []) j ≡ Some y) × (slice_get (es ++ m.entry ∷ []) j ≡ Some e) × IsBadCase s c y e
+      some (inl on) =
+          let (j, y, e, y_at, e_at, bad) = are.bad on in
+          (j, y, e, push_kept cases x y j y_at, push_kept es m.entry e j e_at, bad)
+      some (inr on) =
+          let size = are.entries.size in (
+            length cases,
+            x,
+            m.entry,
+            push_last cases x,
+            ap (slice_get (es ++ m.entry ∷ [])) (sym size) ∙ push_last es m.entry,
+            here.bad on,
+          )

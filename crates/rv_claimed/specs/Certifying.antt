@@ -1,5 +1,5 @@
 -- The certificate of a closed row claim, entry by entry.
-use Rattle.std.specs.Prelude.{◌≡◌, ℕ, ◌+◌, ◌<◌, ◌^◌, pos, negsuc, List, [], ◌++◌, length, false, All, Some, IsTrue, slice_get}
+use Rattle.std.specs.Prelude.{◌≡◌, ℕ, ◌+◌, ◌<◌, ◌^◌, pos, negsuc, Bool, true, false, List, [], ◌++◌, length, All, Some, IsTrue, slice_get}
 use Rattle.rv_diagram.specs.Nodes.{Valuation, Diagrams}
 use Rattle.rv_diagram.specs.declared.frozen.Frozen.{Frozen}
 use Rattle.rv_rows.specs.declared.linear.Row.{Row}
@@ -13,6 +13,7 @@ use Rattle.rv_proofs.specs.Scopes.{IsIn}
 use Rattle.rv_proofs.specs.Ranges.{IsRecord, IsControlSet, AreKept}
 use Rattle.rv_proofs.specs.Samples.{by_one}
 use Rattle.rv_proofs.specs.Cases.{IsCaseOf}
+use Rattle.rv_proofs.specs.Accepted.{IsStepKind}
 use Rattle.rv_proofs.specs.RowClaims.{RowClaim, IsRowTaken, IsRowClosed, premises_at}
 use Rattle.rv_proofs.specs.declared.certificate.Location.{Location}
 use Rattle.rv_proofs.specs.declared.certificate.Entry.{Entry}
@@ -26,6 +27,7 @@ use Rattle.rv_cases.specs.Questions.{AreQuestions}
 use Rattle.rv_claims.specs.declared.claim.Claim.{Claim}
 use Rattle.rv_claims.specs.Claiming.{claim_of}
 use Rattle.rv_claims.specs.Certify.{IsClaimKind}
+use Rattle.rv_claimed.specs.declared.entries.Made.{Made}
 use Rattle.rv_claimed.specs.Placing.{IsPairOf}
 
 -- What is given: a system, its relation and its questions in a store.
@@ -98,17 +100,41 @@ IsRangedKind premises wanted (Dead m) = IsRecord premises m × (m.divisor ≡ po
 IsRangedKind premises wanted (Go target reach) = (target ≡ 1) × (length reach ≡ wanted) × All (IsRecord premises) reach
 IsRangedKind premises wanted (Loop first before around state) = ⊥
 
--- The entry of a case: throughout it, it is what the claim asks for, and the observer is true where a valuation of the case is taken.
+-- The entry of a case: throughout it, it is what the claim asks for.
 pub record IsEntryOf (s : System) (c : RowClaim) (given : List Row) (case : Case) (e : Entry) : Type 0 where
   pub condition : e.condition ≡ case.condition
   pub kind : (v : Valuation) → IsIn case.condition v → IsClaimKind s c given v e.kind
   pub ranged : IsRangedKind (length given + s.tests) (length c.rows) e.kind
-  pub good : (v : Valuation) → IsIn case.condition v → IsRowTaken s c v → IsTrue (s.observer v)
 
 -- There is such an entry for each of the first n cases.
 pub record AreEntriesOf (s : System) (c : RowClaim) (given : List Row) (cases : List Case) (n : ℕ) (es : List Entry) : Type 0 where
   pub size : length es ≡ n
   pub each : (j : ℕ) (case : Case) (e : Entry) → slice_get cases j ≡ Some case → slice_get es j ≡ Some e → IsEntryOf s c given case e
+
+-- The observer is true at each valuation of the case that the claim takes.
+abbrev pub IsGoodCase : System → RowClaim → Case → Type 0
+IsGoodCase s c case = (v : Valuation) → IsIn case.condition v → IsRowTaken s c v → IsTrue (s.observer v)
+
+-- The entry is a step, and the observer is false at a valuation of the case that the claim takes.
+pub record IsBadCase (s : System) (c : RowClaim) (case : Case) (e : Entry) : Type 0 where
+  pub step : IsStepKind e.kind
+  pub valuation : Valuation
+  pub within : IsIn case.condition valuation
+  pub taken : IsRowTaken s c valuation
+  pub fails : s.observer valuation ≡ false
+
+-- The entry of a case, and whether the case is bad: else it is good.
+pub record IsMadeEntry (s : System) (c : RowClaim) (given : List Row) (case : Case) (m : Made) : Type 0 where
+  pub entry : IsEntryOf s c given case m.entry
+  pub good : m.fails ≡ false → IsGoodCase s c case
+  pub bad : m.fails ≡ true → IsBadCase s c case m.entry
+
+-- The entries of cases, and whether one of the cases is bad: else each is good.
+pub record AreListed (s : System) (c : RowClaim) (given : List Row) (cases : List Case) (es : List Entry) (fails : Bool) : Type 0 where
+  pub entries : AreEntriesOf s c given cases (length cases) es
+  pub good : fails ≡ false → (j : ℕ) (case : Case) → slice_get cases j ≡ Some case → IsGoodCase s c case
+  pub bad : fails ≡ true
+      → (j : ℕ) × (case : Case) × (e : Entry) × (slice_get cases j ≡ Some case) × (slice_get es j ≡ Some e) × IsBadCase s c case e
 
 -- A location with these control states, rows and entries: the rows of its state are those of its entry.
 pub record IsLocationOf (from : Frozen) (rows : List Row) (es : List Entry) (l : Location) : Type 0 where

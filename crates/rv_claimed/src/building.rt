@@ -1,22 +1,23 @@
 //! The certificate of a closed row claim.
 
-ghost use Rattle.std.specs.Prelude.{◌≡◌, ◌<◌, ◌≤◌, ◌^◌, ℤ, List, All, false, IfOk, IfSome, IfNone, IsErrOf};
+ghost use Rattle.std.specs.Prelude.{◌≡◌, ◌<◌, ◌≤◌, ◌^◌, ℤ, List, [], All, false, IsTrue, IfOk, IsErrOf};
 ghost use Rattle.std.specs.Int.RustNames.{unsigned_abs};
 ghost use Rattle.rv_diagram.specs.Nodes.{Valuation};
 ghost use Rattle.rv_proofs.specs.Systems.{System};
 ghost use Rattle.rv_proofs.specs.Cases.{IsInitialSet};
 ghost use Rattle.rv_proofs.specs.Accepted.{IsAccepted};
+ghost use Rattle.rv_proofs.specs.Left.{IsLeftPartition};
 ghost use Rattle.rv_proofs.specs.RowClaims.{IsRowTaken, IsRowClosed, IsRowGood};
 ghost use Rattle.rv_walk.specs.Plain.{ArePlain};
 ghost use Rattle.rv_claims.specs.Claiming.{claim_of, IsKeptClaim};
 ghost use Rattle.rv_claimed.specs.Certifying.{IsGiven};
-ghost use Rattle.rv_claimed.specs.Building.{IsStart, AreOthers};
+ghost use Rattle.rv_claimed.specs.Building.{IsStart, AreOthers, IsCertificateOf, IsProof};
 
+use crate::answer::Claimed;
 use crate::locations::{MOST, Part, assembled};
 use rv_cases::{Questions, cases};
 use rv_claims::Claim;
 use rv_diagram::{Frozen, Store, StoreFault};
-use rv_proofs::Certificate;
 use rv_symbolic::Relation;
 use rv_walk::without;
 use std::alloc::Global;
@@ -61,30 +62,18 @@ fn others_of(
     Ok(Part { control, cases })
 }
 
-/// The certificate of a closed row claim, or none where the observer is false at a valuation that the claim takes. `relation` and
-/// `questions` are those of the system in the store. The certificate is accepted and has no loop: one location for the initial control
-/// states, without rows, and one for the others of the claim, with the rows of the claim. The store is left as it was, after a fault
-/// too. Nodes comes where the store has no room for what is built on the way, never where its limit holds every function of its
-/// variables, and Memory where there is none, or where a document has no numbers for so many premises or entries.
-pub fn certify(
+/// The certificate of a closed row claim, and all that is proved of it.
+fn proved(
     alloc: Global,
     store: &mut Store,
     relation: &Relation,
     questions: &Questions,
     claim: Claim,
-) -> Result<Option<Certificate>, StoreFault>
+) -> Result<Claimed, StoreFault>
     requires { (s : System) × (thresholds : List ℤ) × IsGiven s store.old relation.now questions.now × IsKeptClaim s thresholds claim
-        × IsRowClosed s (claim_of claim) × All (λ t. unsigned_abs t ≤ 2 ^ 41) thresholds }
-    ensures accepted { (s : System) (thresholds : List ℤ) → IsGiven s store.old relation.now questions.now → IsKeptClaim s thresholds claim
-        → IsRowClosed s (claim_of claim) → All (λ t. unsigned_abs t ≤ 2 ^ 41) thresholds → IfOk result (λ o. IfSome o (IsAccepted s)) }
-    ensures plain { (s : System) (thresholds : List ℤ) → IsGiven s store.old relation.now questions.now → IsKeptClaim s thresholds claim
-        → IsRowClosed s (claim_of claim) → All (λ t. unsigned_abs t ≤ 2 ^ 41) thresholds → IfOk result (λ o. IfSome o ArePlain) }
-    ensures good { (s : System) (thresholds : List ℤ) → IsGiven s store.old relation.now questions.now → IsKeptClaim s thresholds claim
-        → IsRowClosed s (claim_of claim) → All (λ t. unsigned_abs t ≤ 2 ^ 41) thresholds
-        → IfOk result (λ o. IfSome o (λ x. IsRowGood s (claim_of claim))) }
-    ensures bad { (s : System) (thresholds : List ℤ) → IsGiven s store.old relation.now questions.now → IsKeptClaim s thresholds claim
-        → IsRowClosed s (claim_of claim) → All (λ t. unsigned_abs t ≤ 2 ^ 41) thresholds
-        → IfOk result (λ o. IfNone o ((v : Valuation) × IsRowTaken s (claim_of claim) v × (s.observer v ≡ false))) }
+        × IsRowClosed s (claim_of claim) }
+    ensures proof { (s : System) (thresholds : List ℤ) → IsGiven s store.old relation.now questions.now → IsKeptClaim s thresholds claim
+        → IsRowClosed s (claim_of claim) → IfOk result (IsProof s (claim_of claim)) }
     ensures same { store.new ≡ store.old }
     ensures roomy { IsErrOf result StoreFault.Nodes → store.old.limit < 2 ^ (2 ^ store.old.variables) }
 {
@@ -95,4 +84,43 @@ pub fn certify(
     let start = start_of(alloc, store, relation, questions)?;
     let others = others_of(alloc, store, relation, questions, &start.control, &claim)?;
     Ok(assembled(alloc, &claim, many, start, others)?)
+}
+
+/// The certificate of a closed row claim, and the numbers of its locations in which the observer may be false. `relation` and `questions`
+/// are those of the system in the store. The certificate has no loop, and two locations: one for the initial control states, without
+/// rows, and one for the others of the claim, with the rows of the claim. Where no location is left the claim is good and the
+/// certificate accepted. Else the observer is false at a valuation that the claim takes, and where there is an initial control state the
+/// certificate is a left partition. The store is left as it was, after a fault too. Nodes comes where the store has no room for what is
+/// built on the way, never where its limit holds every function of its variables, and Memory where there is none, or where a document
+/// has no numbers for so many premises or entries.
+pub fn certify(
+    alloc: Global,
+    store: &mut Store,
+    relation: &Relation,
+    questions: &Questions,
+    claim: Claim,
+) -> Result<Claimed, StoreFault>
+    requires { (s : System) × (thresholds : List ℤ) × IsGiven s store.old relation.now questions.now × IsKeptClaim s thresholds claim
+        × IsRowClosed s (claim_of claim) × All (λ t. unsigned_abs t ≤ 2 ^ 41) thresholds }
+    ensures accepted { (s : System) (thresholds : List ℤ) → IsGiven s store.old relation.now questions.now → IsKeptClaim s thresholds claim
+        → IsRowClosed s (claim_of claim) → All (λ t. unsigned_abs t ≤ 2 ^ 41) thresholds
+        → IfOk result (λ x. x.left ≡ [] → IsAccepted s x.certificate) }
+    ensures made { (s : System) (thresholds : List ℤ) → IsGiven s store.old relation.now questions.now → IsKeptClaim s thresholds claim
+        → IsRowClosed s (claim_of claim) → All (λ t. unsigned_abs t ≤ 2 ^ 41) thresholds
+        → IfOk result (λ x. IsCertificateOf s (claim_of claim) x.certificate) }
+    ensures plain { (s : System) (thresholds : List ℤ) → IsGiven s store.old relation.now questions.now → IsKeptClaim s thresholds claim
+        → IsRowClosed s (claim_of claim) → All (λ t. unsigned_abs t ≤ 2 ^ 41) thresholds → IfOk result (λ x. ArePlain x.certificate) }
+    ensures good { (s : System) (thresholds : List ℤ) → IsGiven s store.old relation.now questions.now → IsKeptClaim s thresholds claim
+        → IsRowClosed s (claim_of claim) → All (λ t. unsigned_abs t ≤ 2 ^ 41) thresholds
+        → IfOk result (λ x. x.left ≡ [] → IsRowGood s (claim_of claim)) }
+    ensures bad { (s : System) (thresholds : List ℤ) → IsGiven s store.old relation.now questions.now → IsKeptClaim s thresholds claim
+        → IsRowClosed s (claim_of claim) → All (λ t. unsigned_abs t ≤ 2 ^ 41) thresholds
+        → IfOk result (λ x. ¬ (x.left ≡ []) → (v : Valuation) × IsRowTaken s (claim_of claim) v × (s.observer v ≡ false)) }
+    ensures left { (s : System) (thresholds : List ℤ) → IsGiven s store.old relation.now questions.now → IsKeptClaim s thresholds claim
+        → IsRowClosed s (claim_of claim) → All (λ t. unsigned_abs t ≤ 2 ^ 41) thresholds → (v : Valuation) → IsTrue (s.initial v)
+        → IfOk result (λ x. ¬ (x.left ≡ []) → IsLeftPartition s x.certificate x.left) }
+    ensures same { store.new ≡ store.old }
+    ensures roomy { IsErrOf result StoreFault.Nodes → store.old.limit < 2 ^ (2 ^ store.old.variables) }
+{
+    proved(alloc, store, relation, questions, claim)
 }

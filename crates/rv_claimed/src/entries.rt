@@ -1,69 +1,44 @@
 //! Entries of a certificate: a case whose premises are shut at once is dead, and another is a step, in which a pair of premises shows
-//! each row of the claim after the updates.
+//! each row of the claim after the updates. The premises of a case are made ready for all these questions once.
 
-ghost use Rattle.std.specs.Prelude.{◌≡◌, ◌<◌, ◌+◌, ◌^◌, ℕ, true, false, All, Some, IfOk, IfSome, IfNone, length, slice_get};
+ghost use Rattle.std.specs.Prelude.{◌≡◌, ◌↔◌, ◌<◌, ◌+◌, ◌^◌, ◌||◌, ℕ, false, All, Some, IsTrue, IfOk, IfSome, IfNone, length, slice_get};
 ghost use Rattle.rv_diagram.specs.declared.frozen.Frozen.{Frozen as FrozenModel};
 ghost use Rattle.rv_rows.specs.declared.linear.Row.{Row as RowModel};
 ghost use Rattle.rv_rows.specs.Rows.{RowWithin};
 ghost use Rattle.rv_rows.specs.Multipliers.{ShowsAtOnce, AreShutAtOnce};
 ghost use Rattle.rv_proofs.specs.Systems.{System};
+ghost use Rattle.rv_proofs.specs.Accepted.{IsStepKind};
 ghost use Rattle.rv_claims.specs.Claiming.{claim_of};
 ghost use Rattle.rv_claimed.specs.Placing.{IsPairOf};
-ghost use Rattle.rv_claimed.specs.Certifying.{IsBad, CanShow, premises_in, IsReached, IsShut, AreReached, IsMadeKind};
-ghost use Rattle.rv_claimed.specs.Certifying.{IsJudgeable, IsSetting, IsCaseIn, AreCasesIn, IsEntryOf, AreEntriesOf};
+ghost use Rattle.rv_claimed.specs.Certifying.{CanShow, premises_in, IsReached, IsShut, AreReached, IsMadeKind};
+ghost use Rattle.rv_claimed.specs.Certifying.{IsJudgeable, IsSetting, IsCaseIn, AreCasesIn, IsMadeEntry, AreListed};
 
 use crate::lists::premises_of;
-use crate::pairs::{multipliers_of, shown_pair};
+use crate::pairs::multipliers_of;
 use rv_base::{Many, Memory};
 use rv_claims::Claim;
 use rv_proofs::{Case, Entry, EntryKind};
 use rv_rows::{Multipliers, Row};
+use rv_seek::Premises;
 use std::alloc::Global;
-
-/// The multipliers of a pair of a case's premises that shows a row, or none where none, one and two of them do not show it at once.
-fn shown_by(
-    alloc: Global,
-    premises: &Many<Row>,
-    given: usize,
-    many: usize,
-    case: &Case,
-    wanted: &Row,
-) -> Result<Option<Multipliers>, Memory>
-    requires premises { All (RowWithin (2 ^ 60)) premises.now }
-    requires wanted { RowWithin (2 ^ 78) wanted.now }
-    requires few { length premises.now < 2 ^ 32 }
-    requires numbers { given + many < 2 ^ 32 }
-    ensures found { IfOk result (λ o. IfSome o (IsPairOf given many case.now.tests premises.now wanted.now)) }
-    ensures missing { IfOk result (λ o. IfNone o (¬ (ShowsAtOnce premises.now wanted.now))) }
-{
-    match shown_pair(alloc, premises, wanted)? {
-        Some(pair) => {
-            let multipliers = multipliers_of(alloc, given, &case.tests, many, pair)?;
-            Ok(Some(multipliers))
-        }
-        None => Ok(None),
-    }
-}
 
 /// The multipliers that show a row after the updates.
 fn reach_row(
     alloc: Global,
-    premises: &Many<Row>,
+    premises: &Premises,
     given: &Many<Row>,
     many: usize,
     case: &Case,
     wanted: &Row,
 ) -> Result<Multipliers, Memory>
     requires are { premises.now ≡ premises_in given.now case.now }
-    requires premises { All (RowWithin (2 ^ 60)) premises.now }
-    requires few { length premises.now < 2 ^ 32 }
     requires numbers { length given.now + many < 2 ^ 32 }
     requires wanted { CanShow premises.now case.now.updates wanted.now }
     ensures { IfOk result (IsReached many given.now case.now wanted.now) }
 {
     let row = wanted.substitute(alloc, &case.updates)?;
-    match shown_by(alloc, premises, given.len(), many, case, &row)? {
-        Some(multipliers) => Ok(multipliers),
+    match premises.shown(alloc, &row)? {
+        Some(pair) => multipliers_of(alloc, given.len(), &case.tests, many, pair),
         None => unreachable!(),
     }
 }
@@ -71,15 +46,13 @@ fn reach_row(
 /// The multipliers that show each of the rows after the updates.
 fn reach_rows(
     alloc: Global,
-    premises: &Many<Row>,
+    premises: &Premises,
     given: &Many<Row>,
     many: usize,
     case: &Case,
     wanted: &Many<Row>,
 ) -> Result<Many<Multipliers>, Memory>
     requires are { premises.now ≡ premises_in given.now case.now }
-    requires premises { All (RowWithin (2 ^ 60)) premises.now }
-    requires few { length premises.now < 2 ^ 32 }
     requires numbers { length given.now + many < 2 ^ 32 }
     requires wanted { (n : ℕ) (r : RowModel) → slice_get wanted.now n ≡ Some r → CanShow premises.now case.now.updates r }
     ensures { IfOk result (AreReached many given.now case.now wanted.now (length wanted.now)) }
@@ -95,125 +68,144 @@ fn reach_rows(
 /// The multipliers that show at once that no point meets the premises of a case, or none where they do not.
 fn shut_by(
     alloc: Global,
-    premises: &Many<Row>,
+    premises: &Premises,
     given: &Many<Row>,
     many: usize,
     case: &Case,
 ) -> Result<Option<Multipliers>, Memory>
     requires are { premises.now ≡ premises_in given.now case.now }
-    requires premises { All (RowWithin (2 ^ 60)) premises.now }
-    requires few { length premises.now < 2 ^ 32 }
     requires numbers { length given.now + many < 2 ^ 32 }
     ensures shut { IfOk result (λ o. IfSome o (IsShut many given.now case.now)) }
     ensures opened { IfOk result (λ o. IfNone o (¬ (AreShutAtOnce premises.now))) }
 {
-    let wanted = Row {
-        coefficients: Many::new(alloc),
-        bound: -1,
-    };
-    shown_by(alloc, premises, given.len(), many, case, &wanted)
+    match premises.shut(alloc)? {
+        Some(pair) => {
+            let refutation = multipliers_of(alloc, given.len(), &case.tests, many, pair)?;
+            Ok(Some(refutation))
+        }
+        None => Ok(None),
+    }
 }
 
-/// A step into location 1, or none where the observer is false.
+/// A step into location 1.
 fn step_of(
     alloc: Global,
-    premises: &Many<Row>,
+    premises: &Premises,
     given: &Many<Row>,
     many: usize,
     case: &Case,
     wanted: &Many<Row>,
-) -> Result<Option<EntryKind>, Memory>
+) -> Result<EntryKind, Memory>
     requires are { premises.now ≡ premises_in given.now case.now }
-    requires premises { All (RowWithin (2 ^ 60)) premises.now }
-    requires few { length premises.now < 2 ^ 32 }
     requires numbers { length given.now + many < 2 ^ 32 }
     requires opened { ¬ (AreShutAtOnce premises.now) }
     requires wanted { (n : ℕ) (r : RowModel) → slice_get wanted.now n ≡ Some r → CanShow premises.now case.now.updates r }
-    ensures made { IfOk result (λ o. IfSome o (IsMadeKind many given.now wanted.now case.now)) }
-    ensures good { IfOk result (λ o. IfSome o (λ k. case.now.observer ≡ true)) }
-    ensures bad { IfOk result (λ o. IfNone o (case.now.observer ≡ false)) }
+    ensures { IfOk result (IsMadeKind many given.now wanted.now case.now) }
 {
-    if !case.observer {
-        return Ok(None);
-    }
     let reach = reach_rows(alloc, premises, given, many, case, wanted)?;
-    Ok(Some(EntryKind::Go { target: 1, reach }))
+    Ok(EntryKind::Go { target: 1, reach })
 }
 
-/// What happens in a case: it is dead where its premises are shut at once, and else a step into location 1, or none where the observer
-/// is false there.
+/// What happens in a case: it is dead where its premises are shut at once, and else a step into location 1.
 fn kind_of(
     alloc: Global,
-    premises: &Many<Row>,
+    premises: &Premises,
     given: &Many<Row>,
     many: usize,
     case: &Case,
     wanted: &Many<Row>,
-) -> Result<Option<EntryKind>, Memory>
+) -> Result<EntryKind, Memory>
     requires are { premises.now ≡ premises_in given.now case.now }
-    requires premises { All (RowWithin (2 ^ 60)) premises.now }
-    requires few { length premises.now < 2 ^ 32 }
     requires numbers { length given.now + many < 2 ^ 32 }
     requires wanted { ¬ (AreShutAtOnce premises.now) → (n : ℕ) (r : RowModel) → slice_get wanted.now n ≡ Some r
         → CanShow premises.now case.now.updates r }
-    ensures made { IfOk result (λ o. IfSome o (IsMadeKind many given.now wanted.now case.now)) }
-    ensures good { IfOk result (λ o. IfSome o (λ k. ¬ (AreShutAtOnce premises.now) → case.now.observer ≡ true)) }
-    ensures opened { IfOk result (λ o. IfNone o (¬ (AreShutAtOnce premises.now))) }
-    ensures bad { IfOk result (λ o. IfNone o (case.now.observer ≡ false)) }
+    ensures { IfOk result (IsMadeKind many given.now wanted.now case.now) }
 {
     match shut_by(alloc, premises, given, many, case)? {
-        Some(refutation) => Ok(Some(EntryKind::Dead(refutation))),
+        Some(refutation) => Ok(EntryKind::Dead(refutation)),
         None => step_of(alloc, premises, given, many, case, wanted),
     }
 }
 
-/// The entry of a case, or none where its premises are not shut at once and the observer is false.
+/// Whether what happens in a case is a step at which the observer is false.
+fn is_failing(case: &Case, kind: &EntryKind) -> bool
+    ensures { IsTrue result ↔ ((case.now.observer ≡ false) × IsStepKind kind.now) }
+{
+    match kind {
+        EntryKind::Dead(_) => false,
+        _ => !case.observer,
+    }
+}
+
+/// An entry, and whether it is a step at which the observer is false.
+#[derive(Debug, Drop)]
+pub struct Made {
+    /// The entry.
+    pub entry: Entry,
+    /// Whether it is such a step.
+    pub fails: bool,
+}
+
+/// The entry of a case.
 fn entry_of(
     alloc: Global,
     claim: &Claim,
     given: &Many<Row>,
     many: usize,
     case: Case,
-) -> Result<Option<Entry>, Memory>
+) -> Result<Made, Memory>
     requires { (s : System) × (from : FrozenModel) × IsJudgeable s many claim.now × IsSetting s (claim_of claim.now) from given.now
         × IsCaseIn s from case }
-    ensures some { (s : System) (from : FrozenModel) → IsJudgeable s many claim.now → IsSetting s (claim_of claim.now) from given.now
-        → IsCaseIn s from case → IfOk result (λ o. IfSome o (IsEntryOf s (claim_of claim.now) given.now case)) }
-    ensures none { (s : System) (from : FrozenModel) → IsJudgeable s many claim.now → IsSetting s (claim_of claim.now) from given.now
-        → IsCaseIn s from case → IfOk result (λ o. IfNone o (IsBad s (claim_of claim.now))) }
+    ensures { (s : System) (from : FrozenModel) → IsJudgeable s many claim.now → IsSetting s (claim_of claim.now) from given.now
+        → IsCaseIn s from case → IfOk result (IsMadeEntry s (claim_of claim.now) given.now case) }
 {
-    let premises = premises_of(alloc, given, &case.rows)?;
-    match kind_of(alloc, &premises, given, many, &case, &claim.rows)? {
-        Some(kind) => Ok(Some(Entry {
-            condition: case.condition,
-            kind,
-        })),
-        None => Ok(None),
-    }
+    let rows = premises_of(alloc, given, &case.rows)?;
+    let premises = Premises::new(alloc, &rows)?;
+    let kind = kind_of(alloc, &premises, given, many, &case, &claim.rows)?;
+    let fails = is_failing(&case, &kind);
+    let entry = Entry {
+        condition: case.condition,
+        kind,
+    };
+    Ok(Made { entry, fails })
 }
 
-/// The entries of cases, or none where the premises of one are not shut at once and the observer is false there.
+/// Entries, and whether one of them is a step at which the observer is false.
+#[derive(Debug, Drop)]
+pub struct Listed {
+    /// The entries.
+    pub entries: Many<Entry>,
+    /// Whether one of them is such a step.
+    pub fails: bool,
+}
+
+/// Whether one of the two holds.
+fn either(first: bool, second: bool) -> bool
+    ensures { result ≡ (first || second) }
+{
+    first || second
+}
+
+/// The entries of cases.
 pub fn entries(
     alloc: Global,
     claim: &Claim,
     given: &Many<Row>,
     many: usize,
     cases: Many<Case>,
-) -> Result<Option<Many<Entry>>, Memory>
+) -> Result<Listed, Memory>
     requires { (s : System) × (from : FrozenModel) × IsJudgeable s many claim.now × IsSetting s (claim_of claim.now) from given.now
         × AreCasesIn s from cases }
-    ensures some { (s : System) (from : FrozenModel) → IsJudgeable s many claim.now → IsSetting s (claim_of claim.now) from given.now
+    ensures { (s : System) (from : FrozenModel) → IsJudgeable s many claim.now → IsSetting s (claim_of claim.now) from given.now
         → AreCasesIn s from cases
-        → IfOk result (λ o. IfSome o (AreEntriesOf s (claim_of claim.now) given.now cases (length cases))) }
-    ensures none { (s : System) (from : FrozenModel) → IsJudgeable s many claim.now → IsSetting s (claim_of claim.now) from given.now
-        → AreCasesIn s from cases → IfOk result (λ o. IfNone o (IsBad s (claim_of claim.now))) }
+        → IfOk result (λ x. AreListed s (claim_of claim.now) given.now cases x.entries x.fails) }
 {
-    let mut list = Many::new(alloc);
+    let mut entries = Many::new(alloc);
+    let mut fails = false;
     for case in cases.into_vec() {
-        match entry_of(alloc, claim, given, many, case)? {
-            Some(entry) => list.push(entry)?,
-            None => return Ok(None),
-        }
+        let made = entry_of(alloc, claim, given, many, case)?;
+        fails = either(fails, made.fails);
+        entries.push(made.entry)?;
     }
-    Ok(Some(list))
+    Ok(Listed { entries, fails })
 }

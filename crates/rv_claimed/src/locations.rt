@@ -1,16 +1,16 @@
 //! Locations of a certificate, and the certificate of two of them.
 
-ghost use Rattle.std.specs.Prelude.{◌≡◌, ◌<◌, ◌^◌, ℕ, [], ◌∷◌, length, IfOk, IfSome, IfNone, Some, slice_get};
+ghost use Rattle.std.specs.Prelude.{◌≡◌, ◌<◌, ◌^◌, ℕ, [], ◌∷◌, length, IfOk, Some, slice_get};
 ghost use Rattle.rv_proofs.specs.Systems.{System};
 ghost use Rattle.rv_proofs.specs.Samples.{by_one};
-ghost use Rattle.rv_proofs.specs.RowClaims.{IsRowGood};
 ghost use Rattle.rv_proofs.specs.Cases.{AreCases};
 ghost use Rattle.rv_claimed.specs.declared.locations.Part.{Part as PartModel};
 ghost use Rattle.rv_claims.specs.Claiming.{claim_of};
-ghost use Rattle.rv_claimed.specs.Certifying.{IsBad, IsJudgeable, IsSetting, IsLocationOf};
+ghost use Rattle.rv_claimed.specs.Certifying.{IsJudgeable, IsSetting, IsLocationOf};
 ghost use Rattle.rv_claimed.specs.Building.{ArePartsOf, IsPlaceOf, IsProof};
 
-use crate::entries::entries;
+use crate::answer::{Claimed, left_among};
+use crate::entries::{Listed, entries};
 use crate::lists::copy_rows;
 use rv_base::{Many, Memory};
 use rv_claims::Claim;
@@ -81,30 +81,35 @@ fn location(
     })
 }
 
-/// The location of control states with their cases, or none where the premises of a case are not shut at once and the observer is false
-/// there. More cases than a document can count are want of memory.
+/// A location, and whether one of its entries is a step at which the observer is false.
+#[derive(Debug, Drop)]
+pub struct Place {
+    /// The location.
+    pub location: Location,
+    /// Whether it has such an entry.
+    pub fails: bool,
+}
+
+/// The location of control states with their cases. More cases than a document can count are want of memory.
 fn placed(
     alloc: Global,
     claim: &Claim,
     many: usize,
     rows: Many<Row>,
     part: Part,
-) -> Result<Option<Location>, Memory>
+) -> Result<Place, Memory>
     requires { (s : System) × IsJudgeable s many claim.now × IsSetting s (claim_of claim.now) part.control rows
         × AreCases s part.control part.cases }
-    ensures some { (s : System) → IsJudgeable s many claim.now → IsSetting s (claim_of claim.now) part.control rows
-        → AreCases s part.control part.cases → IfOk result (λ o. IfSome o (IsPlaceOf s (claim_of claim.now) part.control rows)) }
-    ensures none { (s : System) → IsJudgeable s many claim.now → IsSetting s (claim_of claim.now) part.control rows
-        → AreCases s part.control part.cases → IfOk result (λ o. IfNone o (IsBad s (claim_of claim.now))) }
+    ensures { (s : System) → IsJudgeable s many claim.now → IsSetting s (claim_of claim.now) part.control rows
+        → AreCases s part.control part.cases → IfOk result (IsPlaceOf s (claim_of claim.now) part.control rows) }
 {
     let Part { control, cases } = part;
     if cases.len() > MOST {
         return Err(Memory::Memory);
     }
-    match entries(alloc, claim, &rows, many, cases)? {
-        Some(entries) => Ok(Some(location(alloc, control, rows, entries)?)),
-        None => Ok(None),
-    }
+    let Listed { entries, fails } = entries(alloc, claim, &rows, many, cases)?;
+    let location = location(alloc, control, rows, entries)?;
+    Ok(Place { location, fails })
 }
 
 /// The certificate of two locations.
@@ -118,82 +123,39 @@ fn certificate(alloc: Global, start: Location, later: Location) -> Result<Certif
 }
 
 /// The location of the initial control states, which has no rows.
-fn first_place(
-    alloc: Global,
-    claim: &Claim,
-    many: usize,
-    start: Part,
-) -> Result<Option<Location>, Memory>
+fn first_place(alloc: Global, claim: &Claim, many: usize, start: Part) -> Result<Place, Memory>
     requires { (s : System) × (others : PartModel) × ArePartsOf s many claim.now start others }
-    ensures some { (s : System) (others : PartModel) → ArePartsOf s many claim.now start others
-        → IfOk result (λ o. IfSome o (IsPlaceOf s (claim_of claim.now) start.control [])) }
-    ensures none { (s : System) (others : PartModel) → ArePartsOf s many claim.now start others
-        → IfOk result (λ o. IfNone o (IsBad s (claim_of claim.now))) }
+    ensures { (s : System) (others : PartModel) → ArePartsOf s many claim.now start others
+        → IfOk result (IsPlaceOf s (claim_of claim.now) start.control []) }
 {
     let nothing = Many::new(alloc);
     placed(alloc, claim, many, nothing, start)
 }
 
 /// The location of the other control states, which has the rows of the claim.
-fn later_place(
-    alloc: Global,
-    claim: &Claim,
-    many: usize,
-    others: Part,
-) -> Result<Option<Location>, Memory>
+fn later_place(alloc: Global, claim: &Claim, many: usize, others: Part) -> Result<Place, Memory>
     requires { (s : System) × (start : PartModel) × ArePartsOf s many claim.now start others }
-    ensures some { (s : System) (start : PartModel) → ArePartsOf s many claim.now start others
-        → IfOk result (λ o. IfSome o (IsPlaceOf s (claim_of claim.now) others.control claim.now.rows)) }
-    ensures none { (s : System) (start : PartModel) → ArePartsOf s many claim.now start others
-        → IfOk result (λ o. IfNone o (IsBad s (claim_of claim.now))) }
+    ensures { (s : System) (start : PartModel) → ArePartsOf s many claim.now start others
+        → IfOk result (IsPlaceOf s (claim_of claim.now) others.control claim.now.rows) }
 {
     let rows = copy_rows(alloc, &claim.rows)?;
     placed(alloc, claim, many, rows, others)
 }
 
-/// The certificate whose first location is given, or none where the premises of a case of the others are not shut at once and the
-/// observer is false there.
-fn with_later(
-    alloc: Global,
-    claim: &Claim,
-    many: usize,
-    initial: Location,
-    others: Part,
-) -> Result<Option<Certificate>, Memory>
-    requires { (s : System) × (start : PartModel) × ArePartsOf s many claim.now start others
-        × IsPlaceOf s (claim_of claim.now) start.control [] initial }
-    ensures some { (s : System) (start : PartModel) → ArePartsOf s many claim.now start others
-        → IsPlaceOf s (claim_of claim.now) start.control [] initial → IfOk result (λ o. IfSome o (λ x. IsProof s x)) }
-    ensures good { (s : System) (start : PartModel) → ArePartsOf s many claim.now start others
-        → IsPlaceOf s (claim_of claim.now) start.control [] initial
-        → IfOk result (λ o. IfSome o (λ x. IsRowGood s (claim_of claim.now))) }
-    ensures none { (s : System) (start : PartModel) → ArePartsOf s many claim.now start others
-        → IsPlaceOf s (claim_of claim.now) start.control [] initial
-        → IfOk result (λ o. IfNone o (IsBad s (claim_of claim.now))) }
-{
-    match later_place(alloc, claim, many, others)? {
-        Some(rest) => Ok(Some(certificate(alloc, initial, rest)?)),
-        None => Ok(None),
-    }
-}
-
-/// The certificate of a closed claim, or none where the observer is false at a valuation that the claim takes.
+/// The certificate of a closed claim, and which of its locations are left.
 pub fn assembled(
     alloc: Global,
     claim: &Claim,
     many: usize,
     start: Part,
     others: Part,
-) -> Result<Option<Certificate>, Memory>
+) -> Result<Claimed, Memory>
     requires { (s : System) × ArePartsOf s many claim.now start others }
-    ensures some { (s : System) → ArePartsOf s many claim.now start others → IfOk result (λ o. IfSome o (λ x. IsProof s x)) }
-    ensures good { (s : System) → ArePartsOf s many claim.now start others
-        → IfOk result (λ o. IfSome o (λ x. IsRowGood s (claim_of claim.now))) }
-    ensures none { (s : System) → ArePartsOf s many claim.now start others
-        → IfOk result (λ o. IfNone o (IsBad s (claim_of claim.now))) }
+    ensures { (s : System) → ArePartsOf s many claim.now start others → IfOk result (IsProof s (claim_of claim.now)) }
 {
-    match first_place(alloc, claim, many, start)? {
-        Some(initial) => with_later(alloc, claim, many, initial, others),
-        None => Ok(None),
-    }
+    let first = first_place(alloc, claim, many, start)?;
+    let later = later_place(alloc, claim, many, others)?;
+    let left = left_among(alloc, first.fails, later.fails)?;
+    let certificate = certificate(alloc, first.location, later.location)?;
+    Ok(Claimed { certificate, left })
 }

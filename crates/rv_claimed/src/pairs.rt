@@ -1,36 +1,13 @@
-//! Pairs of premises that show a row at once, and their multipliers in a certificate, where each test has a number.
+//! The multipliers of a pair of premises in a certificate, where each test has a number.
 
-ghost use Rattle.std.specs.Prelude.{◌≡◌, ◌<◌, ◌+◌, ◌^◌, ◌++◌, All, Some, IfOk, IfSome, IfNone, OnOk, length};
-ghost use Rattle.rv_rows.specs.Rows.{RowWithin};
-ghost use Rattle.rv_rows.specs.Multipliers.{ShowsAtOnce};
-ghost use Rattle.rv_seek.specs.Pairs.{PairShows, unit_at};
+ghost use Rattle.std.specs.Prelude.{◌≡◌, ◌<◌, ◌+◌, ◌^◌, ◌++◌, IfOk, OnOk};
+ghost use Rattle.rv_seek.specs.Pairs.{unit_at};
 ghost use Rattle.rv_claimed.specs.Placing.{IsPlaced, IsPlacedPair};
 
 use rv_base::{Many, Memory};
-use rv_rows::{Multipliers, Row, Weight};
-use rv_seek::{Best, least_pair};
+use rv_rows::{Multipliers, Weight};
+use rv_seek::Best;
 use std::alloc::Global;
-
-/// Two places whose premises show the row at once, or none where none, one and two premises do not. A place past the end stands for no
-/// premise.
-pub fn shown_pair(alloc: Global, premises: &Many<Row>, wanted: &Row) -> Result<Option<Best>, Memory>
-    requires premises { All (RowWithin (2 ^ 60)) premises.now }
-    requires wanted { RowWithin (2 ^ 78) wanted.now }
-    requires few { length premises.now < 2 ^ 32 }
-    ensures found { IfOk result (λ o. IfSome o (λ b. (b.first < b.second) × PairShows premises.now wanted.now b.first b.second)) }
-    ensures missing { IfOk result (λ o. IfNone o (¬ (ShowsAtOnce premises.now wanted.now))) }
-{
-    match least_pair(alloc, premises, &wanted.coefficients)? {
-        Some(best) => {
-            if best.bound <= wanted.bound {
-                Ok(Some(best))
-            } else {
-                Ok(None)
-            }
-        }
-        None => Ok(None),
-    }
-}
 
 /// The number that a place has in a certificate, whose premises are the given rows and then one for each of `many` tests: here they are
 /// the given rows and then those of the tests that are present.

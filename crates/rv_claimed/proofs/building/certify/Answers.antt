@@ -1,51 +1,26 @@
-use Rattle.std.proofs.Common.{◌<◌, ◌+◌, ◌^◌, arith, length}
-use Rattle.rv_proofs.specs.Accepted.{IsAccepted}
-use Rattle.rv_walk.specs.Plain.{ArePlain}
-use Rattle.rv_claimed.specs.Building.{IsProof}
-use Rattle.rv_claimed.proofs.Mapping.{map_some}
-use Rattle.rv_claimed.proofs.Giving.{given_there, parts_given}
+use Rattle.rv_claimed.proofs.Mapping.{map_ok}
 use Rattle.rv_claimed.proofs.building.certify.Goals as goal
-
-pub start_of-requires : goal.start_of-requires
-start_of-requires c = let (s, thresholds, given, kept, closed, small) = c.requires in (s, given)
-
-pub others_of-requires : goal.others_of-requires
-others_of-requires c =
-    let (s, thresholds, given, kept, closed, small) = c.requires in
-    let start = c.in_ok-start.ensures.start s given in (
-      s,
-      thresholds,
-      given_there s c.args.store.now c.start_of.new.store c.args.relation.now c.args.questions.now c.start_of.ensures.same given,
-      start.initial,
-      kept,
-    )
 
 pub returns-clause-accepted : goal.returns-clause-accepted
 returns-clause-accepted c s thresholds given kept closed small =
-    let few : length c.args.claim.rows + c.len-many.result < 2 ^ 32 = omega (arith, c.len.ensures, c.if-len-many-gt-MOST.false) in
-    let start = c.in_ok-start.ensures.start s given in
-    let there = given_there s c.args.store.now c.start_of.new.store c.args.relation.now c.args.questions.now c.start_of.ensures.same given in
-    let others = c.in_ok-others.ensures.others s thresholds there start.initial kept in
-    let parts = parts_given s thresholds c.args.store.now c.args.relation.now c.args.questions.now c.args.claim c.len-many.result
-    c.in_ok-start.start c.in_ok-others.others c.len-many.ensures given kept closed few start others in
-    map_some c.in_ok-assembled.field-0 (IsProof s) (IsAccepted s) (λ x p. p.accepted) (c.in_ok-assembled.ensures.some s parts)
+    map_ok c.proved.result _ _ (λ x p. p.accepted) (c.proved.ensures.proof s thresholds given kept closed)
+
+pub returns-clause-made : goal.returns-clause-made
+returns-clause-made c s thresholds given kept closed small =
+    map_ok c.proved.result _ _ (λ x p. p.made) (c.proved.ensures.proof s thresholds given kept closed)
 
 pub returns-clause-plain : goal.returns-clause-plain
 returns-clause-plain c s thresholds given kept closed small =
-    let few : length c.args.claim.rows + c.len-many.result < 2 ^ 32 = omega (arith, c.len.ensures, c.if-len-many-gt-MOST.false) in
-    let start = c.in_ok-start.ensures.start s given in
-    let there = given_there s c.args.store.now c.start_of.new.store c.args.relation.now c.args.questions.now c.start_of.ensures.same given in
-    let others = c.in_ok-others.ensures.others s thresholds there start.initial kept in
-    let parts = parts_given s thresholds c.args.store.now c.args.relation.now c.args.questions.now c.args.claim c.len-many.result
-    c.in_ok-start.start c.in_ok-others.others c.len-many.ensures given kept closed few start others in
-    map_some c.in_ok-assembled.field-0 (IsProof s) ArePlain (λ x p. p.plain) (c.in_ok-assembled.ensures.some s parts)
+    map_ok c.proved.result _ _ (λ x p. p.plain) (c.proved.ensures.proof s thresholds given kept closed)
 
 pub returns-clause-good : goal.returns-clause-good
 returns-clause-good c s thresholds given kept closed small =
-    let few : length c.args.claim.rows + c.len-many.result < 2 ^ 32 = omega (arith, c.len.ensures, c.if-len-many-gt-MOST.false) in
-    let start = c.in_ok-start.ensures.start s given in
-    let there = given_there s c.args.store.now c.start_of.new.store c.args.relation.now c.args.questions.now c.start_of.ensures.same given in
-    let others = c.in_ok-others.ensures.others s thresholds there start.initial kept in
-    let parts = parts_given s thresholds c.args.store.now c.args.relation.now c.args.questions.now c.args.claim c.len-many.result
-    c.in_ok-start.start c.in_ok-others.others c.len-many.ensures given kept closed few start others in
-    c.in_ok-assembled.ensures.good s parts
+    map_ok c.proved.result _ _ (λ x p. p.good) (c.proved.ensures.proof s thresholds given kept closed)
+
+pub returns-clause-bad : goal.returns-clause-bad
+returns-clause-bad c s thresholds given kept closed small =
+    map_ok c.proved.result _ _ (λ x p. p.bad) (c.proved.ensures.proof s thresholds given kept closed)
+
+pub returns-clause-left : goal.returns-clause-left
+returns-clause-left c s thresholds given kept closed small v starts =
+    map_ok c.proved.result _ _ (λ x p. p.left v starts) (c.proved.ensures.proof s thresholds given kept closed)

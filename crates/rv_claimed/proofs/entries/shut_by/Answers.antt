@@ -1,13 +1,8 @@
-use Rattle.rv_claimed.proofs.Mapping.{map_found, map_missing}
-use Rattle.rv_claimed.proofs.Entering.{shut_from, open_from}
+use Rattle.rv_claimed.proofs.Entering.{shut_from}
 use Rattle.rv_claimed.proofs.entries.shut_by.Goals as goal
 
-pub returns-clause-shut : goal.returns-clause-shut
-returns-clause-shut c =
-    map_found c.shown_by.result _ _
-    (λ m pair. shut_from c.args.many c.len.result c.args.given.now c.args.premises.now c.args.case.now c.new.result m c.len.ensures c.requires.are
-    c.new.ensures pair) c.shown_by.ensures.found
-
-pub returns-clause-opened : goal.returns-clause-opened
-returns-clause-opened c =
-    map_missing c.shown_by.result _ _ (λ o. open_from c.args.premises.now c.new.result c.new.ensures o) c.shown_by.ensures.missing
+pub returns-in_ok-refutation-in-Some-clause-shut : goal.returns-in_ok-refutation-in-Some-clause-shut
+returns-in_ok-refutation-in-Some-clause-shut c =
+    let (order, shows) = rw c.in-Some.is at c.in_ok-pair.ensures.found in
+    shut_from c.args.many c.len.result c.args.given.now c.args.premises.now c.args.case.now c.in_ok-refutation-in-Some.refutation c.len.ensures c.requires.are
+    (record { first = c.in-Some.pair.first; second = c.in-Some.pair.second; order = order; shows = shows; placed = c.in_ok-refutation-in-Some.ensures })

@@ -3,8 +3,8 @@ use Rattle.rv_rows.specs.declared.linear.Row.{Row}
 use Rattle.rv_rows.specs.Multipliers.{AreShutAtOnce}
 use Rattle.rv_claimed.proofs.entries.step_of.Goals as goal
 
-pub returns-clause-made : goal.returns-clause-made
-returns-clause-made c = (
+pub returns : goal.returns
+returns c = (
   refl,
   λ shut. c.requires.opened (subst (λ (ps : List Row). AreShutAtOnce ps) (sym c.requires.are) shut),
   c.in_ok-reach.ensures,

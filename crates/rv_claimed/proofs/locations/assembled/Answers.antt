@@ -1,25 +1,9 @@
+use Rattle.rv_claimed.proofs.Assembling.{proof_of}
 use Rattle.rv_claimed.proofs.locations.assembled.Goals as goal
 
-pub with_later-requires : goal.with_later-requires
-with_later-requires c =
-    let (s, are) = c.requires in
-    let one = rw c.in-Some.is at c.in_ok-initial.ensures.some s c.args.others are in
-    (s, c.args.start, are, one)
-
-pub returns-in-Some-clause-some : goal.returns-in-Some-clause-some
-returns-in-Some-clause-some c s are =
-    let one = rw c.in-Some.is at c.in_ok-initial.ensures.some s c.args.others are in
-    c.with_later.ensures.some s c.args.start are one
-
-pub returns-in-Some-clause-good : goal.returns-in-Some-clause-good
-returns-in-Some-clause-good c s are =
-    let one = rw c.in-Some.is at c.in_ok-initial.ensures.some s c.args.others are in
-    c.with_later.ensures.good s c.args.start are one
-
-pub returns-in-Some-clause-none : goal.returns-in-Some-clause-none
-returns-in-Some-clause-none c s are =
-    let one = rw c.in-Some.is at c.in_ok-initial.ensures.some s c.args.others are in
-    c.with_later.ensures.none s c.args.start are one
-
-pub returns-in-None-clause-none : goal.returns-in-None-clause-none
-returns-in-None-clause-none c s are = rw c.in-None.is at c.in_ok-initial.ensures.none s c.args.others are
+pub returns : goal.returns
+returns c s are =
+    let first = c.in_ok-first.ensures s c.args.others are in
+    let later = c.in_ok-later.ensures s c.args.start are in
+    proof_of s c.args.many c.args.claim.now c.args.start c.args.others are c.in_ok-first.first c.in_ok-later.later first later
+    c.in_ok-certificate.certificate c.in_ok-certificate.ensures c.in_ok-left.left c.in_ok-left.ensures

@@ -1,5 +1,5 @@
 use Rattle.std.proofs.Common.{List, sym, subst}
-use Rattle.std.specs.Prelude.{IfOk, IfSome}
+use Rattle.std.specs.Prelude.{IfOk}
 use Rattle.rv_rows.specs.declared.linear.Row.{Row}
 use Rattle.rv_claims.specs.Claiming.{claim_of}
 use Rattle.rv_claimed.specs.Certifying.{IsSetting}
@@ -18,18 +18,11 @@ placed-requires c =
       st.cases,
     )
 
-pub returns-clause-some : goal.returns-clause-some
-returns-clause-some c s others are =
+pub returns : goal.returns
+returns c s others are =
     let st = are.is_start in
-    subst (λ (rows : List Row). IfOk c.placed.result (λ o. IfSome o (IsPlaceOf s (claim_of c.args.claim.now) c.args.start.control rows)))
+    subst (λ (rows : List Row). IfOk c.placed.result (IsPlaceOf s (claim_of c.args.claim.now) c.args.start.control rows))
     c.new-nothing.ensures
-    (c.placed.ensures.some s are.judge
+    (c.placed.ensures s are.judge
     (subst (λ (rows : List Row). IsSetting s (claim_of c.args.claim.now) c.args.start.control rows) (sym c.new-nothing.ensures)
     (first_setting s c.args.many c.args.claim.now c.args.start others are)) st.cases)
-
-pub returns-clause-none : goal.returns-clause-none
-returns-clause-none c s others are =
-    let st = are.is_start in
-    c.placed.ensures.none s are.judge
-    (subst (λ (rows : List Row). IsSetting s (claim_of c.args.claim.now) c.args.start.control rows) (sym c.new-nothing.ensures)
-    (first_setting s c.args.many c.args.claim.now c.args.start others are)) st.cases

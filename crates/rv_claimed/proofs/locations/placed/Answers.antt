@@ -9,14 +9,9 @@ entries-requires c =
     let (s, judge, setting, are) = c.requires in
     (s, c.args.part.control, judge, setting, cases_in s c.args.part.control c.args.part.cases are)
 
-pub returns-in_ok-location-in-Some-clause-some : goal.returns-in_ok-location-in-Some-clause-some
-returns-in_ok-location-in-Some-clause-some c s judge setting are =
-    let list = rw c.in-Some.is at c.in_ok-entries.ensures.some s c.args.part.control judge setting
-    (cases_in s c.args.part.control c.args.part.cases are) in
+pub returns : goal.returns
+returns c s judge setting are =
+    let listed = c.in_ok-entries.ensures s c.args.part.control judge setting (cases_in s c.args.part.control c.args.part.cases are) in
     let few : length c.args.part.cases < 2 ^ 32 = omega (arith, c.len.ensures, c.if-len-gt-MOST.false) in
-    place_of s (claim_of c.args.claim.now) c.args.part.control c.args.rows setting c.args.part.cases are few c.in-Some.entries list
-    c.in_ok-location-in-Some.field-0 c.in_ok-location-in-Some.ensures
-
-pub returns-in-None-clause-none : goal.returns-in-None-clause-none
-returns-in-None-clause-none c s judge setting are =
-    rw c.in-None.is at c.in_ok-entries.ensures.none s c.args.part.control judge setting (cases_in s c.args.part.control c.args.part.cases are)
+    place_of s (claim_of c.args.claim.now) c.args.part.control c.args.rows setting c.args.part.cases are few c.in_ok-entries.field-0.entries
+    c.in_ok-entries.field-0.fails listed c.in_ok-location.location c.in_ok-location.ensures
