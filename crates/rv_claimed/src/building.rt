@@ -68,12 +68,12 @@ fn proved(
     store: &mut Store,
     relation: &Relation,
     questions: &Questions,
-    claim: Claim,
+    claim: &Claim,
 ) -> Result<Claimed, StoreFault>
-    requires { (s : System) × (thresholds : List ℤ) × IsGiven s store.old relation.now questions.now × IsKeptClaim s thresholds claim
-        × IsRowClosed s (claim_of claim) }
-    ensures proof { (s : System) (thresholds : List ℤ) → IsGiven s store.old relation.now questions.now → IsKeptClaim s thresholds claim
-        → IsRowClosed s (claim_of claim) → IfOk result (IsProof s (claim_of claim)) }
+    requires { (s : System) × (thresholds : List ℤ) × IsGiven s store.old relation.now questions.now × IsKeptClaim s thresholds claim.now
+        × IsRowClosed s (claim_of claim.now) }
+    ensures proof { (s : System) (thresholds : List ℤ) → IsGiven s store.old relation.now questions.now → IsKeptClaim s thresholds claim.now
+        → IsRowClosed s (claim_of claim.now) → IfOk result (IsProof s (claim_of claim.now)) }
     ensures same { store.new ≡ store.old }
     ensures roomy { IsErrOf result StoreFault.Nodes → store.old.limit < 2 ^ (2 ^ store.old.variables) }
 {
@@ -82,8 +82,8 @@ fn proved(
         return Err(StoreFault::Memory);
     }
     let start = start_of(alloc, store, relation, questions)?;
-    let others = others_of(alloc, store, relation, questions, &start.control, &claim)?;
-    Ok(assembled(alloc, &claim, many, start, others)?)
+    let others = others_of(alloc, store, relation, questions, &start.control, claim)?;
+    Ok(assembled(alloc, claim, many, start, others)?)
 }
 
 /// The certificate of a closed row claim, and the numbers of its locations in which the observer may be false. `relation` and `questions`
@@ -98,26 +98,26 @@ pub fn certify(
     store: &mut Store,
     relation: &Relation,
     questions: &Questions,
-    claim: Claim,
+    claim: &Claim,
 ) -> Result<Claimed, StoreFault>
-    requires { (s : System) × (thresholds : List ℤ) × IsGiven s store.old relation.now questions.now × IsKeptClaim s thresholds claim
-        × IsRowClosed s (claim_of claim) × All (λ t. unsigned_abs t ≤ 2 ^ 41) thresholds }
-    ensures accepted { (s : System) (thresholds : List ℤ) → IsGiven s store.old relation.now questions.now → IsKeptClaim s thresholds claim
-        → IsRowClosed s (claim_of claim) → All (λ t. unsigned_abs t ≤ 2 ^ 41) thresholds
+    requires { (s : System) × (thresholds : List ℤ) × IsGiven s store.old relation.now questions.now × IsKeptClaim s thresholds claim.now
+        × IsRowClosed s (claim_of claim.now) × All (λ t. unsigned_abs t ≤ 2 ^ 41) thresholds }
+    ensures accepted { (s : System) (thresholds : List ℤ) → IsGiven s store.old relation.now questions.now → IsKeptClaim s thresholds claim.now
+        → IsRowClosed s (claim_of claim.now) → All (λ t. unsigned_abs t ≤ 2 ^ 41) thresholds
         → IfOk result (λ x. x.left ≡ [] → IsAccepted s x.certificate) }
-    ensures made { (s : System) (thresholds : List ℤ) → IsGiven s store.old relation.now questions.now → IsKeptClaim s thresholds claim
-        → IsRowClosed s (claim_of claim) → All (λ t. unsigned_abs t ≤ 2 ^ 41) thresholds
-        → IfOk result (λ x. IsCertificateOf s (claim_of claim) x.certificate) }
-    ensures plain { (s : System) (thresholds : List ℤ) → IsGiven s store.old relation.now questions.now → IsKeptClaim s thresholds claim
-        → IsRowClosed s (claim_of claim) → All (λ t. unsigned_abs t ≤ 2 ^ 41) thresholds → IfOk result (λ x. ArePlain x.certificate) }
-    ensures good { (s : System) (thresholds : List ℤ) → IsGiven s store.old relation.now questions.now → IsKeptClaim s thresholds claim
-        → IsRowClosed s (claim_of claim) → All (λ t. unsigned_abs t ≤ 2 ^ 41) thresholds
-        → IfOk result (λ x. x.left ≡ [] → IsRowGood s (claim_of claim)) }
-    ensures bad { (s : System) (thresholds : List ℤ) → IsGiven s store.old relation.now questions.now → IsKeptClaim s thresholds claim
-        → IsRowClosed s (claim_of claim) → All (λ t. unsigned_abs t ≤ 2 ^ 41) thresholds
-        → IfOk result (λ x. ¬ (x.left ≡ []) → (v : Valuation) × IsRowTaken s (claim_of claim) v × (s.observer v ≡ false)) }
-    ensures left { (s : System) (thresholds : List ℤ) → IsGiven s store.old relation.now questions.now → IsKeptClaim s thresholds claim
-        → IsRowClosed s (claim_of claim) → All (λ t. unsigned_abs t ≤ 2 ^ 41) thresholds → (v : Valuation) → IsTrue (s.initial v)
+    ensures made { (s : System) (thresholds : List ℤ) → IsGiven s store.old relation.now questions.now → IsKeptClaim s thresholds claim.now
+        → IsRowClosed s (claim_of claim.now) → All (λ t. unsigned_abs t ≤ 2 ^ 41) thresholds
+        → IfOk result (λ x. IsCertificateOf s (claim_of claim.now) x.certificate) }
+    ensures plain { (s : System) (thresholds : List ℤ) → IsGiven s store.old relation.now questions.now → IsKeptClaim s thresholds claim.now
+        → IsRowClosed s (claim_of claim.now) → All (λ t. unsigned_abs t ≤ 2 ^ 41) thresholds → IfOk result (λ x. ArePlain x.certificate) }
+    ensures good { (s : System) (thresholds : List ℤ) → IsGiven s store.old relation.now questions.now → IsKeptClaim s thresholds claim.now
+        → IsRowClosed s (claim_of claim.now) → All (λ t. unsigned_abs t ≤ 2 ^ 41) thresholds
+        → IfOk result (λ x. x.left ≡ [] → IsRowGood s (claim_of claim.now)) }
+    ensures bad { (s : System) (thresholds : List ℤ) → IsGiven s store.old relation.now questions.now → IsKeptClaim s thresholds claim.now
+        → IsRowClosed s (claim_of claim.now) → All (λ t. unsigned_abs t ≤ 2 ^ 41) thresholds
+        → IfOk result (λ x. ¬ (x.left ≡ []) → (v : Valuation) × IsRowTaken s (claim_of claim.now) v × (s.observer v ≡ false)) }
+    ensures left { (s : System) (thresholds : List ℤ) → IsGiven s store.old relation.now questions.now → IsKeptClaim s thresholds claim.now
+        → IsRowClosed s (claim_of claim.now) → All (λ t. unsigned_abs t ≤ 2 ^ 41) thresholds → (v : Valuation) → IsTrue (s.initial v)
         → IfOk result (λ x. ¬ (x.left ≡ []) → IsLeftPartition s x.certificate x.left) }
     ensures same { store.new ≡ store.old }
     ensures roomy { IsErrOf result StoreFault.Nodes → store.old.limit < 2 ^ (2 ^ store.old.variables) }

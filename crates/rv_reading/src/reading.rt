@@ -1,6 +1,6 @@
 //! The control reading of a flat system.
 
-ghost use Rattle.std.specs.Prelude.{◌≡◌, ◌↔◌, ◌<◌, ◌≤◌, ◌^◌, ℕ, ℤ, Bool, List, Ok, None, Some, All, length, slice_get, IfOk, IfSome, OnOk, IsErrOf, IsTrue, ◌≢◌};
+ghost use Rattle.std.specs.Prelude.{◌≡◌, ◌↔◌, ◌<◌, ◌≤◌, ◌^◌, ℕ, ℤ, Bool, List, Ok, None, Some, [], true, false, All, length, slice_get, IfOk, OnOk, IsErrOf, IsTrue};
 ghost use Rattle.std.specs.Int.RustNames.{unsigned_abs};
 ghost use Rattle.std.specs.Borrow.{sem};
 ghost use Rattle.rv_diagram.specs.declared.frozen.Frozen.{Frozen as FrozenModel};
@@ -16,6 +16,8 @@ ghost use Rattle.rv_proofs.specs.Reached.{HasNoIntegers, IsLeastClosed, AreLayer
 ghost use Rattle.rv_proofs.specs.Runs.{IsSafeSystem};
 ghost use Rattle.rv_proofs.specs.Boxes.{BoxClaim, HasGoodBox};
 ghost use Rattle.rv_proofs.specs.RowClaims.{HasGoodRows};
+ghost use Rattle.rv_proofs.specs.Left.{IsLeftPartition};
+ghost use Rattle.rv_diagram.specs.Nodes.{Valuation};
 ghost use Rattle.rv_proofs.specs.Counts.{HasFree};
 ghost use Rattle.rv_proofs.specs.Verdicts.{IsVerdict};
 ghost use Rattle.rv_proofs.specs.declared.certificate.Certificate.{Certificate as CertificateModel};
@@ -32,11 +34,11 @@ ghost use Rattle.rv_reading.specs.Lending.{LendsStore};
 ghost use Rattle.rv_reading.specs.Read.{flat_of, system_read, diagrams_of, IsRead};
 
 use rv_accept::accept;
-use rv_base::Many;
+use rv_base::{Many, Memory};
 use rv_bits::{Around, ReadSystem, read_system};
 use rv_boxes::box_pass;
 use rv_cases::{Questions, cases};
-use rv_claimed::certify;
+use rv_claimed::{Claimed, certify};
 use rv_control::{computed_instants, control_is_a_system};
 use rv_diagram::{Frozen, Store, StoreFault};
 use rv_flat::Flat;
@@ -227,14 +229,26 @@ impl<'a> Reading<'a> {
         )
     }
 
-    /// The least closed row claim of the flat system, with bounds among its thresholds, and the certificate that it gives. The certificate is
-    /// accepted, without loops, and comes exactly where some closed row claim is good.
-    pub fn row_pass(&mut self, alloc: Global) -> Result<Option<Certificate>, StoreFault>
+    /// Whether there is an initial control state.
+    fn has_initial(&self) -> Result<bool, Memory>
+        requires read { IsRead self.now }
+        ensures some { IfOk result (λ b. b ≡ true → (v : Valuation) × IsTrue ((system_read self.now).initial v)) }
+        ensures none { IfOk result (λ b. b ≡ false → (v : Valuation) → (system_read self.now).initial v ≡ false) }
+    {
+        let found = self.store.pick(self.relation.parts().initial)?;
+        Ok(found.is_some())
+    }
+
+    /// The least closed row claim of the flat system, with bounds among its thresholds, and what is proved of it: a certificate without loops, of
+    /// one location for the initial control states and one for the others. No location is left exactly where some closed row claim is good,
+    /// and the certificate is accepted then; else it is a left partition.
+    pub fn row_pass(&mut self, alloc: Global) -> Result<Claimed, StoreFault>
         requires read { IsRead self.old }
         requires thresholds { All (λ t. unsigned_abs t ≤ 2 ^ 41) (flat_of self.old).thresholds }
-        ensures accepted { IfOk result (λ o. IfSome o (IsAccepted (system_read self.old))) }
-        ensures plain { IfOk result (λ o. IfSome o ArePlain) }
-        ensures exactly { IfOk result (λ o. (o ≢ None) ↔ HasGoodRows (system_read self.old) (flat_of self.old).thresholds) }
+        ensures accepted { IfOk result (λ x. x.left ≡ [] → IsAccepted (system_read self.old) x.certificate) }
+        ensures plain { IfOk result (λ x. ArePlain x.certificate) }
+        ensures exactly { IfOk result (λ x. (x.left ≡ []) ↔ HasGoodRows (system_read self.old) (flat_of self.old).thresholds) }
+        ensures left { IfOk result (λ x. ¬ (x.left ≡ []) → IsLeftPartition (system_read self.old) x.certificate x.left) }
         ensures same { self.new ≡ self.old }
         ensures roomy { IsErrOf result StoreFault.Nodes → (diagrams_of self.old).limit < 2 ^ (2 ^ (diagrams_of self.old).variables) }
     {
@@ -246,12 +260,14 @@ impl<'a> Reading<'a> {
             &self.questions,
             self.flat.thresholds.as_slice(),
         )?;
+        // (a left partition has an initial control state, and without one each claim is good)
+        let _starts = self.has_initial()?;
         certify(
             alloc,
             &mut self.store,
             &self.relation,
             &self.questions,
-            claim,
+            &claim,
         )
     }
 

@@ -18,9 +18,9 @@ others_of-requires c =
 
 pub returns-clause-proof : goal.returns-clause-proof
 returns-clause-proof c s thresholds given kept closed =
-    let few : length c.args.claim.rows + c.len-many.result < 2 ^ 32 = omega (arith, c.len.ensures, c.if-len-many-gt-MOST.false) in
+    let few : length c.args.claim.now.rows + c.len-many.result < 2 ^ 32 = omega (arith, c.len.ensures, c.if-len-many-gt-MOST.false) in
     let start = c.in_ok-start.ensures.start s given in
     let there = given_there s c.args.store.now c.start_of.new.store c.args.relation.now c.args.questions.now c.start_of.ensures.same given in
     let others = c.in_ok-others.ensures.others s thresholds there start.initial kept in
-    c.in_ok-assembled.ensures s (parts_given s thresholds c.args.store.now c.args.relation.now c.args.questions.now c.args.claim c.len-many.result
+    c.in_ok-assembled.ensures s (parts_given s thresholds c.args.store.now c.args.relation.now c.args.questions.now c.args.claim.now c.len-many.result
     c.in_ok-start.start c.in_ok-others.others c.len-many.ensures given kept closed few start others)
