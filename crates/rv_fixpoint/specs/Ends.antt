@@ -5,4 +5,4 @@ use Rattle.rv_fixpoint.specs.declared.end.End.TheVariants.{Proved, Left}
 -- The end is a proof.
 abbrev pub IsProved : End → Type 0
 IsProved (Proved c) = Unit {0}
-IsProved Left = ⊥
+IsProved (Left l) = ⊥

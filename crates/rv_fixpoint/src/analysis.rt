@@ -10,8 +10,11 @@ ghost use Rattle.rv_proofs.specs.declared.certificate.Certificate.{Certificate};
 ghost use Rattle.rv_walk.specs.Plain.{ArePlain};
 ghost use Rattle.rv_reading.specs.Read.{flat_of, system_read, diagrams_of, IsRead};
 ghost use Rattle.rv_fixpoint.specs.Ends.{IsProved};
+ghost use Rattle.rv_fixpoint.specs.declared.end.Left.{Left as LeftModel};
+ghost use Rattle.rv_proofs.specs.Left.{IsLeftPartition};
 
-use crate::end::{End, Options};
+use crate::end::{End, Left, Options};
+use rv_claimed::Claimed;
 use rv_diagram::StoreFault;
 use rv_proofs::Layers;
 use rv_reading::Reading;
@@ -19,7 +22,7 @@ use std::alloc::Global;
 
 /// The analysis of the reading of a flat system: its least closed row claim, with bounds among its thresholds, upward from the initial control
 /// states and the closest thresholds. Proved has an accepted certificate without loops, and comes exactly where some closed row claim is good.
-/// The layers are those of the box pass, and the options say what may be done beside row claims; today nothing else is. The reading is left as
+/// Left has a left partition. The layers are those of the box pass, and the options say what may be done beside row claims; today nothing else is. The reading is left as
 /// it was. Nodes comes where the diagrams outgrow their limit, Memory where memory runs out.
 pub fn analyse(
     alloc: Global,
@@ -33,12 +36,17 @@ pub fn analyse(
     requires locations { 1 ≤ o.now.locations }
     ensures proved { (c : Certificate) → result ≡ Ok (End.Proved c) → IsAccepted (system_read r.old) c }
     ensures plain { (c : Certificate) → result ≡ Ok (End.Proved c) → ArePlain c }
+    ensures left { (l : LeftModel) → result ≡ Ok (End.Left l) → IsLeftPartition (system_read r.old) l.partition l.left }
     ensures exactly { IfOk result (λ e. IsProved e ↔ HasGoodRows (system_read r.old) (flat_of r.old).thresholds) }
     ensures same { r.new ≡ r.old }
     ensures roomy { IsErrOf result StoreFault.Nodes → (diagrams_of r.old).limit < 2 ^ (2 ^ (diagrams_of r.old).variables) }
 {
-    match r.row_pass(alloc)? {
-        Some(certificate) => Ok(End::Proved(certificate)),
-        None => Ok(End::Left),
+    let Claimed { certificate, left } = r.row_pass(alloc)?;
+    if left.is_empty() {
+        return Ok(End::Proved(certificate));
     }
+    Ok(End::Left(Left {
+        partition: certificate,
+        left,
+    }))
 }

@@ -1,6 +1,7 @@
 //! The analysis of a flat system with integers, where no box claim is good.
 //!
-//! It promises Proved, with an accepted certificate without loops, exactly where a closed row claim with bounds among the thresholds is good.
+//! It promises Proved, with an accepted certificate without loops, exactly where a closed row claim with bounds among the thresholds is good,
+//! and else a left partition.
 //! Its certificates have two locations: the initial control states, without rows, and the others, with the rows of the least closed claim.
 //! It stands on `rv_reading`, and that on the search for row claims and the maker of their certificates, `rv_rise` and `rv_claimed`, over
 //! any system; `prove` decides by it. Begin with analysis.rt.
@@ -10,4 +11,4 @@ mod analysis;
 mod end;
 
 pub use analysis::analyse;
-pub use end::{End, Options};
+pub use end::{End, Left, Options};

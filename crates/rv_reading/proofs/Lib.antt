@@ -1,2 +1,3 @@
 pub mod Representing
 pub mod Columns
+pub mod Starting

@@ -43,7 +43,7 @@ cut-not_document x is answer = is
 cut-not_verdict : (r : Report) → IsCut r → IsVerdict r → ⊥
 cut-not_verdict r is (inl (c, h)) = let bad : IsCut (Safe c) = subst IsCut h is in bad
 cut-not_verdict r is (inr (inl (t, h))) = let bad : IsCut (Violated t) = subst IsCut h is in bad
-cut-not_verdict r is (inr (inr h)) = let bad : IsCut Unknown = subst IsCut h is in bad
+cut-not_verdict r is (inr (inr (l, h))) = let bad : IsCut (Unknown l) = subst IsCut h is in bad
 
 cut-not_nodes : (r : Report) → IsCut r → IsNodesReport r → ⊥
 cut-not_nodes r is (n, h) = let bad : IsCut (Nodes n) = subst IsCut h is in bad
@@ -58,7 +58,7 @@ module _ (held : Option Shelf) (w : Wanted) (document : List ℕ) where
     invariant = λ c h. absurd (let bad : IsCut (Safe c) = subst IsCut h tt in bad);
     violated = λ t h. absurd (let bad : IsCut (Violated t) = subst IsCut h tt in bad);
     document_of = λ t h. absurd (let bad : IsCut (Violated t) = subst IsCut h tt in bad);
-    unknown = λ h. absurd (let bad : IsCut Unknown = subst IsCut h tt in bad);
+    unknown = λ l h. absurd (let bad : IsCut (Unknown l) = subst IsCut h tt in bad);
     nodes = λ n h. absurd (let bad : IsCut (Nodes n) = subst IsCut h tt in bad);
     unprobed = λ alone n h. absurd (let bad : IsCut (Nodes n) = subst IsCut h tt in bad);
     checked_safe = λ h. absurd (let bad : IsCut Accepted = subst IsCut h tt in bad);
@@ -94,7 +94,7 @@ module _ (held : Option Shelf) (w : Wanted) (document : List ℕ) where
     invariant = λ c h. absurd (let bad : IsCut (Safe c) = subst IsCut h tt in bad);
     violated = λ t h. absurd (let bad : IsCut (Violated t) = subst IsCut h tt in bad);
     document_of = λ t h. absurd (let bad : IsCut (Violated t) = subst IsCut h tt in bad);
-    unknown = λ h. absurd (let bad : IsCut Unknown = subst IsCut h tt in bad);
+    unknown = λ l h. absurd (let bad : IsCut (Unknown l) = subst IsCut h tt in bad);
     nodes = λ n h. absurd (let bad : IsCut (Nodes n) = subst IsCut h tt in bad);
     unprobed = λ alone n h. absurd (let bad : IsCut (Nodes n) = subst IsCut h tt in bad);
     checked_safe = λ h. absurd (let bad : IsCut Accepted = subst IsCut h tt in bad);
@@ -133,7 +133,7 @@ long-not_document x is answer = is
 long-not_verdict : (r : Report) → IsLong r → IsVerdict r → ⊥
 long-not_verdict r is (inl (c, h)) = let bad : IsLong (Safe c) = subst IsLong h is in bad
 long-not_verdict r is (inr (inl (t, h))) = let bad : IsLong (Violated t) = subst IsLong h is in bad
-long-not_verdict r is (inr (inr h)) = let bad : IsLong Unknown = subst IsLong h is in bad
+long-not_verdict r is (inr (inr (l, h))) = let bad : IsLong (Unknown l) = subst IsLong h is in bad
 
 long-not_nodes : (r : Report) → IsLong r → IsNodesReport r → ⊥
 long-not_nodes r is (n, h) = let bad : IsLong (Nodes n) = subst IsLong h is in bad
@@ -166,7 +166,7 @@ module _ (held : Option Shelf) (w : Wanted) (named : List ℕ × List ℕ) (docu
     invariant = λ c h. absurd (let bad : IsLong (Safe c) = subst IsLong h tt in bad);
     violated = λ t h. absurd (let bad : IsLong (Violated t) = subst IsLong h tt in bad);
     document_of = λ t h. absurd (let bad : IsLong (Violated t) = subst IsLong h tt in bad);
-    unknown = λ h. absurd (let bad : IsLong Unknown = subst IsLong h tt in bad);
+    unknown = λ l h. absurd (let bad : IsLong (Unknown l) = subst IsLong h tt in bad);
     nodes = λ n h. absurd (let bad : IsLong (Nodes n) = subst IsLong h tt in bad);
     unprobed = λ alone n h. absurd (let bad : IsLong (Nodes n) = subst IsLong h tt in bad);
     checked_safe = λ h. absurd (let bad : IsLong Accepted = subst IsLong h tt in bad);
@@ -222,7 +222,7 @@ off-not_document x off answer = off
 off-not_verdict : (r : Report) → IsOffFile r → IsVerdict r → ⊥
 off-not_verdict r off (inl (c, h)) = let bad : IsOffFile (Safe c) = subst IsOffFile h off in bad
 off-not_verdict r off (inr (inl (t, h))) = let bad : IsOffFile (Violated t) = subst IsOffFile h off in bad
-off-not_verdict r off (inr (inr h)) = let bad : IsOffFile Unknown = subst IsOffFile h off in bad
+off-not_verdict r off (inr (inr (l, h))) = let bad : IsOffFile (Unknown l) = subst IsOffFile h off in bad
 
 module _ (held : Option Shelf) (w : Wanted) (document : List ℕ) (none : w.named ≡ None) (r : Report) (off : IsOffFile r)
     (nodes : (n : ℕ) → r ≡ Nodes n → (n ≡ w.nodes) × OnSource held w (OnProgram (HasManyVariables n)))
@@ -241,7 +241,7 @@ module _ (held : Option Shelf) (w : Wanted) (document : List ℕ) (none : w.name
     invariant = λ c h. absurd (let bad : IsOffFile (Safe c) = subst IsOffFile h off in bad);
     violated = λ t h. absurd (let bad : IsOffFile (Violated t) = subst IsOffFile h off in bad);
     document_of = λ t h. absurd (let bad : IsOffFile (Violated t) = subst IsOffFile h off in bad);
-    unknown = λ h. absurd (let bad : IsOffFile Unknown = subst IsOffFile h off in bad);
+    unknown = λ l h. absurd (let bad : IsOffFile (Unknown l) = subst IsOffFile h off in bad);
     nodes = nodes;
     unprobed = λ alone. unprobed;
     checked_safe = λ h. absurd (let bad : IsOffFile Accepted = subst IsOffFile h off in bad);

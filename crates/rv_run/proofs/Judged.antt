@@ -14,8 +14,9 @@ use Rattle.rv_proofs.specs.declared.certificate.Certificate.{Certificate}
 use Rattle.rv_falsify.specs.Falsifying.{IsFalsifying}
 use Rattle.rv_probe.specs.Probes.{probe_of}
 use Rattle.rv_replay.specs.Replays.{IsFalsifiedAt}
-use Rattle.rv_run.specs.Answers.{IsOnSource, IsUnlessLimited, IsSafeUnlessCutOff, IsViolatedUnlessCutOff, IsViolatedUnlessUnread}
-use Rattle.rv_run.specs.Programs.{IsSafeControl, IsUnsafeControl, IsCertified, HasGoodClaim, HasManyVariables, HasProbe, IsUnknown, LacksGoodClaim, LacksProbe}
+use Rattle.rv_fixpoint.specs.declared.end.Left.{Left}
+use Rattle.rv_run.specs.Answers.{IsOnSource, IsUnknownUnlessLimited, IsSafeUnlessCutOff, IsViolatedUnlessCutOff, IsViolatedUnlessUnread}
+use Rattle.rv_run.specs.Programs.{IsSafeControl, IsUnsafeControl, IsCertified, HasGoodClaim, HasManyVariables, HasProbe, IsUndecided, IsUnknown, LacksGoodClaim, LacksProbe}
 use Rattle.rv_run.specs.Verdicts.{IsViolated, IsDocumentOf, IsInvariantOf, IsTraced, IsVerdictOf, verdict_report, verdict_document}
 use Rattle.rv_run.specs.declared.report.Report.{Report}
 use Rattle.rv_run.specs.declared.report.Report.TheVariants as report
@@ -25,14 +26,14 @@ use Rattle.rv_run.specs.declared.verdict.Verdict.TheVariants.{Safe, Violated, Un
 pub verdict-on_source : (nodes : ℕ) (r : Result Verdict StoreFault) → IsOnSource (verdict_report nodes r)
 verdict-on_source nodes (Ok (Safe c text)) = tt
 verdict-on_source nodes (Ok (Violated t text)) = tt
-verdict-on_source nodes (Ok Undecided) = tt
+verdict-on_source nodes (Ok (Undecided l)) = tt
 verdict-on_source nodes (Err fault.Nodes) = tt
 verdict-on_source nodes (Err fault.Memory) = tt
 
 pub verdict-not_refused : (nodes : ℕ) (r : Result Verdict StoreFault) (e : SourceFault) → verdict_report nodes r ≡ report.Refused e → ⊥
 verdict-not_refused nodes (Ok (Safe c text)) e is = cc
 verdict-not_refused nodes (Ok (Violated t text)) e is = cc
-verdict-not_refused nodes (Ok Undecided) e is = cc
+verdict-not_refused nodes (Ok (Undecided l)) e is = cc
 verdict-not_refused nodes (Err fault.Nodes) e is = cc
 verdict-not_refused nodes (Err fault.Memory) e is = cc
 
@@ -59,7 +60,7 @@ module _ (nodes : ℕ) (p : ProgramTree) (m : Identifier) where
   traced-verdict t is lacks (Ok (Violated u text)) (same, shown) =
       (subst (λ (x : Trace). IsViolated nodes x p m) (sym same) is, subst (λ (x : Trace). IsDocumentOf x text.items p m) (sym same) shown, lacks)
   traced-verdict t is lacks (Ok (Safe c text)) bad = absurd bad
-  traced-verdict t is lacks (Ok Undecided) bad = absurd bad
+  traced-verdict t is lacks (Ok (Undecided l)) bad = absurd bad
   traced-verdict t is lacks (Err e) told = told
 
   pub said_safe : (r : Result Verdict StoreFault) (c : Certificate) → IfOk r (λ v. IsVerdictOf nodes v p m) → verdict_report nodes r ≡ report.Safe c
@@ -70,7 +71,7 @@ module _ (nodes : ℕ) (p : ProgramTree) (m : Identifier) where
       same : (d c : Certificate) → report.Safe d ≡ report.Safe c → d ≡ c
       same d c e = cc
   said_safe (Ok (Violated t text)) c judged is = absurd (let different : ⊥ = cc in different)
-  said_safe (Ok Undecided) c judged is = absurd (let different : ⊥ = cc in different)
+  said_safe (Ok (Undecided l)) c judged is = absurd (let different : ⊥ = cc in different)
   said_safe (Err fault.Nodes) c judged is = absurd (let different : ⊥ = cc in different)
   said_safe (Err fault.Memory) c judged is = absurd (let different : ⊥ = cc in different)
 
@@ -81,16 +82,19 @@ module _ (nodes : ℕ) (p : ProgramTree) (m : Identifier) where
       same : (u t : Trace) → report.Violated u ≡ report.Violated t → u ≡ t
       same u t e = cc
   said_violated (Ok (Safe d text)) t judged is = absurd (let different : ⊥ = cc in different)
-  said_violated (Ok Undecided) t judged is = absurd (let different : ⊥ = cc in different)
+  said_violated (Ok (Undecided l)) t judged is = absurd (let different : ⊥ = cc in different)
   said_violated (Err fault.Nodes) t judged is = absurd (let different : ⊥ = cc in different)
   said_violated (Err fault.Memory) t judged is = absurd (let different : ⊥ = cc in different)
 
-  pub said_unknown : (r : Result Verdict StoreFault) → IfOk r (λ v. IsVerdictOf nodes v p m) → verdict_report nodes r ≡ report.Unknown → IsUnknown p m
-  said_unknown (Ok Undecided) judged is = judged
-  said_unknown (Ok (Safe d text)) judged is = absurd (let different : ⊥ = cc in different)
-  said_unknown (Ok (Violated t text)) judged is = absurd (let different : ⊥ = cc in different)
-  said_unknown (Err fault.Nodes) judged is = absurd (let different : ⊥ = cc in different)
-  said_unknown (Err fault.Memory) judged is = absurd (let different : ⊥ = cc in different)
+  pub said_unknown : (r : Result Verdict StoreFault) (l : Left) → IfOk r (λ v. IsVerdictOf nodes v p m) → verdict_report nodes r ≡ report.Unknown l → IsUnknown l p m
+  said_unknown (Ok (Undecided k)) l judged is = subst (λ (x : Left). IsUnknown x p m) (same k l is) judged
+    where
+      same : (k l : Left) → report.Unknown k ≡ report.Unknown l → k ≡ l
+      same k l e = cc
+  said_unknown (Ok (Safe d text)) l judged is = absurd (let different : ⊥ = cc in different)
+  said_unknown (Ok (Violated t text)) l judged is = absurd (let different : ⊥ = cc in different)
+  said_unknown (Err fault.Nodes) l judged is = absurd (let different : ⊥ = cc in different)
+  said_unknown (Err fault.Memory) l judged is = absurd (let different : ⊥ = cc in different)
 
   pub said_nodes : (r : Result Verdict StoreFault) (n : ℕ) → (IsErrOf r fault.Nodes → HasManyVariables nodes p m) → verdict_report nodes r ≡ report.Nodes n → (n ≡ nodes) × HasManyVariables nodes p m
   said_nodes (Err fault.Nodes) n wide is = (same n is, wide refl)
@@ -99,38 +103,38 @@ module _ (nodes : ℕ) (p : ProgramTree) (m : Identifier) where
       same n e = cc
   said_nodes (Ok (Safe d text)) n wide is = absurd (let different : ⊥ = cc in different)
   said_nodes (Ok (Violated t text)) n wide is = absurd (let different : ⊥ = cc in different)
-  said_nodes (Ok Undecided) n wide is = absurd (let different : ⊥ = cc in different)
+  said_nodes (Ok (Undecided l)) n wide is = absurd (let different : ⊥ = cc in different)
   said_nodes (Err fault.Memory) n wide is = absurd (let different : ⊥ = cc in different)
 
   -- no other report comes
   pub must_safe : (r : Result Verdict StoreFault) → IfOk r (λ v. IsVerdictOf nodes v p m) → IsSafeControl p m → IsSafeUnlessCutOff (verdict_report nodes r)
   must_safe (Ok (Safe c text)) judged is = inl (c, refl)
   must_safe (Ok (Violated t text)) judged is = absurd (falsifying-unsafe t judged.0.falsifying is.1)
-  must_safe (Ok Undecided) judged is = absurd (judged.0 is.0)
+  must_safe (Ok (Undecided l)) judged is = absurd (judged.0.0 is.0)
   must_safe (Err fault.Nodes) judged is = inr (inl (nodes, refl))
   must_safe (Err fault.Memory) judged is = inr (inr (inr refl))
 
   pub must_violated : (r : Result Verdict StoreFault) → IfOk r (λ v. IsVerdictOf nodes v p m) → IsUnsafeControl p m → IsViolatedUnlessCutOff (verdict_report nodes r)
   must_violated (Ok (Safe c text)) judged is = absurd (is.1 judged.0)
   must_violated (Ok (Violated t text)) judged is = inl (t, refl)
-  must_violated (Ok Undecided) judged is = absurd (judged.0 is.0)
+  must_violated (Ok (Undecided l)) judged is = absurd (judged.0.0 is.0)
   must_violated (Err fault.Nodes) judged is = inr (inl (nodes, refl))
   must_violated (Err fault.Memory) judged is = inr (inr (inr refl))
 
   pub must_claim : (r : Result Verdict StoreFault) → (HasGoodClaim p m → LacksGoodClaim p m → ⊥) → IfOk r (λ v. IsVerdictOf nodes v p m) → HasGoodClaim p m → IsSafeUnlessCutOff (verdict_report nodes r)
   must_claim (Ok (Safe c text)) one judged is = inl (c, refl)
   must_claim (Ok (Violated t text)) one judged is = absurd (one is judged.2)
-  must_claim (Ok Undecided) one judged is = absurd (one is judged.1)
+  must_claim (Ok (Undecided l)) one judged is = absurd (one is judged.0.1)
   must_claim (Err fault.Nodes) one judged is = inr (inl (nodes, refl))
   must_claim (Err fault.Memory) one judged is = inr (inr (inr refl))
 
-  pub must_unknown : (r : Result Verdict StoreFault) → (HasGoodClaim p m → LacksGoodClaim p m → ⊥) → (HasProbe p m → LacksProbe p m → ⊥) → IfOk r (λ v. IsVerdictOf nodes v p m) → IsUnknown p m → IsUnlessLimited report.Unknown (verdict_report nodes r)
+  pub must_unknown : (r : Result Verdict StoreFault) → (HasGoodClaim p m → LacksGoodClaim p m → ⊥) → (HasProbe p m → LacksProbe p m → ⊥) → IfOk r (λ v. IsVerdictOf nodes v p m) → IsUndecided p m → IsUnknownUnlessLimited (verdict_report nodes r)
   must_unknown (Ok (Safe c text)) one probe judged is = absurd (one judged.1 is.1)
   must_unknown (Ok (Violated t text)) one probe judged is = absurd (elim judged.0.origin [
     | inl control ↦ is.0 control.0
     | inr probed ↦ probe (let (f, flat, (b, c, k, at, same)) = probed.0 in (f, flat, (b, c, k, at))) is.2
   ])
-  must_unknown (Ok Undecided) one probe judged is = inl refl
+  must_unknown (Ok (Undecided l)) one probe judged is = inl (l, refl)
   must_unknown (Err fault.Nodes) one probe judged is = inr (inl (nodes, refl))
   must_unknown (Err fault.Memory) one probe judged is = inr (inr (inr refl))
 
@@ -138,7 +142,7 @@ module _ (nodes : ℕ) (p : ProgramTree) (m : Identifier) where
       → IsViolatedUnlessUnread (verdict_report nodes r)
   must_probe (Ok (Safe c text)) probe lacks judged is = absurd (probe-unsafe is judged.0)
   must_probe (Ok (Violated t text)) probe lacks judged is = inl (t, refl)
-  must_probe (Ok Undecided) probe lacks judged is = absurd (probe is judged.2)
+  must_probe (Ok (Undecided l)) probe lacks judged is = absurd (probe is judged.0.2)
   must_probe (Err fault.Nodes) probe lacks judged is = absurd (probe is (lacks refl))
   must_probe (Err fault.Memory) probe lacks judged is = inr (inr refl)
 
@@ -146,5 +150,5 @@ module _ (nodes : ℕ) (p : ProgramTree) (m : Identifier) where
   said_unprobed (Err fault.Nodes) n lacks is = lacks refl
   said_unprobed (Ok (Safe d text)) n lacks is = absurd (let different : ⊥ = cc in different)
   said_unprobed (Ok (Violated t text)) n lacks is = absurd (let different : ⊥ = cc in different)
-  said_unprobed (Ok Undecided) n lacks is = absurd (let different : ⊥ = cc in different)
+  said_unprobed (Ok (Undecided l)) n lacks is = absurd (let different : ⊥ = cc in different)
   said_unprobed (Err fault.Memory) n lacks is = absurd (let different : ⊥ = cc in different)

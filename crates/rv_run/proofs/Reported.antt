@@ -20,6 +20,7 @@ use Rattle.rv_run.specs.declared.words.Task.{Task}
 use Rattle.rv_run.specs.declared.words.Task.TheVariants.{Replay, Check}
 use Rattle.rv_run.specs.Programs.{OnProgram, IsRefusedFor}
 use Rattle.rv_run.specs.Refusals.{refusal_of}
+use Rattle.rv_fixpoint.specs.declared.end.Left.{Left}
 use Rattle.rv_run.specs.declared.report.Report.{Report}
 use Rattle.rv_run.specs.declared.report.Report.TheVariants.{Safe, Violated, Unknown, Nodes, Accepted, Rejected, Falsified, AssertionFails, NeverFalse, Outgrown, Made, Toured, Refused, BadFile, TooLong, ReadFault, Usage, Memory}
 use Rattle.rv_run.specs.Traced.{IsTraceAnswer, IsTraceReport, IsUnlessNoMemory}
@@ -44,11 +45,11 @@ refusal-not_nodes (Text f) n h = cc
 refusal-not_nodes (Names f) n h = cc
 refusal-not_nodes (Cause f) n h = cc
 
-pub refusal-not_unknown : (e : SourceFault) → refusal_of e ≡ Unknown → ⊥
-refusal-not_unknown NoMemory h = cc
-refusal-not_unknown (Text f) h = cc
-refusal-not_unknown (Names f) h = cc
-refusal-not_unknown (Cause f) h = cc
+pub refusal-not_unknown : (e : SourceFault) (l : Left) → refusal_of e ≡ Unknown l → ⊥
+refusal-not_unknown NoMemory l h = cc
+refusal-not_unknown (Text f) l h = cc
+refusal-not_unknown (Names f) l h = cc
+refusal-not_unknown (Cause f) l h = cc
 
 pub refusal-on_source : (e : SourceFault) → IsOnSource (refusal_of e)
 refusal-on_source NoMemory = tt
@@ -119,8 +120,8 @@ answer-of_document Replay (Safe c) (inl is) = is
 answer-of_document Replay (Safe c) (inr is) = is
 answer-of_document Replay (Violated t) (inl is) = is
 answer-of_document Replay (Violated t) (inr is) = is
-answer-of_document Replay Unknown (inl is) = is
-answer-of_document Replay Unknown (inr is) = is
+answer-of_document Replay (Unknown l) (inl is) = is
+answer-of_document Replay (Unknown l) (inr is) = is
 answer-of_document Replay Usage (inl is) = is
 answer-of_document Replay Usage (inr is) = is
 answer-of_document Replay (Made source) (inl is) = is
@@ -132,8 +133,8 @@ answer-of_document Check (Safe c) (inl is) = is
 answer-of_document Check (Safe c) (inr is) = is
 answer-of_document Check (Violated t) (inl is) = is
 answer-of_document Check (Violated t) (inr is) = is
-answer-of_document Check Unknown (inl is) = is
-answer-of_document Check Unknown (inr is) = is
+answer-of_document Check (Unknown l) (inl is) = is
+answer-of_document Check (Unknown l) (inr is) = is
 answer-of_document Check Usage (inl is) = is
 answer-of_document Check Usage (inr is) = is
 answer-of_document Check (Made source) (inl is) = is
@@ -203,8 +204,8 @@ document-not_safe x c is h = let bad : IsDocumentReport (Safe c) = subst IsDocum
 pub document-not_violated : (x : Report) (t : Trace) → IsDocumentReport x → x ≡ Violated t → ⊥
 document-not_violated x t is h = let bad : IsDocumentReport (Violated t) = subst IsDocumentReport h is in bad
 
-pub document-not_unknown : (x : Report) → IsDocumentReport x → x ≡ Unknown → ⊥
-document-not_unknown x is h = let bad : IsDocumentReport Unknown = subst IsDocumentReport h is in bad
+pub document-not_unknown : (x : Report) (l : Left) → IsDocumentReport x → x ≡ Unknown l → ⊥
+document-not_unknown x l is h = let bad : IsDocumentReport (Unknown l) = subst IsDocumentReport h is in bad
 
 pub document-not_made : (x : Report) (source : List ℕ) → IsDocumentReport x → x ≡ Made source → ⊥
 document-not_made x source is h = let bad : IsDocumentReport (Made source) = subst IsDocumentReport h is in bad
@@ -218,7 +219,7 @@ document-not_usage x is h = let bad : IsDocumentReport Usage = subst IsDocumentR
 pub document-not_verdict : (x : Report) → IsDocumentReport x → IsVerdict x → ⊥
 document-not_verdict x is (inl (c, h)) = document-not_safe x c is h
 document-not_verdict x is (inr (inl (t, h))) = document-not_violated x t is h
-document-not_verdict x is (inr (inr h)) = document-not_unknown x is h
+document-not_verdict x is (inr (inr (l, h))) = document-not_unknown x l is h
 
 pub cut_off : (task : Task) (expected x : Report) → IsUnlessLimit task expected x → IsUnlessCut task expected x
 cut_off Replay expected x (inl is) = inl is

@@ -6,6 +6,7 @@ use Rattle.rv_base.specs.declared.value.Trace.{Trace}
 use Rattle.rv_source.specs.declared.fault.SourceFault.{SourceFault}
 use Rattle.rv_source.specs.Sources.{AreSame}
 use Rattle.rv_proofs.specs.declared.certificate.Certificate.{Certificate}
+use Rattle.rv_fixpoint.specs.declared.end.Left.{Left}
 use Rattle.rv_run.specs.Words.{Wanted}
 use Rattle.rv_run.specs.declared.words.Task.{Task}
 use Rattle.rv_make.specs.Made.{made_text}
@@ -81,6 +82,14 @@ IsViolatedUnlessCutOff report = IsViolatedReport report ⊎ (IsNodesReport repor
 abbrev pub IsViolatedUnlessUnread : Report → Type 0
 IsViolatedUnlessUnread report = IsViolatedReport report ⊎ ((report ≡ ReadFault) ⊎ (report ≡ Memory))
 
+-- The report has a left partition.
+abbrev pub IsUnknownReport : Report → Type 0
+IsUnknownReport report = (l : Left) × (report ≡ Unknown l)
+
+-- The report has a left partition, unless the diagrams grew past their limit, the file could not be read or there was no memory.
+abbrev pub IsUnknownUnlessLimited : Report → Type 0
+IsUnknownUnlessLimited report = IsUnknownReport report ⊎ (IsNodesReport report ⊎ ((report ≡ ReadFault) ⊎ (report ≡ Memory)))
+
 -- The report is that a source that was made is safe.
 abbrev pub IsTouredReport : Report → Type 0
 IsTouredReport report = (count : ℕ) × (length : ℕ) × (c : Certificate) × (report ≡ Toured count length c)
@@ -117,7 +126,7 @@ pub record IsToldDocument (held : Option Shelf) (w : Wanted) (task : Task) (P : 
 
 -- The report is one that `prove` alone gives on an accepted source.
 abbrev pub IsVerdict : Report → Type 0
-IsVerdict report = IsSafeReport report ⊎ (IsViolatedReport report ⊎ (report ≡ Unknown))
+IsVerdict report = IsSafeReport report ⊎ (IsViolatedReport report ⊎ IsUnknownReport report)
 
 -- The report is this one, unless the diagrams grew past their limit, a file could not be read or there was no memory.
 abbrev pub IsUnlessLimited : Report → Report → Type 0

@@ -80,7 +80,7 @@ IsUnlessLimit task expected report = (report ≡ expected) ⊎ IsLimit task repo
 abbrev pub IsDocumentReport : Report → Type 0
 IsDocumentReport (Safe certificate) = ⊥
 IsDocumentReport (Violated trace) = ⊥
-IsDocumentReport Unknown = ⊥
+IsDocumentReport (Unknown l) = ⊥
 IsDocumentReport Usage = ⊥
 IsDocumentReport (Made source) = ⊥
 IsDocumentReport (Toured count length certificate) = ⊥

@@ -123,7 +123,7 @@ text_of (Safe certificate) = []
 text_of Accepted = record_of (codes "reaver,accepted")
 text_of (Rejected reason) = text_of_reason reason
 text_of (Violated trace) = []
-text_of Unknown = record_of (codes "reaver,unknown")
+text_of (Unknown l) = record_of (codes "reaver,unknown")
 text_of (Nodes limit) = record_of (codes "reaver,nodes," ++ decimal limit)
 text_of (Falsified at) = record_of (codes "reaver,falsified," ++ decimal at)
 text_of (AssertionFails at place) = record_of (codes "reaver,assertion," ++ decimal at ++ 44 ∷ dotted place.sites)
@@ -146,7 +146,7 @@ shown_of report document = cond (is_documented report) document (text_of report)
 abbrev pub report_status : Report → ℕ
 report_status (Safe certificate) = 0
 report_status (Violated trace) = 1
-report_status Unknown = 2
+report_status (Unknown l) = 2
 report_status (Nodes limit) = 2
 report_status Accepted = 0
 report_status (Rejected reason) = 1

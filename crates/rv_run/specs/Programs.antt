@@ -17,6 +17,8 @@ use Rattle.rv_proofs.specs.Accepted.{IsAccepted}
 use Rattle.rv_proofs.specs.Boxes.{HasGoodBox}
 use Rattle.rv_proofs.specs.RowClaims.{HasGoodRows}
 use Rattle.rv_proofs.specs.Systems.{System}
+use Rattle.rv_proofs.specs.Left.{IsLeftPartition}
+use Rattle.rv_fixpoint.specs.declared.end.Left.{Left}
 use Rattle.rv_proofs.specs.declared.certificate.Certificate.{Certificate}
 use Rattle.rv_probe.specs.Probes.{HasFalsifyingProbe}
 
@@ -78,8 +80,16 @@ abbrev pub LacksProbe : ProgramTree → Identifier → Type 0
 LacksProbe program node = (f : Flat) × IsFlatOf program node f × (¬ HasFalsifyingProbe program node f)
 
 -- With integers, no closed box claim and no closed row claim is good, and no probe falsifies.
-abbrev pub IsUnknown : ProgramTree → Identifier → Type 0
-IsUnknown program node = HasIntegers program node × LacksGoodClaim program node × LacksProbe program node
+abbrev pub IsUndecided : ProgramTree → Identifier → Type 0
+IsUndecided program node = HasIntegers program node × LacksGoodClaim program node × LacksProbe program node
+
+-- What is left is a left partition of the system of the program's flat system.
+abbrev pub HasLeft : Left → ProgramTree → Identifier → Type 0
+HasLeft l program node = (f : Flat) × IsFlatOf program node f × IsLeftPartition (control_of f) l.partition l.left
+
+-- It is undecided, and that is left of it.
+abbrev pub IsUnknown : Left → ProgramTree → Identifier → Type 0
+IsUnknown l program node = IsUndecided program node × HasLeft l program node
 
 -- With so many diagram variables that there are more functions of them than this number of nodes.
 abbrev pub HasManyVariables : ℕ → ProgramTree → Identifier → Type 0

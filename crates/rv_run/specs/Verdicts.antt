@@ -60,20 +60,20 @@ pub record IsViolated (nodes : ℕ) (t : Trace) (program : ProgramTree) (main : 
 abbrev pub IsTraced : Trace → ProgramTree → Identifier → Verdict → Type 0
 IsTraced t program main (Violated u text) = (u ≡ t) × IsDocumentOf t text.items program main
 IsTraced t program main (Safe c text) = ⊥
-IsTraced t program main Undecided = ⊥
+IsTraced t program main (Undecided l) = ⊥
 
 -- The verdict is right of the program, where diagrams may have so many nodes.
 abbrev pub IsVerdictOf : ℕ → Verdict → ProgramTree → Identifier → Type 0
 IsVerdictOf nodes (Safe c text) program main =
     IsSafe program main × HasGoodClaim program main × IsCertified c program main × IsInvariantOf c text.items program main
 IsVerdictOf nodes (Violated t text) program main = IsViolated nodes t program main × IsDocumentOf t text.items program main × LacksGoodClaim program main
-IsVerdictOf nodes Undecided program main = IsUnknown program main
+IsVerdictOf nodes (Undecided l) program main = IsUnknown l program main
 
 -- The report on a verdict, or on why there is none where diagrams may have so many nodes.
 abbrev pub verdict_report : ℕ → Result Verdict StoreFault → Report
 verdict_report nodes (Ok (Safe c text)) = report.Safe c
 verdict_report nodes (Ok (Violated t text)) = report.Violated t
-verdict_report nodes (Ok Undecided) = report.Unknown
+verdict_report nodes (Ok (Undecided l)) = report.Unknown l
 verdict_report nodes (Err fault.Nodes) = report.Nodes nodes
 verdict_report nodes (Err fault.Memory) = report.Memory
 
@@ -81,5 +81,5 @@ verdict_report nodes (Err fault.Memory) = report.Memory
 abbrev pub verdict_document : Result Verdict StoreFault → List ℕ
 verdict_document (Ok (Safe c text)) = text.items
 verdict_document (Ok (Violated t text)) = text.items
-verdict_document (Ok Undecided) = []
+verdict_document (Ok (Undecided l)) = []
 verdict_document (Err e) = []

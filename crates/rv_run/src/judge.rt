@@ -217,7 +217,7 @@ fn not_good(
     let flat = reading.flat();
     match end {
         End::Proved(certificate) => safe(alloc, source, flat, certificate),
-        End::Left => Ok(Verdict::Undecided),
+        End::Left(left) => Ok(Verdict::Undecided(left)),
     }
 }
 
@@ -242,7 +242,7 @@ fn violated(
     claims_are_safe();
     let found = find(alloc, reading, source, layers)?;
     let Some(trace) = found else {
-        return Ok(Verdict::Undecided);
+        unreachable!();
     };
     let flat = reading.flat();
     with_trace(alloc, source, flat, trace)

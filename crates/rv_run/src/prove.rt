@@ -5,8 +5,9 @@ ghost use Rattle.rv_base.specs.declared.value.Trace.{Trace as TraceModel};
 ghost use Rattle.rv_source.specs.declared.fault.SourceFault.{SourceFault as FaultModel};
 ghost use Rattle.rv_meaning.specs.Runs.{IsSafe};
 ghost use Rattle.rv_proofs.specs.declared.certificate.Certificate.{Certificate as CertificateModel};
-ghost use Rattle.rv_run.specs.Answers.{IsOnSource, IsSafeUnlessCutOff, IsUnlessLimited, IsViolatedUnlessCutOff, IsViolatedUnlessUnread, IsRefusalUnlessCutOff};
-ghost use Rattle.rv_run.specs.Programs.{OnProgram, WithRuns, IsSafeControl, IsUnsafeControl, IsCertified, HasGoodClaim, HasManyVariables, HasProbe, LacksProbe, IsUnknown, IsRefusedFor};
+ghost use Rattle.rv_run.specs.Answers.{IsOnSource, IsSafeUnlessCutOff, IsUnknownUnlessLimited, IsViolatedUnlessCutOff, IsViolatedUnlessUnread, IsRefusalUnlessCutOff};
+ghost use Rattle.rv_fixpoint.specs.declared.end.Left.{Left};
+ghost use Rattle.rv_run.specs.Programs.{OnProgram, WithRuns, IsSafeControl, IsUnsafeControl, IsCertified, HasGoodClaim, HasManyVariables, HasProbe, LacksProbe, IsUndecided, IsUnknown, IsRefusedFor};
 ghost use Rattle.rv_run.specs.Refusals.{refusal_of};
 ghost use Rattle.rv_run.specs.Verdicts.{IsDocumentOf, IsInvariantOf, IsViolated, verdict_document, verdict_report};
 
@@ -36,7 +37,7 @@ pub fn report_on_source(alloc: Global, bytes: &[u8], node: &str, nodes: u32) -> 
     ensures invariant { (c : CertificateModel) → result.report ≡ Report.Safe c → OnProgram (IsInvariantOf c result.document.items) bytes.now node.now }
     ensures violated { (t : TraceModel) → result.report ≡ Report.Violated t → OnProgram (WithRuns (IsViolated nodes t)) bytes.now node.now }
     ensures document { (t : TraceModel) → result.report ≡ Report.Violated t → OnProgram (IsDocumentOf t result.document.items) bytes.now node.now }
-    ensures unknown { result.report ≡ Report.Unknown → OnProgram (WithRuns IsUnknown) bytes.now node.now }
+    ensures unknown { (l : Left) → result.report ≡ Report.Unknown l → OnProgram (WithRuns (IsUnknown l)) bytes.now node.now }
     ensures nodes { (n : ℕ) → result.report ≡ Report.Nodes n → (n ≡ nodes) × OnProgram (HasManyVariables nodes) bytes.now node.now }
     ensures unprobed { (n : ℕ) → result.report ≡ Report.Nodes n → OnProgram LacksProbe bytes.now node.now }
     ensures refused { (fault : FaultModel) → result.report ≡ Report.Refused fault → IsRefusedFor fault bytes.now node.now }
@@ -45,7 +46,7 @@ pub fn report_on_source(alloc: Global, bytes: &[u8], node: &str, nodes: u32) -> 
     ensures only_violated { OnProgram IsUnsafeControl bytes.now node.now → IsViolatedUnlessCutOff result.report }
     ensures only_probed { OnProgram HasProbe bytes.now node.now → IsViolatedUnlessUnread result.report }
     ensures only_claimed { OnProgram HasGoodClaim bytes.now node.now → IsSafeUnlessCutOff result.report }
-    ensures only_unknown { OnProgram IsUnknown bytes.now node.now → IsUnlessLimited Report.Unknown result.report }
+    ensures only_unknown { OnProgram IsUndecided bytes.now node.now → IsUnknownUnlessLimited result.report }
     ensures only_refused { (fault : FaultModel) → IsRefusedFor fault bytes.now node.now → IsRefusalUnlessCutOff fault result.report }
 {
     one_tree();
@@ -80,7 +81,7 @@ fn on_verdict(alloc: Global, judged: Result<Verdict, StoreFault>, nodes: u32) ->
             document = text;
             Report::Violated(trace)
         }
-        Ok(Verdict::Undecided) => Report::Unknown,
+        Ok(Verdict::Undecided(left)) => Report::Unknown(left),
         Err(StoreFault::Nodes) => Report::Nodes(nodes),
         Err(StoreFault::Memory) => Report::Memory,
     };

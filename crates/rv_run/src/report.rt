@@ -6,6 +6,7 @@ ghost use Rattle.rv_run.specs.Printed.{record_of, text_of, text_of_reason, digit
 
 use rv_base::{Many, Place, Sites, Text, Trace};
 use rv_causality::{CauseFault, Quantity};
+use rv_fixpoint::Left;
 use rv_invfile::FileFault;
 use rv_proofs::{Certificate, Reason};
 use rv_source::SourceFault;
@@ -18,11 +19,11 @@ use std::alloc::{AllocError, Global};
 pub enum Report {
     /// In every run the observer is true at each instant up to which the assertions have held. The certificate proves it.
     Safe(Certificate),
-    /// The source has no integers and is not safe: at the last instant of this trace the observer is false, and no trace that falsifies
-    /// has fewer instants.
+    /// The source is not safe: at the last instant of this trace the observer is false. It is a shortest such trace of a source without
+    /// integers, or a probe.
     Violated(Trace),
-    /// The program has integers, or in some run its observer is false at an instant up to which the assertions have held.
-    Unknown,
+    /// The source has integers, no closed box claim or row claim of it is good, and no probe falsifies it: a left partition.
+    Unknown(Left),
     /// The diagrams grew past their limit of nodes, which is told.
     Nodes(u32),
     /// The certificate in the invariant file is accepted.
@@ -107,7 +108,7 @@ pub fn text(alloc: Global, report: &Report) -> Result<String, AllocError>
 {
     match report {
         Report::Safe(_) | Report::Violated(_) => Ok(String::new(alloc)),
-        Report::Unknown => String::from_str(alloc, "reaver,unknown\n"),
+        Report::Unknown(_) => String::from_str(alloc, "reaver,unknown\n"),
         Report::Nodes(limit) => format!(in alloc; "reaver,nodes,{limit}\n"),
         Report::Accepted => String::from_str(alloc, "reaver,accepted\n"),
         Report::Rejected(reason) => reason_text(alloc, reason),
@@ -403,7 +404,7 @@ pub fn status_of_report(report: &Report) -> u8
         | Report::Rejected(_)
         | Report::AssertionFails(_, _)
         | Report::NeverFalse => 1,
-        Report::Unknown | Report::Nodes(_) => 2,
+        Report::Unknown(_) | Report::Nodes(_) => 2,
         Report::Refused(_) => 3,
         Report::Usage => 4,
         Report::ReadFault => 5,

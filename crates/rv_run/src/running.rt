@@ -16,9 +16,10 @@ ghost use Rattle.rv_words.specs.Words.{texts, command};
 ghost use Rattle.rv_run.specs.Words.{IsNamed, wanted, wanted_on_file};
 ghost use Rattle.rv_run.specs.Replies.{Replies};
 ghost use Rattle.rv_make.specs.Made.{made_text};
-ghost use Rattle.rv_run.specs.Answers.{OnFile, OnDocument, OnSource, Tells, IsTold, IsToldDocument, IsVerdict, IsNodesReport, IsTouredReport, IsShown, IsUnlessCutOff, IsUnlessLimited, IsSafeUnlessCutOff, IsViolatedUnlessCutOff, IsViolatedUnlessUnread, IsRefusalUnlessCutOff};
+ghost use Rattle.rv_run.specs.Answers.{OnFile, OnDocument, OnSource, Tells, IsTold, IsToldDocument, IsVerdict, IsNodesReport, IsTouredReport, IsShown, IsUnlessCutOff, IsUnknownUnlessLimited, IsUnlessLimited, IsSafeUnlessCutOff, IsViolatedUnlessCutOff, IsViolatedUnlessUnread, IsRefusalUnlessCutOff};
 ghost use Rattle.rv_run.specs.Checked.{HasAccepted, HasRejected, IsAnswerOf, IsDocumentAnswer, IsDocumentReport, IsInvariantFault, IsReportOf, IsUnlessCut, IsUnlessLimit, SaysOf};
-ghost use Rattle.rv_run.specs.Programs.{OnProgram, WithRuns, HasGoodClaim, IsSafeControl, IsUnsafeControl, HasManyVariables, HasProbe, LacksProbe, IsCertified, IsUnknown, IsRefusedFor};
+ghost use Rattle.rv_fixpoint.specs.declared.end.Left.{Left};
+ghost use Rattle.rv_run.specs.Programs.{OnProgram, WithRuns, HasGoodClaim, IsSafeControl, IsUnsafeControl, HasManyVariables, HasProbe, LacksProbe, IsCertified, IsUndecided, IsUnknown, IsRefusedFor};
 ghost use Rattle.rv_run.specs.Traced.{IsFileFault, IsLongDocument, IsUnlessNoMemory, OnAccepted, OnTrace};
 ghost use Rattle.rv_run.specs.Printed.{is_documented, shown_of, status_of};
 ghost use Rattle.rv_run.specs.Verdicts.{HasOrigin};
@@ -257,7 +258,7 @@ pub fn run<F: Files, S: Sink>(
         → OnFile (F.held files.old) (wanted (texts words.now.items)) (OnProgram (WithRuns (λ program main. IsFalsifying program main t))) }
     ensures origin { (t : TraceModel) → result.report ≡ Report.Violated t
         → OnFile (F.held files.old) (wanted (texts words.now.items)) (OnProgram (HasOrigin (wanted (texts words.now.items)).nodes t)) }
-    ensures unknown { result.report ≡ Report.Unknown → OnFile (F.held files.old) (wanted (texts words.now.items)) (OnProgram (WithRuns IsUnknown)) }
+    ensures unknown { (l : Left) → result.report ≡ Report.Unknown l → OnFile (F.held files.old) (wanted (texts words.now.items)) (OnProgram (WithRuns (IsUnknown l))) }
     ensures nodes { (n : ℕ) → result.report ≡ Report.Nodes n
         → (n ≡ (wanted (texts words.now.items)).nodes) × OnSource (F.held files.old) (wanted (texts words.now.items)) (OnProgram (HasManyVariables n)) }
     ensures unprobed { (wanted (texts words.now.items)).beside ≡ None → (n : ℕ) → result.report ≡ Report.Nodes n
@@ -311,8 +312,8 @@ pub fn run<F: Files, S: Sink>(
         → IsTold (F.held files.old) (wanted (texts words.now.items)) (λ bytes node. (length bytes ≤ SOURCE_LIMIT) × OnProgram HasGoodClaim bytes node)
         → IsSafeUnlessCutOff result.report }
     ensures only_unknown { (wanted (texts words.now.items)).beside ≡ None
-        → IsTold (F.held files.old) (wanted (texts words.now.items)) (λ bytes node. (length bytes ≤ SOURCE_LIMIT) × OnProgram IsUnknown bytes node)
-        → IsUnlessLimited Report.Unknown result.report }
+        → IsTold (F.held files.old) (wanted (texts words.now.items)) (λ bytes node. (length bytes ≤ SOURCE_LIMIT) × OnProgram IsUndecided bytes node)
+        → IsUnknownUnlessLimited result.report }
     ensures only_falsified { (k : ℕ) → IsToldDocument (F.held files.old) (wanted (texts words.now.items)) tasks.Replay (OnAccepted (OnTrace (λ p m t. IsFalsifiedAt p m t k)))
         → IsUnlessCutOff (Report.Falsified k) result.report }
     ensures only_fails { (k : ℕ) (at : PlaceModel) → IsToldDocument (F.held files.old) (wanted (texts words.now.items)) tasks.Replay (OnAccepted (OnTrace (λ p m t. FailsAt p m t k at)))

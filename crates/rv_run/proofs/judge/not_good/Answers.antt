@@ -67,7 +67,10 @@ returns-in-Left-clause-judged c = λ nodes.
     let f = flat_of c.args.reading.now in
     let integers : IsControlSystem f → ⊥ = λ control. true≢false (sym (c.is_control.ensures.1 (subst IsControlSystem (sym c.flat-flat.ensures) control)) ∙ c.if-is_control.false) in
     let rows : HasGoodRows (control_of f) f.thresholds → ⊥ = λ has. subst IsProved c.in-Left.is (c.in_ok-end.ensures.exactly.1 has) in (
-      λ control. integers (control_system p main f known.flat known.well known.named control),
-      (f, known.flat, lacks_both (control_of f) f.thresholds c.requires.lacks rows),
-      (f, known.flat, λ has. integers (c.requires.unprobed has)),
+      (
+        λ control. integers (control_system p main f known.flat known.well known.named control),
+        (f, known.flat, lacks_both (control_of f) f.thresholds c.requires.lacks rows),
+        (f, known.flat, λ has. integers (c.requires.unprobed has)),
+      ),
+      (f, known.flat, c.in_ok-end.ensures.left c.in-Left.left (ap Ok c.in-Left.is)),
     )

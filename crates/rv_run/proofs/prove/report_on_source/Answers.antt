@@ -4,11 +4,10 @@ use Rattle.rv_tree.specs.Places.{Identifier}
 use Rattle.rv_types.specs.Instances.{name_at}
 use Rattle.rv_types.specs.Lists.{sites_of}
 use Rattle.rv_meaning.specs.Runs.{IsSafe}
-use Rattle.rv_run.specs.Answers.{IsOnSource, IsRefusalUnlessCutOff, IsSafeUnlessCutOff, IsUnlessLimited, IsViolatedUnlessCutOff, IsViolatedUnlessUnread}
-use Rattle.rv_run.specs.Programs.{OnProgram, WithRuns, HasGoodClaim, HasManyVariables, HasProbe, IsSafeControl, IsUnsafeControl, IsCertified, IsUnknown, LacksGoodClaim, LacksProbe}
+use Rattle.rv_run.specs.Answers.{IsOnSource, IsRefusalUnlessCutOff, IsSafeUnlessCutOff, IsUnknownUnlessLimited, IsViolatedUnlessCutOff, IsViolatedUnlessUnread}
+use Rattle.rv_run.specs.Programs.{OnProgram, WithRuns, HasGoodClaim, HasManyVariables, HasProbe, IsSafeControl, IsUnsafeControl, IsCertified, IsUndecided, IsUnknown, LacksGoodClaim, LacksProbe}
 use Rattle.rv_run.specs.Verdicts.{IsDocumentOf, IsInvariantOf, IsViolated}
 use Rattle.rv_run.specs.declared.report.Report.{Report}
-use Rattle.rv_run.specs.declared.report.Report.TheVariants.{Unknown}
 use Rattle.rv_tree.specs.SourceTrees.{IsSourceTree}
 use Rattle.rv_types.specs.Settled.{IsSettled}
 use Rattle.rv_types.specs.WellFormed.{AreWell}
@@ -46,7 +45,7 @@ returns-in-Err c =
       invariant = λ d h. absurd (refusal-not_safe fault d (sym is ∙ h));
       violated = λ t h. absurd (refusal-not_violated fault t (sym is ∙ h));
       document = λ t h. absurd (refusal-not_violated fault t (sym is ∙ h));
-      unknown = λ h. absurd (refusal-not_unknown fault (sym is ∙ h));
+      unknown = λ l h. absurd (refusal-not_unknown fault l (sym is ∙ h));
       nodes = λ n h. absurd (refusal-not_nodes fault n (sym is ∙ h));
       unprobed = λ n h. absurd (refusal-not_nodes fault n (sym is ∙ h));
       refused = λ found h. refusal-refused bytes node fault found c.in-Err.ensures.refused (sym is ∙ h);
@@ -55,7 +54,7 @@ returns-in-Err c =
       only_violated = λ on. inr (inr (inr (is ∙ refused_accepted bytes node IsUnsafeControl fault c.in-Err.ensures.only on)));
       only_probed = λ on. inr (inr (is ∙ refused_accepted bytes node HasProbe fault c.in-Err.ensures.only on));
       only_claimed = λ on. inr (inr (inr (is ∙ refused_accepted bytes node HasGoodClaim fault c.in-Err.ensures.only on)));
-      only_unknown = λ on. inr (inr (inr (is ∙ refused_accepted bytes node IsUnknown fault c.in-Err.ensures.only on)));
+      only_unknown = λ on. inr (inr (inr (is ∙ refused_accepted bytes node IsUndecided fault c.in-Err.ensures.only on)));
       only_refused = λ found h. subst (IsRefusalUnlessCutOff found) (sym is) (refused_same bytes node fault found (c.in-Err.ensures.only_refused found h));
     }
 
@@ -91,7 +90,7 @@ returns-in-Ok c =
       violated = λ t h. told bytes node s source (WithRuns (IsViolated c.args.nodes t)) (runs (IsViolated c.args.nodes t) (said_violated c.args.nodes p m r t judged (sym is ∙ h)).0);
       document = λ t h. told bytes node s source (IsDocumentOf t c.on_verdict.result.document.items)
           (subst (λ text. IsDocumentOf t text p m) (sym c.on_verdict.ensures.document) (said_violated c.args.nodes p m r t judged (sym is ∙ h)).1);
-      unknown = λ h. told bytes node s source (WithRuns IsUnknown) (runs IsUnknown (said_unknown c.args.nodes p m r judged (sym is ∙ h)));
+      unknown = λ l h. told bytes node s source (WithRuns (IsUnknown l)) (runs (IsUnknown l) (said_unknown c.args.nodes p m r l judged (sym is ∙ h)));
       nodes = λ n h. let both = said_nodes c.args.nodes p m r n wide (sym is ∙ h) in (both.0, told bytes node s source (HasManyVariables c.args.nodes) both.1);
       unprobed = λ n h. told bytes node s source LacksProbe (said_unprobed c.args.nodes p m r n c.judge.ensures.unprobed (sym is ∙ h));
       refused = λ found h. absurd (verdict-not_refused c.args.nodes r found (sym is ∙ h));
@@ -100,6 +99,6 @@ returns-in-Ok c =
       only_violated = λ on. subst IsViolatedUnlessCutOff (sym is) (must_violated c.args.nodes p m r judged (back IsUnsafeControl on));
       only_probed = λ on. subst IsViolatedUnlessUnread (sym is) (must_probe c.args.nodes p m r probe c.judge.ensures.unprobed judged (back HasProbe on));
       only_claimed = λ on. subst IsSafeUnlessCutOff (sym is) (must_claim c.args.nodes p m r one judged (back HasGoodClaim on));
-      only_unknown = λ on. subst (IsUnlessLimited Unknown) (sym is) (must_unknown c.args.nodes p m r one probe judged (back IsUnknown on));
+      only_unknown = λ on. subst IsUnknownUnlessLimited (sym is) (must_unknown c.args.nodes p m r one probe judged (back IsUndecided on));
       only_refused = λ found h. absurd (c.in-Ok.ensures.only_refused found h);
     }

@@ -9,7 +9,7 @@ use Rattle.rv_run.specs.declared.words.Beside.{Beside}
 use Rattle.rv_run.specs.declared.report.Report.{Report}
 use Rattle.rv_run.specs.declared.report.Report.TheVariants.{Accepted, Made, Memory, Nodes, ReadFault, Toured, TooLong, Usage}
 use Rattle.rv_run.specs.Answers.{IsOnSource, IsTold, IsToldDocument, OnDocument, OnFile, Tells}
-use Rattle.rv_run.specs.Programs.{HasGoodClaim, HasManyVariables, HasProbe, LacksProbe, IsCertified, IsRefusedFor, IsSafeControl, IsUnknown, IsUnsafeControl, OnProgram, WithRuns}
+use Rattle.rv_run.specs.Programs.{HasGoodClaim, HasManyVariables, HasProbe, LacksProbe, IsCertified, IsRefusedFor, IsSafeControl, IsUndecided, IsUnknown, IsUnsafeControl, OnProgram, WithRuns}
 use Rattle.rv_run.specs.Checked.{IsReportOf, IsUnlessCut, SaysOf}
 use Rattle.rv_run.specs.Traced.{IsLongDocument, OnAccepted, file_limit}
 use Rattle.rv_run.specs.Verdicts.{IsDocumentOf, IsInvariantOf, IsViolated}
@@ -61,7 +61,7 @@ returns-in-None g c =
         invariant = λ d h. lift (OnProgram (IsInvariantOf d c.report_on_source.result.document.items)) (answer.invariant d h);
         violated = λ t h. lift (OnProgram (WithRuns (IsViolated c.args.command.nodes t))) (answer.violated t h);
         document_of = λ t h. lift (OnProgram (IsDocumentOf t c.report_on_source.result.document.items)) (answer.document t h);
-        unknown = λ h. lift (OnProgram (WithRuns IsUnknown)) (answer.unknown h);
+        unknown = λ l h. lift (OnProgram (WithRuns (IsUnknown l))) (answer.unknown l h);
         nodes = λ n h. let two = answer.nodes n h in (two.0, inl (subst (λ (k : ℕ). OnFile held w (OnProgram (HasManyVariables k))) (sym two.0) (lift (OnProgram (HasManyVariables c.args.command.nodes)) two.1)));
         unprobed = λ alone n h. inl (lift (OnProgram LacksProbe) (answer.unprobed n h));
         checked_safe = λ h. absurd (let bad : IsOnSource Accepted = subst IsOnSource h answer.only in bad);
@@ -74,7 +74,7 @@ returns-in-None g c =
         only_probed = λ alone told. answer.only_probed (back (λ bytes node. (length bytes ≤ source_limit) × OnProgram HasProbe bytes node) told).1;
         only_claimed = λ alone told. answer.only_claimed (back (λ bytes node. (length bytes ≤ source_limit) × OnProgram HasGoodClaim bytes node) told).1;
         only_violated = λ alone told. answer.only_violated (back (λ bytes node. (length bytes ≤ source_limit) × OnProgram IsUnsafeControl bytes node) told).1;
-        only_unknown = λ alone told. answer.only_unknown (back (λ bytes node. (length bytes ≤ source_limit) × OnProgram IsUnknown bytes node) told).1;
+        only_unknown = λ alone told. answer.only_unknown (back (λ bytes node. (length bytes ≤ source_limit) × OnProgram IsUndecided bytes node) told).1;
         only_told = λ task x told. absurd (no_document held w task (OnAccepted (SaysOf task x)) none told);
         only_refused = λ fault told. answer.only_refused fault (back (λ bytes node. (length bytes ≤ source_limit) × IsRefusedFor fault bytes node) told).1;
         only_too_long = λ told. let over = back (λ bytes node. source_limit < length bytes) told in absurd (omega (arith, over, fits));
@@ -123,7 +123,7 @@ returns g c =
         invariant = λ d h. absurd (document-not_safe r d answer.only h);
         violated = λ t h. absurd (document-not_violated r t answer.only h);
         document_of = λ t h. absurd (document-not_violated r t answer.only h);
-        unknown = λ h. absurd (document-not_unknown r answer.only h);
+        unknown = λ l h. absurd (document-not_unknown r l answer.only h);
         nodes = λ n h. let two = answer.nodes n h in (two.0, inl (subst (λ (k : ℕ). OnFile held w (OnProgram (HasManyVariables k))) (sym two.0) (lift (OnProgram (HasManyVariables c.args.command.nodes)) two.1)));
         unprobed = λ alone n h. absurd (some_none (other.task, other.file.now) (sym with_other ∙ alone));
         checked_safe = λ h. lift (OnProgram (WithRuns IsSafe)) (answer.safe h);

@@ -4,14 +4,14 @@ use Rattle.std.specs.Global.{Global}
 use Rattle.rv_replay.specs.Replays.{FailsAt, IsFalsifiedAt, NeverEnds, OutgrowsAt}
 use Rattle.rv_make.specs.Made.{made_text}
 use Rattle.rv_tree.specs.Limits.{source_limit}
-use Rattle.rv_run.specs.declared.report.Report.TheVariants.{Accepted, Rejected, Falsified, AssertionFails, NeverFalse, Outgrown, Made, BadFile, TooLong, Unknown, Memory}
+use Rattle.rv_run.specs.declared.report.Report.TheVariants.{Accepted, Rejected, Falsified, AssertionFails, NeverFalse, Outgrown, Made, BadFile, TooLong, Memory}
 use Rattle.rv_run.specs.declared.words.Task.{Task}
 use Rattle.rv_run.specs.declared.words.Task.TheVariants.{Replay, Check}
 use Rattle.rv_meaning.specs.Runs.{IsSafe}
 use Rattle.rv_words.specs.Words.{texts, command}
 use Rattle.rv_run.specs.Words.{wanted}
-use Rattle.rv_run.specs.Answers.{IsTold, IsToldDocument, IsRefusalUnlessCutOff, IsUnlessCutOff, IsUnlessLimited, IsNodesReport, IsTouredReport, OnFile, OnDocument, OnSource, IsShown, IsSafeUnlessCutOff, IsViolatedUnlessCutOff, IsViolatedUnlessUnread}
-use Rattle.rv_run.specs.Programs.{HasGoodClaim, HasManyVariables, HasProbe, IsCertified, IsRefusedFor, IsSafeControl, IsUnknown, LacksProbe, IsUnsafeControl, OnProgram, WithRuns}
+use Rattle.rv_run.specs.Answers.{IsTold, IsToldDocument, IsRefusalUnlessCutOff, IsUnlessCutOff, IsUnknownUnlessLimited, IsUnlessLimited, IsNodesReport, IsTouredReport, OnFile, OnDocument, OnSource, IsShown, IsSafeUnlessCutOff, IsViolatedUnlessCutOff, IsViolatedUnlessUnread}
+use Rattle.rv_run.specs.Programs.{HasGoodClaim, HasManyVariables, HasProbe, IsCertified, IsRefusedFor, IsSafeControl, IsUndecided, IsUnknown, LacksProbe, IsUnsafeControl, OnProgram, WithRuns}
 use Rattle.rv_run.specs.Checked.{HasAccepted, HasRejected, IsInvariantFault}
 use Rattle.rv_run.specs.Traced.{IsFileFault, IsLongDocument, IsUnlessNoMemory, OnAccepted, OnTrace, file_limit}
 use Rattle.rv_falsify.specs.Falsifying.{IsFalsifying}
@@ -188,7 +188,7 @@ returns-clause-only_violated g c =
 pub returns-clause-only_unknown : goal.returns-clause-only_unknown
 returns-clause-only_unknown g c =
     subst (λ (ws : List (String Global)). (wanted (texts ws)).beside ≡ None → IsTold (g.F.Files.held c.args.files.now) (wanted (texts ws))
-    (λ bytes node. (length bytes ≤ source_limit) × OnProgram IsUnknown bytes node) → IsUnlessLimited Unknown c.report_on-answer.result.report)
+    (λ bytes node. (length bytes ≤ source_limit) × OnProgram IsUndecided bytes node) → IsUnknownUnlessLimited c.report_on-answer.result.report)
     c.as_slice.ensures.value c.report_on-answer.ensures.replies.only_unknown
 
 pub returns-clause-only_claimed : goal.returns-clause-only_claimed
@@ -213,9 +213,9 @@ returns-clause-claimed g c = λ d h.
     c.as_slice.ensures.value (c.report_on-answer.ensures.replies.claimed d h)
 
 pub returns-clause-unknown : goal.returns-clause-unknown
-returns-clause-unknown g c = λ h.
-    subst (λ (ws : List (String Global)). OnFile (g.F.Files.held c.args.files.now) (wanted (texts ws)) (OnProgram (WithRuns IsUnknown)))
-    c.as_slice.ensures.value (c.report_on-answer.ensures.replies.unknown h)
+returns-clause-unknown g c = λ l h.
+    subst (λ (ws : List (String Global)). OnFile (g.F.Files.held c.args.files.now) (wanted (texts ws)) (OnProgram (WithRuns (IsUnknown l))))
+    c.as_slice.ensures.value (c.report_on-answer.ensures.replies.unknown l h)
 
 pub returns-clause-nodes : goal.returns-clause-nodes
 returns-clause-nodes g c = λ n h.
