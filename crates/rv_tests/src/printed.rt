@@ -3,6 +3,7 @@
 use crate::outside::add_bytes;
 use rv_base::{Many, Memory, Place, Sites};
 use rv_causality::{CauseFault, Quantity};
+use rv_fixpoint::Left;
 use rv_invfile::FileFault;
 use rv_proofs::{Certificate, Reason};
 use rv_run::{Report, text};
@@ -112,7 +113,12 @@ fn plain_report(alloc: Global, name: &str, rest: &str) -> Option<Report> {
         "safe" => Some(Report::Safe(Certificate {
             locations: Many::new(alloc),
         })),
-        "unknown" => Some(Report::Unknown),
+        "unknown" => Some(Report::Unknown(Left {
+            partition: Certificate {
+                locations: Many::new(alloc),
+            },
+            left: Many::new(alloc),
+        })),
         "nodes" => Some(Report::Nodes(rest.parse::<u32>().ok()?)),
         "toolong" => Some(Report::TooLong(rest.parse::<u64>().ok()?)),
         "neverfalse" => Some(Report::NeverFalse),

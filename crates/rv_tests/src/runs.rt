@@ -300,7 +300,7 @@ fn report_name(report: &Report) -> &'static str {
     match report {
         Report::Safe(_) => "safe",
         Report::Violated(_) => "violated",
-        Report::Unknown => "unknown",
+        Report::Unknown(_) => "unknown",
         Report::Nodes(_) => "nodes",
         Report::Accepted => "accepted",
         Report::Rejected(_) => "rejected",
