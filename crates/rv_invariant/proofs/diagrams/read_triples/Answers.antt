@@ -10,7 +10,7 @@ use Rattle.rv_invariant.proofs.diagrams.read_triples.Goals as goal
 pub returns-in_err-triple : goal.returns-in_err-triple
 returns-in_err-triple c =
     let r = here c.args.records.now in
-    let p = err_from_is_err_and c.from_residual.result c.from_residual.ensures.1 in
+    let p = err_from_is_err_and c.from_residual-in_err-triple.result c.from_residual-in_err-triple.ensures.1 in
     let inv = c.loop-index.invariant in
     rw (p.1, p.2) (group-stops 3 (is_node_field c.args.shape c.args.states) c.args.records.now c.args.count (length c.loop-index.triples) (triple_at r (length c.loop-index.triples)) (upto triple_at r c.args.count) c.in_err-triple.field-0.0
     (omega (arith, inv.size, c.loop-index-test.true)) inv.right c.in_err-triple.ensures)

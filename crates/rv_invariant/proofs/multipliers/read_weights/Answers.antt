@@ -12,7 +12,7 @@ use Rattle.rv_invariant.proofs.multipliers.read_weights.Goals as goal
 pub returns-in_err-weight : goal.returns-in_err-weight
 returns-in_err-weight c =
     let r = here c.args.records.now in
-    let p = err_from_is_err_and c.from_residual.result c.from_residual.ensures.1 in
+    let p = err_from_is_err_and c.from_residual-in_err-weight.result c.from_residual-in_err-weight.ensures.1 in
     let inv = c.loop-index.invariant in
     rw (p.1, p.2) (group-stops 2 (is_pair_field c.args.premises) c.args.records.now c.args.count c.loop-index.index (weight_at r c.loop-index.index) (upto weight_at r c.args.count) c.in_err-weight.field-0.0
     c.loop-index-test.true (subst (λ n. AreRight 2 n (is_pair_field c.args.premises r)) inv.size inv.right) c.in_err-weight.ensures)
