@@ -1,0 +1,7 @@
+pub mod Pushing
+pub mod Mapping
+pub mod Fitting
+pub mod Recording
+pub mod Assembling
+pub mod Giving
+pub mod Joining

@@ -1,0 +1,31 @@
+use Rattle.std.proofs.Common.{◌≡◌, subst, sym}
+use Rattle.rv_diagram.specs.Nodes.{Diagrams}
+use Rattle.rv_cases.specs.Questions.{AreQuestions}
+use Rattle.rv_widen.proofs.Giving.{given_allowed}
+use Rattle.rv_widen.proofs.widening.others_of.Goals as goal
+
+pub cases-requires : goal.cases-requires
+cases-requires c =
+    let s = c.requires.0 in
+    let given = c.requires.2 in
+    let initial = c.requires.3 in
+    let kept = c.requires.4 in
+    let r = given.relation in
+    let back : c.without.new.store ≡ c.args.store.now = c.without.ensures.same in (
+      s,
+      r.system,
+      subst (λ (d : Diagrams). AreQuestions s d c.args.questions.now) (sym back) given.questions,
+      given_allowed s c.args.store.now c.without.new.store c.args.relation.now c.args.questions.now given back c.parts.result.now c.parts.ensures,
+      c.in_ok-control.ensures.control s (let p = r.parts in p.variables) kept.control initial.control,
+    )
+
+pub returns-clause-part : goal.returns-clause-part
+returns-clause-part c s thresholds given initial kept =
+    let r = given.relation in
+    let p = r.parts in
+    let back : c.without.new.store ≡ c.args.store.now = c.without.ensures.same in
+    let control = c.in_ok-control.ensures.control s p.variables kept.control initial.control in
+    let are = c.in_ok-cases.ensures.parted s r.system (subst (λ (d : Diagrams). AreQuestions s d c.args.questions.now) (sym back) given.questions)
+    (given_allowed s c.args.store.now c.without.new.store c.args.relation.now c.args.questions.now given back c.parts.result.now
+    c.parts.ensures) control in
+    record { control = control; cases = are.each }
