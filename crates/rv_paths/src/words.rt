@@ -185,9 +185,10 @@ fn words_back(
 {
     let mut words = Many::new(alloc);
     words.push(last)?;
-    for back in 1..turns.len() {
-        let turn = *turns.at(turns.len() - 1 - back);
-        let to = words.at(back - 1).as_slice();
+    let earlier = turns.len().saturating_sub(1);
+    for back in 0..earlier {
+        let turn = *turns.at(earlier - 1 - back);
+        let to = words.at(back).as_slice();
         let Some(word) = word_of_turn(store, relation, plan, nodes, turn, to)? else {
             return Ok(None);
         };
