@@ -1,0 +1,295 @@
+//! The rows of all instants of a path, over the start values and the inputs of each instant: the columns are the integer memories as they
+//! start, then the integer inputs of the first instant, of the second, and so on.
+
+ghost use Rattle.std.specs.Prelude.{◌≡◌, ◌<◌, ◌^◌, All, length, IfOk, IfSome, OnOk};
+ghost use Rattle.rv_paths.specs.Joining.{IsJoinedRow, AreJoined};
+
+use crate::tree::{Plan, Turn};
+use rv_base::{Many, Memory};
+use rv_proofs::Case;
+use rv_rows::{Form, Row, number_at};
+use std::alloc::Global;
+
+/// How many rows may be joined.
+const MOST_ROWS: usize = 4096;
+
+/// Whether all numbers are 0.
+fn are_zero(numbers: &Many<i128>) -> bool {
+    for number in numbers.as_slice() {
+        if *number != 0 {
+            return false;
+        }
+    }
+    true
+}
+
+/// So many zeros.
+fn zeros(alloc: Global, count: usize) -> Result<Vec<i128>, Memory>
+    ensures { IfOk result (λ numbers. length numbers.items ≡ count) }
+{
+    let mut numbers = Vec::new(alloc);
+    for _column in 0..count {
+        numbers.push(0)?;
+    }
+    Ok(numbers)
+}
+
+/// Adds `by` times the numbers to the sums, where all stay within their type. Whether they do.
+fn add_multiple(sums: &mut [i128], by: i128, numbers: &Many<i128>) -> bool {
+    for column in 0..sums.len() {
+        let number = number_at(numbers, column);
+        let Some(product) = by.checked_mul(number) else {
+            return false;
+        };
+        let Some(sum) = sums[column].checked_add(product) else {
+            return false;
+        };
+        sums[column] = sum;
+    }
+    true
+}
+
+/// Adds `by` at one column. Whether it is there and the sum within its type.
+fn add_at(sums: &mut [i128], by: i128, column: usize) -> bool {
+    if column >= sums.len() {
+        return false;
+    }
+    match sums[column].checked_add(by) {
+        Some(sum) => {
+            sums[column] = sum;
+            true
+        }
+        None => false,
+    }
+}
+
+/// Adds `by` times a column of an instant to the sums: a memory by its form before the instant, an input at its own column, where those of
+/// the instant begin at `start`. The constant with that of the form is answered, where all numbers stay within their type.
+fn add_column(
+    sums: &mut [i128],
+    constant: i128,
+    by: i128,
+    before: &Many<Form>,
+    column: usize,
+    start: usize,
+) -> Option<i128> {
+    match before.get(column) {
+        Some(form) => {
+            if !add_multiple(sums, by, &form.coefficients) {
+                return None;
+            }
+            constant.checked_add(by.checked_mul(form.constant)?)
+        }
+        None => {
+            let input = column.saturating_sub(before.len());
+            if !add_at(sums, by, start.saturating_add(input)) {
+                return None;
+            }
+            Some(constant)
+        }
+    }
+}
+
+/// Does so where `by` is not 0.
+fn add_some(
+    sums: &mut [i128],
+    constant: i128,
+    by: i128,
+    before: &Many<Form>,
+    column: usize,
+    start: usize,
+) -> Option<i128> {
+    if by == 0 {
+        return Some(constant);
+    }
+    add_column(sums, constant, by, before, column, start)
+}
+
+/// A form of an instant over all columns, where its numbers stay within their type.
+fn unrolled(
+    alloc: Global,
+    coefficients: &Many<i128>,
+    constant: i128,
+    before: &Many<Form>,
+    start: usize,
+    width: usize,
+) -> Result<Option<Form>, Memory>
+    ensures { IfOk result (λ o. IfSome o (λ f. length f.coefficients ≡ width)) }
+{
+    let mut sums = zeros(alloc, width)?;
+    let mut total = constant;
+    for column in 0..coefficients.len() {
+        let by = *coefficients.at(column);
+        let added = add_some(&mut sums, total, by, before, column, start);
+        let Some(sum) = added else {
+            return Ok(None);
+        };
+        total = sum;
+    }
+    Ok(Some(Form {
+        coefficients: Many::from_vec(sums),
+        constant: total,
+    }))
+}
+
+/// The forms of the integer memories after an instant, where their numbers stay within their type.
+fn forms_after(
+    alloc: Global,
+    updates: &Many<Form>,
+    before: &Many<Form>,
+    start: usize,
+    width: usize,
+) -> Result<Option<Many<Form>>, Memory> {
+    let mut after = Many::new(alloc);
+    for update in updates.as_slice() {
+        let coefficients = &update.coefficients;
+        let form = unrolled(alloc, coefficients, update.constant, before, start, width)?;
+        let Some(form) = form else {
+            return Ok(None);
+        };
+        after.push(form)?;
+    }
+    Ok(Some(after))
+}
+
+/// The form of a column.
+fn column_form(alloc: Global, column: usize, width: usize) -> Result<Form, Memory> {
+    let mut numbers = zeros(alloc, width)?;
+    let _added = add_at(&mut numbers, 1, column);
+    Ok(Form {
+        coefficients: Many::from_vec(numbers),
+        constant: 0,
+    })
+}
+
+/// The forms of the integer memories as they start.
+fn first_forms(alloc: Global, memories: usize, width: usize) -> Result<Many<Form>, Memory> {
+    let mut forms = Many::new(alloc);
+    for memory in 0..memories {
+        let form = column_form(alloc, memory, width)?;
+        forms.push(form)?;
+    }
+    Ok(forms)
+}
+
+/// Adds a row, tightened, unless it holds everywhere. Whether it is within the limits of kept rows and may hold.
+fn keep(rows: &mut Many<Row>, row: Row, width: usize) -> Result<bool, Memory>
+    requires row { length row.coefficients ≡ width }
+    requires rows { All (IsJoinedRow width) rows.old }
+    ensures { OnOk result (All (IsJoinedRow width) rows.new) }
+{
+    let mut tight = row;
+    tight.tighten();
+    if !tight.fits() {
+        return Ok(false);
+    }
+    if are_zero(&tight.coefficients) {
+        return Ok(tight.bound >= 0);
+    }
+    rows.push(tight)?;
+    Ok(true)
+}
+
+/// Adds a row of an instant over all columns. Whether its numbers are within the limits and it may hold.
+fn join_row(
+    alloc: Global,
+    rows: &mut Many<Row>,
+    row: &Row,
+    before: &Many<Form>,
+    start: usize,
+    width: usize,
+) -> Result<bool, Memory>
+    requires { All (IsJoinedRow width) rows.old }
+    ensures { OnOk result (All (IsJoinedRow width) rows.new) }
+{
+    let form = unrolled(alloc, &row.coefficients, 0, before, start, width)?;
+    let Some(form) = form else {
+        return Ok(false);
+    };
+    let Some(bound) = row.bound.checked_sub(form.constant) else {
+        return Ok(false);
+    };
+    keep(
+        rows,
+        Row {
+            coefficients: form.coefficients,
+            bound,
+        },
+        width,
+    )
+}
+
+/// Adds all rows of an instant.
+fn join_rows(
+    alloc: Global,
+    rows: &mut Many<Row>,
+    from: &Many<Row>,
+    before: &Many<Form>,
+    start: usize,
+    width: usize,
+) -> Result<bool, Memory>
+    requires { All (IsJoinedRow width) rows.old }
+    ensures { OnOk result (All (IsJoinedRow width) rows.new) }
+{
+    for row in from.as_slice() {
+        if !join_row(alloc, rows, row, before, start, width)? {
+            return Ok(false);
+        }
+    }
+    Ok(true)
+}
+
+/// Adds the rows of an instant at a case. What is answered are the forms of the memories after it, where all numbers are within the limits
+/// and each row may hold.
+fn join_case(
+    alloc: Global,
+    rows: &mut Many<Row>,
+    case: &Case,
+    before: &Many<Form>,
+    start: usize,
+    width: usize,
+) -> Result<Option<Many<Form>>, Memory>
+    requires { All (IsJoinedRow width) rows.old }
+    ensures { OnOk result (All (IsJoinedRow width) rows.new) }
+{
+    if !join_rows(alloc, rows, &case.rows, before, start, width)? {
+        return Ok(None);
+    }
+    forms_after(alloc, &case.updates, before, start, width)
+}
+
+/// Where the inputs of an instant begin.
+fn start_of(plan: &Plan, instant: usize) -> usize {
+    plan.memories
+        .saturating_add(plan.inputs.saturating_mul(instant))
+}
+
+/// The rows of all instants of a path, where their numbers are within the limits and each may hold, over the columns of all its instants.
+pub fn joined_rows(
+    alloc: Global,
+    plan: &Plan,
+    turns: &Many<Turn>,
+) -> Result<Option<Many<Row>>, Memory>
+    ensures rows { IfOk result (λ o. IfSome o AreJoined) }
+    ensures few { IfOk result (λ o. IfSome o (λ rows. length rows < 2 ^ 32)) }
+{
+    let width = start_of(plan, turns.len());
+    let mut rows = Many::new(alloc);
+    let mut forms = first_forms(alloc, plan.memories, width)?;
+    for instant in 0..turns.len() {
+        let turn = *turns.at(instant);
+        let Some(case) = plan.cases_from(turn.node).get(turn.case) else {
+            return Ok(None);
+        };
+        let start = start_of(plan, instant);
+        let after = join_case(alloc, &mut rows, case, &forms, start, width)?;
+        let Some(after) = after else {
+            return Ok(None);
+        };
+        forms = after;
+    }
+    if rows.len() > MOST_ROWS {
+        return Ok(None);
+    }
+    Ok(Some(rows))
+}
