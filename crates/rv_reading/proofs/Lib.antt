@@ -1,3 +1,4 @@
 pub mod Representing
 pub mod Columns
 pub mod Starting
+pub mod Analysed

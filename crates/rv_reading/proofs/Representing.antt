@@ -1,5 +1,5 @@
 -- References of what a flat system is have the meanings of its system of valuations.
-use Rattle.std.proofs.Common.{◌≡◌, ◌∙◌, ℕ, List, [], ◌∷◌, length, refl, sym, ap, arith}
+use Rattle.std.proofs.Common.{◌≡◌, ◌∙◌, ◌≤◌, ◌^◌, ℕ, ℤ, All, List, [], ◌∷◌, length, refl, sym, ap, arith}
 use Rattle.std.proofs.lemmas.List.{length-map}
 use Rattle.rv_diagram.specs.Nodes.{Diagrams}
 use Rattle.rv_agreement.specs.Agreement.{IsWell}
@@ -28,8 +28,9 @@ use Rattle.rv_proofs.specs.declared.certificate.Certificate.{Certificate}
 use Rattle.rv_accept.specs.Passing.{IsGiven}
 use Rattle.rv_reading.specs.declared.reading.Reading.{Reading}
 use Rattle.rv_boxes.specs.Passing.{IsPassOf}
-use Rattle.rv_rise.specs.Rounds as rise
-use Rattle.rv_claimed.specs.Certifying as claimed
+use Rattle.rv_paths.specs.Candidates.{IsSearchOf}
+use Rattle.rv_reading.specs.Analysing as analysing
+use Rattle.std.specs.Int.RustNames.{unsigned_abs}
 use Rattle.rv_reading.specs.Read.{flat_of, system_read, diagrams_of, relation_of, questions_of, IsRead}
 
 module _ (f : Flat) (well : IsWell (system_of f)) (computed : (s : System) (w : Valuation) → IsWell s → IsSymbolic s w (symbolic s w)) (a b : Diagrams) (p : Parts)
@@ -75,12 +76,14 @@ pub is_pass : (r : Reading) (columns : ℕ) → IsRead r → columns ≡ length 
     → IsPassOf (system_read r) (diagrams_of r) (relation_of r) (questions_of r) columns
 is_pass r columns read many = record { relation = read.relation; questions = read.questions; wide = sym (many ∙ read.wide) }
 
--- ---- What the search for row claims and the maker of their certificates are given of a reading.
-pub is_rising : (r : Reading) → IsRead r → rise.IsGiven (system_read r) (diagrams_of r) (relation_of r) (questions_of r)
-is_rising r read = record { relation = read.relation; questions = read.questions }
+-- ---- What the analysis and the search for candidates are given of a reading.
+pub is_analysed : (r : Reading) (thresholds : List ℤ) → IsRead r → All (λ t. unsigned_abs t ≤ 2 ^ 41) thresholds
+    → analysing.IsGiven (system_read r) (diagrams_of r) (relation_of r) (questions_of r) thresholds
+is_analysed r thresholds read small = record { relation = read.relation; questions = read.questions; small = small }
 
-pub is_claimed : (r : Reading) → IsRead r → claimed.IsGiven (system_read r) (diagrams_of r) (relation_of r) (questions_of r)
-is_claimed r read = record { relation = read.relation; questions = read.questions }
+pub is_search : (r : Reading) (columns : ℕ) → IsRead r → columns ≡ length (flat_of r).columns
+    → IsSearchOf (system_read r) (diagrams_of r) (relation_of r) (questions_of r) columns
+is_search r columns read many = record { relation = read.relation; questions = read.questions; wide = sym (many ∙ read.wide) }
 
 -- ---- Whether there are integers.
 none_left : {X : Type 0} (xs : List X) → length xs ≡ 0 → xs ≡ []

@@ -1,17 +1,26 @@
--- Whether a reference has a valuation, by what is picked of it.
-use Rattle.std.proofs.Common.{◌≡◌, ℕ, List, Bool, true, false, Option, Some, None}
+-- Whether a system has an initial control state, by what is picked of them; and that each claim is good where it has none.
+use Rattle.std.proofs.Common.{◌≡◌, ℕ, ℤ, List, [], Bool, true, false, Option, Some, None, sym, ◌∙◌, refl, true≢false, arith}
 use Rattle.std.specs.Prelude.{MatchOption, is_some}
 use Rattle.rv_diagram.specs.declared.Triple.{Triple}
 use Rattle.rv_diagram.specs.Nodes.{Valuation, value_of, valuation_of, IsLeast}
+use Rattle.rv_proofs.specs.Systems.{System}
+use Rattle.rv_proofs.specs.RowClaims.{HasGoodRows}
+use Rattle.rv_reading.specs.Analysing.{HasStarts}
 
-module _ (nodes : List Triple) (variables a : ℕ) where
-  abbrev pub IsPicked : Option (List Bool) → Type 0
-  IsPicked o = MatchOption o ((v : Valuation) → value_of nodes a v ≡ false) (λ values. IsLeast nodes variables a values)
+module _ (s : System) (nodes : List Triple) (variables a : ℕ) (means : (v : Valuation) → value_of nodes a v ≡ s.initial v) where
+  pub picked : (o : Option (List Bool)) → MatchOption o ((v : Valuation) → value_of nodes a v ≡ false) (λ values. IsLeast nodes variables a values) → HasStarts s (is_some o)
+  picked (Some values) is = (λ e. (valuation_of values, sym (means (valuation_of values)) ∙ is.holds), λ e. absurd (let bad : ⊥ = cc in bad))
+  picked None is = (λ e. absurd (let bad : ⊥ = cc in bad), λ e v. sym (means v) ∙ is v)
 
-  pub picked : (o : Option (List Bool)) → IsPicked o → is_some o ≡ true → (v : Valuation) × (value_of nodes a v ≡ true)
-  picked (Some values) is e = (valuation_of values, is.holds)
-  picked None is e = absurd (let bad : ⊥ = cc in bad)
-
-  pub none_picked : (o : Option (List Bool)) → IsPicked o → is_some o ≡ false → (v : Valuation) → value_of nodes a v ≡ false
-  none_picked (Some values) is e = absurd (let bad : ⊥ = cc in bad)
-  none_picked None is e = is
+-- Where no control state is initial the empty claim is closed and good.
+pub nothing_good : (s : System) (thresholds : List ℤ) → ((v : Valuation) → s.initial v ≡ false) → HasGoodRows s thresholds
+nothing_good s thresholds none = (
+      record { reached = λ v. false; rows = [] },
+      record { reached = λ v w h. refl; rows = λ r h. absurd (omega (arith, h.1)); different = λ i j q r h. absurd (let bad : ⊥ = cc in bad) },
+      record {
+        initial = λ v h. absurd (true≢false (sym h ∙ none v));
+        next = λ v h. absurd (true≢false (sym h.reached));
+        rows = λ v h. absurd (true≢false (sym h.reached));
+      },
+      λ v h. absurd (true≢false (sym h.reached)),
+    )

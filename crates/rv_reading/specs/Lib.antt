@@ -1,2 +1,3 @@
 pub mod Read
 pub mod Lending
+pub mod Analysing

@@ -1,6 +1,6 @@
 //! The control reading of a flat system.
 
-ghost use Rattle.std.specs.Prelude.{◌≡◌, ◌↔◌, ◌<◌, ◌≤◌, ◌^◌, ℕ, ℤ, Bool, List, Ok, None, Some, [], true, false, All, length, slice_get, IfOk, OnOk, IsErrOf, IsTrue};
+ghost use Rattle.std.specs.Prelude.{◌≡◌, ◌↔◌, ◌<◌, ◌≤◌, ◌^◌, ℕ, ℤ, Bool, List, Ok, None, Some, [], All, length, slice_get, IfOk, IfSome, OnOk, IsErrOf, IsTrue};
 ghost use Rattle.std.specs.Int.RustNames.{unsigned_abs};
 ghost use Rattle.std.specs.Borrow.{sem};
 ghost use Rattle.rv_diagram.specs.declared.frozen.Frozen.{Frozen as FrozenModel};
@@ -17,7 +17,6 @@ ghost use Rattle.rv_proofs.specs.Runs.{IsSafeSystem};
 ghost use Rattle.rv_proofs.specs.Boxes.{BoxClaim, HasGoodBox};
 ghost use Rattle.rv_proofs.specs.RowClaims.{HasGoodRows};
 ghost use Rattle.rv_proofs.specs.Left.{IsLeftPartition};
-ghost use Rattle.rv_diagram.specs.Nodes.{Valuation};
 ghost use Rattle.rv_proofs.specs.Counts.{HasFree};
 ghost use Rattle.rv_proofs.specs.Verdicts.{IsVerdict};
 ghost use Rattle.rv_proofs.specs.declared.certificate.Certificate.{Certificate as CertificateModel};
@@ -33,17 +32,18 @@ ghost use Rattle.rv_walk.specs.Paths.{IsFalsifyingPath, IsShortestPath};
 ghost use Rattle.rv_reading.specs.Lending.{LendsStore};
 ghost use Rattle.rv_reading.specs.Read.{flat_of, system_read, diagrams_of, IsRead};
 
+use crate::analysis::{analysed, has_initial};
 use rv_accept::accept;
-use rv_base::{Many, Memory};
+use rv_base::Many;
 use rv_bits::{Around, ReadSystem, read_system};
 use rv_boxes::box_pass;
 use rv_cases::{Questions, cases};
-use rv_claimed::{Claimed, certify};
+use rv_claimed::Claimed;
 use rv_control::{computed_instants, control_is_a_system};
 use rv_diagram::{Frozen, Store, StoreFault};
 use rv_flat::Flat;
-use rv_proofs::{Case, Certificate, Layers, Verdict, tighter_row_claims};
-use rv_rise::least_closed;
+use rv_paths::{Candidate, candidate};
+use rv_proofs::{Case, Certificate, Layers, Verdict};
 use rv_symbolic::{Parts, Relation, relation_stays};
 use rv_tested::ask_system;
 use rv_walk::{BoxEnd, falsifying_path, walk};
@@ -229,45 +229,51 @@ impl<'a> Reading<'a> {
         )
     }
 
-    /// Whether there is an initial control state.
-    fn has_initial(&self) -> Result<bool, Memory>
-        requires read { IsRead self.now }
-        ensures some { IfOk result (λ b. b ≡ true → (v : Valuation) × IsTrue ((system_read self.now).initial v)) }
-        ensures none { IfOk result (λ b. b ≡ false → (v : Valuation) → (system_read self.now).initial v ≡ false) }
-    {
-        let found = self.store.pick(self.relation.parts().initial)?;
-        Ok(found.is_some())
-    }
-
     /// The least closed row claim of the flat system, with bounds among its thresholds, and what is proved of it: a certificate without loops, of
-    /// one location for the initial control states and one for the others. No location is left exactly where some closed row claim is good,
-    /// and the certificate is accepted then; else it is a left partition.
-    pub fn row_pass(&mut self, alloc: Global) -> Result<Claimed, StoreFault>
+    /// one location for the initial control states and one for the others. Where no location is left the certificate is accepted, and none is
+    /// wherever some closed row claim is good; else the certificate is a left partition. Where the claim is not good, rows are sought that
+    /// hold besides, by forward iteration with polyhedra.
+    pub fn analyse(&mut self, alloc: Global) -> Result<Claimed, StoreFault>
         requires read { IsRead self.old }
         requires thresholds { All (λ t. unsigned_abs t ≤ 2 ^ 41) (flat_of self.old).thresholds }
         ensures accepted { IfOk result (λ x. x.left ≡ [] → IsAccepted (system_read self.old) x.certificate) }
         ensures plain { IfOk result (λ x. ArePlain x.certificate) }
-        ensures exactly { IfOk result (λ x. (x.left ≡ []) ↔ HasGoodRows (system_read self.old) (flat_of self.old).thresholds) }
+        ensures claims { HasGoodRows (system_read self.old) (flat_of self.old).thresholds → IfOk result (λ x. x.left ≡ []) }
         ensures left { IfOk result (λ x. ¬ (x.left ≡ []) → IsLeftPartition (system_read self.old) x.certificate x.left) }
         ensures same { self.new ≡ self.old }
         ensures roomy { IsErrOf result StoreFault.Nodes → (diagrams_of self.old).limit < 2 ^ (2 ^ (diagrams_of self.old).variables) }
     {
-        tighter_row_claims();
-        let claim = least_closed(
-            alloc,
-            &mut self.store,
-            &self.relation,
-            &self.questions,
-            self.flat.thresholds.as_slice(),
-        )?;
+        let thresholds = self.flat.thresholds.as_slice();
         // (a left partition has an initial control state, and without one each claim is good)
-        let _starts = self.has_initial()?;
-        certify(
+        let starts = has_initial(&self.store, &self.relation)?;
+        let store = &mut self.store;
+        let relation = &self.relation;
+        let questions = &self.questions;
+        analysed(alloc, store, relation, questions, thresholds, starts)
+    }
+
+    /// A candidate for a trace that falsifies the program of the flat system: a word for each instant, with a truth value for each variable of the
+    /// flat system, a start value for each integer memory, and a number for each integer input at each instant. That it falsifies is for its
+    /// replay to show. Layers are sets of control states, in which the path stays after its first instant.
+    pub fn candidate(
+        &mut self,
+        alloc: Global,
+        layers: &Layers,
+    ) -> Result<Option<Candidate>, StoreFault>
+        requires read { IsRead self.old }
+        requires sets { (t : ℕ) (set : FrozenModel) → slice_get layers.now.sets t ≡ Some set → IsControlSet (system_read self.old) set }
+        ensures some { IfOk result (λ o. IfSome o (λ c. 0 < length c.words)) }
+        ensures same { self.new ≡ self.old }
+        ensures roomy { IsErrOf result StoreFault.Nodes → (diagrams_of self.old).limit < 2 ^ (2 ^ (diagrams_of self.old).variables) }
+    {
+        let columns = self.flat.columns.len();
+        candidate(
             alloc,
             &mut self.store,
             &self.relation,
             &self.questions,
-            &claim,
+            columns,
+            layers,
         )
     }
 
