@@ -1,8 +1,9 @@
-//! A trace that falsifies, found back through the layers.
+//! A trace that falsifies: found back through the layers, or by a candidate that its replay confirms.
 
-ghost use Rattle.std.specs.Prelude.{◌≡◌, ◌↔◌, ◌<◌, ◌^◌, ℕ, Ok, None, Some, slice_get, IfOk, IsErrOf};
+ghost use Rattle.std.specs.Prelude.{◌≡◌, ◌↔◌, ◌<◌, ◌^◌, ℕ, Ok, None, Some, length, slice_get, IfOk, IsErrOf};
 ghost use Rattle.rv_base.specs.declared.value.Trace.{Trace as TraceModel};
-ghost use Rattle.rv_tree.specs.Tree.{program_tree};
+ghost use Rattle.rv_tree.specs.Tree.{ProgramTree, program_tree};
+ghost use Rattle.rv_tree.specs.Places.{Identifier};
 ghost use Rattle.rv_types.specs.Instances.{name_at};
 ghost use Rattle.rv_instances.specs.Fitting.{Fits};
 ghost use Rattle.rv_flat.specs.FlatOf.{IsFlatOf};
@@ -13,13 +14,15 @@ ghost use Rattle.rv_walk.specs.Ends.{AreBadLayers};
 ghost use Rattle.rv_reading.specs.Read.{flat_of, system_read, diagrams_of, IsRead};
 ghost use Rattle.rv_falsify.specs.Falsifying.{IsFalsifying, IsNeverFalsified, IsShortest};
 
+use crate::confirming::confirmed;
 use crate::decoding::trace_of;
-use rv_base::Trace;
+use rv_base::{Many, Memory, Trace, Value};
 use rv_control::{runs_are_abstract, spelled_runs};
 use rv_diagram::StoreFault;
-use rv_flat::{flat_states, runs_are_one};
+use rv_flat::{Flat, flat_states, runs_are_one};
 use rv_instances::Source;
 use rv_meaning::{run_is_instants, states_of_run, typed_instants};
+use rv_paths::Candidate;
 use rv_proofs::Layers;
 use rv_reading::Reading;
 use rv_types::well_formed_programs;
@@ -30,7 +33,7 @@ use std::alloc::Global;
 /// ordered and use state variables only. Where the layers are those of the box pass, none is found exactly where no run falsifies,
 /// and none that falsifies has fewer instants. The reading is left as it was. `Nodes` comes where the diagrams outgrow their limit,
 /// `Memory` where memory runs out.
-pub fn find(
+fn find_back(
     alloc: Global,
     reading: &mut Reading,
     source: &Source,
@@ -68,4 +71,108 @@ pub fn find(
         }
         None => Ok(None),
     }
+}
+
+/// The values, with each integer replaced by the next of the numbers; 0 past the last one.
+fn filled(
+    alloc: Global,
+    values: &Many<Value>,
+    numbers: &Many<i128>,
+) -> Result<Many<Value>, Memory> {
+    let mut list = Many::new(alloc);
+    let mut rest = numbers.as_slice().iter();
+    for value in values.as_slice() {
+        let value = match value {
+            Value::Whole(_) => match rest.next() {
+                Some(number) => Value::Whole(*number),
+                None => Value::Whole(0),
+            },
+            other => *other,
+        };
+        list.push(value)?;
+    }
+    Ok(list)
+}
+
+/// The inputs of each instant, with their integers from the numbers of the instant.
+fn filled_instants(
+    alloc: Global,
+    instants: &Many<Many<Value>>,
+    numbers: &Many<Many<i128>>,
+) -> Result<Many<Many<Value>>, Memory> {
+    let mut list = Many::new(alloc);
+    for (values, own) in instants.as_slice().iter().zip(numbers.as_slice().iter()) {
+        list.push(filled(alloc, values, own)?)?;
+    }
+    Ok(list)
+}
+
+/// The trace of a candidate.
+fn trace_with(alloc: Global, flat: &Flat, candidate: &Candidate) -> Result<Trace, Memory>
+    requires program { (program : ProgramTree) × (main : Identifier) × IsFlatOf program main flat.now }
+    requires some { 0 < length candidate.now.words }
+{
+    let spelled = trace_of(alloc, flat, &candidate.words)?;
+    let starts = filled(alloc, &spelled.starts, &candidate.starts)?;
+    let instants = filled_instants(alloc, &spelled.instants, &candidate.inputs)?;
+    Ok(Trace { starts, instants })
+}
+
+/// A trace that falsifies the program of a source with integers, by a candidate that its replay confirms.
+fn find_candidate(
+    alloc: Global,
+    reading: &mut Reading,
+    source: &Source,
+    layers: &Layers,
+) -> Result<Option<Trace>, StoreFault>
+    requires read { IsRead reading.old }
+    requires fits { Fits (program_tree source.now.program) source.now.typed source.now.order }
+    requires flat { IsFlatOf (program_tree source.now.program) (name_at (program_tree source.now.program) source.now.typed.main) (flat_of reading.old) }
+    requires sets { (t : ℕ) (set : FrozenModel) → slice_get layers.now.sets t ≡ Some set → IsControlSet (system_read reading.old) set }
+    ensures falsifies { (t : TraceModel) → result ≡ Ok (Some t)
+        → IsFalsifying (program_tree source.now.program) (name_at (program_tree source.now.program) source.now.typed.main) t }
+    ensures same { reading.new ≡ reading.old }
+    ensures roomy { IsErrOf result StoreFault.Nodes → (diagrams_of reading.old).limit < 2 ^ (2 ^ (diagrams_of reading.old).variables) }
+{
+    match reading.candidate(alloc, layers)? {
+        Some(candidate) => {
+            let flat = reading.flat();
+            let trace = trace_with(alloc, flat, &candidate)?;
+            Ok(confirmed(alloc, source, flat, trace)?)
+        }
+        None => Ok(None),
+    }
+}
+
+/// A trace that falsifies the program of a source. Of one without integers it is found back from the first layer with a false observer through
+/// the layers, one valuation picked in each, the least: where the layers are those of the box pass, none is found exactly where no run
+/// falsifies, and none that falsifies has fewer instants. Of one with integers a path of cases is sought that leads to a false observer, with a
+/// whole point of the rows of its instants, and answered only where its replay says Falsified; none promises nothing. `reading` is that of
+/// the source's flat system, and the sets of the layers are ordered and use state variables only. The reading is left as it was. `Nodes`
+/// comes where the diagrams outgrow their limit, `Memory` where memory runs out.
+pub fn find(
+    alloc: Global,
+    reading: &mut Reading,
+    source: &Source,
+    layers: &Layers,
+) -> Result<Option<Trace>, StoreFault>
+    requires read { IsRead reading.old }
+    requires fits { Fits (program_tree source.now.program) source.now.typed source.now.order }
+    requires flat { IsFlatOf (program_tree source.now.program) (name_at (program_tree source.now.program) source.now.typed.main) (flat_of reading.old) }
+    requires sets { (t : ℕ) (set : FrozenModel) → slice_get layers.now.sets t ≡ Some set → IsControlSet (system_read reading.old) set }
+    ensures falsifies { (t : TraceModel) → result ≡ Ok (Some t)
+        → IsFalsifying (program_tree source.now.program) (name_at (program_tree source.now.program) source.now.typed.main) t }
+    ensures shortest { (t : TraceModel) → HasNoIntegers (system_read reading.old) → AreBadLayers (system_read reading.old) layers.now → result ≡ Ok (Some t)
+        → IsShortest (program_tree source.now.program) (name_at (program_tree source.now.program) source.now.typed.main) t }
+    ensures exactly { HasNoIntegers (system_read reading.old) → AreBadLayers (system_read reading.old) layers.now
+        → IfOk result (λ found. (found ≡ None)
+        ↔ IsNeverFalsified (program_tree source.now.program) (name_at (program_tree source.now.program) source.now.typed.main)) }
+    ensures found { HasNoIntegers (system_read reading.old) → AreBadLayers (system_read reading.old) layers.now → IfOk result (λ found. found ≡ None → ⊥) }
+    ensures same { reading.new ≡ reading.old }
+    ensures roomy { IsErrOf result StoreFault.Nodes → (diagrams_of reading.old).limit < 2 ^ (2 ^ (diagrams_of reading.old).variables) }
+{
+    if reading.has_no_integers() {
+        return find_back(alloc, reading, source, layers);
+    }
+    find_candidate(alloc, reading, source, layers)
 }

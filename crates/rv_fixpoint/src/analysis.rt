@@ -1,6 +1,6 @@
 //! The analysis.
 
-ghost use Rattle.std.specs.Prelude.{◌≡◌, ◌↔◌, ◌<◌, ◌≤◌, ◌^◌, ℕ, All, Ok, Some, IfOk, IsErrOf, slice_get};
+ghost use Rattle.std.specs.Prelude.{◌≡◌, ◌<◌, ◌≤◌, ◌^◌, ℕ, All, Ok, Some, IfOk, IsErrOf, slice_get};
 ghost use Rattle.std.specs.Int.RustNames.{unsigned_abs};
 ghost use Rattle.rv_diagram.specs.declared.frozen.Frozen.{Frozen};
 ghost use Rattle.rv_proofs.specs.Accepted.{IsAccepted};
@@ -21,9 +21,10 @@ use rv_reading::Reading;
 use std::alloc::Global;
 
 /// The analysis of the reading of a flat system: its least closed row claim, with bounds among its thresholds, upward from the initial control
-/// states and the closest thresholds. Proved has an accepted certificate without loops, and comes exactly where some closed row claim is good.
-/// Left has a left partition. The layers are those of the box pass, and the options say what may be done beside row claims; today nothing else is. The reading is left as
-/// it was. Nodes comes where the diagrams outgrow their limit, Memory where memory runs out.
+/// states and the closest thresholds, and where that is not good, rows that hold besides, by forward iteration with polyhedra. Proved has an
+/// accepted certificate without loops, and comes wherever some closed row claim is good. Left has a left partition. The layers are those of the
+/// box pass, and the options say what may be done beside; today they change nothing. The reading is left as it was. Nodes comes where
+/// the diagrams outgrow their limit, Memory where memory runs out.
 pub fn analyse(
     alloc: Global,
     r: &mut Reading,
@@ -37,11 +38,11 @@ pub fn analyse(
     ensures proved { (c : Certificate) → result ≡ Ok (End.Proved c) → IsAccepted (system_read r.old) c }
     ensures plain { (c : Certificate) → result ≡ Ok (End.Proved c) → ArePlain c }
     ensures left { (l : LeftModel) → result ≡ Ok (End.Left l) → IsLeftPartition (system_read r.old) l.partition l.left }
-    ensures exactly { IfOk result (λ e. IsProved e ↔ HasGoodRows (system_read r.old) (flat_of r.old).thresholds) }
+    ensures claims { HasGoodRows (system_read r.old) (flat_of r.old).thresholds → IfOk result IsProved }
     ensures same { r.new ≡ r.old }
     ensures roomy { IsErrOf result StoreFault.Nodes → (diagrams_of r.old).limit < 2 ^ (2 ^ (diagrams_of r.old).variables) }
 {
-    let Claimed { certificate, left } = r.row_pass(alloc)?;
+    let Claimed { certificate, left } = r.analyse(alloc)?;
     if left.is_empty() {
         return Ok(End::Proved(certificate));
     }

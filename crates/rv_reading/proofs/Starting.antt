@@ -15,12 +15,12 @@ module _ (s : System) (nodes : List Triple) (variables a : ℕ) (means : (v : Va
 -- Where no control state is initial the empty claim is closed and good.
 pub nothing_good : (s : System) (thresholds : List ℤ) → ((v : Valuation) → s.initial v ≡ false) → HasGoodRows s thresholds
 nothing_good s thresholds none = (
-      record { reached = λ v. false; rows = [] },
-      record { reached = λ v w h. refl; rows = λ r h. absurd (omega (arith, h.1)); different = λ i j q r h. absurd (let bad : ⊥ = cc in bad) },
-      record {
-        initial = λ v h. absurd (true≢false (sym h ∙ none v));
-        next = λ v h. absurd (true≢false (sym h.reached));
-        rows = λ v h. absurd (true≢false (sym h.reached));
-      },
-      λ v h. absurd (true≢false (sym h.reached)),
-    )
+  record { reached = λ v. false; rows = [] },
+  record { reached = λ v w h. refl; rows = λ r h. absurd (omega (arith, h.1)); different = λ i j q r h. absurd (let bad : ⊥ = cc in bad) },
+  record {
+    initial = λ v h. absurd (true≢false (sym h ∙ none v));
+    next = λ v h. absurd (true≢false (sym h.reached));
+    rows = λ v h. absurd (true≢false (sym h.reached));
+  },
+  λ v h. absurd (true≢false (sym h.reached)),
+)

@@ -54,7 +54,6 @@ module _ (held : Option Shelf) (w : Wanted) (document : List ℕ) where
   memory_replies = record {
     safe = λ c h. absurd (let bad : IsCut (Safe c) = subst IsCut h tt in bad);
     certified = λ c h. absurd (let bad : IsCut (Safe c) = subst IsCut h tt in bad);
-    claimed = λ c h. absurd (let bad : IsCut (Safe c) = subst IsCut h tt in bad);
     invariant = λ c h. absurd (let bad : IsCut (Safe c) = subst IsCut h tt in bad);
     violated = λ t h. absurd (let bad : IsCut (Violated t) = subst IsCut h tt in bad);
     document_of = λ t h. absurd (let bad : IsCut (Violated t) = subst IsCut h tt in bad);
@@ -76,7 +75,7 @@ module _ (held : Option Shelf) (w : Wanted) (document : List ℕ) where
     only_violated = λ alone told. inr (inr (inr refl));
     only_probed = λ alone told. inr (inr refl);
     only_claimed = λ alone told. inr (inr (inr refl));
-    only_unknown = λ alone told. inr (inr (inr refl));
+    only_judged = λ alone told. inr (inr (inr refl));
     only_told = λ task x told. cut_memory task x Memory refl;
     only_refused = λ fault told. inr (inr refl);
     only_too_long = λ told. inr (inr refl);
@@ -90,7 +89,6 @@ module _ (held : Option Shelf) (w : Wanted) (document : List ℕ) where
   fault_replies unmade untoured = record {
     safe = λ c h. absurd (let bad : IsCut (Safe c) = subst IsCut h tt in bad);
     certified = λ c h. absurd (let bad : IsCut (Safe c) = subst IsCut h tt in bad);
-    claimed = λ c h. absurd (let bad : IsCut (Safe c) = subst IsCut h tt in bad);
     invariant = λ c h. absurd (let bad : IsCut (Safe c) = subst IsCut h tt in bad);
     violated = λ t h. absurd (let bad : IsCut (Violated t) = subst IsCut h tt in bad);
     document_of = λ t h. absurd (let bad : IsCut (Violated t) = subst IsCut h tt in bad);
@@ -112,7 +110,7 @@ module _ (held : Option Shelf) (w : Wanted) (document : List ℕ) where
     only_violated = λ alone told. inr (inr (inl refl));
     only_probed = λ alone told. inr (inl refl);
     only_claimed = λ alone told. inr (inr (inl refl));
-    only_unknown = λ alone told. inr (inr (inl refl));
+    only_judged = λ alone told. inr (inr (inl refl));
     only_told = λ task x told. cut_read_fault task x;
     only_refused = λ fault told. inr (inl refl);
     only_too_long = λ told. inr (inl refl);
@@ -162,7 +160,6 @@ module _ (held : Option Shelf) (w : Wanted) (named : List ℕ × List ℕ) (docu
   long_replies = record {
     safe = λ c h. absurd (let bad : IsLong (Safe c) = subst IsLong h tt in bad);
     certified = λ c h. absurd (let bad : IsLong (Safe c) = subst IsLong h tt in bad);
-    claimed = λ c h. absurd (let bad : IsLong (Safe c) = subst IsLong h tt in bad);
     invariant = λ c h. absurd (let bad : IsLong (Safe c) = subst IsLong h tt in bad);
     violated = λ t h. absurd (let bad : IsLong (Violated t) = subst IsLong h tt in bad);
     document_of = λ t h. absurd (let bad : IsLong (Violated t) = subst IsLong h tt in bad);
@@ -184,7 +181,7 @@ module _ (held : Option Shelf) (w : Wanted) (named : List ℕ × List ℕ) (docu
     only_violated = λ alone told. absurd (too_much told);
     only_probed = λ alone told. absurd (too_much told);
     only_claimed = λ alone told. absurd (too_much told);
-    only_unknown = λ alone told. absurd (too_much told);
+    only_judged = λ alone told. absurd (too_much told);
     only_told = λ task x told. absurd (
         let over = told_is_long told.file told.node told.bytes told.named told.told in
         let fits = told.holds.0 in
@@ -237,7 +234,6 @@ module _ (held : Option Shelf) (w : Wanted) (document : List ℕ) (none : w.name
   off_file = record {
     safe = λ c h. absurd (let bad : IsOffFile (Safe c) = subst IsOffFile h off in bad);
     certified = λ c h. absurd (let bad : IsOffFile (Safe c) = subst IsOffFile h off in bad);
-    claimed = λ c h. absurd (let bad : IsOffFile (Safe c) = subst IsOffFile h off in bad);
     invariant = λ c h. absurd (let bad : IsOffFile (Safe c) = subst IsOffFile h off in bad);
     violated = λ t h. absurd (let bad : IsOffFile (Violated t) = subst IsOffFile h off in bad);
     document_of = λ t h. absurd (let bad : IsOffFile (Violated t) = subst IsOffFile h off in bad);
@@ -259,7 +255,7 @@ module _ (held : Option Shelf) (w : Wanted) (document : List ℕ) (none : w.name
     only_violated = λ alone told. absurd (none_some (told.file, told.node) w.named none told.named);
     only_probed = λ alone told. absurd (none_some (told.file, told.node) w.named none told.named);
     only_claimed = λ alone told. absurd (none_some (told.file, told.node) w.named none told.named);
-    only_unknown = λ alone told. absurd (none_some (told.file, told.node) w.named none told.named);
+    only_judged = λ alone told. absurd (none_some (told.file, told.node) w.named none told.named);
     only_told = λ task x told. absurd (none_some (told.file, told.node) w.named none told.named);
     only_refused = λ fault told. absurd (none_some (told.file, told.node) w.named none told.named);
     only_too_long = λ told. absurd (none_some (told.file, told.node) w.named none told.named);

@@ -15,8 +15,8 @@ use Rattle.rv_falsify.specs.Falsifying.{IsFalsifying}
 use Rattle.rv_probe.specs.Probes.{probe_of}
 use Rattle.rv_replay.specs.Replays.{IsFalsifiedAt}
 use Rattle.rv_fixpoint.specs.declared.end.Left.{Left}
-use Rattle.rv_run.specs.Answers.{IsOnSource, IsUnknownUnlessLimited, IsSafeUnlessCutOff, IsViolatedUnlessCutOff, IsViolatedUnlessUnread}
-use Rattle.rv_run.specs.Programs.{IsSafeControl, IsUnsafeControl, IsCertified, HasGoodClaim, HasManyVariables, HasProbe, IsUndecided, IsUnknown, LacksGoodClaim, LacksProbe}
+use Rattle.rv_run.specs.Answers.{IsOnSource, IsJudgedUnlessLimited, IsSafeUnlessCutOff, IsViolatedUnlessCutOff, IsViolatedUnlessUnread}
+use Rattle.rv_run.specs.Programs.{IsSafeControl, IsUnsafeControl, IsCertified, HasGoodClaim, HasManyVariables, HasProbe, IsUnknown, LacksGoodClaim, LacksProbe}
 use Rattle.rv_run.specs.Verdicts.{IsViolated, IsDocumentOf, IsInvariantOf, IsTraced, IsVerdictOf, verdict_report, verdict_document}
 use Rattle.rv_run.specs.declared.report.Report.{Report}
 use Rattle.rv_run.specs.declared.report.Report.TheVariants as report
@@ -36,6 +36,14 @@ verdict-not_refused nodes (Ok (Violated t text)) e is = cc
 verdict-not_refused nodes (Ok (Undecided l)) e is = cc
 verdict-not_refused nodes (Err fault.Nodes) e is = cc
 verdict-not_refused nodes (Err fault.Memory) e is = cc
+
+-- each verdict is told
+pub must_judged : (nodes : ℕ) (r : Result Verdict StoreFault) → IsJudgedUnlessLimited (verdict_report nodes r)
+must_judged nodes (Ok (Safe c text)) = inl (inl (c, refl))
+must_judged nodes (Ok (Violated t text)) = inl (inr (inl (t, refl)))
+must_judged nodes (Ok (Undecided l)) = inl (inr (inr (l, refl)))
+must_judged nodes (Err fault.Nodes) = inr (inl (nodes, refl))
+must_judged nodes (Err fault.Memory) = inr (inr (inr refl))
 
 module _ (nodes : ℕ) (p : ProgramTree) (m : Identifier) where
   -- a program that a trace falsifies is not safe
@@ -64,9 +72,9 @@ module _ (nodes : ℕ) (p : ProgramTree) (m : Identifier) where
   traced-verdict t is lacks (Err e) told = told
 
   pub said_safe : (r : Result Verdict StoreFault) (c : Certificate) → IfOk r (λ v. IsVerdictOf nodes v p m) → verdict_report nodes r ≡ report.Safe c
-      → IsSafe p m × HasGoodClaim p m × IsCertified c p m × IsInvariantOf c (verdict_document r) p m
+      → IsSafe p m × IsCertified c p m × IsInvariantOf c (verdict_document r) p m
   said_safe (Ok (Safe d text)) c judged is =
-      subst (λ (e : Certificate). IsSafe p m × HasGoodClaim p m × IsCertified e p m × IsInvariantOf e text.items p m) (same d c is) judged
+      subst (λ (e : Certificate). IsSafe p m × IsCertified e p m × IsInvariantOf e text.items p m) (same d c is) judged
     where
       same : (d c : Certificate) → report.Safe d ≡ report.Safe c → d ≡ c
       same d c e = cc
@@ -127,16 +135,6 @@ module _ (nodes : ℕ) (p : ProgramTree) (m : Identifier) where
   must_claim (Ok (Undecided l)) one judged is = absurd (one is judged.0.1)
   must_claim (Err fault.Nodes) one judged is = inr (inl (nodes, refl))
   must_claim (Err fault.Memory) one judged is = inr (inr (inr refl))
-
-  pub must_unknown : (r : Result Verdict StoreFault) → (HasGoodClaim p m → LacksGoodClaim p m → ⊥) → (HasProbe p m → LacksProbe p m → ⊥) → IfOk r (λ v. IsVerdictOf nodes v p m) → IsUndecided p m → IsUnknownUnlessLimited (verdict_report nodes r)
-  must_unknown (Ok (Safe c text)) one probe judged is = absurd (one judged.1 is.1)
-  must_unknown (Ok (Violated t text)) one probe judged is = absurd (elim judged.0.origin [
-    | inl control ↦ is.0 control.0
-    | inr probed ↦ probe (let (f, flat, (b, c, k, at, same)) = probed.0 in (f, flat, (b, c, k, at))) is.2
-  ])
-  must_unknown (Ok (Undecided l)) one probe judged is = inl (l, refl)
-  must_unknown (Err fault.Nodes) one probe judged is = inr (inl (nodes, refl))
-  must_unknown (Err fault.Memory) one probe judged is = inr (inr (inr refl))
 
   pub must_probe : (r : Result Verdict StoreFault) → (HasProbe p m → LacksProbe p m → ⊥) → (IsErrOf r fault.Nodes → LacksProbe p m) → IfOk r (λ v. IsVerdictOf nodes v p m) → HasProbe p m
       → IsViolatedUnlessUnread (verdict_report nodes r)

@@ -86,10 +86,6 @@ IsViolatedUnlessUnread report = IsViolatedReport report ⊎ ((report ≡ ReadFau
 abbrev pub IsUnknownReport : Report → Type 0
 IsUnknownReport report = (l : Left) × (report ≡ Unknown l)
 
--- The report has a left partition, unless the diagrams grew past their limit, the file could not be read or there was no memory.
-abbrev pub IsUnknownUnlessLimited : Report → Type 0
-IsUnknownUnlessLimited report = IsUnknownReport report ⊎ (IsNodesReport report ⊎ ((report ≡ ReadFault) ⊎ (report ≡ Memory)))
-
 -- The report is that a source that was made is safe.
 abbrev pub IsTouredReport : Report → Type 0
 IsTouredReport report = (count : ℕ) × (length : ℕ) × (c : Certificate) × (report ≡ Toured count length c)
@@ -127,6 +123,10 @@ pub record IsToldDocument (held : Option Shelf) (w : Wanted) (task : Task) (P : 
 -- The report is one that `prove` alone gives on an accepted source.
 abbrev pub IsVerdict : Report → Type 0
 IsVerdict report = IsSafeReport report ⊎ (IsViolatedReport report ⊎ IsUnknownReport report)
+
+-- It is one, unless the diagrams grew past their limit, the file could not be read or there was no memory.
+abbrev pub IsJudgedUnlessLimited : Report → Type 0
+IsJudgedUnlessLimited report = IsVerdict report ⊎ (IsNodesReport report ⊎ ((report ≡ ReadFault) ⊎ (report ≡ Memory)))
 
 -- The report is this one, unless the diagrams grew past their limit, a file could not be read or there was no memory.
 abbrev pub IsUnlessLimited : Report → Report → Type 0

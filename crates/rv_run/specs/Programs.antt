@@ -79,6 +79,10 @@ HasProbe program node = (f : Flat) × IsFlatOf program node f × HasFalsifyingPr
 abbrev pub LacksProbe : ProgramTree → Identifier → Type 0
 LacksProbe program node = (f : Flat) × IsFlatOf program node f × (¬ HasFalsifyingProbe program node f)
 
+-- Any program.
+abbrev pub IsProgram : ProgramTree → Identifier → Type 0
+IsProgram program node = Unit {0}
+
 -- With integers, no closed box claim and no closed row claim is good, and no probe falsifies.
 abbrev pub IsUndecided : ProgramTree → Identifier → Type 0
 IsUndecided program node = HasIntegers program node × LacksGoodClaim program node × LacksProbe program node

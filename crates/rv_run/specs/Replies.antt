@@ -11,10 +11,10 @@ use Rattle.rv_run.specs.Words.{Wanted}
 use Rattle.rv_run.specs.declared.words.Task.{Task}
 use Rattle.rv_run.specs.declared.report.Report.{Report}
 use Rattle.rv_run.specs.declared.report.Report.TheVariants.{Safe, Violated, Unknown, Nodes, Accepted, Made, Toured, Refused, TooLong, Memory}
-use Rattle.rv_run.specs.Answers.{OnFile, OnDocument, OnSource, IsTold, IsToldDocument, IsVerdict, IsNodesReport, IsTouredReport, IsUnlessCutOff, IsUnknownUnlessLimited, IsSafeUnlessCutOff, IsViolatedUnlessCutOff, IsViolatedUnlessUnread, IsRefusalUnlessCutOff}
+use Rattle.rv_run.specs.Answers.{OnFile, OnDocument, OnSource, IsTold, IsToldDocument, IsVerdict, IsNodesReport, IsTouredReport, IsUnlessCutOff, IsJudgedUnlessLimited, IsSafeUnlessCutOff, IsViolatedUnlessCutOff, IsViolatedUnlessUnread, IsRefusalUnlessCutOff}
 use Rattle.rv_run.specs.Checked.{IsDocumentAnswer, IsReportOf, IsUnlessCut, SaysOf}
 use Rattle.rv_fixpoint.specs.declared.end.Left.{Left}
-use Rattle.rv_run.specs.Programs.{OnProgram, WithRuns, HasGoodClaim, IsSafeControl, IsUnsafeControl, HasManyVariables, HasProbe, LacksProbe, IsCertified, IsUndecided, IsUnknown, IsRefusedFor}
+use Rattle.rv_run.specs.Programs.{OnProgram, WithRuns, HasGoodClaim, IsSafeControl, IsUnsafeControl, HasManyVariables, HasProbe, LacksProbe, IsCertified, IsProgram, IsUnknown, IsRefusedFor}
 use Rattle.rv_run.specs.Traced.{IsLongDocument, OnAccepted, file_limit}
 use Rattle.rv_run.specs.Verdicts.{IsDocumentOf, IsInvariantOf, IsViolated}
 
@@ -23,7 +23,6 @@ use Rattle.rv_run.specs.Verdicts.{IsDocumentOf, IsInvariantOf, IsViolated}
 pub record Replies (held : Option Shelf) (w : Wanted) (report : Report) (document : List ℕ) : Type 0 where
   pub safe : (c : Certificate) → report ≡ Safe c → OnFile held w (OnProgram (WithRuns IsSafe))
   pub certified : (c : Certificate) → report ≡ Safe c → OnFile held w (OnProgram (IsCertified c))
-  pub claimed : (c : Certificate) → report ≡ Safe c → OnFile held w (OnProgram HasGoodClaim)
   pub invariant : (c : Certificate) → report ≡ Safe c → OnFile held w (OnProgram (IsInvariantOf c document))
   pub violated : (t : Trace) → report ≡ Violated t → OnFile held w (OnProgram (WithRuns (IsViolated w.nodes t)))
   pub document_of : (t : Trace) → report ≡ Violated t → OnFile held w (OnProgram (IsDocumentOf t document))
@@ -45,7 +44,7 @@ pub record Replies (held : Option Shelf) (w : Wanted) (report : Report) (documen
   pub only_violated : w.beside ≡ None → IsTold held w (λ bytes node. (length bytes ≤ source_limit) × OnProgram IsUnsafeControl bytes node) → IsViolatedUnlessCutOff report
   pub only_probed : w.beside ≡ None → IsTold held w (λ bytes node. (length bytes ≤ source_limit) × OnProgram HasProbe bytes node) → IsViolatedUnlessUnread report
   pub only_claimed : w.beside ≡ None → IsTold held w (λ bytes node. (length bytes ≤ source_limit) × OnProgram HasGoodClaim bytes node) → IsSafeUnlessCutOff report
-  pub only_unknown : w.beside ≡ None → IsTold held w (λ bytes node. (length bytes ≤ source_limit) × OnProgram IsUndecided bytes node) → IsUnknownUnlessLimited report
+  pub only_judged : w.beside ≡ None → IsTold held w (λ bytes node. (length bytes ≤ source_limit) × OnProgram IsProgram bytes node) → IsJudgedUnlessLimited report
   pub only_told : (task : Task) (x : Report) → IsToldDocument held w task (OnAccepted (SaysOf task x)) → IsUnlessCut task x report
   pub only_refused : (fault : SourceFault) → IsTold held w (λ bytes node. (length bytes ≤ source_limit) × IsRefusedFor fault bytes node) → IsRefusalUnlessCutOff fault report
   pub only_too_long : IsTold held w (λ bytes node. source_limit < length bytes) → IsUnlessCutOff (TooLong (source_limit + 1)) report

@@ -19,7 +19,7 @@ use Rattle.rv_invariant.specs.Certificates.{certificate_records, certificate_rul
 use Rattle.rv_proofs.specs.declared.certificate.Certificate.{Certificate}
 use Rattle.rv_falsify.specs.Falsifying.{IsFalsifying, IsShortest}
 use Rattle.rv_probe.specs.Probes.{FalsifiesAt, cut, probe_of}
-use Rattle.rv_run.specs.Programs.{IsCertified, HasGoodClaim, HasIntegers, HasManyVariables, IsUnknown, LacksGoodClaim}
+use Rattle.rv_run.specs.Programs.{IsCertified, HasIntegers, HasManyVariables, IsUnknown, LacksGoodClaim, LacksProbe}
 use Rattle.rv_run.specs.declared.report.Report.{Report}
 use Rattle.rv_run.specs.declared.report.Report.TheVariants as report
 use Rattle.rv_run.specs.declared.verdict.Verdict.{Verdict}
@@ -46,10 +46,11 @@ IsProbe t program main = (f : Flat) × IsFlatOf program main f
     × ((b : Bool) × (c : ℤ) × (k : ℕ) × FalsifiesAt program main f b c k × (t ≡ cut k (probe_of f b c)))
 
 -- Where a trace that falsifies comes from. It is a shortest one of a program without integers; or it is a probe, of a program that has
--- integers, or many diagram variables for so many nodes.
+-- integers, or many diagram variables for so many nodes; or the program has integers, and no probe falsifies it.
 abbrev pub HasOrigin : ℕ → Trace → ProgramTree → Identifier → Type 0
 HasOrigin nodes t program main = (IsControl program main × IsShortest program main t)
-    ⊎ (IsProbe t program main × (HasIntegers program main ⊎ HasManyVariables nodes program main))
+    ⊎ ((IsProbe t program main × (HasIntegers program main ⊎ HasManyVariables nodes program main))
+    ⊎ (HasIntegers program main × LacksProbe program main))
 
 -- Falsified by the trace at its last instant, where diagrams may have so many nodes.
 pub record IsViolated (nodes : ℕ) (t : Trace) (program : ProgramTree) (main : Identifier) : Type 0 where
@@ -65,7 +66,7 @@ IsTraced t program main (Undecided l) = ⊥
 -- The verdict is right of the program, where diagrams may have so many nodes.
 abbrev pub IsVerdictOf : ℕ → Verdict → ProgramTree → Identifier → Type 0
 IsVerdictOf nodes (Safe c text) program main =
-    IsSafe program main × HasGoodClaim program main × IsCertified c program main × IsInvariantOf c text.items program main
+    IsSafe program main × IsCertified c program main × IsInvariantOf c text.items program main
 IsVerdictOf nodes (Violated t text) program main = IsViolated nodes t program main × IsDocumentOf t text.items program main × LacksGoodClaim program main
 IsVerdictOf nodes (Undecided l) program main = IsUnknown l program main
 

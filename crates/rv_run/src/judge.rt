@@ -1,5 +1,5 @@
 //! How sources are judged: by probes, and by the least closed box claims of their flat systems, which for those without integers are the
-//! control states that are reached; those with integers by the least closed row claims, too.
+//! control states that are reached; those with integers by row claims and polyhedra, too, and by a search for traces.
 
 ghost use Rattle.std.specs.Prelude.{◌≡◌, ◌<◌, ◌≤◌, ◌^◌, ℕ, false, length, IsTrue, IfOk, IsErrOf, ◌↔◌, Some, slice_get};
 ghost use Rattle.std.specs.Int.RustNames.{unsigned_abs};
@@ -14,6 +14,7 @@ ghost use Rattle.rv_invariant.specs.Certificates.{IsWithoutLoops};
 ghost use Rattle.rv_meaning.specs.Integers.{IsControl};
 ghost use Rattle.rv_diagram.specs.declared.frozen.Frozen.{Frozen};
 ghost use Rattle.rv_proofs.specs.Accepted.{IsAccepted};
+ghost use Rattle.rv_proofs.specs.Left.{IsLeftPartition};
 ghost use Rattle.rv_proofs.specs.Ranges.{IsControlSet};
 ghost use Rattle.rv_proofs.specs.Boxes.{HasGoodBox};
 ghost use Rattle.rv_proofs.specs.Reached.{HasNoIntegers};
@@ -33,7 +34,7 @@ use rv_box::box_pass;
 use rv_control::{control_is_a_system, runs_are_abstract};
 use rv_diagram::StoreFault;
 use rv_falsify::find;
-use rv_fixpoint::{End, Options, analyse};
+use rv_fixpoint::{End, Left, Options, analyse};
 use rv_flat::{Bit, Flat};
 use rv_flatten::flatten;
 use rv_instances::Source;
@@ -49,8 +50,8 @@ use std::alloc::Global;
 
 /// The verdict on a source. A probe that falsifies it is asked for first, before any diagram is made. A source without integers has a
 /// certificate and its document where it is safe, and else a shortest trace that falsifies it with its document, or the probe where its
-/// diagrams would have more nodes than they may. One with integers has the probe where there is one, else a certificate where some
-/// closed box claim or row claim is good, and else is Undecided. Nodes comes only where no probe falsifies, and the source has many diagram variables
+/// diagrams would have more nodes than they may. One with integers has the probe where there is one, else a certificate wherever some
+/// closed box claim or row claim is good, and else a certificate, a trace or what is left, as they are found. Nodes comes only where no probe falsifies, and the source has many diagram variables
 /// for the number of nodes that the diagrams may have. Names are letters, digits and `_`, and literals and constants at most 2^40 + 1, as in the tree of each text.
 pub fn judge(alloc: Global, source: &Source, nodes: u32) -> Result<Verdict, StoreFault>
     requires limit { nodes ≤ 33554432 }
@@ -173,7 +174,6 @@ fn safe(
     requires fits { Fits (program_tree source.now.program) source.now.typed source.now.order }
     requires plain { HasPlainNames (program_tree source.now.program) }
     requires known { IsKnown (program_tree source.now.program) (name_at (program_tree source.now.program) source.now.typed.main) flat.now }
-    requires claim { HasGood (control_of flat.now) flat.now.thresholds }
     requires accepted { IsAccepted (control_of flat.now) certificate }
     requires loops { IsWithoutLoops certificate }
     ensures judged { (nodes : ℕ) → IfOk result (λ v. IsVerdictOf nodes v (program_tree source.now.program) (name_at (program_tree source.now.program) source.now.typed.main)) }
@@ -217,8 +217,36 @@ fn not_good(
     let flat = reading.flat();
     match end {
         End::Proved(certificate) => safe(alloc, source, flat, certificate),
-        End::Left(left) => Ok(Verdict::Undecided(left)),
+        End::Left(left) => searched(alloc, source, reading, layers, left),
     }
+}
+
+/// The verdict on a source with integers that the analysis leaves: a trace, where the search for one finds it, and else what is left.
+fn searched(
+    alloc: Global,
+    source: &Source,
+    reading: &mut Reading,
+    layers: &Layers,
+    left: Left,
+) -> Result<Verdict, StoreFault>
+    requires fits { Fits (program_tree source.now.program) source.now.typed source.now.order }
+    requires plain { HasPlainNames (program_tree source.now.program) }
+    requires read { IsRead reading.old }
+    requires known { IsKnown (program_tree source.now.program) (name_at (program_tree source.now.program) source.now.typed.main) (flat_of reading.old) }
+    requires integers { IsControlSystem (flat_of reading.old) → ⊥ }
+    requires lacks { HasGood (system_read reading.old) (flat_of reading.old).thresholds → ⊥ }
+    requires unprobed { HasFalsifyingProbe (program_tree source.now.program) (name_at (program_tree source.now.program) source.now.typed.main) (flat_of reading.old) → ⊥ }
+    requires left { IsLeftPartition (system_read reading.old) left.partition left.left }
+    requires sets { (t : ℕ) (set : Frozen) → slice_get layers.now.sets t ≡ Some set → IsControlSet (system_read reading.old) set }
+    ensures judged { (nodes : ℕ) → IfOk result (λ v. IsVerdictOf nodes v (program_tree source.now.program) (name_at (program_tree source.now.program) source.now.typed.main)) }
+    ensures wide { IsErrOf result StoreFault.Nodes → (diagrams_of reading.old).limit < 2 ^ (2 ^ (diagrams_of reading.old).variables) }
+{
+    let found = find(alloc, reading, source, layers)?;
+    let Some(trace) = found else {
+        return Ok(Verdict::Undecided(left));
+    };
+    let flat = reading.flat();
+    with_trace(alloc, source, flat, trace)
 }
 
 /// The verdict on a source without integers whose layers have a false observer.

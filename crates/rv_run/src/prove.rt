@@ -5,9 +5,9 @@ ghost use Rattle.rv_base.specs.declared.value.Trace.{Trace as TraceModel};
 ghost use Rattle.rv_source.specs.declared.fault.SourceFault.{SourceFault as FaultModel};
 ghost use Rattle.rv_meaning.specs.Runs.{IsSafe};
 ghost use Rattle.rv_proofs.specs.declared.certificate.Certificate.{Certificate as CertificateModel};
-ghost use Rattle.rv_run.specs.Answers.{IsOnSource, IsSafeUnlessCutOff, IsUnknownUnlessLimited, IsViolatedUnlessCutOff, IsViolatedUnlessUnread, IsRefusalUnlessCutOff};
+ghost use Rattle.rv_run.specs.Answers.{IsOnSource, IsSafeUnlessCutOff, IsJudgedUnlessLimited, IsViolatedUnlessCutOff, IsViolatedUnlessUnread, IsRefusalUnlessCutOff};
 ghost use Rattle.rv_fixpoint.specs.declared.end.Left.{Left};
-ghost use Rattle.rv_run.specs.Programs.{OnProgram, WithRuns, IsSafeControl, IsUnsafeControl, IsCertified, HasGoodClaim, HasManyVariables, HasProbe, LacksProbe, IsUndecided, IsUnknown, IsRefusedFor};
+ghost use Rattle.rv_run.specs.Programs.{OnProgram, WithRuns, IsSafeControl, IsUnsafeControl, IsCertified, HasGoodClaim, HasManyVariables, HasProbe, LacksProbe, IsProgram, IsUnknown, IsRefusedFor};
 ghost use Rattle.rv_run.specs.Refusals.{refusal_of};
 ghost use Rattle.rv_run.specs.Verdicts.{IsDocumentOf, IsInvariantOf, IsViolated, verdict_document, verdict_report};
 
@@ -33,7 +33,6 @@ pub fn report_on_source(alloc: Global, bytes: &[u8], node: &str, nodes: u32) -> 
     requires limit { nodes ≤ 33554432 }
     ensures safe { (c : CertificateModel) → result.report ≡ Report.Safe c → OnProgram (WithRuns IsSafe) bytes.now node.now }
     ensures certified { (c : CertificateModel) → result.report ≡ Report.Safe c → OnProgram (IsCertified c) bytes.now node.now }
-    ensures claimed { (c : CertificateModel) → result.report ≡ Report.Safe c → OnProgram HasGoodClaim bytes.now node.now }
     ensures invariant { (c : CertificateModel) → result.report ≡ Report.Safe c → OnProgram (IsInvariantOf c result.document.items) bytes.now node.now }
     ensures violated { (t : TraceModel) → result.report ≡ Report.Violated t → OnProgram (WithRuns (IsViolated nodes t)) bytes.now node.now }
     ensures document { (t : TraceModel) → result.report ≡ Report.Violated t → OnProgram (IsDocumentOf t result.document.items) bytes.now node.now }
@@ -46,7 +45,7 @@ pub fn report_on_source(alloc: Global, bytes: &[u8], node: &str, nodes: u32) -> 
     ensures only_violated { OnProgram IsUnsafeControl bytes.now node.now → IsViolatedUnlessCutOff result.report }
     ensures only_probed { OnProgram HasProbe bytes.now node.now → IsViolatedUnlessUnread result.report }
     ensures only_claimed { OnProgram HasGoodClaim bytes.now node.now → IsSafeUnlessCutOff result.report }
-    ensures only_unknown { OnProgram IsUndecided bytes.now node.now → IsUnknownUnlessLimited result.report }
+    ensures only_judged { OnProgram IsProgram bytes.now node.now → IsJudgedUnlessLimited result.report }
     ensures only_refused { (fault : FaultModel) → IsRefusedFor fault bytes.now node.now → IsRefusalUnlessCutOff fault result.report }
 {
     one_tree();

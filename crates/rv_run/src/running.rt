@@ -16,10 +16,10 @@ ghost use Rattle.rv_words.specs.Words.{texts, command};
 ghost use Rattle.rv_run.specs.Words.{IsNamed, wanted, wanted_on_file};
 ghost use Rattle.rv_run.specs.Replies.{Replies};
 ghost use Rattle.rv_make.specs.Made.{made_text};
-ghost use Rattle.rv_run.specs.Answers.{OnFile, OnDocument, OnSource, Tells, IsTold, IsToldDocument, IsVerdict, IsNodesReport, IsTouredReport, IsShown, IsUnlessCutOff, IsUnknownUnlessLimited, IsUnlessLimited, IsSafeUnlessCutOff, IsViolatedUnlessCutOff, IsViolatedUnlessUnread, IsRefusalUnlessCutOff};
+ghost use Rattle.rv_run.specs.Answers.{OnFile, OnDocument, OnSource, Tells, IsTold, IsToldDocument, IsVerdict, IsNodesReport, IsTouredReport, IsShown, IsUnlessCutOff, IsJudgedUnlessLimited, IsUnlessLimited, IsSafeUnlessCutOff, IsViolatedUnlessCutOff, IsViolatedUnlessUnread, IsRefusalUnlessCutOff};
 ghost use Rattle.rv_run.specs.Checked.{HasAccepted, HasRejected, IsAnswerOf, IsDocumentAnswer, IsDocumentReport, IsInvariantFault, IsReportOf, IsUnlessCut, IsUnlessLimit, SaysOf};
 ghost use Rattle.rv_fixpoint.specs.declared.end.Left.{Left};
-ghost use Rattle.rv_run.specs.Programs.{OnProgram, WithRuns, HasGoodClaim, IsSafeControl, IsUnsafeControl, HasManyVariables, HasProbe, LacksProbe, IsCertified, IsUndecided, IsUnknown, IsRefusedFor};
+ghost use Rattle.rv_run.specs.Programs.{OnProgram, WithRuns, HasGoodClaim, IsSafeControl, IsUnsafeControl, HasManyVariables, HasProbe, LacksProbe, IsCertified, IsProgram, IsUnknown, IsRefusedFor};
 ghost use Rattle.rv_run.specs.Traced.{IsFileFault, IsLongDocument, IsUnlessNoMemory, OnAccepted, OnTrace};
 ghost use Rattle.rv_run.specs.Printed.{is_documented, shown_of, status_of};
 ghost use Rattle.rv_run.specs.Verdicts.{HasOrigin};
@@ -253,7 +253,6 @@ pub fn run<F: Files, S: Sink>(
     requires { (name : List ℕ) → IsNamed (wanted (texts words.now.items)) name → IsTrue (F.serves files.old name) }
     ensures safe { (c : CertificateModel) → result.report ≡ Report.Safe c → OnFile (F.held files.old) (wanted (texts words.now.items)) (OnProgram (WithRuns IsSafe)) }
     ensures certified { (c : CertificateModel) → result.report ≡ Report.Safe c → OnFile (F.held files.old) (wanted (texts words.now.items)) (OnProgram (IsCertified c)) }
-    ensures claimed { (c : CertificateModel) → result.report ≡ Report.Safe c → OnFile (F.held files.old) (wanted (texts words.now.items)) (OnProgram HasGoodClaim) }
     ensures violated { (t : TraceModel) → result.report ≡ Report.Violated t
         → OnFile (F.held files.old) (wanted (texts words.now.items)) (OnProgram (WithRuns (λ program main. IsFalsifying program main t))) }
     ensures origin { (t : TraceModel) → result.report ≡ Report.Violated t
@@ -311,9 +310,9 @@ pub fn run<F: Files, S: Sink>(
     ensures only_claimed { (wanted (texts words.now.items)).beside ≡ None
         → IsTold (F.held files.old) (wanted (texts words.now.items)) (λ bytes node. (length bytes ≤ SOURCE_LIMIT) × OnProgram HasGoodClaim bytes node)
         → IsSafeUnlessCutOff result.report }
-    ensures only_unknown { (wanted (texts words.now.items)).beside ≡ None
-        → IsTold (F.held files.old) (wanted (texts words.now.items)) (λ bytes node. (length bytes ≤ SOURCE_LIMIT) × OnProgram IsUndecided bytes node)
-        → IsUnknownUnlessLimited result.report }
+    ensures only_judged { (wanted (texts words.now.items)).beside ≡ None
+        → IsTold (F.held files.old) (wanted (texts words.now.items)) (λ bytes node. (length bytes ≤ SOURCE_LIMIT) × OnProgram IsProgram bytes node)
+        → IsJudgedUnlessLimited result.report }
     ensures only_falsified { (k : ℕ) → IsToldDocument (F.held files.old) (wanted (texts words.now.items)) tasks.Replay (OnAccepted (OnTrace (λ p m t. IsFalsifiedAt p m t k)))
         → IsUnlessCutOff (Report.Falsified k) result.report }
     ensures only_fails { (k : ℕ) (at : PlaceModel) → IsToldDocument (F.held files.old) (wanted (texts words.now.items)) tasks.Replay (OnAccepted (OnTrace (λ p m t. FailsAt p m t k at)))

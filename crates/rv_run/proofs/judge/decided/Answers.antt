@@ -1,4 +1,4 @@
-use Rattle.std.proofs.Common.{◌≡◌, ℕ, Ok, Some, slice_get, ℤ, inl, ap, sym, subst, ◌≤◌, ◌^◌}
+use Rattle.std.proofs.Common.{◌≡◌, ℕ, Ok, Some, slice_get, ℤ, ap, sym, subst, ◌≤◌, ◌^◌}
 use Rattle.std.specs.Int.RustNames.{unsigned_abs}
 use Rattle.std.specs.List.{All}
 use Rattle.rv_tree.specs.Tree.{program_tree}
@@ -21,11 +21,6 @@ use Rattle.rv_run.proofs.judge.decided.Goals as goal
 pub box_pass-requires-clause-thresholds : goal.box_pass-requires-clause-thresholds
 box_pass-requires-clause-thresholds c =
     subst (λ (f : Flat). All (λ (t : ℤ). unsigned_abs t ≤ 2 ^ 41) f.thresholds) (sym c.in_ok-reading.ensures.flat) c.requires.thresholds
-
-pub safe-requires-clause-claim : goal.safe-requires-clause-claim
-safe-requires-clause-claim c =
-    inl (subst (λ (f : Flat). HasGoodBox (control_of f) f.thresholds) c.in_ok-reading.ensures.flat
-    (c.in_ok-certificate.ensures.exactly.0 (subst IsGoodEnd (sym c.in-Good.is) tt)))
 
 pub safe-requires-clause-accepted : goal.safe-requires-clause-accepted
 safe-requires-clause-accepted c =

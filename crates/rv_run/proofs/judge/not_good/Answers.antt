@@ -1,4 +1,5 @@
-use Rattle.std.proofs.Common.{Ok, inr, true≢false, ap, sym, ◌∙◌, subst}
+use Rattle.std.proofs.Common.{◌≡◌, ℕ, Ok, Some, slice_get, true≢false, ap, sym, ◌∙◌, subst}
+use Rattle.std.specs.Prelude.{IfOk}
 use Rattle.rv_tree.specs.Tree.{program_tree}
 use Rattle.rv_types.specs.Instances.{name_at}
 use Rattle.rv_flat.specs.declared.flat.Flat.{Flat}
@@ -6,7 +7,11 @@ use Rattle.rv_control.specs.Control.{control_of}
 use Rattle.rv_proofs.specs.Reached.{HasNoIntegers}
 use Rattle.rv_reading.specs.Read.{flat_of}
 use Rattle.rv_proofs.specs.Accepted.{IsAccepted}
+use Rattle.rv_diagram.specs.declared.frozen.Frozen.{Frozen}
+use Rattle.rv_proofs.specs.Left.{IsLeftPartition}
+use Rattle.rv_proofs.specs.Ranges.{IsControlSet}
 use Rattle.rv_proofs.specs.RowClaims.{HasGoodRows}
+use Rattle.rv_probe.specs.Probes.{HasFalsifyingProbe}
 use Rattle.rv_reading.specs.declared.reading.Reading.{Reading}
 use Rattle.rv_fixpoint.specs.Ends.{IsProved}
 use Rattle.rv_run.specs.Judged.{IsControlSystem, IsKnown}
@@ -40,11 +45,6 @@ safe-requires-clause-known c =
     let p = program_tree c.args.source.now.program in
     subst (IsKnown p (name_at p c.args.source.now.typed.main)) (sym (c.flat-flat-2.ensures ∙ ap (λ (r : Reading). flat_of r) c.in_ok-end.ensures.same)) c.requires.known
 
-pub safe-requires-clause-claim : goal.safe-requires-clause-claim
-safe-requires-clause-claim c =
-    subst (λ (f : Flat). HasGood (control_of f) f.thresholds) (sym (c.flat-flat-2.ensures ∙ ap (λ (r : Reading). flat_of r) c.in_ok-end.ensures.same))
-    (inr (c.in_ok-end.ensures.exactly.0 (subst IsProved (sym c.in-Proved.is) tt)))
-
 pub safe-requires-clause-accepted : goal.safe-requires-clause-accepted
 safe-requires-clause-accepted c =
     subst (λ (f : Flat). IsAccepted (control_of f) c.in-Proved.certificate) (sym (c.flat-flat-2.ensures ∙ ap (λ (r : Reading). flat_of r) c.in_ok-end.ensures.same))
@@ -59,18 +59,36 @@ returns-in-Proved-clause-judged c = c.safe.ensures.judged
 pub returns-in-Proved-clause-wide : goal.returns-in-Proved-clause-wide
 returns-in-Proved-clause-wide c = λ nodes. absurd (c.safe.ensures.memory nodes)
 
-pub returns-in-Left-clause-judged : goal.returns-in-Left-clause-judged
-returns-in-Left-clause-judged c = λ nodes.
+pub searched-requires-clause-known : goal.searched-requires-clause-known
+searched-requires-clause-known c =
     let p = program_tree c.args.source.now.program in
-    let main = name_at p c.args.source.now.typed.main in
-    let known = c.requires.known in
+    subst (λ (r : Reading). IsKnown p (name_at p c.args.source.now.typed.main) (flat_of r)) (sym c.in_ok-end.ensures.same) c.requires.known
+
+pub searched-requires-clause-integers : goal.searched-requires-clause-integers
+searched-requires-clause-integers c =
+    subst (λ (r : Reading). IsControlSystem (flat_of r) → ⊥) (sym c.in_ok-end.ensures.same)
+    (λ control. true≢false (sym (c.is_control.ensures.1 (subst IsControlSystem (sym c.flat-flat.ensures) control)) ∙ c.if-is_control.false))
+
+pub searched-requires-clause-lacks : goal.searched-requires-clause-lacks
+searched-requires-clause-lacks c =
     let f = flat_of c.args.reading.now in
-    let integers : IsControlSystem f → ⊥ = λ control. true≢false (sym (c.is_control.ensures.1 (subst IsControlSystem (sym c.flat-flat.ensures) control)) ∙ c.if-is_control.false) in
-    let rows : HasGoodRows (control_of f) f.thresholds → ⊥ = λ has. subst IsProved c.in-Left.is (c.in_ok-end.ensures.exactly.1 has) in (
-      (
-        λ control. integers (control_system p main f known.flat known.well known.named control),
-        (f, known.flat, lacks_both (control_of f) f.thresholds c.requires.lacks rows),
-        (f, known.flat, λ has. integers (c.requires.unprobed has)),
-      ),
-      (f, known.flat, c.in_ok-end.ensures.left c.in-Left.left (ap Ok c.in-Left.is)),
-    )
+    let rows : HasGoodRows (control_of f) f.thresholds → ⊥ = λ has. subst (λ r. IfOk r IsProved) (c.in_ok-end.was ∙ ap Ok c.in-Left.is) (c.in_ok-end.ensures.claims has) in
+    subst (λ (r : Reading). HasGood (control_of (flat_of r)) (flat_of r).thresholds → ⊥) (sym c.in_ok-end.ensures.same) (lacks_both (control_of f) f.thresholds c.requires.lacks rows)
+
+pub searched-requires-clause-unprobed : goal.searched-requires-clause-unprobed
+searched-requires-clause-unprobed c =
+    let p = program_tree c.args.source.now.program in
+    subst (λ (r : Reading). HasFalsifyingProbe p (name_at p c.args.source.now.typed.main) (flat_of r) → ⊥) (sym c.in_ok-end.ensures.same)
+    (λ has. true≢false (sym (c.is_control.ensures.1 (subst IsControlSystem (sym c.flat-flat.ensures) (c.requires.unprobed has))) ∙ c.if-is_control.false))
+
+pub searched-requires-clause-left : goal.searched-requires-clause-left
+searched-requires-clause-left c =
+    subst (λ (r : Reading). IsLeftPartition (control_of (flat_of r)) c.in-Left.left.partition c.in-Left.left.left) (sym c.in_ok-end.ensures.same)
+    (c.in_ok-end.ensures.left c.in-Left.left (ap Ok c.in-Left.is))
+
+pub searched-requires-clause-sets : goal.searched-requires-clause-sets
+searched-requires-clause-sets c =
+    subst (λ (r : Reading). (t : ℕ) (set : Frozen) → slice_get c.args.layers.now.sets t ≡ Some set → IsControlSet (control_of (flat_of r)) set) (sym c.in_ok-end.ensures.same) c.requires.sets
+
+pub returns-in-Left-clause-judged : goal.returns-in-Left-clause-judged
+returns-in-Left-clause-judged c = c.searched.ensures.judged

@@ -33,6 +33,6 @@ returns-clause-judged c =
     traced-verdict c.args.nodes p main c.args.trace
     (record {
       falsifying = c.requires.falsifying;
-      origin = inr (c.requires.probe, inl (λ control. true≢false (sym (c.is_control.ensures.1 (control_system p main f known.flat known.well known.named control)) ∙ c.if-is_control.false)));
+      origin = inr (inl (c.requires.probe, inl (λ control. true≢false (sym (c.is_control.ensures.1 (control_system p main f known.flat known.well known.named control)) ∙ c.if-is_control.false))));
     })
     (f, known.flat, lacks) c.with_trace.result c.with_trace.ensures.traced

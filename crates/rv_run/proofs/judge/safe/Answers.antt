@@ -20,7 +20,6 @@ returns-clause-judged c = λ nodes.
     let f = c.args.flat.now in
     let found = c.args.certificate in (
       c.requires.known.safe (c.certificates_are_safe.ensures.safe (control_of f) found c.requires.accepted),
-      (f, c.requires.known.flat, c.requires.claim),
       (f, c.requires.known.flat, c.requires.accepted),
       record {
         system = f;

@@ -1,4 +1,4 @@
-use Rattle.std.proofs.Common.{ℕ, ◌<◌, ◌^◌, ◌∙◌, ap, inr, subst}
+use Rattle.std.proofs.Common.{ℕ, ◌<◌, ◌^◌, ◌∙◌, ap, inl, inr, subst}
 use Rattle.std.specs.Prelude.{Err, Result}
 use Rattle.rv_diagram.specs.declared.store.StoreFault.{StoreFault}
 use Rattle.rv_tree.specs.Tree.{program_tree}
@@ -16,6 +16,6 @@ returns-in-Err-Nodes-clause-judged c =
     traced-verdict c.args.nodes p main c.args.trace
     (record {
       falsifying = c.requires.falsifying;
-      origin = inr (c.requires.probe, inr (subst (λ (n : ℕ). c.args.nodes < 2 ^ (2 ^ n)) known.flat.counted (c.decided.ensures.wide (c.in-Err-Nodes.is ∙ ap (λ (e : StoreFault). (let r : Result Verdict StoreFault = Err e in r)) c.in-Err-Nodes.field-0-is))));
+      origin = inr (inl (c.requires.probe, inr (subst (λ (n : ℕ). c.args.nodes < 2 ^ (2 ^ n)) known.flat.counted (c.decided.ensures.wide (c.in-Err-Nodes.is ∙ ap (λ (e : StoreFault). (let r : Result Verdict StoreFault = Err e in r)) c.in-Err-Nodes.field-0-is)))));
     })
     (c.args.flat.now, known.flat, c.requires.lacks) c.with_trace.result c.with_trace.ensures.traced

@@ -20,7 +20,6 @@ find-requires c = record {
   read = c.requires.read;
   fits = c.requires.fits;
   flat = c.requires.known.flat;
-  control = c.requires.control;
   sets = λ t set is. (c.requires.bad.layers.each t set is).control;
 }
 
@@ -32,8 +31,8 @@ with_trace-requires-clause-known c =
 pub with_trace-requires-clause-trace : goal.with_trace-requires-clause-trace
 with_trace-requires-clause-trace c = (c.in_ok-found.ensures.falsifies c.in-Some.trace (ap Ok c.in-Some.is)).trace
 
-pub returns-in_default-clause-judged : goal.returns-in_default-clause-judged
-returns-in_default-clause-judged c = λ nodes. absurd (c.in_ok-found.ensures.found c.requires.bad (none_of c.in_ok-found.found c.in_default.not-Some))
+pub unreachable-requires : goal.unreachable-requires
+unreachable-requires c = c.in_ok-found.ensures.found c.requires.control c.requires.bad (none_of c.in_ok-found.found c.in_default.not-Some)
 
 pub returns-clause-judged : goal.returns-clause-judged
 returns-clause-judged c = λ nodes.
@@ -50,7 +49,7 @@ returns-clause-judged c = λ nodes.
     traced-verdict nodes p main t
     (record {
       falsifying = falsifies;
-      origin = inl (c.requires.program_control, c.in_ok-found.ensures.shortest t c.requires.bad (ap Ok c.in-Some.is));
+      origin = inl (c.requires.program_control, c.in_ok-found.ensures.shortest t c.requires.control c.requires.bad (ap Ok c.in-Some.is));
     })
     (f, known.flat, lacks) c.with_trace.result c.with_trace.ensures.traced
 

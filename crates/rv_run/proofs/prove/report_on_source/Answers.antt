@@ -4,8 +4,8 @@ use Rattle.rv_tree.specs.Places.{Identifier}
 use Rattle.rv_types.specs.Instances.{name_at}
 use Rattle.rv_types.specs.Lists.{sites_of}
 use Rattle.rv_meaning.specs.Runs.{IsSafe}
-use Rattle.rv_run.specs.Answers.{IsOnSource, IsRefusalUnlessCutOff, IsSafeUnlessCutOff, IsUnknownUnlessLimited, IsViolatedUnlessCutOff, IsViolatedUnlessUnread}
-use Rattle.rv_run.specs.Programs.{OnProgram, WithRuns, HasGoodClaim, HasManyVariables, HasProbe, IsSafeControl, IsUnsafeControl, IsCertified, IsUndecided, IsUnknown, LacksGoodClaim, LacksProbe}
+use Rattle.rv_run.specs.Answers.{IsOnSource, IsRefusalUnlessCutOff, IsSafeUnlessCutOff, IsJudgedUnlessLimited, IsViolatedUnlessCutOff, IsViolatedUnlessUnread}
+use Rattle.rv_run.specs.Programs.{OnProgram, WithRuns, HasGoodClaim, HasManyVariables, HasProbe, IsSafeControl, IsUnsafeControl, IsCertified, IsProgram, IsUnknown, LacksGoodClaim, LacksProbe}
 use Rattle.rv_run.specs.Verdicts.{IsDocumentOf, IsInvariantOf, IsViolated}
 use Rattle.rv_run.specs.declared.report.Report.{Report}
 use Rattle.rv_tree.specs.SourceTrees.{IsSourceTree}
@@ -13,7 +13,7 @@ use Rattle.rv_types.specs.Settled.{IsSettled}
 use Rattle.rv_types.specs.WellFormed.{AreWell}
 use Rattle.rv_run.proofs.Claimed.{one_claim, one_probe}
 use Rattle.rv_run.proofs.Judging.{is_node, well, with_runs}
-use Rattle.rv_run.proofs.Judged.{verdict-on_source, verdict-not_refused, said_safe, said_violated, said_unknown, said_nodes, said_unprobed, must_claim, must_probe, must_safe, must_violated, must_unknown}
+use Rattle.rv_run.proofs.Judged.{verdict-on_source, verdict-not_refused, said_safe, said_violated, said_unknown, said_nodes, said_unprobed, must_claim, must_probe, must_safe, must_violated, must_judged}
 use Rattle.rv_run.proofs.Reported.{refusal-not_safe, refusal-not_violated, refusal-not_unknown, refusal-not_nodes, refusal-on_source, refusal-refused, refused_accepted, refused_same, named, told, told_back}
 use Rattle.rv_run.proofs.prove.report_on_source.Goals as goal
 
@@ -41,7 +41,6 @@ returns-in-Err c =
     record {
       safe = λ d h. absurd (refusal-not_safe fault d (sym is ∙ h));
       certified = λ d h. absurd (refusal-not_safe fault d (sym is ∙ h));
-      claimed = λ d h. absurd (refusal-not_safe fault d (sym is ∙ h));
       invariant = λ d h. absurd (refusal-not_safe fault d (sym is ∙ h));
       violated = λ t h. absurd (refusal-not_violated fault t (sym is ∙ h));
       document = λ t h. absurd (refusal-not_violated fault t (sym is ∙ h));
@@ -54,7 +53,7 @@ returns-in-Err c =
       only_violated = λ on. inr (inr (inr (is ∙ refused_accepted bytes node IsUnsafeControl fault c.in-Err.ensures.only on)));
       only_probed = λ on. inr (inr (is ∙ refused_accepted bytes node HasProbe fault c.in-Err.ensures.only on));
       only_claimed = λ on. inr (inr (inr (is ∙ refused_accepted bytes node HasGoodClaim fault c.in-Err.ensures.only on)));
-      only_unknown = λ on. inr (inr (inr (is ∙ refused_accepted bytes node IsUndecided fault c.in-Err.ensures.only on)));
+      only_judged = λ on. inr (inr (inr (is ∙ refused_accepted bytes node IsProgram fault c.in-Err.ensures.only on)));
       only_refused = λ found h. subst (IsRefusalUnlessCutOff found) (sym is) (refused_same bytes node fault found (c.in-Err.ensures.only_refused found h));
     }
 
@@ -83,10 +82,9 @@ returns-in-Ok c =
     let back : (P : ProgramTree → Identifier → Type 0) → OnProgram P bytes node → P p m = λ P on. subst (P p) (sym (named bytes node s source)) (told_back bytes node s source (c.one_tree.ensures bytes) P on) in
     record {
       safe = λ d h. told bytes node s source (WithRuns IsSafe) (runs IsSafe (said_safe c.args.nodes p m r d judged (sym is ∙ h)).0);
-      certified = λ d h. told bytes node s source (IsCertified d) (said_safe c.args.nodes p m r d judged (sym is ∙ h)).2;
-      claimed = λ d h. told bytes node s source HasGoodClaim (said_safe c.args.nodes p m r d judged (sym is ∙ h)).1;
+      certified = λ d h. told bytes node s source (IsCertified d) (said_safe c.args.nodes p m r d judged (sym is ∙ h)).1;
       invariant = λ d h. told bytes node s source (IsInvariantOf d c.on_verdict.result.document.items)
-          (subst (λ text. IsInvariantOf d text p m) (sym c.on_verdict.ensures.document) (said_safe c.args.nodes p m r d judged (sym is ∙ h)).3);
+          (subst (λ text. IsInvariantOf d text p m) (sym c.on_verdict.ensures.document) (said_safe c.args.nodes p m r d judged (sym is ∙ h)).2);
       violated = λ t h. told bytes node s source (WithRuns (IsViolated c.args.nodes t)) (runs (IsViolated c.args.nodes t) (said_violated c.args.nodes p m r t judged (sym is ∙ h)).0);
       document = λ t h. told bytes node s source (IsDocumentOf t c.on_verdict.result.document.items)
           (subst (λ text. IsDocumentOf t text p m) (sym c.on_verdict.ensures.document) (said_violated c.args.nodes p m r t judged (sym is ∙ h)).1);
@@ -99,6 +97,6 @@ returns-in-Ok c =
       only_violated = λ on. subst IsViolatedUnlessCutOff (sym is) (must_violated c.args.nodes p m r judged (back IsUnsafeControl on));
       only_probed = λ on. subst IsViolatedUnlessUnread (sym is) (must_probe c.args.nodes p m r probe c.judge.ensures.unprobed judged (back HasProbe on));
       only_claimed = λ on. subst IsSafeUnlessCutOff (sym is) (must_claim c.args.nodes p m r one judged (back HasGoodClaim on));
-      only_unknown = λ on. subst IsUnknownUnlessLimited (sym is) (must_unknown c.args.nodes p m r one probe judged (back IsUndecided on));
+      only_judged = λ on. subst IsJudgedUnlessLimited (sym is) (must_judged c.args.nodes r);
       only_refused = λ found h. absurd (c.in-Ok.ensures.only_refused found h);
     }

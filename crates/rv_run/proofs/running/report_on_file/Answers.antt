@@ -9,7 +9,7 @@ use Rattle.rv_run.specs.declared.words.Beside.{Beside}
 use Rattle.rv_run.specs.declared.report.Report.{Report}
 use Rattle.rv_run.specs.declared.report.Report.TheVariants.{Accepted, Made, Memory, Nodes, ReadFault, Toured, TooLong, Usage}
 use Rattle.rv_run.specs.Answers.{IsOnSource, IsTold, IsToldDocument, OnDocument, OnFile, Tells}
-use Rattle.rv_run.specs.Programs.{HasGoodClaim, HasManyVariables, HasProbe, LacksProbe, IsCertified, IsRefusedFor, IsSafeControl, IsUndecided, IsUnknown, IsUnsafeControl, OnProgram, WithRuns}
+use Rattle.rv_run.specs.Programs.{HasGoodClaim, HasManyVariables, HasProbe, LacksProbe, IsCertified, IsRefusedFor, IsSafeControl, IsProgram, IsUnknown, IsUnsafeControl, OnProgram, WithRuns}
 use Rattle.rv_run.specs.Checked.{IsReportOf, IsUnlessCut, SaysOf}
 use Rattle.rv_run.specs.Traced.{IsLongDocument, OnAccepted, file_limit}
 use Rattle.rv_run.specs.Verdicts.{IsDocumentOf, IsInvariantOf, IsViolated}
@@ -57,7 +57,6 @@ returns-in-None g c =
       replies = record {
         safe = λ d h. lift (OnProgram (WithRuns IsSafe)) (answer.safe d h);
         certified = λ d h. lift (OnProgram (IsCertified d)) (answer.certified d h);
-        claimed = λ d h. lift (OnProgram HasGoodClaim) (answer.claimed d h);
         invariant = λ d h. lift (OnProgram (IsInvariantOf d c.report_on_source.result.document.items)) (answer.invariant d h);
         violated = λ t h. lift (OnProgram (WithRuns (IsViolated c.args.command.nodes t))) (answer.violated t h);
         document_of = λ t h. lift (OnProgram (IsDocumentOf t c.report_on_source.result.document.items)) (answer.document t h);
@@ -74,7 +73,7 @@ returns-in-None g c =
         only_probed = λ alone told. answer.only_probed (back (λ bytes node. (length bytes ≤ source_limit) × OnProgram HasProbe bytes node) told).1;
         only_claimed = λ alone told. answer.only_claimed (back (λ bytes node. (length bytes ≤ source_limit) × OnProgram HasGoodClaim bytes node) told).1;
         only_violated = λ alone told. answer.only_violated (back (λ bytes node. (length bytes ≤ source_limit) × OnProgram IsUnsafeControl bytes node) told).1;
-        only_unknown = λ alone told. answer.only_unknown (back (λ bytes node. (length bytes ≤ source_limit) × OnProgram IsUndecided bytes node) told).1;
+        only_judged = λ alone told. answer.only_judged (back (λ bytes node. (length bytes ≤ source_limit) × OnProgram IsProgram bytes node) told).1;
         only_told = λ task x told. absurd (no_document held w task (OnAccepted (SaysOf task x)) none told);
         only_refused = λ fault told. answer.only_refused fault (back (λ bytes node. (length bytes ≤ source_limit) × IsRefusedFor fault bytes node) told).1;
         only_too_long = λ told. let over = back (λ bytes node. source_limit < length bytes) told in absurd (omega (arith, over, fits));
@@ -119,7 +118,6 @@ returns g c =
       replies = record {
         safe = λ d h. absurd (document-not_safe r d answer.only h);
         certified = λ d h. absurd (document-not_safe r d answer.only h);
-        claimed = λ d h. absurd (document-not_safe r d answer.only h);
         invariant = λ d h. absurd (document-not_safe r d answer.only h);
         violated = λ t h. absurd (document-not_violated r t answer.only h);
         document_of = λ t h. absurd (document-not_violated r t answer.only h);
@@ -144,7 +142,7 @@ returns g c =
         only_probed = λ alone told. absurd (some_none (other.task, other.file.now) (sym with_other ∙ alone));
         only_claimed = λ alone told. absurd (some_none (other.task, other.file.now) (sym with_other ∙ alone));
         only_violated = λ alone told. absurd (some_none (other.task, other.file.now) (sym with_other ∙ alone));
-        only_unknown = λ alone told. absurd (some_none (other.task, other.file.now) (sym with_other ∙ alone));
+        only_judged = λ alone told. absurd (some_none (other.task, other.file.now) (sym with_other ∙ alone));
         only_told = λ task x told. let all = attached (OnAccepted (SaysOf task x)) task told in
             subst (λ (t : Task). IsUnlessCut t x r) (sym all.0)
             (answer.only_told x told.document (subst (λ (h : Option Shelf). Tells h other.file.now told.document) (sym kept) all.1)

@@ -10,8 +10,8 @@ use Rattle.rv_run.specs.declared.words.Task.TheVariants.{Replay, Check}
 use Rattle.rv_meaning.specs.Runs.{IsSafe}
 use Rattle.rv_words.specs.Words.{texts, command}
 use Rattle.rv_run.specs.Words.{wanted}
-use Rattle.rv_run.specs.Answers.{IsTold, IsToldDocument, IsRefusalUnlessCutOff, IsUnlessCutOff, IsUnknownUnlessLimited, IsUnlessLimited, IsNodesReport, IsTouredReport, OnFile, OnDocument, OnSource, IsShown, IsSafeUnlessCutOff, IsViolatedUnlessCutOff, IsViolatedUnlessUnread}
-use Rattle.rv_run.specs.Programs.{HasGoodClaim, HasManyVariables, HasProbe, IsCertified, IsRefusedFor, IsSafeControl, IsUndecided, IsUnknown, LacksProbe, IsUnsafeControl, OnProgram, WithRuns}
+use Rattle.rv_run.specs.Answers.{IsTold, IsToldDocument, IsRefusalUnlessCutOff, IsUnlessCutOff, IsJudgedUnlessLimited, IsUnlessLimited, IsNodesReport, IsTouredReport, OnFile, OnDocument, OnSource, IsShown, IsSafeUnlessCutOff, IsViolatedUnlessCutOff, IsViolatedUnlessUnread}
+use Rattle.rv_run.specs.Programs.{HasGoodClaim, HasManyVariables, HasProbe, IsCertified, IsRefusedFor, IsSafeControl, IsProgram, IsUnknown, LacksProbe, IsUnsafeControl, OnProgram, WithRuns}
 use Rattle.rv_run.specs.Checked.{HasAccepted, HasRejected, IsInvariantFault}
 use Rattle.rv_run.specs.Traced.{IsFileFault, IsLongDocument, IsUnlessNoMemory, OnAccepted, OnTrace, file_limit}
 use Rattle.rv_falsify.specs.Falsifying.{IsFalsifying}
@@ -185,11 +185,11 @@ returns-clause-only_violated g c =
     (λ bytes node. (length bytes ≤ source_limit) × OnProgram IsUnsafeControl bytes node) → IsViolatedUnlessCutOff c.report_on-answer.result.report)
     c.as_slice.ensures.value c.report_on-answer.ensures.replies.only_violated
 
-pub returns-clause-only_unknown : goal.returns-clause-only_unknown
-returns-clause-only_unknown g c =
+pub returns-clause-only_judged : goal.returns-clause-only_judged
+returns-clause-only_judged g c =
     subst (λ (ws : List (String Global)). (wanted (texts ws)).beside ≡ None → IsTold (g.F.Files.held c.args.files.now) (wanted (texts ws))
-    (λ bytes node. (length bytes ≤ source_limit) × OnProgram IsUndecided bytes node) → IsUnknownUnlessLimited c.report_on-answer.result.report)
-    c.as_slice.ensures.value c.report_on-answer.ensures.replies.only_unknown
+    (λ bytes node. (length bytes ≤ source_limit) × OnProgram IsProgram bytes node) → IsJudgedUnlessLimited c.report_on-answer.result.report)
+    c.as_slice.ensures.value c.report_on-answer.ensures.replies.only_judged
 
 pub returns-clause-only_claimed : goal.returns-clause-only_claimed
 returns-clause-only_claimed g c =
@@ -206,11 +206,6 @@ pub returns-clause-certified : goal.returns-clause-certified
 returns-clause-certified g c = λ d h.
     subst (λ (ws : List (String Global)). OnFile (g.F.Files.held c.args.files.now) (wanted (texts ws)) (OnProgram (IsCertified d)))
     c.as_slice.ensures.value (c.report_on-answer.ensures.replies.certified d h)
-
-pub returns-clause-claimed : goal.returns-clause-claimed
-returns-clause-claimed g c = λ d h.
-    subst (λ (ws : List (String Global)). OnFile (g.F.Files.held c.args.files.now) (wanted (texts ws)) (OnProgram HasGoodClaim))
-    c.as_slice.ensures.value (c.report_on-answer.ensures.replies.claimed d h)
 
 pub returns-clause-unknown : goal.returns-clause-unknown
 returns-clause-unknown g c = λ l h.

@@ -1,0 +1,19 @@
+use Rattle.std.proofs.Common.{Ok, Some, ap, sym, ◌∙◌, subst}
+use Rattle.std.specs.Prelude.{IfSome}
+use Rattle.rv_tree.specs.Tree.{program_tree}
+use Rattle.rv_types.specs.Instances.{name_at}
+use Rattle.rv_flat.specs.declared.flat.Flat.{Flat}
+use Rattle.rv_flat.specs.FlatOf.{IsFlatOf}
+use Rattle.rv_reading.specs.declared.reading.Reading.{Reading}
+use Rattle.rv_reading.specs.Read.{flat_of}
+use Rattle.rv_falsify.proofs.finding.find_candidate.Goals as goal
+
+pub trace_with-requires-clause-program : goal.trace_with-requires-clause-program
+trace_with-requires-clause-program c =
+    let p = program_tree c.args.source.now.program in
+    (p, name_at p c.args.source.now.typed.main, subst (IsFlatOf p (name_at p c.args.source.now.typed.main)) (sym (c.flat-flat.ensures ∙ ap (λ (r : Reading). flat_of r) c.candidate.ensures.same)) c.requires.flat)
+
+pub confirmed-requires-clause-flat : goal.confirmed-requires-clause-flat
+confirmed-requires-clause-flat c =
+    let p = program_tree c.args.source.now.program in
+    subst (IsFlatOf p (name_at p c.args.source.now.typed.main)) (sym (c.flat-flat.ensures ∙ ap (λ (r : Reading). flat_of r) c.candidate.ensures.same)) c.requires.flat
