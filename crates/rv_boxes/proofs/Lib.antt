@@ -21,5 +21,7 @@ pub mod Assembling
 pub mod Giving
 mod Imagining
 pub mod Reaching
+pub mod Cuts
+pub mod Knowing
 pub mod Ending
 pub mod Relating

@@ -2,6 +2,7 @@ pub mod Ends
 pub mod Weighing
 pub mod Boxed
 pub mod Orders
+pub mod Cutting
 pub mod Built
 pub mod Limits
 pub mod Bounding
@@ -9,6 +10,7 @@ pub mod Opening
 pub mod Claiming
 pub mod Imaging
 pub mod Rounds
+pub mod Knowing
 pub mod Certifying
 pub mod Narrowed
 pub mod Layering

@@ -19,9 +19,11 @@
 
 mod bounding;
 mod claim;
+mod cutting;
 mod ends;
 mod entries;
 mod frame;
+mod known;
 mod laws;
 mod layers;
 mod limits;

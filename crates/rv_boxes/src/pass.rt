@@ -21,7 +21,7 @@ use crate::claim::Claim;
 use crate::frame::Frame;
 use crate::layers::layers;
 use crate::locations::certify;
-use crate::rounds::{Closed, closed_claim, others_of};
+use crate::rounds::{Closed, closed_claim, others_at};
 use crate::shut::negated;
 use rv_base::{Many, Memory};
 use rv_cases::{Questions, cases};
@@ -95,7 +95,7 @@ fn bad_end(
     ensures roomy { IsErrOf result StoreFault.Nodes → store.old.limit < 2 ^ (2 ^ store.old.variables) }
 {
     let start = start_of(alloc, store, relation, questions)?;
-    let others = others_of(alloc, store, relation, questions, &start.first, claim)?;
+    let others = others_at(alloc, store, relation, questions, &start.first, claim)?;
     layers(alloc, store, relation, frame, &start.from_first, &others)
 }
 

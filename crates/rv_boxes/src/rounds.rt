@@ -5,7 +5,7 @@ ghost use Rattle.rv_diagram.specs.declared.frozen.Frozen.{Frozen as FrozenModel}
 ghost use Rattle.rv_symbolic.specs.Represented.{IsRelationOf};
 ghost use Rattle.std.specs.Int.RustNames.{unsigned_abs};
 ghost use Rattle.rv_diagram.specs.Nodes.{IsOrderedOver};
-ghost use Rattle.rv_proofs.specs.Systems.{System};
+ghost use Rattle.rv_proofs.specs.Systems.{System, IsSystem};
 ghost use Rattle.rv_proofs.specs.Scopes.{IsIn};
 ghost use Rattle.rv_proofs.specs.Ranges.{IsControlSet};
 ghost use Rattle.rv_proofs.specs.Boxes.{BoxClaim};
@@ -14,19 +14,22 @@ ghost use Rattle.rv_cases.specs.declared.asking.Questions.{Questions as Question
 ghost use Rattle.rv_boxes.specs.declared.frame.Frame.{Frame as FrameModel};
 ghost use Rattle.rv_boxes.specs.Rounds.{IsGiven, IsSetting, IsKeptClaim, HasTaken, HasGrown, IsCaseIn, IsInCases, AreOthers, AreFirst, IsLeastClaim};
 ghost use Rattle.rv_boxes.specs.Rounds.{IsRound, IsStart};
+ghost use Rattle.rv_boxes.specs.Knowing.{Knows, IsBegun};
 ghost use Rattle.rv_boxes.specs.Imaging.{AreImages, AreNone};
 ghost use Rattle.rv_boxes.specs.Orders.{IsBelowClosed};
 ghost use Rattle.rv_boxes.specs.Claiming.{claim_of};
 
 use crate::bounding::bound_rows;
 use crate::claim::Claim;
+use crate::cutting::cut;
 use crate::frame::Frame;
+use crate::known::{Known, ask, know, nothing_known};
 use crate::limits::{Loosened, either};
 use crate::opening::{Opened, open_limits};
 use crate::premises::premises_of;
 use crate::thresholds::least_above;
 use rv_base::{Many, Memory};
-use rv_cases::{Questions, cases};
+use rv_cases::Questions;
 use rv_diagram::{Frozen, Store, StoreFault};
 use rv_proofs::Case;
 use rv_rows::Row;
@@ -203,8 +206,33 @@ pub struct Others {
     pub cases: Many<Case>,
 }
 
-/// The control states of a claim that are not initial, the rows of its bounds, and their cases.
-pub fn others_of(
+/// The control states of a claim that are not initial, the rows of its bounds, and their cases, which are cut out of the known ones.
+fn others_of(
+    alloc: Global,
+    store: &mut Store,
+    first: &Frozen,
+    claim: &Claim,
+    known: &Known,
+) -> Result<Others, StoreFault>
+    requires { (s : System) × (f : FrameModel) × IsSystem s × (store.old.variables ≡ s.variables) × IsInitialSet s first.now
+        × IsKeptClaim s f claim.now × Knows s first.now claim.now.reached known.now }
+    ensures others { (s : System) (f : FrameModel) → IsSystem s → store.old.variables ≡ s.variables → IsInitialSet s first.now
+        → IsKeptClaim s f claim.now → Knows s first.now claim.now.reached known.now → IfOk result (AreOthers s first.now claim.now) }
+    ensures same { store.new ≡ store.old }
+    ensures roomy { IsErrOf result StoreFault.Nodes → store.old.limit < 2 ^ (2 ^ store.old.variables) }
+{
+    let control = without(store, &claim.reached, first)?;
+    let given = bound_rows(alloc, &claim.upper, &claim.lower)?;
+    let cases = cut(alloc, store, &known.cases, &control)?;
+    Ok(Others {
+        control,
+        given,
+        cases,
+    })
+}
+
+/// The control states of a claim that are not initial, the rows of its bounds, and their cases, where none are known.
+pub fn others_at(
     alloc: Global,
     store: &mut Store,
     relation: &Relation,
@@ -219,15 +247,8 @@ pub fn others_of(
     ensures same { store.new ≡ store.old }
     ensures roomy { IsErrOf result StoreFault.Nodes → store.old.limit < 2 ^ (2 ^ store.old.variables) }
 {
-    let control = without(store, &claim.reached, first)?;
-    let given = bound_rows(alloc, &claim.upper, &claim.lower)?;
-    let allowed = relation.parts().allowed;
-    let cases = cases(alloc, store, allowed, questions, &control)?;
-    Ok(Others {
-        control,
-        given,
-        cases,
-    })
+    let known = ask(alloc, store, relation, questions, first, &claim.reached)?;
+    others_of(alloc, store, first, claim, &known)
 }
 
 /// The same after the claim has grown, given those of before: where it has no new control states their cases and images stay, and are not
@@ -235,28 +256,26 @@ pub fn others_of(
 fn others_after(
     alloc: Global,
     store: &mut Store,
-    relation: &Relation,
-    questions: &Questions,
     first: &Frozen,
     claim: &Claim,
+    known: &Known,
     others: Others,
     images: &mut Vec<Option<Frozen>>,
 ) -> Result<Others, StoreFault>
-    requires { (s : System) × (f : FrameModel) × IsGiven s store.old relation.now questions.now f
-        × IsInitialSet s first.now × IsKeptClaim s f claim.now × AreCases s others.control others.cases }
-    ensures others { (s : System) (f : FrameModel) → IsGiven s store.old relation.now questions.now f
-        → IsInitialSet s first.now → IsKeptClaim s f claim.now → AreCases s others.control others.cases
+    requires { (s : System) × (f : FrameModel) × IsSystem s × (store.old.variables ≡ s.variables) × IsInitialSet s first.now
+        × IsKeptClaim s f claim.now × Knows s first.now claim.now.reached known.now × AreCases s others.control others.cases }
+    ensures others { (s : System) (f : FrameModel) → IsSystem s → store.old.variables ≡ s.variables → IsInitialSet s first.now
+        → IsKeptClaim s f claim.now → Knows s first.now claim.now.reached known.now → AreCases s others.control others.cases
         → IfOk result (AreOthers s first.now claim.now) }
-    ensures known { (s : System) (f : FrameModel) → IsGiven s store.old relation.now questions.now f
-        → IsInitialSet s first.now → IsKeptClaim s f claim.now → AreCases s others.control others.cases
-        → AreImages s others.control others.cases images.old.items
+    ensures known { (s : System) (f : FrameModel) → IsSystem s → store.old.variables ≡ s.variables → IsInitialSet s first.now
+        → IsKeptClaim s f claim.now → AreImages s others.control others.cases images.old.items
         → IfOk result (λ o. AreImages s o.control o.cases images.new.items) }
     ensures same { store.new ≡ store.old }
     ensures roomy { IsErrOf result StoreFault.Nodes → store.old.limit < 2 ^ (2 ^ store.old.variables) }
 {
     let control = without(store, &claim.reached, first)?;
     if control != others.control {
-        let others = others_of(alloc, store, relation, questions, first, claim)?;
+        let others = others_of(alloc, store, first, claim, known)?;
         *images = no_images(alloc, others.cases.len())?;
         return Ok(others);
     }
@@ -379,6 +398,45 @@ fn first_claim(
     })
 }
 
+/// What rounds begin with.
+#[derive(Debug, Drop)]
+struct Begun {
+    /// The first claim.
+    claim: Claim,
+    /// The known cases.
+    known: Known,
+    /// Its control states that are not initial.
+    others: Others,
+}
+
+/// What rounds begin with: the first claim, with no known cases, since it has initial control states alone.
+fn begin(
+    alloc: Global,
+    store: &mut Store,
+    relation: &Relation,
+    questions: &Questions,
+    frame: &Frame,
+    first: &Frozen,
+) -> Result<Begun, StoreFault>
+    requires { (s : System) × IsGiven s store.old relation.now questions.now frame.now × IsInitialSet s first.now }
+    ensures begun { (s : System) → IsGiven s store.old relation.now questions.now frame.now → IsInitialSet s first.now
+        → IfOk result (λ b. IsBegun s frame.now first.now b.claim b.known b.others) }
+    ensures same { store.new ≡ store.old }
+    ensures roomy { IsErrOf result StoreFault.Nodes → store.old.limit < 2 ^ (2 ^ store.old.variables) }
+{
+    let memories = questions.forms.len();
+    let claim = first_claim(alloc, store, relation, frame, memories)?;
+    let nothing = nothing_known(alloc, store, first)?;
+    let reached = &claim.reached;
+    let known = know(alloc, store, relation, questions, first, reached, nothing)?;
+    let others = others_of(alloc, store, first, &claim, &known)?;
+    Ok(Begun {
+        claim,
+        known,
+        others,
+    })
+}
+
 /// The least closed claim, with its control states that are not initial and their cases.
 #[derive(Debug, Drop)]
 pub struct Closed {
@@ -404,9 +462,15 @@ pub fn closed_claim(
     ensures same { store.new ≡ store.old }
     ensures roomy { IsErrOf result StoreFault.Nodes → store.old.limit < 2 ^ (2 ^ store.old.variables) }
 {
-    let memories = questions.forms.len();
-    let mut claim = first_claim(alloc, store, relation, frame, memories)?;
-    let mut others = others_of(alloc, store, relation, questions, first, &claim)?;
+    let begun = begin(alloc, store, relation, questions, frame, first)?;
+    let Begun {
+        claim,
+        known,
+        others,
+    } = begun;
+    let mut claim = claim;
+    let mut known = known;
+    let mut others = others;
     let mut images = Images {
         first: no_images(alloc, from_first.len())?,
         others: no_images(alloc, others.cases.len())?,
@@ -424,16 +488,10 @@ pub fn closed_claim(
             &mut images,
             &mut claim,
         )?;
-        others = others_after(
-            alloc,
-            store,
-            relation,
-            questions,
-            first,
-            &claim,
-            others,
-            &mut images.others,
-        )?;
+        let reached = &claim.reached;
+        known = know(alloc, store, relation, questions, first, reached, known)?;
+        let places = &mut images.others;
+        others = others_after(alloc, store, first, &claim, &known, others, places)?;
     }
     Ok(Closed { claim, others })
 }

@@ -6,8 +6,8 @@ use Rattle.rv_boxes.proofs.pass.bad_end.Goals as goal
 pub start_of-requires : goal.start_of-requires
 start_of-requires c = (c.requires.0, c.args.frame.now, c.requires.1)
 
-pub others_of-requires : goal.others_of-requires
-others_of-requires c =
+pub others_at-requires : goal.others_at-requires
+others_at-requires c =
     let s = c.requires.0 in
     let given = c.requires.1 in
     let least = c.requires.2 in
@@ -40,7 +40,7 @@ layers-requires c =
       c.args.questions.now,
       c.args.claim.now,
       c.in_ok-start.start.first,
-      given_there s c.args.store.now c.others_of.new.store c.args.relation.now c.args.questions.now c.args.frame.now (c.others_of.ensures.same
+      given_there s c.args.store.now c.others_at.new.store c.args.relation.now c.args.questions.now c.args.frame.now (c.others_at.ensures.same
           ∙ c.start_of.ensures.same) given,
       can,
       c.requires.3,
@@ -60,5 +60,5 @@ returns-clause-layers c s given least =
           given) start.initial least.kept;
     } in
     c.layers.ensures.layers s c.args.questions.now c.args.claim.now c.in_ok-start.start.first
-    (given_there s c.args.store.now c.others_of.new.store c.args.relation.now c.args.questions.now c.args.frame.now (c.others_of.ensures.same
+    (given_there s c.args.store.now c.others_at.new.store c.args.relation.now c.args.questions.now c.args.frame.now (c.others_at.ensures.same
     ∙ c.start_of.ensures.same) given) can

@@ -4,6 +4,7 @@ use Rattle.rv_proofs.specs.Boxes.{IsClosed}
 use Rattle.rv_boxes.specs.Orders.{IsBelowClosed}
 use Rattle.rv_boxes.specs.Claiming.{claim_of}
 use Rattle.rv_boxes.specs.Imaging.{AreImages}
+use Rattle.rv_boxes.specs.Knowing.{Knows}
 use Rattle.rv_boxes.specs.Rounds.{AreOthers, IsGiven, IsStart, IsKeptClaim, left_of}
 use Rattle.rv_boxes.proofs.rounds.closed_claim.Given as goal
 
@@ -13,6 +14,8 @@ invariant-loop-more l = record {
   kept : (s : System) → IsGiven s l.fn.store l.relation l.questions l.frame → IsStart s l.first l.from_first → IsKeptClaim s l.frame l.claim;
   others : (s : System) → IsGiven s l.fn.store l.relation l.questions l.frame → IsStart s l.first l.from_first
       → AreOthers s l.first l.claim l.others;
+  knows : (s : System) → IsGiven s l.fn.store l.relation l.questions l.frame → IsStart s l.first l.from_first
+      → Knows s l.first l.claim.reached l.known;
   first_images : (s : System) → IsGiven s l.fn.store l.relation l.questions l.frame → IsStart s l.first l.from_first
       → AreImages s l.first l.from_first l.images.first.items;
   other_images : (s : System) → IsGiven s l.fn.store l.relation l.questions l.frame → IsStart s l.first l.from_first

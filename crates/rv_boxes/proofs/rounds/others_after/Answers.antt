@@ -1,38 +1,36 @@
-use Rattle.std.proofs.Common.{◌≡◌, ◌∙◌, sym, subst}
+use Rattle.std.proofs.Common.{◌∙◌, ap, sym, subst}
+use Rattle.rv_diagram.specs.Nodes.{Diagrams}
 use Rattle.rv_diagram.specs.declared.frozen.Frozen.{Frozen}
 use Rattle.rv_proofs.specs.Cases.{AreCases}
 use Rattle.rv_boxes.specs.Imaging.{AreImages}
-use Rattle.rv_boxes.proofs.Giving.{given_there}
 use Rattle.rv_boxes.proofs.Imagining.{none_images, same_set}
 use Rattle.rv_boxes.proofs.rounds.others_after.Goals as goal
 
 pub others_of-requires : goal.others_of-requires
 others_of-requires c =
-    let (s, f, given, initial, kept, cases) = c.requires in
-    (s, f, given_there s c.args.store.now c.without.new.store c.args.relation.now c.args.questions.now f c.without.ensures.same given, initial, kept)
+    let (s, f, is, variables, initial, kept, knows, cases) = c.requires in
+    (s, f, is, ap (λ (d : Diagrams). d.variables) c.without.ensures.same ∙ variables, initial, kept, knows)
 
 pub returns-then-ne-clause-others : goal.returns-then-ne-clause-others
-returns-then-ne-clause-others c s f given initial kept cases =
-    c.in_ok-others.ensures.others s f (given_there s c.args.store.now c.without.new.store c.args.relation.now c.args.questions.now f c.without.ensures.same given) initial kept
+returns-then-ne-clause-others c s f is variables initial kept knows cases =
+    c.in_ok-others.ensures.others s f is (ap (λ (d : Diagrams). d.variables) c.without.ensures.same ∙ variables) initial kept knows
 
 pub returns-then-ne-clause-known : goal.returns-then-ne-clause-known
-returns-then-ne-clause-known c s f given initial kept cases images =
+returns-then-ne-clause-known c s f is variables initial kept images =
     none_images s c.in_ok-others.others.control c.in_ok-others.others.cases _ _ c.in_ok-images.ensures c.len.ensures
 
 pub returns-clause-others : goal.returns-clause-others
-returns-clause-others c s f given initial kept cases =
-    let r = given.relation in
-    let p = r.parts in
+returns-clause-others c s f is variables initial kept knows cases =
     let w = c.in_ok-control.ensures.exact in
     let same = same_set c.in_ok-control.control c.args.others.control c.ne.result c.ne.ensures c.if-ne.false in
     record {
-      control = c.in_ok-control.ensures.control s p.variables kept.control initial.control;
+      control = c.in_ok-control.ensures.control s variables kept.control initial.control;
       exact = w.exact;
       rows = c.in_ok-given.ensures;
       cases = subst (λ (set : Frozen). AreCases s set c.args.others.cases) (sym same) cases;
     }
 
 pub returns-clause-known : goal.returns-clause-known
-returns-clause-known c s f given initial kept cases images =
+returns-clause-known c s f is variables initial kept images =
     let same = same_set c.in_ok-control.control c.args.others.control c.ne.result c.ne.ensures c.if-ne.false in
     subst (λ (set : Frozen). AreImages s set c.args.others.cases c.args.images.now.items) (sym same) images

@@ -1,36 +1,29 @@
-use Rattle.std.proofs.Common.{◌≡◌, subst, sym}
+use Rattle.std.proofs.Common.{◌∙◌, ap}
 use Rattle.rv_diagram.specs.Nodes.{Diagrams}
-use Rattle.rv_cases.specs.Questions.{AreQuestions}
-use Rattle.rv_boxes.proofs.Giving.{given_allowed}
+use Rattle.rv_boxes.proofs.Knowing.{covered}
 use Rattle.rv_boxes.proofs.rounds.others_of.Goals as goal
 
-pub cases-requires : goal.cases-requires
-cases-requires c =
-    let s = c.requires.0 in
-    let given = c.requires.2 in
-    let initial = c.requires.3 in
-    let kept = c.requires.4 in
-    let r = given.relation in
-    let back : c.without.new.store ≡ c.args.store.now = c.without.ensures.same in (
+pub cut-requires : goal.cut-requires
+cut-requires c =
+    let (s, f, is, variables, initial, kept, knows) = c.requires in
+    let k = knows.known in (
       s,
-      r.system,
-      subst (λ (d : Diagrams). AreQuestions s d c.args.questions.now) (sym back) given.questions,
-      given_allowed s c.args.store.now c.without.new.store c.args.relation.now c.args.questions.now c.requires.1 given back c.parts.result.now c.parts.ensures,
-      c.in_ok-control.ensures.control s (let p = r.parts in p.variables) kept.control initial.control,
+      c.args.known.now.from,
+      is,
+      ap (λ (d : Diagrams). d.variables) c.without.ensures.same ∙ variables,
+      k.cases,
+      c.in_ok-control.ensures.control s variables kept.control initial.control,
     )
 
 pub returns-clause-others : goal.returns-clause-others
-returns-clause-others c s f given initial kept =
-    let r = given.relation in
-    let p = r.parts in
-    let back : c.without.new.store ≡ c.args.store.now = c.without.ensures.same in
-    let control = c.in_ok-control.ensures.control s p.variables kept.control initial.control in
+returns-clause-others c s f is variables initial kept knows =
+    let k = knows.known in
+    let control = c.in_ok-control.ensures.control s variables kept.control initial.control in
     let w = c.in_ok-control.ensures.exact in
     record {
       control = control;
       exact = w.exact;
       rows = c.in_ok-given.ensures;
-      cases = c.in_ok-cases.ensures.parted s r.system (subst (λ (d : Diagrams). AreQuestions s d c.args.questions.now) (sym back) given.questions)
-          (given_allowed s c.args.store.now c.without.new.store c.args.relation.now c.args.questions.now f given back c.parts.result.now
-          c.parts.ensures) control;
+      cases = c.in_ok-cases.ensures.cases s c.args.known.now.from is (ap (λ (d : Diagrams). d.variables) c.without.ensures.same ∙ variables) k.cases control
+          (covered s c.args.store.now.variables c.args.first.now c.args.claim.now.reached c.in_ok-control.control c.args.known.now knows w);
     }

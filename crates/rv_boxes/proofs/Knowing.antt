@@ -1,0 +1,92 @@
+-- Control states whose cases are known.
+use Rattle.std.proofs.Common.{◌≡◌, ℕ, Bool, true, false, not, ◌&&◌, ◌||◌, List, [], Option, Some, refl, sym, ap, ◌∙◌}
+use Rattle.std.proofs.Common.{None as Nothing}
+use Rattle.std.specs.Prelude.{MatchOption}
+use Rattle.rv_diagram.specs.Nodes.{Valuation}
+use Rattle.rv_diagram.specs.declared.frozen.Frozen.{Frozen}
+use Rattle.rv_proofs.specs.Systems.{System}
+use Rattle.rv_proofs.specs.Ranges.{IsControlSet}
+use Rattle.rv_proofs.specs.Cases.{AreCases}
+use Rattle.rv_proofs.specs.declared.report.Case.{Case}
+use Rattle.rv_walk.specs.Ends.{has}
+use Rattle.rv_walk.specs.Extended.{fresh_of, IsExtended, IsWithout}
+use Rattle.rv_walk.specs.declared.sets.Extended.{Extended}
+use Rattle.rv_boxes.specs.declared.known.Known.{Known}
+use Rattle.rv_boxes.specs.Knowing.{IsWithin, IsWider, IsKnown, Knows}
+
+never : (a : Bool) → (a && not a) ≡ true → ⊥
+never true e = cc
+never false e = cc
+
+into : (a b : Bool) → b ≡ true → (a || b) ≡ true
+into true b e = refl
+into false b e = e
+
+not_out : (a b : Bool) → (a && not b) ≡ false → a ≡ true → b ≡ true
+not_out true true e d = refl
+not_out true false e d = cc
+not_out false b e d = cc
+
+and_out : (a b : Bool) → a ≡ true → b ≡ false → (a && not b) ≡ true
+and_out true false e d = refl
+and_out true true e d = cc
+and_out false b e d = cc
+
+-- no control states have no cases
+pub nothing_is : (s : System) (m : ℕ) (first from : Frozen) → IsControlSet s from → IsWithout m first first from
+    → IsKnown s (record { from = from; cases = [] })
+nothing_is s m first from control without = record {
+  control = control;
+  cases = record {
+    each = λ j c at. absurd (none c at);
+    covered = λ v allowed i. absurd (never (has first v) (sym (without.exact v) ∙ i));
+    apart = λ i j b c v at. absurd (none b at);
+    within = λ j c v at. absurd (none c at);
+  };
+}
+  where
+    none : (c : Case) → Nothing ≡ Some c → ⊥
+    none c e = cc
+
+pub wider_by : (s : System) (m : ℕ) (set next : Frozen) (e : Extended) → IsExtended m set next e → IsControlSet s e.all → IsWider s set e.all
+wider_by s m set next e x control = record {
+  control = control;
+  within = λ v i. x.all_is v ∙ into (has next v) (has set v) i;
+}
+
+pub wider_self : (s : System) (a b : Frozen) → b ≡ a → IsControlSet s a → IsWider s a b
+wider_self s a b same control = rw same (record { control = control; within = λ v i. i })
+
+pub wider_both : (s : System) (a b c : Frozen) → IsWider s a b → IsWider s b c → IsWider s a c
+wider_both s a b c g h = record { control = h.control; within = λ v i. h.within v (g.within v i) }
+
+pub within_is : (a b : Frozen) → ((v : Valuation) → fresh_of b a v ≡ false) → IsWithin a b
+within_is a b none v i = not_out (has a v) (has b v) (none v) i
+
+-- what is known of what lies ahead
+pub knows_ahead : (s : System) (m : ℕ) (first reached all from : Frozen) (cases : List Case) → IsWider s reached all → IsWithout m all first from
+    → IsControlSet s from → AreCases s from cases → Knows s first reached (record { from = from; cases = cases })
+knows_ahead s m first reached all from cases wider without control are = record {
+  known = record { control = control; cases = are };
+  covers = λ v i off. without.exact v ∙ and_out (has all v) (has first v) (wider.within v i) off;
+}
+
+-- what was known is enough
+pub knows_still : (s : System) (m : ℕ) (first reached others : Frozen) (k : Known) → IsKnown s k → IsWithout m reached first others
+    → IsWithin others k.from → Knows s first reached k
+knows_still s m first reached others k known without within = record {
+  known = known;
+  covers = λ v i off. within v (without.exact v ∙ and_out (has reached v) (has first v) i off);
+}
+
+-- what is known holds the control states that are not initial
+pub covered : (s : System) (m : ℕ) (first reached control : Frozen) (k : Known) → Knows s first reached k → IsWithout m reached first control
+    → IsWithin control k.from
+covered s m first reached control k knows without v i =
+    let (on, off) = both_parts (has reached v) (has first v) (sym (without.exact v) ∙ i) in
+    knows.covers v on off
+  where
+    both_parts : (a b : Bool) → (a && not b) ≡ true → (a ≡ true) × (b ≡ false)
+    both_parts true false e = (refl, refl)
+    both_parts true true e = cc
+    both_parts false b e = cc
