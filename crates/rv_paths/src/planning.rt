@@ -49,11 +49,7 @@ fn united(store: &mut Store, reached: Frozen, set: &Frozen) -> Result<Frozen, St
 }
 
 /// A set of control states and those of all layers.
-fn with_layers(
-    store: &mut Store,
-    first: Frozen,
-    layers: &Layers,
-) -> Result<Frozen, StoreFault>
+fn with_layers(store: &mut Store, first: Frozen, layers: &Layers) -> Result<Frozen, StoreFault>
     requires { (s : System) × (store.old.variables ≡ s.variables) × IsControlSet s first × AreControlSets s layers.now.sets }
     ensures control { (s : System) → store.old.variables ≡ s.variables → IsControlSet s first → AreControlSets s layers.now.sets
         → IfOk result (IsControlSet s) }

@@ -51,7 +51,10 @@ fn spend(work: &mut u64, cost: u64) {
 
 /// What the image of a set by a case counts.
 fn image_work(control: &Frozen, case: &Case) -> u64 {
-    let nodes = control.nodes.len().saturating_add(case.condition.nodes.len());
+    let nodes = control
+        .nodes
+        .len()
+        .saturating_add(case.condition.nodes.len());
     IMAGE_WORK.saturating_add(nodes as u64 / 4)
 }
 
@@ -372,7 +375,15 @@ pub fn search(
         if let Some(candidate) = found {
             return Ok(Some(candidate));
         }
-        grow(alloc, store, relation, plan, &mut tree.nodes, place, &mut work)?;
+        grow(
+            alloc,
+            store,
+            relation,
+            plan,
+            &mut tree.nodes,
+            place,
+            &mut work,
+        )?;
     }
     Ok(None)
 }
