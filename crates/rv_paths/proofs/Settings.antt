@@ -1,5 +1,5 @@
 -- The setting of a search in a store that is the same, and its parts.
-use Rattle.std.proofs.Common.{◌≡◌, ℕ, zero, suc, List, Option, Some, None, Result, Ok, Err, IfOk, IfSome, All, slice_get, subst, sym, ◌∙◌}
+use Rattle.std.proofs.Common.{◌≡◌, ℕ, zero, suc, List, Option, Some, None, Result, Ok, Err, IfOk, IfSome, slice_get, subst, sym}
 use Rattle.rv_diagram.specs.Nodes.{Diagrams, IsMeant, IsOrderedOver}
 use Rattle.rv_diagram.specs.declared.frozen.Frozen.{Frozen}
 use Rattle.rv_proofs.specs.Systems.{System}

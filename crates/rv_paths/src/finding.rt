@@ -17,7 +17,7 @@ use std::alloc::Global;
 /// A candidate for a trace that falsifies a system: a path of cases from the initial control states to one with a false observer, a
 /// valuation of each instant's case that leads to the next one, and start values and inputs that meet the rows of all instants. `relation`
 /// and `questions` are those of the system in the store, `columns` says how many integer memories and inputs it has, and the layers are
-/// sets of control states, in which the path stays after the first instant. A path has at most 64 instants, and at most 256 columns: the
+/// sets of control states, in which the path stays after the first instant. A path has at most 512 instants, and at most 256 columns: the
 /// memories, and the inputs of each instant. Short paths are tried before long ones, as long as a limit of work is not reached. That the
 /// candidate falsifies is not promised, and None promises nothing. The store is left as it was, after a fault too. Nodes comes where the
 /// store has no room for what is built on the way, never where its limit holds every function of its variables, and Memory where there is none.

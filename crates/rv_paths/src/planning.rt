@@ -20,7 +20,7 @@ use std::alloc::Global;
 const MOST_COLUMNS: usize = 256;
 
 /// How many instants a path may have.
-const MOST_INSTANTS: usize = 64;
+const MOST_INSTANTS: usize = 512;
 
 /// How many instants a path may have so that its columns are few: the integer memories, and the integer inputs of each instant.
 fn most_instants(memories: usize, inputs: usize) -> usize {

@@ -14,6 +14,7 @@ use crate::sets::is_within;
 use crate::spans::{Span, all_numbers, are_points, cover, spans_after, spans_at};
 use crate::trace::Candidate;
 use crate::tree::{Node, Plan, Tree, Turn, next_node, with_turn};
+use crate::unroll::columns_before;
 use crate::words::{some_word, words_of};
 use rv_base::{Many, Memory};
 use rv_diagram::{Frozen, Store, StoreFault};
@@ -24,13 +25,13 @@ use std::alloc::Global;
 /// How many nodes are kept.
 const MOST_NODES: usize = 4096;
 
-/// How much work is done. A case that is tried counts 1, an image 16 and more by the sizes of its sets, a path that is joined 8,192.
+/// How much work is done. A case that is tried counts 1.
 const MOST_WORK: u64 = 1 << 20;
 
-/// What the rows of a path count.
-const PATH_WORK: u64 = 8192;
+/// What the rows of a path count at least.
+const PATH_WORK: u64 = 1024;
 
-/// What an image counts.
+/// What an image counts at least.
 const IMAGE_WORK: u64 = 16;
 
 /// How a node stands to the earlier ones.
@@ -49,7 +50,14 @@ fn spend(work: &mut u64, cost: u64) {
     *work = work.saturating_add(cost);
 }
 
-/// What the image of a set by a case counts.
+/// What the rows of a path count, by how many columns they have.
+fn path_work(plan: &Plan, turns: &Many<Turn>) -> u64 {
+    let columns = columns_before(plan, turns.len()) as u64;
+    let square = columns.saturating_mul(columns);
+    PATH_WORK.saturating_add(square.saturating_mul(2))
+}
+
+/// What the image of a set by a case counts, by the sizes of the set and of the condition.
 fn image_work(control: &Frozen, case: &Case) -> u64 {
     let nodes = control
         .nodes
@@ -301,8 +309,8 @@ fn end_by(
     let Some(last) = some_word(store, &node.control, &case.condition)? else {
         return Ok(None);
     };
-    spend(work, PATH_WORK);
     let turns = with_turn(alloc, &node.turns, turn)?;
+    spend(work, path_work(plan, &turns));
     candidate_of(alloc, store, relation, plan, nodes, &turns, last)
 }
 

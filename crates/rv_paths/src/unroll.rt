@@ -258,8 +258,8 @@ fn join_case(
     forms_after(alloc, &case.updates, before, start, width)
 }
 
-/// Where the inputs of an instant begin.
-fn start_of(plan: &Plan, instant: usize) -> usize {
+/// How many columns there are before the inputs of an instant.
+pub fn columns_before(plan: &Plan, instant: usize) -> usize {
     plan.memories
         .saturating_add(plan.inputs.saturating_mul(instant))
 }
@@ -273,7 +273,7 @@ pub fn joined_rows(
     ensures rows { IfOk result (λ o. IfSome o AreJoined) }
     ensures few { IfOk result (λ o. IfSome o (λ rows. length rows < 2 ^ 32)) }
 {
-    let width = start_of(plan, turns.len());
+    let width = columns_before(plan, turns.len());
     let mut rows = Many::new(alloc);
     let mut forms = first_forms(alloc, plan.memories, width)?;
     for instant in 0..turns.len() {
@@ -281,7 +281,7 @@ pub fn joined_rows(
         let Some(case) = plan.cases_from(turn.node).get(turn.case) else {
             return Ok(None);
         };
-        let start = start_of(plan, instant);
+        let start = columns_before(plan, instant);
         let after = join_case(alloc, &mut rows, case, &forms, start, width)?;
         let Some(after) = after else {
             return Ok(None);

@@ -1,6 +1,5 @@
 use Rattle.std.proofs.Common.{◌≡◌, ◌∙◌, ap}
 use Rattle.rv_diagram.specs.Nodes.{Diagrams}
-use Rattle.rv_proofs.specs.Systems.{System}
 use Rattle.rv_paths.proofs.Settings.{relation_variables, ordered_there}
 use Rattle.rv_paths.proofs.planning.other_states.Goals as goal
 

@@ -1,6 +1,5 @@
-use Rattle.std.proofs.Common.{◌≡◌, ◌∙◌, ap, sym, subst}
+use Rattle.std.proofs.Common.{◌∙◌, ap}
 use Rattle.rv_diagram.specs.Nodes.{Diagrams}
-use Rattle.rv_proofs.specs.Systems.{System}
 use Rattle.rv_paths.proofs.planning.with_layers.Goals as goal
 
 pub united-requires : goal.united-requires

@@ -1,8 +1,5 @@
-use Rattle.std.proofs.Common.{◌≡◌, All, get_or, length}
-use Rattle.rv_rows.specs.declared.linear.Row.{Row}
-use Rattle.rv_rows.specs.Tight.{Fits}
+use Rattle.std.proofs.Common.{get_or}
 use Rattle.rv_poly.proofs.ListLemmas.{one_width}
-use Rattle.rv_paths.specs.Joining.{IsJoinedRow, AreJoined}
 use Rattle.rv_paths.proofs.points.point_of_rows.Goals as goal
 
 pub seek_refutation-requires : goal.seek_refutation-requires

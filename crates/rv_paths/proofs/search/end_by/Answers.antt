@@ -1,5 +1,4 @@
-use Rattle.std.proofs.Common.{◌∙◌}
-use Rattle.rv_paths.proofs.Settings.{node_ordered, case_ordered, setting_there}
+use Rattle.rv_paths.proofs.Settings.{node_ordered, case_ordered}
 use Rattle.rv_paths.proofs.search.end_by.Goals as goal
 
 pub some_word-requires-clause-control : goal.some_word-requires-clause-control

@@ -1,8 +1,5 @@
-use Rattle.std.proofs.Common.{◌≡◌, ◌∙◌, ap, subst, sym}
+use Rattle.std.proofs.Common.{◌∙◌, ap}
 use Rattle.rv_diagram.specs.Nodes.{Diagrams}
-use Rattle.rv_diagram.specs.declared.frozen.Frozen.{Frozen}
-use Rattle.rv_proofs.specs.Ranges.{IsControlSet}
-use Rattle.rv_symbolic.proofs.Extending.{map_ok}
 use Rattle.rv_paths.proofs.Settings.{node_control, case_there, relation_variables, next_control}
 use Rattle.rv_paths.proofs.search.next_by.Goals as goal
 
