@@ -1,4 +1,4 @@
-pub mod Confirmed
+pub mod Cutting
 pub mod Counted
 pub mod Placed
 pub mod Spelling

@@ -8,7 +8,7 @@ ghost use Rattle.rv_instances.specs.Fitting.{Fits};
 ghost use Rattle.rv_agreement.specs.Checks.{constant_fits};
 ghost use Rattle.rv_flat.specs.FlatOf.{IsFlatOf};
 ghost use Rattle.rv_flat.specs.Steps.{AreValues, IsInRange, label_counts};
-ghost use Rattle.rv_replay.specs.Traces.{IsFlatTrace};
+ghost use Rattle.rv_replay.specs.Traces.{IsFlatTrace, IsTrace};
 ghost use Rattle.rv_falsify.specs.Falsifying.{IsFalsifying};
 
 use crate::decoding::{input_kinds, memory_kinds};
@@ -97,10 +97,8 @@ fn is_flat_trace(alloc: Global, flat: &Flat, trace: &Trace) -> Result<bool, Memo
     Ok(starts && instants && trace.instants.len() < 4_294_967_296)
 }
 
-/// A trace, cut after the instant at which it falsifies the program. None where its values are not those of a trace of the program, or where its
-/// replay does not end at an instant with a false observer: an assertion fails first, a value leaves the range first, or the observer is
-/// true throughout. The only error is want of memory.
-pub fn confirmed(
+/// A trace of the program, cut after the instant at which it falsifies it; none where it does not.
+fn cut(
     alloc: Global,
     source: &Source,
     flat: &Flat,
@@ -108,14 +106,10 @@ pub fn confirmed(
 ) -> Result<Option<Trace>, Memory>
     requires fits { Fits (program_tree source.now.program) source.now.typed source.now.order }
     requires flat { IsFlatOf (program_tree source.now.program) (name_at (program_tree source.now.program) source.now.typed.main) flat.now }
-    ensures { (t : TraceModel) → result ≡ Ok (Some t)
+    requires trace { IsTrace (program_tree source.now.program) (name_at (program_tree source.now.program) source.now.typed.main) trace }
+    ensures falsifies { (t : TraceModel) → result ≡ Ok (Some t)
         → IsFalsifying (program_tree source.now.program) (name_at (program_tree source.now.program) source.now.typed.main) t }
 {
-    well_formed_programs();
-    flat_traces();
-    if !is_flat_trace(alloc, flat, &trace)? {
-        return Ok(None);
-    }
     match falsified_at(alloc, source, flat, &trace)? {
         Some(last) => {
             trace.instants.truncate(last as usize + 1);
@@ -123,4 +117,27 @@ pub fn confirmed(
         }
         None => Ok(None),
     }
+}
+
+/// A trace, cut after the instant at which it falsifies the program. None where its values are not those of a trace of the program, or where its
+/// replay does not end at an instant with a false observer: an assertion fails first, a value leaves the range first, or the observer is
+/// true throughout. The only error is want of memory.
+pub fn confirmed(
+    alloc: Global,
+    source: &Source,
+    flat: &Flat,
+    trace: Trace,
+) -> Result<Option<Trace>, Memory>
+    requires fits { Fits (program_tree source.now.program) source.now.typed source.now.order }
+    requires flat { IsFlatOf (program_tree source.now.program) (name_at (program_tree source.now.program) source.now.typed.main) flat.now }
+    ensures falsifies { (t : TraceModel) → result ≡ Ok (Some t)
+        → IsFalsifying (program_tree source.now.program) (name_at (program_tree source.now.program) source.now.typed.main) t }
+{
+    well_formed_programs();
+    flat_traces();
+    let is = is_flat_trace(alloc, flat, &trace)?;
+    if is {
+        return cut(alloc, source, flat, trace);
+    }
+    Ok(None)
 }

@@ -73,6 +73,26 @@ fn find_back(
     }
 }
 
+/// A number of a list; 0 past its end.
+fn number_at(numbers: &Many<i128>, place: usize) -> i128 {
+    match numbers.get(place) {
+        Some(number) => *number,
+        None => 0,
+    }
+}
+
+/// The value, where it is an integer the number that is next.
+fn numbered(value: Value, numbers: &Many<i128>, next: &mut usize) -> Value {
+    match value {
+        Value::Whole(_) => {
+            let number = number_at(numbers, *next);
+            *next = next.saturating_add(1);
+            Value::Whole(number)
+        }
+        other => other,
+    }
+}
+
 /// The values, with each integer replaced by the next of the numbers; 0 past the last one.
 fn filled(
     alloc: Global,
@@ -80,18 +100,23 @@ fn filled(
     numbers: &Many<i128>,
 ) -> Result<Many<Value>, Memory> {
     let mut list = Many::new(alloc);
-    let mut rest = numbers.as_slice().iter();
+    let mut next = 0;
     for value in values.as_slice() {
-        let value = match value {
-            Value::Whole(_) => match rest.next() {
-                Some(number) => Value::Whole(*number),
-                None => Value::Whole(0),
-            },
-            other => *other,
-        };
-        list.push(value)?;
+        list.push(numbered(*value, numbers, &mut next))?;
     }
     Ok(list)
+}
+
+/// The inputs of an instant, with their integers from its numbers, where it has some.
+fn filled_instant(
+    alloc: Global,
+    values: &Many<Value>,
+    numbers: Option<&Many<i128>>,
+) -> Result<Many<Value>, Memory> {
+    match numbers {
+        Some(own) => filled(alloc, values, own),
+        None => filled(alloc, values, &Many::new(alloc)),
+    }
 }
 
 /// The inputs of each instant, with their integers from the numbers of the instant.
@@ -101,8 +126,8 @@ fn filled_instants(
     numbers: &Many<Many<i128>>,
 ) -> Result<Many<Many<Value>>, Memory> {
     let mut list = Many::new(alloc);
-    for (values, own) in instants.as_slice().iter().zip(numbers.as_slice().iter()) {
-        list.push(filled(alloc, values, own)?)?;
+    for place in 0..instants.len() {
+        list.push(filled_instant(alloc, instants.at(place), numbers.get(place))?)?;
     }
     Ok(list)
 }

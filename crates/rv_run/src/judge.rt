@@ -214,9 +214,9 @@ fn not_good(
         accelerate: true,
     };
     let end = analyse(alloc, reading, layers, &options)?;
-    let flat = reading.flat();
+    let system = reading.flat();
     match end {
-        End::Proved(certificate) => safe(alloc, source, flat, certificate),
+        End::Proved(certificate) => safe(alloc, source, system, certificate),
         End::Left(left) => searched(alloc, source, reading, layers, left),
     }
 }

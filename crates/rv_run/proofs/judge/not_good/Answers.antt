@@ -43,11 +43,11 @@ analyse-requires-clause-seed c = c.requires.sets
 pub safe-requires-clause-known : goal.safe-requires-clause-known
 safe-requires-clause-known c =
     let p = program_tree c.args.source.now.program in
-    subst (IsKnown p (name_at p c.args.source.now.typed.main)) (sym (c.flat-flat-2.ensures ∙ ap (λ (r : Reading). flat_of r) c.in_ok-end.ensures.same)) c.requires.known
+    subst (IsKnown p (name_at p c.args.source.now.typed.main)) (sym (c.flat-system.ensures ∙ ap (λ (r : Reading). flat_of r) c.in_ok-end.ensures.same)) c.requires.known
 
 pub safe-requires-clause-accepted : goal.safe-requires-clause-accepted
 safe-requires-clause-accepted c =
-    subst (λ (f : Flat). IsAccepted (control_of f) c.in-Proved.certificate) (sym (c.flat-flat-2.ensures ∙ ap (λ (r : Reading). flat_of r) c.in_ok-end.ensures.same))
+    subst (λ (f : Flat). IsAccepted (control_of f) c.in-Proved.certificate) (sym (c.flat-system.ensures ∙ ap (λ (r : Reading). flat_of r) c.in_ok-end.ensures.same))
     (c.in_ok-end.ensures.proved c.in-Proved.certificate (ap Ok c.in-Proved.is))
 
 pub safe-requires-clause-loops : goal.safe-requires-clause-loops
