@@ -118,11 +118,7 @@ fn ahead(
 }
 
 /// No control states, and no cases.
-pub fn nothing_known(
-    alloc: Global,
-    store: &mut Store,
-    first: &Frozen,
-) -> Result<Known, StoreFault>
+pub fn nothing_known(alloc: Global, store: &mut Store, first: &Frozen) -> Result<Known, StoreFault>
     requires { (s : System) × (store.old.variables ≡ s.variables) × IsControlSet s first.now }
     ensures known { (s : System) → store.old.variables ≡ s.variables → IsControlSet s first.now → IfOk result (IsKnown s) }
     ensures same { store.new ≡ store.old }
@@ -150,7 +146,7 @@ fn is_within(store: &mut Store, a: &Frozen, b: &Frozen) -> Result<bool, StoreFau
 }
 
 /// Asks for the cases of a set of control states but for the initial ones, and of what lies ahead of it.
-pub fn ask(
+fn ask(
     alloc: Global,
     store: &mut Store,
     relation: &Relation,
