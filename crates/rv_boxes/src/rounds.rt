@@ -385,7 +385,7 @@ struct Begun {
     claim: Claim,
     /// The known cases.
     known: Known,
-    /// Its control states that are not initial.
+    /// The claim's control states that are not initial, the rows of its bounds, and their cases.
     others: Others,
 }
 
