@@ -16,7 +16,7 @@ use Rattle.rv_symbolic.specs.Growing.{Extends}
 use Rattle.rv_symbolic.proofs.Extending.{extends_trans, grows_extends, needed_same}
 use Rattle.rv_symbolic.proofs.Reading.{control-value, condition-value, condition_set, valuation_state}
 use Rattle.rv_walk.specs.Ends.{has}
-use Rattle.rv_boxes.specs.Cutting.{both_of, IsFrozenSome, IsMeet, case_with, IsCut, HasCut, AreCut}
+use Rattle.rv_boxes.specs.Cutting.{both_of, IsFrozenSome, IsMeet, case_with, HasCut, AreCut}
 use Rattle.rv_boxes.proofs.Reaching.{push_before}
 
 pub both_true : (a b : Bool) → (a && b) ≡ true → (a ≡ true) × (b ≡ true)

@@ -1,5 +1,5 @@
 -- Places for images, of which none is there, or which get one.
-use Rattle.std.proofs.Common.{◌≡◌, ℕ, ◌<◌, ◌⊎◌, inl, inr, Bool, true, false, ◌&&◌, List, length, Option, Some, arith, refl, sym, ◌∙◌, ap, subst}
+use Rattle.std.proofs.Common.{◌≡◌, ℕ, ◌<◌, inl, inr, Bool, true, false, ◌&&◌, List, length, Option, Some, arith, refl, sym, ◌∙◌, ap, subst}
 use Rattle.std.proofs.Common.{None as Nothing}
 use Rattle.std.specs.Prelude.{not, slice_get, slice_index_or, slice_set, IfSome}
 use Rattle.std.specs.Bool.{Decides}

@@ -146,7 +146,7 @@ fn is_within(store: &mut Store, a: &Frozen, b: &Frozen) -> Result<bool, StoreFau
 }
 
 /// Asks for the cases of a set of control states but for the initial ones, and of what lies ahead of it.
-pub fn ask(
+fn ask(
     alloc: Global,
     store: &mut Store,
     relation: &Relation,

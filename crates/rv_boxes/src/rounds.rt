@@ -23,7 +23,7 @@ use crate::bounding::bound_rows;
 use crate::claim::Claim;
 use crate::cutting::cut;
 use crate::frame::Frame;
-use crate::known::{Known, ask, know, nothing_known};
+use crate::known::{Known, know, nothing_known};
 use crate::limits::{Loosened, either};
 use crate::opening::{Opened, open_limits};
 use crate::premises::premises_of;
@@ -207,7 +207,7 @@ pub struct Others {
 }
 
 /// The control states of a claim that are not initial, the rows of its bounds, and their cases, which are cut out of the known ones.
-fn others_of(
+pub fn others_of(
     alloc: Global,
     store: &mut Store,
     first: &Frozen,
@@ -229,26 +229,6 @@ fn others_of(
         given,
         cases,
     })
-}
-
-/// The control states of a claim that are not initial, the rows of its bounds, and their cases, where none are known.
-pub fn others_at(
-    alloc: Global,
-    store: &mut Store,
-    relation: &Relation,
-    questions: &Questions,
-    first: &Frozen,
-    claim: &Claim,
-) -> Result<Others, StoreFault>
-    requires { (s : System) × (f : FrameModel) × IsGiven s store.old relation.now questions.now f
-        × IsInitialSet s first.now × IsKeptClaim s f claim.now }
-    ensures others { (s : System) (f : FrameModel) → IsGiven s store.old relation.now questions.now f
-        → IsInitialSet s first.now → IsKeptClaim s f claim.now → IfOk result (AreOthers s first.now claim.now) }
-    ensures same { store.new ≡ store.old }
-    ensures roomy { IsErrOf result StoreFault.Nodes → store.old.limit < 2 ^ (2 ^ store.old.variables) }
-{
-    let known = ask(alloc, store, relation, questions, first, &claim.reached)?;
-    others_of(alloc, store, first, claim, &known)
 }
 
 /// The same after the claim has grown, given those of before: where it has no new control states their cases and images stay, and are not
@@ -405,7 +385,7 @@ struct Begun {
     claim: Claim,
     /// The known cases.
     known: Known,
-    /// Its control states that are not initial.
+    /// The claim's control states that are not initial, the rows of its bounds, and their cases.
     others: Others,
 }
 
@@ -442,6 +422,8 @@ fn begin(
 pub struct Closed {
     /// The claim.
     pub claim: Claim,
+    /// The known cases.
+    pub known: Known,
     /// Its control states that are not initial, the rows of its bounds, and their cases.
     pub others: Others,
 }
@@ -458,7 +440,8 @@ pub fn closed_claim(
 ) -> Result<Closed, StoreFault>
     requires { (s : System) × IsGiven s store.old relation.now questions.now frame.now × IsStart s first.now from_first.now }
     ensures least { (s : System) → IsGiven s store.old relation.now questions.now frame.now → IsStart s first.now from_first.now
-        → IfOk result (λ c. IsLeastClaim s frame.now c.claim × AreOthers s first.now c.claim c.others) }
+        → IfOk result (λ c. IsLeastClaim s frame.now c.claim × AreOthers s first.now c.claim c.others
+        × Knows s first.now c.claim.reached c.known) }
     ensures same { store.new ≡ store.old }
     ensures roomy { IsErrOf result StoreFault.Nodes → store.old.limit < 2 ^ (2 ^ store.old.variables) }
 {
@@ -493,5 +476,9 @@ pub fn closed_claim(
         let places = &mut images.others;
         others = others_after(alloc, store, first, &claim, &known, others, places)?;
     }
-    Ok(Closed { claim, others })
+    Ok(Closed {
+        claim,
+        known,
+        others,
+    })
 }

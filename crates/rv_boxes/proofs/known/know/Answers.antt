@@ -1,4 +1,4 @@
-use Rattle.std.proofs.Common.{◌≡◌, ◌∙◌, ap, sym, subst}
+use Rattle.std.proofs.Common.{◌∙◌, ap, sym, subst}
 use Rattle.rv_diagram.specs.Nodes.{Diagrams, IsOrderedOver}
 use Rattle.rv_boxes.proofs.Giving.{given_there}
 use Rattle.rv_boxes.proofs.Knowing.{knows_still}

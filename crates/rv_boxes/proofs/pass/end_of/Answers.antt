@@ -6,15 +6,17 @@ certify-requires c = (c.requires.0, c.args.closed.claim, c.requires.2)
 
 pub bad_end-requires : goal.bad_end-requires
 bad_end-requires c =
-    let (s, given, can) = c.requires in
-    (s, given, can.least, rw c.in-None.is at c.in_ok-certificate.ensures.none s c.args.closed.claim can)
+    let (s, given, can, knows) = c.requires in
+    let start = can.start in
+    (s, given, can.least, rw c.in-None.is at c.in_ok-certificate.ensures.none s c.args.closed.claim can, c.args.start.first, start.initial, knows)
 
 pub returns-in-Some-clause-ends : goal.returns-in-Some-clause-ends
-returns-in-Some-clause-ends c s given can =
+returns-in-Some-clause-ends c s given can knows =
     ends_good s c.args.frame.now c.args.closed.claim c.in-Some.certificate can.least (rw c.in-Some.is at c.in_ok-certificate.ensures.some s c.args.closed.claim can)
     (rw c.in-Some.is at c.in_ok-certificate.ensures.good s c.args.closed.claim can)
 
 pub returns-clause-ends : goal.returns-clause-ends
-returns-clause-ends c s given can =
+returns-clause-ends c s given can knows =
+    let start = can.start in
     ends_bad s c.args.frame.now c.args.closed.claim c.in_ok-layers-in-None.layers can.least (rw c.in-None.is at c.in_ok-certificate.ensures.none s c.args.closed.claim can)
-    (c.in_ok-layers-in-None.ensures.layers s given can.least)
+    (c.in_ok-layers-in-None.ensures.layers s c.args.start.first given can.least start.initial knows)

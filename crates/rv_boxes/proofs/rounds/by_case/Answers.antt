@@ -1,4 +1,4 @@
-use Rattle.std.proofs.Common.{◌≡◌, ◌∙◌, Bool, arith, sym, ap, subst}
+use Rattle.std.proofs.Common.{◌∙◌, Bool, arith, sym, subst}
 use Rattle.rv_proofs.specs.Scopes.{IsIn}
 use Rattle.rv_boxes.specs.Opening.{AreUpdates}
 use Rattle.rv_boxes.specs.Rounds.{HasGrown}

@@ -1,4 +1,4 @@
-use Rattle.std.proofs.Common.{◌≡◌, ◌∙◌, true, false, refl, sym, ap, subst, length}
+use Rattle.std.proofs.Common.{◌≡◌, ◌∙◌, true, false, sym, ap, subst, length}
 use Rattle.rv_diagram.specs.Nodes.{Diagrams}
 use Rattle.rv_boxes.specs.declared.claim.Claim.{Claim}
 use Rattle.rv_proofs.specs.Boxes.{IsClosed}
@@ -141,4 +141,5 @@ returns-clause-least c s given start = (
   least_of s c.args.frame.now given.frame c.loop-more.claim (c.loop-more.invariant.kept s given start) (c.loop-more.invariant.below s given start)
       (c.loop-more.invariant.closed s given start c.loop-more-test.false),
   c.loop-more.invariant.others s given start,
+  c.loop-more.invariant.knows s given start,
 )

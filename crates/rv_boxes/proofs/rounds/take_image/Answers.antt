@@ -1,4 +1,4 @@
-use Rattle.std.proofs.Common.{◌≡◌, ◌∙◌, ap, sym}
+use Rattle.std.proofs.Common.{◌∙◌, ap}
 use Rattle.rv_diagram.specs.Nodes.{Diagrams}
 use Rattle.rv_boxes.specs.Rounds.{HasTaken}
 use Rattle.rv_boxes.proofs.Limiting.{map_ok}
