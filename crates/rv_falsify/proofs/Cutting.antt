@@ -1,5 +1,5 @@
 -- A trace cut after the instant at which it falsifies.
-use Rattle.std.proofs.Common.{◌≡◌, ℕ, ◌+◌, List, length, take, sym, ◌∙◌, subst}
+use Rattle.std.proofs.Common.{◌≡◌, ℕ, ◌+◌, List, take, sym, ◌∙◌, subst}
 use Rattle.rv_base.specs.declared.value.Trace.{Trace}
 use Rattle.rv_base.specs.declared.value.Value.{Value}
 use Rattle.rv_tree.specs.Tree.{ProgramTree}

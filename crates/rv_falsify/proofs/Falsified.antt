@@ -1,13 +1,12 @@
 -- The trace that the words of a falsifying path spell falsifies, and a run that falsifies is a falsifying run of the system.
-use Rattle.std.proofs.Common.{◌≡◌, ℕ, zero, suc, ◌+◌, ◌<◌, ◌≤◌, ◌^◌, ◌↔◌, ℤ, pos, Bool, true, false, List, [], ◌∷◌, map, length, get_or, refl, sym, ◌∙◌, ap, subst, arith, Option, Some, slice_get}
-use Rattle.std.proofs.Common.{None as Nothing}
+use Rattle.std.proofs.Common.{◌≡◌, ℕ, ◌+◌, ◌<◌, ◌^◌, ℤ, pos, Bool, true, false, List, [], ◌∷◌, map, length, get_or, refl, sym, ◌∙◌, ap, subst, arith, Some, slice_get}
 use Rattle.std.specs.Prelude.{IsTrue}
 use Rattle.std.proofs.lemmas.Int.{ints}
 use Rattle.std.proofs.lemmas.List.{get_or-map, length-map}
 use Rattle.std.proofs.lemmas.Option.{slice_get_within}
 use Rattle.rv_base.specs.declared.value.Trace.{Trace}
 use Rattle.rv_base.specs.declared.value.Value.{Value}
-use Rattle.rv_base.specs.declared.value.Value.TheVariants.{Flag, Label, Whole}
+use Rattle.rv_base.specs.declared.value.Value.TheVariants.{Flag}
 use Rattle.rv_tree.specs.Tree.{ProgramTree}
 use Rattle.rv_tree.specs.Places.{Identifier, Sites}
 use Rattle.rv_types.specs.declared.typed.Kind.{Kind}
@@ -17,10 +16,9 @@ use Rattle.rv_types.specs.Kinds.{decl_kinds}
 use Rattle.rv_types.specs.Lists.{MemoryAt, memory_at}
 use Rattle.rv_types.specs.Values.{HasKind}
 use Rattle.rv_types.specs.WellFormed.{AreWell}
-use Rattle.rv_meaning.specs.Runs.{History, Falsifies, IsAllowed, IsRun, observed}
-use Rattle.rv_rows.specs.Forms as forms
+use Rattle.rv_meaning.specs.Runs.{History, Falsifies, IsRun, observed}
 use Rattle.rv_agreement.specs.Trees.{kind_at}
-use Rattle.rv_agreement.specs.Valuations.{rank, whole_count}
+use Rattle.rv_agreement.specs.Valuations.{whole_count}
 use Rattle.rv_diagram.specs.Nodes.{Valuation, valuation_of}
 use Rattle.rv_proofs.specs.Reached.{HasNoIntegers}
 use Rattle.rv_proofs.specs.Runs.{IsAbstractRun}
@@ -39,8 +37,7 @@ use Rattle.rv_control.specs.Named.{named}
 use Rattle.rv_control.specs.Spelled.{decoded, spelled_starts, spelled_inputs, value_at, HasSpelledRun}
 use Rattle.rv_control.proofs.Decoded.{decoded_at, length-decoded}
 use Rattle.rv_replay.specs.Observers.{IsObserved}
-use Rattle.rv_replay.specs.Replays.{IsFalsifiedAt}
-use Rattle.rv_replay.specs.Traces.{AreTyped, Fixes, IsTrace, given, kinds_of}
+use Rattle.rv_replay.specs.Traces.{Fixes, IsTrace, given, kinds_of}
 use Rattle.rv_replay.proofs.FlatTraces.{starts_same}
 use Rattle.rv_falsify.specs.Falsifying.{IsFalsifying, IsNeverFalsified, IsShortest}
 use Rattle.rv_falsify.proofs.Spelling.{drop_none}

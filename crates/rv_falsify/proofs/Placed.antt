@@ -1,5 +1,5 @@
 -- Where the bits of memories and inputs stand among the diagram variables of a flat system.
-use Rattle.std.proofs.Common.{◌≡◌, ◌⊎◌, inl, inr, ℕ, zero, suc, ◌+◌, ◌*◌, ◌<◌, ◌≤◌, Bool, true, false, ◌&&◌, cond, nat_eq, List, [], ◌∷◌, ◌++◌, length, length-append, map, refl, sym, ◌∙◌, ap, subst, arith, Option, Some}
+use Rattle.std.proofs.Common.{◌≡◌, inl, inr, ℕ, zero, suc, ◌+◌, ◌*◌, ◌<◌, ◌≤◌, Bool, true, false, ◌&&◌, cond, nat_eq, List, [], ◌∷◌, ◌++◌, length, length-append, map, refl, sym, ◌∙◌, ap, subst, arith, Option, Some}
 use Rattle.std.proofs.Common.{None as Nothing}
 use Rattle.std.specs.Prelude.{slice_index_or}
 use Rattle.std.specs.List.{Contains}
@@ -12,7 +12,7 @@ use Rattle.rv_tree.specs.Places.{Identifier, Sites, index_of}
 use Rattle.rv_types.specs.declared.typed.Kind.{Kind}
 use Rattle.rv_types.specs.Kinds.{decl_kinds}
 use Rattle.rv_types.specs.Instances.{node_of}
-use Rattle.rv_types.specs.Lists.{Variable, MainTick, Tick, Kept, Next, Input, Test, MemoryAt, AreRising, AreVariables, bits, with_copies, memory_variables, input_variables, test_variables, memory_places}
+use Rattle.rv_types.specs.Lists.{Variable, MainTick, Tick, Kept, Input, MemoryAt, AreRising, AreVariables, bits, with_copies, memory_variables, input_variables, test_variables, memory_places}
 use Rattle.rv_types.specs.Needs.{IsBefore}
 use Rattle.rv_types.specs.Variables.{kind_bits}
 use Rattle.rv_agreement.specs.Trees.{System, kind_at}
@@ -32,7 +32,7 @@ use Rattle.rv_flat.specs.Lists.{tick_places, variable_of}
 use Rattle.rv_flat.specs.Steps.{label_counts, memory_kinds, input_kinds}
 use Rattle.rv_flat.specs.Systems.{memory_of}
 use Rattle.rv_flat.proofs.Earliest.{not_itself}
-use Rattle.rv_flat.proofs.Members.{none_in, at_head, in_tail, head_or_tail, from_flat_map}
+use Rattle.rv_flat.proofs.Members.{at_head, in_tail, head_or_tail, from_flat_map}
 use Rattle.rv_flat.proofs.PlaceNumbers.{same_text}
 use Rattle.rv_control.specs.Named.{same_variable, tick_variable, truth_at, variables_of}
 use Rattle.rv_control.proofs.Listed.{IsStateBit, a_tick, a_bit, IsInputBit, a_bit_of, IsTestBit, a_test}

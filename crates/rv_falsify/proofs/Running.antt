@@ -1,9 +1,8 @@
 -- The instants of a run: the observer is there with a truth value, and without integers no value leaves the range.
-use Rattle.std.proofs.Common.{◌≡◌, inl, inr, ℕ, ℤ, zero, suc, ◌+◌, ◌^◌, ◌<◌, ◌≤◌, Bool, true, false, cond, List, [], ◌∷◌, map, length, get_or, refl, sym, ◌∙◌, ap, subst, arith, Option, Some, IsSome, slice_get}
+use Rattle.std.proofs.Common.{◌≡◌, inl, inr, ℕ, ℤ, zero, suc, ◌+◌, ◌^◌, ◌<◌, ◌≤◌, Bool, true, false, cond, List, [], ◌∷◌, length, get_or, refl, sym, ◌∙◌, ap, subst, arith, Option, Some, IsSome, slice_get}
 use Rattle.std.proofs.Common.{None as Nothing}
 use Rattle.std.specs.FinMap.{empty}
 use Rattle.std.specs.FinMap as finite
-use Rattle.std.specs.List.{Contains}
 use Rattle.std.proofs.lemmas.Bool.{cases_lt}
 use Rattle.std.proofs.lemmas.Int.{ints}
 use Rattle.std.proofs.lemmas.List.{get_or-map, get_or_default, get_or_past, length-map}
@@ -11,12 +10,11 @@ use Rattle.rv_base.specs.declared.value.Value.{Value}
 use Rattle.rv_base.specs.declared.value.Value.TheVariants.{Flag, Label, Whole}
 use Rattle.rv_tree.specs.Tree.{ProgramTree}
 use Rattle.rv_tree.specs.Places.{Identifier, Sites}
-use Rattle.rv_tree.specs.Delays.{Delay, node_delays}
 use Rattle.rv_types.specs.declared.typed.Kind.{Kind}
 use Rattle.rv_types.specs.declared.typed.Kind.TheVariants as kind
 use Rattle.rv_types.specs.declared.typed.Clock.{Clock}
 use Rattle.rv_types.specs.declared.typed.Clock.TheVariants.{Base}
-use Rattle.rv_types.specs.Instances.{Instance, absolute, clock_in, is_main, main_instance, place, IsInstance}
+use Rattle.rv_types.specs.Instances.{absolute, clock_in, is_main, main_instance, place}
 use Rattle.rv_types.specs.Lists.{memory_at}
 use Rattle.rv_types.specs.Values.{HasKind, operand_kind}
 use Rattle.rv_types.specs.Variables.{is_integer}
@@ -42,7 +40,7 @@ use Rattle.rv_flat.proofs.Weighing.{size}
 use Rattle.rv_control.specs.Control.{control_of}
 use Rattle.rv_control.proofs.Program.{RunsAreFlat}
 use Rattle.rv_replay.specs.Observers.{IsObserved}
-use Rattle.rv_replay.specs.Replays.{flow, memory, HasOutgrown, StaysWithin}
+use Rattle.rv_replay.specs.Replays.{flow, memory, StaysWithin}
 use Rattle.rv_falsify.proofs.Weighed.{flow_small}
 use Rattle.rv_replay.proofs.Observers.{InputsOfProgram, StatesOfProgram, TypedFlows, its_clock, its_place, observer, truth}
 

@@ -1,5 +1,5 @@
 -- Where the bits of memories and inputs stand among the diagram variables.
-use Rattle.std.specs.Prelude.{ℕ, zero, suc, ◌+◌, ◌*◌, Bool, false, List, [], ◌∷◌, length, slice_index_or}
+use Rattle.std.specs.Prelude.{ℕ, zero, suc, ◌+◌, ◌*◌, Bool, false, List, [], ◌∷◌, slice_index_or}
 use Rattle.rv_types.specs.declared.typed.Kind.{Kind}
 use Rattle.rv_agreement.specs.Agreement.{bit_count}
 

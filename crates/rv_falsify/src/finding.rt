@@ -163,7 +163,8 @@ fn find_candidate(
         Some(candidate) => {
             let flat = reading.flat();
             let trace = trace_with(alloc, flat, &candidate)?;
-            Ok(confirmed(alloc, source, flat, trace)?)
+            let found = confirmed(alloc, source, flat, trace)?;
+            Ok(found)
         }
         None => Ok(None),
     }

@@ -10,9 +10,3 @@ cut-requires-clause-trace c =
     let p = program_tree s.program in
     let of = observed p s.typed s.order c.requires.fits (λ m text settled. c.well_formed_programs.ensures p m s.typed text settled) f c.requires.flat in
     c.flat_traces.ensures.back p (name_at p s.typed.main) f c.args.trace of.well of.named of.flat (c.in_ok-is.ensures c.if-is.true)
-
-pub returns-then-is-clause-falsifies : goal.returns-then-is-clause-falsifies
-returns-then-is-clause-falsifies c = c.cut.ensures
-
-pub returns-clause-falsifies : goal.returns-clause-falsifies
-returns-clause-falsifies c = λ t e. let wrong : ⊥ = cc in absurd wrong

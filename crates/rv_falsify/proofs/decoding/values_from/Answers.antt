@@ -1,4 +1,4 @@
-use Rattle.std.proofs.Common.{◌≡◌, ◌+◌, ◌*◌, ◌∙◌, ◌∷◌, [], ℕ, List, pos, length, length-append, map, ap, arith}
+use Rattle.std.proofs.Common.{◌≡◌, ◌*◌, ◌∙◌, ◌∷◌, [], ℕ, List, pos, length, length-append, map, ap, arith}
 use Rattle.rv_agreement.specs.Trees.{kind_at}
 use Rattle.rv_control.specs.Spelled.{value_at}
 use Rattle.rv_falsify.specs.Decoding.{bits_before, bits_along}

@@ -1,8 +1,6 @@
-use Rattle.std.proofs.Common.{Ok, Some, ap, sym, ◌∙◌, subst}
-use Rattle.std.specs.Prelude.{IfSome}
+use Rattle.std.proofs.Common.{ap, sym, ◌∙◌, subst}
 use Rattle.rv_tree.specs.Tree.{program_tree}
 use Rattle.rv_types.specs.Instances.{name_at}
-use Rattle.rv_flat.specs.declared.flat.Flat.{Flat}
 use Rattle.rv_flat.specs.FlatOf.{IsFlatOf}
 use Rattle.rv_reading.specs.declared.reading.Reading.{Reading}
 use Rattle.rv_reading.specs.Read.{flat_of}
@@ -17,3 +15,6 @@ pub confirmed-requires-clause-flat : goal.confirmed-requires-clause-flat
 confirmed-requires-clause-flat c =
     let p = program_tree c.args.source.now.program in
     subst (IsFlatOf p (name_at p c.args.source.now.typed.main)) (sym (c.flat-flat.ensures ∙ ap (λ (r : Reading). flat_of r) c.candidate.ensures.same)) c.requires.flat
+
+pub returns-in_ok-found-in-Some-clause-falsifies : goal.returns-in_ok-found-in-Some-clause-falsifies
+returns-in_ok-found-in-Some-clause-falsifies c = λ t e. c.in_ok-found-in-Some.ensures.falsifies t (cc)
