@@ -33,11 +33,7 @@ fn hull(alloc: Global, a: &Poly, b: &Poly) -> Result<Poly, Memory>
 }
 
 /// Rows that the points of either meet, of which each may have no point.
-fn joined(
-    alloc: Global,
-    value: Option<Poly>,
-    image: Option<Poly>,
-) -> Result<Option<Poly>, Memory>
+fn joined(alloc: Global, value: Option<Poly>, image: Option<Poly>) -> Result<Option<Poly>, Memory>
     requires { (s : System) × IfSome value (λ p. AreKept s p.rows) × IfSome image (λ p. AreKept s p.rows) }
     ensures { (s : System) → IfSome value (λ p. AreKept s p.rows) → IfSome image (λ p. AreKept s p.rows)
         → IfOk result (λ o. IfSome o (λ p. AreKept s p.rows)) }
@@ -75,11 +71,7 @@ fn image_by(alloc: Global, state: &Poly, case: &Case) -> Result<Option<Poly>, Me
 
 /// Rows that hold after all cases of a location with the given rows, or none where the observer is false in each, or its premises are
 /// refuted.
-pub fn images_of(
-    alloc: Global,
-    state: &Poly,
-    cases: &Many<Case>,
-) -> Result<Option<Poly>, Memory>
+pub fn images_of(alloc: Global, state: &Poly, cases: &Many<Case>) -> Result<Option<Poly>, Memory>
     requires { (s : System) × IsSized s × AreKept s state.now.rows × AreCasesOf s cases.now }
     ensures { (s : System) → IsSized s → AreKept s state.now.rows → AreCasesOf s cases.now
         → IfOk result (λ o. IfSome o (λ p. AreKept s p.rows)) }

@@ -18,7 +18,6 @@ use rv_base::{Many, Memory};
 use rv_cases::{Questions, cases};
 use rv_claims::Claim;
 use rv_diagram::{Frozen, Store, StoreFault};
-
 use rv_proofs::{Certificate, Verdict};
 use rv_rows::Row;
 use rv_symbolic::Relation;
