@@ -21,6 +21,7 @@
 mod entries;
 mod growing;
 mod iterating;
+mod keeping;
 mod lists;
 mod locations;
 mod numbers;
