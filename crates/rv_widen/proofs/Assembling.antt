@@ -1,5 +1,5 @@
 -- Entries, locations and the certificate have the counts and ranges of a document.
-use Rattle.std.proofs.Common.{◌≡◌, ℕ, zero, suc, ◌+◌, ◌<◌, ◌≤◌, ◌^◌, pos, ◌≤ℤ◌, List, [], ◌∷◌, ◌++◌, length, get_or, All, Some, slice_get, ◌⊎◌, inl, inr}
+use Rattle.std.proofs.Common.{◌≡◌, ℕ, zero, suc, ◌+◌, ◌<◌, ◌^◌, pos, ◌≤ℤ◌, List, [], ◌∷◌, ◌++◌, length, get_or, All, Some, slice_get, ◌⊎◌, inl, inr}
 use Rattle.std.proofs.Common.{arith, lit≤, refl, sym, ap, ◌∙◌, subst}
 use Rattle.std.proofs.lemmas.Int.{ints}
 use Rattle.std.proofs.lemmas.Option.{slice_get_within, get_or_from_slice_get, same_Some}

@@ -1,5 +1,5 @@
 -- What a case of a system gives within the limits: its premises, and rows that can be taken before its updates.
-use Rattle.std.proofs.Common.{◌≡◌, ℕ, zero, suc, ◌+◌, ◌<◌, ◌≤◌, ◌^◌, pos, List, [], ◌∷◌, ◌++◌, length, get_or, All, Option, Some, slice_get, arith, refl, sym, ap, ◌∙◌, subst, ◌⊎◌, inl, inr, lit≤, take}
+use Rattle.std.proofs.Common.{◌≡◌, ℕ, zero, suc, ◌<◌, ◌≤◌, ◌^◌, pos, List, [], ◌∷◌, ◌++◌, length, get_or, All, Option, Some, slice_get, arith, refl, sym, ap, ◌∙◌, subst, ◌⊎◌, inl, inr, lit≤, take}
 use Rattle.std.proofs.Common.{None as Nothing}
 use Rattle.std.proofs.lemmas.Bool.{cases_lt}
 use Rattle.std.proofs.lemmas.Option.{slice_get_within, slice_get-get_or, get_or_from_slice_get}
@@ -11,7 +11,6 @@ use Rattle.rv_rows.specs.declared.linear.Row.{Row}
 use Rattle.rv_rows.specs.declared.linear.Form.{Form}
 use Rattle.rv_rows.specs.Rows.{row_at, RowWithin}
 use Rattle.rv_rows.specs.Forms.{IsSubstituted, CanSubstitute, forms_width}
-use Rattle.rv_rows.specs.Tight.{Fits}
 use Rattle.rv_proofs.specs.Systems.{System, IsUpdate, rows_among, held_row, updates_among}
 use Rattle.rv_proofs.specs.Scopes.{IsIn}
 use Rattle.rv_proofs.specs.Ranges.{AreKept}

@@ -1,5 +1,5 @@
 -- What is given in a store that is the same, and what the checker asks for.
-use Rattle.std.proofs.Common.{◌≡◌, ◌^◌, ◌≤◌, ℕ, List, length, ◌∙◌, arith, subst, sym}
+use Rattle.std.proofs.Common.{◌≡◌, ◌^◌, ◌≤◌, ℕ, length, ◌∙◌, arith, subst, sym}
 use Rattle.rv_diagram.specs.Nodes.{Diagrams, IsMeant}
 use Rattle.rv_proofs.specs.Systems.{System}
 use Rattle.rv_proofs.specs.declared.certificate.Certificate.{Certificate}

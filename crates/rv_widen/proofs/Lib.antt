@@ -1,5 +1,4 @@
 pub mod Pushing
-pub mod Mapping
 pub mod Fitting
 pub mod Recording
 pub mod Assembling

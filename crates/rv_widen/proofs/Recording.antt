@@ -1,5 +1,5 @@
 -- The ranges of multipliers that a document writes, said otherwise.
-use Rattle.std.proofs.Common.{◌≡◌, ℕ, ◌<◌, ◌≤◌, ◌^◌, pos, ◌≤ℤ◌, length, get_or, All, Some, slice_get, arith, ap}
+use Rattle.std.proofs.Common.{◌≡◌, ℕ, ◌<◌, ◌^◌, pos, ◌≤ℤ◌, get_or, arith, ap}
 use Rattle.std.proofs.lemmas.Option.{slice_get_within, get_or_from_slice_get}
 use Rattle.std.proofs.lemmas.List.Elements.{All-weaker}
 use Rattle.rv_rows.specs.declared.farkas.Weight.{Weight}

@@ -1,5 +1,5 @@
 -- What is given, and the limits within which a certificate is sought.
-use Rattle.std.specs.Prelude.{◌≡◌, ℕ, ◌≤◌, ◌^◌, List, length, All, Some, slice_get}
+use Rattle.std.specs.Prelude.{◌≡◌, ℕ, ◌≤◌, ◌^◌, List, length, Some, slice_get}
 use Rattle.rv_diagram.specs.Nodes.{Diagrams}
 use Rattle.rv_rows.specs.declared.linear.Row.{Row}
 use Rattle.rv_rows.specs.Tight.{Fits}

@@ -7,6 +7,7 @@ ghost use Rattle.rv_proofs.specs.Ranges.{AreKept};
 ghost use Rattle.rv_proofs.specs.Cases.{IsCaseOf};
 ghost use Rattle.rv_widen.specs.Given.{IsSized, AreCasesOf};
 
+use crate::keeping::distinct;
 use crate::lists::{copy_rows, state_of};
 use crate::premises::{is_refuted, premises_of};
 use rv_base::{Many, Memory};
@@ -29,7 +30,8 @@ fn hull(alloc: Global, a: &Poly, b: &Poly) -> Result<Poly, Memory>
         });
     }
     let found = a.join(alloc, b)?;
-    Ok(found)
+    let rows = distinct(alloc, &found.rows)?;
+    Ok(Poly { rows })
 }
 
 /// Rows that the points of either meet, of which each may have no point.
@@ -66,7 +68,8 @@ fn image_by(alloc: Global, state: &Poly, case: &Case) -> Result<Option<Poly>, Me
         return Ok(None);
     }
     let image = state.after(alloc, &case.rows, &case.updates)?;
-    Ok(Some(image))
+    let rows = distinct(alloc, &image.rows)?;
+    Ok(Some(Poly { rows }))
 }
 
 /// Rows that hold after all cases of a location with the given rows, or none where the observer is false in each, or its premises are

@@ -14,6 +14,23 @@ use rv_proofs::Case;
 use rv_rows::Row;
 use std::alloc::Global;
 
+/// The most work that is taken on: cases times the square of how many memories there are, since there are twice as many left sides.
+const MOST_WORK: usize = 4096;
+
+/// The work of cases.
+fn work_of(cases: &Many<Case>) -> usize {
+    match cases.get(0) {
+        Some(case) => {
+            let memories = case.updates.len();
+            cases
+                .len()
+                .saturating_mul(memories)
+                .saturating_mul(memories)
+        }
+        None => 0,
+    }
+}
+
 /// Those of the rows that the initial control states lead to, and that the others keep beside the rows of the claim, or none after too many
 /// rounds.
 fn lasting(
@@ -73,7 +90,7 @@ fn visited(
 }
 
 /// Rows that hold at the other control states beside those of the claim: they grow by joins and fall, until all cases keep them, and once
-/// more after a descending step. None where none are found.
+/// more after a descending step. None where none are found, or where the work is more than is taken on.
 pub fn found_rows(
     alloc: Global,
     given: &Many<Row>,
@@ -84,6 +101,9 @@ pub fn found_rows(
     ensures { (s : System) → IsSized s → AreKept s given.now → AreCasesOf s start.now → AreCasesOf s others.now
         → IfOk result (λ o. IfSome o (AreKept s)) }
 {
+    if work_of(start) > MOST_WORK || work_of(others) > MOST_WORK {
+        return Ok(None);
+    }
     let nothing = Poly {
         rows: Many::new(alloc),
     };

@@ -1,14 +1,15 @@
 //! Rows that fall: those that the cases of a location do not show after their updates are dropped. Cases whose observer is false are left
 //! out, since in a certificate their premises are refuted.
 
-ghost use Rattle.std.specs.Prelude.{◌≡◌, ◌+◌, ◌<◌, ◌≤◌, ◌^◌, ◌++◌, length, All, IfOk, IfSome, OnOk};
+ghost use Rattle.std.specs.Prelude.{◌≡◌, ◌+◌, ◌<◌, ◌≤◌, ◌^◌, ◌++◌, length, All, IfOk, IfSome};
 ghost use Rattle.rv_rows.specs.Rows.{RowWithin};
 ghost use Rattle.rv_proofs.specs.Systems.{System};
 ghost use Rattle.rv_proofs.specs.Ranges.{AreKept};
 ghost use Rattle.rv_proofs.specs.Cases.{IsCaseOf};
 ghost use Rattle.rv_widen.specs.Given.{IsKeptRow, IsSized, AreCasesOf};
 
-use crate::lists::{copy_row, state_of};
+use crate::keeping::keep_row;
+use crate::lists::state_of;
 use crate::premises::{is_proved_after, is_refuted, premises_of};
 use rv_base::{Many, Memory};
 use rv_proofs::Case;
@@ -18,18 +19,6 @@ use std::alloc::Global;
 
 /// How many rounds there may be.
 const MOST_ROUNDS: usize = 64;
-
-/// Adds the row where it is to be kept.
-fn keep_row(alloc: Global, rows: &mut Many<Row>, row: &Row, keep: bool) -> Result<(), Memory>
-    ensures kept { (s : System) → IsKeptRow s row.now → All (IsKeptRow s) rows.old → OnOk result (All (IsKeptRow s) rows.new) }
-    ensures count { OnOk result (length rows.new ≤ length rows.old + 1) }
-{
-    if keep {
-        let copy = copy_row(alloc, row)?;
-        rows.push(copy)?;
-    }
-    Ok(())
-}
 
 /// Those of the rows that the premises of a case prove after its updates.
 fn proved_of(

@@ -14,6 +14,7 @@ join-requires-clause-widths c = let (s, one, two) = c.requires in both_widths s 
 
 pub returns : goal.returns
 returns c s one two =
-    poly_kept s c.in_ok-found.found.rows (rows_width (c.args.a.now.rows ++ c.args.b.now.rows))
+    c.in_ok-rows.ensures s
+    (poly_kept s c.in_ok-found.found.rows (rows_width (c.args.a.now.rows ++ c.args.b.now.rows))
     (first_width s c.args.a.now.rows c.args.b.now.rows one (λ e. let t = c.is_empty.ensures.1 e in let f = c.if-is_empty.false in cc))
-    c.in_ok-found.ensures.poly c.in_ok-found.ensures.few c.in_ok-found.ensures.width
+    c.in_ok-found.ensures.poly c.in_ok-found.ensures.few c.in_ok-found.ensures.width)

@@ -16,5 +16,6 @@ after-requires-clause-updates c = let (s, sized, kept, of) = c.requires in one_w
 
 pub returns : goal.returns
 returns c s sized kept of =
-    poly_kept s c.in_ok-image.image.rows (length c.args.case.now.updates) (many_updates s sized c.args.case.now of) c.in_ok-image.ensures.poly
-    c.in_ok-image.ensures.few c.in_ok-image.ensures.width
+    c.in_ok-rows.ensures s
+    (poly_kept s c.in_ok-image.image.rows (length c.args.case.now.updates) (many_updates s sized c.args.case.now of) c.in_ok-image.ensures.poly
+    c.in_ok-image.ensures.few c.in_ok-image.ensures.width)

@@ -1,5 +1,4 @@
 use Rattle.std.specs.Prelude.{IfSome}
-use Rattle.rv_poly.specs.declared.poly.Poly.{Poly}
 use Rattle.rv_proofs.specs.Systems.{System}
 use Rattle.rv_proofs.specs.Ranges.{AreKept}
 use Rattle.rv_widen.specs.Given.{IsSized, AreCasesOf}

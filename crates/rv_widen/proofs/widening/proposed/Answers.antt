@@ -1,7 +1,4 @@
-use Rattle.std.proofs.Common.{◌≡◌, ℕ}
-use Rattle.rv_proofs.specs.Systems.{System}
-use Rattle.rv_proofs.specs.Ranges.{AreKept}
-use Rattle.rv_widen.specs.Given.{IsSized, IsPlan, IsPart}
+use Rattle.rv_widen.specs.Given.{IsPlan}
 use Rattle.rv_widen.proofs.Fitting.{kept_state}
 use Rattle.rv_widen.proofs.widening.proposed.Goals as goal
 

@@ -1,4 +1,4 @@
-use Rattle.std.proofs.Common.{◌≡◌, ◌≤◌, ◌^◌, ◌∙◌, arith}
+use Rattle.std.proofs.Common.{◌≤◌, ◌^◌, arith}
 use Rattle.rv_widen.proofs.Giving.{given_there, sized_of, tests_of}
 use Rattle.rv_widen.proofs.widening.sought.Goals as goal
 
