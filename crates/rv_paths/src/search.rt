@@ -9,12 +9,13 @@ ghost use Rattle.rv_diagram.specs.Nodes.{IsOrderedOver};
 ghost use Rattle.rv_symbolic.specs.Represented.{IsRelationOf};
 ghost use Rattle.rv_paths.specs.Searching.{AreNodes, IsPlanOf, IsSetting, IsFirstTree, cases_of};
 
+use crate::hulls::{hulls_of, is_refuted};
 use crate::points::{inputs_of, part_of, point_of};
 use crate::sets::is_within;
-use crate::spans::{Span, all_numbers, are_points, cover, spans_after, spans_at};
+use crate::spans::{Span, all_numbers, are_points, cover, meet, spans_after, spans_at};
 use crate::trace::Candidate;
 use crate::tree::{Node, Plan, Tree, Turn, next_node, with_turn};
-use crate::unroll::columns_before;
+use crate::unroll::{Joined, columns_of, last_joined};
 use crate::words::{some_word, words_of};
 use rv_base::{Many, Memory};
 use rv_diagram::{Frozen, Store, StoreFault};
@@ -30,6 +31,9 @@ const MOST_WORK: u64 = 1 << 20;
 
 /// What the rows of a path count at least.
 const PATH_WORK: u64 = 1024;
+
+/// What the bound of a form counts at least.
+const BOUND_WORK: u64 = 16;
 
 /// What an image counts at least.
 const IMAGE_WORK: u64 = 16;
@@ -52,7 +56,7 @@ fn spend(work: &mut u64, cost: u64) {
 
 /// What the rows of a path count, by how many columns they have.
 fn path_work(plan: &Plan, turns: &Many<Turn>) -> u64 {
-    let columns = columns_before(plan, turns.len()) as u64;
+    let columns = columns_of(plan, turns) as u64;
     let square = columns.saturating_mul(columns);
     PATH_WORK.saturating_add(square.saturating_mul(2))
 }
@@ -126,14 +130,48 @@ fn spans_by(
     }
 }
 
-/// The node to which a set of control states with spans leads, unless one with the same is there.
+/// What the bounds of forms over rows count.
+fn bounds_work(joined: &Joined) -> u64 {
+    let Some(row) = joined.rows.get(0) else {
+        return 0;
+    };
+    let columns = row.coefficients.len() as u64;
+    let forms = joined.forms.len() as u64;
+    let one = BOUND_WORK.saturating_add(columns.saturating_mul(columns) / 2);
+    one.saturating_mul(forms.saturating_mul(2).saturating_add(1))
+}
+
+/// The spans at the end of a path as the rows of its last instants narrow them, unless these are refuted.
+fn spans_along(
+    alloc: Global,
+    plan: &Plan,
+    nodes: &Many<Node>,
+    turns: &Many<Turn>,
+    spans: &Many<Span>,
+    work: &mut u64,
+) -> Result<Option<Many<Span>>, Memory> {
+    let Some(joined) = last_joined(alloc, plan, nodes, turns)? else {
+        return Ok(None);
+    };
+    spend(work, bounds_work(&joined));
+    if is_refuted(alloc, &joined.rows)? {
+        return Ok(None);
+    }
+    let hulls = hulls_of(alloc, &joined.rows, &joined.forms)?;
+    let met = meet(alloc, spans, &hulls)?;
+    Ok(Some(met))
+}
+
+/// The node to which a set of control states with spans leads, unless one with the same is there, or the rows of its path are refuted.
 fn node_of(
     alloc: Global,
     store: &mut Store,
+    plan: &Plan,
     nodes: &Many<Node>,
     turn: Turn,
     control: Frozen,
     spans: Many<Span>,
+    work: &mut u64,
 ) -> Result<Option<Node>, StoreFault>
     requires place { turn.node < length nodes.now }
     requires setting { (s : System) × (store.old.variables ≡ s.variables) × AreNodes s nodes.now × IsControlSet s control }
@@ -141,11 +179,17 @@ fn node_of(
     ensures same { store.new ≡ store.old }
     ensures roomy { IsErrOf result StoreFault.Nodes → store.old.limit < 2 ^ (2 ^ store.old.variables) }
 {
+    if placed_among(store, nodes, &control, &spans)? == Standing::Known {
+        return Ok(None);
+    }
+    let turns = with_turn(alloc, &nodes.at(turn.node).turns, turn)?;
+    let Some(spans) = spans_along(alloc, plan, nodes, &turns, &spans, work)? else {
+        return Ok(None);
+    };
     let found = placed_among(store, nodes, &control, &spans)?;
     if found == Standing::Known {
         return Ok(None);
     }
-    let turns = with_turn(alloc, &nodes.at(turn.node).turns, turn)?;
     Ok(Some(Node {
         turns,
         control,
@@ -185,7 +229,7 @@ fn next_by(
     if control.root == 0 {
         return Ok(None);
     }
-    node_of(alloc, store, nodes, turn, control, spans)
+    node_of(alloc, store, plan, nodes, turn, control, spans, work)
 }
 
 /// Adds that node, while there is room and work left.
