@@ -54,11 +54,17 @@ fn spend(work: &mut u64, cost: u64) {
     *work = work.saturating_add(cost);
 }
 
-/// What the rows of a path count, by how many columns they have.
+/// What a bound over the rows of a path counts: it takes about as many steps as there are columns, each over all columns of all rows.
+fn bound_work(columns: usize) -> u64 {
+    let many = columns as u64;
+    let cube = many.saturating_mul(many).saturating_mul(many);
+    BOUND_WORK.saturating_add(cube / 64)
+}
+
+/// What a point of the rows of a path counts.
 fn path_work(plan: &Plan, turns: &Many<Turn>) -> u64 {
-    let columns = columns_of(plan, turns) as u64;
-    let square = columns.saturating_mul(columns);
-    PATH_WORK.saturating_add(square.saturating_mul(2))
+    let bounds = bound_work(columns_of(plan, turns));
+    PATH_WORK.saturating_add(bounds.saturating_mul(4))
 }
 
 /// What the image of a set by a case counts, by the sizes of the set and of the condition.
@@ -130,35 +136,38 @@ fn spans_by(
     }
 }
 
-/// What the bounds of forms over rows count.
-fn bounds_work(joined: &Joined) -> u64 {
-    let Some(row) = joined.rows.get(0) else {
-        return 0;
-    };
-    let columns = row.coefficients.len() as u64;
-    let forms = joined.forms.len() as u64;
-    let one = BOUND_WORK.saturating_add(columns.saturating_mul(columns) / 2);
-    one.saturating_mul(forms.saturating_mul(2).saturating_add(1))
+/// What a bound over the joined rows counts.
+fn joined_work(joined: &Joined) -> u64 {
+    match joined.rows.get(0) {
+        Some(row) => bound_work(row.coefficients.len()),
+        None => 0,
+    }
 }
 
-/// The spans at the end of a path as the rows of its last instants narrow them, unless these are refuted.
+/// The spans at the end of a path, unless the rows of its last instants are refuted; narrowed by these rows where `fresh` is true.
 fn spans_along(
     alloc: Global,
     plan: &Plan,
     nodes: &Many<Node>,
     turns: &Many<Turn>,
-    spans: &Many<Span>,
+    spans: Many<Span>,
+    fresh: bool,
     work: &mut u64,
 ) -> Result<Option<Many<Span>>, Memory> {
     let Some(joined) = last_joined(alloc, plan, nodes, turns)? else {
         return Ok(None);
     };
-    spend(work, bounds_work(&joined));
+    spend(work, joined_work(&joined));
     if is_refuted(alloc, &joined.rows)? {
         return Ok(None);
     }
+    if !fresh {
+        return Ok(Some(spans));
+    }
+    let bounds = (spans.len() as u64).saturating_mul(2);
+    spend(work, joined_work(&joined).saturating_mul(bounds));
     let hulls = hulls_of(alloc, &joined.rows, &joined.forms)?;
-    let met = meet(alloc, spans, &hulls)?;
+    let met = meet(alloc, &spans, &hulls)?;
     Ok(Some(met))
 }
 
@@ -179,11 +188,14 @@ fn node_of(
     ensures same { store.new ≡ store.old }
     ensures roomy { IsErrOf result StoreFault.Nodes → store.old.limit < 2 ^ (2 ^ store.old.variables) }
 {
-    if placed_among(store, nodes, &control, &spans)? == Standing::Known {
+    let first = placed_among(store, nodes, &control, &spans)?;
+    if first == Standing::Known {
         return Ok(None);
     }
     let turns = with_turn(alloc, &nodes.at(turn.node).turns, turn)?;
-    let Some(spans) = spans_along(alloc, plan, nodes, &turns, &spans, work)? else {
+    let fresh = first == Standing::Fresh;
+    let narrowed = spans_along(alloc, plan, nodes, &turns, spans, fresh, work)?;
+    let Some(spans) = narrowed else {
         return Ok(None);
     };
     let found = placed_among(store, nodes, &control, &spans)?;

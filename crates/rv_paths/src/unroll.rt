@@ -173,6 +173,49 @@ fn first_forms(alloc: Global, memories: usize, width: usize) -> Result<Many<Form
     Ok(forms)
 }
 
+/// The place of a row with these coefficients.
+fn place_of(rows: &Many<Row>, coefficients: &Many<i128>) -> Option<usize>
+    ensures { IfSome result (λ place. place < length rows.now) }
+{
+    for place in 0..rows.len() {
+        if rows.at(place).coefficients == *coefficients {
+            return Some(place);
+        }
+    }
+    None
+}
+
+/// Puts a row in the place of one that it implies, where its bound is lower.
+fn lower(rows: &mut Many<Row>, place: usize, row: Row, width: usize)
+    requires place { place < length rows.old }
+    requires row { IsJoinedRow width row }
+    requires rows { All (IsJoinedRow width) rows.old }
+    ensures { All (IsJoinedRow width) rows.new }
+{
+    if row.bound >= rows.at(place).bound {
+        return;
+    }
+    rows.set(place, row);
+}
+
+/// Adds a row, or lowers the bound of the one with its coefficients.
+fn add_row(rows: &mut Many<Row>, row: Row, width: usize) -> Result<(), Memory>
+    requires row { IsJoinedRow width row }
+    requires rows { All (IsJoinedRow width) rows.old }
+    ensures { OnOk result (All (IsJoinedRow width) rows.new) }
+{
+    match place_of(rows, &row.coefficients) {
+        Some(place) => {
+            lower(rows, place, row, width);
+            Ok(())
+        }
+        None => {
+            rows.push(row)?;
+            Ok(())
+        }
+    }
+}
+
 /// Adds a row, tightened, unless it holds everywhere. Whether it is within the limits of kept rows and may hold.
 fn keep(rows: &mut Many<Row>, row: Row, width: usize) -> Result<bool, Memory>
     requires row { length row.coefficients ≡ width }
@@ -187,7 +230,7 @@ fn keep(rows: &mut Many<Row>, row: Row, width: usize) -> Result<bool, Memory>
     if are_zero(&tight.coefficients) {
         return Ok(tight.bound >= 0);
     }
-    rows.push(tight)?;
+    add_row(rows, tight, width)?;
     Ok(true)
 }
 
@@ -313,11 +356,7 @@ fn joined_from(
 }
 
 /// The rows of all instants of a path, over the columns of all its instants.
-pub fn all_joined(
-    alloc: Global,
-    plan: &Plan,
-    turns: &Many<Turn>,
-) -> Result<Option<Joined>, Memory>
+pub fn all_joined(alloc: Global, plan: &Plan, turns: &Many<Turn>) -> Result<Option<Joined>, Memory>
     ensures rows { IfOk result (λ o. IfSome o (λ j. AreJoined j.rows)) }
     ensures few { IfOk result (λ o. IfSome o (λ j. length j.rows < 2 ^ 32)) }
 {
