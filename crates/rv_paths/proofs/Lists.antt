@@ -1,11 +1,15 @@
 -- What holds of each element of a list.
-use Rattle.std.proofs.Common.{◌≡◌, ℕ, ◌<◌, ◌-◌, ℤ, pos, List, Some, All, length, reverse, slice_get, subst, sym, arith, ⊎_elim}
+use Rattle.std.proofs.Common.{◌≡◌, ℕ, ◌<◌, ◌^◌, ◌-◌, ℤ, pos, List, Some, All, length, reverse, get_or, slice_get, subst, sym, arith, ⊎_elim}
 use Rattle.std.proofs.lemmas.Bool.{cases_lt}
 use Rattle.std.proofs.lemmas.Int.{ints}
 use Rattle.std.proofs.lemmas.List.{get_or-reverse, length-reverse, get_or_past}
 use Rattle.std.proofs.lemmas.Option.{get_or_from_slice_get, slice_get_within}
 use Rattle.rv_rows.specs.Forms.{number}
+use Rattle.rv_rows.specs.declared.linear.Row.{Row}
+use Rattle.rv_rows.specs.Rows.{RowWithin}
+use Rattle.rv_rows.specs.Tight.{Fits}
 use Rattle.rv_poly.specs.Whole.{IsInReplay}
+use Rattle.rv_paths.specs.Joining.{AreJoined}
 
 pub all_at : {X : Type 0} (P : X → Type 0) (xs : List X) (i : ℕ) (x : X) → All P xs → slice_get xs i ≡ Some x → P x
 all_at P xs i x all is = subst P (get_or_from_slice_get xs i x x is) (all i x (slice_get_within xs i x is))
@@ -23,3 +27,6 @@ pub number_replay : (point : List ℤ) (k : ℕ) → All IsInReplay point → Is
 number_replay point k all =
     ⊎_elim (λ (lt : k < length point). all k (pos 0) lt) (λ ge. subst IsInReplay (sym (get_or_past point k (pos 0) ge)) zero_replay)
     (cases_lt k (length point))
+
+pub joined_within : (rows : List Row) → ((r : Row) → Fits r → RowWithin (2 ^ 60) r) → AreJoined rows → All (RowWithin (2 ^ 60)) rows
+joined_within rows kept joined k d low = let row = joined.each k d low in kept (get_or rows k d) row.fits

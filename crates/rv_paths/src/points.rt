@@ -5,7 +5,7 @@ ghost use Rattle.rv_poly.specs.Whole.{IsInReplay};
 ghost use Rattle.rv_paths.specs.Joining.{AreJoined};
 
 use crate::tree::{Plan, Turn};
-use crate::unroll::joined_rows;
+use crate::unroll::all_joined;
 use rv_base::{Many, Memory};
 use rv_poly::Poly;
 use rv_proofs::rows_have_room;
@@ -35,8 +35,8 @@ pub fn point_of(
 ) -> Result<Option<Many<i128>>, Memory>
     ensures { IfOk result (λ o. IfSome o (All IsInReplay)) }
 {
-    match joined_rows(alloc, plan, turns)? {
-        Some(rows) => point_of_rows(alloc, rows),
+    match all_joined(alloc, plan, turns)? {
+        Some(joined) => point_of_rows(alloc, joined.rows),
         None => Ok(None),
     }
 }

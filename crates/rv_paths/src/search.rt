@@ -9,12 +9,13 @@ ghost use Rattle.rv_diagram.specs.Nodes.{IsOrderedOver};
 ghost use Rattle.rv_symbolic.specs.Represented.{IsRelationOf};
 ghost use Rattle.rv_paths.specs.Searching.{AreNodes, IsPlanOf, IsSetting, IsFirstTree, cases_of};
 
+use crate::hulls::{hulls_of, is_refuted};
 use crate::points::{inputs_of, part_of, point_of};
 use crate::sets::is_within;
-use crate::spans::{Span, all_numbers, are_points, cover, spans_after, spans_at};
+use crate::spans::{Span, all_numbers, are_points, cover, meet, spans_after, spans_at};
 use crate::trace::Candidate;
 use crate::tree::{Node, Plan, Tree, Turn, next_node, with_turn};
-use crate::unroll::columns_before;
+use crate::unroll::{Joined, columns_of, last_joined};
 use crate::words::{some_word, words_of};
 use rv_base::{Many, Memory};
 use rv_diagram::{Frozen, Store, StoreFault};
@@ -30,6 +31,9 @@ const MOST_WORK: u64 = 1 << 20;
 
 /// What the rows of a path count at least.
 const PATH_WORK: u64 = 1024;
+
+/// What the bound of a form counts at least.
+const BOUND_WORK: u64 = 16;
 
 /// What an image counts at least.
 const IMAGE_WORK: u64 = 16;
@@ -50,11 +54,17 @@ fn spend(work: &mut u64, cost: u64) {
     *work = work.saturating_add(cost);
 }
 
-/// What the rows of a path count, by how many columns they have.
+/// What a bound over the rows of a path counts: it takes about as many steps as there are columns, each over all columns of all rows.
+fn bound_work(columns: usize) -> u64 {
+    let many = columns as u64;
+    let cube = many.saturating_mul(many).saturating_mul(many);
+    BOUND_WORK.saturating_add(cube / 64)
+}
+
+/// What a point of the rows of a path counts.
 fn path_work(plan: &Plan, turns: &Many<Turn>) -> u64 {
-    let columns = columns_before(plan, turns.len()) as u64;
-    let square = columns.saturating_mul(columns);
-    PATH_WORK.saturating_add(square.saturating_mul(2))
+    let bounds = bound_work(columns_of(plan, turns));
+    PATH_WORK.saturating_add(bounds.saturating_mul(4))
 }
 
 /// What the image of a set by a case counts, by the sizes of the set and of the condition.
@@ -126,14 +136,51 @@ fn spans_by(
     }
 }
 
-/// The node to which a set of control states with spans leads, unless one with the same is there.
+/// What a bound over the joined rows counts.
+fn joined_work(joined: &Joined) -> u64 {
+    match joined.rows.get(0) {
+        Some(row) => bound_work(row.coefficients.len()),
+        None => 0,
+    }
+}
+
+/// The spans at the end of a path, unless the rows of its last instants are refuted; narrowed by these rows where `fresh` is true.
+fn spans_along(
+    alloc: Global,
+    plan: &Plan,
+    nodes: &Many<Node>,
+    turns: &Many<Turn>,
+    spans: Many<Span>,
+    fresh: bool,
+    work: &mut u64,
+) -> Result<Option<Many<Span>>, Memory> {
+    let Some(joined) = last_joined(alloc, plan, nodes, turns)? else {
+        return Ok(None);
+    };
+    spend(work, joined_work(&joined));
+    if is_refuted(alloc, &joined.rows)? {
+        return Ok(None);
+    }
+    if !fresh {
+        return Ok(Some(spans));
+    }
+    let bounds = (spans.len() as u64).saturating_mul(2);
+    spend(work, joined_work(&joined).saturating_mul(bounds));
+    let hulls = hulls_of(alloc, &joined.rows, &joined.forms)?;
+    let met = meet(alloc, &spans, &hulls)?;
+    Ok(Some(met))
+}
+
+/// The node to which a set of control states with spans leads, unless one with the same is there, or the rows of its path are refuted.
 fn node_of(
     alloc: Global,
     store: &mut Store,
+    plan: &Plan,
     nodes: &Many<Node>,
     turn: Turn,
     control: Frozen,
     spans: Many<Span>,
+    work: &mut u64,
 ) -> Result<Option<Node>, StoreFault>
     requires place { turn.node < length nodes.now }
     requires setting { (s : System) × (store.old.variables ≡ s.variables) × AreNodes s nodes.now × IsControlSet s control }
@@ -141,11 +188,20 @@ fn node_of(
     ensures same { store.new ≡ store.old }
     ensures roomy { IsErrOf result StoreFault.Nodes → store.old.limit < 2 ^ (2 ^ store.old.variables) }
 {
+    let first = placed_among(store, nodes, &control, &spans)?;
+    if first == Standing::Known {
+        return Ok(None);
+    }
+    let turns = with_turn(alloc, &nodes.at(turn.node).turns, turn)?;
+    let fresh = first == Standing::Fresh;
+    let narrowed = spans_along(alloc, plan, nodes, &turns, spans, fresh, work)?;
+    let Some(spans) = narrowed else {
+        return Ok(None);
+    };
     let found = placed_among(store, nodes, &control, &spans)?;
     if found == Standing::Known {
         return Ok(None);
     }
-    let turns = with_turn(alloc, &nodes.at(turn.node).turns, turn)?;
     Ok(Some(Node {
         turns,
         control,
@@ -185,7 +241,7 @@ fn next_by(
     if control.root == 0 {
         return Ok(None);
     }
-    node_of(alloc, store, nodes, turn, control, spans)
+    node_of(alloc, store, plan, nodes, turn, control, spans, work)
 }
 
 /// Adds that node, while there is room and work left.

@@ -244,6 +244,36 @@ pub fn spans_after(
     Ok(after)
 }
 
+/// The span of numbers whose opposites are at most `below`, and which are at most `above`, where these are known.
+pub fn span_between(below: Option<i128>, above: Option<i128>) -> Span {
+    let zero: i128 = 0;
+    Span {
+        low: end_of(zero.saturating_sub(below.unwrap_or(FAR))),
+        high: end_of(above.unwrap_or(FAR)),
+    }
+}
+
+/// The numbers of both spans.
+fn common(one: Span, other: Span) -> Span {
+    Span {
+        low: one.low.max(other.low),
+        high: one.high.min(other.high),
+    }
+}
+
+/// The numbers of both spans of each column.
+pub fn meet(alloc: Global, spans: &Many<Span>, others: &Many<Span>) -> Result<Many<Span>, Memory> {
+    let mut met = Many::new(alloc);
+    for column in 0..spans.len() {
+        let span = *spans.at(column);
+        match others.get(column) {
+            Some(other) => met.push(common(span, *other))?,
+            None => met.push(span)?,
+        }
+    }
+    Ok(met)
+}
+
 /// Whether the numbers of the second span are numbers of the first.
 fn holds(outer: Span, inner: Span) -> bool {
     outer.low <= inner.low && inner.high <= outer.high

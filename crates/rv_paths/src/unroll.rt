@@ -4,7 +4,8 @@
 ghost use Rattle.std.specs.Prelude.{◌≡◌, ◌<◌, ◌^◌, All, length, IfOk, IfSome, OnOk};
 ghost use Rattle.rv_paths.specs.Joining.{IsJoinedRow, AreJoined};
 
-use crate::tree::{Plan, Turn};
+use crate::spans::{Span, are_points};
+use crate::tree::{Node, Plan, Turn};
 use rv_base::{Many, Memory};
 use rv_proofs::Case;
 use rv_rows::{Form, Row, number_at};
@@ -172,6 +173,49 @@ fn first_forms(alloc: Global, memories: usize, width: usize) -> Result<Many<Form
     Ok(forms)
 }
 
+/// The place of a row with these coefficients.
+fn place_of(rows: &Many<Row>, coefficients: &Many<i128>) -> Option<usize>
+    ensures { IfSome result (λ place. place < length rows.now) }
+{
+    for place in 0..rows.len() {
+        if rows.at(place).coefficients == *coefficients {
+            return Some(place);
+        }
+    }
+    None
+}
+
+/// Puts a row in the place of one that it implies, where its bound is lower.
+fn lower(rows: &mut Many<Row>, place: usize, row: Row, width: usize)
+    requires place { place < length rows.old }
+    requires row { IsJoinedRow width row }
+    requires rows { All (IsJoinedRow width) rows.old }
+    ensures { All (IsJoinedRow width) rows.new }
+{
+    if row.bound >= rows.at(place).bound {
+        return;
+    }
+    rows.set(place, row);
+}
+
+/// Adds a row, or lowers the bound of the one with its coefficients.
+fn add_row(rows: &mut Many<Row>, row: Row, width: usize) -> Result<(), Memory>
+    requires row { IsJoinedRow width row }
+    requires rows { All (IsJoinedRow width) rows.old }
+    ensures { OnOk result (All (IsJoinedRow width) rows.new) }
+{
+    match place_of(rows, &row.coefficients) {
+        Some(place) => {
+            lower(rows, place, row, width);
+            Ok(())
+        }
+        None => {
+            rows.push(row)?;
+            Ok(())
+        }
+    }
+}
+
 /// Adds a row, tightened, unless it holds everywhere. Whether it is within the limits of kept rows and may hold.
 fn keep(rows: &mut Many<Row>, row: Row, width: usize) -> Result<bool, Memory>
     requires row { length row.coefficients ≡ width }
@@ -186,7 +230,7 @@ fn keep(rows: &mut Many<Row>, row: Row, width: usize) -> Result<bool, Memory>
     if are_zero(&tight.coefficients) {
         return Ok(tight.bound >= 0);
     }
-    rows.push(tight)?;
+    add_row(rows, tight, width)?;
     Ok(true)
 }
 
@@ -258,30 +302,47 @@ fn join_case(
     forms_after(alloc, &case.updates, before, start, width)
 }
 
-/// How many columns there are before the inputs of an instant.
-pub fn columns_before(plan: &Plan, instant: usize) -> usize {
-    plan.memories
-        .saturating_add(plan.inputs.saturating_mul(instant))
+/// How many columns there are before the inputs of an instant, where there are so many before those of the first one.
+fn columns_before(columns: usize, inputs: usize, instant: usize) -> usize {
+    columns.saturating_add(inputs.saturating_mul(instant))
 }
 
-/// The rows of all instants of a path, where their numbers are within the limits and each may hold, over the columns of all its instants.
-pub fn joined_rows(
+/// How many columns a path has.
+pub fn columns_of(plan: &Plan, turns: &Many<Turn>) -> usize {
+    columns_before(plan.memories, plan.inputs, turns.len())
+}
+
+/// The rows of the last instants of a path, and the forms of the integer memories behind them.
+#[derive(Debug, Drop)]
+pub struct Joined {
+    /// The rows.
+    pub rows: Many<Row>,
+    /// The forms, of as many columns as the rows.
+    pub forms: Many<Form>,
+}
+
+/// The rows of the instants of a path from one on, where their numbers are within the limits and each may hold. The memories have these
+/// forms before, and there are so many columns before the inputs of that instant.
+fn joined_from(
     alloc: Global,
     plan: &Plan,
     turns: &Many<Turn>,
-) -> Result<Option<Many<Row>>, Memory>
-    ensures rows { IfOk result (λ o. IfSome o AreJoined) }
-    ensures few { IfOk result (λ o. IfSome o (λ rows. length rows < 2 ^ 32)) }
+    from: usize,
+    columns: usize,
+    width: usize,
+    before: Many<Form>,
+) -> Result<Option<Joined>, Memory>
+    ensures rows { IfOk result (λ o. IfSome o (λ j. AreJoined j.rows)) }
+    ensures few { IfOk result (λ o. IfSome o (λ j. length j.rows < 2 ^ 32)) }
 {
-    let width = columns_before(plan, turns.len());
     let mut rows = Many::new(alloc);
-    let mut forms = first_forms(alloc, plan.memories, width)?;
-    for instant in 0..turns.len() {
+    let mut forms = before;
+    for instant in from..turns.len() {
         let turn = *turns.at(instant);
         let Some(case) = plan.cases_from(turn.node).get(turn.case) else {
             return Ok(None);
         };
-        let start = columns_before(plan, instant);
+        let start = columns_before(columns, plan.inputs, instant.saturating_sub(from));
         let after = join_case(alloc, &mut rows, case, &forms, start, width)?;
         let Some(after) = after else {
             return Ok(None);
@@ -291,5 +352,73 @@ pub fn joined_rows(
     if rows.len() > MOST_ROWS {
         return Ok(None);
     }
-    Ok(Some(rows))
+    Ok(Some(Joined { rows, forms }))
+}
+
+/// The rows of all instants of a path, over the columns of all its instants.
+pub fn all_joined(alloc: Global, plan: &Plan, turns: &Many<Turn>) -> Result<Option<Joined>, Memory>
+    ensures rows { IfOk result (λ o. IfSome o (λ j. AreJoined j.rows)) }
+    ensures few { IfOk result (λ o. IfSome o (λ j. length j.rows < 2 ^ 32)) }
+{
+    let width = columns_of(plan, turns);
+    let forms = first_forms(alloc, plan.memories, width)?;
+    joined_from(alloc, plan, turns, 0, plan.memories, width, forms)
+}
+
+/// Whether each integer memory has one number at the node.
+fn is_known(nodes: &Many<Node>, place: usize) -> bool {
+    match nodes.get(place) {
+        Some(node) => are_points(&node.spans),
+        None => false,
+    }
+}
+
+/// How many steps of a path there are up to the last node at which each integer memory has one number; 0 where there is none.
+fn steps_known(nodes: &Many<Node>, turns: &Many<Turn>) -> usize {
+    let mut known = 0;
+    for step in 0..turns.len() {
+        if is_known(nodes, turns.at(step).node) {
+            known = step;
+        }
+    }
+    known
+}
+
+/// The forms of integer memories that have one number each.
+fn constant_forms(alloc: Global, spans: &Many<Span>, width: usize) -> Result<Many<Form>, Memory> {
+    let mut forms = Many::new(alloc);
+    for span in spans.as_slice() {
+        let zeros = zeros(alloc, width)?;
+        forms.push(Form {
+            coefficients: Many::from_vec(zeros),
+            constant: span.low,
+        })?;
+    }
+    Ok(forms)
+}
+
+/// The rows of the instants of a path from the last node on at which each integer memory has one number: what was before does not matter
+/// for them.
+pub fn last_joined(
+    alloc: Global,
+    plan: &Plan,
+    nodes: &Many<Node>,
+    turns: &Many<Turn>,
+) -> Result<Option<Joined>, Memory>
+    ensures rows { IfOk result (λ o. IfSome o (λ j. AreJoined j.rows)) }
+    ensures few { IfOk result (λ o. IfSome o (λ j. length j.rows < 2 ^ 32)) }
+{
+    let step = steps_known(nodes, turns);
+    if step == 0 {
+        return all_joined(alloc, plan, turns);
+    }
+    let Some(turn) = turns.get(step) else {
+        return Ok(None);
+    };
+    let Some(node) = nodes.get(turn.node) else {
+        return Ok(None);
+    };
+    let width = columns_before(0, plan.inputs, turns.len().saturating_sub(step));
+    let forms = constant_forms(alloc, &node.spans, width)?;
+    joined_from(alloc, plan, turns, step, 0, width, forms)
 }

@@ -1,0 +1,7 @@
+use Rattle.std.proofs.Common.{◌≤◌, ◌^◌}
+use Rattle.std.specs.List.{AllWithin}
+use Rattle.std.specs.Int.RustNames.{unsigned_abs}
+use Rattle.rv_paths.proofs.hulls.are_small.Given as goal
+
+abbrev pub invariant-loop-number : goal.invariant-loop-number
+invariant-loop-number l = AllWithin (λ c. unsigned_abs c ≤ 2 ^ 78) l.numbers 0 l.number-index
