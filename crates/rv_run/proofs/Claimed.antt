@@ -1,5 +1,5 @@
 -- All flat systems of a program have a good claim, or none has one; and the same of a probe that falsifies.
-use Rattle.std.proofs.Common.{◌≡◌, ◌⊎◌, inl, inr, ◌≤◌, ℕ, ℤ, pos, Bool, List, [], ◌∷◌, length, map, refl, sym, ◌∙◌, ap, subst}
+use Rattle.std.proofs.Common.{◌≡◌, ◌⊎◌, inl, inr, ◌≤◌, ℤ, pos, Bool, List, [], ◌∷◌, length, map, refl, sym, ◌∙◌, ap, subst}
 use Rattle.std.specs.Prelude.{replicate}
 use Rattle.std.specs.List.{Contains}
 use Rattle.rv_base.specs.declared.value.Trace.{Trace}

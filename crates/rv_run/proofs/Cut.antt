@@ -8,15 +8,13 @@ use Rattle.rv_meaning.specs.Runs.{IsSafe}
 use Rattle.rv_tree.specs.Limits.{source_limit}
 use Rattle.rv_words.specs.Asked.{make, tour}
 use Rattle.rv_run.specs.Words.{Wanted, usual_nodes, wanted_of}
-use Rattle.rv_run.specs.Answers.{OnFile, OnSource, IsNodesReport, IsTold, IsToldDocument, IsTouredReport, IsVerdict, Tells}
-use Rattle.rv_run.specs.Checked.{IsDocumentAnswer, SaysOf}
+use Rattle.rv_run.specs.Answers.{OnFile, OnSource, IsNodesReport, IsTold, IsTouredReport, IsVerdict, Tells}
+use Rattle.rv_run.specs.Checked.{IsDocumentAnswer}
 use Rattle.rv_run.specs.Programs.{HasManyVariables, IsCertified, LacksProbe, OnProgram, WithRuns}
 use Rattle.rv_run.specs.Replies.{Replies}
-use Rattle.rv_run.specs.Traced.{IsLongDocument, OnAccepted, file_limit}
-use Rattle.rv_run.specs.declared.words.Task.{Task}
 use Rattle.rv_run.specs.declared.report.Report.{Report}
-use Rattle.rv_run.specs.declared.report.Report.TheVariants.{Safe, Violated, Unknown, Nodes, Accepted, Rejected, Falsified, AssertionFails, NeverFalse, Outgrown, Made, Toured, Refused, BadFile, TooLong, ReadFault, Usage, Memory}
-use Rattle.rv_run.proofs.Named.{told_of, told_under}
+use Rattle.rv_run.specs.declared.report.Report.TheVariants.{Safe, Violated, Unknown, Nodes, Accepted, Made, Toured, Refused, TooLong, ReadFault, Usage, Memory}
+use Rattle.rv_run.proofs.Named.{told_under}
 use Rattle.rv_run.proofs.Reported.{cut_memory, cut_read_fault}
 
 -- Where the files do not tell what they hold it is free: so a bound on what is held is one on what they tell.

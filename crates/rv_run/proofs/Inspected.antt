@@ -20,11 +20,10 @@ use Rattle.rv_proofs.specs.Accepted.{IsAccepted}
 use Rattle.rv_proofs.specs.Runs.{IsSafeSystem}
 use Rattle.rv_proofs.specs.Verdicts.{IsVerdict}
 use Rattle.rv_proofs.specs.declared.certificate.Certificate.{Certificate}
-use Rattle.rv_proofs.specs.declared.verdict.Reason.{Reason}
 use Rattle.rv_proofs.specs.declared.verdict.Verdict.{Verdict}
 use Rattle.rv_proofs.specs.declared.verdict.Verdict.TheVariants as verdict
 use Rattle.rv_run.specs.declared.report.Report.{Report}
-use Rattle.rv_run.specs.declared.report.Report.TheVariants.{Accepted, Rejected, BadFile, Nodes, Memory}
+use Rattle.rv_run.specs.declared.report.Report.TheVariants.{Accepted, Rejected, BadFile, Nodes}
 use Rattle.rv_run.specs.declared.words.Task.TheVariants.{Check}
 use Rattle.rv_run.specs.Checked.{IsAnswerOf, IsInvariantReport, IsLimit, IsUnlessLimit, SaysOfInvariant}
 use Rattle.rv_run.specs.Loaded.{accepted_report, file_report}

@@ -1,6 +1,5 @@
 -- From the tests to whether a source is judged and safe.
-use Rattle.std.proofs.Common.{◌≡◌, inl, inr, ℕ, ◌<◌, ◌^◌, length, sym, subst, Option, Some, None}
-use Rattle.std.specs.Prelude.{Result, Ok, Err, IfOk, MatchOption}
+use Rattle.std.proofs.Common.{◌≡◌, ℕ, ◌<◌, ◌^◌, length, sym, subst}
 use Rattle.rv_base.specs.declared.value.Value.{Value}
 use Rattle.rv_tree.specs.Tree.{ProgramTree}
 use Rattle.rv_tree.specs.Places.{Identifier, Sites}
@@ -13,13 +12,9 @@ use Rattle.rv_types.specs.WellFormed.{AreWell}
 use Rattle.rv_types.specs.Lists.{sites_of}
 use Rattle.rv_instances.specs.declared.answer.Order.{Order}
 use Rattle.rv_instances.specs.Fitting.{Fits}
-use Rattle.rv_meaning.specs.Runs.{History, AreStarts, AreInputs, IsRun, IsSafe}
+use Rattle.rv_meaning.specs.Runs.{History, AreStarts, AreInputs, IsRun}
 use Rattle.rv_flat.specs.declared.flat.Flat.{Flat}
 use Rattle.rv_flat.specs.FlatOf.{IsFlatOf}
-use Rattle.rv_control.specs.Control.{control_of}
-use Rattle.rv_proofs.specs.Accepted.{IsAccepted}
-use Rattle.rv_proofs.specs.Runs.{IsSafeSystem}
-use Rattle.rv_proofs.specs.declared.certificate.Certificate.{Certificate}
 use Rattle.rv_run.specs.Programs.{WithRuns, HasManyVariables}
 use Rattle.rv_run.proofs.MainNode.{main_named, main_is_node}
 

@@ -14,8 +14,8 @@ use Rattle.rv_source.specs.declared.fault.SourceFault.{SourceFault}
 use Rattle.rv_source.specs.declared.fault.SourceFault.TheVariants.{Text, Names, Cause, Memory as NoMemory}
 use Rattle.rv_source.specs.Sources.{IsSource, IsSourceOf, HasSourceCause, AreSame}
 use Rattle.rv_proofs.specs.declared.certificate.Certificate.{Certificate}
-use Rattle.rv_run.specs.Answers.{IsNodesReport, IsOnSource, IsRefusalUnlessCutOff, IsVerdict}
-use Rattle.rv_run.specs.Checked.{IsAnswerOf, IsDocumentAnswer, IsDocumentReport, IsInvariantReport, IsLimit, IsReportOf, IsUnlessCut, IsUnlessLimit}
+use Rattle.rv_run.specs.Answers.{IsOnSource, IsRefusalUnlessCutOff, IsVerdict}
+use Rattle.rv_run.specs.Checked.{IsAnswerOf, IsDocumentAnswer, IsDocumentReport, IsLimit, IsReportOf, IsUnlessCut, IsUnlessLimit}
 use Rattle.rv_run.specs.declared.words.Task.{Task}
 use Rattle.rv_run.specs.declared.words.Task.TheVariants.{Replay, Check}
 use Rattle.rv_run.specs.Programs.{OnProgram, IsRefusedFor}

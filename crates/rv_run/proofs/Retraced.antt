@@ -1,5 +1,5 @@
 -- What the report on a trace says of it, and that no other comes.
-use Rattle.std.proofs.Common.{◌≡◌, ◌⊎◌, inl, inr, ℕ, ◌<◌, ◌≤◌, ◌^◌, List, [], length, map, refl, sym, ◌∙◌, ap, subst, arith}
+use Rattle.std.proofs.Common.{◌≡◌, ◌⊎◌, inl, inr, ℕ, ◌<◌, ◌^◌, List, [], length, map, refl, sym, ◌∙◌, ap, subst, arith}
 use Rattle.std.specs.Prelude.{Result, Ok, Err}
 use Rattle.std.proofs.lemmas.List.{length-map}
 use Rattle.rv_base.specs.declared.value.Place.{Place}
@@ -31,7 +31,7 @@ use Rattle.rv_replay.specs.Traces.{IsFlatTrace}
 use Rattle.rv_run.specs.declared.report.Report.{Report}
 use Rattle.rv_run.specs.declared.report.Report.TheVariants.{Falsified, AssertionFails, NeverFalse, Outgrown, BadFile, Memory}
 use Rattle.rv_run.specs.Loaded.{file_report, replay_report}
-use Rattle.rv_run.specs.Traced.{IsFileFault, IsTraceAnswer, IsTraceDocument, IsTraceReport, IsUnlessNoMemory, SaysOfTrace}
+use Rattle.rv_run.specs.Traced.{IsTraceAnswer, IsTraceDocument, IsTraceReport, IsUnlessNoMemory, SaysOfTrace}
 
 -- The memories of the program of an accepted source can be counted.
 pub few_memories : (p : ProgramTree) (t : Typed) (o : Order) (f : Flat) → Fits p t o → IsFlatOf p (name_at p t.main) f → length f.memories < 2 ^ 64

@@ -1,5 +1,5 @@
 -- The source that is made is accepted, safe and without integers, so that the proof of it is told.
-use Rattle.std.proofs.Common.{◌≡◌, ◌⊎◌, inl, inr, ℕ, ◌≤◌, ◌<◌, ◌^◌, List, sym, ◌∙◌, subst, arith}
+use Rattle.std.proofs.Common.{◌≡◌, ◌⊎◌, inl, inr, ℕ, ◌≤◌, ◌<◌, ◌^◌, subst, arith}
 use Rattle.std.specs.Prelude.{codes}
 use Rattle.rv_make.specs.Made.{made_text}
 use Rattle.rv_make.specs.Chains.{Offsets, chain_program}

@@ -1,5 +1,5 @@
 -- What a check says of the bytes of an invariant file: the certificate that they are and whether it is accepted, or why they are none.
-use Rattle.std.specs.Prelude.{◌≡◌, ◌⊎◌, ℕ, List, ⊤}
+use Rattle.std.specs.Prelude.{◌≡◌, ◌⊎◌, ℕ, List}
 use Rattle.rv_tree.specs.Tree.{ProgramTree}
 use Rattle.rv_tree.specs.Places.{Identifier}
 use Rattle.rv_flat.specs.declared.flat.Flat.{Flat}

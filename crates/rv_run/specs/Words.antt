@@ -4,7 +4,6 @@ use Rattle.rv_words.specs.Asked.{Asked, prove, check, replay, make, tour}
 use Rattle.rv_words.specs.Words.{command}
 use Rattle.rv_run.specs.declared.words.Task.{Task}
 use Rattle.rv_run.specs.declared.words.Task.TheVariants as task
-use Rattle.rv_run.specs.declared.words.Beside.{Beside}
 use Rattle.rv_run.specs.declared.words.FileCommand.{FileCommand}
 use Rattle.rv_run.specs.declared.words.Request.{Request}
 use Rattle.rv_run.specs.declared.words.Request.TheVariants as request

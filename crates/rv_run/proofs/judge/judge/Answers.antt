@@ -1,4 +1,4 @@
-use Rattle.std.proofs.Common.{Ok, Some, ap}
+use Rattle.std.proofs.Common.{Ok, ap}
 use Rattle.rv_tree.specs.Tree.{program_tree}
 use Rattle.rv_tree.specs.Places.{Identifier}
 use Rattle.rv_tree.specs.SourceTrees.{IsSourceTree}

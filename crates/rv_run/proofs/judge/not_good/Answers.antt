@@ -1,10 +1,8 @@
 use Rattle.std.proofs.Common.{◌≡◌, ℕ, Ok, Some, slice_get, true≢false, ap, sym, ◌∙◌, subst}
-use Rattle.std.specs.Prelude.{IfOk}
 use Rattle.rv_tree.specs.Tree.{program_tree}
 use Rattle.rv_types.specs.Instances.{name_at}
 use Rattle.rv_flat.specs.declared.flat.Flat.{Flat}
 use Rattle.rv_control.specs.Control.{control_of}
-use Rattle.rv_proofs.specs.Reached.{HasNoIntegers}
 use Rattle.rv_reading.specs.Read.{flat_of}
 use Rattle.rv_proofs.specs.Accepted.{IsAccepted}
 use Rattle.rv_diagram.specs.declared.frozen.Frozen.{Frozen}
@@ -17,7 +15,7 @@ use Rattle.rv_fixpoint.specs.Ends.{IsProved}
 use Rattle.rv_run.specs.Judged.{IsControlSystem, IsKnown}
 use Rattle.rv_run.specs.Programs.{HasGood}
 use Rattle.rv_run.proofs.Claimed.{lacks_both}
-use Rattle.rv_run.proofs.Integers.{system_control, control_system}
+use Rattle.rv_run.proofs.Integers.{system_control}
 use Rattle.rv_run.proofs.NoIntegers.{no_integers}
 use Rattle.rv_run.proofs.judge.not_good.Goals as goal
 
@@ -72,7 +70,7 @@ searched-requires-clause-integers c =
 pub searched-requires-clause-lacks : goal.searched-requires-clause-lacks
 searched-requires-clause-lacks c =
     let f = flat_of c.args.reading.now in
-    let rows : HasGoodRows (control_of f) f.thresholds → ⊥ = λ has. subst (λ r. IfOk r IsProved) (c.in_ok-end.was ∙ ap Ok c.in-Left.is) (c.in_ok-end.ensures.claims has) in
+    let rows : HasGoodRows (control_of f) f.thresholds → ⊥ = λ has. subst IsProved c.in-Left.is (c.in_ok-end.ensures.claims has) in
     subst (λ (r : Reading). HasGood (control_of (flat_of r)) (flat_of r).thresholds → ⊥) (sym c.in_ok-end.ensures.same) (lacks_both (control_of f) f.thresholds c.requires.lacks rows)
 
 pub searched-requires-clause-unprobed : goal.searched-requires-clause-unprobed

@@ -1,4 +1,4 @@
-use Rattle.std.proofs.Common.{◌≡◌, Ok, inr, ap, sym, ◌∙◌, subst}
+use Rattle.std.proofs.Common.{Ok, inr, ap, sym, ◌∙◌, subst}
 use Rattle.rv_tree.specs.Tree.{program_tree}
 use Rattle.rv_types.specs.Instances.{name_at}
 use Rattle.rv_reading.specs.declared.reading.Reading.{Reading}

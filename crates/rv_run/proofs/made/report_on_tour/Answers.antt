@@ -1,4 +1,4 @@
-use Rattle.std.proofs.Common.{rules, ◌≡◌, ℕ, List, length, codes, inr, sym, subst}
+use Rattle.std.proofs.Common.{rules, ◌≡◌, ℕ, List, codes, inr, sym, subst}
 use Rattle.rv_meaning.specs.Runs.{IsSafe}
 use Rattle.rv_make.specs.Made.{made_text}
 use Rattle.rv_proofs.specs.declared.certificate.Certificate.{Certificate}

@@ -1,4 +1,4 @@
-use Rattle.std.proofs.Common.{ap, inl, inr, sym, ◌∙◌, subst}
+use Rattle.std.proofs.Common.{inr, sym, ◌∙◌, subst}
 use Rattle.rv_tree.specs.Tree.{ProgramTree, program_tree}
 use Rattle.rv_tree.specs.Places.{Identifier}
 use Rattle.rv_types.specs.Instances.{name_at}
@@ -7,7 +7,6 @@ use Rattle.rv_meaning.specs.Runs.{IsSafe}
 use Rattle.rv_run.specs.Answers.{IsOnSource, IsRefusalUnlessCutOff, IsSafeUnlessCutOff, IsJudgedUnlessLimited, IsViolatedUnlessCutOff, IsViolatedUnlessUnread}
 use Rattle.rv_run.specs.Programs.{OnProgram, WithRuns, HasGoodClaim, HasManyVariables, HasProbe, IsSafeControl, IsUnsafeControl, IsCertified, IsProgram, IsUnknown, LacksGoodClaim, LacksProbe}
 use Rattle.rv_run.specs.Verdicts.{IsDocumentOf, IsInvariantOf, IsViolated}
-use Rattle.rv_run.specs.declared.report.Report.{Report}
 use Rattle.rv_tree.specs.SourceTrees.{IsSourceTree}
 use Rattle.rv_types.specs.Settled.{IsSettled}
 use Rattle.rv_types.specs.WellFormed.{AreWell}

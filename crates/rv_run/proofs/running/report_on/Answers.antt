@@ -1,6 +1,5 @@
-use Rattle.std.proofs.Common.{◌≡◌, ℕ, List, Some, ap, sym, ◌∙◌, subst}
+use Rattle.std.proofs.Common.{Some, ap, sym, ◌∙◌, subst}
 use Rattle.rv_words.specs.Asked.{make, tour}
-use Rattle.rv_words.specs.Words.{texts}
 use Rattle.rv_run.specs.Words.{HasRanges, IsNamed, Wanted, wanted_by, wanted_of}
 use Rattle.rv_run.specs.declared.words.Request.{Request}
 use Rattle.rv_run.specs.Replies.{Replies}

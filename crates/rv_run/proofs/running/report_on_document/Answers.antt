@@ -1,4 +1,4 @@
-use Rattle.std.proofs.Common.{◌≡◌, inl, inr, refl, sym, ◌∙◌, ap, rules, subst}
+use Rattle.std.proofs.Common.{inl, inr, refl, sym, ◌∙◌, ap, rules, subst}
 use Rattle.std.specs.Prelude.{Err, ⊤}
 use Rattle.rv_tree.specs.Tree.{ProgramTree, program_tree}
 use Rattle.rv_tree.specs.Places.{Identifier}
