@@ -11,12 +11,7 @@ use rv_rows::Row;
 use std::alloc::Global;
 
 /// Adds the row where it is to be kept.
-pub fn keep_row(
-    alloc: Global,
-    rows: &mut Many<Row>,
-    row: &Row,
-    keep: bool,
-) -> Result<(), Memory>
+pub fn keep_row(alloc: Global, rows: &mut Many<Row>, row: &Row, keep: bool) -> Result<(), Memory>
     ensures kept { (s : System) → IsKeptRow s row.now → All (IsKeptRow s) rows.old → OnOk result (All (IsKeptRow s) rows.new) }
     ensures count { OnOk result (length rows.new ≤ length rows.old + 1) }
 {
