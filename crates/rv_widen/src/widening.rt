@@ -134,10 +134,12 @@ fn accepted(
 }
 
 /// A certificate of two locations by forward iteration with polyhedra, or None where none is found: one location for the initial control
-/// states, without rows, and one for the others of a row claim that is closed, with the rows of the claim and those that the iteration finds.
-/// `relation` and `questions` are those of the system in the store. What is found is accepted and has no loop; None promises nothing. The
-/// store is left as it was, after a fault too. Nodes comes where the store has no room for what is built on the way, never where its limit
-/// holds every function of its variables, and Memory where there is none, or where a document has no numbers for so many entries.
+/// states, without rows, and one for the others of a row claim, with the rows of the claim and those that the iteration finds. The rows of
+/// the claim are premises throughout, so only of a closed claim a certificate is to be expected. `relation` and `questions` are those of
+/// the system in the store. What is found is accepted and has no loop; None promises nothing, and comes too where the work is more than is
+/// taken on. The store is left as it was, after a fault too. Nodes comes where the store has no room for what is built on the way, never
+/// where its limit holds every function of its variables, and Memory where there is none, or where a document has no numbers for so many
+/// entries.
 pub fn widened(
     alloc: Global,
     store: &mut Store,
