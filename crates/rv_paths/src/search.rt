@@ -58,7 +58,7 @@ fn spend(work: &mut u64, cost: u64) {
 fn bound_work(columns: usize) -> u64 {
     let many = columns as u64;
     let cube = many.saturating_mul(many).saturating_mul(many);
-    BOUND_WORK.saturating_add(cube / 64)
+    BOUND_WORK.saturating_add(cube / 8)
 }
 
 /// What a point of the rows of a path counts.

@@ -244,6 +244,22 @@ pub fn spans_after(
     Ok(after)
 }
 
+/// How many spans have more than one number.
+pub fn count_free(spans: &Many<Span>) -> usize {
+    let mut count: usize = 0;
+    for span in spans.as_slice() {
+        if span.low != span.high {
+            count = count.saturating_add(1);
+        }
+    }
+    count
+}
+
+/// Whether the number is an end of a span, and does not stand for none.
+pub fn is_end(number: i128) -> bool {
+    number > -FAR && number < FAR
+}
+
 /// The span of numbers whose opposites are at most `below`, and which are at most `above`, where these are known.
 pub fn span_between(below: Option<i128>, above: Option<i128>) -> Span {
     let zero: i128 = 0;

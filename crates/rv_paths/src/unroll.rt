@@ -4,7 +4,7 @@
 ghost use Rattle.std.specs.Prelude.{◌≡◌, ◌<◌, ◌^◌, All, length, IfOk, IfSome, OnOk};
 ghost use Rattle.rv_paths.specs.Joining.{IsJoinedRow, AreJoined};
 
-use crate::spans::{Span, are_points};
+use crate::spans::{Span, count_free, is_end};
 use crate::tree::{Node, Plan, Turn};
 use rv_base::{Many, Memory};
 use rv_proofs::Case;
@@ -321,8 +321,8 @@ pub struct Joined {
     pub forms: Many<Form>,
 }
 
-/// The rows of the instants of a path from one on, where their numbers are within the limits and each may hold. The memories have these
-/// forms before, and there are so many columns before the inputs of that instant.
+/// Rows, and those of the instants of a path from one on, where their numbers are within the limits and each may hold. The memories have
+/// the given forms before, and there are so many columns before the inputs of that instant.
 fn joined_from(
     alloc: Global,
     plan: &Plan,
@@ -331,11 +331,13 @@ fn joined_from(
     columns: usize,
     width: usize,
     before: Many<Form>,
+    given: Many<Row>,
 ) -> Result<Option<Joined>, Memory>
+    requires { All (IsJoinedRow width) given }
     ensures rows { IfOk result (λ o. IfSome o (λ j. AreJoined j.rows)) }
     ensures few { IfOk result (λ o. IfSome o (λ j. length j.rows < 2 ^ 32)) }
 {
-    let mut rows = Many::new(alloc);
+    let mut rows = given;
     let mut forms = before;
     for instant in from..turns.len() {
         let turn = *turns.at(instant);
@@ -362,18 +364,19 @@ pub fn all_joined(alloc: Global, plan: &Plan, turns: &Many<Turn>) -> Result<Opti
 {
     let width = columns_of(plan, turns);
     let forms = first_forms(alloc, plan.memories, width)?;
-    joined_from(alloc, plan, turns, 0, plan.memories, width, forms)
+    let nothing = Many::new(alloc);
+    joined_from(alloc, plan, turns, 0, plan.memories, width, forms, nothing)
 }
 
-/// Whether each integer memory has one number at the node.
+/// Whether at most one integer memory may have more than one number at the node.
 fn is_known(nodes: &Many<Node>, place: usize) -> bool {
     match nodes.get(place) {
-        Some(node) => are_points(&node.spans),
+        Some(node) => count_free(&node.spans) <= 1,
         None => false,
     }
 }
 
-/// How many steps of a path there are up to the last node at which each integer memory has one number; 0 where there is none.
+/// How many steps of a path there are up to the last node at which at most one integer memory may have more than one number.
 fn steps_known(nodes: &Many<Node>, turns: &Many<Turn>) -> usize {
     let mut known = 0;
     for step in 0..turns.len() {
@@ -384,21 +387,78 @@ fn steps_known(nodes: &Many<Node>, turns: &Many<Turn>) -> usize {
     known
 }
 
-/// The forms of integer memories that have one number each.
-fn constant_forms(alloc: Global, spans: &Many<Span>, width: usize) -> Result<Many<Form>, Memory> {
+/// The form of an integer memory with this span: its number, or the first column.
+fn form_within(alloc: Global, span: Span, width: usize) -> Result<Form, Memory> {
+    if span.low != span.high {
+        return column_form(alloc, 0, width);
+    }
+    let numbers = zeros(alloc, width)?;
+    Ok(Form {
+        coefficients: Many::from_vec(numbers),
+        constant: span.low,
+    })
+}
+
+/// The forms of integer memories with these spans.
+fn forms_within(alloc: Global, spans: &Many<Span>, width: usize) -> Result<Many<Form>, Memory> {
     let mut forms = Many::new(alloc);
     for span in spans.as_slice() {
-        let zeros = zeros(alloc, width)?;
-        forms.push(Form {
-            coefficients: Many::from_vec(zeros),
-            constant: span.low,
-        })?;
+        let form = form_within(alloc, *span, width)?;
+        forms.push(form)?;
     }
     Ok(forms)
 }
 
-/// The rows of the instants of a path from the last node on at which each integer memory has one number: what was before does not matter
-/// for them.
+/// Adds the row that `by` times the first column is at most the bound, unless that stands for none.
+fn add_bound(
+    alloc: Global,
+    rows: &mut Many<Row>,
+    by: i128,
+    bound: i128,
+    width: usize,
+) -> Result<(), Memory>
+    requires { All (IsJoinedRow width) rows.old }
+    ensures { OnOk result (All (IsJoinedRow width) rows.new) }
+{
+    if !is_end(bound) {
+        return Ok(());
+    }
+    let mut numbers = zeros(alloc, width)?;
+    let _added = add_at(&mut numbers, by, 0);
+    let row = Row {
+        coefficients: Many::from_vec(numbers),
+        bound,
+    };
+    let _kept = keep(rows, row, width)?;
+    Ok(())
+}
+
+/// Adds the rows of both ends of a span, where it has more than one number.
+fn add_bounds(alloc: Global, rows: &mut Many<Row>, span: Span, width: usize) -> Result<(), Memory>
+    requires { All (IsJoinedRow width) rows.old }
+    ensures { OnOk result (All (IsJoinedRow width) rows.new) }
+{
+    if span.low == span.high {
+        return Ok(());
+    }
+    let zero: i128 = 0;
+    add_bound(alloc, rows, 1, span.high, width)?;
+    add_bound(alloc, rows, -1, zero.saturating_sub(span.low), width)
+}
+
+/// The rows of the first column where it is the one memory whose span has more than one number.
+fn rows_within(alloc: Global, spans: &Many<Span>, width: usize) -> Result<Many<Row>, Memory>
+    ensures { IfOk result (All (IsJoinedRow width)) }
+{
+    let mut rows = Many::new(alloc);
+    for span in spans.as_slice() {
+        add_bounds(alloc, &mut rows, *span, width)?;
+    }
+    Ok(rows)
+}
+
+/// The rows of the instants of a path from the last node on at which at most one integer memory may have more than one number: what was
+/// before is no more than its span.
 pub fn last_joined(
     alloc: Global,
     plan: &Plan,
@@ -418,7 +478,8 @@ pub fn last_joined(
     let Some(node) = nodes.get(turn.node) else {
         return Ok(None);
     };
-    let width = columns_before(0, plan.inputs, turns.len().saturating_sub(step));
-    let forms = constant_forms(alloc, &node.spans, width)?;
-    joined_from(alloc, plan, turns, step, 0, width, forms)
+    let width = columns_before(1, plan.inputs, turns.len().saturating_sub(step));
+    let forms = forms_within(alloc, &node.spans, width)?;
+    let rows = rows_within(alloc, &node.spans, width)?;
+    joined_from(alloc, plan, turns, step, 1, width, forms, rows)
 }
