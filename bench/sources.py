@@ -1,7 +1,7 @@
 #!/usr/bin/env python3
 """Prints a Lustre program to time the search through its control states by: `sources.py FAMILY N`.
 
-Each program has a node `main`, and no integers but in the last two families. FAMILY is one of
+Each program has a node `main`, and no integers but in the last three families. FAMILY is one of
 
     links       N latches in a row, each a step after the one before; the observer is true
     links-bad   the same, whose observer is false once an input has come through all of them
@@ -12,6 +12,7 @@ Each program has a node `main`, and no integers but in the last two families. FA
     shared      the same with one input for all of them
     counters    N counters, of which an input of N labels chooses the one that steps
     memories    N counters up to ten: the one that is chosen is compared with ten, and steps where it is less
+    chasing     N counters: the one that is chosen steps where it is less than a number and not five ahead of the next one
 """
 import sys
 
@@ -91,6 +92,17 @@ def memories(n):
     return integers(n, local, here + less + steps + ["ok = true"])
 
 
+def chasing(n):
+    """n counters, of which one is compared with a number and with the next counter, and steps where it is behind both."""
+    local = " ".join(f"d{i}: bool; y{i}: bool when d{i};" for i in range(n))
+    here = [f"d{i} = at = P{i}" for i in range(n)]
+    held = [f"((0 -> pre x{i}) when d{i})" for i in range(n)]
+    ahead = [f"((0 -> pre x{(i + 1) % n}) when d{i})" for i in range(n)]
+    less = [f"y{i} = {held[i]} < ({10 + i} when d{i}) and {held[i]} - {ahead[i]} < (5 when d{i})" for i in range(n)]
+    steps = [f"x{i} = 0 -> if d{i} and current y{i} then pre x{i} + 1 else pre x{i}" for i in range(n)]
+    return integers(n, local, here + less + steps + ["ok = x0 - x1 <= 5"])
+
+
 FAMILIES = {
     "links": links,
     "links-bad": lambda n: links(n, strict=True),
@@ -101,6 +113,7 @@ FAMILIES = {
     "shared": lambda n: modes(n, shared=True),
     "counters": counters,
     "memories": memories,
+    "chasing": chasing,
 }
 
 
