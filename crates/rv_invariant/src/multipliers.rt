@@ -127,7 +127,7 @@ pub fn read_proof(
     Ok(multipliers)
 }
 
-/// So many proofs.
+/// So many proofs, in a list with as much room as they take.
 pub fn read_proofs(
     alloc: Global,
     records: &mut Records<'_>,
@@ -136,7 +136,8 @@ pub fn read_proofs(
 ) -> Result<Many<Multipliers>, FileFault>
     ensures { Reads (λ ms. ms) (run (times count (pieces.a_proof (2 ^ 30) premises)) records.old) result records.new }
 {
-    let mut proofs = Many::new(alloc);
+    let room = if count < 1024 { count as usize } else { 1024 };
+    let mut proofs = Many::from_vec(Vec::with_capacity(alloc, room)?);
     for done in 0..count {
         proofs.push(read_proof(alloc, records, 1 << 30, premises)?)?;
     }

@@ -21,7 +21,7 @@ fn read_numbers(alloc: Global, records: &Records<'_>, memories: u32) -> Result<R
     let Some(bound) = whole_within(records.field(1), 1 << 60) else {
         return Err(FileFault::BadNumber(records.number(), 1));
     };
-    let mut coefficients = Many::new(alloc);
+    let mut coefficients = Many::from_vec(Vec::with_capacity(alloc, memories as usize)?);
     for index in 0..memories {
         let Some(number) = whole_within(records.field(index as usize + 2), 1 << 30) else {
             return Err(FileFault::BadNumber(records.number(), index + 2));
@@ -45,7 +45,7 @@ fn read_row(alloc: Global, records: &mut Records<'_>, memories: u32) -> Result<R
     Ok(row)
 }
 
-/// So many rows.
+/// So many rows, in a list with as much room as they take.
 fn read_rows(
     alloc: Global,
     records: &mut Records<'_>,
@@ -56,7 +56,8 @@ fn read_rows(
     ensures read { Reads (λ rows. rows) (run (times count (pieces.a_row memories)) records.old) result records.new }
     ensures counted { IfOk result (λ rows. length rows ≡ count) }
 {
-    let mut rows = Many::new(alloc);
+    let room = if count < 1024 { count as usize } else { 1024 };
+    let mut rows = Many::from_vec(Vec::with_capacity(alloc, room)?);
     for done in 0..count {
         rows.push(read_row(alloc, records, memories)?)?;
     }

@@ -13,7 +13,7 @@ returns-in_err-read_row-clause-read c =
     let rule = a_row c.args.memories in
     let n = c.args.count in
     let i = c.loop-done.done in
-    let p = err_from_is_err_and c.from_residual.result c.from_residual.ensures.1 in
+    let p = err_from_is_err_and c.from_residual-in_err-read_row.result c.from_residual-in_err-read_row.ensures.1 in
     rw (p.1, p.2) (leaves rule (times (n - i) rule) (times (n - (i + 1)) rule) (times_at rule n i c.loop-done-test.true) (run (times n rule) c.args.records.now) c.loop-done.rows c.loop-done.records c.loop-done.invariant.kept
     (λ (v : Row). v) (λ (v : List Row). v) c.in_err-read_row.field-0.0 c.read_row.new.records c.read_row.new.records c.in_err-read_row.ensures)
 
