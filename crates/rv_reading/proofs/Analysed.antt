@@ -1,6 +1,5 @@
 -- What is proved of the least closed row claim of a system.
-use Rattle.std.proofs.Common.{◌≡◌, ℤ, List, [], Bool, true, false, refl, sym, ◌∙◌, subst, Result, Ok, Err, IfOk, Option, Some, None, true≢false}
-use Rattle.std.specs.Prelude.{IfSome}
+use Rattle.std.proofs.Common.{◌≡◌, ℤ, List, [], Bool, true, false, refl, sym, ◌∙◌, subst, Result, Ok, Err, IfOk, true≢false}
 use Rattle.rv_diagram.specs.Nodes.{Valuation, Diagrams}
 use Rattle.rv_proofs.specs.Systems.{System}
 use Rattle.rv_proofs.specs.Left.{IsLeftPartition}
@@ -43,7 +42,3 @@ proved_left s thresholds false x has p some = absurd (some (p.claims (nothing_go
 pub map_ok : {X E : Type 0} (o : Result X E) (P Q : X → Type 0) → ((x : X) → P x → Q x) → IfOk o P → IfOk o Q
 map_ok (Ok x) P Q f h = f x h
 map_ok (Err e) P Q f h = tt
-
-pub map_some : {X : Type 0} (o : Option X) (P Q : X → Type 0) → ((x : X) → P x → Q x) → IfSome o P → IfSome o Q
-map_some (Some x) P Q f h = f x h
-map_some None P Q f h = tt

@@ -26,6 +26,7 @@ ghost use Rattle.rv_cases.specs.Made.{AreDifferent};
 ghost use Rattle.rv_symbolic.specs.Growing.{Extends};
 ghost use Rattle.rv_symbolic.specs.Represented.{AreParts, HaveRefs};
 ghost use Rattle.rv_proofs.specs.declared.report.Layers.{Layers as LayersModel};
+ghost use Rattle.rv_paths.specs.Candidates.{IsCandidateOf, IsInRange as HasTraceNumbers};
 ghost use Rattle.rv_walk.specs.Ends.{IsGoodCertificate, AreBadLayers, IsGoodEnd};
 ghost use Rattle.rv_walk.specs.Plain.{ArePlain};
 ghost use Rattle.rv_walk.specs.Paths.{IsFalsifyingPath, IsShortestPath};
@@ -253,8 +254,10 @@ impl<'a> Reading<'a> {
     }
 
     /// A candidate for a trace that falsifies the program of the flat system: a word for each instant, with a truth value for each variable of the
-    /// flat system, a start value for each integer memory, and a number for each integer input at each instant. That it falsifies is for its
-    /// replay to show. Layers are sets of control states, in which the path stays after its first instant.
+    /// flat system, a start value for each integer memory, and a number for each integer input at each instant, all of them numbers that a trace
+    /// may have. That it falsifies is for its replay to show, and None promises nothing. Layers are sets of control states, in which the path
+    /// stays after its first instant. The reading is left as it was. `Nodes` comes where the diagrams outgrow their limit, `Memory` where memory
+    /// runs out.
     pub fn candidate(
         &mut self,
         alloc: Global,
@@ -262,7 +265,8 @@ impl<'a> Reading<'a> {
     ) -> Result<Option<Candidate>, StoreFault>
         requires read { IsRead self.old }
         requires sets { (t : ℕ) (set : FrozenModel) → slice_get layers.now.sets t ≡ Some set → IsControlSet (system_read self.old) set }
-        ensures some { IfOk result (λ o. IfSome o (λ c. 0 < length c.words)) }
+        ensures shape { IfOk result (λ o. IfSome o (IsCandidateOf (system_read self.old))) }
+        ensures range { IfOk result (λ o. IfSome o HasTraceNumbers) }
         ensures same { self.new ≡ self.old }
         ensures roomy { IsErrOf result StoreFault.Nodes → (diagrams_of self.old).limit < 2 ^ (2 ^ (diagrams_of self.old).variables) }
     {

@@ -11,6 +11,11 @@ trace_with-requires-clause-program c =
     let p = program_tree c.args.source.now.program in
     (p, name_at p c.args.source.now.typed.main, subst (IsFlatOf p (name_at p c.args.source.now.typed.main)) (sym (c.flat-flat.ensures ∙ ap (λ (r : Reading). flat_of r) c.candidate.ensures.same)) c.requires.flat)
 
+pub trace_with-requires-clause-some : goal.trace_with-requires-clause-some
+trace_with-requires-clause-some c =
+    let shape = rw c.in-Some.is at c.in_ok-candidate.ensures.shape in
+    shape.some
+
 pub confirmed-requires-clause-flat : goal.confirmed-requires-clause-flat
 confirmed-requires-clause-flat c =
     let p = program_tree c.args.source.now.program in

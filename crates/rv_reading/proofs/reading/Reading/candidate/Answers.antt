@@ -1,6 +1,5 @@
 use Rattle.rv_reading.specs.Read.{system_read}
 use Rattle.rv_reading.proofs.Representing.{is_search}
-use Rattle.rv_reading.proofs.Analysed.{map_ok, map_some}
 use Rattle.rv_reading.proofs.reading.Reading.candidate.Goals as goal
 
 pub candidate-requires : goal.candidate-requires
@@ -8,8 +7,7 @@ candidate-requires c =
     let r = c.args.self.now in
     (system_read r, is_search r c.len-columns.result c.requires.read c.len-columns.ensures, c.requires.sets)
 
-pub returns-clause-some : goal.returns-clause-some
-returns-clause-some c =
+pub returns-clause-shape : goal.returns-clause-shape
+returns-clause-shape c =
     let r = c.args.self.now in
-    map_ok c.candidate.result _ _ (λ o. map_some o _ _ (λ x shape. shape.some))
-    (c.candidate.ensures.shape (system_read r) (is_search r c.len-columns.result c.requires.read c.len-columns.ensures) c.requires.sets)
+    c.candidate.ensures.shape (system_read r) (is_search r c.len-columns.result c.requires.read c.len-columns.ensures) c.requires.sets
