@@ -83,6 +83,13 @@ rows_kept s sides are thresholds small limits among = (
           side_fits s (row_at sides at.place) r side at.side (omega (arith, m)),
         )
 
+-- kept rows are premises by themselves
+pub given_fit : (s : System) (given : List Row) → AreKept s given → ArePremises given
+given_fit s given kept = record {
+  within = All-weaker (λ (r : Row). (length r.coefficients ≡ s.memories) × Fits r) (RowWithin (2 ^ 60)) (λ r h. premise_of_kept r h.1) given kept.0;
+  few = let l = kept.1 in omega (arith, l);
+}
+
 module _ (s : System) (is : IsSystem s) (case : Case) (of : IsCaseOf s case) where
   abbrev some : Valuation
   some = of.some.0

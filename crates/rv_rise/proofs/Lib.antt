@@ -2,6 +2,7 @@ pub mod Rising
 pub mod Loosening
 pub mod Showing
 pub mod Listing
+pub mod Keeping
 pub mod Fitting
 pub mod Giving
 pub mod Taking

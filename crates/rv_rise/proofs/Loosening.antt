@@ -92,9 +92,14 @@ loosened_more thresholds rows forms sides n old news o new r are is is_side here
         (subst (λ (x : Option ℤ). IsLoosened thresholds rows forms (row_at sides k) x new) (sym (ap (limit_at old) e ∙ is))
         (subst (λ (x : Row). IsLoosened thresholds rows forms x o new) (sym (ap (row_at sides) e ∙ is_side)) here))
 
+-- a value past the limit is the least
+past_limit : (limit v b : ℤ) → limit <ℤ v → (v ≤ℤ limit) ⊎ (v ≤ℤ b) → v ≤ℤ b
+past_limit limit v b past (inl l) = absurd (omega (arith, ints))
+past_limit limit v b past (inr l) = l
+
 -- a limit, and the least bound that is needed
 module _ (thresholds : List ℤ) (rows : List Row) (forms : List Form) (side : Row) where
-  pub limit_risen : (limit v : ℤ) (new : Option ℤ) → IsNeeded rows forms side (Some v)
+  pub limit_risen : (limit v : ℤ) (new : Option ℤ) → IsNeeded rows forms side limit (Some v)
       → ((v ≤ℤ limit) × (new ≡ Some limit)) ⊎ ((limit <ℤ v) × IsLeastAbove thresholds v new) → IsLoosened thresholds rows forms side (Some limit) new
   limit_risen limit v new need (inl (low, same)) = record {
     rises = λ b e. (limit, refl, at_most limit b (there b e));
@@ -118,7 +123,7 @@ module _ (thresholds : List ℤ) (rows : List Row) (forms : List Form) (side : R
     rises = λ b e. (limit, refl, chain limit v x b past above.some.1 (same_Some x b e));
     among = λ b e. inr (subst (Contains thresholds) (same_Some x b e) above.some.0);
     shown = λ b e. need.shown b (to v x b above.some.1 (same_Some x b e));
-    least = λ a b e l has shown. (x, refl, above.some.2 b has (need.least b shown));
+    least = λ a b e l has shown. (x, refl, above.some.2 b has (past_limit limit v b past (need.least b shown)));
   }
     where
       chain : (l v x b : ℤ) → l <ℤ v → v ≤ℤ x → x ≡ b → l ≤ℤ b
@@ -130,13 +135,13 @@ module _ (thresholds : List ℤ) (rows : List Row) (forms : List Form) (side : R
     rises = λ b e. absurd (none-some b e);
     among = λ b e. absurd (none-some b e);
     shown = λ b e. absurd (none-some b e);
-    least = λ a b e l has shown. absurd (apart v b (need.least b shown) (above.none b has));
+    least = λ a b e l has shown. absurd (apart v b (past_limit limit v b past (need.least b shown)) (above.none b has));
   }
     where
       apart : (v b : ℤ) → v ≤ℤ b → b <ℤ v → ⊥
       apart v b m n = omega (arith, ints)
 
-  pub limit_gone : (limit : ℤ) → IsNeeded rows forms side Nothing → IsLoosened thresholds rows forms side (Some limit) Nothing
+  pub limit_gone : (limit : ℤ) → IsNeeded rows forms side limit Nothing → IsLoosened thresholds rows forms side (Some limit) Nothing
   limit_gone limit need = record {
     rises = λ b e. absurd (none-some b e);
     among = λ b e. absurd (none-some b e);

@@ -1,11 +1,11 @@
 -- What premises show at once, and the least bound of a pair.
-use Rattle.std.proofs.Common.{◌≡◌, ℕ, ◌+◌, ◌^◌, ◌<◌, ◌≤◌, ℤ, pos, negsuc, ◌+ℤ◌, ◌-ℤ◌, ◌≤ℤ◌, ◌<ℤ◌, Bool, true, false, List, [], length, map, All, Some, arith, refl, sym, ap, ◌∙◌, ◌⊎◌, inl, inr}
+use Rattle.std.proofs.Common.{◌≡◌, ℕ, ◌+◌, ◌-◌, ◌++◌, ◌^◌, ◌<◌, ◌≤◌, ℤ, pos, negsuc, ◌+ℤ◌, ◌-ℤ◌, ◌≤ℤ◌, ◌<ℤ◌, Bool, true, false, List, [], length, map, All, Option, Some, arith, refl, sym, ap, ◌∙◌, subst, ◌⊎◌, inl, inr}
 use Rattle.std.proofs.Common.{None as Nothing}
-use Rattle.std.specs.Prelude.{MatchBool}
+use Rattle.std.specs.Prelude.{MatchBool, IsSomeAnd}
 use Rattle.std.specs.Int.RustNames.{unsigned_abs}
 use Rattle.std.proofs.lemmas.Int.{ints}
 use Rattle.std.proofs.lemmas.Bool.{cases_lt}
-use Rattle.std.proofs.lemmas.List.{get_or_past}
+use Rattle.std.proofs.lemmas.List.{get_or_past, get_or-append_right, get_or-append-add}
 use Rattle.rv_rows.specs.declared.linear.Row.{Row}
 use Rattle.rv_rows.specs.declared.linear.Form.{Form}
 use Rattle.rv_rows.specs.Rows.{coefficient, row_at, dot, RowWithin}
@@ -14,9 +14,9 @@ use Rattle.rv_rows.specs.Multipliers.{ShowsAtOnce, AreShutAtOnce, by_none, by_on
 use Rattle.rv_rows.proofs.RowLemmas.{bound_within}
 use Rattle.rv_seek.specs.declared.least.Best.{Best}
 use Rattle.rv_seek.specs.Pairs.{PairShows}
-use Rattle.rv_seek.specs.Least.{IsLeast, PairSums, bounded}
+use Rattle.rv_seek.specs.Least.{IsLeast, IsLeastAmong, PairSums, bounded}
 use Rattle.rv_seek.proofs.PairLemmas.{pair_from}
-use Rattle.rv_rise.specs.Shown.{IsLeastShown, IsNeeded}
+use Rattle.rv_rise.specs.Shown.{AreOthersOpen, IsLeastShown, IsKeptAlone, IsNeeded}
 
 -- a row with the same left side and a greater bound is shown too
 pub shown_more : (rows : List Row) (a b : Row) → ((k : ℕ) → coefficient k b ≡ coefficient k a) → a.bound ≤ℤ b.bound → ShowsAtOnce rows a → ShowsAtOnce rows b
@@ -99,6 +99,64 @@ pub shut_decided : (shut : Bool) (rows : List Row) (b : ℤ) → IsLeastShown ro
 shut_decided true rows b h l = shut_by rows b h l
 shut_decided false rows b h l = not_shut rows b h l
 
+-- rows that are not shut by themselves, beside first ones
+row_right : (rows others : List Row) (i : ℕ) → length rows ≤ i → row_at (rows ++ others) i ≡ row_at others (i - length rows)
+row_right rows others i l = get_or-append_right rows others (length rows) i (record { coefficients = []; bound = pos 0 }) refl l
+
+others_show : (rows others : List Row) (wanted : Row) (i j : ℕ) → length rows ≤ i → i < j → PairShows (rows ++ others) wanted i j → ShowsAtOnce others wanted
+others_show rows others wanted i j l m p = shows_from others wanted (i - length rows) (j - length rows) (omega (arith, l, m)) (record {
+  sides = λ k. p.sides k ∙ rw (row_right rows others i l, row_right rows others j (omega (arith, l, m))) refl;
+  bounds = rw (row_right rows others i l, row_right rows others j (omega (arith, l, m))) at p.bounds;
+})
+
+-- of a pair that shows what the others do not one is a first row
+among_found : (rows others : List Row) (wanted : Row) → ¬ ShowsAtOnce others wanted → ShowsAtOnce (rows ++ others) wanted
+    → (i : ℕ) × (j : ℕ) × (i < length rows) × (i < j) × (j < length (rows ++ others) + 2) × PairShows (rows ++ others) wanted i j
+among_found rows others wanted apart shows = let (i, j, l, m, p) = pair_from (rows ++ others) wanted shows in go i j l m p (cases_lt i (length rows))
+  where
+    go : (i j : ℕ) → i < j → j < length (rows ++ others) + 2 → PairShows (rows ++ others) wanted i j → (i < length rows) ⊎ (length rows ≤ i)
+        → (i : ℕ) × (j : ℕ) × (i < length rows) × (i < j) × (j < length (rows ++ others) + 2) × PairShows (rows ++ others) wanted i j
+    go i j l m p (inl a) = (i, j, a, l, m, p)
+    go i j l m p (inr a) = absurd (apart (others_show rows others wanted i j a l p))
+
+among_least : (rows : List Row) (first : ℕ) → AreOthersOpen rows first → (best : Option Best) → IsLeastAmong rows [] (length rows + 2) first best
+    → AreShutAtOnce rows → IsSomeAnd best (λ b. b.bound ≤ℤ negsuc 0)
+among_least rows first (tests, others, are, is, apart) best h shut =
+    let (i, j, a, l, m, p) = among_found tests others (bounded [] (negsuc 0)) apart (subst AreShutAtOnce are shut) in
+    h.least i (omega (arith, a, is)) j (let e = ap length are in omega (arith, m, e)) (omega (arith, l)) (negsuc 0)
+    (subst (λ (rs : List Row). PairShows rs (bounded [] (negsuc 0)) i j) (sym are) p)
+
+pub among_decided : (shut : Bool) (rows : List Row) (first : ℕ) → AreOthersOpen rows first → (b : Best) → IsLeastAmong rows [] (length rows + 2) first (Some b)
+    → MatchBool shut (b.bound <ℤ pos 0) (pos 0 ≤ℤ b.bound) → MatchBool shut (AreShutAtOnce rows) (¬ AreShutAtOnce rows)
+among_decided true rows first others b h l =
+    shown_more rows (bounded [] b.bound) (bounded [] (negsuc 0)) (λ k. refl) (below b.bound l)
+    (shows_from rows (bounded [] b.bound) b.first b.second h.shown.order (record { sides = h.shown.sides; bounds = at_most b.bound ((row_at rows b.first).bound +ℤ (row_at rows b.second).bound) h.shown.bound }))
+  where
+    below : (b : ℤ) → b <ℤ pos 0 → b ≤ℤ negsuc 0
+    below b l = omega (arith, ints)
+
+    at_most : (a b : ℤ) → a ≡ b → b ≤ℤ a
+    at_most a b e = omega (arith, ints)
+among_decided false rows first others b h l = λ shut. apart b.bound l (among_least rows first others (Some b) h shut)
+  where
+    apart : (b : ℤ) → pos 0 ≤ℤ b → b ≤ℤ negsuc 0 → ⊥
+    apart b l m = omega (arith, ints)
+
+pub among_none : (rows : List Row) (first : ℕ) → AreOthersOpen rows first → IsLeastAmong rows [] (length rows + 2) first Nothing → ¬ AreShutAtOnce rows
+among_none rows first others h shut = among_least rows first others Nothing h shut
+
+-- what rows show they show beside others
+pub shown_right : (rows others : List Row) (wanted : Row) → ShowsAtOnce others wanted → ShowsAtOnce (rows ++ others) wanted
+shown_right rows others wanted shows =
+    let (i, j, l, m, p) = pair_from others wanted shows in
+    shows_from (rows ++ others) wanted (length rows + i) (length rows + j) (omega (arith, l)) (record {
+      sides = λ k. p.sides k ∙ rw (get_or-append-add rows others i nothing, get_or-append-add rows others j nothing) refl;
+      bounds = rw (sym (get_or-append-add rows others i nothing), sym (get_or-append-add rows others j nothing)) at p.bounds;
+    })
+  where
+    nothing : Row
+    nothing = record { coefficients = []; bound = pos 0 }
+
 -- before the updates
 module _ (rows : List Row) (forms : List Form) (side before : Row) (zero_bound : side.bound ≡ pos 0) (sub : IsSubstituted side forms before) where
   moved : (z : ℤ) → IsSubstituted (bounded side.coefficients z) forms (bounded before.coefficients (z +ℤ before.bound))
@@ -118,14 +176,27 @@ module _ (rows : List Row) (forms : List Form) (side before : Row) (zero_bound :
       same : (z o b n d : ℤ) → o ≡ pos 0 → b ≡ o -ℤ d → n ≡ z -ℤ d → n ≤ℤ (z +ℤ b)
       same z o b n d e q p = omega (arith, ints)
 
-  pub needed_some : (b v : ℤ) → IsLeastShown rows before.coefficients (Some b) → v ≡ b -ℤ before.bound → IsNeeded rows forms side (Some v)
-  needed_some b v h is = record {
+  pub needed_kept : (limit v : ℤ) → IsKeptAlone rows before limit v → IsNeeded rows forms side limit (Some v)
+  needed_kept limit v k = record {
+    shown = λ z l. (
+      bounded before.coefficients (z +ℤ before.bound),
+      moved z,
+      shown_more rows (bounded before.coefficients (v +ℤ before.bound)) (bounded before.coefficients (z +ℤ before.bound)) (λ k. refl) (up v z before.bound l) k.shown,
+    );
+    least = λ z shows. inl k.low;
+  }
+    where
+      up : (v z c : ℤ) → v ≤ℤ z → (v +ℤ c) ≤ℤ (z +ℤ c)
+      up v z c l = omega (arith, ints)
+
+  pub needed_some : (limit b v : ℤ) → IsLeastShown rows before.coefficients (Some b) → v ≡ b -ℤ before.bound → IsNeeded rows forms side limit (Some v)
+  needed_some limit b v h is = record {
     shown = λ z l. (
       bounded before.coefficients (z +ℤ before.bound),
       moved z,
       shown_more rows (bounded before.coefficients b) (bounded before.coefficients (z +ℤ before.bound)) (λ k. refl) (up v b z before.bound is l) h.shown,
     );
-    least = λ z (new, is_new, shows). down v b z before.bound is (h.least (z +ℤ before.bound) (moved_back z new is_new shows));
+    least = λ z (new, is_new, shows). inr (down v b z before.bound is (h.least (z +ℤ before.bound) (moved_back z new is_new shows)));
   }
     where
       up : (v b z c : ℤ) → v ≡ b -ℤ c → v ≤ℤ z → b ≤ℤ (z +ℤ c)
@@ -134,8 +205,22 @@ module _ (rows : List Row) (forms : List Form) (side before : Row) (zero_bound :
       down : (v b z c : ℤ) → v ≡ b -ℤ c → b ≤ℤ (z +ℤ c) → v ≤ℤ z
       down v b z c e l = omega (arith, ints)
 
-  pub needed_none : IsLeastShown rows before.coefficients Nothing → IsNeeded rows forms side Nothing
-  needed_none h = record {
+  pub needed_none : (limit : ℤ) → IsLeastShown rows before.coefficients Nothing → IsNeeded rows forms side limit Nothing
+  needed_none limit h = record {
     shown = tt;
     least = λ z (new, is_new, shows). h.least (z +ℤ before.bound) (moved_back z new is_new shows);
   }
+
+-- what a pair of one premise and none shows
+pub alone_shows : (rows : List Row) (before : Row) (best : Best) (limit v : ℤ) → PairSums rows before.coefficients best → v ≡ best.bound -ℤ before.bound → v ≤ℤ limit
+    → IsKeptAlone rows before limit v
+alone_shows rows before best limit v sums is low = record {
+  low = low;
+  shown = shows_from rows (bounded before.coefficients (v +ℤ before.bound)) best.first best.second sums.order (record {
+    sides = sums.sides;
+    bounds = at_most v best.bound before.bound ((row_at rows best.first).bound +ℤ (row_at rows best.second).bound) sums.bound is;
+  });
+}
+  where
+    at_most : (v a c b : ℤ) → a ≡ b → v ≡ a -ℤ c → b ≤ℤ (v +ℤ c)
+    at_most v a c b e is = omega (arith, ints)

@@ -17,7 +17,7 @@ use Rattle.rv_proofs.specs.Systems.{System, IsSystem, HasSameState, updates_of}
 use Rattle.rv_proofs.specs.Scopes.{IsIn}
 use Rattle.rv_proofs.specs.Ranges.{IsControlSet}
 use Rattle.rv_proofs.specs.RowClaims.{RowClaim, IsRowClaim, IsRowTaken, IsRowClosed, HasTighter, IsRowTighter, premises_at}
-use Rattle.rv_proofs.specs.Cases.{IsImage}
+use Rattle.rv_proofs.specs.Cases.{IsImage, AreCases}
 use Rattle.rv_proofs.specs.declared.report.Case.{Case}
 use Rattle.rv_proofs.proofs.CaseRows.{case_rows}
 use Rattle.rv_walk.specs.Ends.{has}
@@ -31,10 +31,11 @@ use Rattle.rv_rise.specs.Shown.{IsShownAfter}
 use Rattle.rv_rise.specs.Limits.{limit_at, AreLoosened, AreAmong, HasChanged, room}
 use Rattle.rv_rise.specs.Sides.{rows_with}
 use Rattle.rv_rise.specs.Opening.{IsOpened}
-use Rattle.rv_rise.specs.Rounds.{IsFrameOf, IsSetting, IsHeld, IsKeptRisen, HasGrown, HasTaken, IsCaseIn, left_of, claim_in}
+use Rattle.rv_rise.specs.Rounds.{IsFrameOf, IsSetting, IsHeld, IsKeptRisen, HasGrown, HasTaken, IsCaseIn, IsInCases, left_of, claim_in}
 use Rattle.rv_rise.proofs.Listing.{IsRowAt, rows_with-has, rows_with-from}
 use Rattle.rv_rise.proofs.Loosening.{changed_le}
 use Rattle.rv_rise.proofs.Composing.{neither, some_of}
+use Rattle.rv_rise.proofs.Showing.{shown_right}
 
 -- limits stay among the thresholds
 pub loosened_among : (thresholds : List ℤ) (rows : List Row) (forms : List Form) (sides : List Row) (old new : List (Option ℤ))
@@ -253,3 +254,18 @@ module _ (s : System) (is : IsSystem s) (f : Frame) (frame : IsFrameOf s f) (bas
       held = λ e v i. held (neither fresh x.changed e) v i;
       less = less;
     }
+
+-- where the rows that are given are shut by themselves all cases leave the claim as it is
+pub grown_all_shut : (s : System) → IsSystem s → (f : Frame) → IsFrameOf s f → (base : RowClaim) (from : Frozen) (given : List Row)
+    → IsSetting s base from given → (cases : List Case) → AreCases s from cases → AreShutAtOnce given → (c : Risen) → IsKeptRisen s f c
+    → HasGrown s f base (IsInCases cases (length cases)) false c c
+grown_all_shut s is f frame base from given setting cases are shut c kept = record {
+  kept = kept;
+  below = λ h k. k;
+  still = λ e. refl;
+  held = λ e v (j, x, l, at, i).
+      let one = grown_shut s is f frame base from given setting x (record { case = are.each j x at; within = λ w h. are.within j x w at h }) (x.rows ++ given) refl
+      (shown_right x.rows given _ shut) c kept in
+      one.held refl v i;
+  less = λ (e : false ≡ true). cc;
+}

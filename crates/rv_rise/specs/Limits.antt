@@ -51,3 +51,7 @@ pub record AreFirst (thresholds : List ℤ) (many : ℕ) (limits : List (Option 
   pub size : length limits ≡ many
   pub among : AreAmong thresholds limits
   pub least : (k : ℕ) (t : ℤ) → k < many → Contains thresholds t → (b : ℤ) × (limit_at limits k ≡ Some b) × (b ≤ℤ t)
+
+-- Wherever a left side has a limit, its row is among the rows.
+abbrev pub AreOwn : List Row → List (Option ℤ) → List Row → Type 0
+AreOwn sides limits rows = (k : ℕ) (b : ℤ) → limit_at limits k ≡ Some b → Contains rows (bounded (row_at sides k).coefficients b)

@@ -6,10 +6,11 @@
 //!
 //! How it is built, from the bottom. All left sides of candidates stand in one table (table.rt), and a claim under way has for each of
 //! them a limit among the thresholds, or none (risen.rt); those that have one are its rows (rows.rt). A case of the system gives premises:
-//! the rows of its order tests, and the claim's own (lists.rt). Where these are not shut at once, they show each left side, after the
-//! updates, with a least bound or not at all (shown.rt), and its limit is loosened to the least threshold that is not below that bound, or
-//! goes (limits.rt, thresholds.rt, opening.rt). Rounds over all cases loosen a claim until nothing changes (rounds.rt), and the search
-//! begins them with the initial control states and the least threshold at each left side (search.rt).
+//! the rows of its order tests, and the claim's own (lists.rt). Where these are not shut at once, a left side whose columns the case
+//! leaves as they are keeps its limit (still.rt). Each other one is shown, after the updates, with a least bound or not at all (shown.rt),
+//! and its limit is loosened to the least threshold that is not below that bound, or goes (limits.rt, thresholds.rt, opening.rt). Rounds
+//! over all cases loosen a claim until nothing changes (rounds.rt), and the search begins them with the initial control states and the least
+//! threshold at each left side (search.rt).
 //!
 //! It stands on `rv_claims` for claims and their order, on `rv_seek` for what premises show at once, on `rv_cases` for cases, and on
 //! `rv_symbolic` and `rv_walk` for sets of control states. Begin with search.rt, then rounds.rt and specs/Rounds.antt.
@@ -24,6 +25,7 @@ mod rounds;
 mod rows;
 mod search;
 mod shown;
+mod still;
 mod table;
 mod thresholds;
 

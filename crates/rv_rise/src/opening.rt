@@ -4,25 +4,33 @@ ghost use Rattle.std.specs.Prelude.{◌≡◌, ◌<◌, ◌≤◌, ◌^◌, ℕ,
 ghost use Rattle.std.specs.Int.RustNames.{unsigned_abs};
 ghost use Rattle.rv_rows.specs.Rows.{row_at};
 ghost use Rattle.rv_rows.specs.Multipliers.{AreShutAtOnce};
-ghost use Rattle.rv_rise.specs.Shown.{ArePremises, CanMoveAll};
+ghost use Rattle.rv_rise.specs.Shown.{ArePremises, CanMoveAll, AreOthersOpen};
+ghost use Rattle.rv_rise.specs.Limits.{AreOwn};
 ghost use Rattle.rv_rise.specs.Opening.{IsOpened};
 
 use crate::frame::Frame;
 use crate::limits::{Loosened, loosen};
 use crate::shown::is_shut;
+use crate::still::still_of;
 use rv_base::{Many, Memory};
 use rv_rows::{Form, Row};
+use rv_seek::Premises;
 use std::alloc::Global;
 
-/// The limits, loosened by what the premises show after the updates, or none where the premises are shut at once.
+/// The limits, loosened by what the premises show after the updates, or none where the premises are shut at once. Those after the first `tests`
+/// ones are not shut by themselves, and `own` has limits whose rows are among the premises.
 pub fn open_limits(
     alloc: Global,
     frame: &Frame,
     premises: &Many<Row>,
     updates: &Many<Form>,
     limits: &Many<Option<i128>>,
+    own: &Many<Option<i128>>,
+    tests: usize,
 ) -> Result<Option<Loosened>, Memory>
     requires premises { ArePremises premises.now }
+    requires others { AreOthersOpen premises.now tests }
+    requires own { AreOwn frame.now.sides own.now premises.now }
     requires sizes { length frame.now.sides ≡ length limits.now }
     requires zero { (k : ℕ) → k < length frame.now.sides → (row_at frame.now.sides k).bound ≡ pos 0 }
     requires moves { CanMoveAll frame.now.sides updates.now }
@@ -30,12 +38,16 @@ pub fn open_limits(
     ensures some { IfOk result (λ o. IfSome o (IsOpened frame.now premises.now updates.now limits.now)) }
     ensures none { IfOk result (λ o. IfNone o (AreShutAtOnce premises.now)) }
 {
-    let shut = is_shut(alloc, premises)?;
+    let ready = Premises::new(alloc, premises)?;
+    let shut = is_shut(alloc, &ready, tests)?;
     if shut {
         return Ok(None);
     }
     let sides = &frame.sides;
     let thresholds = &frame.thresholds;
-    let loosened = loosen(alloc, premises, updates, sides, thresholds, limits)?;
+    let still = still_of(alloc, updates)?;
+    let loosened = loosen(
+        alloc, &ready, updates, &still, sides, thresholds, limits, own,
+    )?;
     Ok(Some(loosened))
 }

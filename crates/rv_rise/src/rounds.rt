@@ -10,7 +10,8 @@ ghost use Rattle.rv_proofs.specs.RowClaims.{RowClaim};
 ghost use Rattle.rv_proofs.specs.Cases.{AreCases, IsInitialSet};
 ghost use Rattle.rv_cases.specs.declared.asking.Questions.{Questions as QuestionsModel};
 ghost use Rattle.rv_claims.specs.Order.{IsBelowClosed};
-ghost use Rattle.rv_rise.specs.Limits.{AreFirst};
+ghost use Rattle.rv_rows.specs.Multipliers.{AreShutAtOnce};
+ghost use Rattle.rv_rise.specs.Limits.{AreFirst, AreOwn};
 ghost use Rattle.rv_rise.specs.Rounds.{IsGivenIn, IsSetting, IsKeptRisen, HasTaken, HasGrown, IsCaseIn, IsInCases, AreOthers, IsLeastRisen};
 ghost use Rattle.rv_rise.specs.Rounds.{IsRound, IsStart, claim_in};
 
@@ -20,6 +21,7 @@ use crate::lists::premises_of;
 use crate::opening::open_limits;
 use crate::risen::Risen;
 use crate::rows::rows_of;
+use crate::shown::are_shut;
 use crate::thresholds::least_above;
 use rv_base::{Many, Memory};
 use rv_cases::{Questions, cases};
@@ -72,10 +74,13 @@ fn by_case(
     frame: &Frame,
     from: &Frozen,
     given: &Many<Row>,
+    own: &Many<Option<i128>>,
     case: &Case,
     claim: &mut Risen,
 ) -> Result<bool, StoreFault>
-    requires { (s : System) × (q : QuestionsModel) × (base : RowClaim) × IsGivenIn s store.old relation.now q frame.now
+    requires own { AreOwn frame.now.sides own.now given.now }
+    requires still_open { ¬ AreShutAtOnce given.now }
+    requires known { (s : System) × (q : QuestionsModel) × (base : RowClaim) × IsGivenIn s store.old relation.now q frame.now
         × IsSetting s base from.now given.now × IsKeptRisen s frame.now claim.old × IsCaseIn s from.now case.now }
     ensures grown { (s : System) (q : QuestionsModel) (base : RowClaim) → IsGivenIn s store.old relation.now q frame.now
         → IsSetting s base from.now given.now → IsKeptRisen s frame.now claim.old → IsCaseIn s from.now case.now
@@ -84,7 +89,16 @@ fn by_case(
     ensures roomy { IsErrOf result StoreFault.Nodes → store.old.limit < 2 ^ (2 ^ store.old.variables) }
 {
     let premises = premises_of(alloc, &case.rows, given)?;
-    let opened = open_limits(alloc, frame, &premises, &case.updates, &claim.limits)?;
+    let tests = case.rows.len();
+    let opened = open_limits(
+        alloc,
+        frame,
+        &premises,
+        &case.updates,
+        &claim.limits,
+        own,
+        tests,
+    )?;
     match opened {
         Some(limits) => {
             let set = relation.image(store, from, case)?;
@@ -95,7 +109,8 @@ fn by_case(
     }
 }
 
-/// All cases of a set of control states. Whether something has changed.
+/// All cases of a set of control states. Where the given rows are shut at once by themselves all their premises are. Whether something has
+/// changed.
 fn by_cases(
     alloc: Global,
     store: &mut Store,
@@ -103,10 +118,12 @@ fn by_cases(
     frame: &Frame,
     from: &Frozen,
     given: &Many<Row>,
+    own: &Many<Option<i128>>,
     cases: &Many<Case>,
     claim: &mut Risen,
 ) -> Result<bool, StoreFault>
-    requires { (s : System) × (q : QuestionsModel) × (base : RowClaim) × IsGivenIn s store.old relation.now q frame.now
+    requires own { AreOwn frame.now.sides own.now given.now }
+    requires known { (s : System) × (q : QuestionsModel) × (base : RowClaim) × IsGivenIn s store.old relation.now q frame.now
         × IsSetting s base from.now given.now × IsKeptRisen s frame.now claim.old × AreCases s from.now cases.now }
     ensures grown { (s : System) (q : QuestionsModel) (base : RowClaim) → IsGivenIn s store.old relation.now q frame.now
         → IsSetting s base from.now given.now → IsKeptRisen s frame.now claim.old → AreCases s from.now cases.now
@@ -114,27 +131,41 @@ fn by_cases(
     ensures same { store.new ≡ store.old }
     ensures roomy { IsErrOf result StoreFault.Nodes → store.old.limit < 2 ^ (2 ^ store.old.variables) }
 {
+    let shut = are_shut(alloc, given)?;
+    if shut {
+        return Ok(false);
+    }
     let mut changed = false;
     for place in 0..cases.len() {
         let case = cases.at(place);
-        let more = by_case(alloc, store, relation, frame, from, given, case, claim)?;
+        let more = by_case(alloc, store, relation, frame, from, given, own, case, claim)?;
         changed = either(changed, more);
     }
     Ok(changed)
 }
 
-/// The control states of a claim that are not initial, the claim's rows, and their cases.
+/// The control states of a claim that are not initial, the claim's rows and limits, and their cases.
 #[derive(Debug, Drop)]
 pub struct Others {
     /// The control states.
     pub control: Frozen,
     /// The claim's rows.
     pub given: Many<Row>,
+    /// The limits that they come from.
+    pub own: Many<Option<i128>>,
     /// The cases.
     pub cases: Many<Case>,
 }
 
-/// The control states of a claim that are not initial, the claim's rows, and their cases.
+/// The same limits.
+fn copied(alloc: Global, limits: &Many<Option<i128>>) -> Result<Many<Option<i128>>, Memory>
+    ensures { IfOk result (λ copy. copy ≡ limits.now) }
+{
+    let list = Vec::from_slice(alloc, limits.as_slice())?;
+    Ok(Many::from_vec(list))
+}
+
+/// The control states of a claim that are not initial, the claim's rows and limits, and their cases.
 fn others_of(
     alloc: Global,
     store: &mut Store,
@@ -153,11 +184,13 @@ fn others_of(
 {
     let control = without(store, &claim.reached, first)?;
     let given = rows_of(alloc, &frame.sides, &claim.limits)?;
+    let own = copied(alloc, &claim.limits)?;
     let allowed = relation.parts().allowed;
     let cases = cases(alloc, store, allowed, questions, &control)?;
     Ok(Others {
         control,
         given,
+        own,
         cases,
     })
 }
@@ -183,17 +216,19 @@ fn round(
     ensures roomy { IsErrOf result StoreFault.Nodes → store.old.limit < 2 ^ (2 ^ store.old.variables) }
 {
     let nothing = Many::new(alloc);
+    let none = Many::new(alloc);
     let others = others_of(alloc, store, relation, questions, frame, first, claim)?;
     let one = by_cases(
-        alloc, store, relation, frame, first, &nothing, from_first, claim,
+        alloc, store, relation, frame, first, &nothing, &none, from_first, claim,
     )?;
     let Others {
         control,
         given,
+        own,
         cases,
     } = others;
     let two = by_cases(
-        alloc, store, relation, frame, &control, &given, &cases, claim,
+        alloc, store, relation, frame, &control, &given, &own, &cases, claim,
     )?;
     Ok(either(one, two))
 }

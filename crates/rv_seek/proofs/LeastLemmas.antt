@@ -21,7 +21,7 @@ use Rattle.rv_seek.proofs.PairLemmas.{pair_from, row_width}
 use Rattle.rv_seek.specs.declared.least.Best.{Best}
 use Rattle.rv_seek.specs.declared.sides.Closest.{Closest}
 use Rattle.rv_seek.specs.Pairs.{PairShows}
-use Rattle.rv_seek.specs.Least.{IsLeast, IsLeastAt, PairSums, bounded}
+use Rattle.rv_seek.specs.Least.{IsLeast, IsLeastAt, PairSums, bounded, IsAside, IsPassed, IsAlone, IsLeastAmong}
 use Rattle.rv_seek.specs.Sides.{closest_at, IsSide, IsOther, IsClosest, IsTable}
 
 -- what the place lacks is the left side of the other
@@ -68,62 +68,153 @@ least_at-kept rows cs n old new h place l i m ne bound p = go old new h (l i m n
     go (Some b) None h k = absurd h
     go (Some b) (Some c) h k = omega (arith, ints)
 
+-- and passed
+pub passed-kept : (rows : List Row) (cs : List ℤ) (n : ℕ) (pivot : Option ℕ) (old new : Option Best) → IfSome old (λ b. IsSomeAnd new (λ c. c.bound ≤ℤ b.bound))
+    → (place : ℕ) → IsPassed rows cs n pivot old place → IsPassed rows cs n pivot new place
+passed-kept rows cs n pivot old new h place (inl aside) = inl aside
+passed-kept rows cs n pivot old new h place (inr least) = inr (least_at-kept rows cs n old new h place least)
+
 -- the walk over the left sides: those that are done, and those that are left
-pub record IsWalked (rows : List Row) (cs : List ℤ) (n : ℕ) (best : Option Best) (all left : List Closest) : Type 0 where
+pub record IsWalked (rows : List Row) (cs : List ℤ) (n : ℕ) (pivot : Option ℕ) (best : Option Best) (all left : List Closest) : Type 0 where
   pub done : List Closest
   pub parts : all ≡ done ++ left
-  pub least : All (λ c. IsLeastAt rows cs n best c.first) done
+  pub least : All (λ c. IsPassed rows cs n pivot best c.first) done
 
-pub walked-none : (rows : List Row) (cs : List ℤ) (n : ℕ) (all left : List Closest) → left ≡ all → IsWalked rows cs n None all left
-walked-none rows cs n all left e = record { done = []; parts = sym e; least = All-nil (λ c. IsLeastAt rows cs n None c.first) }
+pub walked-none : (rows : List Row) (cs : List ℤ) (n : ℕ) (pivot : Option ℕ) (all left : List Closest) → left ≡ all → IsWalked rows cs n pivot None all left
+walked-none rows cs n pivot all left e = record { done = []; parts = sym e; least = All-nil (λ c. IsPassed rows cs n pivot None c.first) }
 
-pub walked-more : (rows : List Row) (cs : List ℤ) (n : ℕ) (old new : Option Best) (all left next : List Closest) (c : Closest) → IsWalked rows cs n old all left
-    → left ≡ c ∷ next → IfSome old (λ b. IsSomeAnd new (λ c. c.bound ≤ℤ b.bound)) → IsLeastAt rows cs n new c.first → IsWalked rows cs n new all next
-walked-more rows cs n old new all left next c w e h here = record {
+pub walked-more : (rows : List Row) (cs : List ℤ) (n : ℕ) (pivot : Option ℕ) (old new : Option Best) (all left next : List Closest) (c : Closest)
+    → IsWalked rows cs n pivot old all left
+    → left ≡ c ∷ next → IfSome old (λ b. IsSomeAnd new (λ c. c.bound ≤ℤ b.bound)) → IsPassed rows cs n pivot new c.first → IsWalked rows cs n pivot new all next
+walked-more rows cs n pivot old new all left next c w e h here = record {
   done = w.done ++ c ∷ [];
   parts = w.parts ∙ ap (λ x. w.done ++ x) e ∙ sym (append_assoc w.done (c ∷ []) next);
-  least = All-push (λ x. IsLeastAt rows cs n new x.first) w.done c
-      (All-weaker (λ x. IsLeastAt rows cs n old x.first) (λ x. IsLeastAt rows cs n new x.first) (λ x. least_at-kept rows cs n old new h x.first) w.done w.least) here;
+  least = All-push (λ x. IsPassed rows cs n pivot new x.first) w.done c
+      (All-weaker (λ x. IsPassed rows cs n pivot old x.first) (λ x. IsPassed rows cs n pivot new x.first) (λ x. passed-kept rows cs n pivot old new h x.first) w.done w.least) here;
 }
 
-pub walked-all : (rows : List Row) (cs : List ℤ) (n : ℕ) (best : Option Best) (all left : List Closest) → IsWalked rows cs n best all left → left ≡ []
-    → All (λ c. IsLeastAt rows cs n best c.first) all
-walked-all rows cs n best all left w e = rw (w.parts ∙ ap (λ x. w.done ++ x) e ∙ append-nil w.done) w.least
+pub walked-all : (rows : List Row) (cs : List ℤ) (n : ℕ) (pivot : Option ℕ) (best : Option Best) (all left : List Closest) → IsWalked rows cs n pivot best all left
+    → left ≡ [] → All (λ c. IsPassed rows cs n pivot best c.first) all
+walked-all rows cs n pivot best all left w e = rw (w.parts ∙ ap (λ x. w.done ++ x) e ∙ append-nil w.done) w.least
 
 -- what holds of a value that is there
 pick : {A : Type 0} (o : Option A) (P Q : A → Type 0) (R : Type 0) → IsSome o → IfSome o P → IfSome o Q → ((x : A) → P x → Q x → R) → R
 pick None P Q R s p q f = absurd (true≢false (sym s))
 pick (Some x) P Q R s p q f = f x p q
 
+-- the two places of a pair, in the other order
+swapped : (rows : List Row) (wanted : Row) (i j : ℕ) → PairShows rows wanted i j → PairShows rows wanted j i
+swapped rows wanted i j p = record {
+  sides = λ k. turned (coefficient k wanted) (coefficient k (row_at rows i)) (coefficient k (row_at rows j)) (p.sides k);
+  bounds = let b = p.bounds in omega (arith, ints);
+}
+  where
+    turned : (a b c : ℤ) → a ≡ b +ℤ c → a ≡ c +ℤ b
+    turned a b c e = omega (arith, ints)
+
+-- a row with the same left side is aside too
+aside_same : (rows : List Row) (key : List ℤ) (i first : ℕ) (pivot : Option ℕ) → IsSide (row_at rows i) key → IsSide (row_at rows first) key
+    → IsAside rows pivot first → IsAside rows pivot i
+aside_same rows key i first None side same h = absurd h
+aside_same rows key i first (Some k) side same h = sym (side k) ∙ same k ∙ h
+
+-- of two places with the wanted sum one is not aside
+not_both : (rows : List Row) (cs : List ℤ) (i j : ℕ) (pivot : Option ℕ) → IfSome pivot (λ k. number k cs ≢ pos 0)
+    → ((k : ℕ) → number k cs ≡ coefficient k (row_at rows i) +ℤ coefficient k (row_at rows j)) → IsAside rows pivot i → IsAside rows pivot j → ⊥
+not_both rows cs i j None ne sides a b = absurd a
+not_both rows cs i j (Some k) ne sides a b = ne (sides k ∙ none (coefficient k (row_at rows i)) (coefficient k (row_at rows j)) a b)
+  where
+    none : (x y : ℤ) → x ≡ pos 0 → y ≡ pos 0 → x +ℤ y ≡ pos 0
+    none x y a b = omega (arith, ints)
+
 -- the least at the closest place of each left side is the least of all
-module _ (rows : List Row) (cs : List ℤ) (width n : ℕ) (map : BTreeMap (Vec ℤ) Closest) (best : Option Best)
-    (table : IsTable rows width n map) (walked : All (λ c. IsLeastAt rows cs n best c.first) (values map)) where
-  at : (i j : ℕ) → i < j → j < n → (bound : ℤ) → PairShows rows (bounded cs bound) i j → (key : List ℤ) → IsSide (row_at rows i) key
+module _ (rows : List Row) (cs : List ℤ) (width n : ℕ) (map : BTreeMap (Vec ℤ) Closest) (pivot : Option ℕ) (best : Option Best)
+    (table : IsTable rows width n map) (pivot_is : IfSome pivot (λ k. number k cs ≢ pos 0))
+    (walked : All (λ c. IsPassed rows cs n pivot best c.first) (values map)) where
+  -- no pair with the place has a lesser sum
+  abbrev IsBest : ℕ → Type 0
+  IsBest i = (j : ℕ) → j < n → i ≢ j → (bound : ℤ) → PairShows rows (bounded cs bound) i j → IsSomeAnd best (λ b. b.bound ≤ℤ bound)
+
+  at : (i j : ℕ) → i ≢ j → i < n → j < n → (bound : ℤ) → PairShows rows (bounded cs bound) i j → (key : List ℤ) → IsSide (row_at rows i) key
       → (c : Closest) → IsClosest rows n key c → IsLeastAt rows cs n best c.first → (j ≡ c.first) ⊎ (j ≡ c.first → ⊥) → IsSomeAnd best (λ b. b.bound ≤ℤ bound)
-  at i j l m bound p key side c h least (inl e) =
-      least i (omega arith) (omega arith) bound (rw (sym e) (record {
-        sides = λ k. swapped (number k cs) (coefficient k (row_at rows i)) (coefficient k (row_at rows j)) (p.sides k);
-        bounds = let b = p.bounds in omega (arith, ints);
-      }))
-    where
-      swapped : (a b c : ℤ) → a ≡ b +ℤ c → a ≡ c +ℤ b
-      swapped a b c e = omega (arith, ints)
-  at i j l m bound p key side c h least (inr ne) =
+  at i j apart l m bound p key side c h least (inl e) =
+      least i l (λ f. apart (f ∙ sym e)) bound (rw (sym e) (swapped rows (bounded cs bound) i j p))
+  at i j apart l m bound p key side c h least (inr ne) =
       least j m ne bound (record {
         sides = λ k. p.sides k ∙ ap (λ z. z +ℤ coefficient k (row_at rows j)) (sym (side k) ∙ h.side k);
-        bounds = let b = p.bounds in let f = h.least i (omega arith) side in omega (arith, ints);
+        bounds = let b = p.bounds in let f = h.least i l side in omega (arith, ints);
       })
+
+  passed : (i : ℕ) → i < n → (key : List ℤ) → IsSide (row_at rows i) key → (c : Closest) → IsClosest rows n key c → IsPassed rows cs n pivot best c.first
+      → IsAside rows pivot i ⊎ IsBest i
+  passed i l key side c h (inl aside) = inl (aside_same rows key i c.first pivot side h.side aside)
+  passed i l key side c h (inr least) = inr (λ j m apart bound p. at i j apart l m bound p key side c h least (cases_eq j c.first))
+
+  found : (i : ℕ) → i < n → IsAside rows pivot i ⊎ IsBest i
+  found i l =
+      let k = table.complete i l in
+      pick (closest_at map k.key.items) (λ c. (length k.key.items ≡ width) × IsClosest rows n k.key.items c) (λ c. IsPassed rows cs n pivot best c.first)
+      (IsAside rows pivot i ⊎ IsBest i) k.kept (table.sound k.key)
+      (IfSome-lookup_from_All (λ c. IsPassed rows cs n pivot best c.first) (λ key. is_eq (slice_cmp int_cmp k.key.items key.items)) map.entries walked)
+      (λ c h w. passed i l k.key.items k.side c h.1 w)
+
+  decided : (i j : ℕ) → i < n → j < n → i ≢ j → (bound : ℤ) → PairShows rows (bounded cs bound) i j → IsAside rows pivot i ⊎ IsBest i → IsAside rows pivot j ⊎ IsBest j
+      → IsSomeAnd best (λ b. b.bound ≤ℤ bound)
+  decided i j l m apart bound p (inr f) y = f j m apart bound p
+  decided i j l m apart bound p (inl a) (inr g) = g i l (λ e. apart (sym e)) bound (swapped rows (bounded cs bound) i j p)
+  decided i j l m apart bound p (inl a) (inl b) = absurd (not_both rows cs i j pivot pivot_is p.sides a b)
 
   pub least-all : IfSome best (PairSums rows cs) → IsLeast rows cs n best
   least-all shown = record {
     shown = shown;
-    least = λ i j l m bound p.
-        let k = table.complete i (omega arith) in
-        pick (closest_at map k.key.items) (λ c. (length k.key.items ≡ width) × IsClosest rows n k.key.items c) (λ c. IsLeastAt rows cs n best c.first)
-        (IsSomeAnd best (λ b. b.bound ≤ℤ bound)) k.kept (table.sound k.key)
-        (IfSome-lookup_from_All (λ c. IsLeastAt rows cs n best c.first) (λ key. is_eq (slice_cmp int_cmp k.key.items key.items)) map.entries walked)
-        (λ c h w. at i j l m bound p k.key.items k.side c h.1 w (cases_eq j c.first));
+    least = λ i j l m bound p. decided i j (omega arith) m (omega arith) bound p (found i (omega arith)) (found j m);
   }
+
+-- one more place
+pub among-more : (rows : List Row) (cs : List ℤ) (n place : ℕ) (old new : Option Best) → IfSome old (λ b. IsSomeAnd new (λ c. c.bound ≤ℤ b.bound))
+    → ((i : ℕ) → i < place → IsLeastAt rows cs n old i) → IsLeastAt rows cs n new place → (i : ℕ) → i < place + 1 → IsLeastAt rows cs n new i
+among-more rows cs n place old new h before here i l = go (cases_eq i place)
+  where
+    go : (i ≡ place) ⊎ (i ≡ place → ⊥) → IsLeastAt rows cs n new i
+    go (inl e) = rw e here
+    go (inr apart) = least_at-kept rows cs n old new h i (before i (omega arith))
+
+-- a wanted side that goes past all premises is that of no pair of these places
+pub among-wide : (rows : List Row) (cs : List ℤ) (width n first k : ℕ) → All (λ r. length r.coefficients ≤ width) rows → width ≤ k → number k cs ≢ pos 0
+    → IsLeastAmong rows cs n first None
+among-wide rows cs width n first k widths far ne = record { shown = tt; least = λ i l j m apart bound p. absurd (ne (p.sides k ∙ zeros i j)) }
+  where
+    zero_at : (i : ℕ) → coefficient k (row_at rows i) ≡ pos 0
+    zero_at i = let w = row_width width rows widths i in get_or_past (row_at rows i).coefficients k (pos 0) (omega arith)
+
+    zeros : (i j : ℕ) → coefficient k (row_at rows i) +ℤ coefficient k (row_at rows j) ≡ pos 0
+    zeros i j = rw (zero_at i, zero_at j) refl
+
+-- what the place past the end lacks is the wanted side, so with it a single row is found
+pub alone-of : (rows : List Row) (cs : List ℤ) (best : Option Best) → IfSome best (PairSums rows cs) → IsLeastAt rows cs (length rows + 2) best (length rows) → IsAlone rows cs best
+alone-of rows cs best shown least = record {
+  shown = shown;
+  least = λ i l same. least i (omega arith) (omega arith) (row_at rows i).bound (record {
+    sides = λ k. whole (number k cs) (coefficient k (row_at rows (length rows))) (coefficient k (row_at rows i)) (ap (coefficient k) past) (same k);
+    bounds = none (row_at rows (length rows)).bound (row_at rows i).bound (ap (λ (r : Row). r.bound) past);
+  });
+}
+  where
+    past : row_at rows (length rows) ≡ record { coefficients = []; bound = pos 0 }
+    past = get_or_past rows (length rows) (record { coefficients = []; bound = pos 0 }) (omega arith)
+
+    whole : (a b c : ℤ) → b ≡ pos 0 → a ≡ c → a ≡ b +ℤ c
+    whole a b c z e = omega (arith, ints)
+
+    none : (b c : ℤ) → b ≡ pos 0 → (b +ℤ c) ≤ℤ c
+    none b c z = omega (arith, ints)
+
+-- and a wanted side that goes past all premises is that of none
+pub alone-wide : (rows : List Row) (cs : List ℤ) (width k : ℕ) → All (λ r. length r.coefficients ≤ width) rows → width ≤ k → number k cs ≢ pos 0 → IsAlone rows cs None
+alone-wide rows cs width k widths far ne = record { shown = tt; least = λ i l same. absurd (ne (same k ∙ zero_at i)) }
+  where
+    zero_at : (i : ℕ) → coefficient k (row_at rows i) ≡ pos 0
+    zero_at i = let w = row_width width rows widths i in get_or_past (row_at rows i).coefficients k (pos 0) (omega arith)
 
 -- a wanted side that goes past all premises is that of no pair
 pub least-wide : (rows : List Row) (cs : List ℤ) (width n k : ℕ) → All (λ r. length r.coefficients ≤ width) rows → width ≤ k → number k cs ≢ pos 0

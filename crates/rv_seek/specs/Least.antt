@@ -1,5 +1,5 @@
 -- The least bound that a pair of places shows.
-use Rattle.std.specs.Prelude.{◌≡◌, ◌≢◌, ℕ, ◌<◌, ℤ, ◌+ℤ◌, ◌-ℤ◌, ◌≤ℤ◌, List, Option, IfSome, IsSomeAnd}
+use Rattle.std.specs.Prelude.{◌≡◌, ◌≢◌, ◌⊎◌, ℕ, ◌<◌, ℤ, pos, ◌+ℤ◌, ◌-ℤ◌, ◌≤ℤ◌, List, length, Option, IfSome, IsSomeAnd}
 use Rattle.rv_rows.specs.declared.linear.Row.{Row}
 use Rattle.rv_rows.specs.declared.linear.Form.{Form}
 use Rattle.rv_rows.specs.Rows.{coefficient, row_at}
@@ -30,3 +30,22 @@ pub record IsLeast (rows : List Row) (cs : List ℤ) (n : ℕ) (best : Option Be
 -- No pair of the place and another one below n has a lesser sum of bounds.
 abbrev pub IsLeastAt : List Row → List ℤ → ℕ → Option Best → ℕ → Type 0
 IsLeastAt rows cs n best place = (i : ℕ) → i < n → i ≢ place → (bound : ℤ) → PairShows rows (bounded cs bound) place i → IsSomeAnd best (λ b. b.bound ≤ℤ bound)
+
+-- The left side at the place is 0 in the column; where there is no column, none is aside.
+abbrev pub IsAside : List Row → Option ℕ → ℕ → Type 0
+IsAside rows pivot place = IsSomeAnd pivot (λ k. coefficient k (row_at rows place) ≡ pos 0)
+
+-- The place is aside, or no pair of it and another one below n has a lesser sum of bounds.
+abbrev pub IsPassed : List Row → List ℤ → ℕ → Option ℕ → Option Best → ℕ → Type 0
+IsPassed rows cs n pivot best place = IsAside rows pivot place ⊎ IsLeastAt rows cs n best place
+
+-- `best` is a pair whose left sides sum to the wanted one, and no pair of a place below `first` and another one below n has a lesser sum of
+-- bounds.
+pub record IsLeastAmong (rows : List Row) (cs : List ℤ) (n first : ℕ) (best : Option Best) : Type 0 where
+  pub shown : IfSome best (PairSums rows cs)
+  pub least : (i : ℕ) → i < first → IsLeastAt rows cs n best i
+
+-- `best` is a pair whose left sides sum to the wanted one, and no single row with that left side has a lesser bound.
+pub record IsAlone (rows : List Row) (cs : List ℤ) (best : Option Best) : Type 0 where
+  pub shown : IfSome best (PairSums rows cs)
+  pub least : (i : ℕ) → i < length rows → ((k : ℕ) → number k cs ≡ coefficient k (row_at rows i)) → IsSomeAnd best (λ b. b.bound ≤ℤ (row_at rows i).bound)

@@ -3,11 +3,11 @@ ghost use Rattle.std.specs.Prelude.{◌≡◌, ◌<◌, ◌≤◌, ◌^◌, ◌+
 ghost use Rattle.std.specs.Int.RustNames.{unsigned_abs};
 ghost use Rattle.rv_rows.specs.Rows.{RowWithin};
 ghost use Rattle.rv_rows.specs.Multipliers.{ShowsAtOnce, AreShutAtOnce};
-ghost use Rattle.rv_seek.specs.Least.{IsLeast, bounded};
+ghost use Rattle.rv_seek.specs.Least.{IsLeast, IsAlone, IsLeastAmong, bounded};
 ghost use Rattle.rv_seek.specs.Pairs.{PairShows};
 ghost use Rattle.rv_seek.specs.Sides.{IsTable};
 
-use crate::least::{Best, least_in};
+use crate::least::{Best, alone_in, least_among_in, least_in};
 use crate::places::widest;
 use crate::sides::{Sides, add_place};
 use rv_base::{Many, Memory};
@@ -71,6 +71,29 @@ impl<'a> Premises<'a> {
         ensures { IfOk result (λ o. IsLeast self.now wanted.now (length self.now + 2) o) }
     {
         least_in(alloc, self.rows, &self.sides, self.width, wanted)
+    }
+
+    /// The pair with the least sum of bounds among those of which one place is below `first`. It costs one look-up for each of these. The only
+    /// error is want of memory.
+    pub fn least_among(
+        &self,
+        alloc: Global,
+        wanted: &Many<i128>,
+        first: usize,
+    ) -> Result<Option<Best>, Memory>
+        requires { All (λ c. unsigned_abs c ≤ 2 ^ 78) wanted.now }
+        ensures { IfOk result (IsLeastAmong self.now wanted.now (length self.now + 2) first) }
+    {
+        least_among_in(alloc, self.rows, &self.sides, self.width, wanted, first)
+    }
+
+    /// The premise with the wanted left side and the least bound, as a pair with a place past the end. It costs one look-up. The only error is
+    /// want of memory.
+    pub fn alone(&self, alloc: Global, wanted: &Many<i128>) -> Result<Option<Best>, Memory>
+        requires { All (λ c. unsigned_abs c ≤ 2 ^ 78) wanted.now }
+        ensures { IfOk result (IsAlone self.now wanted.now) }
+    {
+        alone_in(alloc, self.rows, &self.sides, self.width, wanted)
     }
 
     /// Two places that show the row at once: their left sides sum to its left side, and their bounds to at most its

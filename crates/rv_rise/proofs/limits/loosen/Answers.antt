@@ -5,6 +5,8 @@ use Rattle.rv_rows.specs.Rows.{row_at}
 use Rattle.rv_rise.specs.Shown.{CanMove}
 use Rattle.rv_rise.specs.Limits.{AreLoosened, HasChanged, room_of}
 use Rattle.rv_rise.proofs.Loosening.{take_push, loosened_more, loosened_room, changed_more, match_true, match_false}
+use Rattle.std.specs.List.{Contains}
+use Rattle.rv_seek.specs.Least.{bounded}
 use Rattle.rv_rise.proofs.limits.loosen.Goals as goal
 
 pub loosened_by-requires-clause-zero : goal.loosened_by-requires-clause-zero
@@ -16,6 +18,11 @@ pub loosened_by-requires-clause-moves : goal.loosened_by-requires-clause-moves
 loosened_by-requires-clause-moves c =
     let here : row_at c.args.sides.now c.loop-place.place ≡ c.at-side.result.now = get_or_from_slice_get c.args.sides.now c.loop-place.place c.at-side.result.now _ c.at-side.ensures.value in
     subst (λ (r : Row). CanMove r c.args.updates.now) here (c.requires.moves c.loop-place.place (omega (arith, c.requires.sizes, c.len-place-end.ensures)))
+
+pub loosened_by-requires-clause-own : goal.loosened_by-requires-clause-own
+loosened_by-requires-clause-own c known is =
+    let here : row_at c.args.sides.now c.loop-place.place ≡ c.at-side.result.now = get_or_from_slice_get c.args.sides.now c.loop-place.place c.at-side.result.now _ c.at-side.ensures.value in
+    subst (λ (r : Row). Contains c.args.premises.now (bounded r.coefficients known)) here (c.requires.own c.loop-place.place known (sym c.limit_in-known.ensures ∙ is))
 
 pub loop-place-preserved : goal.loop-place-preserved
 loop-place-preserved c =

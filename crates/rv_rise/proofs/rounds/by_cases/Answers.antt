@@ -4,6 +4,10 @@ use Rattle.rv_rise.specs.Rounds.{IsInCases, HasGrown}
 use Rattle.rv_rise.proofs.Giving.{given_there}
 use Rattle.rv_rise.proofs.Composing.{grown_none, grown_both, grown_within, more_cases}
 use Rattle.rv_rise.proofs.Rounding.{cases_in}
+use Rattle.rv_rows.specs.Multipliers.{AreShutAtOnce}
+use Rattle.rv_rise.proofs.Fitting.{given_fit}
+use Rattle.rv_rise.proofs.Loosening.{match_true, match_false}
+use Rattle.rv_rise.proofs.Stepping.{grown_all_shut}
 use Rattle.rv_rise.proofs.rounds.by_cases.Goals as goal
 
 pub loop-place-init : goal.loop-place-init
@@ -13,9 +17,9 @@ loop-place-init c = record {
       (λ v (j, x, l, there, i). absurd (omega (arith, l)));
 }
 
-pub by_case-requires : goal.by_case-requires
-by_case-requires c =
-    let (s, q, base, given, setting, kept, are) = c.requires in
+pub by_case-requires-clause-known : goal.by_case-requires-clause-known
+by_case-requires-clause-known c =
+    let (s, q, base, given, setting, kept, are) = c.requires.known in
     let grown = c.loop-place.invariant.grown s q base given setting kept are in (
       s,
       q,
@@ -25,6 +29,20 @@ by_case-requires c =
       grown.kept,
       cases_in s c.args.from.now c.args.cases.now are c.loop-place.place c.at-case.result.now c.at-case.ensures.value,
     )
+
+pub by_case-requires-clause-still_open : goal.by_case-requires-clause-still_open
+by_case-requires-clause-still_open c =
+    match_false c.in_ok-shut.shut (AreShutAtOnce c.args.given.now) (¬ AreShutAtOnce c.args.given.now) c.in_ok-shut.ensures c.if-shut.false
+
+pub are_shut-requires : goal.are_shut-requires
+are_shut-requires c = let (s, q, base, given, setting, kept, are) = c.requires.known in given_fit s c.args.given.now setting.kept
+
+pub returns-then-shut-clause-grown : goal.returns-then-shut-clause-grown
+returns-then-shut-clause-grown c s q base given setting kept are =
+    let r = given.relation in
+    grown_all_shut s r.system c.args.frame.now given.frame base c.args.from.now c.args.given.now setting c.args.cases.now are
+    (match_true c.in_ok-shut.shut (AreShutAtOnce c.args.given.now) (¬ AreShutAtOnce c.args.given.now) c.in_ok-shut.ensures c.if-shut.true)
+    c.args.claim.now kept
 
 pub loop-place-preserved : goal.loop-place-preserved
 loop-place-preserved c = record {

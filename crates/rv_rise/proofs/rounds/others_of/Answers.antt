@@ -33,6 +33,7 @@ returns-clause-others c s given initial kept =
       control = control;
       exact = w.exact;
       rows = c.in_ok-given.ensures;
+      own = c.in_ok-own.ensures;
       cases = c.in_ok-cases.ensures.parted s r.system (subst (λ (d : Diagrams). AreQuestions s d c.args.questions.now) (sym back) given.questions)
           (given_allowed s c.args.store.now c.without.new.store c.args.relation.now r back c.parts.result.now c.parts.ensures) control;
     }

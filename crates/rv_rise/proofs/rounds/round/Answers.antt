@@ -1,4 +1,7 @@
-use Rattle.std.proofs.Common.{◌||◌, Bool, List, sym, subst, length}
+use Rattle.std.proofs.Common.{◌||◌, Bool, List, ℤ, Option, sym, ap, ◌∙◌, subst, length}
+use Rattle.std.proofs.lemmas.Option.{none-some}
+use Rattle.rv_rise.specs.Limits.{limit_at}
+use Rattle.rv_rise.proofs.Listing.{own_rows}
 use Rattle.rv_rows.specs.declared.linear.Row.{Row}
 use Rattle.rv_rise.specs.Rounds.{claim_in}
 use Rattle.rv_rise.specs.Rounds.{IsSetting, IsInCases, IsRound}
@@ -10,8 +13,17 @@ use Rattle.rv_rise.proofs.rounds.round.Goals as goal
 pub others_of-requires : goal.others_of-requires
 others_of-requires c = let (s, given, start, kept) = c.requires in (s, given, start.initial, kept)
 
-pub by_cases-requires : goal.by_cases-requires
-by_cases-requires c =
+pub by_cases-requires-clause-own : goal.by_cases-requires-clause-own
+by_cases-requires-clause-own c k b e = absurd (none-some b (sym (ap (λ (os : List (Option ℤ)). limit_at os k) c.new-none.ensures) ∙ e))
+
+pub by_cases-requires-2-clause-own : goal.by_cases-requires-2-clause-own
+by_cases-requires-2-clause-own c =
+    let (s, given, start, kept) = c.requires in
+    let others = c.in_ok-others.ensures.others s given start.initial kept in
+    own_rows c.args.frame.now.sides c.args.claim.now.limits kept.size c.in_ok-others.others.given c.in_ok-others.others.own others.rows others.own
+
+pub by_cases-requires-clause-known : goal.by_cases-requires-clause-known
+by_cases-requires-clause-known c =
     let (s, given, start, kept) = c.requires in
     let r = given.relation in (
       s,
@@ -24,8 +36,8 @@ by_cases-requires c =
       start.cases,
     )
 
-pub by_cases-requires-2 : goal.by_cases-requires-2
-by_cases-requires-2 c =
+pub by_cases-requires-2-clause-known : goal.by_cases-requires-2-clause-known
+by_cases-requires-2-clause-known c =
     let (s, given, start, kept) = c.requires in
     let r = given.relation in
     let others = c.in_ok-others.ensures.others s given start.initial kept in

@@ -1,18 +1,21 @@
-use Rattle.std.proofs.Common.{List, ℤ, Option, Some, None, rules, FitsSigned, subst}
+use Rattle.std.proofs.Common.{List, ℤ, ◌+◌, Option, Some, None, rules, FitsSigned, length, subst}
 use Rattle.std.specs.Int.{w128}
 use Rattle.std.proofs.lemmas.Int.{to_z-of_z}
-use Rattle.rv_rise.specs.Shown.{IsLeastShown}
-use Rattle.rv_rise.proofs.Showing.{shut_decided, never_shut}
+use Rattle.rv_seek.specs.declared.least.Best.{Best}
+use Rattle.rv_seek.specs.Least.{IsLeastAmong}
+use Rattle.rv_rise.proofs.Showing.{among_decided, among_none}
 use Rattle.rv_rise.proofs.shown.is_shut.Goals as goal
 
 pub returns-in-Some : goal.returns-in-Some
 returns-in-Some c =
-    let bound_fits : FitsSigned w128 c.in-Some.bound = search rules in
+    let rows = c.args.premises.now in
+    let bound_fits : FitsSigned w128 c.in-Some.best.bound = search rules in
     let below = simp to_z-of_z at c.is_below.ensures in
-    shut_decided c.is_below.result c.args.premises.now c.in-Some.bound
-    (subst (λ (cs : List ℤ). IsLeastShown c.args.premises.now cs (Some c.in-Some.bound)) c.new-none.ensures (rw c.in-Some.is at c.in_ok-bound.ensures)) below
+    among_decided c.is_below.result rows c.args.first c.requires.others c.in-Some.best
+    (subst (λ (cs : List ℤ). IsLeastAmong rows cs (length rows + 2) c.args.first (Some c.in-Some.best)) c.new-none.ensures (rw c.in-Some.is at c.in_ok-best.ensures)) below
 
 pub returns : goal.returns
 returns c =
-    never_shut c.args.premises.now
-    (subst (λ (cs : List ℤ). let o : Option ℤ = None in IsLeastShown c.args.premises.now cs o) c.new-none.ensures (rw c.in-None.is at c.in_ok-bound.ensures))
+    let rows = c.args.premises.now in
+    among_none rows c.args.first c.requires.others
+    (subst (λ (cs : List ℤ). let o : Option Best = None in IsLeastAmong rows cs (length rows + 2) c.args.first o) c.new-none.ensures (rw c.in-None.is at c.in_ok-best.ensures))

@@ -7,5 +7,5 @@ use Rattle.rv_seek.proofs.least.least_within.Given as goal
 abbrev pub invariant-loop-closest : goal.invariant-loop-closest
 invariant-loop-closest l = record {
   shown : IfSome l.least (PairSums l.premises l.wanted);
-  walked : IsWalked l.premises l.wanted (length l.premises + 2) l.least (values l.sides) l.closest-iterator;
+  walked : IsWalked l.premises l.wanted (length l.premises + 2) l.pivot l.least (values l.sides) l.closest-iterator;
 }

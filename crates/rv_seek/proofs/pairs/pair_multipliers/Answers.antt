@@ -1,4 +1,4 @@
-use Rattle.std.proofs.Common.{◌≡◌, ◌++◌, length, ap, ◌∙◌, refl, negsuc, []}
+use Rattle.std.proofs.Common.{◌++◌, length, ap, ◌∙◌, refl, negsuc, []}
 use Rattle.rv_seek.specs.Pairs.{unit_at}
 use Rattle.rv_seek.specs.Least.{bounded}
 use Rattle.rv_seek.proofs.PairLemmas.{pair_proves, pair_ranges, refutes_from}

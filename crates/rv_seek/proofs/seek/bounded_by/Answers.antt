@@ -1,4 +1,4 @@
-use Rattle.std.proofs.Common.{◌≡◌, ◌+ℤ◌, ℤ, subst, FitsSigned, rules, to_z, of_z}
+use Rattle.std.proofs.Common.{◌+ℤ◌, ℤ, subst, FitsSigned, rules, to_z, of_z}
 use Rattle.std.specs.Int.{w128}
 use Rattle.std.proofs.lemmas.Int.{to_z-of_z}
 use Rattle.rv_rows.specs.Multipliers.{Proves}
