@@ -18,7 +18,7 @@ pub struct End {
 }
 
 /// Whether the row has the number at the column and 0 at all others.
-fn is_unit(row: &Row, column: usize, number: i128) -> bool
+pub fn is_unit(row: &Row, column: usize, number: i128) -> bool
     ensures { MatchBool result (IsUnitAt row.now column number) (¬ IsUnitAt row.now column number) }
 {
     if number_at(&row.coefficients, column) != number {
