@@ -15,7 +15,7 @@ mod Faults
 mod Attached
 mod Claimed
 mod Cut
-mod Thresholds
+pub mod Thresholds
 mod Inspected
 mod Judged
 mod More

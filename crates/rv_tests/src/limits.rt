@@ -3,6 +3,7 @@
 ghost use Rattle.std.specs.Prelude.{◌≡◌, ◌<◌, ◌≤◌, ◌^◌, All, IsTrue, length};
 ghost use Rattle.std.specs.Int.RustNames.{unsigned_abs};
 ghost use Rattle.rv_rows.specs.Rows.{RowWithin};
+ghost use Rattle.rv_rows.specs.Tight.{Fits};
 ghost use Rattle.rv_rows.specs.Multipliers.{WeightsWithin};
 ghost use Rattle.rv_rows.specs.Forms.{FormWithin};
 
@@ -48,6 +49,30 @@ pub fn are_rows_within(rows: &[Row], most: u128) -> bool
 {
     for row in rows {
         if !is_row_within(row, most) {
+            return false;
+        }
+    }
+    true
+}
+
+/// Whether each row is within the limits of a kept row.
+pub fn are_kept(rows: &[Row]) -> bool
+    ensures { IsTrue result → All Fits rows.now }
+{
+    for row in rows {
+        if !row.fits() {
+            return false;
+        }
+    }
+    true
+}
+
+/// Whether each row has this width.
+pub fn have_width(rows: &[Row], width: usize) -> bool
+    ensures { IsTrue result → All (λ r. length r.coefficients ≡ width) rows.now }
+{
+    for row in rows {
+        if row.coefficients.len() != width {
             return false;
         }
     }

@@ -174,7 +174,7 @@ fn substituted(alloc: Global, fields: &str) -> Result<Option<String>, Memory> {
 }
 
 /// The width of the first form, 0 where there is none.
-fn width_of(forms: &Many<Form>) -> usize
+pub fn width_of(forms: &Many<Form>) -> usize
     ensures { result ≡ forms_width forms.now }
 {
     match forms.get(0) {

@@ -3,11 +3,13 @@
 //!
 //! - texts and parts of programs, answered by the parser, the rules, the order of evaluation and the flat system: `program`,
 //!   `local`, `body`, `right`, `tree`, `nested`, `deep`, `sited`, `counted`, `settle`, `typed`, `several`, `clocked`, `values`,
-//!   `source`, `steps`, `presence`, `memories` (`rows.rt`);
+//!   `source`, `steps`, `presence`, `memories`, `cases`, `probe` (`rows.rt`);
 //! - lists, texts, boxes, places and traces: `many`, `text`, `box`, `sites`, `path`, `place`, `trace` (`small.rt`);
 //! - files and sinks in memory: `files`, `sure_files`, `sink`, `sure_sink` (`outside.rt`);
 //! - rows, forms, multipliers and the search for them: `proves`, `refutes`, `tighten`, `fits`, `add`, `scale`, `substitute`,
 //!   `seek_row`, `seek_refutation`, `seek_bound` (`linear.rt`);
+//! - polyhedra and abstract values: `meet`, `join`, `after`, `eliminate`, `included`, `whole_point`, `post`, `includes`, `both`
+//!   (`polyhedra.rt`);
 //! - decision diagrams: `diagram` (`diagrams.rt`);
 //! - the whole program over files and sinks in memory: `run`, `prove`, `replay`, `replaylong`, `surely`, `long`, `bytes`, `printed`
 //!   (`runs.rt`).
@@ -21,8 +23,10 @@ mod linear;
 mod numbers;
 mod outside;
 mod places;
+mod polyhedra;
 mod presence;
 mod printed;
+mod probed;
 mod rows;
 mod runs;
 mod shapes;

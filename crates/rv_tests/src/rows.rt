@@ -6,6 +6,8 @@ use crate::diagrams::diagram;
 use crate::linear::linear;
 use crate::outside::outside;
 use crate::places::remembered;
+use crate::polyhedra::polyhedral;
+use crate::probed::probed;
 use crate::runs::ran;
 use crate::shapes::write_shape;
 use crate::sited::{counted, sited};
@@ -58,6 +60,9 @@ fn on_call(alloc: Global, kind: &str, fields: &str) -> Result<Option<String>, Me
     if let Some(text) = linear(alloc, kind, fields)? {
         return Ok(Some(text));
     }
+    if let Some(text) = polyhedral(alloc, kind, fields)? {
+        return Ok(Some(text));
+    }
     ran(alloc, kind, fields)
 }
 
@@ -78,7 +83,8 @@ fn on_call(alloc: Global, kind: &str, fields: &str) -> Result<Option<String>, Me
 /// `steps`: what the memories start with, what the inputs are at each instant, and a whole program with the main node `m`;
 /// `presence`: the same, told by the comparisons that are present at each instant;
 /// `memories`: a whole program with the main node `m`, and the places of its memories with their types;
-/// `cases`: a whole program with the main node `m`, and its cases.
+/// `cases`: a whole program with the main node `m`, and its cases;
+/// `probe`: a whole program with the main node `m`, and how many instants the first probe that falsifies it has.
 fn on_text(alloc: Global, kind: &str, text: &str) -> Result<Option<String>, Memory> {
     let told = match kind {
         "program" => verdict(alloc, &with_line_feeds(alloc, text)?),
@@ -108,6 +114,7 @@ fn on_program(alloc: Global, kind: &str, text: &str) -> Result<Option<String>, M
         "presence" => stepped(alloc, text, Telling::Presence),
         "memories" => remembered(alloc, text),
         "cases" => cased(alloc, text),
+        "probe" => probed(alloc, text),
         _ => return Ok(None),
     };
     Ok(Some(told?))
