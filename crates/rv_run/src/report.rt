@@ -20,7 +20,7 @@ pub enum Report {
     /// In every run the observer is true at each instant up to which the assertions have held. The certificate proves it.
     Safe(Certificate),
     /// The source is not safe: at the last instant of this trace the observer is false. It is a shortest such trace of a source without
-    /// integers, a probe, or of a source with integers that no probe falsifies any such trace.
+    /// integers, or a probe, or, of a source with integers that no probe falsifies, any such trace.
     Violated(Trace),
     /// The source has integers, no closed box claim or row claim of it is good, and no probe falsifies it: a left partition.
     Unknown(Left),

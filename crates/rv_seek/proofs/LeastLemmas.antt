@@ -21,7 +21,7 @@ use Rattle.rv_seek.proofs.PairLemmas.{pair_from, row_width}
 use Rattle.rv_seek.specs.declared.least.Best.{Best}
 use Rattle.rv_seek.specs.declared.sides.Closest.{Closest}
 use Rattle.rv_seek.specs.Pairs.{PairShows}
-use Rattle.rv_seek.specs.Least.{IsLeast, IsLeastAt, PairSums, bounded, IsAside, IsPassed, IsAlone, IsLeastAmong}
+use Rattle.rv_seek.specs.Least.{HasPlace, IsLeast, IsLeastAt, PairSums, bounded, IsAside, IsPassed, IsAlone, IsLeastAmong}
 use Rattle.rv_seek.specs.Sides.{closest_at, IsSide, IsOther, IsClosest, IsTable}
 
 -- what the place lacks is the left side of the other
@@ -57,6 +57,17 @@ pub shown_of : (rows : List Row) (cs : List ℤ) (best : Option Best) (new other
 shown_of rows cs (Some b) new other s o (inl e) = rw e s
 shown_of rows cs None new other s o (inl e) = absurd e
 shown_of rows cs best new other s o (inr e) = rw e o
+
+-- the lesser of a pair that was found before and another with the place
+pub part_of : (place : ℕ) (best : Option Best) (new other : Best) → HasPlace place other → (IsSomeAnd best (λ b. new ≡ b)) ⊎ (new ≡ other)
+    → (IsSomeAnd best (λ b. new ≡ b)) ⊎ HasPlace place new
+part_of place best new other has (inl e) = inl e
+part_of place best new other has (inr e) = inr (rw e has)
+
+-- what was found before
+pub part_old : (place : ℕ) (best : Option Best) → IfSome best (λ b. (IsSomeAnd best (λ a. b ≡ a)) ⊎ HasPlace place b)
+part_old place None = tt
+part_old place (Some b) = inl refl
 
 -- a lesser pair is still the least at the places before
 least_at-kept : (rows : List Row) (cs : List ℤ) (n : ℕ) (old new : Option Best) → IfSome old (λ b. IsSomeAnd new (λ c. c.bound ≤ℤ b.bound))
@@ -179,10 +190,19 @@ among-more rows cs n place old new h before here i l = go (cases_eq i place)
     go (inl e) = rw e here
     go (inr apart) = least_at-kept rows cs n old new h i (before i (omega arith))
 
+-- a pair that was found before or has this place has a place below the next one
+pub among-next : (rows : List Row) (cs : List ℤ) (place : ℕ) (old new : Option Best) → IfSome old (λ b. b.first < place)
+    → IfSome new (λ b. (IsSomeAnd old (λ a. b ≡ a)) ⊎ HasPlace place b) → IfSome new (PairSums rows cs) → IfSome new (λ b. b.first < place + 1)
+among-next rows cs place old None before part shown = tt
+among-next rows cs place (Some a) (Some b) before (inl e) shown = rw e (let l : a.first < place = before in omega arith)
+among-next rows cs place None (Some b) before (inl e) shown = absurd e
+among-next rows cs place old (Some b) before (inr (inl e)) shown = omega arith
+among-next rows cs place old (Some b) before (inr (inr e)) shown = let o = shown.order in omega arith
+
 -- a wanted side that goes past all premises is that of no pair of these places
 pub among-wide : (rows : List Row) (cs : List ℤ) (width n first k : ℕ) → All (λ r. length r.coefficients ≤ width) rows → width ≤ k → number k cs ≢ pos 0
     → IsLeastAmong rows cs n first None
-among-wide rows cs width n first k widths far ne = record { shown = tt; least = λ i l j m apart bound p. absurd (ne (p.sides k ∙ zeros i j)) }
+among-wide rows cs width n first k widths far ne = record { shown = tt; among = tt; least = λ i l j m apart bound p. absurd (ne (p.sides k ∙ zeros i j)) }
   where
     zero_at : (i : ℕ) → coefficient k (row_at rows i) ≡ pos 0
     zero_at i = let w = row_width width rows widths i in get_or_past (row_at rows i).coefficients k (pos 0) (omega arith)
@@ -191,15 +211,23 @@ among-wide rows cs width n first k widths far ne = record { shown = tt; least = 
     zeros i j = rw (zero_at i, zero_at j) refl
 
 -- what the place past the end lacks is the wanted side, so with it a single row is found
-pub alone-of : (rows : List Row) (cs : List ℤ) (best : Option Best) → IfSome best (PairSums rows cs) → IsLeastAt rows cs (length rows + 2) best (length rows) → IsAlone rows cs best
-alone-of rows cs best shown least = record {
+pub alone-of : (rows : List Row) (cs : List ℤ) (best : Option Best) → IfSome best (PairSums rows cs)
+    → IfSome best (λ b. ⊥ ⊎ HasPlace (length rows) b) → IsLeastAt rows cs (length rows + 2) best (length rows) → IsAlone rows cs best
+alone-of rows cs best shown part least = record {
   shown = shown;
+  past = past_end best shown part;
   least = λ i l same. least i (omega arith) (omega arith) (row_at rows i).bound (record {
     sides = λ k. whole (number k cs) (coefficient k (row_at rows (length rows))) (coefficient k (row_at rows i)) (ap (coefficient k) past) (same k);
     bounds = none (row_at rows (length rows)).bound (row_at rows i).bound (ap (λ (r : Row). r.bound) past);
   });
 }
   where
+    past_end : (o : Option Best) → IfSome o (PairSums rows cs) → IfSome o (λ b. ⊥ ⊎ HasPlace (length rows) b) → IfSome o (λ b. length rows ≤ b.second)
+    past_end None s p = tt
+    past_end (Some b) s (inl never) = absurd never
+    past_end (Some b) s (inr (inl e)) = let o = s.order in omega arith
+    past_end (Some b) s (inr (inr e)) = omega arith
+
     past : row_at rows (length rows) ≡ record { coefficients = []; bound = pos 0 }
     past = get_or_past rows (length rows) (record { coefficients = []; bound = pos 0 }) (omega arith)
 
@@ -211,7 +239,7 @@ alone-of rows cs best shown least = record {
 
 -- and a wanted side that goes past all premises is that of none
 pub alone-wide : (rows : List Row) (cs : List ℤ) (width k : ℕ) → All (λ r. length r.coefficients ≤ width) rows → width ≤ k → number k cs ≢ pos 0 → IsAlone rows cs None
-alone-wide rows cs width k widths far ne = record { shown = tt; least = λ i l same. absurd (ne (same k ∙ zero_at i)) }
+alone-wide rows cs width k widths far ne = record { shown = tt; past = tt; least = λ i l same. absurd (ne (same k ∙ zero_at i)) }
   where
     zero_at : (i : ℕ) → coefficient k (row_at rows i) ≡ pos 0
     zero_at i = let w = row_width width rows widths i in get_or_past (row_at rows i).coefficients k (pos 0) (omega arith)

@@ -3,7 +3,7 @@ use Rattle.std.proofs.Common.{◌≡◌, ◌≢◌, ℕ, ◌+◌, ◌<◌, ◌�
 use Rattle.std.proofs.lemmas.Int.{ints}
 use Rattle.std.proofs.lemmas.Bool.{cases_lt}
 use Rattle.std.proofs.lemmas.List.{ext_get_or, get_or_past}
-use Rattle.std.specs.BTreeMap.{BTreeMap, Updates}
+use Rattle.std.specs.BTreeMap.{BTreeMap}
 use Rattle.std.specs.Cmp.Lexicographic.{slice_cmp}
 use Rattle.std.specs.Ordering.{int_cmp, is_eq, ordering_reverse}
 use Rattle.std.proofs.lemmas.Cmp.{lists_total, int_cmp_total}
@@ -15,7 +15,7 @@ use Rattle.rv_rows.specs.declared.linear.Row.{Row}
 use Rattle.rv_rows.specs.Rows.{row_at}
 use Rattle.rv_rows.specs.Forms.{number}
 use Rattle.rv_seek.specs.declared.sides.Closest.{Closest}
-use Rattle.rv_seek.specs.Sides.{closest_at, IsSide, IsOther, IsClosest, IsKept, IsTable}
+use Rattle.rv_seek.specs.Sides.{closest_at, IsSide, IsOther, IsClosest, IsKept, IsPut, IsTable}
 
 -- equal lists compare equal, and the other way round
 same-cmp : (xs : List ℤ) → slice_cmp int_cmp xs xs ≡ Equal
@@ -98,12 +98,14 @@ other-none rows n cs place none = record { found = tt; least = λ i l apart s. a
 
 -- one more place
 module _ (rows : List Row) (width n : ℕ) (c : Closest) (m m' : BTreeMap (Vec ℤ) Closest) (key : Vec ℤ) (table : IsTable rows width n m)
-    (len : length key.items ≡ width) (side : IsSide (row_at rows n) key.items) (closest : IsClosest rows (n + 1) key.items c)
-    (updates : Updates (λ x y. slice_cmp int_cmp x.items y.items) m m' key (Some c)) where
+    (put : IsPut rows width n key c m m') (closest : IsClosest rows (n + 1) key.items c) where
+  there : closest_at m' key.items ≡ Some c
+  there = put.changed key ∙ ap (λ o. cond (is_eq o) (Some c) (closest_at m key.items)) (same-cmp key.items)
+
   -- a left side other than the new place's
   apart : (q : Vec ℤ) → is_eq (slice_cmp int_cmp key.items q.items) ≡ false → length q.items ≡ width → ¬ (IsSide (row_at rows n) q.items)
   apart q e l s =
-      let same : key.items ≡ q.items = one_side (row_at rows n) width key.items q.items len l side s in
+      let same : key.items ≡ q.items = one_side (row_at rows n) width key.items q.items put.columns l put.side s in
       true≢false (sym (ap is_eq (ap (slice_cmp int_cmp key.items) (sym same) ∙ same-cmp key.items)) ∙ e)
 
   still_other : (q : List ℤ) → ¬ (IsSide (row_at rows n) q) → (place : ℕ) (o : Option ℕ) → IsOther rows n q place o → IsOther rows (n + 1) q place o
@@ -130,7 +132,7 @@ module _ (rows : List Row) (width n : ℕ) (c : Closest) (m m' : BTreeMap (Vec �
       go i m s (inr l) = let e : i ≡ n = omega arith in absurd (away (rw e at s))
 
   sound_at : (q : Vec ℤ) → IfSome (closest_at m' q.items) (λ o. (length q.items ≡ width) × IsClosest rows (n + 1) q.items o)
-  sound_at q = rw (updates.0 q) (go (is_eq (slice_cmp int_cmp key.items q.items)) refl)
+  sound_at q = rw (put.changed q) (go (is_eq (slice_cmp int_cmp key.items q.items)) refl)
     where
       kept : is_eq (slice_cmp int_cmp key.items q.items) ≡ false → (o : Option Closest) → IfSome o (λ x. (length q.items ≡ width) × IsClosest rows n q.items x)
           → IfSome o (λ x. (length q.items ≡ width) × IsClosest rows (n + 1) q.items x)
@@ -139,7 +141,7 @@ module _ (rows : List Row) (width n : ℕ) (c : Closest) (m m' : BTreeMap (Vec �
 
       go : (b : Bool) → is_eq (slice_cmp int_cmp key.items q.items) ≡ b
           → IfSome (cond b (Some c) (closest_at m q.items)) (λ o. (length q.items ≡ width) × IsClosest rows (n + 1) q.items o)
-      go true e = let same : key.items ≡ q.items = same-items key.items q.items e in rw (sym same) (len, closest)
+      go true e = let same : key.items ≡ q.items = same-items key.items q.items e in rw (sym same) (put.columns, closest)
       go false e = kept e (closest_at m q.items) (table.sound q)
 
   complete_at : (i : ℕ) → i < n + 1 → (i < n) ⊎ (n ≤ i) → IsKept rows width m' i
@@ -147,7 +149,7 @@ module _ (rows : List Row) (width n : ℕ) (c : Closest) (m m' : BTreeMap (Vec �
     key = k.key;
     columns = k.columns;
     side = k.side;
-    kept = rw (updates.0 k.key) (go k.key (is_eq (slice_cmp int_cmp key.items k.key.items)) k.kept);
+    kept = rw (put.changed k.key) (go k.key (is_eq (slice_cmp int_cmp key.items k.key.items)) k.kept);
   }
     where
       go : (q : Vec ℤ) (b : Bool) → IsSome (closest_at m q.items) → IsSome (cond b (Some c) (closest_at m q.items))
@@ -155,13 +157,41 @@ module _ (rows : List Row) (width n : ℕ) (c : Closest) (m m' : BTreeMap (Vec �
       go q false h = h
   complete_at i below (inr l) = let e : i ≡ n = omega arith in rw e (record {
     key = key;
-    columns = len;
-    side = side;
-    kept = rw updates.1 refl;
+    columns = put.columns;
+    side = put.side;
+    kept = rw there refl;
   })
 
   pub table-more : IsTable rows width (n + 1) m'
   table-more = record { sound = sound_at; complete = λ i l. complete_at i l (cases_lt i n) }
+
+-- two values that are put at the left side of one place have one key
+pub put_key : (rows : List Row) (width n : ℕ) (key again : Vec ℤ) (c d : Closest) (m m1 m2 : BTreeMap (Vec ℤ) Closest) → IsPut rows width n key c m m1
+    → IsPut rows width n again d m1 m2 → again.items ≡ key.items
+put_key rows width n key again c d m m1 m2 one two =
+    one_side (row_at rows n) width again.items key.items two.columns one.columns two.side one.side
+
+-- a value that is put where another has been put before
+pub put_again : (rows : List Row) (width n : ℕ) (key again : Vec ℤ) (c d : Closest) (m m1 m2 : BTreeMap (Vec ℤ) Closest) → IsPut rows width n key c m m1
+    → IsPut rows width n again d m1 m2 → IsPut rows width n key d m m2
+put_again rows width n key again c d m m1 m2 one two = record {
+  columns = one.columns;
+  side = one.side;
+  changed = λ q. two.changed q ∙ ap (λ l. cond (is_eq (slice_cmp int_cmp l q.items)) (Some d) (closest_at m1 q.items)) same
+      ∙ ap (cond (is_eq (slice_cmp int_cmp key.items q.items)) (Some d)) (one.changed q) ∙ twice (is_eq (slice_cmp int_cmp key.items q.items)) (closest_at m q.items);
+}
+  where
+    same : again.items ≡ key.items
+    same = put_key rows width n key again c d m m1 m2 one two
+
+    twice : (b : Bool) (o : Option Closest) → cond b (Some d) (cond b (Some c) o) ≡ cond b (Some d) o
+    twice true o = refl
+    twice false o = refl
+
+-- a left side that the map has already is that of the closest places before
+pub closest_before : (rows : List Row) (width n : ℕ) (map : BTreeMap (Vec ℤ) Closest) (key : Vec ℤ) (old : Closest) → IsTable rows width n map
+    → closest_at map key.items ≡ Some old → IsClosest rows n key.items old
+closest_before rows width n map key old table e = let t = rw e at (table.sound key) in t.1
 
 -- the numbers past a width are all 0 where those up to the end are
 pub all_past : (cs : List ℤ) (width n : ℕ) → length cs ≤ n → ((k : ℕ) → width ≤ k → k < n → number k cs ≡ pos 0) → (k : ℕ) → width ≤ k → number k cs ≡ pos 0

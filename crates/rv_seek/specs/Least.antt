@@ -1,5 +1,5 @@
 -- The least bound that a pair of places shows.
-use Rattle.std.specs.Prelude.{◌≡◌, ◌≢◌, ◌⊎◌, ℕ, ◌<◌, ℤ, pos, ◌+ℤ◌, ◌-ℤ◌, ◌≤ℤ◌, List, length, Option, IfSome, IsSomeAnd}
+use Rattle.std.specs.Prelude.{◌≡◌, ◌≢◌, ◌⊎◌, ℕ, ◌<◌, ℤ, pos, ◌+ℤ◌, ◌-ℤ◌, ◌≤ℤ◌, List, length, ◌≤◌, Option, IfSome, IsSomeAnd}
 use Rattle.rv_rows.specs.declared.linear.Row.{Row}
 use Rattle.rv_rows.specs.declared.linear.Form.{Form}
 use Rattle.rv_rows.specs.Rows.{coefficient, row_at}
@@ -39,13 +39,20 @@ IsAside rows pivot place = IsSomeAnd pivot (λ k. coefficient k (row_at rows pla
 abbrev pub IsPassed : List Row → List ℤ → ℕ → Option ℕ → Option Best → ℕ → Type 0
 IsPassed rows cs n pivot best place = IsAside rows pivot place ⊎ IsLeastAt rows cs n best place
 
--- `best` is a pair whose left sides sum to the wanted one, and no pair of a place below `first` and another one below n has a lesser sum of
--- bounds.
+-- one of the two places
+abbrev pub HasPlace : ℕ → Best → Type 0
+HasPlace place b = (b.first ≡ place) ⊎ (b.second ≡ place)
+
+-- `best` is a pair whose left sides sum to the wanted one, one of whose places is below `first`, and no pair of a place below `first` and
+-- another one below n has a lesser sum of bounds.
 pub record IsLeastAmong (rows : List Row) (cs : List ℤ) (n first : ℕ) (best : Option Best) : Type 0 where
   pub shown : IfSome best (PairSums rows cs)
+  pub among : IfSome best (λ b. b.first < first)
   pub least : (i : ℕ) → i < first → IsLeastAt rows cs n best i
 
--- `best` is a pair whose left sides sum to the wanted one, and no single row with that left side has a lesser bound.
+-- `best` is a pair with a place past the end whose left sides sum to the wanted one, and no single row with that left side has a lesser
+-- bound.
 pub record IsAlone (rows : List Row) (cs : List ℤ) (best : Option Best) : Type 0 where
   pub shown : IfSome best (PairSums rows cs)
+  pub past : IfSome best (λ b. length rows ≤ b.second)
   pub least : (i : ℕ) → i < length rows → ((k : ℕ) → number k cs ≡ coefficient k (row_at rows i)) → IsSomeAnd best (λ b. b.bound ≤ℤ (row_at rows i).bound)

@@ -1,8 +1,8 @@
 -- A map from left sides to places in a list of premises.
-use Rattle.std.specs.Prelude.{◌≡◌, ◌≢◌, ℕ, ◌+◌, ◌<◌, ◌≤◌, ◌^◌, ℤ, ◌≤ℤ◌, List, Option, IsSome, IfSome, IsSomeAnd, All, length}
+use Rattle.std.specs.Prelude.{◌≡◌, ◌≢◌, ℕ, ◌+◌, ◌<◌, ◌≤◌, ◌^◌, ℤ, ◌≤ℤ◌, List, Option, Some, IsSome, IfSome, IsSomeAnd, All, cond, length}
 use Rattle.std.specs.BTreeMap.{BTreeMap, get_by}
 use Rattle.std.specs.Cmp.Lexicographic.{slice_cmp}
-use Rattle.std.specs.Ordering.{int_cmp}
+use Rattle.std.specs.Ordering.{int_cmp, is_eq}
 use Rattle.std.specs.Global.{Vec}
 use Rattle.rv_rows.specs.declared.linear.Row.{Row}
 use Rattle.rv_rows.specs.Rows.{coefficient, row_at, RowWithin}
@@ -43,6 +43,12 @@ pub record IsKept (rows : List Row) (width : ℕ) (map : BTreeMap (Vec ℤ) Clos
 pub record IsTable (rows : List Row) (width n : ℕ) (map : BTreeMap (Vec ℤ) Closest) : Type 0 where
   pub sound : (key : Vec ℤ) → IfSome (closest_at map key.items) (λ c. (length key.items ≡ width) × IsClosest rows n key.items c)
   pub complete : (i : ℕ) → i < n → IsKept rows width map i
+
+-- At the left side of the place, over so many columns, the map has been given a value, and at the others it has what it had.
+pub record IsPut (rows : List Row) (width n : ℕ) (key : Vec ℤ) (c : Closest) (old new : BTreeMap (Vec ℤ) Closest) : Type 0 where
+  pub columns : length key.items ≡ width
+  pub side : IsSide (row_at rows n) key.items
+  pub changed : (q : Vec ℤ) → closest_at new q.items ≡ cond (is_eq (slice_cmp int_cmp key.items q.items)) (Some c) (closest_at old q.items)
 
 -- Premises whose numbers are small enough for every question, with the table of all their places and of the two
 -- past the end, which stand for no premise.

@@ -3,7 +3,7 @@ ghost use Rattle.std.specs.Prelude.{◌≡◌, ◌≢◌, ◌⊎◌, ℕ, ◌<�
 ghost use Rattle.std.specs.Int.RustNames.{unsigned_abs};
 ghost use Rattle.rv_rows.specs.Rows.{coefficient, row_at, RowWithin};
 ghost use Rattle.rv_rows.specs.Forms.{number};
-ghost use Rattle.rv_seek.specs.Least.{PairSums, IsLeast, IsLeastAt, IsAside, IsPassed, IsAlone, IsLeastAmong};
+ghost use Rattle.rv_seek.specs.Least.{PairSums, HasPlace, IsLeast, IsLeastAt, IsAside, IsPassed, IsAlone, IsLeastAmong};
 ghost use Rattle.rv_seek.specs.Sides.{IsPrepared};
 
 use crate::places::{bound_of, coefficient_of};
@@ -45,6 +45,7 @@ fn sum_of_bounds(premises: &Many<Row>, first: usize, second: usize) -> i128
 fn pair_of(premises: &Many<Row>, place: usize, other: usize) -> Best
     requires premises { All (RowWithin (2 ^ 60)) premises.now }
     requires apart { other ≢ place }
+    ensures part { HasPlace place result }
     ensures bound { result.bound ≡ (row_at premises.now place).bound +ℤ (row_at premises.now other).bound }
     ensures sums { (cs : List ℤ) → ((k : ℕ) → number k cs ≡ coefficient k (row_at premises.now place) +ℤ coefficient k (row_at premises.now other))
         → PairSums premises.now cs result }
@@ -83,6 +84,7 @@ fn with_place(
     ensures shown { IfOk result (λ o. IfSome o (PairSums premises.now wanted.now)) }
     ensures no_more { IfOk result (λ o. IfSome best (λ b. IsSomeAnd o (λ c. c.bound ≤ℤ b.bound))) }
     ensures here { IfOk result (λ o. IsLeastAt premises.now wanted.now (length premises.now + 2) o place) }
+    ensures part { IfOk result (λ o. IfSome o (λ b. (IsSomeAnd best (λ a. b ≡ a)) ⊎ HasPlace place b)) }
 {
     write_rest(rest, premises, wanted, place, width)?;
     match other_of(sides, rest, place) {

@@ -1,10 +1,12 @@
 // The premises by their left sides.
 ghost use Rattle.std.specs.Prelude.{◌≡◌, ◌⊎◌, ℕ, ◌^◌, ◌+◌, ◌≤◌, ◌-ℤ◌, ◌≤ℤ◌, ℤ, pos, All, List, length, Some, IfSome, IfOk, OnOk};
 ghost use Rattle.std.specs.Int.RustNames.{unsigned_abs};
+ghost use Rattle.std.specs.Global.{Vec as VecModel};
 ghost use Rattle.rv_rows.specs.declared.linear.Row.{Row};
 ghost use Rattle.rv_rows.specs.Rows.{coefficient, row_at, RowWithin};
 ghost use Rattle.rv_rows.specs.Forms.{number};
-ghost use Rattle.rv_seek.specs.Sides.{IsSide, IsClosest, IsOther, IsTable};
+ghost use Rattle.rv_seek.specs.Sides.{IsSide, IsClosest, IsOther, IsPut, IsTable};
+ghost use Rattle.rv_seek.specs.declared.sides.Closest.{Closest as ClosestModel};
 
 use crate::places::{bound_of, coefficient_of};
 use rv_base::{Many, Memory};
@@ -113,23 +115,26 @@ fn closer(premises: &Many<Row>, old: Closest, place: usize) -> Closest
     }
 }
 
-/// The closest of the places so far and the next one, which has this left side.
-fn closest_with(premises: &Many<Row>, sides: &Sides, side: &Vec<i128>, place: usize) -> Closest
-    ensures { (width : ℕ) → IsTable premises.now width place sides.now → length side.now.items ≡ width
-        → IsSide (row_at premises.now place) side.now.items → IsClosest premises.now (place + 1) side.now.items result }
+/// Adds the next place, whose left side the map has already, at the closest of the places before.
+fn add_again(
+    alloc: Global,
+    premises: &Many<Row>,
+    sides: &mut Sides,
+    old: Closest,
+    place: usize,
+    width: usize,
+) -> Result<(), Memory>
+    requires widths { All (λ r. length r.coefficients ≤ width) premises.now }
+    ensures { OnOk result ((key : VecModel ℤ) × (c : ClosestModel) × IsPut premises.now width place key c sides.old sides.new
+        × (IsClosest premises.now place key.items old → IsClosest premises.now (place + 1) key.items c)) }
 {
-    match sides.get(side) {
-        Some(old) => closer(premises, *old, place),
-        None => {
-            Closest {
-                first: place,
-                second: None,
-            }
-        }
-    }
+    let side = side_of(alloc, premises, place, width)?;
+    let closest = closer(premises, old, place);
+    sides.insert(side, closest)?;
+    Ok(())
 }
 
-/// Adds the next place.
+/// Adds the next place. It costs one look-up where its left side is new, and a second one where it is not.
 pub fn add_place(
     alloc: Global,
     premises: &Many<Row>,
@@ -142,9 +147,17 @@ pub fn add_place(
     ensures { OnOk result (IsTable premises.now width (place + 1) sides.new) }
 {
     let side = side_of(alloc, premises, place, width)?;
-    let closest = closest_with(premises, sides, &side, place);
-    sides.insert(side, closest)?;
-    Ok(())
+    let alone = Closest {
+        first: place,
+        second: None,
+    };
+    match sides.insert(side, alone)? {
+        Some(old) => {
+            add_again(alloc, premises, sides, old, place, width)?;
+            Ok(())
+        }
+        None => Ok(()),
+    }
 }
 
 /// The closest place with this left side other than the given one.

@@ -1,6 +1,6 @@
 use Rattle.std.proofs.Common.{◌+◌, length, Some, None}
 use Rattle.rv_seek.specs.Sides.{IsOther, IsTable}
-use Rattle.rv_seek.proofs.LeastLemmas.{least_at-none, least_at-some, pair_sides, shown_of}
+use Rattle.rv_seek.proofs.LeastLemmas.{least_at-none, least_at-some, pair_sides, shown_of, part_of, part_old}
 use Rattle.rv_seek.proofs.least.with_place.Goals as goal
 
 pub returns-in-Some-clause-shown : goal.returns-in-Some-clause-shown
@@ -27,3 +27,9 @@ returns-in-None-clause-here c =
     rw c.in_ok-write_rest.ensures.length c.requires.prepared.table in
     let o : IsOther c.args.premises.now (length c.args.premises.now + 2) c.write_rest.new.rest.items c.args.place None = c.in-None.ensures c.args.premises.now (length c.args.premises.now + 2) table in
     least_at-none c.args.premises.now c.args.wanted.now c.write_rest.new.rest.items (length c.args.premises.now + 2) c.args.place c.args.best c.in_ok-write_rest.ensures.rest o
+
+pub returns-in-Some-clause-part : goal.returns-in-Some-clause-part
+returns-in-Some-clause-part c = part_of c.args.place c.args.best c.lesser.result c.pair_of-pair.result c.pair_of-pair.ensures.part c.lesser.ensures.kept
+
+pub returns-in-None-clause-part : goal.returns-in-None-clause-part
+returns-in-None-clause-part c = part_old c.args.place c.args.best
