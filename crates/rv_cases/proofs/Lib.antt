@@ -1,6 +1,7 @@
 pub mod Gathering
 pub mod Lists
 pub mod Tellings
+pub mod Placing
 pub mod Keeping
 pub mod Covering
 pub mod Differing

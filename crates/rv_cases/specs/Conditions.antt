@@ -1,7 +1,7 @@
 -- Lists of references that part a set of valuations, and how each question splits them.
 use Rattle.std.specs.Prelude.{◌≡◌, ℕ, zero, suc, ◌<◌, ◌||◌, ◌&&◌, Bool, true, false, List, [], length, slice_index_or}
 use Rattle.rv_diagram.specs.declared.Triple.{Triple}
-use Rattle.rv_diagram.specs.Nodes.{Valuation, IsRef, value_of}
+use Rattle.rv_diagram.specs.Nodes.{Valuation, IsRef, value_of, valuation_of}
 use Rattle.rv_diagram.specs.Several.{ref_at}
 
 -- whether a valuation is in set i
@@ -34,6 +34,10 @@ pub record AreAnswers (nodes : List Triple) (refs : List ℕ) : Type 0 where
 abbrev pub HasOneAnswer : List Triple → ℕ → List ℕ → Type 0
 HasOneAnswer nodes condition answers = (b : ℕ) × (b < length answers)
     × ((v : Valuation) → value_of nodes condition v ≡ true → is_in nodes answers b v ≡ true)
+
+-- The valuation is one of the condition, as long as that has any.
+abbrev pub IsSampleOf : List Triple → ℕ → List Bool → Type 0
+IsSampleOf nodes condition values = (v : Valuation) → value_of nodes condition v ≡ true → value_of nodes condition (valuation_of values) ≡ true
 
 -- Each of these sets is where a condition and an answer meet.
 abbrev pub AreMeets : List Triple → List ℕ → List ℕ → List ℕ → Type 0

@@ -15,5 +15,5 @@ mod telling;
 pub use asking::{Present, Questions};
 pub use laws::counting_is_asked;
 pub use parting::{cases, make_case};
-pub use splitting::{place_in, split, split_whole};
+pub use splitting::{place_in, sample_of, split, split_whole};
 pub use telling::{observer_in, tests_in, updates_in};

@@ -13,31 +13,31 @@ ghost use Rattle.rv_cases.specs.Questions.{HaveAnswers, AreQuestions, AreDistinc
 ghost use Rattle.rv_cases.specs.Made.{is_allowed_in, IsMadeFor, AreMadeOf, AreDifferent};
 
 use crate::asking::{Present, Questions};
-use crate::splitting::split_whole;
+use crate::splitting::{sample_of, split_whole};
 use crate::telling::{observer_in, tests_in, updates_in};
-use rv_base::Many;
+use rv_base::{Many, Memory};
 use rv_diagram::{Frozen, Ref, Store, StoreFault};
 use rv_proofs::Case;
 use std::alloc::Global;
 
-/// The case of a condition throughout which each question has one answer. After a fault nodes may be left.
+/// The case of a condition throughout which each question has one answer: what the questions say of one of its valuations they say of all.
+/// The only error is want of memory.
 pub fn make_case(
     alloc: Global,
-    store: &mut Store,
+    store: &Store,
     condition: Ref,
     questions: &Questions,
-) -> Result<Case, StoreFault>
-    requires condition { IsRef store.old.nodes condition }
-    requires answers { HaveAnswers store.old.nodes questions.now }
+) -> Result<Case, Memory>
+    requires condition { IsRef store.now.nodes condition }
+    requires answers { HaveAnswers store.now.nodes questions.now }
     requires few { length questions.now.questions < 2 ^ 32 }
-    requires settled { IsSettledFor store.old.nodes questions.now condition }
-    ensures extends { Extends store.old store.new }
-    ensures roomy { IsErrOf result StoreFault.Nodes → store.old.limit < 2 ^ (2 ^ store.old.variables) }
-    ensures made { IfOk result (IsMadeFor store.old questions.now condition) }
+    requires settled { IsSettledFor store.now.nodes questions.now condition }
+    ensures made { IfOk result (IsMadeFor store.now questions.now condition) }
 {
-    let present = tests_in(alloc, store, condition, questions)?;
-    let updates = updates_in(alloc, store, condition, questions)?;
-    let observer = observer_in(store, condition, questions)?;
+    let sample = sample_of(alloc, store, condition)?;
+    let present = tests_in(alloc, store, &sample, questions)?;
+    let updates = updates_in(alloc, store, &sample, questions)?;
+    let observer = observer_in(store, &sample, questions);
     let frozen = store.freeze(condition)?;
     let Present { tests, rows } = present;
     Ok(Case {
@@ -52,19 +52,17 @@ pub fn make_case(
 /// The case of each condition.
 fn make_cases(
     alloc: Global,
-    store: &mut Store,
+    store: &Store,
     conditions: &[Ref],
     questions: &Questions,
-) -> Result<Many<Case>, StoreFault>
-    requires conditions { AreRefs store.old.nodes conditions.now }
-    requires answers { HaveAnswers store.old.nodes questions.now }
+) -> Result<Many<Case>, Memory>
+    requires conditions { AreRefs store.now.nodes conditions.now }
+    requires answers { HaveAnswers store.now.nodes questions.now }
     requires few { length questions.now.questions < 2 ^ 32 }
-    requires settled { (j : ℕ) → j < length conditions.now → IsSettledFor store.old.nodes questions.now (ref_at conditions.now j) }
-    ensures extends { Extends store.old store.new }
-    ensures roomy { IsErrOf result StoreFault.Nodes → store.old.limit < 2 ^ (2 ^ store.old.variables) }
+    requires settled { (j : ℕ) → j < length conditions.now → IsSettledFor store.now.nodes questions.now (ref_at conditions.now j) }
     ensures many { IfOk result (λ cases. length cases ≡ length conditions.now) }
     ensures made { IfOk result (λ cases. (j : ℕ) (c : Case) → slice_get cases j ≡ Some c
-        → IsMadeFor store.old questions.now (ref_at conditions.now j) c) }
+        → IsMadeFor store.now questions.now (ref_at conditions.now j) c) }
 {
     let mut cases = Many::new(alloc);
     for j in 0..conditions.len() {
@@ -104,7 +102,8 @@ fn take_cases(
 {
     let whole = allowed_within(store, allowed, from)?;
     let conditions = split_whole(alloc, store, whole, questions.questions.as_slice())?;
-    make_cases(alloc, store, conditions.as_slice(), questions)
+    let cases = make_cases(alloc, store, conditions.as_slice(), questions)?;
+    Ok(cases)
 }
 
 /// The cases of a set of control states of the system that the references mean: each allowed valuation whose control state is in the set is

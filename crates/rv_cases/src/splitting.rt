@@ -1,11 +1,11 @@
-//! Splitting a list of conditions by the answers to a question.
+//! Splitting a list of conditions by the answers to a question, and the one answer that a condition has.
 
 ghost use Rattle.std.specs.Prelude.{◌≡◌, ℕ, ◌+◌, ◌<◌, ◌≤◌, ◌^◌, ◌&&◌, Bool, true, false, List, [], length, IfOk, OnOk, IsErrOf};
-ghost use Rattle.rv_diagram.specs.Nodes.{Valuation, value_of, IsRef};
+ghost use Rattle.rv_diagram.specs.Nodes.{Valuation, value_of, valuation_of, IsRef};
 ghost use Rattle.rv_terms.specs.Growing.{Extends};
-ghost use Rattle.rv_cases.specs.Conditions.{is_in, AreRefs, AreApart, IsParted, AreAnswers, HasOneAnswer, AreMeets, AreWithin, AreJoined, list_at, Gathers};
+ghost use Rattle.rv_cases.specs.Conditions.{is_in, AreRefs, AreApart, IsParted, AreAnswers, HasOneAnswer, IsSampleOf, AreMeets, AreWithin, AreJoined, list_at, Gathers};
 
-use rv_base::Many;
+use rv_base::{Many, Memory};
 use rv_diagram::{Ref, Store, StoreFault};
 use std::alloc::Global;
 
@@ -138,21 +138,45 @@ pub fn split_whole(
     Ok(left)
 }
 
-/// The answer that all valuations of a condition have, by its number. After a fault nodes may be left.
-pub fn place_in(store: &mut Store, condition: Ref, answers: &[Ref]) -> Result<usize, StoreFault>
-    requires condition { IsRef store.old.nodes condition }
-    requires answers { AreAnswers store.old.nodes answers.now }
-    requires one { HasOneAnswer store.old.nodes condition answers.now }
-    ensures extends { Extends store.old store.new }
-    ensures roomy { IsErrOf result StoreFault.Nodes → store.old.limit < 2 ^ (2 ^ store.old.variables) }
-    ensures known { IfOk result (λ b. b < length answers.now) }
-    ensures throughout { IfOk result (λ b. (v : Valuation) → value_of store.old.nodes condition v ≡ true → is_in store.old.nodes answers.now b v ≡ true) }
+/// As many `false` as there are variables.
+fn all_false(alloc: Global, variables: u32) -> Result<Many<bool>, Memory>
+    ensures { IfOk result (λ values. length values ≡ variables) }
 {
-    for place in 0..answers.len() {
-        let common = store.and(condition, answers[place])?;
-        if !store.is_false(common) {
-            return Ok(place);
+    let mut values = Many::new(alloc);
+    for _variable in 0..variables {
+        values.push(false)?;
+    }
+    Ok(values)
+}
+
+/// A valuation of the condition, or any where the condition has none.
+pub fn sample_of(alloc: Global, store: &Store, condition: Ref) -> Result<Many<bool>, Memory>
+    requires { IsRef store.now.nodes condition }
+    ensures sized { IfOk result (λ values. length values ≡ store.now.variables) }
+    ensures sample { IfOk result (IsSampleOf store.now.nodes condition) }
+{
+    match store.pick(condition)? {
+        Some(values) => Ok(values),
+        None => {
+            let values = all_false(alloc, store.variables())?;
+            Ok(values)
         }
     }
-    Ok(0)
+}
+
+/// The answer that a valuation has, by its number. Where all valuations of a condition have one answer, it is that of a sample of them.
+pub fn place_in(store: &Store, sample: &Many<bool>, answers: &[Ref]) -> usize
+    requires sized { length sample.now ≡ store.now.variables }
+    requires answers { AreAnswers store.now.nodes answers.now }
+    ensures known { result < length answers.now }
+    ensures here { is_in store.now.nodes answers.now result (valuation_of sample.now) ≡ true }
+    ensures throughout { (condition : ℕ) → HasOneAnswer store.now.nodes condition answers.now → IsSampleOf store.now.nodes condition sample.now
+        → (v : Valuation) → value_of store.now.nodes condition v ≡ true → is_in store.now.nodes answers.now result v ≡ true }
+{
+    for place in 0..answers.len() {
+        if store.value_at(answers[place], sample) {
+            return place;
+        }
+    }
+    0
 }

@@ -1,16 +1,16 @@
 //! What is so throughout a condition: which order tests are present, and their rows, the forms of the integer memories, the observer.
 
-ghost use Rattle.std.specs.Prelude.{◌≡◌, ℕ, ◌+◌, ◌<◌, ◌≤◌, ◌^◌, true, List, [], length, IfOk, OnOk, IsErrOf};
-ghost use Rattle.rv_diagram.specs.Nodes.{value_of, IsRef};
-ghost use Rattle.rv_terms.specs.Growing.{Extends};
+ghost use Rattle.std.specs.Prelude.{◌≡◌, ℕ, ◌+◌, ◌<◌, ◌≤◌, ◌^◌, true, List, [], length, IfOk, OnOk};
+ghost use Rattle.rv_diagram.specs.Nodes.{value_of};
 ghost use Rattle.rv_proofs.specs.Systems.{System};
+ghost use Rattle.rv_cases.specs.Conditions.{IsSampleOf};
 ghost use Rattle.rv_cases.specs.Questions.{HaveAnswers, AreQuestions, IsSettledFor};
 ghost use Rattle.rv_cases.specs.Telling.{AreTold, AreUpdated, IsObserved, IsNoted};
 
 use crate::asking::{Present, Questions};
 use crate::splitting::place_in;
 use rv_base::{Many, Memory};
-use rv_diagram::{Ref, Store, StoreFault};
+use rv_diagram::Store;
 use rv_rows::{Form, Row};
 use std::alloc::Global;
 
@@ -46,22 +46,20 @@ fn note(
     Ok(())
 }
 
-/// The tests that are present throughout a condition, with their rows; each other test is absent throughout it. After a fault nodes may
-/// be left.
+/// The tests that are present at a valuation, with their rows: where each question has one answer throughout a condition of which it is a
+/// sample, they are present throughout it, and each other test is absent throughout it. The only error is want of memory.
 pub fn tests_in(
     alloc: Global,
-    store: &mut Store,
-    condition: Ref,
+    store: &Store,
+    sample: &Many<bool>,
     questions: &Questions,
-) -> Result<Present, StoreFault>
-    requires condition { IsRef store.old.nodes condition }
-    requires answers { HaveAnswers store.old.nodes questions.now }
+) -> Result<Present, Memory>
+    requires sized { length sample.now ≡ store.now.variables }
+    requires answers { HaveAnswers store.now.nodes questions.now }
     requires few { length questions.now.rows < 2 ^ 32 }
-    requires settled { IsSettledFor store.old.nodes questions.now condition }
-    ensures extends { Extends store.old store.new }
-    ensures roomy { IsErrOf result StoreFault.Nodes → store.old.limit < 2 ^ (2 ^ store.old.variables) }
-    ensures told { IfOk result (λ p. (s : System) → AreQuestions s store.old questions.now
-        → AreTold s (value_of store.old.nodes condition) s.tests p.tests p.rows) }
+    ensures told { (condition : ℕ) → IsSettledFor store.now.nodes questions.now condition → IsSampleOf store.now.nodes condition sample.now
+        → IfOk result (λ p. (s : System) → AreQuestions s store.now questions.now
+        → AreTold s (value_of store.now.nodes condition) s.tests p.tests p.rows) }
 {
     let mut tests = Many::new(alloc);
     let mut rows = Many::new(alloc);
@@ -69,7 +67,7 @@ pub fn tests_in(
     for t in 0..many {
         let answers = questions.questions.at(t);
         let known = questions.rows.at(t);
-        let place = place_in(store, condition, answers.as_slice())?;
+        let place = place_in(store, sample, answers.as_slice());
         note(alloc, &mut tests, &mut rows, t as u32, place, known)?;
     }
     Ok(Present { tests, rows })
@@ -86,21 +84,20 @@ fn copy_form(alloc: Global, form: &Form) -> Result<Form, Memory>
     })
 }
 
-/// The form that each integer memory becomes throughout a condition. After a fault nodes may be left.
+/// The form that each integer memory becomes at a valuation: where each question has one answer throughout a condition of which it is a
+/// sample, throughout that. The only error is want of memory.
 pub fn updates_in(
     alloc: Global,
-    store: &mut Store,
-    condition: Ref,
+    store: &Store,
+    sample: &Many<bool>,
     questions: &Questions,
-) -> Result<Many<Form>, StoreFault>
-    requires condition { IsRef store.old.nodes condition }
-    requires answers { HaveAnswers store.old.nodes questions.now }
+) -> Result<Many<Form>, Memory>
+    requires sized { length sample.now ≡ store.now.variables }
+    requires answers { HaveAnswers store.now.nodes questions.now }
     requires few { length questions.now.questions < 2 ^ 32 }
-    requires settled { IsSettledFor store.old.nodes questions.now condition }
-    ensures extends { Extends store.old store.new }
-    ensures roomy { IsErrOf result StoreFault.Nodes → store.old.limit < 2 ^ (2 ^ store.old.variables) }
-    ensures updated { IfOk result (λ updates. (s : System) → AreQuestions s store.old questions.now
-        → AreUpdated s (value_of store.old.nodes condition) s.memories updates) }
+    ensures updated { (condition : ℕ) → IsSettledFor store.now.nodes questions.now condition → IsSampleOf store.now.nodes condition sample.now
+        → IfOk result (λ updates. (s : System) → AreQuestions s store.now questions.now
+        → AreUpdated s (value_of store.now.nodes condition) s.memories updates) }
 {
     let mut updates = Many::new(alloc);
     let first = questions.rows.len();
@@ -108,30 +105,24 @@ pub fn updates_in(
     for k in 0..many {
         let answers = questions.questions.at(first + k);
         let known = questions.forms.at(k);
-        let place = place_in(store, condition, answers.as_slice())?;
+        let place = place_in(store, sample, answers.as_slice());
         let form = copy_form(alloc, known.at(place))?;
         updates.push(form)?;
     }
     Ok(updates)
 }
 
-/// Whether the observer is true throughout a condition; else it is false throughout it. After a fault nodes may be left.
-pub fn observer_in(
-    store: &mut Store,
-    condition: Ref,
-    questions: &Questions,
-) -> Result<bool, StoreFault>
-    requires condition { IsRef store.old.nodes condition }
-    requires answers { HaveAnswers store.old.nodes questions.now }
+/// Whether the observer is true at a valuation: where each question has one answer throughout a condition of which it is a sample, throughout
+/// that.
+pub fn observer_in(store: &Store, sample: &Many<bool>, questions: &Questions) -> bool
+    requires sized { length sample.now ≡ store.now.variables }
+    requires answers { HaveAnswers store.now.nodes questions.now }
     requires few { length questions.now.questions < 2 ^ 32 }
-    requires settled { IsSettledFor store.old.nodes questions.now condition }
-    ensures extends { Extends store.old store.new }
-    ensures roomy { IsErrOf result StoreFault.Nodes → store.old.limit < 2 ^ (2 ^ store.old.variables) }
-    ensures observed { IfOk result (λ good. (s : System) → AreQuestions s store.old questions.now
-        → IsObserved s (value_of store.old.nodes condition) good) }
+    ensures observed { (condition : ℕ) → IsSettledFor store.now.nodes questions.now condition → IsSampleOf store.now.nodes condition sample.now
+        → (s : System) → AreQuestions s store.now questions.now → IsObserved s (value_of store.now.nodes condition) result }
 {
     let last = questions.rows.len() + questions.forms.len();
     let answers = questions.questions.at(last);
-    let place = place_in(store, condition, answers.as_slice())?;
-    Ok(place == 0)
+    let place = place_in(store, sample, answers.as_slice());
+    place == 0
 }

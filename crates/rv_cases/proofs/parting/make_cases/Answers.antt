@@ -1,22 +1,12 @@
-use Rattle.std.proofs.Common.{◌≡◌, ◌+◌, ◌<◌, ◌∙◌, ℕ, ap, sym, subst, arith, length, List, [], ◌∷◌, ◌++◌, ⊎_elim, length-append, slice_get, Some}
+use Rattle.std.proofs.Common.{◌≡◌, ◌+◌, ◌∙◌, ℕ, ap, sym, subst, length, List, [], ◌∷◌, ◌++◌, ⊎_elim, length-append, slice_get, Some}
 use Rattle.rv_diagram.specs.Several.{ref_at}
 use Rattle.rv_proofs.specs.declared.report.Case.{Case}
-use Rattle.rv_terms.proofs.Growths.{extends_refl, extends_trans}
 use Rattle.rv_cases.specs.Made.{IsMadeFor}
 use Rattle.rv_cases.proofs.Lists.{got-append, none-at}
-use Rattle.rv_cases.proofs.Keeping.{have_later, settled_later, made_before}
 use Rattle.rv_cases.proofs.parting.make_cases.Goals as goal
-
-pub make_case-requires-clause-answers : goal.make_case-requires-clause-answers
-make_case-requires-clause-answers c = have_later c.args.store.now c.loop-j.store c.args.questions.now c.loop-j.invariant.extends c.requires.answers
-
-pub make_case-requires-clause-settled : goal.make_case-requires-clause-settled
-make_case-requires-clause-settled c = settled_later c.args.store.now c.loop-j.store c.args.questions.now (ref_at c.args.conditions.now c.loop-j.j)
-    c.loop-j.invariant.extends c.requires.answers (c.requires.conditions c.loop-j.j (omega arith)) (c.requires.settled c.loop-j.j (omega arith))
 
 pub loop-j-init : goal.loop-j-init
 loop-j-init c = record {
-  extends = extends_refl c.args.store.now;
   many = ap (λ (l : List Case). length l) c.new-cases.ensures;
   made = λ j x got. absurd (none-at c.new-cases.result j x c.new-cases.ensures got);
 }
@@ -25,9 +15,7 @@ pub loop-j-preserved : goal.loop-j-preserved
 loop-j-preserved c =
     let more : List Case = c.loop-j.cases ++ c.in_ok-case.case ∷ [] in
     let is : c.push.new.self ≡ more = c.in_ok-push.ensures.ok in
-    let low : c.loop-j.j < length c.args.conditions.now = omega arith in
     record {
-      extends = extends_trans c.args.store.now c.loop-j.store c.make_case.new.store c.loop-j.invariant.extends c.in_ok-case.ensures.extends;
       many = ap (λ (l : List Case). length l) is ∙ length-append c.loop-j.cases (c.in_ok-case.case ∷ []) ∙ ap (λ n. n + 1) c.loop-j.invariant.many;
       made = λ j x got. ⊎_elim
           (λ old. c.loop-j.invariant.made j x old.1)
@@ -35,7 +23,6 @@ loop-j-preserved c =
           let at : c.loop-j.j ≡ j = sym (new.0 ∙ c.loop-j.invariant.many) in
           subst (λ (n : ℕ). IsMadeFor c.args.store.now c.args.questions.now (ref_at c.args.conditions.now n) x) at
           (subst (λ (y : Case). IsMadeFor c.args.store.now c.args.questions.now (ref_at c.args.conditions.now c.loop-j.j) y) new.1
-          (made_before c.args.store.now c.loop-j.store c.args.questions.now (ref_at c.args.conditions.now c.loop-j.j) c.in_ok-case.case
-          c.loop-j.invariant.extends (c.requires.conditions c.loop-j.j low) c.in_ok-case.ensures.made)))
+          c.in_ok-case.ensures.made))
           (got-append c.loop-j.cases c.in_ok-case.case x j (subst (λ (l : List Case). slice_get l j ≡ Some x) is got));
     }

@@ -39,11 +39,10 @@ pub returns-clause-made : goal.returns-clause-made
 returns-clause-made c =
     taken c.args.store.now c.allowed_within.new.store c.split_whole.new.store c.args.questions.now
     (is_allowed_in c.args.store.now.nodes c.args.allowed c.args.from.now) c.in_ok-whole.whole c.as_slice.result.now c.in_ok-conditions.conditions.items
-    c.as_slice-2.result.now c.make_cases.result c.as_slice.ensures c.as_slice-2.ensures.value c.requires.answers c.in_ok-whole.ensures.extends
+    c.as_slice-2.result.now c.in_ok-cases.cases c.as_slice.ensures c.as_slice-2.ensures.value c.requires.answers c.in_ok-whole.ensures.extends
     c.in_ok-conditions.ensures.extends c.in_ok-whole.ensures.means c.in_ok-conditions.ensures.parted c.in_ok-conditions.ensures.joined
-    c.make_cases.ensures.many c.make_cases.ensures.made
+    c.in_ok-cases.ensures.many c.in_ok-cases.ensures.made
 
 pub returns-clause-extends : goal.returns-clause-extends
-returns-clause-extends c = extends_trans c.args.store.now c.split_whole.new.store c.make_cases.new.store
-    (extends_trans c.args.store.now c.allowed_within.new.store c.split_whole.new.store c.in_ok-whole.ensures.extends c.in_ok-conditions.ensures.extends)
-    c.make_cases.ensures.extends
+returns-clause-extends c = extends_trans c.args.store.now c.allowed_within.new.store c.split_whole.new.store c.in_ok-whole.ensures.extends
+    c.in_ok-conditions.ensures.extends
