@@ -18,6 +18,7 @@ use crate::poly::Poly;
 use crate::units::add_units;
 use rv_base::{Many, Memory};
 use rv_rows::{Form, Row, number_at};
+use rv_seek::Search;
 use std::alloc::Global;
 
 /// The greatest magnitude of a number of an update.
@@ -29,8 +30,8 @@ const MOST_UPDATES: usize = 128;
 /// The points that updates give at the whole points of rows, inputs included.
 #[derive(Clone, Copy)]
 pub struct Image<'a> {
-    /// The rows.
-    pub rows: &'a Many<Row>,
+    /// The rows, made ready for searches.
+    pub rows: &'a Search<'a>,
     /// The form that gives each column of a new point.
     pub updates: &'a Many<Form>,
 }
@@ -54,11 +55,10 @@ fn form_of(row: Row) -> Form
 /// A bound of the left side after the updates.
 fn bound_after(
     alloc: Global,
-    rows: &Many<Row>,
+    rows: &Search,
     updates: &Many<Form>,
     side: &Many<i128>,
 ) -> Result<Option<i128>, Memory>
-    requires rows { All (RowWithin (2 ^ 60)) rows.now × (length rows.now < 2 ^ 32) }
     requires updates { AreUpdates updates.now }
     requires width { length side.now ≡ length updates.now }
     requires side { All (λ c. unsigned_abs c ≤ 2 ^ 30) side.now }
@@ -81,7 +81,7 @@ impl Bounding for Image<'_> {
 
     ghost shows = { λ i r. ShowsAfter i.rows.now i.updates.now r };
 
-    ghost ready = { λ i. (All (RowWithin (2 ^ 60)) i.rows.now × (length i.rows.now < 2 ^ 32)) × AreUpdates i.updates.now };
+    ghost ready = { λ i. AreUpdates i.updates.now };
 
     ghost takes = { λ i side. length side ≡ length i.updates.now };
 
@@ -181,8 +181,9 @@ fn updated_rows(alloc: Global, premises: &Many<Row>, updates: &Many<Form>) -> Re
 {
     let width = updates.len();
     let sides = cut_rows(alloc, premises, width)?;
+    let search = Search::new(alloc, premises)?;
     let set = Image {
-        rows: premises,
+        rows: &search,
         updates,
     };
     let mut rows = Many::new(alloc);

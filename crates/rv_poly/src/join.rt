@@ -14,6 +14,7 @@ use crate::poly::Poly;
 use crate::units::add_units;
 use rv_base::{Many, Memory};
 use rv_rows::Row;
+use rv_seek::Search;
 use std::alloc::Global;
 
 /// The width of the first row, 0 where there is none.
@@ -61,9 +62,11 @@ impl Poly {
             → ShowsAtOnce other.now.rows (bounded side x) → HasSide p.rows side x) }
     {
         let width = width_of_both(&self.rows, &other.rows);
+        let first = Search::new(alloc, &self.rows)?;
+        let second = Search::new(alloc, &other.rows)?;
         let set = Either {
-            first: &self.rows,
-            second: &other.rows,
+            first: &first,
+            second: &second,
         };
         let mut rows = Many::new(alloc);
         add_sides(alloc, &set, &self.rows, width, &mut rows)?;

@@ -56,3 +56,9 @@ pub record IsPrepared (rows : List Row) (width : ℕ) (map : BTreeMap (Vec ℤ) 
   pub numbers : All (RowWithin (2 ^ 60)) rows
   pub widths : All (λ r. length r.coefficients ≤ width) rows
   pub table : IsTable rows width (length rows + 2) map
+
+-- Premises whose numbers are small enough for every question, and the same premises made ready.
+pub record IsReady (rows pairs : List Row) : Type 0 where
+  pub numbers : All (RowWithin (2 ^ 60)) rows
+  pub few : length rows < 2 ^ 32
+  pub same : pairs ≡ rows

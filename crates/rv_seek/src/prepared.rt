@@ -131,20 +131,3 @@ impl<'a> Premises<'a> {
         Ok(shown)
     }
 }
-
-/// The pair with the least sum of bounds among those whose left sides sum to the wanted one. The two places past
-/// the end of the list stand for no premise, so that single premises and none are pairs too. Whoever asks several
-/// questions of one list prepares it once by `Premises::new`.
-pub fn least_pair(
-    alloc: Global,
-    premises: &Many<Row>,
-    wanted: &Many<i128>,
-) -> Result<Option<Best>, Memory>
-    requires premises { All (RowWithin (2 ^ 60)) premises.now }
-    requires wanted { All (λ c. unsigned_abs c ≤ 2 ^ 78) wanted.now }
-    requires few { length premises.now < 2 ^ 32 }
-    ensures { IfOk result (λ o. IsLeast premises.now wanted.now (length premises.now + 2) o) }
-{
-    let prepared = Premises::new(alloc, premises)?;
-    prepared.least(alloc, wanted)
-}

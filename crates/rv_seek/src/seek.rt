@@ -8,9 +8,9 @@ ghost use Rattle.rv_seek.specs.Pairs.{PairShows, HasRanges};
 
 use crate::least::Best;
 use crate::pairs::pair_multipliers;
-use crate::prepared::{Premises, least_pair};
+use crate::prepared::Premises;
 use crate::ranges::{has_ranges, reduced, reduced_refutation};
-use crate::simplex::{Goal, simplex};
+use crate::simplex::{Found, Goal, simplex};
 use rv_base::{Many, Memory};
 use rv_rows::{Form, Multipliers, Row, proves, refutes};
 use std::alloc::Global;
@@ -51,18 +51,6 @@ fn checked_refutation(premises: &Many<Row>, found: Multipliers) -> Option<Multip
         return None;
     }
     Some(found)
-}
-
-/// Two places that show the row at once.
-fn shown_pair(alloc: Global, premises: &Many<Row>, wanted: &Row) -> Result<Option<Best>, Memory>
-    requires premises { All (RowWithin (2 ^ 60)) premises.now }
-    requires wanted { RowWithin (2 ^ 78) wanted.now }
-    requires few { length premises.now < 2 ^ 32 }
-    ensures found { IfOk result (λ o. IfSome o (λ b. (b.first < b.second) × PairShows premises.now wanted.now b.first b.second)) }
-    ensures missing { IfOk result (λ o. IfNone o (¬ (ShowsAtOnce premises.now wanted.now))) }
-{
-    let prepared = Premises::new(alloc, premises)?;
-    prepared.shown(alloc, wanted)
 }
 
 /// Two places that show `0 <= -1` at once.
@@ -120,6 +108,33 @@ fn refuted_by_simplex(alloc: Global, premises: &Many<Row>) -> Result<Option<Mult
     }
 }
 
+/// Multipliers that prove the row, of premises that were made ready.
+pub fn row_by(
+    alloc: Global,
+    premises: &Many<Row>,
+    pairs: &Premises,
+    wanted: &Row,
+) -> Result<Option<Multipliers>, Memory>
+    requires same { pairs.now ≡ premises.now }
+    requires premises { All (RowWithin (2 ^ 60)) premises.now }
+    requires wanted { RowWithin (2 ^ 78) wanted.now }
+    requires few { length premises.now < 2 ^ 32 }
+    ensures proof { IfOk result (λ o. IfSome o (λ m. Proves premises.now wanted.now m)) }
+    ensures ranges { IfOk result (λ o. IfSome o (λ m. HasRanges (length premises.now) m)) }
+    ensures at_once { IfOk result (λ o. ShowsAtOnce premises.now wanted.now → IsSome o) }
+{
+    match pairs.shown(alloc, wanted)? {
+        Some(best) => {
+            let multipliers = pair_multipliers(alloc, premises, best.first, best.second)?;
+            Ok(Some(multipliers))
+        }
+        None => {
+            let found = by_simplex(alloc, premises, wanted)?;
+            Ok(found)
+        }
+    }
+}
+
 /// Multipliers that prove the row from the premises, so that it holds at every whole point of them. They are found
 /// wherever none, one or two premises show the row at once; elsewhere None promises nothing. The only error is
 /// want of memory.
@@ -135,16 +150,8 @@ pub fn seek_row(
     ensures ranges { IfOk result (λ o. IfSome o (λ m. HasRanges (length premises.now) m)) }
     ensures at_once { IfOk result (λ o. ShowsAtOnce premises.now wanted.now → IsSome o) }
 {
-    match shown_pair(alloc, premises, wanted)? {
-        Some(best) => {
-            let multipliers = pair_multipliers(alloc, premises, best.first, best.second)?;
-            Ok(Some(multipliers))
-        }
-        None => {
-            let found = by_simplex(alloc, premises, wanted)?;
-            Ok(found)
-        }
-    }
+    let pairs = Premises::new(alloc, premises)?;
+    row_by(alloc, premises, &pairs, wanted)
 }
 
 /// Multipliers that refute the premises, so that no whole point meets them all; their divisor is 1. They are found
@@ -200,12 +207,14 @@ fn bounded_by(
     })
 }
 
-/// The least bound that a pair shows.
-fn bounded_by_pair(
+/// The least bound that a pair shows, of premises that were made ready.
+pub fn bounded_by_pair(
     alloc: Global,
     premises: &Many<Row>,
+    pairs: &Premises,
     form: &Form,
 ) -> Result<Option<Bounded>, Memory>
+    requires same { pairs.now ≡ premises.now }
     requires premises { All (RowWithin (2 ^ 60)) premises.now }
     requires form { FormWithin (2 ^ 78) form.now }
     requires few { length premises.now < 2 ^ 32 }
@@ -213,7 +222,7 @@ fn bounded_by_pair(
     ensures ranges { IfOk result (λ o. IfSome o (λ b. HasRanges (length premises.now) b.by)) }
     ensures at_once { IfOk result (λ o. (bound : ℤ) → ShowsAtOnce premises.now (at_most form.now bound) → IsSomeAnd o (λ b. b.bound ≤ℤ bound)) }
 {
-    let least = least_pair(alloc, premises, &form.coefficients)?;
+    let least = pairs.least(alloc, &form.coefficients)?;
     match least {
         Some(best) => {
             let bounded = bounded_by(alloc, premises, form, best)?;
@@ -272,11 +281,12 @@ fn checked_bound(
     }
 }
 
-/// The bound that the simplex finds.
-fn bounded_by_simplex(
+/// The bound that weights prove.
+pub fn bounded_from(
     alloc: Global,
     premises: &Many<Row>,
     form: &Form,
+    found: Found,
 ) -> Result<Option<Bounded>, Memory>
     requires premises { All (RowWithin (2 ^ 60)) premises.now }
     requires few { length premises.now < 2 ^ 32 }
@@ -284,10 +294,6 @@ fn bounded_by_simplex(
     ensures proof { IfOk result (λ o. IfSome o (λ b. Proves premises.now (at_most form.now b.bound) b.by)) }
     ensures ranges { IfOk result (λ o. IfSome o (λ b. HasRanges (length premises.now) b.by)) }
 {
-    let found = match simplex(alloc, premises, &form.coefficients, Goal::Least)? {
-        Some(found) => found,
-        None => return Ok(None),
-    };
     let multipliers = match reduced(alloc, found.weights, found.divisor)? {
         Some(multipliers) => multipliers,
         None => return Ok(None),
@@ -302,8 +308,26 @@ fn bounded_by_simplex(
     }
 }
 
+/// The bound that the simplex finds.
+pub fn bounded_by_simplex(
+    alloc: Global,
+    premises: &Many<Row>,
+    form: &Form,
+) -> Result<Option<Bounded>, Memory>
+    requires premises { All (RowWithin (2 ^ 60)) premises.now }
+    requires few { length premises.now < 2 ^ 32 }
+    requires form { FormWithin (2 ^ 78) form.now }
+    ensures proof { IfOk result (λ o. IfSome o (λ b. Proves premises.now (at_most form.now b.bound) b.by)) }
+    ensures ranges { IfOk result (λ o. IfSome o (λ b. HasRanges (length premises.now) b.by)) }
+{
+    match simplex(alloc, premises, &form.coefficients, Goal::Least)? {
+        Some(found) => bounded_from(alloc, premises, form, found),
+        None => Ok(None),
+    }
+}
+
 /// The one with the lesser bound.
-fn lesser_bound(pair: Option<Bounded>, other: Option<Bounded>) -> Option<Bounded>
+pub fn lesser_bound(pair: Option<Bounded>, other: Option<Bounded>) -> Option<Bounded>
     ensures one { (result ≡ pair) ⊎ (result ≡ other) }
     ensures least { IfSome pair (λ p. IsSomeAnd result (λ b. b.bound ≤ℤ p.bound)) }
 {
@@ -346,7 +370,8 @@ pub fn seek_bound(
     ensures at_once { IfOk result (λ o. (bound : ℤ) → ShowsAtOnce premises.now (at_most form.now bound) → IsSomeAnd o (λ b. b.bound ≤ℤ bound)) }
     ensures holds { IfOk result (λ o. IfSome o (λ b. (point : List ℤ) → All (λ r. Holds r point) premises.now → value form.now point ≤ℤ b.bound)) }
 {
-    let pair = bounded_by_pair(alloc, premises, form)?;
+    let pairs = Premises::new(alloc, premises)?;
+    let pair = bounded_by_pair(alloc, premises, &pairs, form)?;
     let other = bounded_by_simplex(alloc, premises, form)?;
     Ok(lesser_bound(pair, other))
 }

@@ -13,10 +13,10 @@ use rv_rows::Row;
 use std::alloc::Global;
 
 /// The most pivots of one phase.
-const PIVOTS: usize = 1000;
+pub const PIVOTS: usize = 1000;
 
 /// The pivots of one phase that take the most negative cost. Later ones take the first, so that no cycle lasts.
-const STEEPEST_PIVOTS: usize = 600;
+pub const STEEPEST_PIVOTS: usize = 600;
 
 /// What the weights are sought for.
 #[derive(Clone, Copy)]
@@ -369,7 +369,7 @@ fn along_ray(
 }
 
 /// The weights of the tableau as it stands.
-fn at_corner(
+pub fn at_corner(
     alloc: Global,
     tableau: &Tableau,
     premises: &Many<Sparse>,
@@ -391,6 +391,26 @@ fn second_phase(
             Some(found) => Ok(Some(found)),
             None => at_corner(alloc, tableau, premises),
         },
+    }
+}
+
+/// The tableau with no wanted left side, in which each equation has a premise where one can enter it, and no cost is negative: a corner of the
+/// premises, from which each wanted side can be asked. None where a number left its type, there were too many pivots or the bounds fall without end.
+pub fn corner_of(
+    alloc: Global,
+    premises: &Many<Sparse>,
+    width: usize,
+) -> Result<Option<Tableau>, Memory> {
+    let Some(mut tableau) = start(alloc, &Many::new(alloc), width)? else {
+        return Ok(None);
+    };
+    tableau.lines.truncate(width.saturating_add(1));
+    if !fill_basis(alloc, &mut tableau, premises)? {
+        return Ok(None);
+    }
+    match solve(alloc, &mut tableau, premises, Phase::Second(Goal::Least))? {
+        End::Done => Ok(Some(tableau)),
+        End::Ray(_) | End::GaveUp => Ok(None),
     }
 }
 

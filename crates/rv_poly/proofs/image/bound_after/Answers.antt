@@ -13,11 +13,13 @@ form_of-form-requires c =
     let small = before-small c.args.updates.now c.args.side.now c.requires.updates c.requires.width c.requires.side c.in_ok-before.before s in
     small
 
-pub form_bound-requires-clause-form : goal.form_bound-requires-clause-form
-form_bound-requires-clause-form c =
+pub form_bound-requires : goal.form_bound-requires
+form_bound-requires c =
     let s = rw c.in_ok-copy.ensures at c.in_ok-before.ensures.exact in
-    form-within c.args.updates.now c.args.side.now c.requires.updates c.requires.width c.requires.side c.in_ok-before.before s c.form_of-form.result
-    c.form_of-form.ensures.coefficients c.form_of-form.ensures.constant
+    record {
+      form = form-within c.args.updates.now c.args.side.now c.requires.updates c.requires.width c.requires.side c.in_ok-before.before s c.form_of-form.result
+          c.form_of-form.ensures.coefficients c.form_of-form.ensures.constant;
+    }
 
 pub returns-clause-sound : goal.returns-clause-sound
 returns-clause-sound c =
