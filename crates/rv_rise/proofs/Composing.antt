@@ -1,15 +1,22 @@
 -- A claim that grows twice, and one that does not grow.
-use Rattle.std.proofs.Common.{◌≡◌, ℕ, ◌+◌, ◌<◌, ◌≤◌, Bool, true, false, ◌||◌, List, refl, sym, ap, ◌∙◌, subst, arith, ◌⊎◌, inl, inr, Some, slice_get}
+use Rattle.std.proofs.Common.{◌≡◌, ℕ, ◌+◌, ◌<◌, ◌≤◌, ℤ, ◌≤ℤ◌, Bool, true, false, ◌||◌, List, refl, sym, ap, ◌∙◌, subst, arith, ◌⊎◌, inl, inr, Some, slice_get}
+use Rattle.std.proofs.lemmas.Int.{ints}
 use Rattle.std.proofs.lemmas.Bool.{cases_Bool, cases_lt}
 use Rattle.std.proofs.lemmas.Option.{same_Some}
 use Rattle.rv_diagram.specs.Nodes.{Valuation}
-use Rattle.rv_proofs.specs.Systems.{System}
+use Rattle.rv_rows.specs.declared.linear.Row.{Row}
+use Rattle.rv_rows.specs.Rows.{row_at}
+use Rattle.rv_seek.specs.Least.{bounded}
+use Rattle.rv_proofs.specs.Systems.{System, updates_of}
 use Rattle.rv_proofs.specs.Scopes.{IsIn}
-use Rattle.rv_proofs.specs.RowClaims.{RowClaim}
+use Rattle.rv_proofs.specs.RowClaims.{RowClaim, IsRowTaken, premises_at}
 use Rattle.rv_proofs.specs.declared.report.Case.{Case}
 use Rattle.rv_rise.specs.declared.frame.Frame.{Frame}
 use Rattle.rv_rise.specs.declared.risen.Risen.{Risen}
-use Rattle.rv_rise.specs.Rounds.{IsKeptRisen, IsHeld, HasGrown, IsInCases, left_of, claim_in}
+use Rattle.rv_rise.specs.Shown.{IsShownAfter}
+use Rattle.rv_rise.specs.Rounds.{IsKeptRisen, IsHeld, IsAbove, HasGrown, IsInCases, left_of, claim_in}
+use Rattle.rv_rise.proofs.Listing.{IsRowAt, rows_with-has, rows_with-from}
+use Rattle.rv_rise.proofs.Showing.{shown_up}
 
 pub neither : (a b : Bool) → (a || b) ≡ false → (a ≡ false) × (b ≡ false)
 neither false b e = (refl, e)
@@ -19,22 +26,52 @@ pub some_of : (a b : Bool) → (a || b) ≡ true → (a ≡ true) ⊎ ((a ≡ fa
 some_of true b e = inl refl
 some_of false b e = inr (refl, e)
 
+-- claims above one another
+pub above_same : (c : Risen) → IsAbove c c
+above_same c = record { reached = λ v i. i; limits = λ k b e. (b, e, omega (arith, ints)) }
+
+pub above_both : (x y z : Risen) → IsAbove x y → IsAbove y z → IsAbove x z
+above_both x y z g h = record {
+  reached = λ v i. h.reached v (g.reached v i);
+  limits = λ k b e. let (a, there, l) = h.limits k b e in let (o, before, m) = g.limits k a there in (o, before, chain o a b m l);
+}
+  where
+    chain : (o a b : ℤ) → o ≤ℤ a → a ≤ℤ b → o ≤ℤ b
+    chain o a b m l = omega (arith, ints)
+
+-- what a claim holds is held by each one above it
+pub held_above : (s : System) (f : Frame) (base : RowClaim) (old new : Risen) → IsAbove old new → (v : Valuation) → IsHeld s base (claim_in f old) v
+    → IsHeld s base (claim_in f new) v
+held_above s f base old new above v h = record {
+  next = λ t. above.reached (s.next v) (h.next t);
+  rows = λ t r known. row t r (rows_with-from f.sides new.limits r known);
+}
+  where
+    row : IsRowTaken s base v → (r : Row) → IsRowAt f.sides new.limits r → IsShownAfter (premises_at s base v) (updates_of s v) r
+    row t r at =
+        let (a, before, l) = above.limits at.place r.bound at.limit in
+        let shown = h.rows t (bounded (row_at f.sides at.place).coefficients a) (rows_with-has f.sides old.limits at.place a at.there before) in
+        subst (λ (cs : List ℤ). IsShownAfter (premises_at s base v) (updates_of s v) (bounded cs r.bound)) (sym at.side)
+        (shown_up (premises_at s base v) (updates_of s v) (row_at f.sides at.place).coefficients a r.bound l shown)
+
 module _ (s : System) (f : Frame) (base : RowClaim) where
   pub grown_none : (P : Valuation → Type 0) (c : Risen) → IsKeptRisen s f c → ((v : Valuation) → P v → ⊥) → HasGrown s f base P false c c
   grown_none P c kept none = record {
     kept = kept;
+    above = above_same c;
     below = λ h k. k;
     still = λ e. refl;
-    held = λ e v i. absurd (none v i);
+    held = λ v i. absurd (none v i);
     less = λ (e : false ≡ true). cc;
   }
 
   pub grown_within : (P Q : Valuation → Type 0) (a : Bool) (x y : Risen) → ((v : Valuation) → Q v → P v) → HasGrown s f base P a x y → HasGrown s f base Q a x y
   grown_within P Q a x y w g = record {
     kept = g.kept;
+    above = g.above;
     below = g.below;
     still = g.still;
-    held = λ e v i. g.held e v (w v i);
+    held = λ v i. g.held v (w v i);
     less = g.less;
   }
 
@@ -49,15 +86,16 @@ module _ (s : System) (f : Frame) (base : RowClaim) where
       → HasGrown s f base (λ v. P v ⊎ Q v) (a || b) x z
   grown_both P Q a b x y z g h = record {
     kept = h.kept;
+    above = above_both x y z g.above h.above;
     below = λ m k. h.below m (g.below m k);
     still = λ e. h.still (neither a b e).1 ∙ g.still (neither a b e).0;
-    held = λ e v i. held (neither a b e) v i;
+    held = held;
     less = λ e v. less (some_of a b e) v;
   }
     where
-      held : (a ≡ false) × (b ≡ false) → (v : Valuation) → P v ⊎ Q v → IsHeld s base (claim_in f x) v
-      held (e, d) v (inl i) = g.held e v i
-      held (e, d) v (inr i) = subst (λ (c : Risen). IsHeld s base (claim_in f c) v) (g.still e) (h.held d v i)
+      held : (v : Valuation) → P v ⊎ Q v → IsHeld s base (claim_in f z) v
+      held v (inl i) = held_above s f base y z h.above v (g.held v i)
+      held v (inr i) = h.held v i
 
       less : (a ≡ true) ⊎ ((a ≡ false) × (b ≡ true)) → (v : Valuation) → left_of s.states z v < left_of s.states x v
       less (inl e) v = let l = g.less e v in let m = no_more Q b y z h v in omega (arith, l, m)

@@ -13,8 +13,9 @@ use Rattle.rv_diagram.specs.declared.frozen.Frozen.{Frozen}
 use Rattle.rv_rows.specs.declared.linear.Row.{Row}
 use Rattle.rv_rows.specs.Rows.{row_at}
 use Rattle.rv_rows.specs.Tight.{Fits}
+use Rattle.rv_rows.specs.Multipliers.{AreShutAtOnce}
 use Rattle.rv_seek.specs.Least.{bounded}
-use Rattle.rv_proofs.specs.Systems.{System, IsSystem, HasSameState, rows_of}
+use Rattle.rv_proofs.specs.Systems.{System, IsSystem, HasSameState, rows_of, updates_of}
 use Rattle.rv_proofs.specs.Scopes.{IsIn}
 use Rattle.rv_proofs.specs.Ranges.{AreKept}
 use Rattle.rv_proofs.specs.RowClaims.{RowClaim, HasOne, HasTwo, IsCandidate, IsRowClaim, IsRowTaken, IsRowClosed, HasTighter, premises_at}
@@ -27,11 +28,13 @@ use Rattle.rv_rise.specs.declared.frame.Frame.{Frame}
 use Rattle.rv_rise.specs.declared.risen.Risen.{Risen}
 use Rattle.rv_rise.specs.declared.rounds.Others.{Others}
 use Rattle.rv_rise.specs.Orders.{IsLeastAbove}
+use Rattle.rv_rise.specs.Shown.{IsShownAfter}
 use Rattle.rv_rise.specs.Limits.{limit_at, AreFirst}
 use Rattle.rv_rise.specs.Sides.{rows_with}
-use Rattle.rv_rise.specs.Rounds.{IsFrameOf, IsSetting, IsHeld, IsKeptRisen, HasGrown, IsCaseIn, IsInCases, IsRound, AreOthers, IsLeastRisen, left_of, claim_in}
+use Rattle.rv_rise.specs.Rounds.{IsFrameOf, IsSetting, IsHeld, IsKeptRisen, HasGrown, IsCaseIn, IsInCases, IsRising, IsRound, AreOthers, IsLeastRisen, left_of, claim_in}
 use Rattle.rv_rise.proofs.Listing.{IsRowAt, rows_with-has, rows_with-from, rows_with-different}
 use Rattle.rv_rise.proofs.Fitting.{rows_kept}
+use Rattle.rv_rise.proofs.Composing.{held_above}
 
 none_kept : (s : System) → AreKept s []
 none_kept s = (All-nil (λ (r : Row). (length r.coefficients ≡ s.memories) × Fits r), lit≤ tt)
@@ -75,6 +78,36 @@ module _ (s : System) (is : IsSystem s) (f : Frame) (frame : IsFrameOf s f) (c :
     kept = none_kept s;
   }
 
+  -- Once its cases have been asked in a claim the initial control states are held, whatever claim they are taken in.
+  pub rising_of : IsBelowClosed s f.thresholds (claim_in f c) → (from_first : List Case) → AreCases s first from_first → (changed : Bool) (new : Risen)
+      → HasGrown s f (claim_in f c) (IsInCases from_first (length from_first)) changed c new → IsRising s f first new
+  rising_of below from_first cases changed new g = record {
+    kept = g.kept;
+    below = g.below below below;
+    held = held;
+  }
+    where
+      same : (base : RowClaim) (v : Valuation) → IsIn first v → premises_at s (claim_in f c) v ≡ premises_at s base v
+      same base v i =
+          let off = is.unticked v (first_started v i) in
+          premises_off s (claim_in f c) v off ∙ sym (premises_off s base v off)
+
+      taken : (base : RowClaim) (v : Valuation) → IsIn first v → IsRowTaken s base v → IsRowTaken s (claim_in f c) v
+      taken base v i t = record {
+        allowed = t.allowed;
+        reached = kept.initial v (first_started v i);
+        is_open = λ shut. t.is_open (subst AreShutAtOnce (same base v i) shut);
+      }
+
+      there : (base : RowClaim) (v : Valuation) → IsIn first v → IsRowTaken s base v → IsHeld s (claim_in f c) (claim_in f new) v
+      there base v i t = let (j, d, at, on) = cases.covered v t.allowed i in g.held v (j, d, slice_get_within from_first j d at, at, on)
+
+      held : (base : RowClaim) (v : Valuation) → IsIn first v → IsHeld s base (claim_in f new) v
+      held base v i = record {
+        next = λ t. let h = there base v i t in h.next (taken base v i t);
+        rows = λ t r known. let h = there base v i t in subst (λ (rs : List Row). IsShownAfter rs (updates_of s v) r) (same base v i) (h.rows (taken base v i t) r known);
+      }
+
   module _ (o : Others) (others : AreOthers s f first c o) where
     apart : (v : Valuation) → IsIn o.control v → (has c.reached v ≡ true) × (has first v ≡ false)
     apart v i = both_parts (has c.reached v) (has first v) (sym (others.exact v) ∙ i)
@@ -93,35 +126,32 @@ module _ (s : System) (is : IsSystem s) (f : Frame) (frame : IsFrameOf s f) (c :
         ticked v i (inl starts) = absurd (clash (has first v) ((initial.exact v).1 starts) (apart v i).1)
         ticked v i (inr on) = on
 
-    -- each taken valuation is in a case of one of the two
-    pub in_a_case : (from_first : List Case) → AreCases s first from_first → (v : Valuation) → IsRowTaken s (claim_in f c) v
-        → IsInCases from_first (length from_first) v ⊎ IsInCases o.cases (length o.cases) v
-    in_a_case from_first cases v t = go (cases_Bool (has first v))
-      where
-        go : (has first v ≡ true) ⊎ (has first v ≡ false) → IsInCases from_first (length from_first) v ⊎ IsInCases o.cases (length o.cases) v
-        go (inl i) = let (j, d, at, on) = cases.covered v t.allowed i in inl (j, d, slice_get_within from_first j d at, at, on)
-        go (inr n) =
-            let i : has o.control v ≡ true = others.exact v ∙ and_not (has c.reached v) (has first v) t.reached n in
-            let w = others.cases in
-            let (j, d, at, on) = w.covered v t.allowed i in inr (j, d, slice_get_within o.cases j d at, at, on)
-
-    pub round_of : (from_first : List Case) → AreCases s first from_first → (changed : Bool) (new : Risen)
-        → HasGrown s f (claim_in f c) (λ v. IsInCases from_first (length from_first) v ⊎ IsInCases o.cases (length o.cases) v) changed c new
-        → IsRound s f changed c new
-    round_of from_first cases changed new g = record {
-      kept = g.kept;
-      below = λ h. g.below h h;
+    -- where nothing has changed by the cases of the others the claim is closed
+    pub round_of : IsRising s f first c → (changed : Bool) (new : Risen) → HasGrown s f (claim_in f c) (IsInCases o.cases (length o.cases)) changed c new
+        → IsRound s f first changed c new
+    round_of rising changed new g = record {
+      rising = record {
+        kept = g.kept;
+        below = g.below rising.below rising.below;
+        held = λ base v i. held_above s f base c new g.above v (rising.held base v i);
+      };
       still = g.still;
       closed = λ e. record {
         initial = kept.initial;
-        next = λ v t. (held e v t).next t;
-        rows = λ v t r known. (held e v t).rows t r known;
+        next = λ v t. (held e v t (cases_Bool (has first v))).next t;
+        rows = λ v t r known. (held e v t (cases_Bool (has first v))).rows t r known;
       };
       less = g.less;
     }
       where
-        held : changed ≡ false → (v : Valuation) → IsRowTaken s (claim_in f c) v → IsHeld s (claim_in f c) (claim_in f c) v
-        held e v t = g.held e v (in_a_case from_first cases v t)
+        held : changed ≡ false → (v : Valuation) → IsRowTaken s (claim_in f c) v → (has first v ≡ true) ⊎ (has first v ≡ false)
+            → IsHeld s (claim_in f c) (claim_in f c) v
+        held e v t (inl i) = rising.held (claim_in f c) v i
+        held e v t (inr n) =
+            let i : has o.control v ≡ true = others.exact v ∙ and_not (has c.reached v) (has first v) t.reached n in
+            let w = others.cases in
+            let (j, d, at, on) = w.covered v t.allowed i in
+            subst (λ (x : Risen). IsHeld s (claim_in f c) (claim_in f x) v) (g.still e) (g.held v (j, d, slice_get_within o.cases j d at, at, on))
 
 same_bool : (a b : Bool) → (a ≡ true → b ≡ true) → (b ≡ true → a ≡ true) → a ≡ b
 same_bool true b h k = sym (h refl)
@@ -163,11 +193,11 @@ claim_kept s f frame c kept = record {
           shape = same_shape s (row_at f.sides at.place) r at.side side.shape;
         }
 
-pub least_of : (s : System) (f : Frame) → IsFrameOf s f → (c : Risen) → IsKeptRisen s f c → IsBelowClosed s f.thresholds (claim_in f c)
-    → IsRowClosed s (claim_in f c) → IsLeastRisen s f c
-least_of s f frame c kept below closed = record {
-  kept = kept;
-  least = record { claim = claim_kept s f frame c kept; closed = closed; least = below };
+pub least_of : (s : System) (f : Frame) → IsFrameOf s f → (first : Frozen) (c : Risen) → IsRising s f first c → IsRowClosed s (claim_in f c)
+    → IsLeastRisen s f c
+least_of s f frame first c rising closed = record {
+  kept = rising.kept;
+  least = record { claim = claim_kept s f frame c rising.kept; closed = closed; least = rising.below };
 }
 
 -- the claim that the search begins with
@@ -237,9 +267,10 @@ first_are thresholds many limits o small above size each = record {
         apart t l m = omega (arith, ints)
 
 -- each round leaves less, or is the last
-pub round_smaller : (s : System) (f : Frame) (n : ℕ) (more was : Bool) (old new : Risen) → n ≡ s.states → was ≡ true → IsRound s f more old new
+pub round_smaller : (s : System) (f : Frame) (first : Frozen) (n : ℕ) (more was : Bool) (old new : Risen) → n ≡ s.states → was ≡ true
+    → IsRound s f first more old new
     → left_of n new (λ x. false) + cond more 1 0 < left_of n old (λ x. false) + cond was 1 0
-round_smaller s f n more true old new e on r = go more refl
+round_smaller s f first n more true old new e on r = go more refl
   where
     go : (b : Bool) → more ≡ b → left_of n new (λ x. false) + cond b 1 0 < left_of n old (λ x. false) + 1
     go true is =
@@ -250,4 +281,4 @@ round_smaller s f n more true old new e on r = go more refl
     go false is =
         let q : left_of n new (λ x. false) ≡ left_of n old (λ x. false) = ap (λ (c : Risen). left_of n c (λ x. false)) (r.still is) in
         omega (arith, q)
-round_smaller s f n more false old new e on r = cc
+round_smaller s f first n more false old new e on r = cc

@@ -16,7 +16,7 @@ use Rattle.rv_seek.specs.declared.least.Best.{Best}
 use Rattle.rv_seek.specs.Pairs.{PairShows}
 use Rattle.rv_seek.specs.Least.{IsLeast, IsLeastAmong, PairSums, bounded}
 use Rattle.rv_seek.proofs.PairLemmas.{pair_from}
-use Rattle.rv_rise.specs.Shown.{AreOthersOpen, IsLeastShown, IsKeptAlone, IsNeeded}
+use Rattle.rv_rise.specs.Shown.{IsShownAfter, AreOthersOpen, IsLeastShown, IsKeptAlone, IsNeeded}
 
 -- a row with the same left side and a greater bound is shown too
 pub shown_more : (rows : List Row) (a b : Row) → ((k : ℕ) → coefficient k b ≡ coefficient k a) → a.bound ≤ℤ b.bound → ShowsAtOnce rows a → ShowsAtOnce rows b
@@ -156,6 +156,17 @@ shown_right rows others wanted shows =
   where
     nothing : Row
     nothing = record { coefficients = []; bound = pos 0 }
+
+-- a greater bound is shown after the updates too
+pub shown_up : (rows : List Row) (forms : List Form) (cs : List ℤ) (a b : ℤ) → a ≤ℤ b → IsShownAfter rows forms (bounded cs a) → IsShownAfter rows forms (bounded cs b)
+shown_up rows forms cs a b l (new, sub, shows) = (
+  bounded new.coefficients (b -ℤ dot cs (map (λ f. f.constant) forms)),
+  record { width = sub.width; coefficients = sub.coefficients; bound = refl },
+  shown_more rows new (bounded new.coefficients (b -ℤ dot cs (map (λ f. f.constant) forms))) (λ k. refl) (up new.bound a b (dot cs (map (λ f. f.constant) forms)) sub.bound l) shows,
+)
+  where
+    up : (n a b d : ℤ) → n ≡ a -ℤ d → a ≤ℤ b → n ≤ℤ (b -ℤ d)
+    up n a b d e l = omega (arith, ints)
 
 -- before the updates
 module _ (rows : List Row) (forms : List Form) (side before : Row) (zero_bound : side.bound ≡ pos 0) (sub : IsSubstituted side forms before) where

@@ -1,5 +1,5 @@
 -- What a case does to a claim.
-use Rattle.std.proofs.Common.{◌≡◌, ◌<◌, ◌≤◌, ℤ, Bool, true, false, ◌||◌, List, ◌++◌, length, Option, Some, IsTrue, arith, refl, sym, ap, ◌∙◌, subst, ◌⊎◌, inl, inr}
+use Rattle.std.proofs.Common.{◌≡◌, ℕ, ◌<◌, ◌≤◌, ℤ, ◌≤ℤ◌, Bool, true, false, ◌||◌, List, ◌++◌, length, Option, Some, IsTrue, arith, refl, sym, ap, ◌∙◌, subst, ◌⊎◌, inl, inr}
 use Rattle.std.proofs.Common.{None as Nothing}
 use Rattle.std.specs.List.{Contains}
 use Rattle.std.proofs.lemmas.Bool.{cases_lt, cases_Bool}
@@ -31,10 +31,10 @@ use Rattle.rv_rise.specs.Shown.{IsShownAfter}
 use Rattle.rv_rise.specs.Limits.{limit_at, AreLoosened, AreAmong, HasChanged, room}
 use Rattle.rv_rise.specs.Sides.{rows_with}
 use Rattle.rv_rise.specs.Opening.{IsOpened}
-use Rattle.rv_rise.specs.Rounds.{IsFrameOf, IsSetting, IsHeld, IsKeptRisen, HasGrown, HasTaken, IsCaseIn, IsInCases, left_of, claim_in}
+use Rattle.rv_rise.specs.Rounds.{IsFrameOf, IsSetting, IsHeld, IsKeptRisen, IsAbove, HasGrown, HasTaken, IsCaseIn, IsInCases, left_of, claim_in}
 use Rattle.rv_rise.proofs.Listing.{IsRowAt, rows_with-has, rows_with-from}
 use Rattle.rv_rise.proofs.Loosening.{changed_le}
-use Rattle.rv_rise.proofs.Composing.{neither, some_of}
+use Rattle.rv_rise.proofs.Composing.{neither, some_of, above_same}
 use Rattle.rv_rise.proofs.Showing.{shown_right}
 
 -- limits stay among the thresholds
@@ -75,9 +75,10 @@ module _ (s : System) (is : IsSystem s) (f : Frame) (frame : IsFrameOf s f) (bas
   pub grown_shut : AreShutAtOnce premises → (c : Risen) → IsKeptRisen s f c → HasGrown s f base (IsIn case.condition) false c c
   grown_shut shut c kept = record {
     kept = kept;
+    above = above_same c;
     below = λ h k. k;
     still = λ e. refl;
-    held = λ e v i. record {
+    held = λ v i. record {
       next = λ t. absurd (none_taken shut v i t);
       rows = λ t. absurd (none_taken shut v i t);
     };
@@ -202,19 +203,25 @@ module _ (s : System) (is : IsSystem s) (f : Frame) (frame : IsFrameOf s f) (bas
     still : (fresh ≡ false) × (x.changed ≡ false) → new ≡ old
     still (a, b) = risen_same new old (is_reached ∙ ap (λ (y : Risen). y.reached) (took.still a)) (limits_still b)
 
-    held_row : (x.changed ≡ false) → (r : Row) → IsRowAt f.sides old.limits r → IsShownAfter premises case.updates r
-    held_row e r at =
+    above : IsAbove old new
+    above = record { reached = from_old; limits = λ k b e. rose k b e (cases_lt k (length old.limits)) }
+      where
+        rose : (k : ℕ) (b : ℤ) → limit_at new.limits k ≡ Some b → (k < length old.limits) ⊎ (length old.limits ≤ k)
+            → (a : ℤ) × (limit_at old.limits k ≡ Some a) × (a ≤ℤ b)
+        rose k b e (inl l) = let step = loosened.each k l in step.rises b e
+        rose k b e (inr m) = absurd (none-some b (sym (get_or_past new.limits k Nothing (let size = loosened.size in omega (arith, size, m))) ∙ e))
+
+    held_row : (r : Row) → IsRowAt f.sides new.limits r → IsShownAfter premises case.updates r
+    held_row r at =
         let size = kept.size in
         let l = at.there in
         let step = loosened.each at.place (omega (arith, size, l)) in
-        let shown = step.shown r.bound (ap (λ (os : List (Option ℤ)). limit_at os at.place) (limits_still e) ∙ at.limit) in
-        subst (λ (cs : List ℤ). IsShownAfter premises case.updates (bounded cs r.bound)) (sym at.side) shown
+        subst (λ (cs : List ℤ). IsShownAfter premises case.updates (bounded cs r.bound)) (sym at.side) (step.shown r.bound at.limit)
 
-    held : (fresh ≡ false) × (x.changed ≡ false) → (v : Valuation) → IsIn case.condition v → IsHeld s base (claim_in f old) v
-    held (a, b) v i = record {
-      next = λ t. ap (λ (y : Risen). has y.reached (s.next v)) (sym (still (a, b)))
-          ∙ from_set (s.next v) ((image.exact (s.next v)).1 (v, of.within v i, i, λ y state. refl));
-      rows = λ t r known. shown_there v i r (held_row b r (rows_with-from f.sides old.limits r known));
+    held : (v : Valuation) → IsIn case.condition v → IsHeld s base (claim_in f new) v
+    held v i = record {
+      next = λ t. from_set (s.next v) ((image.exact (s.next v)).1 (v, of.within v i, i, λ y state. refl));
+      rows = λ t r known. shown_there v i r (held_row r (rows_with-from f.sides new.limits r known));
     }
 
     -- there is less left, in all parts or in none
@@ -249,9 +256,10 @@ module _ (s : System) (is : IsSystem s) (f : Frame) (frame : IsFrameOf s f) (bas
     pub grown_open : HasGrown s f base (IsIn case.condition) (fresh || x.changed) old new
     grown_open = record {
       kept = new_kept;
+      above = above;
       below = λ m o d claim closed. below m o d claim closed;
       still = λ e. still (neither fresh x.changed e);
-      held = λ e v i. held (neither fresh x.changed e) v i;
+      held = held;
       less = less;
     }
 
@@ -261,11 +269,12 @@ pub grown_all_shut : (s : System) → IsSystem s → (f : Frame) → IsFrameOf s
     → HasGrown s f base (IsInCases cases (length cases)) false c c
 grown_all_shut s is f frame base from given setting cases are shut c kept = record {
   kept = kept;
+  above = above_same c;
   below = λ h k. k;
   still = λ e. refl;
-  held = λ e v (j, x, l, at, i).
+  held = λ v (j, x, l, at, i).
       let one = grown_shut s is f frame base from given setting x (record { case = are.each j x at; within = λ w h. are.within j x w at h }) (x.rows ++ given) refl
       (shown_right x.rows given _ shut) c kept in
-      one.held refl v i;
+      one.held v i;
   less = λ (e : false ≡ true). cc;
 }

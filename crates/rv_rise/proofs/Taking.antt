@@ -1,5 +1,7 @@
 -- A set that is taken into a claim.
 use Rattle.std.proofs.Common.{◌≡◌, ℕ, Bool, true, false, not, ◌&&◌, ◌||◌, refl, sym, ap, ◌∙◌, subst}
+use Rattle.std.proofs.Common.{Result, Ok, Err}
+use Rattle.std.specs.Prelude.{IfOk}
 use Rattle.rv_diagram.specs.Nodes.{Valuation}
 use Rattle.rv_diagram.specs.declared.frozen.Frozen.{Frozen}
 use Rattle.rv_proofs.specs.Systems.{System, HasSameState}
@@ -38,6 +40,10 @@ into_either false b e = e
 from_first : (a b : Bool) → a ≡ true → (a || b) ≡ true
 from_first true b e = refl
 from_first false b e = cc
+
+pub map_ok : {A E : Type 0} (o : Result A E) (P Q : A → Type 0) → ((r : A) → P r → Q r) → IfOk o P → IfOk o Q
+map_ok (Ok r) P Q f h = f r h
+map_ok (Err e) P Q f h = h
 
 module _ (s : System) (old : Risen) (set : Frozen) (control : IsControlSet s old.reached) where
   pub taken_none : ((v : Valuation) → fresh_of old.reached set v ≡ false) → HasTaken s set false old old

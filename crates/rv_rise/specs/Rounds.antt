@@ -1,5 +1,5 @@
 -- Rounds over the cases of a claim's control states, each of which loosens the claim.
-use Rattle.std.specs.Prelude.{◌≡◌, ◌⊎◌, ℕ, ◌+◌, ◌<◌, ◌≤◌, ◌^◌, List, ◌++◌, length, All, Bool, true, false, not, ◌&&◌, ◌||◌, Some, IsTrue, slice_get}
+use Rattle.std.specs.Prelude.{◌≡◌, ◌⊎◌, ℕ, ◌+◌, ◌<◌, ◌≤◌, ◌^◌, ℤ, ◌≤ℤ◌, List, ◌++◌, length, All, Bool, true, false, not, ◌&&◌, ◌||◌, Some, IsTrue, slice_get}
 use Rattle.std.specs.List.{Contains}
 use Rattle.std.specs.Int.RustNames.{unsigned_abs}
 use Rattle.rv_diagram.specs.Nodes.{Valuation, Diagrams}
@@ -21,7 +21,7 @@ use Rattle.rv_claims.specs.Order.{IsBelowClosed}
 use Rattle.rv_rise.specs.declared.frame.Frame.{Frame}
 use Rattle.rv_rise.specs.declared.risen.Risen.{Risen}
 use Rattle.rv_rise.specs.declared.rounds.Others.{Others}
-use Rattle.rv_rise.specs.Limits.{AreAmong, room}
+use Rattle.rv_rise.specs.Limits.{AreAmong, limit_at, room}
 use Rattle.rv_rise.specs.Shown.{IsShownAfter}
 use Rattle.rv_rise.specs.Sides.{AreSides, rows_with}
 
@@ -71,12 +71,18 @@ pub record IsKeptRisen (s : System) (f : Frame) (c : Risen) : Type 0 where
 unfoldable pub left_of : ℕ → Risen → Valuation → ℕ
 left_of states c v = missing states (has c.reached) v + room c.limits
 
--- A claim has grown, by what valuations do that are taken in the base claim. Where nothing has changed, these valuations are held.
+-- A claim is above another one: it has its control states, and each limit that is left has not fallen.
+pub record IsAbove (old new : Risen) : Type 0 where
+  pub reached : (v : Valuation) → IsIn old.reached v → IsIn new.reached v
+  pub limits : (k : ℕ) (b : ℤ) → limit_at new.limits k ≡ Some b → (a : ℤ) × (limit_at old.limits k ≡ Some a) × (a ≤ℤ b)
+
+-- A claim has grown, by what valuations do that are taken in the base claim. It holds them afterwards.
 pub record HasGrown (s : System) (f : Frame) (base : RowClaim) (inside : Valuation → Type 0) (changed : Bool) (old new : Risen) : Type 0 where
   pub kept : IsKeptRisen s f new
+  pub above : IsAbove old new
   pub below : IsBelowClosed s f.thresholds base → IsBelowClosed s f.thresholds (claim_in f old) → IsBelowClosed s f.thresholds (claim_in f new)
   pub still : changed ≡ false → new ≡ old
-  pub held : changed ≡ false → (v : Valuation) → inside v → IsHeld s base (claim_in f old) v
+  pub held : (v : Valuation) → inside v → IsHeld s base (claim_in f new) v
   pub less : changed ≡ true → (v : Valuation) → left_of s.states new v < left_of s.states old v
 
 -- A case of the system, within a set of control states.
@@ -88,10 +94,16 @@ pub record IsCaseIn (s : System) (from : Frozen) (c : Case) : Type 0 where
 abbrev pub IsInCases : List Case → ℕ → Valuation → Type 0
 IsInCases cases n v = (j : ℕ) × (c : Case) × (j < n) × (slice_get cases j ≡ Some c) × IsIn c.condition v
 
+-- A claim under way: it is below each closed one, and holds what initial control states do. No row counts there, so the claim that they are
+-- taken in does not matter.
+pub record IsRising (s : System) (f : Frame) (first : Frozen) (c : Risen) : Type 0 where
+  pub kept : IsKeptRisen s f c
+  pub below : IsBelowClosed s f.thresholds (claim_in f c)
+  pub held : (base : RowClaim) (v : Valuation) → IsIn first v → IsHeld s base (claim_in f c) v
+
 -- The claim has grown by a round: nothing has changed only where it is closed.
-pub record IsRound (s : System) (f : Frame) (changed : Bool) (old new : Risen) : Type 0 where
-  pub kept : IsKeptRisen s f new
-  pub below : IsBelowClosed s f.thresholds (claim_in f old) → IsBelowClosed s f.thresholds (claim_in f new)
+pub record IsRound (s : System) (f : Frame) (first : Frozen) (changed : Bool) (old new : Risen) : Type 0 where
+  pub rising : IsRising s f first new
   pub still : changed ≡ false → new ≡ old
   pub closed : changed ≡ false → IsRowClosed s (claim_in f old)
   pub less : changed ≡ true → (v : Valuation) → left_of s.states new v < left_of s.states old v

@@ -13,7 +13,7 @@ ghost use Rattle.rv_claims.specs.Order.{IsBelowClosed};
 ghost use Rattle.rv_rows.specs.Multipliers.{AreShutAtOnce};
 ghost use Rattle.rv_rise.specs.Limits.{AreFirst, AreOwn};
 ghost use Rattle.rv_rise.specs.Rounds.{IsGivenIn, IsSetting, IsKeptRisen, HasTaken, HasGrown, IsCaseIn, IsInCases, AreOthers, IsLeastRisen};
-ghost use Rattle.rv_rise.specs.Rounds.{IsRound, IsStart, claim_in};
+ghost use Rattle.rv_rise.specs.Rounds.{IsRising, IsRound, IsStart, claim_in};
 
 use crate::frame::Frame;
 use crate::limits::{Loosened, either};
@@ -195,8 +195,8 @@ fn others_of(
     })
 }
 
-/// A round over the cases of the claim's control states: of the initial ones, where its rows do not count, and of the others. Whether
-/// something has changed; where nothing has, the claim is closed.
+/// A round over the cases of the claim's control states that are not initial. Whether something has changed; where nothing has, the claim is
+/// closed.
 fn round(
     alloc: Global,
     store: &mut Store,
@@ -204,33 +204,26 @@ fn round(
     questions: &Questions,
     frame: &Frame,
     first: &Frozen,
-    from_first: &Many<Case>,
     claim: &mut Risen,
 ) -> Result<bool, StoreFault>
     requires { (s : System) × IsGivenIn s store.old relation.now questions.now frame.now
-        × IsStart s first.now from_first.now × IsKeptRisen s frame.now claim.old }
+        × IsInitialSet s first.now × IsRising s frame.now first.now claim.old }
     ensures grown { (s : System) → IsGivenIn s store.old relation.now questions.now frame.now
-        → IsStart s first.now from_first.now → IsKeptRisen s frame.now claim.old
-        → IfOk result (λ changed. IsRound s frame.now changed claim.old claim.new) }
+        → IsInitialSet s first.now → IsRising s frame.now first.now claim.old
+        → IfOk result (λ changed. IsRound s frame.now first.now changed claim.old claim.new) }
     ensures same { store.new ≡ store.old }
     ensures roomy { IsErrOf result StoreFault.Nodes → store.old.limit < 2 ^ (2 ^ store.old.variables) }
 {
-    let nothing = Many::new(alloc);
-    let none = Many::new(alloc);
     let others = others_of(alloc, store, relation, questions, frame, first, claim)?;
-    let one = by_cases(
-        alloc, store, relation, frame, first, &nothing, &none, from_first, claim,
-    )?;
     let Others {
         control,
         given,
         own,
         cases,
     } = others;
-    let two = by_cases(
+    by_cases(
         alloc, store, relation, frame, &control, &given, &own, &cases, claim,
-    )?;
-    Ok(either(one, two))
+    )
 }
 
 /// For each of so many left sides the least threshold, or none where there are none.
@@ -266,7 +259,32 @@ fn first_claim(
     Ok(Risen { reached, limits })
 }
 
-/// The least closed claim: rounds, until nothing changes.
+/// What rounds begin with: the first claim, loosened by the cases of the initial control states. No row counts there, so what it then holds of
+/// them it holds from there on, and they are not asked again.
+fn begin(
+    alloc: Global,
+    store: &mut Store,
+    relation: &Relation,
+    frame: &Frame,
+    first: &Frozen,
+    from_first: &Many<Case>,
+) -> Result<Risen, StoreFault>
+    requires { (s : System) × (q : QuestionsModel) × IsGivenIn s store.old relation.now q frame.now × IsStart s first.now from_first.now }
+    ensures rising { (s : System) (q : QuestionsModel) → IsGivenIn s store.old relation.now q frame.now
+        → IsStart s first.now from_first.now → IfOk result (IsRising s frame.now first.now) }
+    ensures same { store.new ≡ store.old }
+    ensures roomy { IsErrOf result StoreFault.Nodes → store.old.limit < 2 ^ (2 ^ store.old.variables) }
+{
+    let mut claim = first_claim(alloc, store, relation, frame)?;
+    let nothing = Many::new(alloc);
+    let none = Many::new(alloc);
+    let _changed = by_cases(
+        alloc, store, relation, frame, first, &nothing, &none, from_first, &mut claim,
+    )?;
+    Ok(claim)
+}
+
+/// The least closed claim: the cases of the initial control states, and then rounds, until nothing changes.
 pub fn closed_claim(
     alloc: Global,
     store: &mut Store,
@@ -282,12 +300,10 @@ pub fn closed_claim(
     ensures same { store.new ≡ store.old }
     ensures roomy { IsErrOf result StoreFault.Nodes → store.old.limit < 2 ^ (2 ^ store.old.variables) }
 {
-    let mut claim = first_claim(alloc, store, relation, frame)?;
+    let mut claim = begin(alloc, store, relation, frame, first, from_first)?;
     let mut more = true;
     while more {
-        more = round(
-            alloc, store, relation, questions, frame, first, from_first, &mut claim,
-        )?;
+        more = round(alloc, store, relation, questions, frame, first, &mut claim)?;
     }
     Ok(claim)
 }
