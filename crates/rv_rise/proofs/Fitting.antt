@@ -123,10 +123,7 @@ module _ (s : System) (is : IsSystem s) (case : Case) (of : IsCaseOf s case) whe
       premise_of_test s (row_at case.rows i) (is.rows some (get_or case.tests i 0) (row_at case.rows i) (t.known i (get_or case.tests i 0) at)
       (t.present i (get_or case.tests i 0) (row_at case.rows i) some at (slice_get-get_or case.rows i nothing l) of.some.1))
 
-  pub premises_fit : (given premises : List Row) → AreKept s given → premises ≡ case.rows ++ given → length premises < 2 ^ 32 → ArePremises premises
-  premises_fit given premises kept are few = record {
-    within = subst (λ (rs : List Row). All (RowWithin (2 ^ 60)) rs) (sym are)
-        (All-append (RowWithin (2 ^ 60)) case.rows given (All-from_get_or (RowWithin (2 ^ 60)) case.rows nothing test_row)
-        (All-weaker (λ (r : Row). (length r.coefficients ≡ s.memories) × Fits r) (RowWithin (2 ^ 60)) (λ r h. premise_of_kept r h.1) given kept.0));
-    few = few;
-  }
+  pub premises_fit : (given : List Row) → AreKept s given → All (RowWithin (2 ^ 60)) (case.rows ++ given)
+  premises_fit given kept =
+      All-append (RowWithin (2 ^ 60)) case.rows given (All-from_get_or (RowWithin (2 ^ 60)) case.rows nothing test_row)
+      (All-weaker (λ (r : Row). (length r.coefficients ≡ s.memories) × Fits r) (RowWithin (2 ^ 60)) (λ r h. premise_of_kept r h.1) given kept.0)

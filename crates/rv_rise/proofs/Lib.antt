@@ -6,6 +6,7 @@ pub mod Keeping
 pub mod Fitting
 pub mod Giving
 pub mod Taking
+pub mod Imagining
 pub mod Composing
 pub mod Stepping
 pub mod Rounding

@@ -31,7 +31,8 @@ use Rattle.rv_rise.specs.Orders.{IsLeastAbove}
 use Rattle.rv_rise.specs.Shown.{IsShownAfter}
 use Rattle.rv_rise.specs.Limits.{limit_at, AreFirst}
 use Rattle.rv_rise.specs.Sides.{rows_with}
-use Rattle.rv_rise.specs.Rounds.{IsFrameOf, IsSetting, IsHeld, IsKeptRisen, HasGrown, IsCaseIn, IsInCases, IsRising, IsRound, AreOthers, IsLeastRisen, left_of, claim_in}
+use Rattle.rv_rise.specs.Rounds.{IsFrameOf, IsSetting, IsHeld, IsKeptRisen, HasGrown, IsCaseIn, IsInCases, IsRising, IsRound, AreOthers, IsLeastRisen}
+use Rattle.rv_rise.specs.Rounds.{left_of, claim_in}
 use Rattle.rv_rise.proofs.Listing.{IsRowAt, rows_with-has, rows_with-from, rows_with-different}
 use Rattle.rv_rise.proofs.Fitting.{rows_kept}
 use Rattle.rv_rise.proofs.Composing.{held_above}
@@ -105,21 +106,22 @@ module _ (s : System) (is : IsSystem s) (f : Frame) (frame : IsFrameOf s f) (c :
       held : (base : RowClaim) (v : Valuation) → IsIn first v → IsHeld s base (claim_in f new) v
       held base v i = record {
         next = λ t. let h = there base v i t in h.next (taken base v i t);
-        rows = λ t r known. let h = there base v i t in subst (λ (rs : List Row). IsShownAfter rs (updates_of s v) r) (same base v i) (h.rows (taken base v i t) r known);
+        rows = λ t r known. let h = there base v i t in subst (λ (rs : List Row). IsShownAfter rs (updates_of s v) r) (same base v i)
+            (h.rows (taken base v i t) r known);
       }
 
-  module _ (o : Others) (others : AreOthers s f first c o) where
+  module _ (o : Others) (others : AreOthers s first c o) where
     apart : (v : Valuation) → IsIn o.control v → (has c.reached v ≡ true) × (has first v ≡ false)
     apart v i = both_parts (has c.reached v) (has first v) (sym (others.exact v) ∙ i)
 
     -- the others, with the claim's rows
-    pub setting_others : IsSetting s (claim_in f c) o.control o.given
-    setting_others = record {
+    pub setting_others : (given : List Row) → given ≡ rows_with f.sides c.limits → IsSetting s (claim_in f c) o.control given
+    setting_others given are = record {
       control = others.control;
       reached = λ v i. (apart v i).0;
-      premises = λ v i. premises_on s (claim_in f c) v (ticked v i (kept.ticked v (apart v i).0)) ∙ ap (λ (rs : List Row). rows_of s v ++ rs) (sym others.rows);
+      premises = λ v i. premises_on s (claim_in f c) v (ticked v i (kept.ticked v (apart v i).0)) ∙ ap (λ (rs : List Row). rows_of s v ++ rs) (sym are);
       states = λ v i. kept.states v (apart v i).0;
-      kept = subst (AreKept s) (sym others.rows) (rows_kept s f.sides frame.sides f.thresholds frame.small c.limits kept.among);
+      kept = subst (AreKept s) (sym are) (rows_kept s f.sides frame.sides f.thresholds frame.small c.limits kept.among);
     }
       where
         ticked : (v : Valuation) → IsIn o.control v → IsTrue (s.initial v) ⊎ (v 0 ≡ true) → v 0 ≡ true

@@ -158,11 +158,13 @@ shown_right rows others wanted shows =
     nothing = record { coefficients = []; bound = pos 0 }
 
 -- a greater bound is shown after the updates too
-pub shown_up : (rows : List Row) (forms : List Form) (cs : List ℤ) (a b : ℤ) → a ≤ℤ b → IsShownAfter rows forms (bounded cs a) → IsShownAfter rows forms (bounded cs b)
+pub shown_up : (rows : List Row) (forms : List Form) (cs : List ℤ) (a b : ℤ) → a ≤ℤ b → IsShownAfter rows forms (bounded cs a)
+    → IsShownAfter rows forms (bounded cs b)
 shown_up rows forms cs a b l (new, sub, shows) = (
   bounded new.coefficients (b -ℤ dot cs (map (λ f. f.constant) forms)),
   record { width = sub.width; coefficients = sub.coefficients; bound = refl },
-  shown_more rows new (bounded new.coefficients (b -ℤ dot cs (map (λ f. f.constant) forms))) (λ k. refl) (up new.bound a b (dot cs (map (λ f. f.constant) forms)) sub.bound l) shows,
+  shown_more rows new (bounded new.coefficients (b -ℤ dot cs (map (λ f. f.constant) forms))) (λ k. refl)
+      (up new.bound a b (dot cs (map (λ f. f.constant) forms)) sub.bound l) shows,
 )
   where
     up : (n a b d : ℤ) → n ≡ a -ℤ d → a ≤ℤ b → n ≤ℤ (b -ℤ d)

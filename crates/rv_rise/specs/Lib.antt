@@ -5,4 +5,5 @@ pub mod Still
 pub mod Sides
 pub mod Table
 pub mod Opening
+pub mod Imaging
 pub mod Rounds

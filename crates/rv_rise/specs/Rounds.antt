@@ -121,12 +121,10 @@ pub record HasTaken (s : System) (set : Frozen) (fresh : Bool) (old new : Risen)
   pub still : fresh ≡ false → new ≡ old
   pub less : fresh ≡ true → (v : Valuation) → missing s.states (has new.reached) v < missing s.states (has old.reached) v
 
--- The control states of a claim that are not initial, the claim's rows and limits, and the cases of these control states.
-pub record AreOthers (s : System) (f : Frame) (first : Frozen) (c : Risen) (o : Others) : Type 0 where
+-- The control states of a claim that are not initial, and the cases of these control states.
+pub record AreOthers (s : System) (first : Frozen) (c : Risen) (o : Others) : Type 0 where
   pub control : IsControlSet s o.control
   pub exact : (v : Valuation) → has o.control v ≡ (has c.reached v && not (has first v))
-  pub rows : o.given ≡ rows_with f.sides c.limits
-  pub own : o.own ≡ c.limits
   pub cases : AreCases s o.control o.cases
 
 -- The claim is the least closed one.

@@ -3,6 +3,7 @@ use Rattle.std.proofs.lemmas.Option.{none-some}
 use Rattle.rv_rows.specs.declared.linear.Row.{Row}
 use Rattle.rv_rise.specs.Limits.{limit_at}
 use Rattle.rv_rise.specs.Rounds.{IsSetting, claim_in}
+use Rattle.rv_rise.proofs.Imagining.{none_images}
 use Rattle.rv_rise.proofs.Rounding.{setting_first, rising_of}
 use Rattle.rv_rise.proofs.rounds.begin.Goals as goal
 
@@ -25,6 +26,7 @@ by_cases-requires-clause-known c =
           (setting_first s r.system c.args.frame.now given.frame c.in_ok-claim.claim first.0 c.args.first.now start.initial),
       first.0,
       start.cases,
+      none_images s c.args.first.now c.args.from_first.now _ _ c.in_ok-images.ensures c.len.ensures,
     )
 
 pub returns-clause-rising : goal.returns-clause-rising
@@ -35,4 +37,5 @@ returns-clause-rising c s q given start =
     c.in_ok-_changed._changed c.by_cases.new.claim
     (c.in_ok-_changed.ensures.grown s q (claim_in c.args.frame.now c.in_ok-claim.claim) given
     (subst (λ (rows : List Row). IsSetting s (claim_in c.args.frame.now c.in_ok-claim.claim) c.args.first.now rows) (sym c.new-nothing.ensures)
-    (setting_first s r.system c.args.frame.now given.frame c.in_ok-claim.claim first.0 c.args.first.now start.initial)) first.0 start.cases)
+    (setting_first s r.system c.args.frame.now given.frame c.in_ok-claim.claim first.0 c.args.first.now start.initial)) first.0 start.cases
+    (none_images s c.args.first.now c.args.from_first.now _ _ c.in_ok-images.ensures c.len.ensures))

@@ -3,13 +3,18 @@ use Rattle.rv_proofs.specs.Systems.{System}
 use Rattle.rv_proofs.specs.RowClaims.{RowClaim}
 use Rattle.rv_proofs.specs.Cases.{AreCases}
 use Rattle.rv_cases.specs.declared.asking.Questions.{Questions}
+use Rattle.rv_rise.specs.Imaging.{AreImages}
 use Rattle.rv_rise.specs.Rounds.{IsGivenIn, IsSetting, IsKeptRisen, HasGrown, IsInCases}
 use Rattle.rv_rise.proofs.rounds.by_cases.Given as goal
 
 abbrev pub invariant-loop-place : goal.invariant-loop-place
 invariant-loop-place l = record {
   same : l.store ≡ l.initial.store;
-  grown : (s : System) (q : Questions) (base : RowClaim) → IsGivenIn s l.initial.store l.relation q l.frame → IsSetting s base l.from l.given
-      → IsKeptRisen s l.frame l.initial.claim → AreCases s l.from l.cases
+  rows : l.rows ≡ l.fn.given;
+  grown : (s : System) (q : Questions) (base : RowClaim) → IsGivenIn s l.initial.store l.relation q l.frame → IsSetting s base l.from l.fn.given
+      → IsKeptRisen s l.frame l.initial.claim → AreCases s l.from l.cases → AreImages s l.from l.cases l.initial.images.items
       → HasGrown s l.frame base (IsInCases l.cases l.place) l.changed l.initial.claim l.claim;
+  images : (s : System) (q : Questions) (base : RowClaim) → IsGivenIn s l.initial.store l.relation q l.frame → IsSetting s base l.from l.fn.given
+      → IsKeptRisen s l.frame l.initial.claim → AreCases s l.from l.cases → AreImages s l.from l.cases l.initial.images.items
+      → AreImages s l.from l.cases l.images.items;
 }

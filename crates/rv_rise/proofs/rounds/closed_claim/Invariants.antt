@@ -1,13 +1,17 @@
 use Rattle.std.proofs.Common.{◌≡◌, ◌+◌, cond, false, length}
 use Rattle.rv_proofs.specs.Systems.{System}
 use Rattle.rv_proofs.specs.RowClaims.{IsRowClosed}
-use Rattle.rv_rise.specs.Rounds.{IsGivenIn, IsStart, IsRising, claim_in, left_of}
+use Rattle.rv_rise.specs.Imaging.{AreImages}
+use Rattle.rv_rise.specs.Rounds.{IsGivenIn, IsStart, IsRising, AreOthers, claim_in, left_of}
 use Rattle.rv_rise.proofs.rounds.closed_claim.Given as goal
 
 abbrev pub invariant-loop-more : goal.invariant-loop-more
 invariant-loop-more l = record {
   same : l.store ≡ l.fn.store;
   rising : (s : System) → IsGivenIn s l.fn.store l.relation l.questions l.frame → IsStart s l.first l.from_first → IsRising s l.frame l.first l.claim;
+  others : (s : System) → IsGivenIn s l.fn.store l.relation l.questions l.frame → IsStart s l.first l.from_first → AreOthers s l.first l.claim l.others;
+  images : (s : System) → IsGivenIn s l.fn.store l.relation l.questions l.frame → IsStart s l.first l.from_first
+      → AreImages s l.others.control l.others.cases l.images.items;
   closed : (s : System) → IsGivenIn s l.fn.store l.relation l.questions l.frame → IsStart s l.first l.from_first → l.more ≡ false
       → IsRowClosed s (claim_in l.frame l.claim);
 }

@@ -4,15 +4,9 @@ use Rattle.rv_cases.specs.Questions.{AreQuestions}
 use Rattle.rv_rise.proofs.Giving.{given_allowed}
 use Rattle.rv_rise.proofs.rounds.others_of.Goals as goal
 
-pub rows_of-requires : goal.rows_of-requires
-rows_of-requires c = let kept = c.requires.3 in kept.size
-
 pub cases-requires : goal.cases-requires
 cases-requires c =
-    let s = c.requires.0 in
-    let given = c.requires.1 in
-    let initial = c.requires.2 in
-    let kept = c.requires.3 in
+    let (s, f, given, initial, kept) = c.requires in
     let r = given.relation in
     let back : c.without.new.store ≡ c.args.store.now = c.without.ensures.same in (
       s,
@@ -23,7 +17,7 @@ cases-requires c =
     )
 
 pub returns-clause-others : goal.returns-clause-others
-returns-clause-others c s given initial kept =
+returns-clause-others c s f given initial kept =
     let r = given.relation in
     let p = r.parts in
     let back : c.without.new.store ≡ c.args.store.now = c.without.ensures.same in
@@ -32,8 +26,6 @@ returns-clause-others c s given initial kept =
     record {
       control = control;
       exact = w.exact;
-      rows = c.in_ok-given.ensures;
-      own = c.in_ok-own.ensures;
       cases = c.in_ok-cases.ensures.parted s r.system (subst (λ (d : Diagrams). AreQuestions s d c.args.questions.now) (sym back) given.questions)
           (given_allowed s c.args.store.now c.without.new.store c.args.relation.now r back c.parts.result.now c.parts.ensures) control;
     }
