@@ -4,6 +4,7 @@ pub mod Summing
 pub mod Numbers
 pub mod Weighted
 pub mod Tops
+pub mod Closest
 pub mod Crossing
 pub mod Shutting
 pub mod Building

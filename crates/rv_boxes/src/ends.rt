@@ -1,8 +1,7 @@
-ghost use Rattle.std.specs.Prelude.{◌≡◌, ◌⊎◌, ◌≤ℤ◌, ℕ, ◌<◌, ◌^◌, ℤ, pos, negsuc, length, IfOk, IfSome, MatchBool, Option};
-ghost use Rattle.std.specs.Int.RustNames.{unsigned_abs};
+ghost use Rattle.std.specs.Prelude.{◌≡◌, ◌≢◌, ◌⊎◌, ◌+◌, ◌≤ℤ◌, ℕ, ◌<◌, ◌≤◌, ◌^◌, pos, negsuc, length, IfOk, IfSome, IfNone, MatchBool, Option};
 ghost use Rattle.rv_rows.specs.Rows.{coefficient, row_at};
-ghost use Rattle.rv_boxes.specs.Ends.{IsEnd, IsEndAt, AreEnds};
-ghost use Rattle.rv_proofs.specs.Boxes.{IsUnitAt};
+ghost use Rattle.rv_boxes.specs.Ends.{IsOnlyColumn, IsEndWith, AreEndsAmong, AreEnds, end_at, no_end};
+ghost use Rattle.rv_proofs.specs.Boxes.{HasOneColumn};
 
 use rv_base::{Many, Memory};
 use rv_rows::{Row, number_at};
@@ -17,19 +16,33 @@ pub struct End {
     pub high: Option<u32>,
 }
 
-/// Whether the row has the number at the column and 0 at all others.
-pub fn is_unit(row: &Row, column: usize, number: i128) -> bool
-    ensures { MatchBool result (IsUnitAt row.now column number) (¬ IsUnitAt row.now column number) }
+/// Whether all coefficients of the row from this column on are 0.
+fn is_zero_from(row: &Row, first: usize) -> bool
+    ensures { MatchBool result ((n : ℕ) → first ≤ n → coefficient n row.now ≡ pos 0)
+        ((n : ℕ) × (first ≤ n) × (coefficient n row.now ≢ pos 0)) }
 {
-    if number_at(&row.coefficients, column) != number {
-        return false;
-    }
-    for other in 0..row.coefficients.len() {
-        if other != column && number_at(&row.coefficients, other) != 0 {
+    for column in first..row.coefficients.len() {
+        if number_at(&row.coefficients, column) != 0 {
             return false;
         }
     }
     true
+}
+
+/// The column of the coefficient that is other than 0, where there is exactly one.
+pub fn only_column(row: &Row) -> Option<usize>
+    ensures some { IfSome result (IsOnlyColumn row.now) }
+    ensures none { IfNone result (¬ HasOneColumn row.now) }
+{
+    for column in 0..row.coefficients.len() {
+        if number_at(&row.coefficients, column) != 0 {
+            if is_zero_from(row, column + 1) {
+                return Some(column);
+            }
+            return None;
+        }
+    }
+    None
 }
 
 /// The closer of the best premise so far and the given one.
@@ -52,18 +65,62 @@ fn closer(premises: &Many<Row>, best: Option<u32>, premise: u32) -> u32
     }
 }
 
-/// The premise that bounds one column alone most closely, with this number at it.
-fn end_of(premises: &Many<Row>, column: usize, number: i128) -> Option<u32>
-    requires few { length premises.now < 2 ^ 32 }
-    ensures { IsEnd premises.now (length premises.now) column number result }
+/// The ends of a column with one premise more, which has the number at the column and 0 at all others.
+fn end_with(premises: &Many<Row>, end: End, number: i128, premise: u32) -> End
+    requires there { premise < length premises.now }
+    requires low { (p : ℕ) → end.low ≡ Option.Some p → p < length premises.now }
+    requires high { (p : ℕ) → end.high ≡ Option.Some p → p < length premises.now }
+    ensures high { IsEndWith premises.now end.high number (pos 1) premise result.high }
+    ensures low { IsEndWith premises.now end.low number (negsuc 0) premise result.low }
 {
-    let mut best: Option<u32> = None;
-    for premise in 0..premises.len() {
-        if is_unit(premises.at(premise), column, number) {
-            best = Some(closer(premises, best, premise as u32));
-        }
+    if number == 1 {
+        let high = closer(premises, end.high, premise);
+        return End {
+            low: end.low,
+            high: Some(high),
+        };
     }
-    best
+    if number == -1 {
+        let low = closer(premises, end.low, premise);
+        return End {
+            low: Some(low),
+            high: end.high,
+        };
+    }
+    end
+}
+
+/// Takes one premise more into the ends of its column, where it has exactly one.
+fn take_premise(premises: &Many<Row>, premise: u32, ends: &mut Many<End>)
+    requires there { premise < length premises.now }
+    requires ends { AreEndsAmong premises.now premise (length ends.old) ends.old }
+    ensures { AreEndsAmong premises.now (premise + 1) (length ends.old) ends.new }
+{
+    let row = premises.at(premise as usize);
+    let Some(column) = only_column(row) else {
+        return;
+    };
+    if column < ends.len() {
+        let number = number_at(&row.coefficients, column);
+        let end = *ends.at(column);
+        let next = end_with(premises, end, number, premise);
+        ends.set(column, next);
+    }
+}
+
+/// As many columns without ends.
+fn no_ends(alloc: Global, columns: usize) -> Result<Many<End>, Memory>
+    ensures size { IfOk result (λ ends. length ends ≡ columns) }
+    ensures none { IfOk result (λ ends. (k : ℕ) → end_at ends k ≡ no_end) }
+{
+    let mut ends = Many::new(alloc);
+    for column in 0..columns {
+        ends.push(End {
+            low: None,
+            high: None,
+        })?;
+    }
+    Ok(ends)
 }
 
 /// The ends of each column of the box of the premises: what the premises with one coefficient say.
@@ -71,11 +128,9 @@ pub fn narrow(alloc: Global, premises: &Many<Row>, columns: usize) -> Result<Man
     requires few { length premises.now < 2 ^ 32 }
     ensures { IfOk result (AreEnds premises.now columns) }
 {
-    let mut ends = Many::new(alloc);
-    for column in 0..columns {
-        let high = end_of(premises, column, 1);
-        let low = end_of(premises, column, -1);
-        ends.push(End { low, high })?;
+    let mut ends = no_ends(alloc, columns)?;
+    for premise in 0..premises.len() {
+        take_premise(premises, premise as u32, &mut ends);
     }
     Ok(ends)
 }

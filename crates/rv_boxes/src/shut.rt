@@ -4,16 +4,15 @@ ghost use Rattle.std.specs.Int.RustNames.{unsigned_abs};
 ghost use Rattle.rv_rows.specs.Rows.{row_at, RowWithin, Holds};
 ghost use Rattle.rv_rows.specs.Forms.{number};
 ghost use Rattle.rv_rows.specs.declared.farkas.Weight.{Weight};
-ghost use Rattle.rv_proofs.specs.Boxes.{HasOneColumn};
 ghost use Rattle.rv_boxes.specs.Ends.{AreEnds, end_at};
 ghost use Rattle.rv_boxes.specs.Weighing.{IsInserted};
 ghost use Rattle.rv_boxes.specs.Boxed.{IsBoxed, ArePremises, IsCrossed, IsUncrossed, IsGreatest, IsOpenBox, IsRefutation};
 
-use crate::ends::{End, is_unit};
+use crate::ends::{End, only_column};
 use crate::peaks::{Peak, greatest};
 use crate::weights::with_weight;
 use rv_base::{Many, Memory};
-use rv_rows::{Multipliers, Row, Weight, number_at};
+use rv_rows::{Multipliers, Row, Weight};
 use std::alloc::Global;
 
 /// Whether the ends of a column exclude each other.
@@ -155,19 +154,6 @@ fn above(
     }))
 }
 
-/// Whether exactly one coefficient of the row is other than 0.
-fn has_one_column(row: &Row) -> bool
-    ensures { result ≡ true → HasOneColumn row.now }
-{
-    for column in 0..row.coefficients.len() {
-        let number = number_at(&row.coefficients, column);
-        if number != 0 {
-            return is_unit(row, column, number);
-        }
-    }
-    false
-}
-
 /// What refutes the premises where the least value of this one over the box is above its bound. One with one coefficient holds in all of the
 /// box, and is not looked at.
 fn shut_by(
@@ -185,7 +171,7 @@ fn shut_by(
         → ¬ Holds (row_at premises.now premise) point))) }
     ensures none { IfOk result (λ o. IfNone o ((point : List ℤ) × IsBoxed (length ends.now) premises.now point × Holds (row_at premises.now premise) point)) }
 {
-    if has_one_column(premises.at(premise as usize)) {
+    if let Some(_) = only_column(premises.at(premise as usize)) {
         return Ok(None);
     }
     let numbers = negated(alloc, &premises.at(premise as usize).coefficients)?;

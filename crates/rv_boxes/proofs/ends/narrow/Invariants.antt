@@ -1,5 +1,5 @@
-use Rattle.rv_boxes.specs.Ends.{AreEnds}
+use Rattle.rv_boxes.specs.Ends.{AreEndsAmong}
 use Rattle.rv_boxes.proofs.ends.narrow.Given as goal
 
-abbrev pub invariant-loop-column : goal.invariant-loop-column
-invariant-loop-column l = AreEnds l.premises l.column l.ends
+abbrev pub invariant-loop-premise : goal.invariant-loop-premise
+invariant-loop-premise l = AreEndsAmong l.premises l.premise l.columns l.ends
