@@ -3,6 +3,7 @@ ghost use Rattle.rv_rows.specs.Rows.{coefficient, row_at};
 ghost use Rattle.rv_boxes.specs.Ends.{IsOnlyColumn, IsEndWith, AreEndsAmong, AreEnds, end_at, no_end};
 ghost use Rattle.rv_proofs.specs.Boxes.{HasOneColumn};
 
+use crate::premises::Premises;
 use rv_base::{Many, Memory};
 use rv_rows::{Row, number_at};
 use std::alloc::Global;
@@ -46,7 +47,7 @@ pub fn only_column(row: &Row) -> Option<usize>
 }
 
 /// The closer of the best premise so far and the given one.
-fn closer(premises: &Many<Row>, best: Option<u32>, premise: u32) -> u32
+fn closer(premises: &Premises, best: Option<u32>, premise: u32) -> u32
     requires there { premise < length premises.now }
     requires best { (p : ℕ) → best ≡ Option.Some p → p < length premises.now }
     ensures kept { (best ≡ Option.Some result) ⊎ (result ≡ premise) }
@@ -66,7 +67,7 @@ fn closer(premises: &Many<Row>, best: Option<u32>, premise: u32) -> u32
 }
 
 /// The ends of a column with one premise more, which has the number at the column and 0 at all others.
-fn end_with(premises: &Many<Row>, end: End, number: i128, premise: u32) -> End
+fn end_with(premises: &Premises, end: End, number: i128, premise: u32) -> End
     requires there { premise < length premises.now }
     requires low { (p : ℕ) → end.low ≡ Option.Some p → p < length premises.now }
     requires high { (p : ℕ) → end.high ≡ Option.Some p → p < length premises.now }
@@ -91,7 +92,7 @@ fn end_with(premises: &Many<Row>, end: End, number: i128, premise: u32) -> End
 }
 
 /// Takes one premise more into the ends of its column, where it has exactly one.
-fn take_premise(premises: &Many<Row>, premise: u32, ends: &mut Many<End>)
+fn take_premise(premises: &Premises, premise: u32, ends: &mut Many<End>)
     requires there { premise < length premises.now }
     requires ends { AreEndsAmong premises.now premise (length ends.old) ends.old }
     ensures { AreEndsAmong premises.now (premise + 1) (length ends.old) ends.new }
@@ -124,7 +125,7 @@ fn no_ends(alloc: Global, columns: usize) -> Result<Many<End>, Memory>
 }
 
 /// The ends of each column of the box of the premises: what the premises with one coefficient say.
-pub fn narrow(alloc: Global, premises: &Many<Row>, columns: usize) -> Result<Many<End>, Memory>
+pub fn narrow(alloc: Global, premises: &Premises, columns: usize) -> Result<Many<End>, Memory>
     requires few { length premises.now < 2 ^ 32 }
     ensures { IfOk result (AreEnds premises.now columns) }
 {

@@ -16,7 +16,7 @@ ghost use Rattle.rv_boxes.specs.Certifying.{CanReach, IsJudgeable, IsBad, IsEntr
 use crate::ends::{End, narrow};
 use crate::frame::Frame;
 use crate::peaks::{Peak, greatest};
-use crate::premises::premises_of;
+use crate::premises::{Premises, told_rows};
 use crate::shut::shut_of;
 use rv_base::{Many, Memory};
 use rv_proofs::{Case, Entry, EntryKind};
@@ -26,7 +26,7 @@ use std::alloc::Global;
 /// The multipliers that prove a row after the updates: those of the greatest value of its left side before them.
 fn reach_row(
     alloc: Global,
-    premises: &Many<Row>,
+    premises: &Premises,
     ends: &Many<End>,
     updates: &Many<Form>,
     wanted: &Row,
@@ -54,7 +54,7 @@ fn reach_row(
 /// The multipliers that prove each of the rows after the updates.
 fn reach_rows(
     alloc: Global,
-    premises: &Many<Row>,
+    premises: &Premises,
     ends: &Many<End>,
     updates: &Many<Form>,
     wanted: &Many<Row>,
@@ -77,7 +77,7 @@ fn reach_rows(
 /// What happens in a case: it is dead where its box is shut, and else a step into location 1, or none where the observer is false there.
 fn kind_of(
     alloc: Global,
-    premises: &Many<Row>,
+    premises: &Premises,
     columns: usize,
     updates: &Many<Form>,
     wanted: &Many<Row>,
@@ -102,7 +102,7 @@ fn kind_of(
 /// A step into location 1, or none where the observer is false.
 fn step_of(
     alloc: Global,
-    premises: &Many<Row>,
+    premises: &Premises,
     ends: &Many<End>,
     updates: &Many<Form>,
     wanted: &Many<Row>,
@@ -139,7 +139,8 @@ fn entry_of(
     ensures none { (s : System) (c : BoxClaim) (from : FrozenModel) → IsJudgeable s frame.now c wanted.now → IsSetting s c from given.now
         → IsCaseIn s from case → IfOk result (λ o. IfNone o (IsBad s c)) }
 {
-    let premises = premises_of(alloc, given, &case, frame.tests)?;
+    let told = told_rows(alloc, &case.tests, &case.rows, frame.tests)?;
+    let premises = Premises::new(given, &told);
     let columns = frame.columns;
     let kind = kind_of(
         alloc,

@@ -18,7 +18,7 @@ ghost use Rattle.rv_boxes.specs.Layering.{IsOpening, IsCollected, IsTakenAt, IsN
 
 use crate::frame::Frame;
 use crate::opening::open_ends;
-use crate::premises::premises_of;
+use crate::premises::{Premises, told_rows};
 use crate::rounds::Others;
 use rv_base::{Many, Memory};
 use rv_diagram::{Frozen, Ref, Store, StoreFault};
@@ -57,7 +57,8 @@ fn with_case(
     ensures collected { (s : System) (c : BoxClaim) (from : FrozenModel) → IsOpening s store.old frame.now c from given.now → IsCaseIn s from case.now
         → IfOk result (IsCollected store.old store.new sum (λ v. IsIn case.now.condition v × IsTaken s c v)) }
 {
-    let premises = premises_of(alloc, given, case, frame.tests)?;
+    let told = told_rows(alloc, &case.tests, &case.rows, frame.tests)?;
+    let premises = Premises::new(given, &told);
     match open_ends(alloc, &premises, frame.columns)? {
         Some(_) => with_condition(store, &case.condition, sum),
         None => Ok(sum),

@@ -42,5 +42,6 @@ pub use ends::{End, narrow};
 pub use laws::{boxes_agree, boxes_are_accepted, closed_claims_reach};
 pub use pass::box_pass;
 pub use peaks::{Peak, greatest};
+pub use premises::Premises;
 pub use shut::shut_of;
 pub use thresholds::least_above;

@@ -11,9 +11,10 @@ ghost use Rattle.rv_boxes.specs.Limits.{IsLoosened, AreLoosened, HasChanged};
 
 use crate::ends::End;
 use crate::peaks::greatest;
+use crate::premises::Premises;
 use crate::thresholds::{is_below, least_above};
 use rv_base::{Many, Memory};
-use rv_rows::{Form, Row};
+use rv_rows::Form;
 use std::alloc::Global;
 
 /// Limits, and whether some of them have changed.
@@ -47,7 +48,7 @@ fn risen(thresholds: &Many<i128>, limit: i128, value: i128) -> Option<i128>
 /// A limit that is there, loosened by a form.
 fn loosened_from(
     alloc: Global,
-    premises: &Many<Row>,
+    premises: &Premises,
     ends: &Many<End>,
     form: &Form,
     thresholds: &Many<i128>,
@@ -73,7 +74,7 @@ fn loosened_from(
 /// A limit, loosened by a form.
 fn loosened_by(
     alloc: Global,
-    premises: &Many<Row>,
+    premises: &Premises,
     ends: &Many<End>,
     form: &Form,
     thresholds: &Many<i128>,
@@ -126,7 +127,7 @@ pub fn either(a: bool, b: bool) -> bool
 /// The limits, each loosened by the form of its memory.
 pub fn loosen(
     alloc: Global,
-    premises: &Many<Row>,
+    premises: &Premises,
     ends: &Many<End>,
     forms: &Many<Form>,
     thresholds: &Many<i128>,

@@ -12,9 +12,10 @@ ghost use Rattle.rv_boxes.specs.Opening.{AreOppositeForms, AreUpdates, IsOpened}
 use crate::ends::{End, narrow};
 use crate::frame::Frame;
 use crate::limits::{Loosened, loosen};
+use crate::premises::Premises;
 use crate::shut::shut_of;
 use rv_base::{Many, Memory};
-use rv_rows::{Form, Row};
+use rv_rows::Form;
 use std::alloc::Global;
 
 /// The limits after a case whose box is open.
@@ -30,7 +31,7 @@ pub struct Opened {
 /// premise's bound.
 pub fn open_ends(
     alloc: Global,
-    premises: &Many<Row>,
+    premises: &Premises,
     columns: usize,
 ) -> Result<Option<Many<End>>, Memory>
     requires premises { ArePremises columns premises.now }
@@ -76,7 +77,7 @@ fn opposite_forms(alloc: Global, forms: &Many<Form>) -> Result<Many<Form>, Memor
 fn loosen_lower(
     alloc: Global,
     frame: &Frame,
-    premises: &Many<Row>,
+    premises: &Premises,
     ends: &Many<End>,
     updates: &Many<Form>,
     lower: &Many<Option<i128>>,
@@ -100,7 +101,7 @@ fn loosen_lower(
 pub fn open_limits(
     alloc: Global,
     frame: &Frame,
-    premises: &Many<Row>,
+    premises: &Premises,
     updates: &Many<Form>,
     upper: &Many<Option<i128>>,
     lower: &Many<Option<i128>>,

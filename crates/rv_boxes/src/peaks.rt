@@ -8,9 +8,10 @@ ghost use Rattle.rv_boxes.specs.Weighing.{Rises, IsInserted};
 ghost use Rattle.rv_boxes.specs.Boxed.{ArePremises, IsUncrossed, IsTowards, IsLoose, IsSummed, IsGreatest, IsUnbounded};
 
 use crate::ends::End;
+use crate::premises::Premises;
 use crate::weights::with_weight;
 use rv_base::{Many, Memory};
-use rv_rows::{Row, Weight, number_at};
+use rv_rows::{Weight, number_at};
 use std::alloc::Global;
 
 /// The greatest value of a sum over a box, and the weights on the premises that prove it.
@@ -56,7 +57,7 @@ fn magnitude(number: i128) -> i128
 /// The sum with one more weight.
 fn with_end(
     alloc: Global,
-    premises: &Many<Row>,
+    premises: &Premises,
     sum: &Peak,
     premise: u32,
     by: i128,
@@ -77,7 +78,7 @@ fn with_end(
 /// The sum with the weight of one more column, or none where the column has no end.
 fn with_column(
     alloc: Global,
-    premises: &Many<Row>,
+    premises: &Premises,
     ends: &Many<End>,
     numbers: &Many<i128>,
     column: usize,
@@ -111,7 +112,7 @@ fn with_column(
 /// that prove it, or none where it has no greatest value. The box has a point.
 pub fn greatest(
     alloc: Global,
-    premises: &Many<Row>,
+    premises: &Premises,
     ends: &Many<End>,
     numbers: &Many<i128>,
 ) -> Result<Option<Peak>, Memory>

@@ -1,15 +1,61 @@
-//! The premises of a case: rows that are given, and then a row for each order test.
+//! The premises of a case: rows that are given, and then a row for each order test. Neither list is copied.
 
-ghost use Rattle.std.specs.Prelude.{◌≡◌, ◌<◌, ℕ, length, IfOk};
+ghost use Rattle.std.specs.Prelude.{◌≡◌, ◌<◌, ◌^◌, ◌++◌, ℕ, length, Some, IfOk, slice_get};
 ghost use Rattle.rv_rows.specs.Rows.{row_at};
 ghost use Rattle.rv_boxes.specs.Built.{nothing};
-ghost use Rattle.rv_boxes.specs.Opening.{HasTests, IsTold, ArePremisesOf};
+ghost use Rattle.rv_boxes.specs.Opening.{HasTests, IsTold};
 
-use crate::bounding::{appended, copy_row, copy_rows};
+use crate::bounding::copy_row;
 use rv_base::{Many, Memory};
-use rv_proofs::Case;
 use rv_rows::Row;
 use std::alloc::Global;
+use std::marker::Model;
+
+/// Rows that are given, and then a row for each order test. To a contract they are the list of them all.
+#[derive(Drop)]
+pub struct Premises<'a> {
+    given: &'a Many<Row>,
+    told: &'a Many<Row>,
+}
+
+impl<'a> Model for Premises<'a> {
+    ghost use Rattle.std.specs.Prelude.{List, ◌++◌};
+    ghost use Rattle.rv_rows.specs.declared.linear.Row.{Row};
+
+    ghost Value = { List Row };
+
+    ghost view = { λ p. p.given.now ++ p.told.now };
+}
+
+impl<'a> Premises<'a> {
+    /// The given rows, and then the others.
+    pub fn new(given: &'a Many<Row>, told: &'a Many<Row>) -> Premises<'a>
+        ensures { result ≡ given.now ++ told.now }
+    {
+        Premises { given, told }
+    }
+
+    /// How many premises there are.
+    pub fn len(&self) -> usize
+        requires { length self.now < 2 ^ 32 }
+        ensures { result ≡ length self.now }
+    {
+        self.given.len() + self.told.len()
+    }
+
+    /// The premise with this number, counted from 0, which must be there.
+    pub fn at(&self, premise: usize) -> &Row
+        requires { premise < length self.now }
+        ensures value { slice_get self.now premise ≡ Some result.now }
+    {
+        let first = self.given.len();
+        if premise < first {
+            self.given.at(premise)
+        } else {
+            self.told.at(premise - first)
+        }
+    }
+}
 
 /// As many rows `0 <= 0`.
 fn zero_rows(alloc: Global, many: usize) -> Result<Many<Row>, Memory>
@@ -26,8 +72,8 @@ fn zero_rows(alloc: Global, many: usize) -> Result<Many<Row>, Memory>
     Ok(rows)
 }
 
-/// One row for each test: its row where it is named, else `0 <= 0`.
-fn told_rows(
+/// One row for each order test: its row where it is named, else `0 <= 0`.
+pub fn told_rows(
     alloc: Global,
     tests: &Many<u32>,
     rows: &Many<Row>,
@@ -43,19 +89,4 @@ fn told_rows(
         told.set(test, row);
     }
     Ok(told)
-}
-
-/// The premises of a case beside given rows, where there are so many order tests.
-pub fn premises_of(
-    alloc: Global,
-    given: &Many<Row>,
-    case: &Case,
-    many: usize,
-) -> Result<Many<Row>, Memory>
-    requires { HasTests many case.now.tests case.now.rows }
-    ensures { IfOk result (ArePremisesOf many given.now case.now) }
-{
-    let told = told_rows(alloc, &case.tests, &case.rows, many)?;
-    let first = copy_rows(alloc, given)?;
-    appended(first, told)
 }

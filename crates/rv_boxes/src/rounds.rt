@@ -26,7 +26,7 @@ use crate::frame::Frame;
 use crate::known::{Known, know, nothing_known};
 use crate::limits::{Loosened, either};
 use crate::opening::{Opened, open_limits};
-use crate::premises::premises_of;
+use crate::premises::{Premises, told_rows};
 use crate::thresholds::least_above;
 use rv_base::{Many, Memory};
 use rv_cases::Questions;
@@ -140,7 +140,8 @@ fn by_case(
     ensures same { store.new ≡ store.old }
     ensures roomy { IsErrOf result StoreFault.Nodes → store.old.limit < 2 ^ (2 ^ store.old.variables) }
 {
-    let premises = premises_of(alloc, given, case, frame.tests)?;
+    let told = told_rows(alloc, &case.tests, &case.rows, frame.tests)?;
+    let premises = Premises::new(given, &told);
     let opened = open_limits(
         alloc,
         frame,

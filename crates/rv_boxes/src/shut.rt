@@ -10,13 +10,14 @@ ghost use Rattle.rv_boxes.specs.Boxed.{IsBoxed, ArePremises, IsCrossed, IsUncros
 
 use crate::ends::{End, only_column};
 use crate::peaks::{Peak, greatest};
+use crate::premises::Premises;
 use crate::weights::with_weight;
 use rv_base::{Many, Memory};
-use rv_rows::{Multipliers, Row, Weight};
+use rv_rows::{Multipliers, Weight};
 use std::alloc::Global;
 
 /// Whether the ends of a column exclude each other.
-fn is_crossed(premises: &Many<Row>, end: End) -> bool
+fn is_crossed(premises: &Premises, end: End) -> bool
     requires within { All (RowWithin (2 ^ 60)) premises.now }
     requires low { (p : ℕ) → end.low ≡ Option.Some p → p < length premises.now }
     requires high { (p : ℕ) → end.high ≡ Option.Some p → p < length premises.now }
@@ -29,7 +30,7 @@ fn is_crossed(premises: &Many<Row>, end: End) -> bool
 }
 
 /// Whether two bounds sum to less than 0.
-fn are_crossed(premises: &Many<Row>, low: u32, high: u32) -> bool
+fn are_crossed(premises: &Premises, low: u32, high: u32) -> bool
     requires within { All (RowWithin (2 ^ 60)) premises.now }
     requires low { low < length premises.now }
     requires high { high < length premises.now }
@@ -40,7 +41,7 @@ fn are_crossed(premises: &Many<Row>, low: u32, high: u32) -> bool
 }
 
 /// The bound of a premise.
-fn bound_at(premises: &Many<Row>, premise: u32) -> i128
+fn bound_at(premises: &Premises, premise: u32) -> i128
     requires within { All (RowWithin (2 ^ 60)) premises.now }
     requires there { premise < length premises.now }
     ensures value { result ≡ (row_at premises.now premise).bound }
@@ -59,7 +60,7 @@ fn is_negative(a: i128, b: i128) -> bool
 }
 
 /// The first column whose ends exclude each other.
-fn crossed_column(premises: &Many<Row>, ends: &Many<End>) -> Option<usize>
+fn crossed_column(premises: &Premises, ends: &Many<End>) -> Option<usize>
     requires within { All (RowWithin (2 ^ 60)) premises.now }
     requires ends { AreEnds premises.now (length ends.now) ends.now }
     ensures some { IfSome result (λ k. (k < length ends.now) × IsCrossed premises.now (end_at ends.now k)) }
@@ -129,7 +130,7 @@ pub fn negated(alloc: Global, numbers: &Many<i128>) -> Result<Many<i128>, Memory
 /// value of its left side with the other sign.
 fn above(
     alloc: Global,
-    premises: &Many<Row>,
+    premises: &Premises,
     ends: &Many<End>,
     numbers: &Many<i128>,
     premise: u32,
@@ -158,7 +159,7 @@ fn above(
 /// box, and is not looked at.
 fn shut_by(
     alloc: Global,
-    premises: &Many<Row>,
+    premises: &Premises,
     ends: &Many<End>,
     premise: u32,
 ) -> Result<Option<Multipliers>, Memory>
@@ -185,7 +186,7 @@ fn shut_by(
 /// its bound. None exactly where the box has a point and each premise holds at some point of it.
 pub fn shut_of(
     alloc: Global,
-    premises: &Many<Row>,
+    premises: &Premises,
     ends: &Many<End>,
 ) -> Result<Option<Multipliers>, Memory>
     requires premises { ArePremises (length ends.now) premises.now }
@@ -209,7 +210,7 @@ pub fn shut_of(
 /// What refutes the premises by the ends of a column.
 fn by_column(
     alloc: Global,
-    premises: &Many<Row>,
+    premises: &Premises,
     ends: &Many<End>,
     column: usize,
 ) -> Result<Option<Multipliers>, Memory>

@@ -1,4 +1,4 @@
-use Rattle.std.proofs.Common.{◌≡◌, ◌∙◌, Some, pos, negsuc, rules, arith, FitsSigned, sym, ap, subst}
+use Rattle.std.proofs.Common.{◌∙◌, pos, negsuc, rules, arith, FitsSigned, sym, ap, subst}
 use Rattle.std.specs.Int.{w128}
 use Rattle.std.proofs.lemmas.Int.{to_z-of_z}
 use Rattle.rv_rows.specs.declared.linear.Row.{Row}

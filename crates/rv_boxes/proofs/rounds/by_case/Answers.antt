@@ -6,8 +6,8 @@ use Rattle.rv_boxes.proofs.Fitting.{has_tests, are_updates}
 use Rattle.rv_boxes.proofs.Stepping.{premises_are, grown_open, grown_shut}
 use Rattle.rv_boxes.proofs.rounds.by_case.Goals as goal
 
-pub premises_of-requires : goal.premises_of-requires
-premises_of-requires c =
+pub told_rows-requires : goal.told_rows-requires
+told_rows-requires c =
     let (s, q, base, given, setting, kept, of, known) = c.requires in
     let r = given.relation in
     has_tests s r.system c.args.frame.now given.frame base c.args.from.now c.args.given.now setting c.args.case.now of
@@ -16,8 +16,8 @@ pub open_limits-requires-clause-premises : goal.open_limits-requires-clause-prem
 open_limits-requires-clause-premises c =
     let (s, q, base, given, setting, kept, of, known) = c.requires in
     let r = given.relation in
-    premises_are s r.system c.args.frame.now given.frame base c.args.from.now c.args.given.now setting c.args.case.now of c.in_ok-premises.premises
-    c.in_ok-premises.ensures
+    premises_are s r.system c.args.frame.now given.frame base c.args.from.now c.args.given.now setting c.args.case.now of c.new-premises.result
+    (record { told = c.in_ok-told.told; is_told = c.in_ok-told.ensures; are = c.new-premises.ensures })
 
 pub open_limits-requires-clause-few : goal.open_limits-requires-clause-few
 open_limits-requires-clause-few c =
@@ -58,8 +58,8 @@ returns-in-Some-clause-grown c s q base given setting kept of known =
     let opened = rw c.in-Some.is at c.in_ok-opened.ensures.some in
     subst (λ (b : Bool). HasGrown s c.args.frame.now base (IsIn c.args.case.now.condition) b c.args.claim.now c.take_limits.new.claim)
     (sym c.take_limits.ensures.changed)
-    (grown_open s r.system c.args.frame.now given.frame base c.args.from.now c.args.given.now setting c.args.case.now of c.in_ok-premises.premises
-    c.in_ok-premises.ensures
+    (grown_open s r.system c.args.frame.now given.frame base c.args.from.now c.args.given.now setting c.args.case.now of c.new-premises.result
+    (record { told = c.in_ok-told.told; is_told = c.in_ok-told.ensures; are = c.new-premises.ensures })
     c.args.claim.now c.take_image.new.claim c.take_limits.new.claim kept c.in-Some.limits opened set i c.in_ok-fresh-in-Some.fresh took
     c.take_limits.ensures.reached c.take_limits.ensures.upper c.take_limits.ensures.lower)
 
@@ -72,6 +72,6 @@ pub returns-clause-grown : goal.returns-clause-grown
 returns-clause-grown c s q base given setting kept of known =
     let r = given.relation in
     let shut = rw c.in-None.is at c.in_ok-opened.ensures.none in
-    grown_shut s r.system c.args.frame.now given.frame base c.args.from.now c.args.given.now setting c.args.case.now of c.in_ok-premises.premises
-    c.in_ok-premises.ensures shut
+    grown_shut s r.system c.args.frame.now given.frame base c.args.from.now c.args.given.now setting c.args.case.now of c.new-premises.result
+    (record { told = c.in_ok-told.told; is_told = c.in_ok-told.ensures; are = c.new-premises.ensures }) shut
     c.args.claim.now kept
