@@ -98,7 +98,7 @@ module _ (s : System) (f : Frame) (c : Claim) (first : Frozen) (from_first : Lis
   first_setting = let l = can.least in setting_first s can.system f can.frame c l.kept first initial_set
 
   pub others_setting : IsSetting s (claim_of c) o.control o.given
-  others_setting = let l = can.least in setting_others s can.system f can.frame c l.kept first initial_set o can.others
+  others_setting = let l = can.least in let os = can.others in setting_others s can.system f can.frame c l.kept first initial_set o.control o.given os.rest
 
   pub judgeable : IsJudgeable s f (claim_of c) o.given
   judgeable = let l = can.least in let m = l.least in let st = others_setting in record {
@@ -110,7 +110,17 @@ module _ (s : System) (f : Frame) (c : Claim) (first : Frozen) (from_first : Lis
   }
 
   pub covered : (v : Valuation) → IsTaken s (claim_of c) v → IsInCases from_first (length from_first) v ⊎ IsInCases o.cases (length o.cases) v
-  covered v t = let l = can.least in let st = can.start in in_a_case s can.system f can.frame c l.kept first initial_set o can.others from_first st.cases v t
+  covered v t =
+      let l = can.least in
+      let st = can.start in
+      let os = can.others in
+      go (in_a_case s can.system f can.frame c l.kept first initial_set o.control o.given os.rest from_first st.cases o.control o.cases os.cases
+      (λ u i. i) v t)
+    where
+      go : (IsInCases from_first (length from_first) v × IsIn first v) ⊎ (IsInCases o.cases (length o.cases) v × IsIn o.control v)
+          → IsInCases from_first (length from_first) v ⊎ IsInCases o.cases (length o.cases) v
+      go (inl (i, on)) = inl i
+      go (inr (i, on)) = inr i
 
   module _ (initial rest : Location) (one : IsPart s (claim_of c) first [] o.given initial) (two : IsPart s (claim_of c) o.control o.given o.given rest) where
     pub good_claim : IsGood s (claim_of c)
@@ -118,7 +128,7 @@ module _ (s : System) (f : Frame) (c : Claim) (first : Frozen) (from_first : Lis
       where
         go : (has first v ≡ true) ⊎ (has first v ≡ false) → IsTrue (s.observer v)
         go (inl i) = one.good v i t
-        go (inr n) = let os = can.others in two.good v (os.exact v ∙ and_not (has c.reached v) (has first v) t.reached n) t
+        go (inr n) = let os = can.others in let r = os.rest in two.good v (r.exact v ∙ and_not (has c.reached v) (has first v) t.reached n) t
 
     pub built_certificate : (x : Certificate) → x.locations ≡ initial ∷ rest ∷ [] → IsProof s x
     built_certificate x are = let l = can.least in let m = l.least in record {
@@ -137,8 +147,8 @@ module _ (s : System) (f : Frame) (c : Claim) (first : Frozen) (from_first : Lis
           locations = are;
           starts = λ v i. subst (λ (g : Frozen). IsIn g v) (sym one.control) ((initial_set.exact v).1 i);
           no_rows = one.entry;
-          others = λ v r denied. let os = can.others in
-              subst (λ (g : Frozen). IsIn g v) (sym two.control) (os.exact v ∙ and_not (has c.reached v) (has first v) r
+          others = λ v r denied. let os = can.others in let rest_is = os.rest in
+              subst (λ (g : Frozen). IsIn g v) (sym two.control) (rest_is.exact v ∙ and_not (has c.reached v) (has first v) r
               (not_first v denied (cases_Bool (has first v))));
           bounds = let st = others_setting in subst (AreBounds s (claim_of c)) (sym two.entry) st.bounds;
           initial_is = subst (λ (rows : List Row). IsBuiltLocation s (claim_of c) rows initial) (sym two.entry) one.built;

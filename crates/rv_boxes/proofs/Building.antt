@@ -57,13 +57,14 @@ all_each P given (r ∷ rs) [] h = All-nil P
 all_each P given (r ∷ rs) (m ∷ ms) h = All-cons P (record { given = given; wanted = after r; by = m }) (each after given rs ms) (h 0 r m refl refl)
     (all_each P given rs ms (λ n. h (suc n)))
 
-module _ (s : System) (c : BoxClaim) (l : Location) (e : Entry) (built : IsToldCase s l e) (claimed : IsClaimedAt s c l) where
+module _ (s : System) (c : BoxClaim) (l : Location) (e : Entry) (built : IsToldCase s e) (claimed : IsClaimedAt s c l) where
   -- a point of the premises' box is one of the valuation's
-  pub in_box : (v : Valuation) → IsIn e.condition v → (point : List ℤ) → IsBoxed s.columns (l.state ++ built.tests) point → IsInBox s c v point
-  in_box v i point b = record {
+  pub in_box : (v : Valuation) → IsIn e.condition v → IsIn l.control v → (point : List ℤ) → IsBoxed s.columns (l.state ++ built.tests) point
+      → IsInBox s c v point
+  in_box v i inside point b = record {
     size = b.size;
-    lower = λ on k x k_in at. lower k x at ((claimed.bounds v (built.control v i) on).lower k x k_in at);
-    upper = λ on k x k_in at. upper k x at ((claimed.bounds v (built.control v i) on).upper k x k_in at);
+    lower = λ on k x k_in at. lower k x at ((claimed.bounds v inside on).lower k x k_in at);
+    upper = λ on k x k_in at. upper k x at ((claimed.bounds v inside on).upper k x k_in at);
     narrow = λ t r t_in at one. narrow t r t_in at one (built.told.told t t_in);
   }
     where
@@ -109,12 +110,12 @@ module _ (s : System) (c : BoxClaim) (l : Location) (e : Entry) (built : IsToldC
           some_none : (r : Row) → Some r ≡ Nothing → ⊥
           some_none r f = cc
 
-  pub taken : IsOpenBox s.columns (l.state ++ built.tests) → (v : Valuation) → IsIn e.condition v → IsTaken s c v
-  taken o v i = record {
+  pub taken : IsOpenBox s.columns (l.state ++ built.tests) → (v : Valuation) → IsIn e.condition v → IsIn l.control v → IsTaken s c v
+  taken o v i inside = record {
     allowed = built.allowed v i;
-    reached = claimed.reached v (built.control v i);
+    reached = claimed.reached v inside;
     is_open = record {
-      some = (o.some.0, in_box v i o.some.0 o.some.1);
+      some = (o.some.0, in_box v i inside o.some.0 o.some.1);
       rows = λ t r t_in at. rows t r t_in at (built.told.told t t_in);
     };
   }
@@ -129,7 +130,7 @@ module _ (s : System) (c : BoxClaim) (l : Location) (e : Entry) (built : IsToldC
           let a = length-append l.state built.tests in
           let f : row_at (l.state ++ built.tests) (length l.state + t) ≡ r = test_at l.state built.tests t ∙ sym q in
           let (point, b, h) = o.each (length l.state + t) (omega arith) in
-          (point, in_box v i point b, subst (λ (u : Row). Holds u point) f h)
+          (point, in_box v i inside point b, subst (λ (u : Row). Holds u point) f h)
       rows t r t_in at (inr (absent, void)) = absurd (some_none r (sym at ∙ absent v i))
         where
           some_none : (r : Row) → Some r ≡ Nothing → ⊥
@@ -205,7 +206,7 @@ module _ (s : System) (c : BoxClaim) (l : Location) (e : Entry) (built : IsToldC
             (point, b, subst (λ (r : Row). Holds r point) (sym f) h)
 
 module _ (s : System) (is : IsSystem s) (c : BoxClaim) (closed : IsClosed s c) (l : Location) (wanted : List Row) (e : Entry)
-    (built : IsToldCase s l e) (claimed : IsClaimedAt s c l) where
+    (built : IsToldCase s e) (control : (v : Valuation) → IsIn e.condition v → IsIn l.control v) (claimed : IsClaimedAt s c l) where
   -- a premise of a test that multipliers name is settled
   test_rows : (i : Implication) → i.given ≡ l.state → All (λ w. (w.premise < length (l.state ++ built.tests))
       × ¬ IsVoid (row_at (l.state ++ built.tests) w.premise)) i.by.weights → AreTestRows s l e i built.tests
@@ -228,7 +229,7 @@ module _ (s : System) (is : IsSystem s) (c : BoxClaim) (closed : IsClosed s c) (
           record { known = inside; some = (built.some.0, scope_some); same = λ v sc. same v sc f (built.told.told t inside) }
         where
           scope_some : IsInScope s l e built.some.0
-          scope_some = record { allowed = built.allowed built.some.0 built.some.1; control = built.control built.some.0 built.some.1; condition = built.some.1 }
+          scope_some = record { allowed = built.allowed built.some.0 built.some.1; control = control built.some.0 built.some.1; condition = built.some.1 }
 
           same : (v : Valuation) → IsInScope s l e v → row_at (l.state ++ built.tests) w.premise ≡ row_at built.tests t
               → ((u : Valuation) → IsIn e.condition u → s.row u t ≡ Some (row_at built.tests t))
@@ -238,7 +239,7 @@ module _ (s : System) (is : IsSystem s) (c : BoxClaim) (closed : IsClosed s c) (
           same v sc f (inr (absent, void)) = absurd (not_void (subst IsVoid (sym (f ∙ void)) (record { zeros = λ k. refl; bound = omega (arith, ints) })))
 
   scope_some : IsInScope s l e built.some.0
-  scope_some = record { allowed = built.allowed built.some.0 built.some.1; control = built.control built.some.0 built.some.1; condition = built.some.1 }
+  scope_some = record { allowed = built.allowed built.some.0 built.some.1; control = control built.some.0 built.some.1; condition = built.some.1 }
 
   are_forms : (r : Row) → length r.coefficients ≡ s.memories → AreForms s l e (after r) built.forms
   are_forms r size = record { size = built.size; settled = λ k need. settled k need (cases_lt k s.memories) }
@@ -260,15 +261,16 @@ module _ (s : System) (is : IsSystem s) (c : BoxClaim) (closed : IsClosed s c) (
 
       after_holds : IsUpperRow c k r ⊎ IsLowerRow c k r → Holds r (values built.forms point)
       after_holds (inl (u, at)) =
-          let m = closed.upper built.some.0 (taken s c l e built claimed o built.some.0 built.some.1) k r.bound known at point
-          (in_box s c l e built claimed built.some.0 built.some.1 point boxed) in
+          let m = closed.upper built.some.0 (taken s c l e built claimed o built.some.0 built.some.1 (control built.some.0 built.some.1)) k r.bound known at
+          point
+          (in_box s c l e built claimed built.some.0 built.some.1 (control built.some.0 built.some.1) point boxed) in
           less _ _ _ _ (unit_value r k (pos 1) (values built.forms point) u) updated m
         where
           less : (d n y b : ℤ) → d ≡ pos 1 *ℤ n → n ≡ y → y ≤ℤ b → d ≤ℤ b
           less d n y b e f h = omega (arith, ints)
       after_holds (inr (u, (b, at, is_bound))) =
-          let m = closed.lower built.some.0 (taken s c l e built claimed o built.some.0 built.some.1) k b known at point
-          (in_box s c l e built claimed built.some.0 built.some.1 point boxed) in
+          let m = closed.lower built.some.0 (taken s c l e built claimed o built.some.0 built.some.1 (control built.some.0 built.some.1)) k b known at point
+          (in_box s c l e built claimed built.some.0 built.some.1 (control built.some.0 built.some.1) point boxed) in
           less _ _ _ _ _ (unit_value r k (negsuc 0) (values built.forms point) u) updated is_bound m
         where
           less : (d n y b x : ℤ) → d ≡ negsuc 0 *ℤ n → n ≡ y → x ≡ pos 0 -ℤ b → b ≤ℤ y → d ≤ℤ x
@@ -383,7 +385,7 @@ module _ (s : System) (is : IsSystem s) (c : BoxClaim) (closed : IsClosed s c) (
   leads good certificate rest at others (Go target reach) (one, o, count, proofs) = (
     rest,
     ap (slice_get certificate.locations) one ∙ at,
-    λ v sc. others (s.next v) (closed.next v (taken s c l e built claimed o v sc.condition))
+    λ v sc. others (s.next v) (closed.next v (taken s c l e built claimed o v sc.condition (control v sc.condition)))
         (λ starts. clash (s.next v 0) (is.unticked (s.next v) starts) (is.ticks v)),
   )
     where
@@ -395,7 +397,7 @@ module _ (s : System) (is : IsSystem s) (c : BoxClaim) (closed : IsClosed s c) (
   observed : IsGood s c → (kind : EntryKind) → IsBuiltKind s.columns (l.state ++ built.tests) built.forms wanted kind → IsStepKind kind
       → (v : Valuation) → IsInScope s l e v → IsTrue (s.observer v)
   observed good (Dead m) h step v sc = absurd step
-  observed good (Go target reach) (one, o, count, proofs) step v sc = good v (taken s c l e built claimed o v sc.condition)
+  observed good (Go target reach) (one, o, count, proofs) step v sc = good v (taken s c l e built claimed o v sc.condition (control v sc.condition))
   observed good (Loop first before_all around state) h step v sc = absurd h
 
 -- no entry is a loop
@@ -431,7 +433,7 @@ module _ (s : System) (is : IsSystem s) (c : BoxClaim) (closed : IsClosed s c) (
     counts = λ k l at. let b = location k l at in record {
       by_entry = b.count;
       by_first = record { some = λ loop. absurd (no_loop s l built.rest.entry b.entries loop); none = λ _. b.by_first };
-      entries = λ j e at_e. let h = b.entries j e at_e in counted s is c closed l built.rest.entry e h.here b.claimed certificate built.rest second
+      entries = λ j e at_e. let h = b.entries j e at_e in counted s is c closed l built.rest.entry e h.here h.control b.claimed certificate built.rest second
           refl e.kind h.kind;
     };
     few = rw built.locations (lit≤ tt);
@@ -446,7 +448,7 @@ module _ (s : System) (is : IsSystem s) (c : BoxClaim) (closed : IsClosed s c) (
       few = b.few;
       entries = λ j e at_e. let h = b.entries j e at_e in record {
         condition = h.here.condition;
-        by = ranged s is c closed l built.rest.entry e h.here b.claimed certificate built.rest second refl e.kind h.kind;
+        by = ranged s is c closed l built.rest.entry e h.here h.control b.claimed certificate built.rest second refl e.kind h.kind;
       };
     };
   }
@@ -487,7 +489,7 @@ module _ (s : System) (is : IsSystem s) (c : BoxClaim) (closed : IsClosed s c) (
   all_implied k j l e at =
       let b = location k l at.location in
       let h = b.entries j e at.entry in
-      implied s is c closed l built.rest.entry e h.here b.claimed certificate built.rest second refl built.bounds e.kind h.kind
+      implied s is c closed l built.rest.entry e h.here h.control b.claimed certificate built.rest second refl built.bounds e.kind h.kind
 
   pub accepted : IsAccepted s certificate
   accepted = record {
@@ -498,10 +500,10 @@ module _ (s : System) (is : IsSystem s) (c : BoxClaim) (closed : IsClosed s c) (
       covered = λ k l at. (location k l at).covered;
       settled = λ k j l e at. settled_from_implied s certificate l e (all_implied k j l e at);
       leads = λ k j l e at. let b = location k l at.location in let h = b.entries j e at.entry in
-          leads s is c closed l built.rest.entry e h.here b.claimed good certificate built.rest second built.others e.kind h.kind;
+          leads s is c closed l built.rest.entry e h.here h.control b.claimed good certificate built.rest second built.others e.kind h.kind;
       steps = λ k j l e at step. all_implied k j l e at;
     };
     observed = λ k j l e at step. let b = location k l at.location in let h = b.entries j e at.entry in
-        observed s is c closed l built.rest.entry e h.here b.claimed good e.kind h.kind step;
+        observed s is c closed l built.rest.entry e h.here h.control b.claimed good e.kind h.kind step;
     dead = λ k j l e at step. all_implied k j l e at;
   }

@@ -10,7 +10,7 @@ use Rattle.rv_rows.specs.declared.linear.Row.{Row}
 use Rattle.rv_rows.specs.Rows.{coefficient, row_at}
 use Rattle.rv_proofs.specs.Boxes.{HasOneColumn, IsUnitAt}
 use Rattle.rv_boxes.specs.declared.ends.End.{End}
-use Rattle.rv_boxes.specs.Ends.{IsOnlyColumn, IsClosest, IsEnd, IsCloser, IsEndWith, AreEnds, AreEndsAmong, end_at, no_end}
+use Rattle.rv_boxes.specs.Ends.{IsOnlyColumn, IsClosest, IsEnd, IsCloser, IsEndWith, AreEndsAmong, end_at, no_end}
 use Rattle.rv_boxes.proofs.BoxLemmas.{unit_has_one}
 
 not_one : pos 1 ≢ pos 0
@@ -149,21 +149,3 @@ module _ (rows : List Row) (n : ℕ) where
       where
         here : end_at (slice_set ends k next) k ≡ next
         here = get_or-set_same ends k next no_end inside
-
--- before the first premise there are no ends
-pub ends_start : (rows : List Row) (n : ℕ) (ends : List End) → length ends ≡ n → ((k : ℕ) → end_at ends k ≡ no_end) → AreEndsAmong rows 0 n ends
-ends_start rows n ends size none = record {
-  size = size;
-  high = λ k l. subst (λ (x : End). IsEnd rows 0 k (pos 1) x.high) (sym (none k)) (record { some = tt; none = λ j m. absurd (omega (arith, m)) });
-  low = λ k l. subst (λ (x : End). IsEnd rows 0 k (negsuc 0) x.low) (sym (none k)) (record { some = tt; none = λ j m. absurd (omega (arith, m)) });
-}
-
--- after the last one they are all
-pub ends_all : (rows : List Row) (many n : ℕ) (ends : List End) → many ≡ length rows → AreEndsAmong rows many n ends → AreEnds rows n ends
-ends_all rows many n ends e are = record {
-  size = are.size;
-  each = λ k l. record {
-    high = subst (λ (m : ℕ). IsEnd rows m k (pos 1) (end_at ends k).high) e (are.high k l);
-    low = subst (λ (m : ℕ). IsEnd rows m k (negsuc 0) (end_at ends k).low) e (are.low k l);
-  };
-}

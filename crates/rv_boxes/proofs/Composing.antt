@@ -3,6 +3,7 @@ use Rattle.std.proofs.Common.{◌≡◌, ℕ, ◌+◌, ◌<◌, ◌≤◌, Bool,
 use Rattle.std.proofs.lemmas.Bool.{cases_Bool, cases_lt}
 use Rattle.std.proofs.lemmas.Option.{same_Some}
 use Rattle.rv_diagram.specs.Nodes.{Valuation}
+use Rattle.rv_diagram.specs.declared.frozen.Frozen.{Frozen}
 use Rattle.rv_proofs.specs.Systems.{System}
 use Rattle.rv_proofs.specs.Scopes.{IsIn}
 use Rattle.rv_proofs.specs.Boxes.{BoxClaim}
@@ -24,6 +25,7 @@ module _ (s : System) (f : Frame) (base : BoxClaim) where
   pub grown_none : (P : Valuation → Type 0) (c : Claim) → IsKeptClaim s f c → ((v : Valuation) → P v → ⊥) → HasGrown s f base P false c c
   grown_none P c kept none = record {
     kept = kept;
+    grows = λ v i. i;
     below = λ h k. k;
     still = λ e. refl;
     held = λ e v i. absurd (none v i);
@@ -33,6 +35,7 @@ module _ (s : System) (f : Frame) (base : BoxClaim) where
   pub grown_within : (P Q : Valuation → Type 0) (a : Bool) (x y : Claim) → ((v : Valuation) → Q v → P v) → HasGrown s f base P a x y → HasGrown s f base Q a x y
   grown_within P Q a x y w g = record {
     kept = g.kept;
+    grows = g.grows;
     below = g.below;
     still = g.still;
     held = λ e v i. g.held e v (w v i);
@@ -50,6 +53,7 @@ module _ (s : System) (f : Frame) (base : BoxClaim) where
       → HasGrown s f base (λ v. P v ⊎ Q v) (a || b) x z
   grown_both P Q a b x y z g h = record {
     kept = h.kept;
+    grows = λ v i. h.grows v (g.grows v i);
     below = λ m k. h.below m (g.below m k);
     still = λ e. h.still (neither a b e).1 ∙ g.still (neither a b e).0;
     held = λ e v i. held (neither a b e) v i;
@@ -78,3 +82,11 @@ more_cases cases n c v at (j, d, l, there, i) = go (cases_lt j n)
         let e : j ≡ n = omega (arith, l, more) in
         let same : d ≡ c = same_Some d c (sym there ∙ ap (slice_get cases) e ∙ at) in
         inr (subst (λ (x : Case). IsIn x.condition v) same i)
+
+pub more_inside : (cases : List Case) (from : Frozen) (n : ℕ) (c : Case) (v : Valuation) → slice_get cases n ≡ Some c → IsInCases cases (n + 1) v × IsIn from v
+    → (IsInCases cases n v × IsIn from v) ⊎ (IsIn c.condition v × IsIn from v)
+more_inside cases from n c v at (i, inside) = go (more_cases cases n c v at i)
+  where
+    go : IsInCases cases n v ⊎ IsIn c.condition v → (IsInCases cases n v × IsIn from v) ⊎ (IsIn c.condition v × IsIn from v)
+    go (inl before) = inl (before, inside)
+    go (inr here) = inr (here, inside)

@@ -1,7 +1,7 @@
 -- Cases that are cut out of others.
 use Rattle.std.proofs.Common.{◌≡◌, ◌⊎◌, ℕ, ◌+◌, ◌<◌, ◌≤◌, Bool, true, false, ◌&&◌, List, [], ◌∷◌, ◌++◌, length, Option, Some, slice_get, arith, refl, sym, ap, ◌∙◌, subst, inl, inr}
 use Rattle.std.proofs.Common.{None as Nothing}
-use Rattle.std.specs.Prelude.{MatchOption}
+use Rattle.std.specs.Prelude.{MatchOption, MatchBool}
 use Rattle.std.proofs.lemmas.Bool.{cases_lt}
 use Rattle.std.proofs.lemmas.List.{length_push, get_or_push, get_or_append_left}
 use Rattle.std.proofs.lemmas.Option.{same_Some, slice_get_within, slice_get-get_or, get_or_from_slice_get}
@@ -49,6 +49,11 @@ module _ (s0 s1 s2 s3 : Diagrams) (a b : Frozen) (one other both : ℕ) (p : Ans
     some = h.some;
   }
   meet_found Nothing h = λ v. sym (met v) ∙ h v
+
+  pub meet_some : (yes : Bool) → MatchBool yes ((v : Valuation) × (value_of s3.nodes both v ≡ true)) ((v : Valuation) → value_of s3.nodes both v ≡ false)
+      → MatchBool yes ((v : Valuation) × (both_of a b v ≡ true)) ((v : Valuation) → both_of a b v ≡ false)
+  meet_some true (v, e) = (v, sym (met v) ∙ e)
+  meet_some false none = λ v. sym (met v) ∙ none v
 
 -- a case within a set of control states
 module _ (s : System) (is : IsSystem s) (c : Case) (of : IsCaseOf s c) (control : Frozen) (set : IsControlSet s control) (f : Frozen)

@@ -16,7 +16,6 @@ use Rattle.rv_proofs.specs.Systems.{System, IsUpdate}
 use Rattle.rv_proofs.specs.Scopes.{IsIn}
 use Rattle.rv_proofs.specs.Boxes.{BoxClaim, IsUnitAt}
 use Rattle.rv_proofs.specs.Cases.{AreCases}
-use Rattle.rv_proofs.specs.declared.certificate.Location.{Location}
 use Rattle.rv_proofs.specs.declared.certificate.EntryKind.{EntryKind}
 use Rattle.rv_proofs.specs.declared.report.Case.{Case}
 use Rattle.rv_proofs.proofs.Rooms.{has_room}
@@ -50,14 +49,14 @@ first_width s (f ∷ fs) h = let u = All-head (IsUpdate s) f fs h in omega (arit
 
 module _ (s : System) (f : Frame) (c : BoxClaim) (wanted : List Row) (judge : IsJudgeable s f c wanted) (from : Frozen) (given : List Row)
     (setting : IsSetting s c from given) (case : Case) (of : IsCaseIn s from case) (premises : List Row) (pr : ArePremisesOf f.tests given case premises) where
-  abbrev told : IsToldCase s (place from given) (case_entry case)
-  told = told_case s judge.system f judge.frame c from given setting case of premises pr
+  abbrev told : IsToldCase s (case_entry case)
+  told = told_case s judge.system f judge.frame c from given setting case of.case premises pr
 
   updates : All (IsUpdate s) case.updates
-  updates = all_updates s judge.system f judge.frame c from given setting case of
+  updates = all_updates s judge.system f judge.frame case of.case
 
   many : length case.updates ≡ s.memories
-  many = many_updates s judge.system f judge.frame c from given setting case of
+  many = many_updates s judge.system f judge.frame case of.case
 
   -- each wanted row can be reached from an open box
   pub can_reach : IsOpenBox f.columns premises → (n : ℕ) (r : Row) → slice_get wanted n ≡ Some r → CanReach f.columns premises case.updates r
@@ -101,19 +100,18 @@ module _ (s : System) (f : Frame) (c : BoxClaim) (wanted : List Row) (judge : Is
         room = has_room s judge.system r case.updates size here.1 many updates;
         narrow = λ new sub. let w = sub.width in let l = first_width s case.updates updates in let g = judge.frame in omega (arith, w, l, g.columns);
         small = λ new sub. All-from_get_or (λ (x : ℤ). unsigned_abs x ≤ 2 ^ 41) new.coefficients (pos 0) (λ j l. small k side new sub j);
-        bounded = λ new sub free. closed_bounded s judge.system c judge.closed (place from given) wanted (case_entry case) told setting.claimed
+        bounded = λ new sub free. closed_bounded s judge.system c judge.closed (place from given) wanted (case_entry case) told of.within setting.claimed
             open_there r k known side new sub
             (subst (λ (ps : List Row). IsUnbounded s.columns ps new.coefficients) pr.are
             (subst (λ (n : ℕ). IsUnbounded n premises new.coefficients) judge.frame.columns free));
       }
 
-  -- the case as an entry of each such location
-  abbrev entry_told : (kind : EntryKind) (l : Location) → l.control ≡ from → IsToldCase s l (record { condition = case.condition; kind = kind })
-  entry_told kind l is = record {
+  -- the case as an entry
+  abbrev entry_told : (kind : EntryKind) → IsToldCase s (record { condition = case.condition; kind = kind })
+  entry_told kind = record {
     condition = told.condition;
     some = told.some;
     allowed = told.allowed;
-    control = λ v i. subst (λ (g : Frozen). IsIn g v) (sym is) (of.within v i);
     tests = told.tests;
     told = told.told;
     forms = told.forms;
@@ -126,17 +124,19 @@ module _ (s : System) (f : Frame) (c : BoxClaim) (wanted : List Row) (judge : Is
   entry_good kind built good = record {
     condition = refl;
     built = λ l control state. record {
-      here = entry_told kind l control;
+      here = entry_told kind;
+      control = λ v i. subst (λ (g : Frozen). IsIn g v) (sym control) (of.within v i);
       kind = subst (λ (rows : List Row). IsBuiltKind s.columns (rows ++ pr.told) case.updates wanted kind) (sym state)
           (subst (λ (ps : List Row). IsBuiltKind s.columns ps case.updates wanted kind) pr.are
           (subst (λ (n : ℕ). IsBuiltKind n premises case.updates wanted kind) judge.frame.columns built));
     };
-    good = λ v i t. of.case.observer v i ∙ good (taken_opens s judge.system f judge.frame c from given setting case of premises pr v i t);
+    good = λ v i t. of.case.observer v i ∙ good (taken_opens s judge.system f judge.frame c from given setting case of.case premises pr v i (of.within v i) t);
   }
 
   pub entry_bad : IsOpenBox f.columns premises → case.observer ≡ false → IsBad s c
   entry_bad o bad = (
     of.case.some.0,
-    all_taken s judge.system f judge.frame c from given setting case of premises pr o of.case.some.0 of.case.some.1,
+    all_taken s judge.system f judge.frame c from given setting case of.case premises pr o of.case.some.0 of.case.some.1
+        (of.within of.case.some.0 of.case.some.1),
     of.case.observer of.case.some.0 of.case.some.1 ∙ bad,
   )

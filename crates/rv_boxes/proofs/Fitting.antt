@@ -27,8 +27,9 @@ use Rattle.rv_proofs.proofs.Rooms.{premise_of_test, premise_of_kept}
 use Rattle.rv_boxes.specs.declared.frame.Frame.{Frame}
 use Rattle.rv_boxes.specs.Boxed.{ArePremises}
 use Rattle.rv_boxes.specs.Built.{nothing, IsToldCase, IsUpperRow, IsLowerRow}
-use Rattle.rv_boxes.specs.Opening.{IsFrameOf, IsTold, HasTests, AreUpdates}
-use Rattle.rv_boxes.specs.Rounds.{place, IsSetting, IsCaseIn}
+use Rattle.rv_boxes.specs.Opening.{IsFrameOf, IsTold, HasTests, AreUpdates, AreOppositeForms}
+use Rattle.rv_proofs.specs.Cases.{IsCaseOf}
+use Rattle.rv_boxes.specs.Rounds.{IsSetting}
 
 -- a number is in a list, with its place, or it is not
 find_in : (xs : List ℕ) (t : ℕ) → ((i : ℕ) × (slice_get xs i ≡ Some t)) ⊎ ((i : ℕ) → slice_get xs i ≡ Some t → ⊥)
@@ -61,6 +62,23 @@ update_at s v d (suc n) k l = go (update_at s v d n k) (cases_lt k n)
         ap (λ (x : ℕ). get_or (updates_among s v n ++ s.update v n ∷ []) x d) (e ∙ sym (updates_long s v n))
         ∙ get_or-append_seam (updates_among s v n) (s.update v n) [] d ∙ ap (s.update v) (sym e)
 
+-- the opposites of updates can be updates
+pub opposite_updates : (width many : ℕ) (forms opposites : List Form) → AreUpdates width many forms → AreOppositeForms forms opposites
+    → All (FormWithin (2 ^ 41)) opposites → AreUpdates width many opposites
+opposite_updates width many forms opposites are o within = record {
+  size = o.size ∙ are.size;
+  widths = All-from_get_or (λ (g : Form). length g.coefficients ≤ width) opposites none (λ k l.
+      let size = o.size in
+      let inside : k < length forms = omega (arith, l, size) in
+      let same = o.widths k inside in
+      let wide = are.widths k none inside in
+      omega (arith, same, wide));
+  sizes = within;
+}
+  where
+    none : Form
+    none = record { coefficients = []; constant = pos 0 }
+
 -- what a premise is asked for
 abbrev pub IsFit : System → Row → Type 0
 IsFit s r = RowWithin (2 ^ 60) r × (length r.coefficients ≤ s.columns) × All (λ c. unsigned_abs c ≤ 2 ^ 41) r.coefficients × HasUnit r
@@ -80,10 +98,9 @@ test_fits s r is = (premise_of_test s r is, omega (arith, is.wide), is.coefficie
 abbrev pub case_entry : Case → Entry
 case_entry case = record { condition = case.condition; kind = Dead by_none }
 
-module _ (s : System) (is : IsSystem s) (f : Frame) (frame : IsFrameOf s f) (base : BoxClaim) (from : Frozen) (given : List Row)
-    (setting : IsSetting s base from given) (case : Case) (of : IsCaseIn s from case) where
+module _ (s : System) (is : IsSystem s) (f : Frame) (frame : IsFrameOf s f) (case : Case) (of : IsCaseOf s case) where
   pub has_tests : HasTests f.tests case.tests case.rows
-  has_tests = let t = of.case.tests in record {
+  has_tests = let t = of.tests in record {
     known = λ i n at. let k = t.known i n at in omega (arith, k, frame.tests);
     rising = t.rising;
     counts = t.counts;
@@ -92,10 +109,10 @@ module _ (s : System) (is : IsSystem s) (f : Frame) (frame : IsFrameOf s f) (bas
   pub updates_of_case : (v : Valuation) (k : ℕ) → IsIn case.condition v → k < s.memories → s.update v k ≡ form_at case.updates k
   updates_of_case v k i known =
       sym (update_at s v (record { coefficients = []; constant = pos 0 }) s.memories k known)
-      ∙ ap (λ (fs : List Form). form_at fs k) (of.case.updates v i)
+      ∙ ap (λ (fs : List Form). form_at fs k) (of.updates v i)
 
   pub many_updates : length case.updates ≡ s.memories
-  many_updates = ap length (sym (of.case.updates of.case.some.0 of.case.some.1)) ∙ updates_long s of.case.some.0 s.memories
+  many_updates = ap length (sym (of.updates of.some.0 of.some.1)) ∙ updates_long s of.some.0 s.memories
 
   pub are_updates : AreUpdates f.columns s.memories case.updates
   are_updates = record {
@@ -109,13 +126,13 @@ module _ (s : System) (is : IsSystem s) (f : Frame) (frame : IsFrameOf s f) (bas
 
       each : (k : ℕ) → k < s.memories → (length (form_at case.updates k).coefficients ≤ f.columns) × FormWithin (2 ^ 41) (form_at case.updates k)
       each k known =
-          let u = is.updates of.case.some.0 k known in
-          let e = updates_of_case of.case.some.0 k of.case.some.1 known in
+          let u = is.updates of.some.0 k known in
+          let e = updates_of_case of.some.0 k of.some.1 known in
           subst (λ (g : Form). (length g.coefficients ≤ f.columns) × FormWithin (2 ^ 41) g) e (
             omega (arith, u.wide, frame.columns),
             (
               All-weaker (λ (c : ℤ). unsigned_abs c ≤ 2 ^ 40) (λ (c : ℤ). unsigned_abs c ≤ 2 ^ 41)
-                  (λ c m. omega (arith, m)) (s.update of.case.some.0 k).coefficients u.small.0,
+                  (λ c m. omega (arith, m)) (s.update of.some.0 k).coefficients u.small.0,
               let m = u.small.1 in omega (arith, m),
             ),
           )
@@ -123,8 +140,52 @@ module _ (s : System) (is : IsSystem s) (f : Frame) (frame : IsFrameOf s f) (bas
   pub all_updates : All (IsUpdate s) case.updates
   all_updates = All-from_get_or (IsUpdate s) case.updates (record { coefficients = []; constant = pos 0 }) (λ k l.
       let known : k < s.memories = omega (arith, l, many_updates) in
-      subst (IsUpdate s) (updates_of_case of.case.some.0 k of.case.some.1 known) (is.updates of.case.some.0 k known))
+      subst (IsUpdate s) (updates_of_case of.some.0 k of.some.1 known) (is.updates of.some.0 k known))
 
+  module _ (told : List Row) (is_told : IsTold f.tests (length case.tests) case.tests case.rows told) where
+    pub told_row : (t : ℕ) → t < s.tests
+        → ((v : Valuation) → IsIn case.condition v → s.row v t ≡ Some (row_at told t))
+        ⊎ (((v : Valuation) → IsIn case.condition v → s.row v t ≡ Nothing) × (row_at told t ≡ nothing))
+    told_row t known = go (find_in case.tests t)
+      where
+        go : ((i : ℕ) × (slice_get case.tests i ≡ Some t)) ⊎ ((i : ℕ) → slice_get case.tests i ≡ Some t → ⊥)
+            → ((v : Valuation) → IsIn case.condition v → s.row v t ≡ Some (row_at told t))
+            ⊎ (((v : Valuation) → IsIn case.condition v → s.row v t ≡ Nothing) × (row_at told t ≡ nothing))
+        go (inl (i, at)) =
+            let inside : i < length case.tests = slice_get_within case.tests i t at in
+            let counts = of.tests.counts in
+            let row_there = slice_get-get_or case.rows i nothing (omega (arith, counts, inside)) in
+            let e : row_at told t ≡ get_or case.rows i nothing = is_told.present i t (get_or case.rows i nothing) inside at row_there in
+            inl (λ v on. of.tests.present i t (get_or case.rows i nothing) v at row_there on ∙ ap Some (sym e))
+        go (inr none) = inr (
+          (λ v on. of.tests.absent t v known (λ (k, l, e). none k (slice_get-get_or case.tests k t l ∙ ap Some e)) on),
+          is_told.absent t (λ i l at. none i at),
+        )
+
+    abbrev pub here : IsToldCase s (case_entry case)
+    here = record {
+      condition = of.given.condition;
+      some = of.some;
+      allowed = of.given.allowed;
+      tests = told;
+      told = record { size = is_told.size ∙ frame.tests; told = told_row };
+      forms = case.updates;
+      size = many_updates;
+      updates = λ v k i known. updates_of_case v k i known;
+    }
+
+    told_fits : All (IsFit s) told
+    told_fits = All-from_get_or (IsFit s) told nothing (λ t l. let size = is_told.size in let known : t < s.tests = omega
+        (arith, l, size, frame.tests) in fit t known (told_row t known))
+      where
+        fit : (t : ℕ) → t < s.tests
+            → ((v : Valuation) → IsIn case.condition v → s.row v t ≡ Some (row_at told t))
+            ⊎ (((v : Valuation) → IsIn case.condition v → s.row v t ≡ Nothing) × (row_at told t ≡ nothing)) → IsFit s (row_at told t)
+        fit t known (inl same) = test_fits s (row_at told t) (is.rows of.some.0 t (row_at told t) known (same of.some.0 of.some.1))
+        fit t known (inr (absent, void)) = subst (IsFit s) (sym void) (nothing_fits s)
+
+module _ (s : System) (is : IsSystem s) (f : Frame) (frame : IsFrameOf s f) (base : BoxClaim) (from : Frozen) (given : List Row)
+    (setting : IsSetting s base from given) where
   given_fits : All (IsFit s) given
   given_fits = All-from_get_or (IsFit s) given nothing (λ p l. fit p l (setting.bounds p (row_at given p) (slice_get-get_or given p nothing l)))
     where
@@ -145,59 +206,17 @@ module _ (s : System) (is : IsSystem s) (f : Frame) (frame : IsFrameOf s f) (bas
           unit (inl u) = inl u.0
           unit (inr u) = inr u.0
 
-  module _ (told : List Row) (is_told : IsTold f.tests (length case.tests) case.tests case.rows told) where
-    pub told_row : (t : ℕ) → t < s.tests
-        → ((v : Valuation) → IsIn case.condition v → s.row v t ≡ Some (row_at told t))
-        ⊎ (((v : Valuation) → IsIn case.condition v → s.row v t ≡ Nothing) × (row_at told t ≡ nothing))
-    told_row t known = go (find_in case.tests t)
-      where
-        go : ((i : ℕ) × (slice_get case.tests i ≡ Some t)) ⊎ ((i : ℕ) → slice_get case.tests i ≡ Some t → ⊥)
-            → ((v : Valuation) → IsIn case.condition v → s.row v t ≡ Some (row_at told t))
-            ⊎ (((v : Valuation) → IsIn case.condition v → s.row v t ≡ Nothing) × (row_at told t ≡ nothing))
-        go (inl (i, at)) =
-            let inside : i < length case.tests = slice_get_within case.tests i t at in
-            let counts = of.case.tests.counts in
-            let row_there = slice_get-get_or case.rows i nothing (omega (arith, counts, inside)) in
-            let e : row_at told t ≡ get_or case.rows i nothing = is_told.present i t (get_or case.rows i nothing) inside at row_there in
-            inl (λ v on. of.case.tests.present i t (get_or case.rows i nothing) v at row_there on ∙ ap Some (sym e))
-        go (inr none) = inr (
-          (λ v on. of.case.tests.absent t v known (λ (k, l, e). none k (slice_get-get_or case.tests k t l ∙ ap Some e)) on),
-          is_told.absent t (λ i l at. none i at),
-        )
-
-    abbrev pub here : IsToldCase s (place from given) (case_entry case)
-    here = record {
-      condition = of.case.given.condition;
-      some = of.case.some;
-      allowed = of.case.given.allowed;
-      control = of.within;
-      tests = told;
-      told = record { size = is_told.size ∙ frame.tests; told = told_row };
-      forms = case.updates;
-      size = many_updates;
-      updates = λ v k i known. updates_of_case v k i known;
-    }
-
-    told_fits : All (IsFit s) told
-    told_fits = All-from_get_or (IsFit s) told nothing (λ t l. let size = is_told.size in let known : t < s.tests = omega
-        (arith, l, size, frame.tests) in fit t known (told_row t known))
-      where
-        fit : (t : ℕ) → t < s.tests
-            → ((v : Valuation) → IsIn case.condition v → s.row v t ≡ Some (row_at told t))
-            ⊎ (((v : Valuation) → IsIn case.condition v → s.row v t ≡ Nothing) × (row_at told t ≡ nothing)) → IsFit s (row_at told t)
-        fit t known (inl same) = test_fits s (row_at told t) (is.rows of.case.some.0 t (row_at told t) known (same of.case.some.0 of.case.some.1))
-        fit t known (inr (absent, void)) = subst (IsFit s) (sym void) (nothing_fits s)
-
-    pub premises_fit : ArePremises s.columns (given ++ told)
-    premises_fit =
-        let all : All (IsFit s) (given ++ told) = All-append (IsFit s) given told given_fits told_fits in
-        let few = setting.few in
-        let limits = is.limits in
-        let many = limits.tests in
-        record {
-          few = omega (arith, length-append given told, is_told.size, frame.tests, few, many);
-          within = All-weaker (IsFit s) (RowWithin (2 ^ 60)) (λ r h. h.0) (given ++ told) all;
-          wide = λ p l. (all p nothing l).1;
-          sizes = λ p l. (all p nothing l).2;
-          units = λ p l. (all p nothing l).3;
-        }
+  pub premises_fit : (case : Case) → IsCaseOf s case → (told : List Row) → IsTold f.tests (length case.tests) case.tests case.rows told
+      → ArePremises s.columns (given ++ told)
+  premises_fit case of told is_told =
+      let all : All (IsFit s) (given ++ told) = All-append (IsFit s) given told given_fits (told_fits s is f frame case of told is_told) in
+      let few = setting.few in
+      let limits = is.limits in
+      let many = limits.tests in
+      record {
+        few = omega (arith, length-append given told, is_told.size, frame.tests, few, many);
+        within = All-weaker (IsFit s) (RowWithin (2 ^ 60)) (λ r h. h.0) (given ++ told) all;
+        wide = λ p l. (all p nothing l).1;
+        sizes = λ p l. (all p nothing l).2;
+        units = λ p l. (all p nothing l).3;
+      }

@@ -11,7 +11,10 @@ use Rattle.rv_proofs.specs.declared.report.Case.{Case}
 use Rattle.rv_walk.specs.Ends.{has}
 use Rattle.rv_walk.specs.Extended.{fresh_of, IsExtended, IsWithout}
 use Rattle.rv_walk.specs.declared.sets.Extended.{Extended}
+use Rattle.rv_rows.specs.declared.linear.Row.{Row}
 use Rattle.rv_boxes.specs.declared.known.Known.{Known}
+use Rattle.rv_boxes.specs.declared.claim.Claim.{Claim}
+use Rattle.rv_boxes.specs.Rounds.{IsRest}
 use Rattle.rv_boxes.specs.Knowing.{IsWithin, IsWider, IsKnown, Knows}
 
 never : (a : Bool) → (a && not a) ≡ true → ⊥
@@ -26,6 +29,11 @@ not_out : (a b : Bool) → (a && not b) ≡ false → a ≡ true → b ≡ true
 not_out true true e d = refl
 not_out true false e d = cc
 not_out false b e d = cc
+
+both_parts : (a b : Bool) → (a && not b) ≡ true → (a ≡ true) × (b ≡ false)
+both_parts true false e = (refl, refl)
+both_parts true true e = cc
+both_parts false b e = cc
 
 and_out : (a b : Bool) → a ≡ true → b ≡ false → (a && not b) ≡ true
 and_out true false e d = refl
@@ -85,11 +93,31 @@ pub covered : (s : System) (m : ℕ) (first reached control : Frozen) (k : Known
 covered s m first reached control k knows without v i =
     let (on, off) = both_parts (has reached v) (has first v) (sym (without.exact v) ∙ i) in
     knows.covers v on off
-  where
-    both_parts : (a b : Bool) → (a && not b) ≡ true → (a ≡ true) × (b ≡ false)
-    both_parts true false e = (refl, refl)
-    both_parts true true e = cc
-    both_parts false b e = cc
+
+-- the control states of a claim that are not initial are still there once it has grown
+pub rest_kept : (s : System) (first : Frozen) (before c : Claim) (old new : Frozen) (given : List Row) → IsRest s first before old given
+    → IsWithin before.reached c.reached → ((v : Valuation) → has new v ≡ (has c.reached v && not (has first v))) → IsWithin old new
+rest_kept s first before c old new given rest within exact v i =
+    let (on, off) = both_parts (has before.reached v) (has first v) (sym (rest.exact v) ∙ i) in
+    exact v ∙ and_out (has c.reached v) (has first v) (within v on) off
+
+-- what was known is enough where these are the same
+pub knows_kept : (s : System) (first : Frozen) (before c : Claim) (control : Frozen) (given : List Row) (k : Known) → Knows s first before.reached k
+    → IsRest s first before control given → ((v : Valuation) → has control v ≡ (has c.reached v && not (has first v))) → Knows s first c.reached k
+knows_kept s first before c control given k knows rest exact = record {
+  known = knows.known;
+  covers = λ v i off.
+      let there = exact v ∙ and_out (has c.reached v) (has first v) i off in
+      let (on, out) = both_parts (has before.reached v) (has first v) (sym (rest.exact v) ∙ there) in
+      knows.covers v on out;
+}
+
+-- what is known holds the claim's control states that are not initial
+pub rest_within : (s : System) (first : Frozen) (c : Claim) (control : Frozen) (given : List Row) (k : Known) → Knows s first c.reached k
+    → IsRest s first c control given → IsWithin control k.from
+rest_within s first c control given k knows rest v i =
+    let (on, off) = both_parts (has c.reached v) (has first v) (sym (rest.exact v) ∙ i) in
+    knows.covers v on off
 
 -- and this goes for each set of the initial ones
 pub knows_same : (s : System) (first other reached : Frozen) (k : Known) → IsInitialSet s first → IsInitialSet s other → Knows s first reached k

@@ -24,5 +24,6 @@ mod Imagining
 pub mod Reaching
 pub mod Cuts
 pub mod Knowing
+pub mod Noting
 pub mod Ending
 pub mod Relating

@@ -25,14 +25,13 @@ use Rattle.rv_proofs.proofs.ControlReads.{control_same}
 use Rattle.rv_walk.specs.Ends.{has}
 use Rattle.rv_boxes.specs.declared.frame.Frame.{Frame}
 use Rattle.rv_boxes.specs.declared.claim.Claim.{Claim}
-use Rattle.rv_boxes.specs.declared.rounds.Others.{Others}
 use Rattle.rv_boxes.specs.Built.{nothing, IsUpperRow, IsLowerRow, AreBounds, HasBounds}
 use Rattle.rv_boxes.specs.Bounding.{IsLimitRow, AreBothRows}
 use Rattle.rv_boxes.specs.Orders.{IsBelowClosed, IsLeastAbove}
 use Rattle.rv_boxes.specs.Limits.{limit_at, AreAmong}
 use Rattle.rv_boxes.specs.Opening.{IsFrameOf, AreOpposite}
 use Rattle.rv_boxes.specs.Claiming.{turned, claim_with, claim_of}
-use Rattle.rv_boxes.specs.Rounds.{IsSetting, IsHeld, IsKeptClaim, HasGrown, IsInCases, IsRound, AreOthers, AreFirst, IsLeastClaim, left_of}
+use Rattle.rv_boxes.specs.Rounds.{IsSetting, IsHeld, IsKeptClaim, HasGrown, IsInCases, IsRound, IsRest, AreFirst, IsLeastClaim, left_of}
 use Rattle.rv_boxes.proofs.Stepping.{turned_back, opposite_in}
 
 -- the rows of both lists are those of the claim's bounds
@@ -163,66 +162,69 @@ module _ (s : System) (is : IsSystem s) (f : Frame) (frame : IsFrameOf s f) (c :
       none : (r : Row) → Nothing ≡ Some r → ⊥
       none r e = cc
 
-  module _ (o : Others) (others : AreOthers s first c o) where
-    apart : (v : Valuation) → IsIn o.control v → (has c.reached v ≡ true) × (has first v ≡ false)
-    apart v i = both_parts (has c.reached v) (has first v) (sym (others.exact v) ∙ i)
+  module _ (control : Frozen) (given : List Row) (rest : IsRest s first c control given) where
+    apart : (v : Valuation) → IsIn control v → (has c.reached v ≡ true) × (has first v ≡ false)
+    apart v i = both_parts (has c.reached v) (has first v) (sym (rest.exact v) ∙ i)
 
-    both_rows : AreBothRows c.upper c.lower s.memories o.given
-    both_rows = subst (λ (m : ℕ). AreBothRows c.upper c.lower m o.given) kept.uppers others.rows
+    both_rows : AreBothRows c.upper c.lower s.memories given
+    both_rows = subst (λ (m : ℕ). AreBothRows c.upper c.lower m given) kept.uppers rest.rows
 
     -- the others, with the rows of the bounds
-    pub setting_others : IsSetting s (claim_of c) o.control o.given
+    pub setting_others : IsSetting s (claim_of c) control given
     setting_others = record {
-      control = others.control;
+      control = rest.control;
       claimed = record {
         reached = λ v i. (apart v i).0;
-        bounds = λ v i on. rows_has s (has c.reached) c.upper c.lower o.given both_rows;
+        bounds = λ v i on. rows_has s (has c.reached) c.upper c.lower given both_rows;
       };
       ticked = λ v i. inr (ticked v i (kept.ticked v (apart v i).0));
       states = λ v i. kept.states v (apart v i).0;
-      bounds = rows_bounds s (has c.reached) c.upper c.lower o.given both_rows;
-      kept = rows_kept s (has c.reached) c.upper c.lower o.given both_rows f.thresholds f.opposites frame.small frame.turned_small kept.upper_among
+      bounds = rows_bounds s (has c.reached) c.upper c.lower given both_rows;
+      kept = rows_kept s (has c.reached) c.upper c.lower given both_rows f.thresholds f.opposites frame.small frame.turned_small kept.upper_among
           kept.lower_among few;
-      few = let n = rows_few s (has c.reached) c.upper c.lower o.given both_rows in omega (arith, n, few);
+      few = let n = rows_few s (has c.reached) c.upper c.lower given both_rows in omega (arith, n, few);
     }
       where
         few : s.memories ≤ 64
         few = let l = is.limits in l.memories
 
-        ticked : (v : Valuation) → IsIn o.control v → IsTrue (s.initial v) ⊎ (v 0 ≡ true) → v 0 ≡ true
+        ticked : (v : Valuation) → IsIn control v → IsTrue (s.initial v) ⊎ (v 0 ≡ true) → v 0 ≡ true
         ticked v i (inl starts) = absurd (clash (has first v) ((initial.exact v).1 starts) (apart v i).1)
         ticked v i (inr on) = on
 
-    -- each taken valuation is in a case of one of the two
-    pub in_a_case : (from_first : List Case) → AreCases s first from_first → (v : Valuation) → IsTaken s (claim_of c) v
-        → IsInCases from_first (length from_first) v ⊎ IsInCases o.cases (length o.cases) v
-    in_a_case from_first cases v t = go (cases_Bool (has first v))
-      where
-        go : (has first v ≡ true) ⊎ (has first v ≡ false) → IsInCases from_first (length from_first) v ⊎ IsInCases o.cases (length o.cases) v
-        go (inl i) = let (j, d, at, on) = cases.covered v t.allowed i in inl (j, d, slice_get_within from_first j d at, at, on)
-        go (inr n) =
-            let i : has o.control v ≡ true = others.exact v ∙ and_not (has c.reached v) (has first v) t.reached n in
-            let w = others.cases in
-            let (j, d, at, on) = w.covered v t.allowed i in inr (j, d, slice_get_within o.cases j d at, at, on)
+    -- each taken valuation is in a case of one of the two, and its control state in its set
+    module _ (from_first : List Case) (cases : AreCases s first from_first) (from : Frozen) (known : List Case) (are : AreCases s from known)
+        (within : (v : Valuation) → IsIn control v → IsIn from v) where
+      pub in_a_case : (v : Valuation) → IsTaken s (claim_of c) v
+          → (IsInCases from_first (length from_first) v × IsIn first v) ⊎ (IsInCases known (length known) v × IsIn control v)
+      in_a_case v t = go (cases_Bool (has first v))
+        where
+          go : (has first v ≡ true) ⊎ (has first v ≡ false)
+              → (IsInCases from_first (length from_first) v × IsIn first v) ⊎ (IsInCases known (length known) v × IsIn control v)
+          go (inl i) = let (j, d, at, on) = cases.covered v t.allowed i in inl ((j, d, slice_get_within from_first j d at, at, on), i)
+          go (inr n) =
+              let i : has control v ≡ true = rest.exact v ∙ and_not (has c.reached v) (has first v) t.reached n in
+              let (j, d, at, on) = are.covered v t.allowed (within v i) in inr ((j, d, slice_get_within known j d at, at, on), i)
 
-    pub round_of : (from_first : List Case) → AreCases s first from_first → (changed : Bool) (new : Claim)
-        → HasGrown s f (claim_of c) (λ v. IsInCases from_first (length from_first) v ⊎ IsInCases o.cases (length o.cases) v) changed c new
-        → IsRound s f changed c new
-    round_of from_first cases changed new g = record {
-      kept = g.kept;
-      below = λ h. g.below h h;
-      still = g.still;
-      closed = λ e. record {
-        initial = kept.initial;
-        next = λ v t. (held e v t).next t;
-        lower = λ v t. (held e v t).lower t;
-        upper = λ v t. (held e v t).upper t;
-      };
-      less = g.less;
-    }
-      where
-        held : changed ≡ false → (v : Valuation) → IsTaken s (claim_of c) v → IsHeld s (claim_of c) (claim_of c) v
-        held e v t = g.held e v (in_a_case from_first cases v t)
+      pub round_of : (changed : Bool) (new : Claim) → HasGrown s f (claim_of c)
+          (λ v. (IsInCases from_first (length from_first) v × IsIn first v) ⊎ (IsInCases known (length known) v × IsIn control v)) changed c new
+          → IsRound s f changed c new
+      round_of changed new g = record {
+        kept = g.kept;
+        grows = g.grows;
+        below = λ h. g.below h h;
+        still = g.still;
+        closed = λ e. record {
+          initial = kept.initial;
+          next = λ v t. (held e v t).next t;
+          lower = λ v t. (held e v t).lower t;
+          upper = λ v t. (held e v t).upper t;
+        };
+        less = g.less;
+      }
+        where
+          held : changed ≡ false → (v : Valuation) → IsTaken s (claim_of c) v → IsHeld s (claim_of c) (claim_of c) v
+          held e v t = g.held e v (in_a_case v t)
 
 -- a threshold is one whose opposite is an opposite
 opposite_out : (numbers opposites : List ℤ) → AreOpposite numbers opposites → (b : ℤ) → Contains opposites (pos 0 -ℤ b) → Contains numbers b

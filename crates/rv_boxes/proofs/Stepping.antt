@@ -19,7 +19,7 @@ use Rattle.rv_proofs.specs.Implied.{form_at}
 use Rattle.rv_proofs.specs.Ranges.{IsControlSet}
 use Rattle.rv_proofs.specs.Boxes.{BoxClaim, IsBoxClaim, IsInBox, IsTaken, IsClosed}
 use Rattle.rv_proofs.specs.Reached.{IsTighter}
-use Rattle.rv_proofs.specs.Cases.{IsImage}
+use Rattle.rv_proofs.specs.Cases.{IsImage, IsCaseOf}
 use Rattle.rv_proofs.specs.declared.report.Case.{Case}
 use Rattle.rv_proofs.proofs.Leasts.{box_within, taken_within}
 use Rattle.rv_walk.specs.Ends.{has}
@@ -31,9 +31,9 @@ use Rattle.rv_boxes.specs.Boxed.{IsBoxed, IsOpenBox, ArePremises}
 use Rattle.rv_boxes.specs.Built.{IsToldCase, AreBoundsAt, IsUpperRow, IsLowerRow}
 use Rattle.rv_boxes.specs.Orders.{IsBelowClosed, IsLeastAbove}
 use Rattle.rv_boxes.specs.Limits.{limit_at, IsLoosened, AreLoosened, AreAmong, HasChanged, room}
-use Rattle.rv_boxes.specs.Opening.{IsFrameOf, ArePremisesOf, AreOpposite, IsOpened}
+use Rattle.rv_boxes.specs.Opening.{IsFrameOf, ArePremisesOf, AreOpposite, AreOppositeForms, IsOpened}
 use Rattle.rv_boxes.specs.Claiming.{turned, claim_of}
-use Rattle.rv_boxes.specs.Rounds.{place, IsSetting, IsHeld, IsKeptClaim, HasGrown, HasTaken, IsCaseIn, left_of}
+use Rattle.rv_boxes.specs.Rounds.{place, IsSetting, IsHeld, IsKeptClaim, HasGrown, HasTaken, IsMet, left_of}
 use Rattle.rv_boxes.proofs.Building.{in_box, taken, boxed_back, open_back}
 use Rattle.rv_boxes.proofs.Fitting.{case_entry, here, updates_of_case, many_updates, premises_fit}
 use Rattle.rv_boxes.proofs.Composing.{neither, some_of}
@@ -131,16 +131,16 @@ claim_same a b e f g =
     ∙ ap (λ (x : List (Option ℤ)). let c : Claim = record { reached = b.reached; upper = b.upper; lower = x } in c) g
 
 module _ (s : System) (is : IsSystem s) (f : Frame) (frame : IsFrameOf s f) (base : BoxClaim) (from : Frozen) (given : List Row)
-    (setting : IsSetting s base from given) (case : Case) (of : IsCaseIn s from case) (premises : List Row)
+    (setting : IsSetting s base from given) (case : Case) (of : IsCaseOf s case) (premises : List Row)
     (pr : ArePremisesOf f.tests given case premises) where
-  abbrev pub told_case : IsToldCase s (place from given) (case_entry case)
-  told_case = here s is f frame base from given setting case of pr.told pr.is_told
+  abbrev pub told_case : IsToldCase s (case_entry case)
+  told_case = here s is f frame case of pr.told pr.is_told
 
   pub same_premises : given ++ pr.told ≡ premises
   same_premises = sym pr.are
 
-  pub bounds_at : (v : Valuation) → IsIn case.condition v → AreBoundsAt s base (place from given) v
-  bounds_at v i p l = go (setting.ticked v (of.within v i))
+  pub bounds_at : (v : Valuation) → IsIn from v → AreBoundsAt s base (place from given) v
+  bounds_at v inside p l = go (setting.ticked v inside)
     where
       go : (given ≡ []) ⊎ (v 0 ≡ true)
           → (v 0 ≡ true) × ((k : ℕ) × (k < s.memories) × (IsUpperRow base k (row_at given p) ⊎ IsLowerRow base k (row_at given p)))
@@ -148,31 +148,31 @@ module _ (s : System) (is : IsSystem s) (f : Frame) (frame : IsFrameOf s f) (bas
       go (inr on) = (on, (setting.bounds p (row_at given p) (slice_get-get_or given p (record { coefficients = []; bound = pos 0 }) l)).1)
 
   -- a point of the valuation's box is one of the box of the premises
-  pub boxed : (v : Valuation) → IsIn case.condition v → (point : List ℤ) → IsInBox s base v point → IsBoxed f.columns premises point
-  boxed v i point b =
+  pub boxed : (v : Valuation) → IsIn case.condition v → IsIn from v → (point : List ℤ) → IsInBox s base v point → IsBoxed f.columns premises point
+  boxed v i inside point b =
       subst (λ (n : ℕ). IsBoxed n premises point) (sym frame.columns)
       (subst (λ (ps : List Row). IsBoxed s.columns ps point) same_premises
-      (boxed_back s base (place from given) (case_entry case) told_case setting.claimed v i (bounds_at v i) point b))
+      (boxed_back s base (place from given) (case_entry case) told_case setting.claimed v i (bounds_at v inside) point b))
 
-  pub unboxed : (v : Valuation) → IsIn case.condition v → (point : List ℤ) → IsBoxed f.columns premises point → IsInBox s base v point
-  unboxed v i point b =
-      in_box s base (place from given) (case_entry case) told_case setting.claimed v i point
+  pub unboxed : (v : Valuation) → IsIn case.condition v → IsIn from v → (point : List ℤ) → IsBoxed f.columns premises point → IsInBox s base v point
+  unboxed v i inside point b =
+      in_box s base (place from given) (case_entry case) told_case setting.claimed v i inside point
       (subst (λ (ps : List Row). IsBoxed s.columns ps point) pr.are (subst (λ (n : ℕ). IsBoxed n premises point) frame.columns b))
 
-  -- where the box is open each valuation of the case is taken, and where it is shut none is
-  pub all_taken : IsOpenBox f.columns premises → (v : Valuation) → IsIn case.condition v → IsTaken s base v
-  all_taken o v i =
+  -- where the box is open each valuation of the case is taken whose control state is in the set, and where it is shut none is
+  pub all_taken : IsOpenBox f.columns premises → (v : Valuation) → IsIn case.condition v → IsIn from v → IsTaken s base v
+  all_taken o v i inside =
       taken s base (place from given) (case_entry case) told_case setting.claimed
-      (subst (λ (ps : List Row). IsOpenBox s.columns ps) pr.are (subst (λ (n : ℕ). IsOpenBox n premises) frame.columns o)) v i
+      (subst (λ (ps : List Row). IsOpenBox s.columns ps) pr.are (subst (λ (n : ℕ). IsOpenBox n premises) frame.columns o)) v i inside
 
-  pub taken_opens : (v : Valuation) → IsIn case.condition v → IsTaken s base v → IsOpenBox f.columns premises
-  taken_opens v i t =
+  pub taken_opens : (v : Valuation) → IsIn case.condition v → IsIn from v → IsTaken s base v → IsOpenBox f.columns premises
+  taken_opens v i inside t =
       subst (λ (n : ℕ). IsOpenBox n premises) (sym frame.columns)
       (subst (λ (ps : List Row). IsOpenBox s.columns ps) same_premises
-      (open_back s base (place from given) (case_entry case) told_case setting.claimed v i (bounds_at v i) t.is_open))
+      (open_back s base (place from given) (case_entry case) told_case setting.claimed v i (bounds_at v inside) t.is_open))
 
-  pub none_taken : ¬ IsOpenBox f.columns premises → (v : Valuation) → IsIn case.condition v → ¬ IsTaken s base v
-  none_taken shut v i t = shut (taken_opens v i t)
+  pub none_taken : ¬ IsOpenBox f.columns premises → (v : Valuation) → IsIn case.condition v → IsIn from v → ¬ IsTaken s base v
+  none_taken shut v i inside t = shut (taken_opens v i inside t)
 
   pub premises_are : ArePremises f.columns premises
   premises_are =
@@ -181,29 +181,35 @@ module _ (s : System) (is : IsSystem s) (f : Frame) (frame : IsFrameOf s f) (bas
       (premises_fit s is f frame base from given setting case of pr.told pr.is_told))
 
   -- a shut case leaves the claim as it is
-  pub grown_shut : ¬ IsOpenBox f.columns premises → (c : Claim) → IsKeptClaim s f c → HasGrown s f base (IsIn case.condition) false c c
+  pub grown_shut : ¬ IsOpenBox f.columns premises → (c : Claim) → IsKeptClaim s f c
+      → HasGrown s f base (λ v. IsIn case.condition v × IsIn from v) false c c
   grown_shut shut c kept = record {
     kept = kept;
+    grows = λ v i. i;
     below = λ h k. k;
     still = λ e. refl;
-    held = λ e v i. record {
-      next = λ t. absurd (none_taken shut v i t);
-      lower = λ t. absurd (none_taken shut v i t);
-      upper = λ t. absurd (none_taken shut v i t);
+    held = λ e v (i, inside). record {
+      next = λ t. absurd (none_taken shut v i inside t);
+      lower = λ t. absurd (none_taken shut v i inside t);
+      upper = λ t. absurd (none_taken shut v i inside t);
     };
     less = λ (e : false ≡ true). cc;
   }
 
-  module _ (old mid new : Claim) (kept : IsKeptClaim s f old) (x : Opened) (opened : IsOpened f premises case.updates old.upper old.lower x)
+  module _ (met : IsMet from case) (old mid new : Claim) (kept : IsKeptClaim s f old) (opposites : List Form)
+      (are_opposite : AreOppositeForms case.updates opposites) (x : Opened) (opened : IsOpened f premises case.updates opposites old.upper old.lower x)
       (set : Frozen) (image : IsImage s from case set) (fresh : Bool) (took : HasTaken s set fresh old mid)
       (is_reached : new.reached ≡ mid.reached) (is_upper : new.upper ≡ x.upper.limits) (is_lower : new.lower ≡ x.lower.limits) where
     abbrev some : Valuation
-    some = of.case.some.0
+    some = met.0
 
     some_in : IsIn case.condition some
-    some_in = of.case.some.1
+    some_in = met.1
 
-    all : (v : Valuation) → IsIn case.condition v → IsTaken s base v
+    some_from : IsIn from some
+    some_from = met.2
+
+    all : (v : Valuation) → IsIn case.condition v → IsIn from v → IsTaken s base v
     all = all_taken opened.is_open
 
     has_new : (v : Valuation) → has new.reached v ≡ (has set v || has old.reached v)
@@ -213,20 +219,19 @@ module _ (s : System) (is : IsSystem s) (f : Frame) (frame : IsFrameOf s f) (bas
     above = subst (λ (os : List (Option ℤ)). AreLoosened f.thresholds f.columns premises case.updates (length old.upper) old.upper os) (sym is_upper)
         opened.above
 
-    under : AreLoosened f.opposites f.columns premises opened.opposites (length old.lower) old.lower new.lower
-    under = subst (λ (os : List (Option ℤ)). AreLoosened f.opposites f.columns premises opened.opposites (length old.lower) old.lower os)
+    under : AreLoosened f.opposites f.columns premises opposites (length old.lower) old.lower new.lower
+    under = subst (λ (os : List (Option ℤ)). AreLoosened f.opposites f.columns premises opposites (length old.lower) old.lower os)
         (sym is_lower) opened.below
 
     -- what the forms are worth is what the memories become
     worth : (v : Valuation) → IsIn case.condition v → (k : ℕ) → k < s.memories → (point : List ℤ)
         → value (form_at case.updates k) point ≡ value (s.update v k) point
-    worth v i k known point = ap (λ (g : Form). value g point) (sym (updates_of_case s is f frame base from given setting case of v k i known))
+    worth v i k known point = ap (λ (g : Form). value g point) (sym (updates_of_case s is f frame case of v k i known))
 
     turned_worth : (v : Valuation) → IsIn case.condition v → (k : ℕ) → k < s.memories → (point : List ℤ)
-        → value (form_at opened.opposites k) point ≡ negsuc 0 *ℤ value (s.update v k) point
+        → value (form_at opposites k) point ≡ negsuc 0 *ℤ value (s.update v k) point
     turned_worth v i k known point =
-        let o = opened.are_opposite in
-        o.values k (omega (arith, known, many_updates s is f frame base from given setting case of)) point
+        are_opposite.values k (omega (arith, known, many_updates s is f frame case of)) point
         ∙ ap (λ z. negsuc 0 *ℤ z) (worth v i k known point)
 
     is_state_zero : 0 < s.states → (v w : Valuation) → HasSameState s v w → v 0 ≡ w 0
@@ -269,21 +274,21 @@ module _ (s : System) (is : IsSystem s) (f : Frame) (frame : IsFrameOf s f) (bas
       uppers = above.size ∙ kept.uppers;
       lowers = under.size ∙ kept.lowers;
       upper_among = loosened_among f.thresholds f.columns premises case.updates old.upper new.upper above kept.upper_among;
-      lower_among = loosened_among f.opposites f.columns premises opened.opposites old.lower new.lower under kept.lower_among;
+      lower_among = loosened_among f.opposites f.columns premises opposites old.lower new.lower under kept.lower_among;
     }
 
     module _ (m : IsBelowClosed s f.thresholds base) (o : IsBelowClosed s f.thresholds (claim_of old)) (d : BoxClaim)
         (claim : IsBoxClaim s f.thresholds d) (closed : IsClosed s d) where
-      taken_there : (v : Valuation) → IsIn case.condition v → IsTaken s d v
-      taken_there v i = taken_within s base d (m d claim closed) v (all v i)
+      taken_there : (v : Valuation) → IsIn case.condition v → IsIn from v → IsTaken s d v
+      taken_there v i inside = taken_within s base d (m d claim closed) v (all v i inside)
 
       boxed_there : (point : List ℤ) → IsBoxed f.columns premises point → IsInBox s d some point
-      boxed_there point b = box_within s base d (m d claim closed) some point (unboxed some some_in point b)
+      boxed_there point b = box_within s base d (m d claim closed) some point (unboxed some some_in some_from point b)
 
       below_reached : (v : Valuation) → (IsIn set v) ⊎ (IsIn old.reached v) → IsTrue (d.reached v)
       below_reached v (inl i) =
           let (w, there, on, same) = in_set v i in
-          sym (claim.reached (s.next w) v same) ∙ closed.next w (taken_there w on)
+          sym (claim.reached (s.next w) v same) ∙ closed.next w (taken_there w on there)
       below_reached v (inr i) = (o d claim closed).reached v i
 
       below_upper : (k : ℕ) (b : ℤ) → k < s.memories → d.upper k ≡ Some b → (a : ℤ) × (limit_at new.upper k ≡ Some a) × (a ≤ℤ b)
@@ -291,17 +296,17 @@ module _ (s : System) (is : IsSystem s) (f : Frame) (frame : IsFrameOf s f) (bas
           let size = kept.uppers in
           loosened_below f.thresholds f.columns premises (form_at case.updates k) (limit_at old.upper k) (limit_at new.upper k) b (claim.upper k b known at)
           (λ point bx. subst (λ (z : ℤ). z ≤ℤ b) (sym (worth some some_in k known point))
-          (closed.upper some (taken_there some some_in) k b known at point (boxed_there point bx)))
+          (closed.upper some (taken_there some some_in some_from) k b known at point (boxed_there point bx)))
           ((o d claim closed).upper k b known at) (above.each k (omega (arith, size, known)))
 
       below_lower : (k : ℕ) (b : ℤ) → k < s.memories → d.lower k ≡ Some b → (a : ℤ) × (turned (limit_at new.lower k) ≡ Some a) × (b ≤ℤ a)
       below_lower k b known at =
           let size = kept.lowers in
           let before = (o d claim closed).lower k b known at in
-          turn (loosened_below f.opposites f.columns premises (form_at opened.opposites k) (limit_at old.lower k) (limit_at new.lower k) (pos 0 -ℤ b)
+          turn (loosened_below f.opposites f.columns premises (form_at opposites k) (limit_at old.lower k) (limit_at new.lower k) (pos 0 -ℤ b)
           (opposite_in f.thresholds f.opposites frame.turned b (claim.lower k b known at))
-          (λ point bx. less (value (form_at opened.opposites k) point) (value (s.update some k) point) b (turned_worth some some_in k known point)
-          (closed.lower some (taken_there some some_in) k b known at point (boxed_there point bx)))
+          (λ point bx. less (value (form_at opposites k) point) (value (s.update some k) point) b (turned_worth some some_in k known point)
+          (closed.lower some (taken_there some some_in some_from) k b known at point (boxed_there point bx)))
           (pos 0 -ℤ before.0, turned_back (limit_at old.lower k) before.0 before.1, flip before.0 b before.2)
           (under.each k (omega (arith, size, known))))
         where
@@ -333,18 +338,19 @@ module _ (s : System) (is : IsSystem s) (f : Frame) (frame : IsFrameOf s f) (bas
     still : (fresh ≡ false) × (x.upper.changed ≡ false) × (x.lower.changed ≡ false) → new ≡ old
     still (a, b, c) = claim_same new old (is_reached ∙ ap (λ (y : Claim). y.reached) (took.still a)) (upper_still b) (lower_still c)
 
-    held : (fresh ≡ false) × (x.upper.changed ≡ false) × (x.lower.changed ≡ false) → (v : Valuation) → IsIn case.condition v → IsHeld s base (claim_of old) v
-    held (a, b, c) v i = record {
+    held : (fresh ≡ false) × (x.upper.changed ≡ false) × (x.lower.changed ≡ false) → (v : Valuation) → IsIn case.condition v × IsIn from v
+        → IsHeld s base (claim_of old) v
+    held (a, b, c) v (i, inside) = record {
       next = λ t. ap (λ (y : Claim). has y.reached (s.next v)) (sym (still (a, b, c)))
-          ∙ from_set (s.next v) ((image.exact (s.next v)).1 (v, of.within v i, i, λ y state. refl));
+          ∙ from_set (s.next v) ((image.exact (s.next v)).1 (v, inside, i, λ y state. refl));
       upper = λ t k z known at point bx.
           subst (λ (y : ℤ). y ≤ℤ z) (worth v i k known point)
           (let size = kept.uppers in unchanged_held f.thresholds f.columns premises case.updates old.upper new.upper above (upper_still b) k z
-          (omega (arith, size, known)) at point (boxed v i point bx));
+          (omega (arith, size, known)) at point (boxed v i inside point bx));
       lower = λ t k z known at point bx.
-          less (value (form_at opened.opposites k) point) (value (s.update v k) point) z (turned_worth v i k known point)
-          (let size = kept.lowers in unchanged_held f.opposites f.columns premises opened.opposites old.lower new.lower under (lower_still c) k
-          (pos 0 -ℤ z) (omega (arith, size, known)) (turned_back (limit_at old.lower k) z at) point (boxed v i point bx));
+          less (value (form_at opposites k) point) (value (s.update v k) point) z (turned_worth v i k known point)
+          (let size = kept.lowers in unchanged_held f.opposites f.columns premises opposites old.lower new.lower under (lower_still c) k
+          (pos 0 -ℤ z) (omega (arith, size, known)) (turned_back (limit_at old.lower k) z at) point (boxed v i inside point bx));
     }
       where
         less : (y x b : ℤ) → y ≡ negsuc 0 *ℤ x → y ≤ℤ (pos 0 -ℤ b) → b ≤ℤ x
@@ -395,9 +401,10 @@ module _ (s : System) (is : IsSystem s) (f : Frame) (frame : IsFrameOf s f) (bas
         go (inl d) = let l = upper_le in let m = lower_le in let n = reached_less d v in omega (arith, l, m, n)
         go (inr (_, d)) = rest (some_of x.upper.changed x.lower.changed d)
 
-    pub grown_open : HasGrown s f base (IsIn case.condition) (fresh || (x.upper.changed || x.lower.changed)) old new
+    pub grown_open : HasGrown s f base (λ v. IsIn case.condition v × IsIn from v) (fresh || (x.upper.changed || x.lower.changed)) old new
     grown_open = record {
       kept = new_kept;
+      grows = from_old;
       below = λ m o. below m o;
       still = λ e. still (parts e);
       held = λ e v i. held (parts e) v i;

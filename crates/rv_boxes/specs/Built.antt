@@ -64,22 +64,21 @@ IsBuiltKind width premises forms wanted (Go target reach) = (target ≡ 1) × Is
     × ((n : ℕ) (r : Row) (m : Multipliers) → slice_get wanted n ≡ Some r → slice_get reach n ≡ Some m → IsReached width premises forms r m)
 IsBuiltKind width premises forms wanted (Loop first before around state) = ⊥
 
--- A case as an entry: its condition is not empty and has allowed valuations of the location alone, throughout which the
--- tests and the updates are the same.
-pub record IsToldCase (s : System) (l : Location) (e : Entry) : Type 0 where
+-- A case as an entry: its condition is not empty and has allowed valuations alone, throughout which the tests and the updates are the same.
+pub record IsToldCase (s : System) (e : Entry) : Type 0 where
   pub condition : IsCondition s e.condition
   pub some : (v : Valuation) × IsIn e.condition v
   pub allowed : (v : Valuation) → IsIn e.condition v → IsTrue (s.allowed v)
-  pub control : (v : Valuation) → IsIn e.condition v → IsIn l.control v
   pub tests : List Row
   pub told : AreTold s e.condition tests
   pub forms : List Form
   pub size : length forms ≡ s.memories
   pub updates : (v : Valuation) (k : ℕ) → IsIn e.condition v → k < s.memories → s.update v k ≡ form_at forms k
 
--- an entry that is built from a case
+-- an entry that is built from a case, of the location's valuations alone
 pub record IsBuiltEntry (s : System) (l : Location) (wanted : List Row) (e : Entry) : Type 0 where
-  pub here : IsToldCase s l e
+  pub here : IsToldCase s e
+  pub control : (v : Valuation) → IsIn e.condition v → IsIn l.control v
   pub kind : IsBuiltKind s.columns (l.state ++ here.tests) here.forms wanted e.kind
 
 -- The location's control states are in the claim, whose bounds have rows in its state where the main tick is true.

@@ -1,5 +1,5 @@
 -- Control states whose cases are known.
-use Rattle.std.specs.Prelude.{◌≡◌, true, false}
+use Rattle.std.specs.Prelude.{◌≡◌, true, false, length}
 use Rattle.rv_diagram.specs.Nodes.{Valuation}
 use Rattle.rv_diagram.specs.declared.frozen.Frozen.{Frozen}
 use Rattle.rv_proofs.specs.Systems.{System}
@@ -9,10 +9,11 @@ use Rattle.rv_walk.specs.Ends.{has}
 use Rattle.rv_boxes.specs.declared.known.Known.{Known}
 use Rattle.rv_boxes.specs.declared.frame.Frame.{Frame}
 use Rattle.rv_boxes.specs.declared.claim.Claim.{Claim}
-use Rattle.rv_boxes.specs.declared.rounds.Others.{Others}
+use Rattle.rv_boxes.specs.declared.rounds.Around.{Around}
 use Rattle.rv_boxes.specs.Claiming.{claim_of}
 use Rattle.rv_boxes.specs.Orders.{IsBelowClosed}
-use Rattle.rv_boxes.specs.Rounds.{IsKeptClaim, AreOthers}
+use Rattle.rv_boxes.specs.Rounds.{IsKeptClaim, IsRest}
+use Rattle.rv_boxes.specs.Marking.{AreMarked}
 
 -- the first set is within the second
 abbrev pub IsWithin : Frozen → Frozen → Type 0
@@ -33,9 +34,15 @@ pub record Knows (s : System) (first reached : Frozen) (k : Known) : Type 0 wher
   pub known : IsKnown s k
   pub covers : (v : Valuation) → has reached v ≡ true → has first v ≡ false → has k.from v ≡ true
 
--- The first claim, with the cases of its control states that are not initial, cut out of the known ones.
-pub record IsBegun (s : System) (f : Frame) (first : Frozen) (c : Claim) (k : Known) (o : Others) : Type 0 where
+-- What a round over a claim goes over: the control states that are not initial, with the rows of the bounds, and the known cases, of which
+-- those are marked that have a valuation whose control state is among these.
+pub record AreAround (s : System) (f : Frame) (first : Frozen) (c : Claim) (a : Around) : Type 0 where
+  pub rest : IsRest s first c a.control a.given
+  pub knows : Knows s first c.reached a.known
+  pub marked : AreMarked f.tests a.control a.known.cases (length a.known.cases) a.marks
+
+-- The first claim, with what the first round goes over.
+pub record IsBegun (s : System) (f : Frame) (first : Frozen) (c : Claim) (a : Around) : Type 0 where
   pub kept : IsKeptClaim s f c
   pub below : IsBelowClosed s f.thresholds (claim_of c)
-  pub knows : Knows s first c.reached k
-  pub others : AreOthers s first c o
+  pub around : AreAround s f first c a

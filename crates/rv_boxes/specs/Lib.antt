@@ -10,6 +10,7 @@ pub mod Opening
 pub mod Claiming
 pub mod Imaging
 pub mod Rounds
+pub mod Marking
 pub mod Knowing
 pub mod Certifying
 pub mod Narrowed

@@ -10,6 +10,7 @@ use Rattle.rv_proofs.specs.Implied.{form_at}
 use Rattle.rv_proofs.specs.declared.report.Case.{Case}
 use Rattle.rv_boxes.specs.declared.frame.Frame.{Frame}
 use Rattle.rv_boxes.specs.declared.opening.Opened.{Opened}
+use Rattle.rv_boxes.specs.declared.opening.Told.{Told}
 use Rattle.rv_boxes.specs.Boxed.{IsOpenBox}
 use Rattle.rv_boxes.specs.Limits.{AreLoosened, HasChanged}
 use Rattle.rv_boxes.specs.Built.{nothing}
@@ -57,12 +58,16 @@ pub record AreUpdates (width many : ℕ) (forms : List Form) : Type 0 where
   pub widths : All (λ f. length f.coefficients ≤ width) forms
   pub sizes : All (FormWithin (2 ^ 41)) forms
 
+-- What is kept of a case: a row for each order test, and the opposites of its updates.
+pub record IsToldOf (many : ℕ) (c : Case) (t : Told) : Type 0 where
+  pub rows : IsTold many (length c.tests) c.tests c.rows t.rows
+  pub opposites : AreOppositeForms c.updates t.opposites
+  pub within : All (FormWithin (2 ^ 41)) t.opposites
+
 -- The box of the premises is open, and the limits are loosened by the updates, and by their opposites.
-pub record IsOpened (f : Frame) (premises : List Row) (updates : List Form) (upper lower : List (Option ℤ)) (x : Opened) : Type 0 where
+pub record IsOpened (f : Frame) (premises : List Row) (updates opposites : List Form) (upper lower : List (Option ℤ)) (x : Opened) : Type 0 where
   pub is_open : IsOpenBox f.columns premises
   pub above : AreLoosened f.thresholds f.columns premises updates (length upper) upper x.upper.limits
   pub above_changed : HasChanged x.upper.changed upper x.upper.limits
-  pub opposites : List Form
-  pub are_opposite : AreOppositeForms updates opposites
   pub below : AreLoosened f.opposites f.columns premises opposites (length lower) lower x.lower.limits
   pub below_changed : HasChanged x.lower.changed lower x.lower.limits

@@ -84,6 +84,7 @@ left_of states c v = missing states (has c.reached) v + (room c.upper + room c.l
 -- A claim has grown, by what valuations do that are taken in the base claim. Where nothing has changed, these valuations are held.
 pub record HasGrown (s : System) (f : Frame) (base : BoxClaim) (inside : Valuation → Type 0) (changed : Bool) (old new : Claim) : Type 0 where
   pub kept : IsKeptClaim s f new
+  pub grows : (v : Valuation) → IsIn old.reached v → IsIn new.reached v
   pub below : IsBelowClosed s f.thresholds base → IsBelowClosed s f.thresholds (claim_of old) → IsBelowClosed s f.thresholds (claim_of new)
   pub still : changed ≡ false → new ≡ old
   pub held : changed ≡ false → (v : Valuation) → inside v → IsHeld s base (claim_of old) v
@@ -94,6 +95,14 @@ pub record IsCaseIn (s : System) (from : Frozen) (c : Case) : Type 0 where
   pub case : IsCaseOf s c
   pub within : (v : Valuation) → IsIn c.condition v → IsIn from v
 
+-- Each is a case of the system.
+abbrev pub AreCasesOf : System → List Case → Type 0
+AreCasesOf s cases = (j : ℕ) (c : Case) → slice_get cases j ≡ Some c → IsCaseOf s c
+
+-- The case has a valuation whose control state is in the set.
+abbrev pub IsMet : Frozen → Case → Type 0
+IsMet from c = (v : Valuation) × IsIn c.condition v × IsIn from v
+
 -- The valuation is in one of the first n cases.
 abbrev pub IsInCases : List Case → ℕ → Valuation → Type 0
 IsInCases cases n v = (j : ℕ) × (c : Case) × (j < n) × (slice_get cases j ≡ Some c) × IsIn c.condition v
@@ -101,6 +110,7 @@ IsInCases cases n v = (j : ℕ) × (c : Case) × (j < n) × (slice_get cases j �
 -- The claim has grown by a round: nothing has changed only where it is closed.
 pub record IsRound (s : System) (f : Frame) (changed : Bool) (old new : Claim) : Type 0 where
   pub kept : IsKeptClaim s f new
+  pub grows : (v : Valuation) → IsIn old.reached v → IsIn new.reached v
   pub below : IsBelowClosed s f.thresholds (claim_of old) → IsBelowClosed s f.thresholds (claim_of new)
   pub still : changed ≡ false → new ≡ old
   pub closed : changed ≡ false → IsClosed s (claim_of old)
@@ -120,11 +130,15 @@ pub record HasTaken (s : System) (set : Frozen) (fresh : Bool) (old new : Claim)
   pub still : fresh ≡ false → new ≡ old
   pub less : fresh ≡ true → (v : Valuation) → missing s.states (has new.reached) v < missing s.states (has old.reached) v
 
--- The control states of a claim that are not initial, the rows of the claim's bounds, and the cases of these control states.
+-- The control states of a claim that are not initial, and the rows of the claim's bounds.
+pub record IsRest (s : System) (first : Frozen) (c : Claim) (rest : Frozen) (given : List Row) : Type 0 where
+  pub control : IsControlSet s rest
+  pub exact : (v : Valuation) → has rest v ≡ (has c.reached v && not (has first v))
+  pub rows : AreBothRows c.upper c.lower (length c.upper) given
+
+-- These, and the cases of these control states.
 pub record AreOthers (s : System) (first : Frozen) (c : Claim) (o : Others) : Type 0 where
-  pub control : IsControlSet s o.control
-  pub exact : (v : Valuation) → has o.control v ≡ (has c.reached v && not (has first v))
-  pub rows : AreBothRows c.upper c.lower (length c.upper) o.given
+  pub rest : IsRest s first c o.control o.given
   pub cases : AreCases s o.control o.cases
 
 -- A limit for each memory: the least threshold, or none where there are none.

@@ -1,8 +1,8 @@
 //! Control states whose cases are known: those of a claim that are not initial, and others that it may come to have. A set is split into
-//! cases by each question, which is the dearest part of the pass; so cases are asked of a set with room to grow, and those of the claim's
-//! control states are cut out of them.
+//! cases by each question, which is the dearest part of the pass; so cases are asked of a set with room to grow, and those with a valuation
+//! whose control state is the claim's are marked (marks.rt).
 
-ghost use Rattle.std.specs.Prelude.{◌≡◌, ◌<◌, ◌^◌, true, false, IfOk, IfSome, IsErrOf, MatchBool};
+ghost use Rattle.std.specs.Prelude.{◌≡◌, ◌<◌, ◌^◌, [], true, false, IfOk, IfSome, IsErrOf, MatchBool};
 ghost use Rattle.rv_diagram.specs.Nodes.{Valuation, IsOrderedOver};
 ghost use Rattle.rv_proofs.specs.Systems.{System};
 ghost use Rattle.rv_proofs.specs.Ranges.{IsControlSet};
@@ -121,6 +121,7 @@ fn ahead(
 pub fn nothing_known(alloc: Global, store: &mut Store, first: &Frozen) -> Result<Known, StoreFault>
     requires { (s : System) × (store.old.variables ≡ s.variables) × IsControlSet s first.now }
     ensures known { (s : System) → store.old.variables ≡ s.variables → IsControlSet s first.now → IfOk result (IsKnown s) }
+    ensures none { IfOk result (λ k. k.cases ≡ []) }
     ensures same { store.new ≡ store.old }
     ensures roomy { IsErrOf result StoreFault.Nodes → store.old.limit < 2 ^ (2 ^ store.old.variables) }
 {
@@ -132,7 +133,7 @@ pub fn nothing_known(alloc: Global, store: &mut Store, first: &Frozen) -> Result
 }
 
 /// Whether the first set is within the second. The store is left as it was.
-fn is_within(store: &mut Store, a: &Frozen, b: &Frozen) -> Result<bool, StoreFault>
+pub fn is_within(store: &mut Store, a: &Frozen, b: &Frozen) -> Result<bool, StoreFault>
     requires a { IsOrderedOver store.old.variables a.now }
     requires b { IsOrderedOver store.old.variables b.now }
     ensures within { IfOk result (λ yes. yes ≡ true → IsWithin a.now b.now) }
@@ -146,7 +147,7 @@ fn is_within(store: &mut Store, a: &Frozen, b: &Frozen) -> Result<bool, StoreFau
 }
 
 /// Asks for the cases of a set of control states but for the initial ones, and of what lies ahead of it.
-fn ask(
+pub fn ask(
     alloc: Global,
     store: &mut Store,
     relation: &Relation,
@@ -166,29 +167,4 @@ fn ask(
     let allowed = relation.parts().allowed;
     let cases = cases(alloc, store, allowed, questions, &from)?;
     Ok(Known { from, cases })
-}
-
-/// The known cases, where they are enough for a set of control states but for the initial ones, or else others that are.
-pub fn know(
-    alloc: Global,
-    store: &mut Store,
-    relation: &Relation,
-    questions: &Questions,
-    first: &Frozen,
-    reached: &Frozen,
-    known: Known,
-) -> Result<Known, StoreFault>
-    requires { (s : System) × (f : FrameModel) × IsGiven s store.old relation.now questions.now f × IsInitialSet s first.now
-        × IsControlSet s reached.now × IsKnown s known }
-    ensures knows { (s : System) (f : FrameModel) → IsGiven s store.old relation.now questions.now f → IsInitialSet s first.now
-        → IsControlSet s reached.now → IsKnown s known → IfOk result (Knows s first.now reached.now) }
-    ensures same { store.new ≡ store.old }
-    ensures roomy { IsErrOf result StoreFault.Nodes → store.old.limit < 2 ^ (2 ^ store.old.variables) }
-{
-    let others = without(store, reached, first)?;
-    let enough = is_within(store, &others, &known.from)?;
-    if enough {
-        return Ok(known);
-    }
-    ask(alloc, store, relation, questions, first, reached)
 }

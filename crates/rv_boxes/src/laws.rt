@@ -24,8 +24,8 @@ pub fn boxes_are_accepted()
 /// In a case that the box of a closed claim leaves open, each bound's row has, before the updates, a left side that is
 /// bounded over the box. So its greatest value is always found, and with it the proofs of the step.
 pub fn closed_claims_reach()
-    ensures { (s : System) (c : BoxClaim) (l : Location) (e : Entry) → IsSystem s → IsClosed s c → (here : IsToldCase s l e) → IsClaimedAt s c l
-        → IsOpenBox s.columns (l.state ++ here.tests)
+    ensures { (s : System) (c : BoxClaim) (l : Location) (e : Entry) → IsSystem s → IsClosed s c → (here : IsToldCase s e)
+        → ((v : Valuation) → IsIn e.condition v → IsIn l.control v) → IsClaimedAt s c l → IsOpenBox s.columns (l.state ++ here.tests)
         → (k : ℕ) (r new : Row) → k < s.memories → IsUpperRow c k r ⊎ IsLowerRow c k r → IsSubstituted r here.forms new
         → ¬ IsUnbounded s.columns (l.state ++ here.tests) new.coefficients }
 {}
@@ -33,10 +33,10 @@ pub fn closed_claims_reach()
 /// The box of a case's premises is the box of each of its valuations at which the bounds count, and the case is open
 /// exactly where they are.
 pub fn boxes_agree()
-    ensures points { (s : System) (c : BoxClaim) (l : Location) (e : Entry) → (here : IsToldCase s l e) → IsClaimedAt s c l → (v : Valuation)
-        → IsIn e.condition v → AreBoundsAt s c l v
+    ensures points { (s : System) (c : BoxClaim) (l : Location) (e : Entry) → (here : IsToldCase s e) → IsClaimedAt s c l → (v : Valuation)
+        → IsIn e.condition v → IsIn l.control v → AreBoundsAt s c l v
         → (point : List ℤ) → IsInBox s c v point ↔ IsBoxed s.columns (l.state ++ here.tests) point }
-    ensures opened { (s : System) (c : BoxClaim) (l : Location) (e : Entry) → (here : IsToldCase s l e) → IsClaimedAt s c l → (v : Valuation)
-        → IsIn e.condition v → AreBoundsAt s c l v
+    ensures opened { (s : System) (c : BoxClaim) (l : Location) (e : Entry) → (here : IsToldCase s e) → IsClaimedAt s c l → (v : Valuation)
+        → IsIn e.condition v → IsIn l.control v → AreBoundsAt s c l v
         → IsOpen s c v ↔ IsOpenBox s.columns (l.state ++ here.tests) }
 {}

@@ -9,8 +9,9 @@
 //! sum over a box comes with the weights on premises that prove it (peaks.rt), and what is empty, or has a premise that no point of the box
 //! meets, is refuted (shut.rt): no multiplier is searched for. A limit is loosened to the least threshold that is not below a greatest
 //! value (limits.rt, thresholds.rt); a lower bound is a limit of the opposite. Cases are asked of the claim's control states and of those
-//! that lie ahead (known.rt), and cut to the claim's as it grows (cutting.rt). Rounds over all cases loosen a claim until nothing changes
-//! (rounds.rt). From the claim at which they end comes the certificate (entries.rt, locations.rt), or, where the observer is false at a
+//! that lie ahead (known.rt), and those that meet the claim's are marked as it grows (marks.rt). Rounds over the marked cases loosen a claim
+//! until nothing changes (rounds.rt). From the claim at which they end, with the cases cut to its control states (cutting.rt), comes the
+//! certificate (entries.rt, locations.rt), or, where the observer is false at a
 //! valuation that the claim takes, its layers: those of the system whose allowed valuations are the taken ones, which `rv_walk` walks
 //! (layers.rt).
 //!
@@ -29,6 +30,7 @@ mod laws;
 mod layers;
 mod limits;
 mod locations;
+mod marks;
 mod opening;
 mod pass;
 mod peaks;

@@ -2,20 +2,20 @@
 
 ghost use Rattle.std.specs.Prelude.{◌≡◌, ◌<◌, ◌≤◌, ◌^◌, ℤ, negsuc, ◌*ℤ◌, List, length, All, IfOk, IfSome, IfNone};
 ghost use Rattle.std.specs.Int.RustNames.{unsigned_abs};
-ghost use Rattle.rv_rows.specs.declared.linear.Form.{Form as FormModel};
 ghost use Rattle.rv_rows.specs.Forms.{value, FormWithin};
 ghost use Rattle.rv_boxes.specs.Ends.{AreEnds};
 ghost use Rattle.rv_boxes.specs.Boxed.{ArePremises, IsUncrossed, IsOpenBox};
-ghost use Rattle.rv_boxes.specs.Limits.{AreLoosened, HasChanged};
-ghost use Rattle.rv_boxes.specs.Opening.{AreOppositeForms, AreUpdates, IsOpened};
+ghost use Rattle.rv_boxes.specs.Limits.{AreLoosened};
+ghost use Rattle.rv_boxes.specs.Opening.{HasTests, AreOppositeForms, IsToldOf, AreUpdates, IsOpened};
 
 use crate::ends::{End, narrow};
 use crate::frame::Frame;
 use crate::limits::{Loosened, loosen};
-use crate::premises::Premises;
+use crate::premises::{Premises, told_rows};
 use crate::shut::shut_of;
 use rv_base::{Many, Memory};
-use rv_rows::Form;
+use rv_proofs::Case;
+use rv_rows::{Form, Row};
 use std::alloc::Global;
 
 /// The limits after a case whose box is open.
@@ -25,6 +25,15 @@ pub struct Opened {
     pub upper: Loosened,
     /// The limits of their opposites.
     pub lower: Loosened,
+}
+
+/// What is kept of a case from round to round.
+#[derive(Debug, Drop)]
+pub struct Told {
+    /// A row for each order test: that of the case where it is named, else `0 <= 0`.
+    pub rows: Many<Row>,
+    /// The updates, each times -1.
+    pub opposites: Many<Form>,
 }
 
 /// The ends of the box of the premises, or none where it is shut: it is empty, or the least value of a premise over it is above the
@@ -73,53 +82,43 @@ fn opposite_forms(alloc: Global, forms: &Many<Form>) -> Result<Many<Form>, Memor
     Ok(opposites)
 }
 
-/// The limits of the opposites, loosened by the opposites of the updates.
-fn loosen_lower(
-    alloc: Global,
-    frame: &Frame,
-    premises: &Premises,
-    ends: &Many<End>,
-    updates: &Many<Form>,
-    lower: &Many<Option<i128>>,
-) -> Result<Loosened, Memory>
-    requires premises { ArePremises frame.now.columns premises.now }
-    requires size { length ends.now ≡ frame.now.columns }
-    requires ends { AreEnds premises.now frame.now.columns ends.now }
-    requires some { IsUncrossed premises.now ends.now frame.now.columns }
-    requires few { frame.now.columns < 256 }
-    requires updates { AreUpdates frame.now.columns (length lower.now) updates.now }
-    requires thresholds { All (λ t. unsigned_abs t ≤ 2 ^ 41) frame.now.opposites }
-    ensures loosened { IfOk result (λ r. (opposites : List FormModel) × AreOppositeForms updates.now opposites
-        × AreLoosened frame.now.opposites frame.now.columns premises.now opposites (length lower.now) lower.now r.limits) }
-    ensures changed { IfOk result (λ r. HasChanged r.changed lower.now r.limits) }
+/// What is kept of a case, where there are so many order tests.
+pub fn told_of(alloc: Global, case: &Case, many: usize) -> Result<Told, Memory>
+    requires tests { HasTests many case.now.tests case.now.rows }
+    requires updates { All (FormWithin (2 ^ 41)) case.now.updates }
+    ensures { IfOk result (IsToldOf many case.now) }
 {
-    let opposites = opposite_forms(alloc, updates)?;
-    loosen(alloc, premises, ends, &opposites, &frame.opposites, lower)
+    let rows = told_rows(alloc, &case.tests, &case.rows, many)?;
+    let opposites = opposite_forms(alloc, &case.updates)?;
+    Ok(Told { rows, opposites })
 }
 
-/// The limits, loosened by the updates over the box of the premises, or none where that is shut.
+/// The limits, loosened by the updates over the box of the premises, and those of the opposites by the opposites of the updates, or none
+/// where the box is shut.
 pub fn open_limits(
     alloc: Global,
     frame: &Frame,
     premises: &Premises,
     updates: &Many<Form>,
+    opposites: &Many<Form>,
     upper: &Many<Option<i128>>,
     lower: &Many<Option<i128>>,
 ) -> Result<Option<Opened>, Memory>
     requires premises { ArePremises frame.now.columns premises.now }
     requires few { frame.now.columns < 256 }
     requires updates { AreUpdates frame.now.columns (length upper.now) updates.now }
-    requires sizes { length lower.now ≡ length upper.now }
+    requires turned { AreUpdates frame.now.columns (length lower.now) opposites.now }
     requires thresholds { All (λ t. unsigned_abs t ≤ 2 ^ 41) frame.now.thresholds }
     requires opposites { All (λ t. unsigned_abs t ≤ 2 ^ 41) frame.now.opposites }
-    ensures some { IfOk result (λ o. IfSome o (IsOpened frame.now premises.now updates.now upper.now lower.now)) }
+    ensures some { IfOk result (λ o. IfSome o (IsOpened frame.now premises.now updates.now opposites.now upper.now lower.now)) }
     ensures none { IfOk result (λ o. IfNone o (¬ IsOpenBox frame.now.columns premises.now)) }
 {
     match open_ends(alloc, premises, frame.columns)? {
         Some(ends) => {
             let thresholds = &frame.thresholds;
             let above = loosen(alloc, premises, &ends, updates, thresholds, upper)?;
-            let below = loosen_lower(alloc, frame, premises, &ends, updates, lower)?;
+            let turned = &frame.opposites;
+            let below = loosen(alloc, premises, &ends, opposites, turned, lower)?;
             Ok(Some(Opened {
                 upper: above,
                 lower: below,

@@ -1,6 +1,6 @@
 //! Rounds over the cases of a claim's control states, until none loosens the claim.
 
-ghost use Rattle.std.specs.Prelude.{◌≡◌, ◌<◌, ◌≤◌, ◌^◌, ◌||◌, All, length, IfOk, IfSome, IsErrOf, OnOk};
+ghost use Rattle.std.specs.Prelude.{◌≡◌, ℕ, ◌<◌, ◌≤◌, ◌^◌, ◌||◌, All, length, IfOk, IfSome, IsErrOf, OnOk};
 ghost use Rattle.rv_diagram.specs.declared.frozen.Frozen.{Frozen as FrozenModel};
 ghost use Rattle.rv_symbolic.specs.Represented.{IsRelationOf};
 ghost use Rattle.std.specs.Int.RustNames.{unsigned_abs};
@@ -9,12 +9,16 @@ ghost use Rattle.rv_proofs.specs.Systems.{System, IsSystem};
 ghost use Rattle.rv_proofs.specs.Scopes.{IsIn};
 ghost use Rattle.rv_proofs.specs.Ranges.{IsControlSet};
 ghost use Rattle.rv_proofs.specs.Boxes.{BoxClaim};
-ghost use Rattle.rv_proofs.specs.Cases.{AreCases, IsCase, IsImage, IsInitialSet};
+ghost use Rattle.rv_proofs.specs.Cases.{IsCase, IsCaseOf, IsImage, IsInitialSet};
 ghost use Rattle.rv_cases.specs.declared.asking.Questions.{Questions as QuestionsModel};
 ghost use Rattle.rv_boxes.specs.declared.frame.Frame.{Frame as FrameModel};
-ghost use Rattle.rv_boxes.specs.Rounds.{IsGiven, IsSetting, IsKeptClaim, HasTaken, HasGrown, IsCaseIn, IsInCases, AreOthers, AreFirst, IsLeastClaim};
-ghost use Rattle.rv_boxes.specs.Rounds.{IsRound, IsStart};
-ghost use Rattle.rv_boxes.specs.Knowing.{Knows, IsBegun};
+ghost use Rattle.rv_boxes.specs.declared.claim.Claim.{Claim as ClaimModel};
+ghost use Rattle.rv_boxes.specs.Opening.{IsToldOf};
+ghost use Rattle.rv_boxes.specs.Rounds.{IsGiven, IsSetting, IsKeptClaim, HasTaken, HasGrown, AreCasesOf, IsMet, IsInCases, AreOthers, AreFirst};
+ghost use Rattle.rv_boxes.specs.Rounds.{IsRound, IsStart, IsLeastClaim};
+ghost use Rattle.rv_boxes.specs.Marking.{IsMarkOf, AreMarked};
+ghost use Rattle.rv_boxes.specs.Knowing.{IsWithin, IsKnown, Knows, AreAround, IsBegun};
+ghost use Rattle.rv_walk.specs.Extended.{IsWithout};
 ghost use Rattle.rv_boxes.specs.Imaging.{AreImages, AreNone};
 ghost use Rattle.rv_boxes.specs.Orders.{IsBelowClosed};
 ghost use Rattle.rv_boxes.specs.Claiming.{claim_of};
@@ -23,10 +27,11 @@ use crate::bounding::bound_rows;
 use crate::claim::Claim;
 use crate::cutting::cut;
 use crate::frame::Frame;
-use crate::known::{Known, know, nothing_known};
+use crate::known::{Known, ask, is_within, nothing_known};
 use crate::limits::{Loosened, either};
-use crate::opening::{Opened, open_limits};
-use crate::premises::{Premises, told_rows};
+use crate::marks::{marked, marks_of};
+use crate::opening::{Opened, Told, open_limits};
+use crate::premises::Premises;
 use crate::thresholds::least_above;
 use rv_base::{Many, Memory};
 use rv_cases::Questions;
@@ -114,8 +119,8 @@ fn take_limits(claim: &mut Claim, opened: Opened, fresh: bool) -> bool
     either(fresh, either(above, changed))
 }
 
-/// One case of a set of control states: where its box is open, the claim takes in its next control states, and its updates loosen the
-/// bounds. Whether something has changed.
+/// One case with a valuation whose control state is in a set: where its box is open, the claim takes in its next control states from there,
+/// and its updates loosen the bounds. Whether something has changed.
 fn by_case(
     alloc: Global,
     store: &mut Store,
@@ -124,29 +129,30 @@ fn by_case(
     from: &Frozen,
     given: &Many<Row>,
     case: &Case,
+    told: &Told,
     image: &mut Option<Frozen>,
     claim: &mut Claim,
 ) -> Result<bool, StoreFault>
     requires { (s : System) × (q : QuestionsModel) × (base : BoxClaim) × IsGiven s store.old relation.now q frame.now
-        × IsSetting s base from.now given.now × IsKeptClaim s frame.now claim.old × IsCaseIn s from.now case.now
-        × IfSome image.old (IsImage s from.now case.now) }
+        × IsSetting s base from.now given.now × IsKeptClaim s frame.now claim.old × IsCaseOf s case.now × IsMet from.now case.now
+        × IsToldOf frame.now.tests case.now told.now × IfSome image.old (IsImage s from.now case.now) }
     ensures grown { (s : System) (q : QuestionsModel) (base : BoxClaim) → IsGiven s store.old relation.now q frame.now
-        → IsSetting s base from.now given.now → IsKeptClaim s frame.now claim.old → IsCaseIn s from.now case.now
-        → IfSome image.old (IsImage s from.now case.now)
-        → IfOk result (λ changed. HasGrown s frame.now base (IsIn case.now.condition) changed claim.old claim.new) }
+        → IsSetting s base from.now given.now → IsKeptClaim s frame.now claim.old → IsCaseOf s case.now → IsMet from.now case.now
+        → IsToldOf frame.now.tests case.now told.now → IfSome image.old (IsImage s from.now case.now)
+        → IfOk result (λ changed. HasGrown s frame.now base (λ v. IsIn case.now.condition v × IsIn from.now v) changed claim.old claim.new) }
     ensures known { (s : System) (q : QuestionsModel) (base : BoxClaim) → IsGiven s store.old relation.now q frame.now
-        → IsSetting s base from.now given.now → IsCaseIn s from.now case.now
+        → IsSetting s base from.now given.now → IsCaseOf s case.now
         → IfSome image.old (IsImage s from.now case.now) → OnOk result (IfSome image.new (IsImage s from.now case.now)) }
     ensures same { store.new ≡ store.old }
     ensures roomy { IsErrOf result StoreFault.Nodes → store.old.limit < 2 ^ (2 ^ store.old.variables) }
 {
-    let told = told_rows(alloc, &case.tests, &case.rows, frame.tests)?;
-    let premises = Premises::new(given, &told);
+    let premises = Premises::new(given, &told.rows);
     let opened = open_limits(
         alloc,
         frame,
         &premises,
         &case.updates,
+        &told.opposites,
         &claim.upper,
         &claim.lower,
     )?;
@@ -159,7 +165,41 @@ fn by_case(
     }
 }
 
-/// All cases of a set of control states, with their images as far as they are made. Whether something has changed.
+/// One case, which does nothing where it is not marked. Whether something has changed.
+fn by_mark(
+    alloc: Global,
+    store: &mut Store,
+    relation: &Relation,
+    frame: &Frame,
+    from: &Frozen,
+    given: &Many<Row>,
+    case: &Case,
+    mark: &Option<Told>,
+    image: &mut Option<Frozen>,
+    claim: &mut Claim,
+) -> Result<bool, StoreFault>
+    requires { (s : System) × (q : QuestionsModel) × (base : BoxClaim) × IsGiven s store.old relation.now q frame.now
+        × IsSetting s base from.now given.now × IsKeptClaim s frame.now claim.old × IsCaseOf s case.now
+        × IsMarkOf frame.now.tests from.now case.now mark.now × IfSome image.old (IsImage s from.now case.now) }
+    ensures grown { (s : System) (q : QuestionsModel) (base : BoxClaim) → IsGiven s store.old relation.now q frame.now
+        → IsSetting s base from.now given.now → IsKeptClaim s frame.now claim.old → IsCaseOf s case.now
+        → IsMarkOf frame.now.tests from.now case.now mark.now → IfSome image.old (IsImage s from.now case.now)
+        → IfOk result (λ changed. HasGrown s frame.now base (λ v. IsIn case.now.condition v × IsIn from.now v) changed claim.old claim.new) }
+    ensures known { (s : System) (q : QuestionsModel) (base : BoxClaim) → IsGiven s store.old relation.now q frame.now
+        → IsSetting s base from.now given.now → IsCaseOf s case.now
+        → IfSome image.old (IsImage s from.now case.now) → OnOk result (IfSome image.new (IsImage s from.now case.now)) }
+    ensures same { store.new ≡ store.old }
+    ensures roomy { IsErrOf result StoreFault.Nodes → store.old.limit < 2 ^ (2 ^ store.old.variables) }
+{
+    match mark {
+        Some(told) => by_case(
+            alloc, store, relation, frame, from, given, case, told, image, claim,
+        ),
+        None => Ok(false),
+    }
+}
+
+/// All cases that are marked, with their images from the set as far as they are made. Whether something has changed.
 fn by_cases(
     alloc: Global,
     store: &mut Store,
@@ -168,28 +208,32 @@ fn by_cases(
     from: &Frozen,
     given: &Many<Row>,
     cases: &Many<Case>,
+    marks: &Many<Option<Told>>,
     images: &mut Vec<Option<Frozen>>,
     claim: &mut Claim,
 ) -> Result<bool, StoreFault>
     requires { (s : System) × (q : QuestionsModel) × (base : BoxClaim) × IsGiven s store.old relation.now q frame.now
-        × IsSetting s base from.now given.now × IsKeptClaim s frame.now claim.old × AreCases s from.now cases.now
-        × AreImages s from.now cases.now images.old.items }
+        × IsSetting s base from.now given.now × IsKeptClaim s frame.now claim.old × AreCasesOf s cases.now
+        × AreMarked frame.now.tests from.now cases.now (length cases.now) marks.now × AreImages s from.now cases.now images.old.items }
     ensures grown { (s : System) (q : QuestionsModel) (base : BoxClaim) → IsGiven s store.old relation.now q frame.now
-        → IsSetting s base from.now given.now → IsKeptClaim s frame.now claim.old → AreCases s from.now cases.now
-        → AreImages s from.now cases.now images.old.items
-        → IfOk result (λ changed. HasGrown s frame.now base (IsInCases cases.now (length cases.now)) changed claim.old claim.new) }
+        → IsSetting s base from.now given.now → IsKeptClaim s frame.now claim.old → AreCasesOf s cases.now
+        → AreMarked frame.now.tests from.now cases.now (length cases.now) marks.now → AreImages s from.now cases.now images.old.items
+        → IfOk result (λ changed. HasGrown s frame.now base (λ v. IsInCases cases.now (length cases.now) v × IsIn from.now v)
+        changed claim.old claim.new) }
     ensures known { (s : System) (q : QuestionsModel) (base : BoxClaim) → IsGiven s store.old relation.now q frame.now
-        → IsSetting s base from.now given.now → IsKeptClaim s frame.now claim.old → AreCases s from.now cases.now
-        → AreImages s from.now cases.now images.old.items → OnOk result (AreImages s from.now cases.now images.new.items) }
+        → IsSetting s base from.now given.now → IsKeptClaim s frame.now claim.old → AreCasesOf s cases.now
+        → AreMarked frame.now.tests from.now cases.now (length cases.now) marks.now → AreImages s from.now cases.now images.old.items
+        → OnOk result (AreImages s from.now cases.now images.new.items) }
     ensures same { store.new ≡ store.old }
     ensures roomy { IsErrOf result StoreFault.Nodes → store.old.limit < 2 ^ (2 ^ store.old.variables) }
 {
     let mut changed = false;
     for place in 0..cases.len() {
         let case = cases.at(place);
+        let mark = marks.at(place);
         let image = &mut images[place];
-        let more = by_case(
-            alloc, store, relation, frame, from, given, case, image, claim,
+        let more = by_mark(
+            alloc, store, relation, frame, from, given, case, mark, image, claim,
         )?;
         changed = either(changed, more);
     }
@@ -232,39 +276,110 @@ pub fn others_of(
     })
 }
 
-/// The same after the claim has grown, given those of before: where it has no new control states their cases and images stay, and are not
-/// made again.
-fn others_after(
+/// What a round over a claim goes over beside the initial control states.
+#[derive(Debug, Drop)]
+pub struct Around {
+    /// The known cases, of a set of control states with room to grow.
+    pub known: Known,
+    /// The claim's control states that are not initial.
+    pub control: Frozen,
+    /// The rows of its bounds.
+    pub given: Many<Row>,
+    /// A mark of each known case that has a valuation whose control state is one of these.
+    pub marks: Many<Option<Told>>,
+}
+
+/// Known cases, with their marks.
+#[derive(Debug, Drop)]
+struct Noted {
+    known: Known,
+    marks: Many<Option<Told>>,
+}
+
+/// The known cases, where they are enough for the control states of a claim but for the initial ones, or else others that are, and their
+/// marks, given those of fewer control states.
+fn note_known(
     alloc: Global,
     store: &mut Store,
+    relation: &Relation,
+    questions: &Questions,
+    frame: &Frame,
+    first: &Frozen,
+    reached: &Frozen,
+    control: &Frozen,
+    known: Known,
+    marks: Many<Option<Told>>,
+) -> Result<Noted, StoreFault>
+    requires system { (s : System) × IsGiven s store.old relation.now questions.now frame.now × IsInitialSet s first.now × IsControlSet s reached.now
+        × IsControlSet s control.now × (m : ℕ) × IsWithout m reached.now first.now control.now × IsKnown s known }
+    requires marks { AreMarked frame.now.tests control.now known.cases 0 marks }
+    ensures knows { (s : System) (m : ℕ) → IsGiven s store.old relation.now questions.now frame.now → IsInitialSet s first.now
+        → IsControlSet s reached.now → IsWithout m reached.now first.now control.now → IsKnown s known
+        → IfOk result (λ n. Knows s first.now reached.now n.known) }
+    ensures marked { IfOk result (λ n. AreMarked frame.now.tests control.now n.known.cases (length n.known.cases) n.marks) }
+    ensures same { store.new ≡ store.old }
+    ensures roomy { IsErrOf result StoreFault.Nodes → store.old.limit < 2 ^ (2 ^ store.old.variables) }
+{
+    let enough = is_within(store, control, &known.from)?;
+    if enough {
+        let marks = marked(alloc, store, frame, &known.cases, control, marks)?;
+        return Ok(Noted { known, marks });
+    }
+    let known = ask(alloc, store, relation, questions, first, reached)?;
+    let marks = marks_of(alloc, store, frame, &known.cases, control)?;
+    Ok(Noted { known, marks })
+}
+
+/// What the next round goes over after the claim has grown, given that of before. Where the claim has no new control states the known cases
+/// stay as they are, with their marks and images; else the images start anew.
+fn around_after(
+    alloc: Global,
+    store: &mut Store,
+    relation: &Relation,
+    questions: &Questions,
+    frame: &Frame,
     first: &Frozen,
     claim: &Claim,
-    known: &Known,
-    others: Others,
+    around: Around,
     images: &mut Vec<Option<Frozen>>,
-) -> Result<Others, StoreFault>
-    requires { (s : System) × (f : FrameModel) × IsSystem s × (store.old.variables ≡ s.variables) × IsInitialSet s first.now
-        × IsKeptClaim s f claim.now × Knows s first.now claim.now.reached known.now × AreCases s others.control others.cases }
-    ensures others { (s : System) (f : FrameModel) → IsSystem s → store.old.variables ≡ s.variables → IsInitialSet s first.now
-        → IsKeptClaim s f claim.now → Knows s first.now claim.now.reached known.now → AreCases s others.control others.cases
-        → IfOk result (AreOthers s first.now claim.now) }
-    ensures known { (s : System) (f : FrameModel) → IsSystem s → store.old.variables ≡ s.variables → IsInitialSet s first.now
-        → IsKeptClaim s f claim.now → AreImages s others.control others.cases images.old.items
-        → IfOk result (λ o. AreImages s o.control o.cases images.new.items) }
+) -> Result<Around, StoreFault>
+    requires { (s : System) × (before : ClaimModel) × IsGiven s store.old relation.now questions.now frame.now × IsInitialSet s first.now
+        × IsKeptClaim s frame.now claim.now × AreAround s frame.now first.now before around × IsWithin before.reached claim.now.reached }
+    ensures around { (s : System) (before : ClaimModel) → IsGiven s store.old relation.now questions.now frame.now → IsInitialSet s first.now
+        → IsKeptClaim s frame.now claim.now → AreAround s frame.now first.now before around → IsWithin before.reached claim.now.reached
+        → IfOk result (AreAround s frame.now first.now claim.now) }
+    ensures images { (s : System) → AreImages s around.control around.known.cases images.old.items
+        → IfOk result (λ a. AreImages s a.control a.known.cases images.new.items) }
     ensures same { store.new ≡ store.old }
     ensures roomy { IsErrOf result StoreFault.Nodes → store.old.limit < 2 ^ (2 ^ store.old.variables) }
 {
     let control = without(store, &claim.reached, first)?;
-    if control != others.control {
-        let others = others_of(alloc, store, first, claim, known)?;
-        *images = no_images(alloc, others.cases.len())?;
-        return Ok(others);
-    }
     let given = bound_rows(alloc, &claim.upper, &claim.lower)?;
-    Ok(Others {
+    let Around {
+        known,
+        control: before,
+        given: _,
+        marks,
+    } = around;
+    if control != before {
+        let reached = &claim.reached;
+        let noted = note_known(
+            alloc, store, relation, questions, frame, first, reached, &control, known, marks,
+        )?;
+        *images = no_images(alloc, noted.known.cases.len())?;
+        let Noted { known, marks } = noted;
+        return Ok(Around {
+            known,
+            control,
+            given,
+            marks,
+        });
+    }
+    Ok(Around {
+        known,
         control,
         given,
-        cases: others.cases,
+        marks,
     })
 }
 
@@ -273,7 +388,7 @@ fn others_after(
 struct Images {
     /// Those of the initial ones.
     first: Vec<Option<Frozen>>,
-    /// Those of the others.
+    /// Those of the known ones, from the claim's control states that are not initial.
     others: Vec<Option<Frozen>>,
 }
 
@@ -286,21 +401,24 @@ fn round(
     frame: &Frame,
     first: &Frozen,
     from_first: &Many<Case>,
-    others: &Others,
+    first_marks: &Many<Option<Told>>,
+    around: &Around,
     images: &mut Images,
     claim: &mut Claim,
 ) -> Result<bool, StoreFault>
-    requires { (s : System) × (q : QuestionsModel) × IsGiven s store.old relation.now q frame.now
-        × IsStart s first.now from_first.now × IsKeptClaim s frame.now claim.old × AreOthers s first.now claim.old others.now
-        × AreImages s first.now from_first.now images.old.first.items × AreImages s others.now.control others.now.cases images.old.others.items }
+    requires marks { AreMarked frame.now.tests first.now from_first.now (length from_first.now) first_marks.now }
+    requires system { (s : System) × (q : QuestionsModel) × IsGiven s store.old relation.now q frame.now
+        × IsStart s first.now from_first.now × IsKeptClaim s frame.now claim.old × AreAround s frame.now first.now claim.old around.now
+        × AreImages s first.now from_first.now images.old.first.items × AreImages s around.now.control around.now.known.cases images.old.others.items }
     ensures grown { (s : System) (q : QuestionsModel) → IsGiven s store.old relation.now q frame.now
-        → IsStart s first.now from_first.now → IsKeptClaim s frame.now claim.old → AreOthers s first.now claim.old others.now
-        → AreImages s first.now from_first.now images.old.first.items → AreImages s others.now.control others.now.cases images.old.others.items
+        → IsStart s first.now from_first.now → IsKeptClaim s frame.now claim.old → AreAround s frame.now first.now claim.old around.now
+        → AreImages s first.now from_first.now images.old.first.items → AreImages s around.now.control around.now.known.cases images.old.others.items
         → IfOk result (λ changed. IsRound s frame.now changed claim.old claim.new) }
     ensures known { (s : System) (q : QuestionsModel) → IsGiven s store.old relation.now q frame.now
-        → IsStart s first.now from_first.now → IsKeptClaim s frame.now claim.old → AreOthers s first.now claim.old others.now
-        → AreImages s first.now from_first.now images.old.first.items → AreImages s others.now.control others.now.cases images.old.others.items
-        → OnOk result (AreImages s first.now from_first.now images.new.first.items × AreImages s others.now.control others.now.cases images.new.others.items) }
+        → IsStart s first.now from_first.now → IsKeptClaim s frame.now claim.old → AreAround s frame.now first.now claim.old around.now
+        → AreImages s first.now from_first.now images.old.first.items → AreImages s around.now.control around.now.known.cases images.old.others.items
+        → OnOk result (AreImages s first.now from_first.now images.new.first.items
+        × AreImages s around.now.control around.now.known.cases images.new.others.items) }
     ensures same { store.new ≡ store.old }
     ensures roomy { IsErrOf result StoreFault.Nodes → store.old.limit < 2 ^ (2 ^ store.old.variables) }
 {
@@ -317,14 +435,16 @@ fn round(
         first,
         &nothing,
         from_first,
+        first_marks,
         first_images,
         claim,
     )?;
-    let Others {
+    let Around {
+        known,
         control,
         given,
-        cases,
-    } = others;
+        marks,
+    } = around;
     let two = by_cases(
         alloc,
         store,
@@ -332,7 +452,8 @@ fn round(
         frame,
         control,
         given,
-        cases,
+        &known.cases,
+        marks,
         other_images,
         claim,
     )?;
@@ -384,10 +505,8 @@ fn first_claim(
 struct Begun {
     /// The first claim.
     claim: Claim,
-    /// The known cases.
-    known: Known,
-    /// The claim's control states that are not initial, the rows of its bounds, and their cases.
-    others: Others,
+    /// What the first round goes over.
+    around: Around,
 }
 
 /// What rounds begin with: the first claim, with no known cases, since it has initial control states alone.
@@ -401,20 +520,29 @@ fn begin(
 ) -> Result<Begun, StoreFault>
     requires { (s : System) × IsGiven s store.old relation.now questions.now frame.now × IsInitialSet s first.now }
     ensures begun { (s : System) → IsGiven s store.old relation.now questions.now frame.now → IsInitialSet s first.now
-        → IfOk result (λ b. IsBegun s frame.now first.now b.claim b.known b.others) }
+        → IfOk result (λ b. IsBegun s frame.now first.now b.claim b.around) }
     ensures same { store.new ≡ store.old }
     ensures roomy { IsErrOf result StoreFault.Nodes → store.old.limit < 2 ^ (2 ^ store.old.variables) }
 {
     let memories = questions.forms.len();
     let claim = first_claim(alloc, store, relation, frame, memories)?;
     let nothing = nothing_known(alloc, store, first)?;
+    let control = without(store, &claim.reached, first)?;
+    let given = bound_rows(alloc, &claim.upper, &claim.lower)?;
     let reached = &claim.reached;
-    let known = know(alloc, store, relation, questions, first, reached, nothing)?;
-    let others = others_of(alloc, store, first, &claim, &known)?;
+    let none = Many::new(alloc);
+    let noted = note_known(
+        alloc, store, relation, questions, frame, first, reached, &control, nothing, none,
+    )?;
+    let Noted { known, marks } = noted;
     Ok(Begun {
         claim,
-        known,
-        others,
+        around: Around {
+            known,
+            control,
+            given,
+            marks,
+        },
     })
 }
 
@@ -447,17 +575,13 @@ pub fn closed_claim(
     ensures roomy { IsErrOf result StoreFault.Nodes → store.old.limit < 2 ^ (2 ^ store.old.variables) }
 {
     let begun = begin(alloc, store, relation, questions, frame, first)?;
-    let Begun {
-        claim,
-        known,
-        others,
-    } = begun;
+    let Begun { claim, around } = begun;
     let mut claim = claim;
-    let mut known = known;
-    let mut others = others;
+    let mut around = around;
+    let first_marks = marks_of(alloc, store, frame, from_first, first)?;
     let mut images = Images {
         first: no_images(alloc, from_first.len())?,
-        others: no_images(alloc, others.cases.len())?,
+        others: no_images(alloc, around.known.cases.len())?,
     };
     let mut more = true;
     while more {
@@ -468,15 +592,18 @@ pub fn closed_claim(
             frame,
             first,
             from_first,
-            &others,
+            &first_marks,
+            &around,
             &mut images,
             &mut claim,
         )?;
-        let reached = &claim.reached;
-        known = know(alloc, store, relation, questions, first, reached, known)?;
         let places = &mut images.others;
-        others = others_after(alloc, store, first, &claim, &known, others, places)?;
+        around = around_after(
+            alloc, store, relation, questions, frame, first, &claim, around, places,
+        )?;
     }
+    let known = around.known;
+    let others = others_of(alloc, store, first, &claim, &known)?;
     Ok(Closed {
         claim,
         known,

@@ -7,12 +7,12 @@ use Rattle.rv_boxes.proofs.entries.entry_of.Goals as goal
 pub told_rows-requires : goal.told_rows-requires
 told_rows-requires c =
     let (s, d, from, judge, setting, of) = c.requires in
-    has_tests s judge.system c.args.frame.now judge.frame d from c.args.given.now setting c.args.case of
+    has_tests s judge.system c.args.frame.now judge.frame c.args.case of.case
 
 pub kind_of-requires-clause-premises : goal.kind_of-requires-clause-premises
 kind_of-requires-clause-premises c =
     let (s, d, from, judge, setting, of) = c.requires in
-    premises_are s judge.system c.args.frame.now judge.frame d from c.args.given.now setting c.args.case of c.new-premises.result
+    premises_are s judge.system c.args.frame.now judge.frame d from c.args.given.now setting c.args.case of.case c.new-premises.result
     (record { told = c.in_ok-told.told; is_told = c.in_ok-told.ensures; are = c.new-premises.ensures })
 
 pub kind_of-requires-clause-few : goal.kind_of-requires-clause-few

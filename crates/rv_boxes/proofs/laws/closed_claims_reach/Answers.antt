@@ -3,4 +3,5 @@ use Rattle.rv_boxes.proofs.Building.{closed_bounded}
 use Rattle.rv_boxes.proofs.laws.closed_claims_reach.Goals as goal
 
 pub returns : goal.returns
-returns c = λ s d l e is closed here claimed o k r new known side sub. closed_bounded s is d closed l [] e here claimed o r k known side new sub
+returns c = λ s d l e is closed here control claimed o k r new known side sub.
+    closed_bounded s is d closed l [] e here control claimed o r k known side new sub

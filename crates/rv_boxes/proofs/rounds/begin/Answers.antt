@@ -1,6 +1,7 @@
 use Rattle.std.proofs.Common.{◌≡◌, ◌∙◌, ap}
 use Rattle.rv_diagram.specs.Nodes.{Diagrams}
 use Rattle.rv_boxes.proofs.Giving.{given_there}
+use Rattle.rv_boxes.proofs.Noting.{marks_start}
 use Rattle.rv_boxes.proofs.rounds.begin.Goals as goal
 
 pub first_claim-requires : goal.first_claim-requires
@@ -13,39 +14,27 @@ nothing_known-requires c =
     let p = r.parts in
     (s, p.variables, initial.control)
 
-pub know-requires : goal.know-requires
-know-requires c =
-    let (s, given, initial) = c.requires in
-    let r = given.relation in
-    let p = r.parts in
-    let q = given.questions in
-    let kept = (c.in_ok-claim.ensures.first s c.args.questions.now given (c.len-memories.ensures ∙ q.many_memories)).0 in (
-      s,
-      c.args.frame.now,
-      given_there s c.args.store.now c.nothing_known.new.store c.args.relation.now c.args.questions.now c.args.frame.now c.nothing_known.ensures.same given,
-      initial,
-      kept.control,
-      c.in_ok-nothing.ensures.known s p.variables initial.control,
-    )
-
-pub others_of-requires : goal.others_of-requires
-others_of-requires c =
+pub note_known-requires-clause-system : goal.note_known-requires-clause-system
+note_known-requires-clause-system c =
     let (s, given, initial) = c.requires in
     let r = given.relation in
     let p = r.parts in
     let q = given.questions in
     let kept = (c.in_ok-claim.ensures.first s c.args.questions.now given (c.len-memories.ensures ∙ q.many_memories)).0 in
-    let back : c.know.new.store ≡ c.args.store.now = c.know.ensures.same ∙ c.nothing_known.ensures.same in (
+    let back : c.without.new.store ≡ c.args.store.now = c.without.ensures.same ∙ c.nothing_known.ensures.same in (
       s,
-      c.args.frame.now,
-      r.system,
-      ap (λ (d : Diagrams). d.variables) back ∙ p.variables,
+      given_there s c.args.store.now c.without.new.store c.args.relation.now c.args.questions.now c.args.frame.now back given,
       initial,
-      kept,
-      c.in_ok-known.ensures.knows s c.args.frame.now
-          (given_there s c.args.store.now c.nothing_known.new.store c.args.relation.now c.args.questions.now c.args.frame.now c.nothing_known.ensures.same given)
-          initial kept.control (c.in_ok-nothing.ensures.known s p.variables initial.control),
+      kept.control,
+      c.in_ok-control.ensures.control s (ap (λ (d : Diagrams). d.variables) c.nothing_known.ensures.same ∙ p.variables) kept.control initial.control,
+      c.nothing_known.new.store.variables,
+      c.in_ok-control.ensures.exact,
+      c.in_ok-nothing.ensures.known s p.variables initial.control,
     )
+
+pub note_known-requires-clause-marks : goal.note_known-requires-clause-marks
+note_known-requires-clause-marks c =
+    marks_start c.args.frame.now.tests c.in_ok-control.control c.in_ok-nothing.nothing.cases c.new-none.result c.in_ok-nothing.ensures.none c.new-none.ensures
 
 pub returns-clause-begun : goal.returns-clause-begun
 returns-clause-begun c s given initial =
@@ -54,13 +43,22 @@ returns-clause-begun c s given initial =
     let q = given.questions in
     let first = c.in_ok-claim.ensures.first s c.args.questions.now given (c.len-memories.ensures ∙ q.many_memories) in
     let kept = first.0 in
-    let back : c.know.new.store ≡ c.args.store.now = c.know.ensures.same ∙ c.nothing_known.ensures.same in
-    let knows = c.in_ok-known.ensures.knows s c.args.frame.now
-    (given_there s c.args.store.now c.nothing_known.new.store c.args.relation.now c.args.questions.now c.args.frame.now c.nothing_known.ensures.same given)
-    initial kept.control (c.in_ok-nothing.ensures.known s p.variables initial.control) in
+    let back : c.without.new.store ≡ c.args.store.now = c.without.ensures.same ∙ c.nothing_known.ensures.same in
+    let exact = c.in_ok-control.ensures.exact in
     record {
       kept = kept;
       below = first.1;
-      knows = knows;
-      others = c.in_ok-others.ensures.others s c.args.frame.now r.system (ap (λ (d : Diagrams). d.variables) back ∙ p.variables) initial kept knows;
+      around = record {
+        rest = record {
+          control = c.in_ok-control.ensures.control s (ap (λ (d : Diagrams). d.variables) c.nothing_known.ensures.same ∙ p.variables) kept.control
+              initial.control;
+          exact = exact.exact;
+          rows = c.in_ok-given.ensures;
+        };
+        knows = c.in_ok-noted.ensures.knows s c.nothing_known.new.store.variables
+            (given_there s c.args.store.now c.without.new.store c.args.relation.now c.args.questions.now c.args.frame.now back given) initial
+            kept.control
+            exact (c.in_ok-nothing.ensures.known s p.variables initial.control);
+        marked = c.in_ok-noted.ensures.marked;
+      };
     }

@@ -21,9 +21,7 @@ returns-clause-others c s f is variables initial kept knows =
     let control = c.in_ok-control.ensures.control s variables kept.control initial.control in
     let w = c.in_ok-control.ensures.exact in
     record {
-      control = control;
-      exact = w.exact;
-      rows = c.in_ok-given.ensures;
+      rest = record { control = control; exact = w.exact; rows = c.in_ok-given.ensures };
       cases = c.in_ok-cases.ensures.cases s c.args.known.now.from is (ap (λ (d : Diagrams). d.variables) c.without.ensures.same ∙ variables) k.cases control
           (covered s c.args.store.now.variables c.args.first.now c.args.claim.now.reached c.in_ok-control.control c.args.known.now knows w);
     }
