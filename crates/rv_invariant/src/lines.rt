@@ -8,6 +8,7 @@ ghost use Rattle.rv_invariant.specs.Pieces as pieces;
 ghost use Rattle.rv_invariant.specs.Writes.{AreHeld, Extends, HasFields};
 
 use csv::{ByteRecord, Writer};
+use itoa::Buffer;
 use rv_base::{Many, Memory, Text};
 use rv_diagram::{Frozen, Triple};
 use rv_invfile::{put_count, put_row};
@@ -25,41 +26,43 @@ fn new_row(alloc: Global, word: &[u8]) -> Result<ByteRecord, Memory>
 }
 
 /// Adds a number as a field.
-fn add_number(alloc: Global, row: &mut ByteRecord, number: u32) -> Result<(), Memory>
+fn add_number(row: &mut ByteRecord, number: u32) -> Result<(), Memory>
     ensures { OnOk result (Extends row.old row.new (decimal number ∷ [])) }
 {
-    let text = format!(in alloc; "{number}")?;
+    let mut buffer = Buffer::new();
+    let text = buffer.format(number);
     row.push_field(text.as_bytes())?;
     Ok(())
 }
 
 /// Adds a whole number as a field.
-fn add_whole(alloc: Global, row: &mut ByteRecord, number: i128) -> Result<(), Memory>
+fn add_whole(row: &mut ByteRecord, number: i128) -> Result<(), Memory>
     ensures { OnOk result (Extends row.old row.new (signed_decimal number ∷ [])) }
 {
-    let text = format!(in alloc; "{number}")?;
+    let mut buffer = Buffer::new();
+    let text = buffer.format(number);
     row.push_field(text.as_bytes())?;
     Ok(())
 }
 
 /// Adds the three numbers of a node.
-fn add_node(alloc: Global, row: &mut ByteRecord, node: Triple) -> Result<(), Memory>
+fn add_node(row: &mut ByteRecord, node: Triple) -> Result<(), Memory>
     ensures fields { OnOk result (Extends row.old row.new (pieces.triple_texts node)) }
     ensures held { OnOk result ((node.lo < 2 ^ 32) × (node.hi < 2 ^ 32)) }
 {
-    add_number(alloc, row, node.var)?;
-    add_number(alloc, row, node.lo)?;
-    add_number(alloc, row, node.hi)
+    add_number(row, node.var)?;
+    add_number(row, node.lo)?;
+    add_number(row, node.hi)
 }
 
 /// Adds the numbers of these nodes, in order.
-fn add_nodes(alloc: Global, row: &mut ByteRecord, nodes: &Many<Triple>) -> Result<(), Memory>
+fn add_nodes(row: &mut ByteRecord, nodes: &Many<Triple>) -> Result<(), Memory>
     ensures fields { OnOk result (Extends row.old row.new (flat_map pieces.triple_texts nodes.now)) }
     ensures held { OnOk result (AreHeld nodes.now) }
 {
     for index in 0..nodes.len() {
         let node = *nodes.at(index);
-        add_node(alloc, row, node)?;
+        add_node(row, node)?;
     }
     Ok(())
 }
@@ -75,17 +78,17 @@ pub fn write_diagram(
     ensures held { OnOk result (IsHeld diagram.now) }
 {
     let mut row = new_row(alloc, word)?;
-    add_number(alloc, &mut row, diagram.root)?;
-    add_nodes(alloc, &mut row, &diagram.nodes)?;
+    add_number(&mut row, diagram.root)?;
+    add_nodes(&mut row, &diagram.nodes)?;
     put_row(writer, &row)
 }
 
 /// Adds these whole numbers, in order.
-fn add_wholes(alloc: Global, row: &mut ByteRecord, numbers: &Many<i128>) -> Result<(), Memory>
+fn add_wholes(row: &mut ByteRecord, numbers: &Many<i128>) -> Result<(), Memory>
     ensures { OnOk result (Extends row.old row.new (map signed_decimal numbers.now)) }
 {
     for index in 0..numbers.len() {
-        add_whole(alloc, row, *numbers.at(index))?;
+        add_whole(row, *numbers.at(index))?;
     }
     Ok(())
 }
@@ -95,8 +98,8 @@ fn write_row(alloc: Global, writer: &mut Writer<Vec<u8>>, numbers: &Row) -> Resu
     ensures { OnOk result (Adds (⟦<Vec<u8> as Write>⟧.contents) writer.old writer.new (pieces.row_record numbers.now ∷ [])) }
 {
     let mut row = new_row(alloc, b"row")?;
-    add_whole(alloc, &mut row, numbers.bound)?;
-    add_wholes(alloc, &mut row, &numbers.coefficients)?;
+    add_whole(&mut row, numbers.bound)?;
+    add_wholes(&mut row, &numbers.coefficients)?;
     put_row(writer, &row)
 }
 
@@ -117,20 +120,20 @@ pub fn write_list(
 }
 
 /// Adds a premise and its weight.
-fn add_weight(alloc: Global, row: &mut ByteRecord, weight: Weight) -> Result<(), Memory>
+fn add_weight(row: &mut ByteRecord, weight: Weight) -> Result<(), Memory>
     ensures { OnOk result (Extends row.old row.new (pieces.weight_texts weight)) }
 {
-    add_number(alloc, row, weight.premise)?;
-    add_whole(alloc, row, weight.by)
+    add_number(row, weight.premise)?;
+    add_whole(row, weight.by)
 }
 
 /// Adds these premises with their weights, in order.
-fn add_weights(alloc: Global, row: &mut ByteRecord, weights: &Many<Weight>) -> Result<(), Memory>
+fn add_weights(row: &mut ByteRecord, weights: &Many<Weight>) -> Result<(), Memory>
     ensures { OnOk result (Extends row.old row.new (flat_map pieces.weight_texts weights.now)) }
 {
     for index in 0..weights.len() {
         let weight = *weights.at(index);
-        add_weight(alloc, row, weight)?;
+        add_weight(row, weight)?;
     }
     Ok(())
 }
@@ -144,8 +147,8 @@ pub fn write_proof(
     ensures { OnOk result (Adds (⟦<Vec<u8> as Write>⟧.contents) writer.old writer.new (pieces.by_record proof.now ∷ [])) }
 {
     let mut row = new_row(alloc, b"by")?;
-    add_whole(alloc, &mut row, proof.divisor)?;
-    add_weights(alloc, &mut row, &proof.weights)?;
+    add_whole(&mut row, proof.divisor)?;
+    add_weights(&mut row, &proof.weights)?;
     put_row(writer, &row)
 }
 
