@@ -114,8 +114,8 @@ module _ (s : System) (f : Frame) (c : Claim) (first : Frozen) (from_first : Lis
       let l = can.least in
       let st = can.start in
       let os = can.others in
-      go (in_a_case s can.system f can.frame c l.kept first initial_set o.control o.given os.rest from_first st.cases o.control o.cases os.cases
-      (λ u i. i) v t)
+      go (in_a_case s can.system f can.frame c l.kept first initial_set o.control o.given os.rest o.control o.cases os.cases (λ u i. i)
+      from_first st.cases v t)
     where
       go : (IsInCases from_first (length from_first) v × IsIn first v) ⊎ (IsInCases o.cases (length o.cases) v × IsIn o.control v)
           → IsInCases from_first (length from_first) v ⊎ IsInCases o.cases (length o.cases) v

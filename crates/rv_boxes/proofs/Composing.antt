@@ -1,17 +1,22 @@
 -- A claim that grows twice, and one that does not grow.
-use Rattle.std.proofs.Common.{◌≡◌, ℕ, ◌+◌, ◌<◌, ◌≤◌, Bool, true, false, ◌||◌, List, refl, sym, ap, ◌∙◌, subst, arith, ◌⊎◌, inl, inr, Some, slice_get}
+use Rattle.std.proofs.Common.{◌≡◌, ℕ, ◌+◌, ◌<◌, ◌≤◌, ℤ, pos, ◌-ℤ◌, ◌≤ℤ◌, Bool, true, false, ◌||◌, List, Option, Some, slice_get}
+use Rattle.std.proofs.Common.{refl, sym, ap, ◌∙◌, subst, arith, ◌⊎◌, inl, inr}
+use Rattle.std.proofs.Common.{None as Nothing}
+use Rattle.std.proofs.lemmas.Int.{ints}
 use Rattle.std.proofs.lemmas.Bool.{cases_Bool, cases_lt}
 use Rattle.std.proofs.lemmas.Option.{same_Some}
 use Rattle.rv_diagram.specs.Nodes.{Valuation}
 use Rattle.rv_diagram.specs.declared.frozen.Frozen.{Frozen}
+use Rattle.rv_rows.specs.Forms.{value}
 use Rattle.rv_proofs.specs.Systems.{System}
 use Rattle.rv_proofs.specs.Scopes.{IsIn}
 use Rattle.rv_proofs.specs.Boxes.{BoxClaim}
 use Rattle.rv_proofs.specs.declared.report.Case.{Case}
 use Rattle.rv_boxes.specs.declared.frame.Frame.{Frame}
 use Rattle.rv_boxes.specs.declared.claim.Claim.{Claim}
-use Rattle.rv_boxes.specs.Claiming.{claim_of}
-use Rattle.rv_boxes.specs.Rounds.{IsKeptClaim, IsHeld, HasGrown, IsInCases, left_of}
+use Rattle.rv_boxes.specs.Claiming.{turned, claim_of}
+use Rattle.rv_boxes.specs.Limits.{HaveNotFallen, limit_at}
+use Rattle.rv_boxes.specs.Rounds.{IsKeptClaim, IsHeld, IsAbove, HasGrown, IsInCases, left_of}
 
 pub neither : (a b : Bool) → (a || b) ≡ false → (a ≡ false) × (b ≡ false)
 neither false b e = (refl, e)
@@ -21,24 +26,74 @@ pub some_of : (a b : Bool) → (a || b) ≡ true → (a ≡ true) ⊎ ((a ≡ fa
 some_of true b e = inl refl
 some_of false b e = inr (refl, e)
 
+-- bounds from below as limits of opposites
+pub turned_back : (o : Option ℤ) (b : ℤ) → turned o ≡ Some b → o ≡ Some (pos 0 -ℤ b)
+turned_back (Some a) b e = ap Some (back a b (same_Some (pos 0 -ℤ a) b e))
+  where
+    back : (a b : ℤ) → pos 0 -ℤ a ≡ b → a ≡ pos 0 -ℤ b
+    back a b e = omega (arith, ints)
+turned_back Nothing b e = cc
+
+-- claims above one another
+fallen_same : (limits : List (Option ℤ)) → HaveNotFallen limits limits
+fallen_same limits k b e = (b, e, omega (arith, ints))
+
+fallen_both : (x y z : List (Option ℤ)) → HaveNotFallen x y → HaveNotFallen y z → HaveNotFallen x z
+fallen_both x y z g h k b e =
+    let (a, there, l) = h k b e in
+    let (o, before, m) = g k a there in
+    (o, before, chain o a b m l)
+  where
+    chain : (o a b : ℤ) → o ≤ℤ a → a ≤ℤ b → o ≤ℤ b
+    chain o a b m l = omega (arith, ints)
+
+pub above_same : (c : Claim) → IsAbove c c
+above_same c = record { reached = λ v i. i; upper = fallen_same c.upper; lower = fallen_same c.lower }
+
+above_both : (x y z : Claim) → IsAbove x y → IsAbove y z → IsAbove x z
+above_both x y z g h = record {
+  reached = λ v i. h.reached v (g.reached v i);
+  upper = fallen_both x.upper y.upper z.upper g.upper h.upper;
+  lower = fallen_both x.lower y.lower z.lower g.lower h.lower;
+}
+
+-- what a claim holds is held by each one above it
+pub held_above : (s : System) (base : BoxClaim) (old new : Claim) → IsAbove old new → (v : Valuation) → IsHeld s base (claim_of old) v
+    → IsHeld s base (claim_of new) v
+held_above s base old new above v h = record {
+  next = λ t. above.reached (s.next v) (h.next t);
+  lower = λ t k b known e point inside.
+      let (a, before, l) = above.lower k (pos 0 -ℤ b) (turned_back (limit_at new.lower k) b e) in
+      down (value (s.update v k) point) a b l (h.lower t k (pos 0 -ℤ a) known (ap turned before) point inside);
+  upper = λ t k b known e point inside.
+      let (a, before, l) = above.upper k b e in
+      up (value (s.update v k) point) a b l (h.upper t k a known before point inside);
+}
+  where
+    down : (x a b : ℤ) → a ≤ℤ (pos 0 -ℤ b) → (pos 0 -ℤ a) ≤ℤ x → b ≤ℤ x
+    down x a b l m = omega (arith, ints)
+
+    up : (x a b : ℤ) → a ≤ℤ b → x ≤ℤ a → x ≤ℤ b
+    up x a b l m = omega (arith, ints)
+
 module _ (s : System) (f : Frame) (base : BoxClaim) where
   pub grown_none : (P : Valuation → Type 0) (c : Claim) → IsKeptClaim s f c → ((v : Valuation) → P v → ⊥) → HasGrown s f base P false c c
   grown_none P c kept none = record {
     kept = kept;
-    grows = λ v i. i;
+    above = above_same c;
     below = λ h k. k;
     still = λ e. refl;
-    held = λ e v i. absurd (none v i);
+    held = λ v i. absurd (none v i);
     less = λ (e : false ≡ true). cc;
   }
 
   pub grown_within : (P Q : Valuation → Type 0) (a : Bool) (x y : Claim) → ((v : Valuation) → Q v → P v) → HasGrown s f base P a x y → HasGrown s f base Q a x y
   grown_within P Q a x y w g = record {
     kept = g.kept;
-    grows = g.grows;
+    above = g.above;
     below = g.below;
     still = g.still;
-    held = λ e v i. g.held e v (w v i);
+    held = λ v i. g.held v (w v i);
     less = g.less;
   }
 
@@ -53,16 +108,16 @@ module _ (s : System) (f : Frame) (base : BoxClaim) where
       → HasGrown s f base (λ v. P v ⊎ Q v) (a || b) x z
   grown_both P Q a b x y z g h = record {
     kept = h.kept;
-    grows = λ v i. h.grows v (g.grows v i);
+    above = above_both x y z g.above h.above;
     below = λ m k. h.below m (g.below m k);
     still = λ e. h.still (neither a b e).1 ∙ g.still (neither a b e).0;
-    held = λ e v i. held (neither a b e) v i;
+    held = held;
     less = λ e v. less (some_of a b e) v;
   }
     where
-      held : (a ≡ false) × (b ≡ false) → (v : Valuation) → P v ⊎ Q v → IsHeld s base (claim_of x) v
-      held (e, d) v (inl i) = g.held e v i
-      held (e, d) v (inr i) = subst (λ (c : Claim). IsHeld s base (claim_of c) v) (g.still e) (h.held d v i)
+      held : (v : Valuation) → P v ⊎ Q v → IsHeld s base (claim_of z) v
+      held v (inl i) = held_above s base y z h.above v (g.held v i)
+      held v (inr i) = h.held v i
 
       less : (a ≡ true) ⊎ ((a ≡ false) × (b ≡ true)) → (v : Valuation) → left_of s.states z v < left_of s.states x v
       less (inl e) v = let l = g.less e v in let m = no_more Q b y z h v in omega (arith, l, m)

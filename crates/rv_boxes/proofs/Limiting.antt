@@ -180,11 +180,15 @@ limit_risen thresholds width rows f limit g great v is new (inr (past, least)) =
       point = point;
       boxed = boxed;
       past = subst (λ (z : ℤ). limit <ℤ z) worth past;
+      most = λ other inside. highest (dot f.coefficients other) f.constant g.bound (dot f.coefficients point) (great.most other inside) at;
       least = subst (λ (z : ℤ). IsLeastAbove thresholds z new) worth least;
     }))
   where
     total : (d k g v : ℤ) → v ≡ g +ℤ k → d ≡ g → v ≡ d +ℤ k
     total d k g v e q = omega (arith, ints)
+
+    highest : (e k g d : ℤ) → e ≤ℤ g → d ≡ g → (e +ℤ k) ≤ℤ (d +ℤ k)
+    highest e k g d l q = omega (arith, ints)
 
 pub limit_gone : (thresholds : List ℤ) (width : ℕ) (rows : List Row) (f : Form) (limit : ℤ) → IsUnbounded width rows f.coefficients
     → IsLoosened thresholds width rows f (Some limit) Nothing

@@ -18,7 +18,7 @@ use Rattle.rv_rows.specs.Tight.{Fits}
 use Rattle.rv_proofs.specs.Systems.{System, IsSystem, HasSameState}
 use Rattle.rv_proofs.specs.Scopes.{IsIn}
 use Rattle.rv_proofs.specs.Ranges.{AreKept}
-use Rattle.rv_proofs.specs.Boxes.{BoxClaim, IsBoxClaim, IsTaken, IsClosed, IsUnitAt}
+use Rattle.rv_proofs.specs.Boxes.{BoxClaim, IsBoxClaim, IsInBox, IsTaken, IsClosed, IsUnitAt}
 use Rattle.rv_proofs.specs.Cases.{AreCases, IsInitialSet}
 use Rattle.rv_proofs.specs.declared.report.Case.{Case}
 use Rattle.rv_proofs.proofs.ControlReads.{control_same}
@@ -31,8 +31,9 @@ use Rattle.rv_boxes.specs.Orders.{IsBelowClosed, IsLeastAbove}
 use Rattle.rv_boxes.specs.Limits.{limit_at, AreAmong}
 use Rattle.rv_boxes.specs.Opening.{IsFrameOf, AreOpposite}
 use Rattle.rv_boxes.specs.Claiming.{turned, claim_with, claim_of}
-use Rattle.rv_boxes.specs.Rounds.{IsSetting, IsHeld, IsKeptClaim, HasGrown, IsInCases, IsRound, IsRest, AreFirst, IsLeastClaim, left_of}
-use Rattle.rv_boxes.proofs.Stepping.{turned_back, opposite_in}
+use Rattle.rv_boxes.specs.Rounds.{IsSetting, IsHeld, IsKeptClaim, HasGrown, IsInCases, IsRising, IsRound, IsRest, AreFirst, IsLeastClaim, left_of}
+use Rattle.rv_boxes.proofs.Composing.{turned_back, held_above}
+use Rattle.rv_boxes.proofs.Stepping.{opposite_in}
 
 -- the rows of both lists are those of the claim's bounds
 module _ (s : System) (reached : Valuation → Bool) (upper lower : List (Option ℤ)) (rows : List Row) (are : AreBothRows upper lower s.memories rows) where
@@ -162,6 +163,46 @@ module _ (s : System) (is : IsSystem s) (f : Frame) (frame : IsFrameOf s f) (c :
       none : (r : Row) → Nothing ≡ Some r → ⊥
       none r e = cc
 
+  -- Once its cases have been asked in a claim the initial control states are held, whatever claim they are taken in.
+  pub rising_of : IsBelowClosed s f.thresholds (claim_of c) → (from_first : List Case) → AreCases s first from_first → (changed : Bool) (new : Claim)
+      → HasGrown s f (claim_of c) (λ v. IsInCases from_first (length from_first) v × IsIn first v) changed c new → IsRising s f first new
+  rising_of below from_first cases changed new g = record {
+    kept = g.kept;
+    below = g.below below below;
+    held = held;
+  }
+    where
+      off : (v : Valuation) → IsIn first v → v 0 ≡ true → ⊥
+      off v i on = clash (v 0) on (is.unticked v (first_started v i))
+
+      boxed : (base : BoxClaim) (v : Valuation) → IsIn first v → (point : List ℤ) → IsInBox s base v point → IsInBox s (claim_of c) v point
+      boxed base v i point b = record {
+        size = b.size;
+        lower = λ on. absurd (off v i on);
+        upper = λ on. absurd (off v i on);
+        narrow = b.narrow;
+      }
+
+      taken : (base : BoxClaim) (v : Valuation) → IsIn first v → IsTaken s base v → IsTaken s (claim_of c) v
+      taken base v i t = let o = t.is_open in record {
+        allowed = t.allowed;
+        reached = kept.initial v (first_started v i);
+        is_open = record {
+          some = (o.some.0, boxed base v i o.some.0 o.some.1);
+          rows = λ k r known at. let (point, b, holds) = o.rows k r known at in (point, boxed base v i point b, holds);
+        };
+      }
+
+      there : (base : BoxClaim) (v : Valuation) → IsIn first v → IsTaken s base v → IsHeld s (claim_of c) (claim_of new) v
+      there base v i t = let (j, d, at, on) = cases.covered v t.allowed i in g.held v ((j, d, slice_get_within from_first j d at, at, on), i)
+
+      held : (base : BoxClaim) (v : Valuation) → IsIn first v → IsHeld s base (claim_of new) v
+      held base v i = record {
+        next = λ t. let h = there base v i t in h.next (taken base v i t);
+        lower = λ t k b known at point inside. let h = there base v i t in h.lower (taken base v i t) k b known at point (boxed base v i point inside);
+        upper = λ t k b known at point inside. let h = there base v i t in h.upper (taken base v i t) k b known at point (boxed base v i point inside);
+      }
+
   module _ (control : Frozen) (given : List Row) (rest : IsRest s first c control given) where
     apart : (v : Valuation) → IsIn control v → (has c.reached v ≡ true) × (has first v ≡ false)
     apart v i = both_parts (has c.reached v) (has first v) (sym (rest.exact v) ∙ i)
@@ -192,39 +233,46 @@ module _ (s : System) (is : IsSystem s) (f : Frame) (frame : IsFrameOf s f) (c :
         ticked v i (inl starts) = absurd (clash (has first v) ((initial.exact v).1 starts) (apart v i).1)
         ticked v i (inr on) = on
 
-    -- each taken valuation is in a case of one of the two, and its control state in its set
-    module _ (from_first : List Case) (cases : AreCases s first from_first) (from : Frozen) (known : List Case) (are : AreCases s from known)
-        (within : (v : Valuation) → IsIn control v → IsIn from v) where
-      pub in_a_case : (v : Valuation) → IsTaken s (claim_of c) v
+    module _ (from : Frozen) (known : List Case) (are : AreCases s from known) (within : (v : Valuation) → IsIn control v → IsIn from v) where
+      in_known : (v : Valuation) → IsTaken s (claim_of c) v → has first v ≡ false → IsInCases known (length known) v × IsIn control v
+      in_known v t n =
+          let i : has control v ≡ true = rest.exact v ∙ and_not (has c.reached v) (has first v) t.reached n in
+          let (j, d, at, on) = are.covered v t.allowed (within v i) in ((j, d, slice_get_within known j d at, at, on), i)
+
+      -- each taken valuation is in a case of one of the two, and its control state in its set
+      pub in_a_case : (from_first : List Case) → AreCases s first from_first → (v : Valuation) → IsTaken s (claim_of c) v
           → (IsInCases from_first (length from_first) v × IsIn first v) ⊎ (IsInCases known (length known) v × IsIn control v)
-      in_a_case v t = go (cases_Bool (has first v))
+      in_a_case from_first cases v t = go (cases_Bool (has first v))
         where
           go : (has first v ≡ true) ⊎ (has first v ≡ false)
               → (IsInCases from_first (length from_first) v × IsIn first v) ⊎ (IsInCases known (length known) v × IsIn control v)
           go (inl i) = let (j, d, at, on) = cases.covered v t.allowed i in inl ((j, d, slice_get_within from_first j d at, at, on), i)
-          go (inr n) =
-              let i : has control v ≡ true = rest.exact v ∙ and_not (has c.reached v) (has first v) t.reached n in
-              let (j, d, at, on) = are.covered v t.allowed (within v i) in inr ((j, d, slice_get_within known j d at, at, on), i)
+          go (inr n) = inr (in_known v t n)
 
-      pub round_of : (changed : Bool) (new : Claim) → HasGrown s f (claim_of c)
-          (λ v. (IsInCases from_first (length from_first) v × IsIn first v) ⊎ (IsInCases known (length known) v × IsIn control v)) changed c new
-          → IsRound s f changed c new
-      round_of changed new g = record {
-        kept = g.kept;
-        grows = g.grows;
-        below = λ h. g.below h h;
+      -- where nothing has changed by the cases of the others the claim is closed
+      pub round_of : IsRising s f first c → (changed : Bool) (new : Claim)
+          → HasGrown s f (claim_of c) (λ v. IsInCases known (length known) v × IsIn control v) changed c new → IsRound s f first changed c new
+      round_of rising changed new g = record {
+        rising = record {
+          kept = g.kept;
+          below = g.below rising.below rising.below;
+          held = λ base v i. held_above s base c new g.above v (rising.held base v i);
+        };
+        grows = let a = g.above in a.reached;
         still = g.still;
         closed = λ e. record {
           initial = kept.initial;
-          next = λ v t. (held e v t).next t;
-          lower = λ v t. (held e v t).lower t;
-          upper = λ v t. (held e v t).upper t;
+          next = λ v t. (held e v t (cases_Bool (has first v))).next t;
+          lower = λ v t. (held e v t (cases_Bool (has first v))).lower t;
+          upper = λ v t. (held e v t (cases_Bool (has first v))).upper t;
         };
         less = g.less;
       }
         where
-          held : changed ≡ false → (v : Valuation) → IsTaken s (claim_of c) v → IsHeld s (claim_of c) (claim_of c) v
-          held e v t = g.held e v (in_a_case v t)
+          held : changed ≡ false → (v : Valuation) → IsTaken s (claim_of c) v → (has first v ≡ true) ⊎ (has first v ≡ false)
+              → IsHeld s (claim_of c) (claim_of c) v
+          held e v t (inl i) = rising.held (claim_of c) v i
+          held e v t (inr n) = subst (λ (x : Claim). IsHeld s (claim_of c) (claim_of x) v) (g.still e) (g.held v (in_known v t n))
 
 -- a threshold is one whose opposite is an opposite
 opposite_out : (numbers opposites : List ℤ) → AreOpposite numbers opposites → (b : ℤ) → Contains opposites (pos 0 -ℤ b) → Contains numbers b
@@ -250,11 +298,10 @@ kept_claim s f frame c kept = record {
   upper = λ k b known at. kept.upper_among k b at;
 }
 
-pub least_of : (s : System) (f : Frame) → IsFrameOf s f → (c : Claim) → IsKeptClaim s f c → IsBelowClosed s f.thresholds (claim_of c) → IsClosed s (claim_of c)
-    → IsLeastClaim s f c
-least_of s f frame c kept below closed = record {
-  kept = kept;
-  least = record { claim = kept_claim s f frame c kept; closed = closed; least = below };
+pub least_of : (s : System) (f : Frame) → IsFrameOf s f → (first : Frozen) (c : Claim) → IsRising s f first c → IsClosed s (claim_of c) → IsLeastClaim s f c
+least_of s f frame first c rising closed = record {
+  kept = rising.kept;
+  least = record { claim = kept_claim s f frame c rising.kept; closed = closed; least = rising.below };
 }
 
 -- the claim that the pass begins with
@@ -326,9 +373,10 @@ first_are thresholds memories limits o small above size each = record {
         apart t l m = omega (arith, ints)
 
 -- each round leaves less, or is the last
-pub round_smaller : (s : System) (f : Frame) (n : ℕ) (more was : Bool) (old new : Claim) → n ≡ s.states → was ≡ true → IsRound s f more old new
+pub round_smaller : (s : System) (f : Frame) (first : Frozen) (n : ℕ) (more was : Bool) (old new : Claim) → n ≡ s.states → was ≡ true
+    → IsRound s f first more old new
     → left_of n new (λ x. false) + cond more 1 0 < left_of n old (λ x. false) + cond was 1 0
-round_smaller s f n more true old new e on r = go more refl
+round_smaller s f first n more true old new e on r = go more refl
   where
     go : (b : Bool) → more ≡ b → left_of n new (λ x. false) + cond b 1 0 < left_of n old (λ x. false) + 1
     go true is =
@@ -339,4 +387,4 @@ round_smaller s f n more true old new e on r = go more refl
     go false is =
         let q : left_of n new (λ x. false) ≡ left_of n old (λ x. false) = ap (λ (c : Claim). left_of n c (λ x. false)) (r.still is) in
         omega (arith, q)
-round_smaller s f n more false old new e on r = cc
+round_smaller s f first n more false old new e on r = cc

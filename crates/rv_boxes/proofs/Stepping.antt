@@ -30,13 +30,13 @@ use Rattle.rv_boxes.specs.declared.opening.Opened.{Opened}
 use Rattle.rv_boxes.specs.Boxed.{IsBoxed, IsOpenBox, ArePremises}
 use Rattle.rv_boxes.specs.Built.{IsToldCase, AreBoundsAt, IsUpperRow, IsLowerRow}
 use Rattle.rv_boxes.specs.Orders.{IsBelowClosed, IsLeastAbove}
-use Rattle.rv_boxes.specs.Limits.{limit_at, IsLoosened, AreLoosened, AreAmong, HasChanged, room}
+use Rattle.rv_boxes.specs.Limits.{limit_at, IsLoosened, AreLoosened, AreAmong, HaveNotFallen, HasChanged, room}
 use Rattle.rv_boxes.specs.Opening.{IsFrameOf, ArePremisesOf, AreOpposite, AreOppositeForms, IsOpened}
 use Rattle.rv_boxes.specs.Claiming.{turned, claim_of}
-use Rattle.rv_boxes.specs.Rounds.{place, IsSetting, IsHeld, IsKeptClaim, HasGrown, HasTaken, IsMet, left_of}
+use Rattle.rv_boxes.specs.Rounds.{place, IsSetting, IsHeld, IsKeptClaim, IsAbove, HasGrown, HasTaken, IsMet, left_of}
 use Rattle.rv_boxes.proofs.Building.{in_box, taken, boxed_back, open_back}
 use Rattle.rv_boxes.proofs.Fitting.{case_entry, here, updates_of_case, many_updates, premises_fit}
-use Rattle.rv_boxes.proofs.Composing.{neither, some_of}
+use Rattle.rv_boxes.proofs.Composing.{neither, some_of, turned_back, above_same}
 
 -- limits stay among the thresholds
 pub loosened_among : (thresholds : List ℤ) (width : ℕ) (rows : List Row) (forms : List Form) (old new : List (Option ℤ))
@@ -56,30 +56,45 @@ loosened_among thresholds width rows forms old new are among k b at = go (cases_
     go (inl l) = by (are.each k l)
     go (inr m) = absurd (none-some b (sym (get_or_past new k Nothing (let size = are.size in omega (arith, size, m))) ∙ at))
 
--- where nothing has changed, no limit is passed in the box
-pub unchanged_held : (thresholds : List ℤ) (width : ℕ) (rows : List Row) (forms : List Form) (old new : List (Option ℤ))
-    → AreLoosened thresholds width rows forms (length old) old new → new ≡ old → (k : ℕ) (b : ℤ) → k < length old → limit_at old k ≡ Some b
-    → (point : List ℤ) → IsBoxed width rows point → value (form_at forms k) point ≤ℤ b
-unchanged_held thresholds width rows forms old new are same k b l at point boxed = go (are.each k l)
+-- no loosened limit is passed in the box, and none has fallen
+loosened_held : (thresholds : List ℤ) (width : ℕ) (rows : List Row) (f : Form) (old new : Option ℤ) → IsLoosened thresholds width rows f old new
+    → (b : ℤ) → new ≡ Some b → (point : List ℤ) → IsBoxed width rows point → value f point ≤ℤ b
+loosened_held thresholds width rows f old new (inl stayed) b at point boxed = stayed.held b (sym stayed.same ∙ at) point boxed
+loosened_held thresholds width rows f old new (inr (inl risen)) b at point boxed = of new at risen.least
   where
-    still : limit_at new k ≡ Some b
-    still = ap (λ (os : List (Option ℤ)). limit_at os k) same ∙ at
+    chain : (x y a b : ℤ) → x ≤ℤ y → y ≤ℤ a → a ≡ b → x ≤ℤ b
+    chain x y a b l m e = omega (arith, ints)
 
-    past : (from x a : ℤ) → from ≡ b → a ≡ b → from <ℤ x → x ≤ℤ a → ⊥
-    past from x a e d less more = omega (arith, ints)
+    of : (o : Option ℤ) → o ≡ Some b → IsLeastAbove thresholds (value f risen.point) o → value f point ≤ℤ b
+    of (Some a) e least = chain (value f point) (value f risen.point) a b (risen.most point boxed) least.some.1 (same_Some a b e)
+    of Nothing e least = cc
+loosened_held thresholds width rows f old new (inr (inr gone)) b at point boxed = absurd (none-some b (sym gone.gone ∙ at))
 
-    clash : (o : Option ℤ) → o ≡ Some b → o ≡ Nothing → ⊥
-    clash o e d = cc
+loosened_above : (thresholds : List ℤ) (width : ℕ) (rows : List Row) (f : Form) (old new : Option ℤ) → IsLoosened thresholds width rows f old new
+    → (b : ℤ) → new ≡ Some b → (a : ℤ) × (old ≡ Some a) × (a ≤ℤ b)
+loosened_above thresholds width rows f old new (inl stayed) b at = (b, sym stayed.same ∙ at, omega (arith, ints))
+loosened_above thresholds width rows f old new (inr (inl risen)) b at = (risen.from, risen.was, of new at risen.least)
+  where
+    chain : (from x a b : ℤ) → from <ℤ x → x ≤ℤ a → a ≡ b → from ≤ℤ b
+    chain from x a b l m e = omega (arith, ints)
 
-    go : IsLoosened thresholds width rows (form_at forms k) (limit_at old k) (limit_at new k) → value (form_at forms k) point ≤ℤ b
-    go (inl stayed) = stayed.held b at point boxed
-    go (inr (inl risen)) = absurd (of (limit_at new k) still risen.least)
-      where
-        of : (o : Option ℤ) → o ≡ Some b → IsLeastAbove thresholds (value (form_at forms k) risen.point) o → ⊥
-        of (Some a) e least = past risen.from (value (form_at forms k) risen.point) a (same_Some risen.from b (sym risen.was
-            ∙ at)) (same_Some a b e) risen.past least.some.1
-        of Nothing e least = cc
-    go (inr (inr gone)) = absurd (clash (limit_at new k) still gone.gone)
+    of : (o : Option ℤ) → o ≡ Some b → IsLeastAbove thresholds (value f risen.point) o → risen.from ≤ℤ b
+    of (Some a) e least = chain risen.from (value f risen.point) a b risen.past least.some.1 (same_Some a b e)
+    of Nothing e least = cc
+loosened_above thresholds width rows f old new (inr (inr gone)) b at = absurd (none-some b (sym gone.gone ∙ at))
+
+module _ (thresholds : List ℤ) (width : ℕ) (rows : List Row) (forms : List Form) (old new : List (Option ℤ))
+    (are : AreLoosened thresholds width rows forms (length old) old new) where
+  pub limits_held : (k : ℕ) (b : ℤ) → k < length old → limit_at new k ≡ Some b → (point : List ℤ) → IsBoxed width rows point
+      → value (form_at forms k) point ≤ℤ b
+  limits_held k b l at point boxed = loosened_held thresholds width rows (form_at forms k) (limit_at old k) (limit_at new k) (are.each k l) b at point boxed
+
+  pub limits_above : HaveNotFallen old new
+  limits_above k b at = go (cases_lt k (length old))
+    where
+      go : (k < length old) ⊎ (length old ≤ k) → (a : ℤ) × (limit_at old k ≡ Some a) × (a ≤ℤ b)
+      go (inl l) = loosened_above thresholds width rows (form_at forms k) (limit_at old k) (limit_at new k) (are.each k l) b at
+      go (inr m) = absurd (none-some b (sym (get_or_past new k Nothing (let size = are.size in omega (arith, size, m))) ∙ at))
 
 -- A limit that no value passes is a threshold that no loosened limit passes.
 pub loosened_below : (thresholds : List ℤ) (width : ℕ) (rows : List Row) (f : Form) (old new : Option ℤ) (b : ℤ) → Contains thresholds b
@@ -100,14 +115,6 @@ loosened_below thresholds width rows f old new b known most before (inr (inr gon
   where
     apart : (x b : ℤ) → x ≤ℤ b → (b +ℤ pos 1) ≤ℤ x → ⊥
     apart x b m n = omega (arith, ints)
-
--- bounds from below as limits of opposites
-pub turned_back : (o : Option ℤ) (b : ℤ) → turned o ≡ Some b → o ≡ Some (pos 0 -ℤ b)
-turned_back (Some a) b e = ap Some (back a b (same_Some (pos 0 -ℤ a) b e))
-  where
-    back : (a b : ℤ) → pos 0 -ℤ a ≡ b → a ≡ pos 0 -ℤ b
-    back a b e = omega (arith, ints)
-turned_back Nothing b e = cc
 
 pub opposite_in : (numbers opposites : List ℤ) → AreOpposite numbers opposites → (b : ℤ) → Contains numbers b → Contains opposites (pos 0 -ℤ b)
 opposite_in numbers opposites are b (k, l, at) =
@@ -185,10 +192,10 @@ module _ (s : System) (is : IsSystem s) (f : Frame) (frame : IsFrameOf s f) (bas
       → HasGrown s f base (λ v. IsIn case.condition v × IsIn from v) false c c
   grown_shut shut c kept = record {
     kept = kept;
-    grows = λ v i. i;
+    above = above_same c;
     below = λ h k. k;
     still = λ e. refl;
-    held = λ e v (i, inside). record {
+    held = λ v (i, inside). record {
       next = λ t. absurd (none_taken shut v i inside t);
       lower = λ t. absurd (none_taken shut v i inside t);
       upper = λ t. absurd (none_taken shut v i inside t);
@@ -338,19 +345,24 @@ module _ (s : System) (is : IsSystem s) (f : Frame) (frame : IsFrameOf s f) (bas
     still : (fresh ≡ false) × (x.upper.changed ≡ false) × (x.lower.changed ≡ false) → new ≡ old
     still (a, b, c) = claim_same new old (is_reached ∙ ap (λ (y : Claim). y.reached) (took.still a)) (upper_still b) (lower_still c)
 
-    held : (fresh ≡ false) × (x.upper.changed ≡ false) × (x.lower.changed ≡ false) → (v : Valuation) → IsIn case.condition v × IsIn from v
-        → IsHeld s base (claim_of old) v
-    held (a, b, c) v (i, inside) = record {
-      next = λ t. ap (λ (y : Claim). has y.reached (s.next v)) (sym (still (a, b, c)))
-          ∙ from_set (s.next v) ((image.exact (s.next v)).1 (v, inside, i, λ y state. refl));
+    rises : IsAbove old new
+    rises = record {
+      reached = from_old;
+      upper = limits_above f.thresholds f.columns premises case.updates old.upper new.upper above;
+      lower = limits_above f.opposites f.columns premises opposites old.lower new.lower under;
+    }
+
+    held : (v : Valuation) → IsIn case.condition v × IsIn from v → IsHeld s base (claim_of new) v
+    held v (i, inside) = record {
+      next = λ t. from_set (s.next v) ((image.exact (s.next v)).1 (v, inside, i, λ y state. refl));
       upper = λ t k z known at point bx.
           subst (λ (y : ℤ). y ≤ℤ z) (worth v i k known point)
-          (let size = kept.uppers in unchanged_held f.thresholds f.columns premises case.updates old.upper new.upper above (upper_still b) k z
+          (let size = kept.uppers in limits_held f.thresholds f.columns premises case.updates old.upper new.upper above k z
           (omega (arith, size, known)) at point (boxed v i inside point bx));
       lower = λ t k z known at point bx.
           less (value (form_at opposites k) point) (value (s.update v k) point) z (turned_worth v i k known point)
-          (let size = kept.lowers in unchanged_held f.opposites f.columns premises opposites old.lower new.lower under (lower_still c) k
-          (pos 0 -ℤ z) (omega (arith, size, known)) (turned_back (limit_at old.lower k) z at) point (boxed v i inside point bx));
+          (let size = kept.lowers in limits_held f.opposites f.columns premises opposites old.lower new.lower under k
+          (pos 0 -ℤ z) (omega (arith, size, known)) (turned_back (limit_at new.lower k) z at) point (boxed v i inside point bx));
     }
       where
         less : (y x b : ℤ) → y ≡ negsuc 0 *ℤ x → y ≤ℤ (pos 0 -ℤ b) → b ≤ℤ x
@@ -404,9 +416,9 @@ module _ (s : System) (is : IsSystem s) (f : Frame) (frame : IsFrameOf s f) (bas
     pub grown_open : HasGrown s f base (λ v. IsIn case.condition v × IsIn from v) (fresh || (x.upper.changed || x.lower.changed)) old new
     grown_open = record {
       kept = new_kept;
-      grows = from_old;
+      above = rises;
       below = λ m o. below m o;
       still = λ e. still (parts e);
-      held = λ e v i. held (parts e) v i;
+      held = held;
       less = less;
     }

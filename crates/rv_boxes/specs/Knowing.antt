@@ -10,9 +10,7 @@ use Rattle.rv_boxes.specs.declared.known.Known.{Known}
 use Rattle.rv_boxes.specs.declared.frame.Frame.{Frame}
 use Rattle.rv_boxes.specs.declared.claim.Claim.{Claim}
 use Rattle.rv_boxes.specs.declared.rounds.Around.{Around}
-use Rattle.rv_boxes.specs.Claiming.{claim_of}
-use Rattle.rv_boxes.specs.Orders.{IsBelowClosed}
-use Rattle.rv_boxes.specs.Rounds.{IsKeptClaim, IsRest}
+use Rattle.rv_boxes.specs.Rounds.{IsRest}
 use Rattle.rv_boxes.specs.Marking.{AreMarked}
 
 -- the first set is within the second
@@ -40,9 +38,3 @@ pub record AreAround (s : System) (f : Frame) (first : Frozen) (c : Claim) (a : 
   pub rest : IsRest s first c a.control a.given
   pub knows : Knows s first c.reached a.known
   pub marked : AreMarked f.tests a.control a.known.cases (length a.known.cases) a.marks
-
--- The first claim, with what the first round goes over.
-pub record IsBegun (s : System) (f : Frame) (first : Frozen) (c : Claim) (a : Around) : Type 0 where
-  pub kept : IsKeptClaim s f c
-  pub below : IsBelowClosed s f.thresholds (claim_of c)
-  pub around : AreAround s f first c a

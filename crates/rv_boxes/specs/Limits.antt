@@ -20,14 +20,15 @@ pub record HasStayed (width : ℕ) (rows : List Row) (f : Form) (old new : Optio
   pub same : new ≡ old
   pub held : (b : ℤ) → old ≡ Some b → (point : List ℤ) → IsBoxed width rows point → value f point ≤ℤ b
 
--- The form has a value past the limit in the box, and the limit has become the least threshold that is not below that
--- value, or has gone where all are below it.
+-- The greatest value of the form in the box is past the limit, and the limit has become the least threshold that is not
+-- below that value, or has gone where all are below it.
 pub record HasRisen (thresholds : List ℤ) (width : ℕ) (rows : List Row) (f : Form) (old new : Option ℤ) : Type 0 where
   pub from : ℤ
   pub was : old ≡ Some from
   pub point : List ℤ
   pub boxed : IsBoxed width rows point
   pub past : from <ℤ value f point
+  pub most : (other : List ℤ) → IsBoxed width rows other → value f other ≤ℤ value f point
   pub least : IsLeastAbove thresholds (value f point) new
 
 -- The form has values past each number in the box, and the limit has gone.
@@ -64,3 +65,7 @@ HasChanged false old new = new ≡ old
 -- Each limit is one of the thresholds.
 abbrev pub AreAmong : List ℤ → List (Option ℤ) → Type 0
 AreAmong thresholds limits = (k : ℕ) (b : ℤ) → limit_at limits k ≡ Some b → Contains thresholds b
+
+-- Each limit that is left was there before, and has not fallen.
+abbrev pub HaveNotFallen : List (Option ℤ) → List (Option ℤ) → Type 0
+HaveNotFallen old new = (k : ℕ) (b : ℤ) → limit_at new k ≡ Some b → (a : ℤ) × (limit_at old k ≡ Some a) × (a ≤ℤ b)

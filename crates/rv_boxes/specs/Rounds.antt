@@ -24,7 +24,7 @@ use Rattle.rv_boxes.specs.declared.claim.Claim.{Claim}
 use Rattle.rv_boxes.specs.declared.rounds.Others.{Others}
 use Rattle.rv_boxes.specs.Bounding.{AreBothRows}
 use Rattle.rv_boxes.specs.Built.{IsClaimedAt, AreBounds}
-use Rattle.rv_boxes.specs.Limits.{AreAmong, limit_at, room}
+use Rattle.rv_boxes.specs.Limits.{AreAmong, HaveNotFallen, limit_at, room}
 use Rattle.rv_boxes.specs.Orders.{IsBelowClosed}
 use Rattle.rv_boxes.specs.Opening.{IsFrameOf}
 use Rattle.rv_boxes.specs.Claiming.{claim_of}
@@ -81,13 +81,19 @@ pub record IsKeptClaim (s : System) (f : Frame) (c : Claim) : Type 0 where
 unfoldable pub left_of : ℕ → Claim → Valuation → ℕ
 left_of states c v = missing states (has c.reached) v + (room c.upper + room c.lower)
 
--- A claim has grown, by what valuations do that are taken in the base claim. Where nothing has changed, these valuations are held.
+-- A claim is above another one: it has its control states, and each bound that is left is no tighter.
+pub record IsAbove (old new : Claim) : Type 0 where
+  pub reached : (v : Valuation) → IsIn old.reached v → IsIn new.reached v
+  pub upper : HaveNotFallen old.upper new.upper
+  pub lower : HaveNotFallen old.lower new.lower
+
+-- A claim has grown, by what valuations do that are taken in the base claim. It holds them afterwards.
 pub record HasGrown (s : System) (f : Frame) (base : BoxClaim) (inside : Valuation → Type 0) (changed : Bool) (old new : Claim) : Type 0 where
   pub kept : IsKeptClaim s f new
-  pub grows : (v : Valuation) → IsIn old.reached v → IsIn new.reached v
+  pub above : IsAbove old new
   pub below : IsBelowClosed s f.thresholds base → IsBelowClosed s f.thresholds (claim_of old) → IsBelowClosed s f.thresholds (claim_of new)
   pub still : changed ≡ false → new ≡ old
-  pub held : changed ≡ false → (v : Valuation) → inside v → IsHeld s base (claim_of old) v
+  pub held : (v : Valuation) → inside v → IsHeld s base (claim_of new) v
   pub less : changed ≡ true → (v : Valuation) → left_of s.states new v < left_of s.states old v
 
 -- A case of the system, within a set of control states.
@@ -107,11 +113,17 @@ IsMet from c = (v : Valuation) × IsIn c.condition v × IsIn from v
 abbrev pub IsInCases : List Case → ℕ → Valuation → Type 0
 IsInCases cases n v = (j : ℕ) × (c : Case) × (j < n) × (slice_get cases j ≡ Some c) × IsIn c.condition v
 
+-- A claim under way: it is below each closed one, and holds what initial control states do. No bound counts there, so the claim that they are
+-- taken in does not matter.
+pub record IsRising (s : System) (f : Frame) (first : Frozen) (c : Claim) : Type 0 where
+  pub kept : IsKeptClaim s f c
+  pub below : IsBelowClosed s f.thresholds (claim_of c)
+  pub held : (base : BoxClaim) (v : Valuation) → IsIn first v → IsHeld s base (claim_of c) v
+
 -- The claim has grown by a round: nothing has changed only where it is closed.
-pub record IsRound (s : System) (f : Frame) (changed : Bool) (old new : Claim) : Type 0 where
-  pub kept : IsKeptClaim s f new
+pub record IsRound (s : System) (f : Frame) (first : Frozen) (changed : Bool) (old new : Claim) : Type 0 where
+  pub rising : IsRising s f first new
   pub grows : (v : Valuation) → IsIn old.reached v → IsIn new.reached v
-  pub below : IsBelowClosed s f.thresholds (claim_of old) → IsBelowClosed s f.thresholds (claim_of new)
   pub still : changed ≡ false → new ≡ old
   pub closed : changed ≡ false → IsClosed s (claim_of old)
   pub less : changed ≡ true → (v : Valuation) → left_of s.states new v < left_of s.states old v

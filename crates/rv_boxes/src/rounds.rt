@@ -1,4 +1,4 @@
-//! Rounds over the cases of a claim's control states, until none loosens the claim.
+//! Rounds over the cases of a claim's control states, until none loosens the claim. Those of the initial ones are asked once, before them.
 
 ghost use Rattle.std.specs.Prelude.{◌≡◌, ℕ, ◌<◌, ◌≤◌, ◌^◌, ◌||◌, All, length, IfOk, IfSome, IsErrOf, OnOk};
 ghost use Rattle.rv_diagram.specs.declared.frozen.Frozen.{Frozen as FrozenModel};
@@ -15,9 +15,9 @@ ghost use Rattle.rv_boxes.specs.declared.frame.Frame.{Frame as FrameModel};
 ghost use Rattle.rv_boxes.specs.declared.claim.Claim.{Claim as ClaimModel};
 ghost use Rattle.rv_boxes.specs.Opening.{IsToldOf};
 ghost use Rattle.rv_boxes.specs.Rounds.{IsGiven, IsSetting, IsKeptClaim, HasTaken, HasGrown, AreCasesOf, IsMet, IsInCases, AreOthers, AreFirst};
-ghost use Rattle.rv_boxes.specs.Rounds.{IsRound, IsStart, IsLeastClaim};
+ghost use Rattle.rv_boxes.specs.Rounds.{IsRising, IsRound, IsStart, IsLeastClaim};
 ghost use Rattle.rv_boxes.specs.Marking.{IsMarkOf, AreMarked};
-ghost use Rattle.rv_boxes.specs.Knowing.{IsWithin, IsKnown, Knows, AreAround, IsBegun};
+ghost use Rattle.rv_boxes.specs.Knowing.{IsWithin, IsKnown, Knows, AreAround};
 ghost use Rattle.rv_walk.specs.Extended.{IsWithout};
 ghost use Rattle.rv_boxes.specs.Imaging.{AreImages, AreNone};
 ghost use Rattle.rv_boxes.specs.Orders.{IsBelowClosed};
@@ -276,7 +276,7 @@ pub fn others_of(
     })
 }
 
-/// What a round over a claim goes over beside the initial control states.
+/// What a round over a claim goes over.
 #[derive(Debug, Drop)]
 pub struct Around {
     /// The known cases, of a set of control states with room to grow.
@@ -383,81 +383,41 @@ fn around_after(
     })
 }
 
-/// The images of the cases of both sets of control states, as far as they are made.
-#[derive(Debug, Drop)]
-struct Images {
-    /// Those of the initial ones.
-    first: Vec<Option<Frozen>>,
-    /// Those of the known ones, from the claim's control states that are not initial.
-    others: Vec<Option<Frozen>>,
-}
-
-/// A round over the cases of the claim's control states: of the initial ones, where no bound counts, and of the others. Whether
-/// something has changed; where nothing has, the claim is closed.
+/// A round over the cases of the claim's control states that are not initial. Whether something has changed; where nothing has, the claim is
+/// closed.
 fn round(
     alloc: Global,
     store: &mut Store,
     relation: &Relation,
     frame: &Frame,
-    first: &Frozen,
-    from_first: &Many<Case>,
-    first_marks: &Many<Option<Told>>,
     around: &Around,
-    images: &mut Images,
+    images: &mut Vec<Option<Frozen>>,
     claim: &mut Claim,
 ) -> Result<bool, StoreFault>
-    requires marks { AreMarked frame.now.tests first.now from_first.now (length from_first.now) first_marks.now }
-    requires system { (s : System) × (q : QuestionsModel) × IsGiven s store.old relation.now q frame.now
-        × IsStart s first.now from_first.now × IsKeptClaim s frame.now claim.old × AreAround s frame.now first.now claim.old around.now
-        × AreImages s first.now from_first.now images.old.first.items × AreImages s around.now.control around.now.known.cases images.old.others.items }
-    ensures grown { (s : System) (q : QuestionsModel) → IsGiven s store.old relation.now q frame.now
-        → IsStart s first.now from_first.now → IsKeptClaim s frame.now claim.old → AreAround s frame.now first.now claim.old around.now
-        → AreImages s first.now from_first.now images.old.first.items → AreImages s around.now.control around.now.known.cases images.old.others.items
-        → IfOk result (λ changed. IsRound s frame.now changed claim.old claim.new) }
-    ensures known { (s : System) (q : QuestionsModel) → IsGiven s store.old relation.now q frame.now
-        → IsStart s first.now from_first.now → IsKeptClaim s frame.now claim.old → AreAround s frame.now first.now claim.old around.now
-        → AreImages s first.now from_first.now images.old.first.items → AreImages s around.now.control around.now.known.cases images.old.others.items
-        → OnOk result (AreImages s first.now from_first.now images.new.first.items
-        × AreImages s around.now.control around.now.known.cases images.new.others.items) }
+    requires { (s : System) × (q : QuestionsModel) × (first : FrozenModel) × IsGiven s store.old relation.now q frame.now
+        × IsInitialSet s first × IsRising s frame.now first claim.old × AreAround s frame.now first claim.old around.now
+        × AreImages s around.now.control around.now.known.cases images.old.items }
+    ensures grown { (s : System) (q : QuestionsModel) (first : FrozenModel) → IsGiven s store.old relation.now q frame.now
+        → IsInitialSet s first → IsRising s frame.now first claim.old → AreAround s frame.now first claim.old around.now
+        → AreImages s around.now.control around.now.known.cases images.old.items
+        → IfOk result (λ changed. IsRound s frame.now first changed claim.old claim.new) }
+    ensures known { (s : System) (q : QuestionsModel) (first : FrozenModel) → IsGiven s store.old relation.now q frame.now
+        → IsInitialSet s first → IsRising s frame.now first claim.old → AreAround s frame.now first claim.old around.now
+        → AreImages s around.now.control around.now.known.cases images.old.items
+        → OnOk result (AreImages s around.now.control around.now.known.cases images.new.items) }
     ensures same { store.new ≡ store.old }
     ensures roomy { IsErrOf result StoreFault.Nodes → store.old.limit < 2 ^ (2 ^ store.old.variables) }
 {
-    let nothing = Many::new(alloc);
-    let Images {
-        first: first_images,
-        others: other_images,
-    } = images;
-    let one = by_cases(
-        alloc,
-        store,
-        relation,
-        frame,
-        first,
-        &nothing,
-        from_first,
-        first_marks,
-        first_images,
-        claim,
-    )?;
     let Around {
         known,
         control,
         given,
         marks,
     } = around;
-    let two = by_cases(
-        alloc,
-        store,
-        relation,
-        frame,
-        control,
-        given,
-        &known.cases,
-        marks,
-        other_images,
-        claim,
-    )?;
-    Ok(either(one, two))
+    let cases = &known.cases;
+    by_cases(
+        alloc, store, relation, frame, control, given, cases, marks, images, claim,
+    )
 }
 
 /// For each memory the least threshold, or none where there are none.
@@ -500,16 +460,8 @@ fn first_claim(
     })
 }
 
-/// What rounds begin with.
-#[derive(Debug, Drop)]
-struct Begun {
-    /// The first claim.
-    claim: Claim,
-    /// What the first round goes over.
-    around: Around,
-}
-
-/// What rounds begin with: the first claim, with no known cases, since it has initial control states alone.
+/// What rounds begin with: the first claim, loosened by the cases of the initial control states. No bound counts there, so what it then holds
+/// of them it holds from there on, and they are not asked again.
 fn begin(
     alloc: Global,
     store: &mut Store,
@@ -517,15 +469,51 @@ fn begin(
     questions: &Questions,
     frame: &Frame,
     first: &Frozen,
-) -> Result<Begun, StoreFault>
-    requires { (s : System) × IsGiven s store.old relation.now questions.now frame.now × IsInitialSet s first.now }
-    ensures begun { (s : System) → IsGiven s store.old relation.now questions.now frame.now → IsInitialSet s first.now
-        → IfOk result (λ b. IsBegun s frame.now first.now b.claim b.around) }
+    from_first: &Many<Case>,
+) -> Result<Claim, StoreFault>
+    requires { (s : System) × IsGiven s store.old relation.now questions.now frame.now × IsStart s first.now from_first.now }
+    ensures rising { (s : System) → IsGiven s store.old relation.now questions.now frame.now → IsStart s first.now from_first.now
+        → IfOk result (IsRising s frame.now first.now) }
     ensures same { store.new ≡ store.old }
     ensures roomy { IsErrOf result StoreFault.Nodes → store.old.limit < 2 ^ (2 ^ store.old.variables) }
 {
     let memories = questions.forms.len();
-    let claim = first_claim(alloc, store, relation, frame, memories)?;
+    let mut claim = first_claim(alloc, store, relation, frame, memories)?;
+    let nothing = Many::new(alloc);
+    let marks = marks_of(alloc, store, frame, from_first, first)?;
+    let mut images = no_images(alloc, from_first.len())?;
+    let _changed = by_cases(
+        alloc,
+        store,
+        relation,
+        frame,
+        first,
+        &nothing,
+        from_first,
+        &marks,
+        &mut images,
+        &mut claim,
+    )?;
+    Ok(claim)
+}
+
+/// What the first round over a claim goes over.
+fn around_of(
+    alloc: Global,
+    store: &mut Store,
+    relation: &Relation,
+    questions: &Questions,
+    frame: &Frame,
+    first: &Frozen,
+    claim: &Claim,
+) -> Result<Around, StoreFault>
+    requires { (s : System) × IsGiven s store.old relation.now questions.now frame.now × IsInitialSet s first.now
+        × IsKeptClaim s frame.now claim.now }
+    ensures around { (s : System) → IsGiven s store.old relation.now questions.now frame.now → IsInitialSet s first.now
+        → IsKeptClaim s frame.now claim.now → IfOk result (AreAround s frame.now first.now claim.now) }
+    ensures same { store.new ≡ store.old }
+    ensures roomy { IsErrOf result StoreFault.Nodes → store.old.limit < 2 ^ (2 ^ store.old.variables) }
+{
     let nothing = nothing_known(alloc, store, first)?;
     let control = without(store, &claim.reached, first)?;
     let given = bound_rows(alloc, &claim.upper, &claim.lower)?;
@@ -535,14 +523,11 @@ fn begin(
         alloc, store, relation, questions, frame, first, reached, &control, nothing, none,
     )?;
     let Noted { known, marks } = noted;
-    Ok(Begun {
-        claim,
-        around: Around {
-            known,
-            control,
-            given,
-            marks,
-        },
+    Ok(Around {
+        known,
+        control,
+        given,
+        marks,
     })
 }
 
@@ -557,7 +542,7 @@ pub struct Closed {
     pub others: Others,
 }
 
-/// The least closed claim: rounds, until nothing changes.
+/// The least closed claim: the cases of the initial control states, and then rounds, until nothing changes.
 pub fn closed_claim(
     alloc: Global,
     store: &mut Store,
@@ -574,15 +559,9 @@ pub fn closed_claim(
     ensures same { store.new ≡ store.old }
     ensures roomy { IsErrOf result StoreFault.Nodes → store.old.limit < 2 ^ (2 ^ store.old.variables) }
 {
-    let begun = begin(alloc, store, relation, questions, frame, first)?;
-    let Begun { claim, around } = begun;
-    let mut claim = claim;
-    let mut around = around;
-    let first_marks = marks_of(alloc, store, frame, from_first, first)?;
-    let mut images = Images {
-        first: no_images(alloc, from_first.len())?,
-        others: no_images(alloc, around.known.cases.len())?,
-    };
+    let mut claim = begin(alloc, store, relation, questions, frame, first, from_first)?;
+    let mut around = around_of(alloc, store, relation, questions, frame, first, &claim)?;
+    let mut images = no_images(alloc, around.known.cases.len())?;
     let mut more = true;
     while more {
         more = round(
@@ -590,14 +569,11 @@ pub fn closed_claim(
             store,
             relation,
             frame,
-            first,
-            from_first,
-            &first_marks,
             &around,
             &mut images,
             &mut claim,
         )?;
-        let places = &mut images.others;
+        let places = &mut images;
         around = around_after(
             alloc, store, relation, questions, frame, first, &claim, around, places,
         )?;

@@ -1,64 +1,53 @@
-use Rattle.std.proofs.Common.{◌≡◌, ◌∙◌, ap}
-use Rattle.rv_diagram.specs.Nodes.{Diagrams}
+use Rattle.std.proofs.Common.{◌∙◌, List, sym, subst}
+use Rattle.rv_rows.specs.declared.linear.Row.{Row}
+use Rattle.rv_boxes.specs.Claiming.{claim_of}
+use Rattle.rv_boxes.specs.Rounds.{IsSetting}
 use Rattle.rv_boxes.proofs.Giving.{given_there}
-use Rattle.rv_boxes.proofs.Noting.{marks_start}
+use Rattle.rv_boxes.proofs.Imagining.{none_images}
+use Rattle.rv_boxes.proofs.Rounding.{setting_first, rising_of}
 use Rattle.rv_boxes.proofs.rounds.begin.Goals as goal
 
 pub first_claim-requires : goal.first_claim-requires
-first_claim-requires c = let (s, given, initial) = c.requires in (s, c.args.questions.now, given)
+first_claim-requires c = let (s, given, start) = c.requires in (s, c.args.questions.now, given)
 
-pub nothing_known-requires : goal.nothing_known-requires
-nothing_known-requires c =
-    let (s, given, initial) = c.requires in
+pub marks_of-requires : goal.marks_of-requires
+marks_of-requires c =
+    let (s, given, start) = c.requires in
     let r = given.relation in
     let p = r.parts in
-    (s, p.variables, initial.control)
+    let cases = start.cases in
+    let initial = start.initial in
+    (s, r.system, given.frame, p.variables, cases.each, initial.control)
 
-pub note_known-requires-clause-system : goal.note_known-requires-clause-system
-note_known-requires-clause-system c =
-    let (s, given, initial) = c.requires in
+pub by_cases-requires : goal.by_cases-requires
+by_cases-requires c =
+    let (s, given, start) = c.requires in
     let r = given.relation in
-    let p = r.parts in
     let q = given.questions in
-    let kept = (c.in_ok-claim.ensures.first s c.args.questions.now given (c.len-memories.ensures ∙ q.many_memories)).0 in
-    let back : c.without.new.store ≡ c.args.store.now = c.without.ensures.same ∙ c.nothing_known.ensures.same in (
+    let cases = start.cases in
+    let first = c.in_ok-claim.ensures.first s c.args.questions.now given (c.len-memories.ensures ∙ q.many_memories) in (
       s,
-      given_there s c.args.store.now c.without.new.store c.args.relation.now c.args.questions.now c.args.frame.now back given,
-      initial,
-      kept.control,
-      c.in_ok-control.ensures.control s (ap (λ (d : Diagrams). d.variables) c.nothing_known.ensures.same ∙ p.variables) kept.control initial.control,
-      c.nothing_known.new.store.variables,
-      c.in_ok-control.ensures.exact,
-      c.in_ok-nothing.ensures.known s p.variables initial.control,
+      c.args.questions.now,
+      claim_of c.in_ok-claim.claim,
+      given_there s c.args.store.now c.marks_of.new.store c.args.relation.now c.args.questions.now c.args.frame.now c.marks_of.ensures.same given,
+      subst (λ (rows : List Row). IsSetting s (claim_of c.in_ok-claim.claim) c.args.first.now rows) (sym c.new-nothing.ensures)
+          (setting_first s r.system c.args.frame.now given.frame c.in_ok-claim.claim first.0 c.args.first.now start.initial),
+      first.0,
+      cases.each,
+      c.in_ok-marks.ensures.marked,
+      none_images s c.args.first.now c.args.from_first.now _ _ c.in_ok-images.ensures c.len.ensures,
     )
 
-pub note_known-requires-clause-marks : goal.note_known-requires-clause-marks
-note_known-requires-clause-marks c =
-    marks_start c.args.frame.now.tests c.in_ok-control.control c.in_ok-nothing.nothing.cases c.new-none.result c.in_ok-nothing.ensures.none c.new-none.ensures
-
-pub returns-clause-begun : goal.returns-clause-begun
-returns-clause-begun c s given initial =
+pub returns-clause-rising : goal.returns-clause-rising
+returns-clause-rising c s given start =
     let r = given.relation in
-    let p = r.parts in
     let q = given.questions in
+    let cases = start.cases in
     let first = c.in_ok-claim.ensures.first s c.args.questions.now given (c.len-memories.ensures ∙ q.many_memories) in
-    let kept = first.0 in
-    let back : c.without.new.store ≡ c.args.store.now = c.without.ensures.same ∙ c.nothing_known.ensures.same in
-    let exact = c.in_ok-control.ensures.exact in
-    record {
-      kept = kept;
-      below = first.1;
-      around = record {
-        rest = record {
-          control = c.in_ok-control.ensures.control s (ap (λ (d : Diagrams). d.variables) c.nothing_known.ensures.same ∙ p.variables) kept.control
-              initial.control;
-          exact = exact.exact;
-          rows = c.in_ok-given.ensures;
-        };
-        knows = c.in_ok-noted.ensures.knows s c.nothing_known.new.store.variables
-            (given_there s c.args.store.now c.without.new.store c.args.relation.now c.args.questions.now c.args.frame.now back given) initial
-            kept.control
-            exact (c.in_ok-nothing.ensures.known s p.variables initial.control);
-        marked = c.in_ok-noted.ensures.marked;
-      };
-    }
+    rising_of s r.system c.args.frame.now given.frame c.in_ok-claim.claim first.0 c.args.first.now start.initial first.1 c.args.from_first.now start.cases
+    c.in_ok-_changed._changed c.by_cases.new.claim
+    (c.in_ok-_changed.ensures.grown s c.args.questions.now (claim_of c.in_ok-claim.claim)
+    (given_there s c.args.store.now c.marks_of.new.store c.args.relation.now c.args.questions.now c.args.frame.now c.marks_of.ensures.same given)
+    (subst (λ (rows : List Row). IsSetting s (claim_of c.in_ok-claim.claim) c.args.first.now rows) (sym c.new-nothing.ensures)
+    (setting_first s r.system c.args.frame.now given.frame c.in_ok-claim.claim first.0 c.args.first.now start.initial)) first.0 cases.each
+    c.in_ok-marks.ensures.marked (none_images s c.args.first.now c.args.from_first.now _ _ c.in_ok-images.ensures c.len.ensures))
