@@ -149,7 +149,7 @@ fn all_false(alloc: Global, variables: u32) -> Result<Many<bool>, Memory>
     Ok(values)
 }
 
-/// A valuation of the condition, or any where the condition has none.
+/// A valuation of the condition, the least, or any where the condition has none. The only error is want of memory.
 pub fn sample_of(alloc: Global, store: &Store, condition: Ref) -> Result<Many<bool>, Memory>
     requires { IsRef store.now.nodes condition }
     ensures sized { IfOk result (λ values. length values ≡ store.now.variables) }

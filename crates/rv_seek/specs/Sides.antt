@@ -54,6 +54,7 @@ pub record IsPut (rows : List Row) (width n : ℕ) (key : Vec ℤ) (c : Closest)
 -- past the end, which stand for no premise.
 pub record IsPrepared (rows : List Row) (width : ℕ) (map : BTreeMap (Vec ℤ) Closest) : Type 0 where
   pub numbers : All (RowWithin (2 ^ 60)) rows
+  pub few : length rows < 2 ^ 32
   pub widths : All (λ r. length r.coefficients ≤ width) rows
   pub table : IsTable rows width (length rows + 2) map
 

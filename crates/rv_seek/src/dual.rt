@@ -1,11 +1,9 @@
 // The dual simplex from a corner: the wanted side changes the right sides alone, and the costs stay as they are. What it finds is checked by its
 // callers.
-ghost use Rattle.std.specs.Prelude.{◌≡◌, Ok};
-
 use crate::simplex::{Found, PIVOTS, STEEPEST_PIVOTS, at_corner};
 use crate::sparse::{Sparse, product_with};
 use crate::tableau::{
-    NO_PREMISE, Tableau, at_or_zero, basis_of, cost_in, entry, number_in, numbers_of, pivot_at,
+    NO_PREMISE, Tableau, at_or_zero, basis_of, cost_in, entry, numbers_of, pivot_at,
 };
 use rv_base::{Many, Memory};
 use rv_rows::number_at;

@@ -1,17 +1,18 @@
 // Premises that many questions are asked of.
-ghost use Rattle.std.specs.Prelude.{◌≡◌, ◌<◌, ◌≤◌, ◌^◌, ◌+◌, [], negsuc, All, length, IfSome, IfNone, IfOk};
+ghost use Rattle.std.specs.Prelude.{◌≡◌, ◌<◌, ◌≤◌, ◌^◌, ◌+◌, [], negsuc, All, length, IfSome, IfNone, IsSome, IfOk};
 ghost use Rattle.std.specs.Int.RustNames.{unsigned_abs};
 ghost use Rattle.rv_rows.specs.Rows.{RowWithin};
-ghost use Rattle.rv_rows.specs.Multipliers.{ShowsAtOnce, AreShutAtOnce};
+ghost use Rattle.rv_rows.specs.Multipliers.{Proves, ShowsAtOnce, AreShutAtOnce};
 ghost use Rattle.rv_seek.specs.Least.{IsLeast, IsAlone, IsLeastAmong, bounded};
-ghost use Rattle.rv_seek.specs.Pairs.{PairShows};
+ghost use Rattle.rv_seek.specs.Pairs.{PairShows, HasRanges};
 ghost use Rattle.rv_seek.specs.Sides.{IsTable};
 
 use crate::least::{Best, alone_in, least_among_in, least_in};
 use crate::places::widest;
+use crate::seek::row_by;
 use crate::sides::{Sides, add_place};
 use rv_base::{Many, Memory};
-use rv_rows::Row;
+use rv_rows::{Multipliers, Row};
 use std::alloc::Global;
 use std::collections::BTreeMap;
 use std::marker::Model;
@@ -129,5 +130,16 @@ impl<'a> Premises<'a> {
         };
         let shown = self.shown(alloc, &wanted)?;
         Ok(shown)
+    }
+
+    /// Multipliers that prove the row from the premises, as `seek_row` finds them: wherever none, one or two premises show the row at once;
+    /// elsewhere None promises nothing. The only error is want of memory.
+    pub fn row(&self, alloc: Global, wanted: &Row) -> Result<Option<Multipliers>, Memory>
+        requires wanted { RowWithin (2 ^ 78) wanted.now }
+        ensures proof { IfOk result (λ o. IfSome o (λ m. Proves self.now wanted.now m)) }
+        ensures ranges { IfOk result (λ o. IfSome o (λ m. HasRanges (length self.now) m)) }
+        ensures at_once { IfOk result (λ o. ShowsAtOnce self.now wanted.now → IsSome o) }
+    {
+        row_by(alloc, self.rows, self, wanted)
     }
 }

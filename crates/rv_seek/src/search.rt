@@ -1,5 +1,5 @@
 // Premises made ready for many searches.
-ghost use Rattle.std.specs.Prelude.{◌≡◌, ◌<◌, ◌≤◌, ◌^◌, List, ℤ, ◌≤ℤ◌, All, length, IfSome, IsSome, IfOk, IsSomeAnd};
+ghost use Rattle.std.specs.Prelude.{◌≡◌, ◌<◌, ◌≤◌, ◌^◌, List, ℤ, ◌≤ℤ◌, All, length, IfSome, IfOk, IsSomeAnd};
 ghost use Rattle.rv_rows.specs.Rows.{RowWithin, Holds};
 ghost use Rattle.rv_rows.specs.Multipliers.{Proves, ShowsAtOnce};
 ghost use Rattle.rv_rows.specs.Forms.{FormWithin, value};
@@ -16,7 +16,7 @@ use crate::simplex::corner_of;
 use crate::sparse::{Sparse, sparse_rows};
 use crate::tableau::Tableau;
 use rv_base::{Many, Memory};
-use rv_rows::{Form, Multipliers, Row};
+use rv_rows::{Form, Row};
 use std::alloc::Global;
 use std::marker::Model;
 
@@ -142,16 +142,5 @@ impl<'a> Search<'a> {
             &self.corner,
             form,
         )
-    }
-
-    /// Multipliers that prove the row from the premises, as `seek_row` finds them: wherever none, one or two premises show the row at once;
-    /// elsewhere None promises nothing. The only error is want of memory.
-    pub fn row(&self, alloc: Global, wanted: &Row) -> Result<Option<Multipliers>, Memory>
-        requires wanted { RowWithin (2 ^ 78) wanted.now }
-        ensures proof { IfOk result (λ o. IfSome o (λ m. Proves self.now wanted.now m)) }
-        ensures ranges { IfOk result (λ o. IfSome o (λ m. HasRanges (length self.now) m)) }
-        ensures at_once { IfOk result (λ o. ShowsAtOnce self.now wanted.now → IsSome o) }
-    {
-        row_by(alloc, self.rows, &self.pairs, wanted)
     }
 }

@@ -37,7 +37,7 @@ fn side_of(
     ensures length { IfOk result (λ side. length side.items ≡ width) }
     ensures side { IfOk result (λ side. IsSide (row_at premises.now place) side.items) }
 {
-    let mut side = Vec::new(alloc);
+    let mut side = Vec::with_capacity(alloc, width)?;
     for column in 0..width {
         side.push(coefficient_of(premises, place, column))?;
     }
