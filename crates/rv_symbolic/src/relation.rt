@@ -55,7 +55,7 @@ struct Taken {
 /// A system of valuations as references in a store that is kept beside it: what the system is at a valuation, and the relation between a
 /// valuation and its next control state, in parts that an image and a preimage each quantify in their own way. State bit i is
 /// variable 2 i, and its next copy is variable 2 i + 1. Each call is given the store, of which the relation speaks as long as its list
-/// only grows, and leaves it as it was, after a fault too.
+/// only grows, and but for `step` leaves it as it was, after a fault too.
 #[derive(Debug, Drop)]
 pub struct Relation {
     parts: Parts,
@@ -161,7 +161,24 @@ impl Relation {
         answer
     }
 
-    /// One step from all allowed valuations of a set, in one image.
+    /// One step from all allowed valuations of a set, in one image. What was built of it is left in the store, where the next
+    /// step finds it again.
+    pub fn step(&self, store: &mut Store, from: &Frozen) -> Result<NextStates, StoreFault>
+        requires { (s : System) × IsRelationOf s store.old self.now × IsControlSet s from.now }
+        ensures exact { (s : System) → IsRelationOf s store.old self.now → IsControlSet s from.now → IfOk result (AreNextStates s from.now) }
+        ensures extends { Extends store.old store.new }
+        ensures roomy { IsErrOf result StoreFault.Nodes → store.old.limit < 2 ^ (2 ^ store.old.variables) }
+    {
+        let links = self.forth.as_slice();
+        let taken = take_step(store, &self.parts, links, from)?;
+        let Taken { copies, good } = taken;
+        Ok(NextStates {
+            set: copies.lowered(),
+            good,
+        })
+    }
+
+    /// The same step. The store is left as it was.
     pub fn next_states(&self, store: &mut Store, from: &Frozen) -> Result<NextStates, StoreFault>
         requires { (s : System) × IsRelationOf s store.old self.now × IsControlSet s from.now }
         ensures exact { (s : System) → IsRelationOf s store.old self.now → IsControlSet s from.now → IfOk result (AreNextStates s from.now) }
@@ -169,15 +186,9 @@ impl Relation {
         ensures roomy { IsErrOf result StoreFault.Nodes → store.old.limit < 2 ^ (2 ^ store.old.variables) }
     {
         let mark = store.mark();
-        let links = self.forth.as_slice();
-        let answer = take_step(store, &self.parts, links, from);
+        let answer = self.step(store, from);
         store.release(mark);
-        let taken = answer?;
-        let Taken { copies, good } = taken;
-        Ok(NextStates {
-            set: copies.lowered(),
-            good,
-        })
+        answer
     }
 
     /// Exactly the initial control states.

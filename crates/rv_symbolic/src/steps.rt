@@ -53,8 +53,8 @@ pub fn without(store: &mut Store, a: Ref, b: Ref) -> Result<Ref, StoreFault>
     ensures roomy { IsErrOf result StoreFault.Nodes → store.old.limit < 2 ^ (2 ^ store.old.variables) }
     ensures ok { IfOk result (λ r. Makes store.old store.new (λ v. value_of store.old.nodes a v && not (value_of store.old.nodes b v)) r) }
 {
-    let other = store.not(b)?;
-    store.and(a, other)
+    let nothing = store.constant(false);
+    store.ite(b, nothing, a)
 }
 
 /// The allowed valuations of a set, and of these the valuations at which the observer is false.

@@ -6,6 +6,7 @@ use Rattle.std.proofs.lemmas.Option.{get_or_from_slice_get, slice_get-get_or, sl
 use Rattle.rv_diagram.specs.Nodes.{Valuation}
 use Rattle.rv_diagram.specs.declared.frozen.Frozen.{Frozen}
 use Rattle.rv_proofs.specs.Systems.{System, HasSameState}
+use Rattle.rv_proofs.specs.Ranges.{IsControlSet}
 use Rattle.rv_proofs.specs.Scopes.{IsIn}
 use Rattle.rv_proofs.specs.Accepted.{IsAccepted}
 use Rattle.rv_proofs.specs.Boxes.{BoxClaim, IsOpen, IsTaken, HasGoodBox}
@@ -51,30 +52,30 @@ layer_of s reached t set opens closed stage = record {
   );
 }
 
-pub done_layers : (s : System) (sets : List Frozen) (reached : Frozen) (good : Bool) → ((c : BoxClaim) (v : Valuation) → IsOpen s c v)
+pub done_layers : (s : System) (sets : List Frozen) (reached : Valuation → Bool) (good : Bool) → ((c : BoxClaim) (v : Valuation) → IsOpen s c v)
     → IsDone s sets reached good
-    → AreLayers s (unbounded (has reached)) sets
+    → AreLayers s (unbounded reached) sets
 done_layers s sets reached good opens d =
-    let closed : IsControlClosed s (has reached) = done_closed s sets reached good d in
+    let closed : IsControlClosed s reached = done_closed s sets reached good d in
     let got : (t : ℕ) → t < length sets → slice_get sets t ≡ Some (set_at sets t) = λ t low. slice_get-get_or sets t no_set low in
     record {
       some = d.some;
-      each = λ t set h. layer_of s (has reached) t set opens closed (subst (IsStage s t) (get_or_from_slice_get sets t set no_set h) (d.layers t
+      each = λ t set h. layer_of s reached t set opens closed (subst (IsStage s t) (get_or_from_slice_get sets t set no_set h) (d.layers t
           (slice_get_within sets t set h)));
       all = λ v. (
         λ h. let b : (t : ℕ) × (t < length sets) × (has (set_at sets t) v ≡ true) = d.held v h in (b.0, set_at sets b.0, got b.0 b.1, b.2),
         λ (t, set, h, on).
             let low : t < length sets = slice_get_within sets t set h in
             let stage : IsStage s t set = subst (IsStage s t) (get_or_from_slice_get sets t set no_set h) (d.layers t low) in
-            reached_in s (has reached) closed t v ((stage.exact v).0 on).0,
+            reached_in s reached closed t v ((stage.exact v).0 on).0,
       );
     }
 
-pub done_bad : (s : System) (sets : List Frozen) (reached : Frozen) (good : Bool) → ((c : BoxClaim) (v : Valuation) → IsOpen s c v)
+pub done_bad : (s : System) (sets : List Frozen) (reached : Valuation → Bool) (good : Bool) → ((c : BoxClaim) (v : Valuation) → IsOpen s c v)
     → IsDone s sets reached good → good ≡ false
     → AreBadLayers s (record { sets = sets })
 done_bad s sets reached good opens d bad = record {
-  reached = has reached;
+  reached = reached;
   least = done_least s sets reached good d;
   layers = done_layers s sets reached good opens d;
   bad = d.is_bad bad;
@@ -197,13 +198,14 @@ good_decides s (Bad l) without safe end = (
       unsafe s b.0 f.0 f.1 f.2 is,
 )
 
-pub done_good : (s : System) (sets : List Frozen) (reached : Frozen) (cases : List Case) → IsDone s sets reached true → AreCases s reached cases
+pub done_good : (s : System) (sets : List Frozen) (reached : Frozen) (cases : List Case) → IsControlSet s reached → IsDone s sets (has reached) true
+    → AreCases s reached cases
     → length cases ≤ 2
     → IsGoodCertificate s (certificate_of reached cases)
-done_good s sets reached cases d parts few =
-    let least : IsLeastControl s (has reached) = done_least s sets reached true d in
+done_good s sets reached cases control d parts few =
+    let least : IsLeastControl s (has reached) = done_least s sets (has reached) true d in
     record {
-      accepted = accepted s reached cases d.control least.closed (d.is_good refl) parts few;
+      accepted = accepted s reached cases control least.closed (d.is_good refl) parts few;
       location = location_of reached cases;
       one = refl;
       least = least;

@@ -10,8 +10,9 @@ use Rattle.rv_symbolic.specs.Growing.{Extends, Makes}
 use Rattle.rv_symbolic.proofs.Extending.{extends_trans, grows_extends, needed_same}
 use Rattle.rv_symbolic.proofs.Reading.{control-value, control_set}
 use Rattle.rv_walk.specs.declared.sets.Extended.{Extended}
+use Rattle.rv_walk.specs.declared.sets.Grown.{Grown}
 use Rattle.rv_walk.specs.Ends.{has}
-use Rattle.rv_walk.specs.Extended.{fresh_of, either_of, IsTaken, IsExtended, IsWithout}
+use Rattle.rv_walk.specs.Extended.{fresh_of, either_of, fresh_in, either_in, IsTaken, IsExtended, IsWithout, IsGrown, IsLifted}
 
 -- nothing where the second is true, else the first
 pub none_or : (a b n : Bool) → n ≡ false → (if b then n else a) ≡ (a && not b)
@@ -20,35 +21,64 @@ none_or false true n is = is
 none_or true false n is = refl
 none_or false false n is = refl
 
-module _ (s0 s1 s2 s3 s4 : Diagrams) (reached next : Frozen) (before step fresh all : ℕ)
-    (a : Answers s0 s1 (value_of reached.nodes reached.root) before) (b : Answers s1 s2 (value_of next.nodes next.root) step)
-    (c : Makes s2 s3 (λ v. value_of s2.nodes step v && not (value_of s2.nodes before v)) fresh)
-    (d : Answers s3 s4 (λ v. value_of s3.nodes step v || value_of s3.nodes before v) all) where
-  pub join_extends : Extends s0 s4
-  join_extends = extends_trans s0 s3 s4 (extends_trans s0 s2 s3 (extends_trans s0 s1 s2 (grows_extends s0 s1 a.grows)
-      (grows_extends s1 s2 b.grows)) c.extends) (grows_extends s3 s4 d.grows)
+-- a set of the store and another
+module _ (s0 s1 s2 s3 : Diagrams) (next : Frozen) (before step fresh all : ℕ) (here : IsRef s0.nodes before)
+    (a : Answers s0 s1 (value_of next.nodes next.root) step)
+    (c : Makes s1 s2 (λ v. value_of s1.nodes step v && not (value_of s1.nodes before v)) fresh)
+    (d : Answers s2 s3 (λ v. value_of s2.nodes step v || value_of s2.nodes before v) all) where
+  pub joined_extends : Extends s0 s3
+  joined_extends = extends_trans s0 s2 s3 (extends_trans s0 s1 s2 (grows_extends s0 s1 a.grows) c.extends) (grows_extends s2 s3 d.grows)
 
-  at_before : (v : Valuation) → value_of s2.nodes before v ≡ has reached v
-  at_before v = b.grows.kept before a.found v ∙ a.means v
+  still_here : IsRef s1.nodes before
+  still_here = omega (arith, here, a.grows.longer)
 
-  found_before : IsRef s2.nodes before
-  found_before = omega (arith, a.found, b.grows.longer)
-
-  pub join_fresh : Makes s0 s4 (fresh_of reached next) fresh
-  join_fresh = record {
-    extends = join_extends;
+  pub joined_fresh : Makes s0 s3 (fresh_in (value_of s0.nodes before) next) fresh
+  joined_fresh = record {
+    extends = joined_extends;
     found = omega (arith, c.found, d.grows.longer);
-    means = λ v. d.grows.kept fresh c.found v ∙ c.means v ∙ ap (λ x. x && not (value_of s2.nodes before v)) (b.means v)
-        ∙ ap (λ x. has next v && not x) (at_before v);
+    means = λ v. d.grows.kept fresh c.found v ∙ c.means v ∙ ap (λ x. x && not (value_of s1.nodes before v)) (a.means v)
+        ∙ ap (λ x. has next v && not x) (a.grows.kept before here v);
   }
 
-  pub join_all : Makes s0 s4 (either_of reached next) all
-  join_all = record {
-    extends = join_extends;
+  pub joined_all : Makes s0 s3 (either_in (value_of s0.nodes before) next) all
+  joined_all = record {
+    extends = joined_extends;
     found = d.found;
-    means = λ v. d.means v ∙ ap (λ x. x || value_of s3.nodes before v) (c.extends.kept step b.found v ∙ b.means v)
-        ∙ ap (λ x. has next v || x) (c.extends.kept before found_before v ∙ at_before v);
+    means = λ v. d.means v ∙ ap (λ x. x || value_of s2.nodes before v) (c.extends.kept step a.found v ∙ a.means v)
+        ∙ ap (λ x. has next v || x) (c.extends.kept before still_here v ∙ a.grows.kept before here v);
   }
+
+-- two sets, of which the first was thawed
+module _ (s0 s1 s2 : Diagrams) (reached next : Frozen) (before r : ℕ) (a : Answers s0 s1 (value_of reached.nodes reached.root) before) where
+  pub join_fresh : Makes s1 s2 (fresh_in (value_of s1.nodes before) next) r → Makes s0 s2 (fresh_of reached next) r
+  join_fresh m = record {
+    extends = extends_trans s0 s1 s2 (grows_extends s0 s1 a.grows) m.extends;
+    found = m.found;
+    means = λ v. m.means v ∙ ap (λ x. has next v && not x) (a.means v);
+  }
+
+  pub join_all : Makes s1 s2 (either_in (value_of s1.nodes before) next) r → Makes s0 s2 (either_of reached next) r
+  join_all m = record {
+    extends = extends_trans s0 s1 s2 (grows_extends s0 s1 a.grows) m.extends;
+    found = m.found;
+    means = λ v. m.means v ∙ ap (λ x. has next v || x) (a.means v);
+  }
+
+pub grown_of : (s0 s1 : Diagrams) (reached : ℕ) (next : Frozen) (fresh all : ℕ) (found : Option Grown)
+    → Makes s0 s1 (fresh_in (value_of s0.nodes reached) next) fresh → Makes s0 s1 (either_in (value_of s0.nodes reached) next) all
+    → MatchOption found ((v : Valuation) → value_of s1.nodes fresh v ≡ false) (IsLifted s1 fresh all)
+    → MatchOption found ((v : Valuation) → fresh_in (value_of s0.nodes reached) next v ≡ false) (IsGrown s0 s1 reached next)
+grown_of s0 s1 reached next fresh all None one two none = λ v. sym (one.means v) ∙ none v
+grown_of s0 s1 reached next fresh all (Some g) one two t = record {
+  fresh = record {
+    ordered = subst (λ (m : ℕ). IsOrderedOver m g.fresh) one.extends.variables t.ordered;
+    exact = λ v. t.exact v ∙ one.means v;
+    needed = needed_same g.fresh.nodes (value_of s1.nodes fresh) (fresh_in (value_of s0.nodes reached) next) one.means t.needed;
+    some = λ none. t.some (λ v. sym (t.exact v) ∙ none v);
+  };
+  found = subst (λ (n : ℕ). IsRef s1.nodes n) (sym t.all) two.found;
+  all = λ v. ap (λ (n : ℕ). value_of s1.nodes n v) t.all ∙ two.means v;
+}
 
 pub extended_of : (s0 s1 : Diagrams) (reached next : Frozen) (fresh all : ℕ) (found : Option Extended) → Makes s0 s1 (fresh_of reached next) fresh
     → Makes s0 s1 (either_of reached next) all

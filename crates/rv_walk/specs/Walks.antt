@@ -42,31 +42,35 @@ missing (suc i) set v = missing i set (put v (2 * i) false) + missing i set (put
 
 -- The layers so far and their union, which is closed but for the last layer. Good says that the observer is true at all
 -- allowed valuations of the layers before it.
-pub record IsWalk (s : System) (sets : List Frozen) (reached : Frozen) (good : Bool) : Type 0 where
+pub record IsWalk (s : System) (sets : List Frozen) (reached : Valuation → Bool) (good : Bool) : Type 0 where
   pub some : 0 < length sets
   pub layers : (t : ℕ) → t < length sets → IsStage s t (set_at sets t)
-  pub control : IsControlSet s reached
-  pub held : (v : Valuation) → has reached v ≡ true → (t : ℕ) × (t < length sets) × (has (set_at sets t) v ≡ true)
-  pub all : (t : ℕ) → t < length sets → (v : Valuation) → IsReached s t v → has reached v ≡ true
-  pub inside : (v : Valuation) → s.allowed v ≡ true → has reached v ≡ true → has (last_of sets) v ≡ false → has reached (s.next v) ≡ true
-  pub seen_good : good ≡ true → (v : Valuation) → s.allowed v ≡ true → has reached v ≡ true → has (last_of sets) v ≡ false → s.observer v ≡ true
-  pub seen_bad : good ≡ false → (v : Valuation) × (s.allowed v ≡ true) × (has reached v ≡ true) × (s.observer v ≡ false)
+  pub state : (v w : Valuation) → HasSameState s v w → reached v ≡ reached w
+  pub held : (v : Valuation) → reached v ≡ true → (t : ℕ) × (t < length sets) × (has (set_at sets t) v ≡ true)
+  pub all : (t : ℕ) → t < length sets → (v : Valuation) → IsReached s t v → reached v ≡ true
+  pub inside : (v : Valuation) → s.allowed v ≡ true → reached v ≡ true → has (last_of sets) v ≡ false → reached (s.next v) ≡ true
+  pub seen_good : good ≡ true → (v : Valuation) → s.allowed v ≡ true → reached v ≡ true → has (last_of sets) v ≡ false → s.observer v ≡ true
+  pub seen_bad : good ≡ false → (v : Valuation) × (s.allowed v ≡ true) × (reached v ≡ true) × (s.observer v ≡ false)
 
 -- The union of the layers is closed, and it is known whether it is good.
-pub record IsDone (s : System) (sets : List Frozen) (reached : Frozen) (good : Bool) : Type 0 where
+pub record IsDone (s : System) (sets : List Frozen) (reached : Valuation → Bool) (good : Bool) : Type 0 where
   pub some : 0 < length sets
   pub layers : (t : ℕ) → t < length sets → IsStage s t (set_at sets t)
-  pub control : IsControlSet s reached
-  pub held : (v : Valuation) → has reached v ≡ true → (t : ℕ) × (t < length sets) × (has (set_at sets t) v ≡ true)
-  pub initial : (v : Valuation) → s.initial v ≡ true → has reached v ≡ true
-  pub closed : (v : Valuation) → s.allowed v ≡ true → has reached v ≡ true → has reached (s.next v) ≡ true
-  pub is_good : good ≡ true → (v : Valuation) → s.allowed v ≡ true → has reached v ≡ true → s.observer v ≡ true
-  pub is_bad : good ≡ false → (v : Valuation) × (s.allowed v ≡ true) × (has reached v ≡ true) × (s.observer v ≡ false)
+  pub state : (v w : Valuation) → HasSameState s v w → reached v ≡ reached w
+  pub held : (v : Valuation) → reached v ≡ true → (t : ℕ) × (t < length sets) × (has (set_at sets t) v ≡ true)
+  pub initial : (v : Valuation) → s.initial v ≡ true → reached v ≡ true
+  pub closed : (v : Valuation) → s.allowed v ≡ true → reached v ≡ true → reached (s.next v) ≡ true
+  pub is_good : good ≡ true → (v : Valuation) → s.allowed v ≡ true → reached v ≡ true → s.observer v ≡ true
+  pub is_bad : good ≡ false → (v : Valuation) × (s.allowed v ≡ true) × (reached v ≡ true) × (s.observer v ≡ false)
 
 -- A walk goes on, or is done.
-abbrev pub IsWalking : System → Bool → List Frozen → Frozen → Bool → Type 0
+abbrev pub IsWalking : System → Bool → List Frozen → (Valuation → Bool) → Bool → Type 0
 IsWalking s true sets reached good = IsWalk s sets reached good
 IsWalking s false sets reached good = IsDone s sets reached good
+
+-- The union of the layers of a walk that is done, by itself.
+abbrev pub IsExplored : System → List Frozen → Frozen → Bool → Type 0
+IsExplored s sets reached good = IsControlSet s reached × IsDone s sets (has reached) good
 
 -- the entry of a case: a step into location 0
 abbrev pub entry_of : Case → Entry

@@ -1,14 +1,22 @@
-use Rattle.std.proofs.Common.{◌&&◌, not}
-use Rattle.rv_diagram.specs.Nodes.{Answers, value_of}
-use Rattle.rv_symbolic.proofs.Extending.{grows_extends, map_ok, both_made}
+use Rattle.std.proofs.Common.{Bool, true, false, ◌≡◌, ◌&&◌, not, ◌∙◌, if◌then◌else◌, refl}
+use Rattle.rv_diagram.specs.Nodes.{Answers, choice, value_of}
+use Rattle.rv_symbolic.proofs.Extending.{grows_extends, map_ok}
 use Rattle.rv_symbolic.proofs.steps.without.Goals as goal
+
+-- nothing where the second is true, else the first
+left_out : (a b nothing : Bool) → nothing ≡ false → (if b then nothing else a) ≡ (a && not b)
+left_out true true nothing e = e
+left_out false true nothing e = e
+left_out true false nothing e = refl
+left_out false false nothing e = refl
 
 pub returns-clause-ok : goal.returns-clause-ok
 returns-clause-ok c =
-    map_ok c.and.result (λ r. Answers c.not.new.self c.and.new.self (λ v. value_of c.not.new.self.nodes c.args.a v && value_of c.not.new.self.nodes
-    c.in_ok-other.other v) r) _
-    (λ r t. both_made c.args.store.now c.not.new.self c.and.new.self c.args.a c.in_ok-other.other r
-    (λ v. value_of c.args.store.now.nodes c.args.a v) (λ v. not (value_of c.args.store.now.nodes c.args.b v))
-    (grows_extends c.args.store.now c.not.new.self c.in_ok-other.ensures.ok.grows) (λ v. c.in_ok-other.ensures.ok.grows.kept c.args.a c.requires.a v)
-    c.in_ok-other.ensures.ok.means t)
-    c.and.ensures.ok
+    map_ok c.ite.result (λ r. Answers c.args.store.now c.ite.new.self (choice c.args.store.now.nodes c.args.b c.constant-nothing.result c.args.a) r) _
+    (λ r t. record {
+      extends = grows_extends c.args.store.now c.ite.new.self t.grows;
+      found = t.found;
+      means = λ v. t.means v ∙ left_out (value_of c.args.store.now.nodes c.args.a v) (value_of c.args.store.now.nodes c.args.b v)
+          (value_of c.args.store.now.nodes c.constant-nothing.result v) (c.constant-nothing.ensures.means v);
+    })
+    c.ite.ensures.ok

@@ -4,7 +4,7 @@ use Rattle.rv_diagram.specs.declared.store.several.Part.{Part}
 use Rattle.rv_symbolic.specs.Linked.{quantified}
 use Rattle.rv_symbolic.specs.Stepped.{IsProjected, IsAStep}
 use Rattle.rv_symbolic.proofs.Projecting.{forth, copies_above, next_of}
-use Rattle.rv_symbolic.proofs.relation.Relation.next_states.Goals as goal
+use Rattle.rv_symbolic.proofs.relation.Relation.step.Goals as goal
 
 pub lowered-requires : goal.lowered-requires
 lowered-requires c =
@@ -23,12 +23,12 @@ returns-clause-exact c s is control =
     c.in_ok-taken.ensures.good c.lowered.ensures.nodes
     (c.lowered.ensures.within c.args.store.now.variables p.ordered) c.lowered.ensures.means
 
-pub take_step-answer-requires-clause-links : goal.take_step-answer-requires-clause-links
-take_step-answer-requires-clause-links c =
+pub take_step-requires-clause-links : goal.take_step-requires-clause-links
+take_step-requires-clause-links c =
     subst (λ (links : List Part). ArePartRefs c.args.store.now.nodes links) (sym c.as_slice-links.ensures)
     (forth c.requires.0 c.args.store.now c.args.self.now c.requires.1).refs
 
-pub take_step-answer-requires-clause-schedule : goal.take_step-answer-requires-clause-schedule
-take_step-answer-requires-clause-schedule c =
+pub take_step-requires-clause-schedule : goal.take_step-requires-clause-schedule
+take_step-requires-clause-schedule c =
     subst (λ (links : List Part). IsSchedule c.args.store.now.nodes links) (sym c.as_slice-links.ensures)
     (forth c.requires.0 c.args.store.now c.args.self.now c.requires.1).schedule
