@@ -184,6 +184,21 @@ module _ (s : System) (is : IsSystem s) (f : Frame) (frame : IsFrameOf s f) (cas
         fit t known (inl same) = test_fits s (row_at told t) (is.rows of.some.0 t (row_at told t) known (same of.some.0 of.some.1))
         fit t known (inr (absent, void)) = subst (IsFit s) (sym void) (nothing_fits s)
 
+-- the rows of the tests of a case are premises by themselves
+pub told_premises : (s : System) (is : IsSystem s) (f : Frame) (frame : IsFrameOf s f) (case : Case) (of : IsCaseOf s case) (told : List Row)
+    → IsTold f.tests (length case.tests) case.tests case.rows told → ArePremises f.columns told
+told_premises s is f frame case of told is_told =
+    let all : All (IsFit s) told = told_fits s is f frame case of told is_told in
+    let limits = is.limits in
+    let many = limits.tests in
+    subst (λ (n : ℕ). ArePremises n told) (sym frame.columns) (record {
+      few = omega (arith, is_told.size, frame.tests, many);
+      within = All-weaker (IsFit s) (RowWithin (2 ^ 60)) (λ r h. h.0) told all;
+      wide = λ p l. (all p nothing l).1;
+      sizes = λ p l. (all p nothing l).2;
+      units = λ p l. (all p nothing l).3;
+    })
+
 module _ (s : System) (is : IsSystem s) (f : Frame) (frame : IsFrameOf s f) (base : BoxClaim) (from : Frozen) (given : List Row)
     (setting : IsSetting s base from given) where
   given_fits : All (IsFit s) given

@@ -1,23 +1,23 @@
 -- What a case does to a claim.
-use Rattle.std.proofs.Common.{◌≡◌, ℕ, ◌<◌, ◌≤◌, ℤ, pos, negsuc, ◌+ℤ◌, ◌-ℤ◌, ◌*ℤ◌, ◌≤ℤ◌, ◌<ℤ◌, Bool, true, false, ◌||◌, List, [], ◌++◌, length, get_or}
+use Rattle.std.proofs.Common.{◌≡◌, ℕ, ◌+◌, ◌<◌, ◌≤◌, ℤ, pos, negsuc, ◌+ℤ◌, ◌-ℤ◌, ◌*ℤ◌, ◌≤ℤ◌, ◌<ℤ◌, Bool, true, false, ◌||◌, List, [], ◌++◌, length, get_or}
 use Rattle.std.proofs.Common.{Option, Some, IsTrue, arith, refl, sym, ap, ◌∙◌, subst, ◌⊎◌, inl, inr}
 use Rattle.std.proofs.Common.{None as Nothing}
 use Rattle.std.specs.List.{Contains}
 use Rattle.std.proofs.lemmas.Int.{ints}
 use Rattle.std.proofs.lemmas.Bool.{cases_lt, cases_Bool}
 use Rattle.std.proofs.lemmas.Option.{same_Some, none-some, slice_get-get_or}
-use Rattle.std.proofs.lemmas.List.{get_or_past, get_or_read, get_or_default}
+use Rattle.std.proofs.lemmas.List.{get_or_past, get_or_read, get_or_default, get_or-append-add, length-append}
 use Rattle.rv_diagram.specs.Nodes.{Valuation}
 use Rattle.rv_diagram.specs.declared.frozen.Frozen.{Frozen}
 use Rattle.rv_rows.specs.declared.linear.Row.{Row}
 use Rattle.rv_rows.specs.declared.linear.Form.{Form}
-use Rattle.rv_rows.specs.Rows.{row_at}
+use Rattle.rv_rows.specs.Rows.{row_at, Holds}
 use Rattle.rv_rows.specs.Forms.{number, value}
 use Rattle.rv_proofs.specs.Systems.{System, IsSystem, HasSameState}
 use Rattle.rv_proofs.specs.Scopes.{IsIn}
 use Rattle.rv_proofs.specs.Implied.{form_at}
 use Rattle.rv_proofs.specs.Ranges.{IsControlSet}
-use Rattle.rv_proofs.specs.Boxes.{BoxClaim, IsBoxClaim, IsInBox, IsTaken, IsClosed}
+use Rattle.rv_proofs.specs.Boxes.{BoxClaim, IsBoxClaim, HasOneColumn, IsInBox, IsTaken, IsClosed}
 use Rattle.rv_proofs.specs.Reached.{IsTighter}
 use Rattle.rv_proofs.specs.Cases.{IsImage, IsCaseOf}
 use Rattle.rv_proofs.specs.declared.report.Case.{Case}
@@ -137,6 +137,26 @@ claim_same a b e f g =
     ∙ ap (λ (x : List (Option ℤ)). let c : Claim = record { reached = b.reached; upper = x; lower = a.lower } in c) f
     ∙ ap (λ (x : List (Option ℤ)). let c : Claim = record { reached = b.reached; upper = b.upper; lower = x } in c) g
 
+-- a box that is open with premises before its own is open without them
+row_after : (given told : List Row) (p : ℕ) → row_at (given ++ told) (length given + p) ≡ row_at told p
+row_after given told p = get_or-append-add given told p (record { coefficients = []; bound = pos 0 })
+
+boxed_after : (width : ℕ) (given told : List Row) (point : List ℤ) → IsBoxed width (given ++ told) point → IsBoxed width told point
+boxed_after width given told point b = record {
+  size = b.size;
+  holds = λ p l one.
+      subst (λ (r : Row). Holds r point) (row_after given told p)
+      (b.holds (length given + p) (omega (arith, l, length-append given told)) (subst HasOneColumn (sym (row_after given told p)) one));
+}
+
+open_after : (width : ℕ) (given told : List Row) → IsOpenBox width (given ++ told) → IsOpenBox width told
+open_after width given told o = record {
+  some = (o.some.0, boxed_after width given told o.some.0 o.some.1);
+  each = λ p l.
+      let (point, boxed, holds) = o.each (length given + p) (omega (arith, l, length-append given told)) in
+      (point, boxed_after width given told point boxed, subst (λ (r : Row). Holds r point) (row_after given told p) holds);
+}
+
 module _ (s : System) (is : IsSystem s) (f : Frame) (frame : IsFrameOf s f) (base : BoxClaim) (from : Frozen) (given : List Row)
     (setting : IsSetting s base from given) (case : Case) (of : IsCaseOf s case) (premises : List Row)
     (pr : ArePremisesOf f.tests given case premises) where
@@ -202,6 +222,11 @@ module _ (s : System) (is : IsSystem s) (f : Frame) (frame : IsFrameOf s f) (bas
     };
     less = λ (e : false ≡ true). cc;
   }
+
+  -- so does one that its own rows shut
+  pub grown_told : ¬ IsOpenBox f.columns pr.told → (c : Claim) → IsKeptClaim s f c
+      → HasGrown s f base (λ v. IsIn case.condition v × IsIn from v) false c c
+  grown_told shut = grown_shut (λ o. shut (open_after f.columns given pr.told (subst (λ (ps : List Row). IsOpenBox f.columns ps) pr.are o)))
 
   module _ (met : IsMet from case) (old mid new : Claim) (kept : IsKeptClaim s f old) (opposites : List Form)
       (are_opposite : AreOppositeForms case.updates opposites) (x : Opened) (opened : IsOpened f premises case.updates opposites old.upper old.lower x)

@@ -37,4 +37,4 @@ pub record Knows (s : System) (first reached : Frozen) (k : Known) : Type 0 wher
 pub record AreAround (s : System) (f : Frame) (first : Frozen) (c : Claim) (a : Around) : Type 0 where
   pub rest : IsRest s first c a.control a.given
   pub knows : Knows s first c.reached a.known
-  pub marked : AreMarked f.tests a.control a.known.cases (length a.known.cases) a.marks
+  pub marked : AreMarked f a.control a.known.cases (length a.known.cases) a.marks

@@ -87,7 +87,7 @@ fn mark_case(
     requires system { (s : System) × IsSystem s × IsFrameOf s frame.now × (store.old.variables ≡ s.variables) × IsCaseOf s case.now
         × IsControlSet s control.now }
     requires there { place < length marks.old }
-    ensures marked { OnOk result (HasMarked frame.now.tests control.now case.now place marks.old marks.new) }
+    ensures marked { OnOk result (HasMarked frame.now control.now case.now place marks.old marks.new) }
     ensures same { store.new ≡ store.old }
     ensures roomy { IsErrOf result StoreFault.Nodes → store.old.limit < 2 ^ (2 ^ store.old.variables) }
 {
@@ -98,7 +98,7 @@ fn mark_case(
     if !met {
         return Ok(());
     }
-    let told = told_of(alloc, case, frame.tests)?;
+    let told = told_of(alloc, case, frame)?;
     marks.set(place, Some(told));
     Ok(())
 }
@@ -114,8 +114,8 @@ pub fn marked(
 ) -> Result<Many<Option<Told>>, StoreFault>
     requires system { (s : System) × IsSystem s × IsFrameOf s frame.now × (store.old.variables ≡ s.variables) × AreCasesOf s cases.now
         × IsControlSet s control.now }
-    requires marks { AreMarked frame.now.tests control.now cases.now 0 marks }
-    ensures marked { IfOk result (AreMarked frame.now.tests control.now cases.now (length cases.now)) }
+    requires marks { AreMarked frame.now control.now cases.now 0 marks }
+    ensures marked { IfOk result (AreMarked frame.now control.now cases.now (length cases.now)) }
     ensures same { store.new ≡ store.old }
     ensures roomy { IsErrOf result StoreFault.Nodes → store.old.limit < 2 ^ (2 ^ store.old.variables) }
 {
@@ -149,7 +149,7 @@ pub fn marks_of(
 ) -> Result<Many<Option<Told>>, StoreFault>
     requires { (s : System) × IsSystem s × IsFrameOf s frame.now × (store.old.variables ≡ s.variables) × AreCasesOf s cases.now
         × IsControlSet s control.now }
-    ensures marked { IfOk result (AreMarked frame.now.tests control.now cases.now (length cases.now)) }
+    ensures marked { IfOk result (AreMarked frame.now control.now cases.now (length cases.now)) }
     ensures same { store.new ≡ store.old }
     ensures roomy { IsErrOf result StoreFault.Nodes → store.old.limit < 2 ^ (2 ^ store.old.variables) }
 {

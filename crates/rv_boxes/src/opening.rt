@@ -1,12 +1,13 @@
 //! What a case does to limits: nothing where its box is shut, else what its updates loosen.
 
-ghost use Rattle.std.specs.Prelude.{◌≡◌, ◌<◌, ◌≤◌, ◌^◌, ℤ, negsuc, ◌*ℤ◌, List, length, All, IfOk, IfSome, IfNone};
+ghost use Rattle.std.specs.Prelude.{◌≡◌, ◌<◌, ◌≤◌, ◌^◌, ℤ, negsuc, ◌*ℤ◌, true, List, length, All, IfOk, IfSome, IfNone};
 ghost use Rattle.std.specs.Int.RustNames.{unsigned_abs};
+ghost use Rattle.rv_rows.specs.declared.linear.Row.{Row as RowModel};
 ghost use Rattle.rv_rows.specs.Forms.{value, FormWithin};
 ghost use Rattle.rv_boxes.specs.Ends.{AreEnds};
 ghost use Rattle.rv_boxes.specs.Boxed.{ArePremises, IsUncrossed, IsOpenBox};
 ghost use Rattle.rv_boxes.specs.Limits.{AreLoosened};
-ghost use Rattle.rv_boxes.specs.Opening.{HasTests, AreOppositeForms, IsToldOf, AreUpdates, IsOpened};
+ghost use Rattle.rv_boxes.specs.Opening.{HasTests, IsTold, AreOppositeForms, IsToldOf, AreUpdates, IsOpened};
 
 use crate::ends::{End, narrow};
 use crate::frame::Frame;
@@ -34,6 +35,8 @@ pub struct Told {
     pub rows: Many<Row>,
     /// The updates, each times -1.
     pub opposites: Many<Form>,
+    /// Whether these rows alone shut its box, whatever the bounds are.
+    pub shut: bool,
 }
 
 /// The ends of the box of the premises, or none where it is shut: it is empty, or the least value of a premise over it is above the
@@ -82,15 +85,37 @@ fn opposite_forms(alloc: Global, forms: &Many<Form>) -> Result<Many<Form>, Memor
     Ok(opposites)
 }
 
-/// What is kept of a case, where there are so many order tests.
-pub fn told_of(alloc: Global, case: &Case, many: usize) -> Result<Told, Memory>
-    requires tests { HasTests many case.now.tests case.now.rows }
-    requires updates { All (FormWithin (2 ^ 41)) case.now.updates }
-    ensures { IfOk result (IsToldOf many case.now) }
+/// Whether the rows shut their box.
+fn are_shut(alloc: Global, rows: &Many<Row>, columns: usize) -> Result<bool, Memory>
+    requires premises { ArePremises columns rows.now }
+    requires few { columns < 256 }
+    ensures { IfOk result (λ shut. shut ≡ true → ¬ IsOpenBox columns rows.now) }
 {
-    let rows = told_rows(alloc, &case.tests, &case.rows, many)?;
+    let nothing = Many::new(alloc);
+    let premises = Premises::new(&nothing, rows);
+    match open_ends(alloc, &premises, columns)? {
+        Some(_) => Ok(false),
+        None => Ok(true),
+    }
+}
+
+/// What is kept of a case.
+pub fn told_of(alloc: Global, case: &Case, frame: &Frame) -> Result<Told, Memory>
+    requires tests { HasTests frame.now.tests case.now.tests case.now.rows }
+    requires updates { All (FormWithin (2 ^ 41)) case.now.updates }
+    requires premises { (rows : List RowModel) → IsTold frame.now.tests (length case.now.tests) case.now.tests case.now.rows rows
+        → ArePremises frame.now.columns rows }
+    requires few { frame.now.columns < 256 }
+    ensures { IfOk result (IsToldOf frame.now case.now) }
+{
+    let rows = told_rows(alloc, &case.tests, &case.rows, frame.tests)?;
     let opposites = opposite_forms(alloc, &case.updates)?;
-    Ok(Told { rows, opposites })
+    let shut = are_shut(alloc, &rows, frame.columns)?;
+    Ok(Told {
+        rows,
+        opposites,
+        shut,
+    })
 }
 
 /// The limits, loosened by the updates over the box of the premises, and those of the opposites by the opposites of the updates, or none

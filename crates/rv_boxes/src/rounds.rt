@@ -25,7 +25,7 @@ ghost use Rattle.rv_boxes.specs.Claiming.{claim_of};
 
 use crate::bounding::bound_rows;
 use crate::claim::Claim;
-use crate::cutting::cut;
+use crate::cutting::{copy_cases, cut};
 use crate::frame::Frame;
 use crate::known::{Known, ask, is_within, nothing_known};
 use crate::limits::{Loosened, either};
@@ -135,10 +135,10 @@ fn by_case(
 ) -> Result<bool, StoreFault>
     requires { (s : System) × (q : QuestionsModel) × (base : BoxClaim) × IsGiven s store.old relation.now q frame.now
         × IsSetting s base from.now given.now × IsKeptClaim s frame.now claim.old × IsCaseOf s case.now × IsMet from.now case.now
-        × IsToldOf frame.now.tests case.now told.now × IfSome image.old (IsImage s from.now case.now) }
+        × IsToldOf frame.now case.now told.now × IfSome image.old (IsImage s from.now case.now) }
     ensures grown { (s : System) (q : QuestionsModel) (base : BoxClaim) → IsGiven s store.old relation.now q frame.now
         → IsSetting s base from.now given.now → IsKeptClaim s frame.now claim.old → IsCaseOf s case.now → IsMet from.now case.now
-        → IsToldOf frame.now.tests case.now told.now → IfSome image.old (IsImage s from.now case.now)
+        → IsToldOf frame.now case.now told.now → IfSome image.old (IsImage s from.now case.now)
         → IfOk result (λ changed. HasGrown s frame.now base (λ v. IsIn case.now.condition v × IsIn from.now v) changed claim.old claim.new) }
     ensures known { (s : System) (q : QuestionsModel) (base : BoxClaim) → IsGiven s store.old relation.now q frame.now
         → IsSetting s base from.now given.now → IsCaseOf s case.now
@@ -146,6 +146,9 @@ fn by_case(
     ensures same { store.new ≡ store.old }
     ensures roomy { IsErrOf result StoreFault.Nodes → store.old.limit < 2 ^ (2 ^ store.old.variables) }
 {
+    if told.shut {
+        return Ok(false);
+    }
     let premises = Premises::new(given, &told.rows);
     let opened = open_limits(
         alloc,
@@ -180,10 +183,10 @@ fn by_mark(
 ) -> Result<bool, StoreFault>
     requires { (s : System) × (q : QuestionsModel) × (base : BoxClaim) × IsGiven s store.old relation.now q frame.now
         × IsSetting s base from.now given.now × IsKeptClaim s frame.now claim.old × IsCaseOf s case.now
-        × IsMarkOf frame.now.tests from.now case.now mark.now × IfSome image.old (IsImage s from.now case.now) }
+        × IsMarkOf frame.now from.now case.now mark.now × IfSome image.old (IsImage s from.now case.now) }
     ensures grown { (s : System) (q : QuestionsModel) (base : BoxClaim) → IsGiven s store.old relation.now q frame.now
         → IsSetting s base from.now given.now → IsKeptClaim s frame.now claim.old → IsCaseOf s case.now
-        → IsMarkOf frame.now.tests from.now case.now mark.now → IfSome image.old (IsImage s from.now case.now)
+        → IsMarkOf frame.now from.now case.now mark.now → IfSome image.old (IsImage s from.now case.now)
         → IfOk result (λ changed. HasGrown s frame.now base (λ v. IsIn case.now.condition v × IsIn from.now v) changed claim.old claim.new) }
     ensures known { (s : System) (q : QuestionsModel) (base : BoxClaim) → IsGiven s store.old relation.now q frame.now
         → IsSetting s base from.now given.now → IsCaseOf s case.now
@@ -214,15 +217,15 @@ fn by_cases(
 ) -> Result<bool, StoreFault>
     requires { (s : System) × (q : QuestionsModel) × (base : BoxClaim) × IsGiven s store.old relation.now q frame.now
         × IsSetting s base from.now given.now × IsKeptClaim s frame.now claim.old × AreCasesOf s cases.now
-        × AreMarked frame.now.tests from.now cases.now (length cases.now) marks.now × AreImages s from.now cases.now images.old.items }
+        × AreMarked frame.now from.now cases.now (length cases.now) marks.now × AreImages s from.now cases.now images.old.items }
     ensures grown { (s : System) (q : QuestionsModel) (base : BoxClaim) → IsGiven s store.old relation.now q frame.now
         → IsSetting s base from.now given.now → IsKeptClaim s frame.now claim.old → AreCasesOf s cases.now
-        → AreMarked frame.now.tests from.now cases.now (length cases.now) marks.now → AreImages s from.now cases.now images.old.items
+        → AreMarked frame.now from.now cases.now (length cases.now) marks.now → AreImages s from.now cases.now images.old.items
         → IfOk result (λ changed. HasGrown s frame.now base (λ v. IsInCases cases.now (length cases.now) v × IsIn from.now v)
         changed claim.old claim.new) }
     ensures known { (s : System) (q : QuestionsModel) (base : BoxClaim) → IsGiven s store.old relation.now q frame.now
         → IsSetting s base from.now given.now → IsKeptClaim s frame.now claim.old → AreCasesOf s cases.now
-        → AreMarked frame.now.tests from.now cases.now (length cases.now) marks.now → AreImages s from.now cases.now images.old.items
+        → AreMarked frame.now from.now cases.now (length cases.now) marks.now → AreImages s from.now cases.now images.old.items
         → OnOk result (AreImages s from.now cases.now images.new.items) }
     ensures same { store.new ≡ store.old }
     ensures roomy { IsErrOf result StoreFault.Nodes → store.old.limit < 2 ^ (2 ^ store.old.variables) }
@@ -251,7 +254,8 @@ pub struct Others {
     pub cases: Many<Case>,
 }
 
-/// The control states of a claim that are not initial, the rows of its bounds, and their cases, which are cut out of the known ones.
+/// The control states of a claim that are not initial, the rows of its bounds, and their cases: what is cut out of the known ones, or
+/// these themselves where they are of the same control states.
 pub fn others_of(
     alloc: Global,
     store: &mut Store,
@@ -268,7 +272,15 @@ pub fn others_of(
 {
     let control = without(store, &claim.reached, first)?;
     let given = bound_rows(alloc, &claim.upper, &claim.lower)?;
-    let cases = cut(alloc, store, &known.cases, &control)?;
+    if control != known.from {
+        let cases = cut(alloc, store, &known.cases, &control)?;
+        return Ok(Others {
+            control,
+            given,
+            cases,
+        });
+    }
+    let cases = copy_cases(alloc, &known.cases)?;
     Ok(Others {
         control,
         given,
@@ -312,11 +324,11 @@ fn note_known(
 ) -> Result<Noted, StoreFault>
     requires system { (s : System) × IsGiven s store.old relation.now questions.now frame.now × IsInitialSet s first.now × IsControlSet s reached.now
         × IsControlSet s control.now × (m : ℕ) × IsWithout m reached.now first.now control.now × IsKnown s known }
-    requires marks { AreMarked frame.now.tests control.now known.cases 0 marks }
+    requires marks { AreMarked frame.now control.now known.cases 0 marks }
     ensures knows { (s : System) (m : ℕ) → IsGiven s store.old relation.now questions.now frame.now → IsInitialSet s first.now
         → IsControlSet s reached.now → IsWithout m reached.now first.now control.now → IsKnown s known
         → IfOk result (λ n. Knows s first.now reached.now n.known) }
-    ensures marked { IfOk result (λ n. AreMarked frame.now.tests control.now n.known.cases (length n.known.cases) n.marks) }
+    ensures marked { IfOk result (λ n. AreMarked frame.now control.now n.known.cases (length n.known.cases) n.marks) }
     ensures same { store.new ≡ store.old }
     ensures roomy { IsErrOf result StoreFault.Nodes → store.old.limit < 2 ^ (2 ^ store.old.variables) }
 {

@@ -1,6 +1,6 @@
-use Rattle.std.proofs.Common.{sym, subst}
+use Rattle.std.proofs.Common.{arith, sym, subst}
 use Rattle.rv_diagram.specs.Nodes.{IsOrderedOver}
-use Rattle.rv_boxes.proofs.Fitting.{has_tests, are_updates}
+use Rattle.rv_boxes.proofs.Fitting.{has_tests, are_updates, told_premises}
 use Rattle.rv_boxes.proofs.marks.mark_case.Goals as goal
 
 pub meets-requires-clause-a : goal.meets-requires-clause-a
@@ -24,3 +24,14 @@ told_of-requires-clause-updates c =
     let (s, is, frame, variables, of, control) = c.requires.system in
     let updates = are_updates s is c.args.frame.now frame c.args.case.now of in
     updates.sizes
+
+pub told_of-requires-clause-premises : goal.told_of-requires-clause-premises
+told_of-requires-clause-premises c rows =
+    let (s, is, frame, variables, of, control) = c.requires.system in
+    told_premises s is c.args.frame.now frame c.args.case.now of rows
+
+pub told_of-requires-clause-few : goal.told_of-requires-clause-few
+told_of-requires-clause-few c =
+    let (s, is, frame, variables, of, control) = c.requires.system in
+    let limits = is.limits in
+    omega (arith, frame.columns, limits.columns)

@@ -23,11 +23,11 @@ mark_case-requires-clause-there c =
 pub loop-place-preserved : goal.loop-place-preserved
 loop-place-preserved c = record {
   same = c.mark_case.ensures.same ∙ c.loop-place.invariant.same;
-  marked = marks_more c.args.frame.now.tests c.args.control.now c.args.cases.now c.loop-place.place c.at-case.result.now c.at-case.ensures.value
+  marked = marks_more c.args.frame.now c.args.control.now c.args.cases.now c.loop-place.place c.at-case.result.now c.at-case.ensures.value
       c.loop-place.marks c.loop-place.invariant.marked c.mark_case.new.marks c.in_ok-mark_case.ensures.marked;
 }
 
 pub returns-clause-marked : goal.returns-clause-marked
 returns-clause-marked c =
     let e : c.loop-place.place ≡ length c.args.cases.now = omega (arith, c.loop-place-test.false, c.loop-place.auto, c.len-place-end.ensures) in
-    subst (λ n. AreMarked c.args.frame.now.tests c.args.control.now c.args.cases.now n c.loop-place.marks) e c.loop-place.invariant.marked
+    subst (λ n. AreMarked c.args.frame.now c.args.control.now c.args.cases.now n c.loop-place.marks) e c.loop-place.invariant.marked

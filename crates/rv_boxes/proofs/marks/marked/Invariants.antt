@@ -5,5 +5,5 @@ use Rattle.rv_boxes.proofs.marks.marked.Given as goal
 abbrev pub invariant-loop-place : goal.invariant-loop-place
 invariant-loop-place l = record {
   same : l.store ≡ l.initial.store;
-  marked : AreMarked l.frame.tests l.control l.cases l.place l.marks;
+  marked : AreMarked l.frame l.control l.cases l.place l.marks;
 }

@@ -29,7 +29,7 @@ pub note_known-requires-clause-marks : goal.note_known-requires-clause-marks
 note_known-requires-clause-marks c =
     let (s, before, given, initial, kept, around, within) = c.requires in
     let exact = c.in_ok-control.ensures.exact in
-    marks_wider c.args.frame.now.tests c.args.around.control c.in_ok-control.control c.args.around.known.cases (length c.args.around.known.cases)
+    marks_wider c.args.frame.now c.args.around.control c.in_ok-control.control c.args.around.known.cases (length c.args.around.known.cases)
     c.args.around.marks (rest_kept s c.args.first.now before c.args.claim.now c.args.around.control c.in_ok-control.control c.args.around.given around.rest
     within
     exact.exact) around.marked
@@ -64,7 +64,7 @@ returns-clause-around c s before given initial kept around within =
       rest = record { control = control; exact = exact.exact; rows = c.in_ok-given.ensures };
       knows = knows_kept s c.args.first.now before c.args.claim.now c.args.around.control c.args.around.given c.args.around.known around.knows around.rest
           (λ v. ap (λ (set : Frozen). has set v) (sym same) ∙ exact.exact v);
-      marked = subst (λ (set : Frozen). AreMarked c.args.frame.now.tests set c.args.around.known.cases (length c.args.around.known.cases) c.args.around.marks)
+      marked = subst (λ (set : Frozen). AreMarked c.args.frame.now set c.args.around.known.cases (length c.args.around.known.cases) c.args.around.marks)
           (sym same) around.marked;
     }
 

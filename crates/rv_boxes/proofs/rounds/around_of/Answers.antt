@@ -29,7 +29,7 @@ note_known-requires-clause-system c =
 
 pub note_known-requires-clause-marks : goal.note_known-requires-clause-marks
 note_known-requires-clause-marks c =
-    marks_start c.args.frame.now.tests c.in_ok-control.control c.in_ok-nothing.nothing.cases c.new-none.result c.in_ok-nothing.ensures.none c.new-none.ensures
+    marks_start c.args.frame.now c.in_ok-control.control c.in_ok-nothing.nothing.cases c.new-none.result c.in_ok-nothing.ensures.none c.new-none.ensures
 
 pub returns-clause-around : goal.returns-clause-around
 returns-clause-around c s given initial kept =

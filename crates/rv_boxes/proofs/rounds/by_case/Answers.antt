@@ -1,9 +1,9 @@
-use Rattle.std.proofs.Common.{Bool, arith, sym, subst}
+use Rattle.std.proofs.Common.{Bool, ◌++◌, arith, refl, sym, subst}
 use Rattle.rv_proofs.specs.Scopes.{IsIn}
 use Rattle.rv_boxes.specs.Opening.{AreUpdates}
 use Rattle.rv_boxes.specs.Rounds.{HasGrown}
 use Rattle.rv_boxes.proofs.Fitting.{are_updates, opposite_updates}
-use Rattle.rv_boxes.proofs.Stepping.{premises_are, grown_open, grown_shut}
+use Rattle.rv_boxes.proofs.Stepping.{premises_are, grown_open, grown_shut, grown_told}
 use Rattle.rv_boxes.proofs.rounds.by_case.Goals as goal
 
 pub open_limits-requires-clause-premises : goal.open_limits-requires-clause-premises
@@ -65,6 +65,13 @@ returns-in_ok-fresh-in-Some-clause-grown c s q base given setting kept of met to
 pub returns-in_ok-fresh-in-Some-clause-known : goal.returns-in_ok-fresh-in-Some-clause-known
 returns-in_ok-fresh-in-Some-clause-known c s q base given setting of known =
     c.in_ok-fresh-in-Some.ensures.known s given.relation setting.control of.given known
+
+pub returns-then-told-clause-grown : goal.returns-then-told-clause-grown
+returns-then-told-clause-grown c s q base given setting kept of met told known =
+    let r = given.relation in
+    grown_told s r.system c.args.frame.now given.frame base c.args.from.now c.args.given.now setting c.args.case.now of
+    (c.args.given.now ++ c.args.told.now.rows) (record { told = c.args.told.now.rows; is_told = told.rows; are = refl }) (told.shut c.if-told.true)
+    c.args.claim.now kept
 
 pub returns-in-None-clause-grown : goal.returns-in-None-clause-grown
 returns-in-None-clause-grown c s q base given setting kept of met told known =

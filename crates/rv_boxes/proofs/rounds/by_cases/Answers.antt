@@ -33,7 +33,7 @@ by_mark-requires c =
       setting,
       grown.kept,
       are c.loop-place.place c.at-case.result.now c.at-case.ensures.value,
-      mark_there c.args.frame.now.tests c.args.from.now c.args.cases.now c.args.marks.now marks c.loop-place.place c.at-case.result.now c.at-mark.result.now
+      mark_there c.args.frame.now c.args.from.now c.args.cases.now c.args.marks.now marks c.loop-place.place c.at-case.result.now c.at-mark.result.now
           c.at-case.ensures.value c.at-mark.ensures.value,
       image_there s c.args.from.now c.args.cases.now c.loop-place.images.items before c.loop-place.place
           (omega (arith, c.loop-place-test.true, c.loop-place.auto, c.len-place-end.ensures)) c.at-case.result.now c.at-case.ensures.value
@@ -59,7 +59,7 @@ loop-place-preserved c = record {
       let second = c.in_ok-more.ensures.grown s q base
       (given_there s c.args.store.now c.loop-place.store c.args.relation.now q c.args.frame.now c.loop-place.invariant.same given)
       setting first.kept (are c.loop-place.place c.at-case.result.now c.at-case.ensures.value)
-      (mark_there c.args.frame.now.tests c.args.from.now c.args.cases.now c.args.marks.now marks c.loop-place.place c.at-case.result.now c.at-mark.result.now
+      (mark_there c.args.frame.now c.args.from.now c.args.cases.now c.args.marks.now marks c.loop-place.place c.at-case.result.now c.at-mark.result.now
       c.at-case.ensures.value c.at-mark.ensures.value) (image_there s c.args.from.now c.args.cases.now c.loop-place.images.items before c.loop-place.place
       (omega (arith, c.loop-place-test.true, c.loop-place.auto, c.len-place-end.ensures)) c.at-case.result.now c.at-case.ensures.value
       c.index_mut-image.result.now c.index_mut-image.ensures.value) in

@@ -12,10 +12,10 @@ abbrev pub invariant-loop-place : goal.invariant-loop-place
 invariant-loop-place l = record {
   same : l.store ≡ l.initial.store;
   grown : (s : System) (q : Questions) (base : BoxClaim) → IsGiven s l.initial.store l.relation q l.frame → IsSetting s base l.from l.given
-      → IsKeptClaim s l.frame l.initial.claim → AreCasesOf s l.cases → AreMarked l.frame.tests l.from l.cases (length l.cases) l.marks
+      → IsKeptClaim s l.frame l.initial.claim → AreCasesOf s l.cases → AreMarked l.frame l.from l.cases (length l.cases) l.marks
       → AreImages s l.from l.cases l.initial.images.items
       → HasGrown s l.frame base (λ v. IsInCases l.cases l.place v × IsIn l.from v) l.changed l.initial.claim l.claim;
   images : (s : System) (q : Questions) (base : BoxClaim) → IsGiven s l.initial.store l.relation q l.frame → IsSetting s base l.from l.given
-      → IsKeptClaim s l.frame l.initial.claim → AreCasesOf s l.cases → AreMarked l.frame.tests l.from l.cases (length l.cases) l.marks
+      → IsKeptClaim s l.frame l.initial.claim → AreCasesOf s l.cases → AreMarked l.frame l.from l.cases (length l.cases) l.marks
       → AreImages s l.from l.cases l.initial.images.items → AreImages s l.from l.cases l.images.items;
 }

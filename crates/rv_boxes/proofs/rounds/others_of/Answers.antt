@@ -1,5 +1,9 @@
-use Rattle.std.proofs.Common.{◌∙◌, ap}
+use Rattle.std.proofs.Common.{◌∙◌, List, ap, sym, subst}
 use Rattle.rv_diagram.specs.Nodes.{Diagrams}
+use Rattle.rv_diagram.specs.declared.frozen.Frozen.{Frozen}
+use Rattle.rv_proofs.specs.Cases.{AreCases}
+use Rattle.rv_proofs.specs.declared.report.Case.{Case}
+use Rattle.rv_boxes.proofs.Imagining.{same_set}
 use Rattle.rv_boxes.proofs.Knowing.{covered}
 use Rattle.rv_boxes.proofs.rounds.others_of.Goals as goal
 
@@ -15,8 +19,8 @@ cut-requires c =
       c.in_ok-control.ensures.control s variables kept.control initial.control,
     )
 
-pub returns-clause-others : goal.returns-clause-others
-returns-clause-others c s f is variables initial kept knows =
+pub returns-then-ne-clause-others : goal.returns-then-ne-clause-others
+returns-then-ne-clause-others c s f is variables initial kept knows =
     let k = knows.known in
     let control = c.in_ok-control.ensures.control s variables kept.control initial.control in
     let w = c.in_ok-control.ensures.exact in
@@ -24,4 +28,16 @@ returns-clause-others c s f is variables initial kept knows =
       rest = record { control = control; exact = w.exact; rows = c.in_ok-given.ensures };
       cases = c.in_ok-cases.ensures.cases s c.args.known.now.from is (ap (λ (d : Diagrams). d.variables) c.without.ensures.same ∙ variables) k.cases control
           (covered s c.args.store.now.variables c.args.first.now c.args.claim.now.reached c.in_ok-control.control c.args.known.now knows w);
+    }
+
+pub returns-clause-others : goal.returns-clause-others
+returns-clause-others c s f is variables initial kept knows =
+    let k = knows.known in
+    let control = c.in_ok-control.ensures.control s variables kept.control initial.control in
+    let w = c.in_ok-control.ensures.exact in
+    let same = same_set c.in_ok-control.control c.args.known.now.from c.ne.result c.ne.ensures c.if-ne.false in
+    record {
+      rest = record { control = control; exact = w.exact; rows = c.in_ok-given.ensures };
+      cases = subst (λ (set : Frozen). AreCases s set c.in_ok-cases-2.cases) (sym same)
+          (subst (λ (list : List Case). AreCases s c.args.known.now.from list) (sym c.in_ok-cases-2.ensures) k.cases);
     }
