@@ -162,6 +162,13 @@ gathers_as : (old new : List Triple) (q r : Valuation → Bool) (a b : List ℕ)
 gathers_as old new q r a b same h p before apart =
     parted_as new (λ v. p v || q v) (λ v. p v || r v) b (λ v. ap (λ x. p v || x) (same v)) (h p before (λ v hp hq. apart v hp (sym (same v) ∙ hq)))
 
+-- what is gathered in a store that has grown is gathered from the store before on, where the sets mean the same
+pub gathers_later : (old mid : Diagrams) (new : List Triple) (q r : Valuation → Bool) (a b : List ℕ) → Extends old mid
+    → ((v : Valuation) → q v ≡ r v) → Gathers mid.nodes new q a b → Gathers old.nodes new r a b
+gathers_later old mid new q r a b e same h p before apart =
+    parted_as new (λ v. p v || q v) (λ v. p v || r v) b (λ v. ap (λ x. p v || x) (same v))
+    (h p (parted_later old mid p a e before) (λ v hp hq. apart v hp (sym (same v) ∙ hq)))
+
 among-more : (nodes : List Triple) (refs : List ℕ) (n : ℕ) (v : Valuation) → among nodes refs (n + 1) v ≡ (among nodes refs n v || is_in nodes refs n v)
 among-more nodes refs n v = ap (λ k. among nodes refs k v) (let e : n + 1 ≡ suc n = omega arith in e)
 
@@ -188,7 +195,7 @@ and-none true t = refl
 and-none false true = refl
 and-none false false = refl
 
-and-implied : (t b : Bool) → (t ≡ true → b ≡ true) → (t && b) ≡ t
+pub and-implied : (t b : Bool) → (t ≡ true → b ≡ true) → (t && b) ≡ t
 and-implied true b h = h refl
 and-implied false b h = refl
 

@@ -44,8 +44,8 @@ fn add_meet(
     Ok(both == condition)
 }
 
-/// Adds the meets of a condition and all answers. Where one is the condition itself, the others are empty and left out.
-fn add_meets(
+/// Adds the meets of a condition and each answer in turn. Where one is the condition itself, the others are empty and left out.
+fn add_each(
     store: &mut Store,
     made: &mut Vec<Ref>,
     conditions: &[Ref],
@@ -73,6 +73,60 @@ fn add_meets(
     Ok(())
 }
 
+/// Whether a condition is within an answer.
+fn is_within(
+    store: &mut Store,
+    conditions: &[Ref],
+    i: usize,
+    answers: &[Ref],
+    b: usize,
+) -> Result<bool, StoreFault>
+    requires conditions { AreRefs store.old.nodes conditions.now }
+    requires answers { AreRefs store.old.nodes answers.now }
+    requires i { i < length conditions.now }
+    requires b { b < length answers.now }
+    ensures extends { Extends store.old store.new }
+    ensures roomy { IsErrOf result StoreFault.Nodes → store.old.limit < 2 ^ (2 ^ store.old.variables) }
+    ensures within { IfOk result (λ yes. yes ≡ true → (v : Valuation) → is_in store.old.nodes conditions.now i v ≡ true
+        → is_in store.old.nodes answers.now b v ≡ true) }
+{
+    let condition = conditions[i];
+    let both = store.and(condition, answers[b])?;
+    Ok(both == condition)
+}
+
+/// Adds the meets of a condition and all answers. Most conditions are within the answer of one of their valuations, which is tried first.
+fn add_meets(
+    alloc: Global,
+    store: &mut Store,
+    made: &mut Vec<Ref>,
+    conditions: &[Ref],
+    i: usize,
+    answers: &[Ref],
+) -> Result<(), StoreFault>
+    requires conditions { AreRefs store.old.nodes conditions.now }
+    requires answers { AreAnswers store.old.nodes answers.now }
+    requires i { i < length conditions.now }
+    requires made { AreRefs store.old.nodes made.old.items }
+    ensures extends { Extends store.old store.new }
+    ensures roomy { IsErrOf result StoreFault.Nodes → store.old.limit < 2 ^ (2 ^ store.old.variables) }
+    ensures refs { OnOk result (AreRefs store.new.nodes made.new.items) }
+    ensures gathers { OnOk result (Gathers store.old.nodes store.new.nodes
+        (is_in store.old.nodes conditions.now i) made.old.items made.new.items) }
+    ensures met { OnOk result (AreMeets store.old.nodes conditions.now answers.now made.old.items
+        → AreMeets store.new.nodes conditions.now answers.now made.new.items) }
+{
+    let sample = sample_of(alloc, store, conditions[i])?;
+    let likely = place_in(store, &sample, answers);
+    let within = is_within(store, conditions, i, answers, likely)?;
+    if within {
+        let _whole = add_meet(store, made, conditions, i, answers, likely)?;
+        return Ok(());
+    }
+    add_each(store, made, conditions, i, answers)?;
+    Ok(())
+}
+
 /// The conditions, split by the answers to a question: each meet of a condition and an answer that is not empty, in their order. They
 /// part what the conditions part. After a fault nodes may be left.
 pub fn split(
@@ -91,7 +145,7 @@ pub fn split(
 {
     let mut made = Vec::new(alloc);
     for i in 0..conditions.len() {
-        add_meets(store, &mut made, conditions, i, answers)?;
+        add_meets(alloc, store, &mut made, conditions, i, answers)?;
     }
     Ok(made)
 }

@@ -1,54 +1,41 @@
-use Rattle.std.proofs.Common.{◌+◌, ◌<◌, ◌∙◌, ◌&&◌, ap, sym, length, arith}
-use Rattle.rv_terms.proofs.Growths.{extends_refl, extends_trans}
+use Rattle.std.proofs.Common.{◌&&◌, ◌∙◌, ap}
 use Rattle.rv_cases.specs.Conditions.{is_in}
-use Rattle.rv_cases.proofs.Gathering.{in_later, answers_first, answers_more, answers_all, answers_whole}
+use Rattle.rv_cases.proofs.Gathering.{in_later, answers_later, gathers_later, meets_later, and-implied}
 use Rattle.rv_cases.proofs.splitting.add_meets.Goals as goal
 
-pub loop-b-init : goal.loop-b-init
-loop-b-init c = record {
-  extends = extends_refl c.args.store.now;
-  refs = c.requires.made;
-  gathers = answers_first c.args.store.now.nodes (is_in c.args.store.now.nodes c.args.conditions.now c.args.i) c.args.answers.now c.args.made.now.items;
-  met = λ h. h;
-}
-
-pub loop-b-preserved : goal.loop-b-preserved
-loop-b-preserved c =
-    let low : c.loop-b.b < length c.args.answers.now = omega arith in
-    record {
-      extends = extends_trans c.args.store.now c.loop-b.store c.add_meet.new.store c.loop-b.invariant.extends c.in_ok-whole.ensures.extends;
-      refs = c.in_ok-whole.ensures.refs;
-      gathers = answers_more c.args.store.now c.loop-b.store c.add_meet.new.store (is_in c.args.store.now.nodes c.args.conditions.now c.args.i)
-          (λ v. is_in c.loop-b.store.nodes c.args.conditions.now c.args.i v && is_in c.loop-b.store.nodes c.args.answers.now c.loop-b.b v)
-          c.args.answers.now c.loop-b.b c.args.made.now.items c.loop-b.made.items c.add_meet.new.made.items low c.requires.answers.apart
-          (λ v. ap (λ x. x && is_in c.loop-b.store.nodes c.args.answers.now c.loop-b.b v)
-          (in_later c.args.store.now c.loop-b.store c.args.conditions.now c.loop-b.invariant.extends c.requires.conditions c.args.i c.requires.i v)
-          ∙ ap (λ x. is_in c.args.store.now.nodes c.args.conditions.now c.args.i v && x)
-          (in_later c.args.store.now c.loop-b.store c.args.answers.now c.loop-b.invariant.extends c.requires.answers.found c.loop-b.b low v))
-          c.loop-b.invariant.gathers c.in_ok-whole.ensures.gathers;
-      met = λ h. c.in_ok-whole.ensures.met (c.loop-b.invariant.met h);
-    }
-
-pub returns-then-whole-clause-gathers : goal.returns-then-whole-clause-gathers
-returns-then-whole-clause-gathers c =
-    let low : c.loop-b.b < length c.args.answers.now = omega arith in
-    answers_whole c.args.store.now c.add_meet.new.store.nodes (is_in c.args.store.now.nodes c.args.conditions.now c.args.i) c.args.answers.now
-    (c.loop-b.b + 1) c.loop-b.b c.args.made.now.items c.add_meet.new.made.items (omega arith)
-    (λ v on. sym (in_later c.args.store.now c.loop-b.store c.args.answers.now c.loop-b.invariant.extends c.requires.answers.found c.loop-b.b low v)
-    ∙ c.in_ok-whole.ensures.whole c.if-whole.true v
-    (in_later c.args.store.now c.loop-b.store c.args.conditions.now c.loop-b.invariant.extends c.requires.conditions c.args.i c.requires.i v ∙ on))
-    (answers_more c.args.store.now c.loop-b.store c.add_meet.new.store (is_in c.args.store.now.nodes c.args.conditions.now c.args.i)
-    (λ v. is_in c.loop-b.store.nodes c.args.conditions.now c.args.i v && is_in c.loop-b.store.nodes c.args.answers.now c.loop-b.b v)
-    c.args.answers.now c.loop-b.b c.args.made.now.items c.loop-b.made.items c.add_meet.new.made.items low c.requires.answers.apart
-    (λ v. ap (λ x. x && is_in c.loop-b.store.nodes c.args.answers.now c.loop-b.b v)
-    (in_later c.args.store.now c.loop-b.store c.args.conditions.now c.loop-b.invariant.extends c.requires.conditions c.args.i c.requires.i v)
+pub returns-then-within-clause-gathers : goal.returns-then-within-clause-gathers
+returns-then-within-clause-gathers c =
+    gathers_later c.args.store.now c.is_within.new.store c.add_meet.new.store.nodes
+    (λ v. is_in c.is_within.new.store.nodes c.args.conditions.now c.args.i v && is_in c.is_within.new.store.nodes c.args.answers.now c.place_in-likely.result v)
+    (is_in c.args.store.now.nodes c.args.conditions.now c.args.i) c.args.made.now.items c.add_meet.new.made.items c.in_ok-within.ensures.extends
+    (λ v. ap (λ x. x && is_in c.is_within.new.store.nodes c.args.answers.now c.place_in-likely.result v)
+    (in_later c.args.store.now c.is_within.new.store c.args.conditions.now c.in_ok-within.ensures.extends c.requires.conditions c.args.i c.requires.i v)
     ∙ ap (λ x. is_in c.args.store.now.nodes c.args.conditions.now c.args.i v && x)
-    (in_later c.args.store.now c.loop-b.store c.args.answers.now c.loop-b.invariant.extends c.requires.answers.found c.loop-b.b low v))
-    c.loop-b.invariant.gathers c.in_ok-whole.ensures.gathers)
+    (in_later c.args.store.now c.is_within.new.store c.args.answers.now c.in_ok-within.ensures.extends c.requires.answers.found c.place_in-likely.result
+    c.place_in-likely.ensures.known v)
+    ∙ and-implied (is_in c.args.store.now.nodes c.args.conditions.now c.args.i v) (is_in c.args.store.now.nodes c.args.answers.now c.place_in-likely.result v)
+    (c.in_ok-within.ensures.within c.if-within.true v))
+    c.in_ok-_whole.ensures.gathers
 
-pub returns-then-whole-clause-met : goal.returns-then-whole-clause-met
-returns-then-whole-clause-met c h = c.in_ok-whole.ensures.met (c.loop-b.invariant.met h)
+pub returns-then-within-clause-met : goal.returns-then-within-clause-met
+returns-then-within-clause-met c h =
+    c.in_ok-_whole.ensures.met
+    (meets_later c.args.store.now c.is_within.new.store c.args.conditions.now c.args.answers.now c.args.made.now.items c.in_ok-within.ensures.extends
+    c.requires.conditions c.requires.answers.found c.requires.made h)
+
+pub add_each-requires-clause-answers : goal.add_each-requires-clause-answers
+add_each-requires-clause-answers c =
+    answers_later c.args.store.now c.is_within.new.store c.args.answers.now c.in_ok-within.ensures.extends c.requires.answers
 
 pub returns-clause-gathers : goal.returns-clause-gathers
-returns-clause-gathers c = answers_all c.args.store.now c.loop-b.store.nodes (is_in c.args.store.now.nodes c.args.conditions.now c.args.i)
-    c.args.answers.now c.loop-b.b c.args.made.now.items c.loop-b.made.items c.requires.answers.covered (omega arith) c.loop-b.invariant.gathers
+returns-clause-gathers c =
+    gathers_later c.args.store.now c.is_within.new.store c.add_each.new.store.nodes (is_in c.is_within.new.store.nodes c.args.conditions.now c.args.i)
+    (is_in c.args.store.now.nodes c.args.conditions.now c.args.i) c.args.made.now.items c.add_each.new.made.items c.in_ok-within.ensures.extends
+    (in_later c.args.store.now c.is_within.new.store c.args.conditions.now c.in_ok-within.ensures.extends c.requires.conditions c.args.i c.requires.i)
+    c.in_ok-add_each.ensures.gathers
+
+pub returns-clause-met : goal.returns-clause-met
+returns-clause-met c h =
+    c.in_ok-add_each.ensures.met
+    (meets_later c.args.store.now c.is_within.new.store c.args.conditions.now c.args.answers.now c.args.made.now.items c.in_ok-within.ensures.extends
+    c.requires.conditions c.requires.answers.found c.requires.made h)

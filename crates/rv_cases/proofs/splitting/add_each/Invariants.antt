@@ -1,7 +1,7 @@
 use Rattle.std.proofs.Common.{◌&&◌}
 use Rattle.rv_terms.specs.Growing.{Extends}
 use Rattle.rv_cases.specs.Conditions.{is_in, among, AreRefs, Gathers, AreMeets}
-use Rattle.rv_cases.proofs.splitting.add_meets.Given as goal
+use Rattle.rv_cases.proofs.splitting.add_each.Given as goal
 
 abbrev pub invariant-loop-b : goal.invariant-loop-b
 invariant-loop-b l = record {
