@@ -1,12 +1,11 @@
 -- Control states whose cases are known.
-use Rattle.std.proofs.Common.{◌≡◌, ℕ, Bool, true, false, not, ◌&&◌, ◌||◌, List, [], Some, refl, sym, ◌∙◌, ◌⊎◌, inl, inr}
+use Rattle.std.proofs.Common.{◌≡◌, ℕ, Bool, true, false, not, ◌&&◌, ◌||◌, List, [], Some, refl, sym, ◌∙◌}
 use Rattle.std.proofs.Common.{None as Nothing}
-use Rattle.std.proofs.lemmas.Bool.{cases_Bool}
 use Rattle.rv_diagram.specs.Nodes.{Valuation}
 use Rattle.rv_diagram.specs.declared.frozen.Frozen.{Frozen}
 use Rattle.rv_proofs.specs.Systems.{System}
 use Rattle.rv_proofs.specs.Ranges.{IsControlSet}
-use Rattle.rv_proofs.specs.Cases.{AreCases, IsInitialSet}
+use Rattle.rv_proofs.specs.Cases.{AreCases}
 use Rattle.rv_proofs.specs.declared.report.Case.{Case}
 use Rattle.rv_walk.specs.Ends.{has}
 use Rattle.rv_walk.specs.Extended.{fresh_of, IsExtended, IsWithout}
@@ -118,19 +117,3 @@ pub rest_within : (s : System) (first : Frozen) (c : Claim) (control : Frozen) (
 rest_within s first c control given k knows rest v i =
     let (on, off) = both_parts (has c.reached v) (has first v) (sym (rest.exact v) ∙ i) in
     knows.covers v on off
-
--- and this goes for each set of the initial ones
-pub knows_same : (s : System) (first other reached : Frozen) (k : Known) → IsInitialSet s first → IsInitialSet s other → Knows s first reached k
-    → Knows s other reached k
-knows_same s first other reached k one two knows = record {
-  known = knows.known;
-  covers = λ v i off. go v i off (cases_Bool (has first v));
-}
-  where
-    clash : (b : Bool) → b ≡ true → b ≡ false → ⊥
-    clash true e d = cc
-    clash false e d = cc
-
-    go : (v : Valuation) → has reached v ≡ true → has other v ≡ false → (has first v ≡ true) ⊎ (has first v ≡ false) → has k.from v ≡ true
-    go v i off (inl on) = absurd (clash (has other v) ((two.exact v).1 ((one.exact v).0 on)) off)
-    go v i off (inr out) = knows.covers v i out

@@ -1,5 +1,5 @@
 -- What a case does to the limits: its premises, whether its box is open, and what its updates loosen.
-use Rattle.std.specs.Prelude.{◌≡◌, ℕ, ◌<◌, ◌≤◌, ◌^◌, ℤ, negsuc, ◌*ℤ◌, true, List, ◌++◌, length, All, Option, Some, slice_get}
+use Rattle.std.specs.Prelude.{◌≡◌, ℕ, ◌<◌, ◌≤◌, ◌^◌, ℤ, negsuc, ◌*ℤ◌, true, false, List, ◌++◌, length, All, Option, Some, slice_get}
 use Rattle.std.specs.Int.RustNames.{unsigned_abs}
 use Rattle.rv_rows.specs.declared.linear.Row.{Row}
 use Rattle.rv_rows.specs.declared.linear.Form.{Form}
@@ -58,11 +58,11 @@ pub record AreUpdates (width many : ℕ) (forms : List Form) : Type 0 where
   pub widths : All (λ f. length f.coefficients ≤ width) forms
   pub sizes : All (FormWithin (2 ^ 41)) forms
 
--- What is kept of a case: a row for each order test, the opposites of its updates, and that the rows alone shut its box, where they are found to.
+-- What is kept of a case: a row for each order test, that these alone shut its box, where they are found to, and else the opposites of its updates.
 pub record IsToldOf (f : Frame) (c : Case) (t : Told) : Type 0 where
   pub rows : IsTold f.tests (length c.tests) c.tests c.rows t.rows
-  pub opposites : AreOppositeForms c.updates t.opposites
-  pub within : All (FormWithin (2 ^ 41)) t.opposites
+  pub opposites : t.shut ≡ false → AreOppositeForms c.updates t.opposites
+  pub within : t.shut ≡ false → All (FormWithin (2 ^ 41)) t.opposites
   pub shut : t.shut ≡ true → ¬ IsOpenBox f.columns t.rows
 
 -- The box of the premises is open, and the limits are loosened by the updates, and by their opposites.

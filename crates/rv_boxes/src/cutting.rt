@@ -99,37 +99,6 @@ fn case_at(alloc: Global, case: &Case, condition: Frozen) -> Result<Case, Memory
     })
 }
 
-/// The same diagram.
-pub fn copy_set(alloc: Global, set: &Frozen) -> Result<Frozen, Memory>
-    ensures { IfOk result (λ f. f ≡ set.now) }
-{
-    let nodes = Vec::from_slice(alloc, set.nodes.as_slice())?;
-    Ok(Frozen {
-        nodes: Many::from_vec(nodes),
-        root: set.root,
-    })
-}
-
-/// The same case.
-fn copy_case(alloc: Global, case: &Case) -> Result<Case, Memory>
-    ensures { IfOk result (λ c. c ≡ case.now) }
-{
-    let condition = copy_set(alloc, &case.condition)?;
-    case_at(alloc, case, condition)
-}
-
-/// The same cases.
-pub fn copy_cases(alloc: Global, cases: &Many<Case>) -> Result<Many<Case>, Memory>
-    ensures { IfOk result (λ copies. copies ≡ cases.now) }
-{
-    let mut copies = Many::new(alloc);
-    for place in 0..cases.len() {
-        let copy = copy_case(alloc, cases.at(place))?;
-        copies.push(copy)?;
-    }
-    Ok(copies)
-}
-
 /// Adds what a case is within a set, unless it has no valuation there.
 fn note_cut(
     alloc: Global,

@@ -13,7 +13,6 @@ ghost use Rattle.rv_boxes.specs.declared.frame.Frame.{Frame as FrameModel};
 ghost use Rattle.rv_boxes.specs.Rounds.{IsGiven};
 ghost use Rattle.rv_boxes.specs.Knowing.{IsWithin, IsWider, IsKnown, Knows};
 
-use crate::cutting::copy_set;
 use rv_base::{Many, Memory};
 use rv_cases::{Questions, cases};
 use rv_diagram::{Frozen, Store, StoreFault};
@@ -84,6 +83,17 @@ fn wider(
     Ok(Some(all))
 }
 
+/// The same set.
+fn copied(alloc: Global, set: &Frozen) -> Result<Frozen, Memory>
+    ensures { IfOk result (λ f. f ≡ set.now) }
+{
+    let nodes = Vec::from_slice(alloc, set.nodes.as_slice())?;
+    Ok(Frozen {
+        nodes: Many::from_vec(nodes),
+        root: set.root,
+    })
+}
+
 /// The set with control states that steps from it lead to, whatever the integers are.
 fn ahead(
     alloc: Global,
@@ -97,7 +107,7 @@ fn ahead(
     ensures roomy { IsErrOf result StoreFault.Nodes → store.old.limit < 2 ^ (2 ^ store.old.variables) }
 {
     let most = share(alloc, set)?;
-    let mut all = copy_set(alloc, set)?;
+    let mut all = copied(alloc, set)?;
     for _step in 0..STEPS {
         let Some(more) = wider(alloc, store, relation, &all, most)? else {
             return Ok(all);

@@ -33,7 +33,7 @@ pub struct Opened {
 pub struct Told {
     /// A row for each order test: that of the case where it is named, else `0 <= 0`.
     pub rows: Many<Row>,
-    /// The updates, each times -1.
+    /// The updates, each times -1; none where the box is shut.
     pub opposites: Many<Form>,
     /// Whether these rows alone shut its box, whatever the bounds are.
     pub shut: bool,
@@ -109,8 +109,15 @@ pub fn told_of(alloc: Global, case: &Case, frame: &Frame) -> Result<Told, Memory
     ensures { IfOk result (IsToldOf frame.now case.now) }
 {
     let rows = told_rows(alloc, &case.tests, &case.rows, frame.tests)?;
-    let opposites = opposite_forms(alloc, &case.updates)?;
     let shut = are_shut(alloc, &rows, frame.columns)?;
+    if shut {
+        return Ok(Told {
+            rows,
+            opposites: Many::new(alloc),
+            shut,
+        });
+    }
+    let opposites = opposite_forms(alloc, &case.updates)?;
     Ok(Told {
         rows,
         opposites,

@@ -2,9 +2,7 @@
 
 ghost use Rattle.std.specs.Prelude.{◌≡◌, ◌↔◌, ◌<◌, ◌≤◌, ◌^◌, All, length, IfOk, IfSome, IfNone, IsErrOf, Ok};
 ghost use Rattle.std.specs.Int.RustNames.{unsigned_abs};
-ghost use Rattle.rv_diagram.specs.declared.frozen.Frozen.{Frozen as FrozenModel};
 ghost use Rattle.rv_proofs.specs.Systems.{System};
-ghost use Rattle.rv_proofs.specs.Cases.{IsInitialSet};
 ghost use Rattle.rv_proofs.specs.Accepted.{IsAccepted};
 ghost use Rattle.rv_proofs.specs.Boxes.{BoxClaim, HasGoodBox};
 ghost use Rattle.rv_proofs.specs.Reached.{IsLeastClosed, AreLayers};
@@ -16,13 +14,12 @@ ghost use Rattle.rv_boxes.specs.declared.frame.Frame.{Frame as FrameModel};
 ghost use Rattle.rv_boxes.specs.Claiming.{claim_of};
 ghost use Rattle.rv_boxes.specs.Opening.{IsFrameOf};
 ghost use Rattle.rv_boxes.specs.Rounds.{IsGiven, IsStart, IsLeastClaim};
-ghost use Rattle.rv_boxes.specs.Knowing.{Knows};
 ghost use Rattle.rv_boxes.specs.Certifying.{IsBad, IsCertifiable};
 ghost use Rattle.rv_boxes.specs.Passing.{IsPassOf, IsEndOf};
 
 use crate::claim::Claim;
 use crate::frame::Frame;
-use crate::known::Known;
+use crate::known::ask;
 use crate::layers::layers;
 use crate::locations::certify;
 use crate::rounds::{Closed, closed_claim, others_of};
@@ -82,7 +79,8 @@ fn start_of(
     Ok(Start { first, from_first })
 }
 
-/// The layers of the least closed claim, which is not good.
+/// The layers of the least closed claim, which is not good. All cases are asked again: those from before have gone into the certificate that
+/// there is not.
 fn bad_end(
     alloc: Global,
     store: &mut Store,
@@ -90,17 +88,18 @@ fn bad_end(
     questions: &Questions,
     frame: &Frame,
     claim: &Claim,
-    known: &Known,
 ) -> Result<Layers, StoreFault>
     requires { (s : System) × IsGiven s store.old relation.now questions.now frame.now × IsLeastClaim s frame.now claim.now
-        × IsBad s (claim_of claim.now) × (first : FrozenModel) × IsInitialSet s first × Knows s first claim.now.reached known.now }
-    ensures layers { (s : System) (first : FrozenModel) → IsGiven s store.old relation.now questions.now frame.now → IsLeastClaim s frame.now claim.now
-        → IsInitialSet s first → Knows s first claim.now.reached known.now → IfOk result (λ l. AreLayers s (claim_of claim.now) l.sets) }
+        × IsBad s (claim_of claim.now) }
+    ensures layers { (s : System) → IsGiven s store.old relation.now questions.now frame.now → IsLeastClaim s frame.now claim.now
+        → IfOk result (λ l. AreLayers s (claim_of claim.now) l.sets) }
     ensures same { store.new ≡ store.old }
     ensures roomy { IsErrOf result StoreFault.Nodes → store.old.limit < 2 ^ (2 ^ store.old.variables) }
 {
     let start = start_of(alloc, store, relation, questions)?;
-    let others = others_of(alloc, store, &start.first, claim, known)?;
+    let first = &start.first;
+    let known = ask(alloc, store, relation, questions, first, &claim.reached)?;
+    let others = others_of(alloc, store, first, claim, known)?;
     layers(alloc, store, relation, frame, &start.from_first, &others)
 }
 
@@ -115,25 +114,19 @@ fn end_of(
     closed: Closed,
 ) -> Result<BoxEnd, StoreFault>
     requires { (s : System) × IsGiven s store.old relation.now questions.now frame.now
-        × IsCertifiable s frame.now closed.claim start.first start.from_first closed.others
-        × Knows s start.first closed.claim.reached closed.known }
+        × IsCertifiable s frame.now closed.claim start.first start.from_first closed.others }
     ensures ends { (s : System) → IsGiven s store.old relation.now questions.now frame.now
         → IsCertifiable s frame.now closed.claim start.first start.from_first closed.others
-        → Knows s start.first closed.claim.reached closed.known
         → IfOk result (IsEndOf s frame.now.thresholds) }
     ensures same { store.new ≡ store.old }
     ensures roomy { IsErrOf result StoreFault.Nodes → store.old.limit < 2 ^ (2 ^ store.old.variables) }
 {
     let Start { first, from_first } = start;
-    let Closed {
-        claim,
-        known,
-        others,
-    } = closed;
+    let Closed { claim, others } = closed;
     match certify(alloc, frame, first, from_first, others)? {
         Some(certificate) => Ok(BoxEnd::Good(certificate)),
         None => {
-            let layers = bad_end(alloc, store, relation, questions, frame, &claim, &known)?;
+            let layers = bad_end(alloc, store, relation, questions, frame, &claim)?;
             Ok(BoxEnd::Bad(layers))
         }
     }

@@ -62,14 +62,14 @@ fn zero_rows(alloc: Global, many: usize) -> Result<Many<Row>, Memory>
     ensures size { IfOk result (λ rows. length rows ≡ many) }
     ensures zero { IfOk result (λ rows. (k : ℕ) → row_at rows k ≡ nothing) }
 {
-    let mut rows = Many::new(alloc);
+    let mut rows = Vec::with_capacity(alloc, many)?;
     for place in 0..many {
         rows.push(Row {
             coefficients: Many::new(alloc),
             bound: 0,
         })?;
     }
-    Ok(rows)
+    Ok(Many::from_vec(rows))
 }
 
 /// One row for each order test: its row where it is named, else `0 <= 0`.

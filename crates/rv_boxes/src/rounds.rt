@@ -25,7 +25,7 @@ ghost use Rattle.rv_boxes.specs.Claiming.{claim_of};
 
 use crate::bounding::bound_rows;
 use crate::claim::Claim;
-use crate::cutting::{copy_cases, cut};
+use crate::cutting::cut;
 use crate::frame::Frame;
 use crate::known::{Known, ask, is_within, nothing_known};
 use crate::limits::{Loosened, either};
@@ -254,33 +254,33 @@ pub struct Others {
     pub cases: Many<Case>,
 }
 
-/// The control states of a claim that are not initial, the rows of its bounds, and their cases: what is cut out of the known ones, or
-/// these themselves where they are of the same control states.
+/// The control states of a claim that are not initial, the rows of its bounds, and their cases: the known ones, where these are of the same
+/// control states, and else what is cut out of them.
 pub fn others_of(
     alloc: Global,
     store: &mut Store,
     first: &Frozen,
     claim: &Claim,
-    known: &Known,
+    known: Known,
 ) -> Result<Others, StoreFault>
     requires { (s : System) × (f : FrameModel) × IsSystem s × (store.old.variables ≡ s.variables) × IsInitialSet s first.now
-        × IsKeptClaim s f claim.now × Knows s first.now claim.now.reached known.now }
+        × IsKeptClaim s f claim.now × Knows s first.now claim.now.reached known }
     ensures others { (s : System) (f : FrameModel) → IsSystem s → store.old.variables ≡ s.variables → IsInitialSet s first.now
-        → IsKeptClaim s f claim.now → Knows s first.now claim.now.reached known.now → IfOk result (AreOthers s first.now claim.now) }
+        → IsKeptClaim s f claim.now → Knows s first.now claim.now.reached known → IfOk result (AreOthers s first.now claim.now) }
     ensures same { store.new ≡ store.old }
     ensures roomy { IsErrOf result StoreFault.Nodes → store.old.limit < 2 ^ (2 ^ store.old.variables) }
 {
     let control = without(store, &claim.reached, first)?;
     let given = bound_rows(alloc, &claim.upper, &claim.lower)?;
-    if control != known.from {
-        let cases = cut(alloc, store, &known.cases, &control)?;
+    let Known { from, cases } = known;
+    if control != from {
+        let cases = cut(alloc, store, &cases, &control)?;
         return Ok(Others {
             control,
             given,
             cases,
         });
     }
-    let cases = copy_cases(alloc, &known.cases)?;
     Ok(Others {
         control,
         given,
@@ -548,8 +548,6 @@ fn around_of(
 pub struct Closed {
     /// The claim.
     pub claim: Claim,
-    /// The known cases.
-    pub known: Known,
     /// Its control states that are not initial, the rows of its bounds, and their cases.
     pub others: Others,
 }
@@ -566,8 +564,7 @@ pub fn closed_claim(
 ) -> Result<Closed, StoreFault>
     requires { (s : System) × IsGiven s store.old relation.now questions.now frame.now × IsStart s first.now from_first.now }
     ensures least { (s : System) → IsGiven s store.old relation.now questions.now frame.now → IsStart s first.now from_first.now
-        → IfOk result (λ c. IsLeastClaim s frame.now c.claim × AreOthers s first.now c.claim c.others
-        × Knows s first.now c.claim.reached c.known) }
+        → IfOk result (λ c. IsLeastClaim s frame.now c.claim × AreOthers s first.now c.claim c.others) }
     ensures same { store.new ≡ store.old }
     ensures roomy { IsErrOf result StoreFault.Nodes → store.old.limit < 2 ^ (2 ^ store.old.variables) }
 {
@@ -591,10 +588,6 @@ pub fn closed_claim(
         )?;
     }
     let known = around.known;
-    let others = others_of(alloc, store, first, &claim, &known)?;
-    Ok(Closed {
-        claim,
-        known,
-        others,
-    })
+    let others = others_of(alloc, store, first, &claim, known)?;
+    Ok(Closed { claim, others })
 }

@@ -5,6 +5,6 @@ use Rattle.rv_boxes.proofs.premises.zero_rows.Given as goal
 
 abbrev pub invariant-loop-place : goal.invariant-loop-place
 invariant-loop-place l = record {
-  size : length l.rows ≡ l.place;
-  zero : (k : ℕ) → row_at l.rows k ≡ nothing;
+  size : length l.rows.items ≡ l.place;
+  zero : (k : ℕ) → row_at l.rows.items k ≡ nothing;
 }

@@ -35,7 +35,7 @@ open_limits-requires-clause-turned c =
     let r = given.relation in
     subst (λ n. AreUpdates c.args.frame.now.columns n c.args.told.now.opposites) (sym kept.lowers)
     (opposite_updates c.args.frame.now.columns s.memories c.args.case.now.updates c.args.told.now.opposites
-    (are_updates s r.system c.args.frame.now given.frame c.args.case.now of) told.opposites told.within)
+    (are_updates s r.system c.args.frame.now given.frame c.args.case.now of) (told.opposites c.if-told.false) (told.within c.if-told.false))
 
 pub open_limits-requires-clause-thresholds : goal.open_limits-requires-clause-thresholds
 open_limits-requires-clause-thresholds c =
@@ -59,7 +59,7 @@ returns-in_ok-fresh-in-Some-clause-grown c s q base given setting kept of met to
     c.take_limits.new.claim) (sym c.take_limits.ensures.changed)
     (grown_open s r.system c.args.frame.now given.frame base c.args.from.now c.args.given.now setting c.args.case.now of c.new-premises.result
     (record { told = c.args.told.now.rows; is_told = told.rows; are = c.new-premises.ensures }) met
-    c.args.claim.now c.take_image.new.claim c.take_limits.new.claim kept c.args.told.now.opposites told.opposites c.in-Some.limits opened set i
+    c.args.claim.now c.take_image.new.claim c.take_limits.new.claim kept c.args.told.now.opposites (told.opposites c.if-told.false) c.in-Some.limits opened set i
     c.in_ok-fresh-in-Some.fresh took c.take_limits.ensures.reached c.take_limits.ensures.upper c.take_limits.ensures.lower)
 
 pub returns-in_ok-fresh-in-Some-clause-known : goal.returns-in_ok-fresh-in-Some-clause-known

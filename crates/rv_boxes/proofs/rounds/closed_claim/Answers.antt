@@ -120,5 +120,4 @@ returns-clause-least c s given start =
       least_of s c.args.frame.now given.frame c.args.first.now c.loop-more.claim rising (c.loop-more.invariant.closed s given start c.loop-more-test.false),
       c.in_ok-others.ensures.others s c.args.frame.now r.system (ap (λ (d : Diagrams). d.variables) c.loop-more.invariant.same ∙ p.variables) start.initial
           rising.kept around.knows,
-      around.knows,
     )

@@ -1,8 +1,7 @@
-use Rattle.std.proofs.Common.{◌∙◌, List, ap, sym, subst}
+use Rattle.std.proofs.Common.{◌∙◌, ap, sym, subst}
 use Rattle.rv_diagram.specs.Nodes.{Diagrams}
 use Rattle.rv_diagram.specs.declared.frozen.Frozen.{Frozen}
 use Rattle.rv_proofs.specs.Cases.{AreCases}
-use Rattle.rv_proofs.specs.declared.report.Case.{Case}
 use Rattle.rv_boxes.proofs.Imagining.{same_set}
 use Rattle.rv_boxes.proofs.Knowing.{covered}
 use Rattle.rv_boxes.proofs.rounds.others_of.Goals as goal
@@ -12,7 +11,7 @@ cut-requires c =
     let (s, f, is, variables, initial, kept, knows) = c.requires in
     let k = knows.known in (
       s,
-      c.args.known.now.from,
+      c.args.known.from,
       is,
       ap (λ (d : Diagrams). d.variables) c.without.ensures.same ∙ variables,
       k.cases,
@@ -26,8 +25,8 @@ returns-then-ne-clause-others c s f is variables initial kept knows =
     let w = c.in_ok-control.ensures.exact in
     record {
       rest = record { control = control; exact = w.exact; rows = c.in_ok-given.ensures };
-      cases = c.in_ok-cases.ensures.cases s c.args.known.now.from is (ap (λ (d : Diagrams). d.variables) c.without.ensures.same ∙ variables) k.cases control
-          (covered s c.args.store.now.variables c.args.first.now c.args.claim.now.reached c.in_ok-control.control c.args.known.now knows w);
+      cases = c.in_ok-cases.ensures.cases s c.args.known.from is (ap (λ (d : Diagrams). d.variables) c.without.ensures.same ∙ variables) k.cases control
+          (covered s c.args.store.now.variables c.args.first.now c.args.claim.now.reached c.in_ok-control.control c.args.known knows w);
     }
 
 pub returns-clause-others : goal.returns-clause-others
@@ -35,9 +34,8 @@ returns-clause-others c s f is variables initial kept knows =
     let k = knows.known in
     let control = c.in_ok-control.ensures.control s variables kept.control initial.control in
     let w = c.in_ok-control.ensures.exact in
-    let same = same_set c.in_ok-control.control c.args.known.now.from c.ne.result c.ne.ensures c.if-ne.false in
+    let same = same_set c.in_ok-control.control c.args.known.from c.ne.result c.ne.ensures c.if-ne.false in
     record {
       rest = record { control = control; exact = w.exact; rows = c.in_ok-given.ensures };
-      cases = subst (λ (set : Frozen). AreCases s set c.in_ok-cases-2.cases) (sym same)
-          (subst (λ (list : List Case). AreCases s c.args.known.now.from list) (sym c.in_ok-cases-2.ensures) k.cases);
+      cases = subst (λ (set : Frozen). AreCases s set c.args.known.cases) (sym same) k.cases;
     }
