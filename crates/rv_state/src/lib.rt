@@ -2,16 +2,18 @@
 //!
 //! It promises that `post` has every successor by a case where it is given the image of the control set, and no other state where all updates
 //! are moves; that `includes` is true only where every state of the other is one of the value's; and that `join` has the states of both.
-//! `Domain` says what an abstract domain of points is, of which polyhedra are an instance.
+//! `Domain` says what an abstract domain of points is, of which polyhedra, boxes and rows over two columns are instances.
 //!
 //! It stands on `rv_poly` for points, on `rv_diagram` for control sets, and on `rv_proofs` for systems and their cases. Begin with value.rt,
 //! then specs/States.antt.
 #![tactic(auto)]
 
 mod domain;
+mod narrow;
 mod polys;
 mod sets;
 mod value;
 
 pub use domain::Domain;
+pub use narrow::{Bounds, Pairs};
 pub use value::Abstract;
