@@ -1,6 +1,5 @@
 //! How many cases a source has.
 
-ghost use Rattle.std.specs.Prelude.{◌≡◌};
 ghost use Rattle.rv_tree.specs.Tree.{ProgramTree};
 ghost use Rattle.rv_tree.specs.Places.{Identifier};
 ghost use Rattle.rv_types.specs.Instances.{IsNode};

@@ -1,6 +1,6 @@
 //! The sum of two numbers.
 
-ghost use Rattle.std.specs.Prelude.{◌≡◌, ◌+◌, ◌*◌, ◌<◌, ◌≤◌, length, IfOk, OnOk};
+ghost use Rattle.std.specs.Prelude.{◌≡◌, ◌+◌, ◌<◌, ◌≤◌, length, IfOk, OnOk};
 ghost use Rattle.rv_diagram.specs.Nodes.{IsRef};
 
 use rv_diagram::{Ref, Store, StoreFault};

@@ -1,6 +1,6 @@
 //! The parity of variables.
 
-ghost use Rattle.std.specs.Prelude.{◌≡◌, ◌+◌, ◌<◌, ◌≤◌, length, IfOk, OnOk};
+ghost use Rattle.std.specs.Prelude.{◌<◌, ◌≤◌, IfOk};
 ghost use Rattle.rv_diagram.specs.Nodes.{IsRef};
 
 use rv_diagram::{Ref, Store, StoreFault};

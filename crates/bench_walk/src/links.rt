@@ -1,8 +1,7 @@
 //! A row of links in a store.
 
-ghost use Rattle.std.specs.Prelude.{◌≡◌, ◌+◌, ◌*◌, ◌-◌, ◌<◌, ◌≤◌, not, ◌&&◌, true, false, IfOk};
-ghost use Rattle.rv_diagram.specs.Nodes.{Valuation, value_of, IsRef};
-ghost use Rattle.rv_symbolic.specs.Growing.{Extends, Makes};
+ghost use Rattle.std.specs.Prelude.{◌≡◌, ◌+◌, ◌*◌, ◌-◌, ◌<◌, ◌≤◌, not, true, false, IfOk};
+ghost use Rattle.rv_symbolic.specs.Growing.{Makes};
 ghost use Rattle.rv_symbolic.specs.Represented.{IsRelationOf, HaveRefs, AreParts};
 ghost use Rattle.bench_walk.specs.Chain.{held_of, seen_of, next_of, observer_of, links, AreNext};
 

@@ -1,5 +1,5 @@
 -- Which tests and updates the implications of an entry need, and what is one throughout a scope.
-use Rattle.std.specs.Prelude.{◌≡◌, ◌≢◌, ◌⊎◌, ◌↔◌, ℕ, ◌+◌, ◌<◌, ◌^◌, pos, true, false, Bool, List, length, Option, Some, MatchOption, All, IsTrue, slice_get}
+use Rattle.std.specs.Prelude.{◌≡◌, ◌⊎◌, ◌↔◌, ℕ, ◌+◌, ◌<◌, ◌^◌, true, false, Bool, List, length, Option, Some, MatchOption, All, slice_get}
 use Rattle.std.specs.Prelude.{slice_index_or}
 use Rattle.rv_diagram.specs.declared.Triple.{Triple}
 use Rattle.rv_diagram.specs.Nodes.{Valuation, value_of, valuation_of}
@@ -7,7 +7,7 @@ use Rattle.rv_rows.specs.declared.linear.Row.{Row}
 use Rattle.rv_rows.specs.declared.linear.Form.{Form}
 use Rattle.rv_rows.specs.declared.farkas.Weight.{Weight}
 use Rattle.rv_rows.specs.declared.farkas.Multipliers.{Multipliers}
-use Rattle.rv_rows.specs.Rows.{RowWithin, coefficient, row_at}
+use Rattle.rv_rows.specs.Rows.{RowWithin, row_at}
 use Rattle.rv_proofs.specs.Systems.{System, IsUpdate}
 use Rattle.rv_proofs.specs.Scopes.{Implication, NamesTest, NeedsUpdate}
 use Rattle.rv_proofs.specs.Implied.{form_at}

@@ -1,6 +1,6 @@
 //! The checker: the loops over locations and entries, and the first reason.
 
-ghost use Rattle.std.specs.Prelude.{◌≡◌, ◌↔◌, ℕ, ◌<◌, ◌≤◌, ◌^◌, List, [], ◌∷◌, Some, IfOk, IsErrOf, MatchOption, length, slice_get};
+ghost use Rattle.std.specs.Prelude.{◌≡◌, ◌↔◌, ℕ, ◌<◌, ◌^◌, [], ◌∷◌, Some, IfOk, IsErrOf, MatchOption, slice_get};
 ghost use Rattle.rv_diagram.specs.Nodes.{IsRef, IsOrderedOver};
 ghost use Rattle.rv_proofs.specs.Systems.{System, IsSystem};
 ghost use Rattle.rv_proofs.specs.Ranges.{IsControlSet, IsCondition, IsInRange};
@@ -12,7 +12,7 @@ ghost use Rattle.rv_proofs.specs.declared.certificate.Entry.{Entry};
 ghost use Rattle.rv_terms.specs.Growing.{Extends};
 ghost use Rattle.rv_accept.specs.Steps.{IsLeastWord};
 ghost use Rattle.rv_accept.specs.Held.{IsHeld, IsWithin};
-ghost use Rattle.rv_accept.specs.Passing.{NoneBefore, Passes, AllPass, IsGiven, IsFirstNotIncluded};
+ghost use Rattle.rv_accept.specs.Passing.{NoneBefore, Passes, AllPass, IsGiven};
 
 use crate::entry::entry_fault;
 use crate::including::first_not_included;

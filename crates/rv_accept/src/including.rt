@@ -1,6 +1,6 @@
 //! Whether `entry`, and with a loop `first`, proves each row of `state`.
 
-ghost use Rattle.std.specs.Prelude.{◌≡◌, ℕ, [], MatchOption};
+ghost use Rattle.std.specs.Prelude.{◌≡◌, [], MatchOption};
 ghost use Rattle.rv_proofs.specs.Systems.{System};
 ghost use Rattle.rv_proofs.specs.Counts.{HasLoop, HasLocationCounts};
 ghost use Rattle.rv_proofs.specs.Ranges.{IsLocationInRange};

@@ -1,7 +1,7 @@
 //! Whether a test has one row throughout a scope, and a memory one form.
 
-ghost use Rattle.std.specs.Prelude.{◌≡◌, ℕ, ◌+◌, ◌<◌, ◌≤◌, ◌^◌, ◌↔◌, true, false, Some, Option, IfOk, IfSome, IsErrOf, IsTrue, MatchOption, length};
-ghost use Rattle.rv_diagram.specs.Nodes.{Valuation, value_of, valuation_of, IsRef};
+ghost use Rattle.std.specs.Prelude.{◌≡◌, ℕ, ◌+◌, ◌<◌, ◌^◌, ◌↔◌, true, false, Some, Option, IfOk, IfSome, IsErrOf, IsTrue, MatchOption, length};
+ghost use Rattle.rv_diagram.specs.Nodes.{value_of, valuation_of, IsRef};
 ghost use Rattle.rv_rows.specs.declared.linear.Row.{Row};
 ghost use Rattle.rv_rows.specs.declared.linear.Form.{Form};
 ghost use Rattle.rv_rows.specs.Rows.{row_at};

@@ -1,6 +1,6 @@
 //! The row of each test that is named and the form of each memory that is needed, where they are one throughout a scope.
 
-ghost use Rattle.std.specs.Prelude.{◌≡◌, ℕ, ◌+◌, ◌<◌, ◌≤◌, ◌^◌, true, Some, IfOk, IfSome, IsErrOf, IsTrue, MatchOption, length};
+ghost use Rattle.std.specs.Prelude.{◌≡◌, ℕ, ◌+◌, ◌<◌, ◌^◌, true, Some, IfOk, IfSome, IsErrOf, MatchOption, length};
 ghost use Rattle.rv_diagram.specs.Nodes.{value_of, valuation_of, IsRef};
 ghost use Rattle.rv_rows.specs.declared.linear.Row.{Row};
 ghost use Rattle.rv_rows.specs.declared.linear.Form.{Form};

@@ -1,12 +1,12 @@
 //! The least valuations that fail.
 
-ghost use Rattle.std.specs.Prelude.{◌≡◌, ℕ, ◌+◌, ◌*◌, ◌/◌, ◌<◌, ◌≤◌, ◌^◌, not, true, false, List, [], Some, Bool, IfOk, IsErrOf, IsTrue, MatchOption, OnOk};
+ghost use Rattle.std.specs.Prelude.{◌≡◌, ℕ, ◌+◌, ◌/◌, ◌<◌, ◌^◌, not, true, false, List, Some, IfOk, IsErrOf, MatchOption};
 ghost use Rattle.std.specs.Prelude.{length, slice_get, if◌then◌else◌};
 ghost use Rattle.rv_diagram.specs.declared.Triple.{Triple};
-ghost use Rattle.rv_diagram.specs.Nodes.{Valuation, value_of, node_at, IsRef, IsOrdered, IsExpanded, IsOrderedOver};
+ghost use Rattle.rv_diagram.specs.Nodes.{Valuation, value_of, IsRef, IsOrdered, IsExpanded, IsOrderedOver};
 ghost use Rattle.rv_terms.specs.Growing.{Extends};
 ghost use Rattle.rv_diagram.specs.Several.{ref_at};
-ghost use Rattle.rv_accept.specs.Steps.{IsTrueOf, IsLeastWord, has};
+ghost use Rattle.rv_accept.specs.Steps.{IsLeastWord, has};
 ghost use Rattle.rv_accept.specs.Steps.{AreRefs};
 ghost use Rattle.rv_accept.specs.Held.{IsHeld, IsWithin, IsScope, follow, ReadsNext, AreMoved, IsUnseen, IsElsewhere};
 ghost use Rattle.rv_proofs.specs.Systems.{System, IsSystem};

@@ -2,7 +2,6 @@
 
 ghost use Rattle.std.specs.Prelude.{◌≡◌, ◌<◌, ◌≤◌, ◌^◌, length, IfOk, OnOk, IsErrOf};
 ghost use Rattle.rv_agreement.specs.Agreement.{IsWell};
-ghost use Rattle.rv_diagram.specs.Nodes.{IsRef};
 ghost use Rattle.rv_flat.specs.FlatInstants.{system_of};
 ghost use Rattle.rv_flat.specs.Tame.{IsOver};
 ghost use Rattle.rv_symbolic.specs.Growing.{Makes};

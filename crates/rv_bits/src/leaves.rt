@@ -1,7 +1,7 @@
 //! What stands in an expression by itself: constants, flows, memories, ticks and inputs.
 
 ghost use Rattle.std.specs.Prelude.{◌≡◌, ℕ, ◌<◌, ◌^◌, [], ◌∷◌, not, IfOk, IsErrOf};
-ghost use Rattle.rv_diagram.specs.Nodes.{Valuation, value_of};
+ghost use Rattle.rv_diagram.specs.Nodes.{Valuation};
 ghost use Rattle.rv_diagram.specs.Several.{ref_at};
 ghost use Rattle.rv_symbolic.specs.Linked.{AreRefs};
 ghost use Rattle.rv_bits.specs.Bits.{bit, IsSingle};

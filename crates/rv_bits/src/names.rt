@@ -1,6 +1,6 @@
 //! Diagram variables by their names, and the bits of memories and inputs.
 
-ghost use Rattle.std.specs.Prelude.{◌≡◌, ℕ, ◌<◌, ◌≤◌, ◌^◌, ◌&&◌, false, length, map, nat_lt, IfOk, IsErrOf, IsTrue, MatchOption};
+ghost use Rattle.std.specs.Prelude.{◌≡◌, ◌<◌, ◌≤◌, ◌^◌, ◌&&◌, false, length, map, nat_lt, IfOk, IsErrOf, IsTrue, MatchOption};
 ghost use Rattle.rv_tree.specs.Places.{is_same as is_same_place};
 ghost use Rattle.rv_types.specs.Variables.{bits_for};
 ghost use Rattle.rv_diagram.specs.Nodes.{Valuation};

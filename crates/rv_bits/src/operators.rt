@@ -1,6 +1,6 @@
 //! Operators between control values, and comparisons of integers by their tests.
 
-ghost use Rattle.std.specs.Prelude.{◌≡◌, ◌<◌, ◌≤◌, ◌^◌, ◌&&◌, ◌||◌, not, cond, length, map, IfOk, IsErrOf};
+ghost use Rattle.std.specs.Prelude.{◌<◌, ◌≤◌, ◌^◌, ◌&&◌, ◌||◌, not, cond, length, map, IfOk, IsErrOf};
 ghost use Rattle.rv_types.specs.Lists.{Test, AtMost, AtLeast};
 ghost use Rattle.rv_diagram.specs.Nodes.{IsRef, value_of};
 ghost use Rattle.rv_flat.specs.Lists.{side_of, variable_of};

@@ -1,8 +1,8 @@
 //! The references of what an instant finds: of the ticks, and of the bits of the memories and inputs.
 
-ghost use Rattle.std.specs.Prelude.{◌≡◌, ◌<◌, ◌≤◌, ◌^◌, ◌++◌, length, map, IfOk, OnOk, IsErrOf, List, Option};
+ghost use Rattle.std.specs.Prelude.{◌<◌, ◌≤◌, ◌^◌, ◌++◌, length, map, IfOk, OnOk, IsErrOf, List, Option};
 ghost use Rattle.rv_tree.specs.Places.{Sites};
-ghost use Rattle.rv_types.specs.Lists.{Kept, Input};
+ghost use Rattle.rv_types.specs.Lists.{Input};
 ghost use Rattle.rv_diagram.specs.Nodes.{Diagrams};
 ghost use Rattle.rv_agreement.specs.Trees.{kind_at};
 ghost use Rattle.rv_flat.specs.Lists.{variable_of};

@@ -1,5 +1,5 @@
 -- What a case does to the limits: its premises, whether its box is open, and what its updates loosen.
-use Rattle.std.specs.Prelude.{◌≡◌, ℕ, ◌<◌, ◌≤◌, ◌^◌, ℤ, negsuc, ◌*ℤ◌, true, false, List, ◌++◌, length, All, Option, Some, slice_get}
+use Rattle.std.specs.Prelude.{◌≡◌, ℕ, ◌<◌, ◌≤◌, ◌^◌, ℤ, negsuc, ◌*ℤ◌, false, List, ◌++◌, length, All, Option, Some, MatchBool, slice_get}
 use Rattle.std.specs.Int.RustNames.{unsigned_abs}
 use Rattle.rv_rows.specs.declared.linear.Row.{Row}
 use Rattle.rv_rows.specs.declared.linear.Form.{Form}
@@ -58,12 +58,12 @@ pub record AreUpdates (width many : ℕ) (forms : List Form) : Type 0 where
   pub widths : All (λ f. length f.coefficients ≤ width) forms
   pub sizes : All (FormWithin (2 ^ 41)) forms
 
--- What is kept of a case: a row for each order test, that these alone shut its box, where they are found to, and else the opposites of its updates.
+-- What is kept of a case: a row for each order test, whether these alone shut its box, and where they do not the opposites of its updates.
 pub record IsToldOf (f : Frame) (c : Case) (t : Told) : Type 0 where
   pub rows : IsTold f.tests (length c.tests) c.tests c.rows t.rows
   pub opposites : t.shut ≡ false → AreOppositeForms c.updates t.opposites
   pub within : t.shut ≡ false → All (FormWithin (2 ^ 41)) t.opposites
-  pub shut : t.shut ≡ true → ¬ IsOpenBox f.columns t.rows
+  pub shut : MatchBool t.shut (¬ IsOpenBox f.columns t.rows) (IsOpenBox f.columns t.rows)
 
 -- The box of the premises is open, and the limits are loosened by the updates, and by their opposites.
 pub record IsOpened (f : Frame) (premises : List Row) (updates opposites : List Form) (upper lower : List (Option ℤ)) (x : Opened) : Type 0 where

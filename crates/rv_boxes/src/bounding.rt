@@ -1,6 +1,6 @@
 //! Limits as rows, and lists of rows one after the other.
 
-ghost use Rattle.std.specs.Prelude.{◌≡◌, ◌≢◌, ◌++◌, ◌<◌, ◌≤◌, ◌^◌, pos, length, IfOk, OnOk};
+ghost use Rattle.std.specs.Prelude.{◌≡◌, ◌≢◌, ◌++◌, ◌<◌, pos, length, IfOk, OnOk};
 ghost use Rattle.rv_proofs.specs.Boxes.{IsUnitAt};
 ghost use Rattle.rv_boxes.specs.Bounding.{AreLimitRows, AreBothRows, IsNoted};
 

@@ -8,7 +8,7 @@ ghost use Rattle.rv_proofs.specs.Ranges.{IsControlSet};
 ghost use Rattle.rv_proofs.specs.Cases.{AreCases};
 ghost use Rattle.rv_symbolic.specs.Growing.{Extends};
 ghost use Rattle.rv_walk.specs.Ends.{has};
-ghost use Rattle.rv_boxes.specs.Cutting.{IsFrozenSome, IsMeet, case_with, IsCut, HasCut};
+ghost use Rattle.rv_boxes.specs.Cutting.{IsFrozenSome, IsMeet, case_with, HasCut};
 
 use crate::bounding::copy_rows;
 use rv_base::{Many, Memory};

@@ -6,7 +6,6 @@ ghost use Rattle.rv_diagram.specs.declared.frozen.Frozen.{Frozen as FrozenModel}
 ghost use Rattle.rv_rows.specs.declared.linear.Row.{Row as RowModel};
 ghost use Rattle.rv_proofs.specs.Systems.{System};
 ghost use Rattle.rv_proofs.specs.Boxes.{BoxClaim};
-ghost use Rattle.rv_proofs.specs.declared.report.Case.{Case as CaseModel};
 ghost use Rattle.rv_boxes.specs.Ends.{AreEnds};
 ghost use Rattle.rv_boxes.specs.Boxed.{ArePremises, IsUncrossed, IsOpenBox};
 ghost use Rattle.rv_boxes.specs.Built.{IsReached, IsBuiltKind};

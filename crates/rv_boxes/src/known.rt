@@ -2,8 +2,8 @@
 //! cases by each question, which is the dearest part of the pass; so cases are asked of a set with room to grow, and those with a valuation
 //! whose control state is the claim's are marked (marks.rt).
 
-ghost use Rattle.std.specs.Prelude.{◌≡◌, ◌<◌, ◌^◌, [], true, false, IfOk, IfSome, IsErrOf, MatchBool};
-ghost use Rattle.rv_diagram.specs.Nodes.{Valuation, IsOrderedOver};
+ghost use Rattle.std.specs.Prelude.{◌≡◌, ◌<◌, ◌^◌, [], true, false, IfOk, IfSome, IsErrOf};
+ghost use Rattle.rv_diagram.specs.Nodes.{IsOrderedOver};
 ghost use Rattle.rv_proofs.specs.Systems.{System};
 ghost use Rattle.rv_proofs.specs.Ranges.{IsControlSet};
 ghost use Rattle.rv_proofs.specs.Cases.{IsInitialSet};

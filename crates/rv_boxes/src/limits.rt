@@ -1,8 +1,7 @@
 //! Limits, loosened by what forms are worth over the box of premises.
 
-ghost use Rattle.std.specs.Prelude.{◌≡◌, ◌≢◌, ◌⊎◌, ◌||◌, ℕ, ◌<◌, ◌≤◌, ◌^◌, ℤ, ◌+ℤ◌, ◌≤ℤ◌, ◌<ℤ◌, length, All, IfOk, MatchBool, Some};
+ghost use Rattle.std.specs.Prelude.{◌≡◌, ◌≢◌, ◌⊎◌, ◌||◌, ◌<◌, ◌≤◌, ◌^◌, ℤ, ◌+ℤ◌, ◌≤ℤ◌, ◌<ℤ◌, length, All, IfOk, MatchBool, Some};
 ghost use Rattle.std.specs.Int.RustNames.{unsigned_abs};
-ghost use Rattle.rv_rows.specs.declared.linear.Form.{Form as FormModel};
 ghost use Rattle.rv_rows.specs.Forms.{FormWithin};
 ghost use Rattle.rv_boxes.specs.Ends.{AreEnds};
 ghost use Rattle.rv_boxes.specs.Boxed.{ArePremises, IsUncrossed};

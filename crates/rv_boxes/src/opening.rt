@@ -1,12 +1,11 @@
 //! What a case does to limits: nothing where its box is shut, else what its updates loosen.
 
-ghost use Rattle.std.specs.Prelude.{◌≡◌, ◌<◌, ◌≤◌, ◌^◌, ℤ, negsuc, ◌*ℤ◌, true, List, length, All, IfOk, IfSome, IfNone};
+ghost use Rattle.std.specs.Prelude.{◌≡◌, ◌<◌, ◌≤◌, ◌^◌, ℤ, negsuc, ◌*ℤ◌, List, length, All, IfOk, IfSome, IfNone, MatchBool};
 ghost use Rattle.std.specs.Int.RustNames.{unsigned_abs};
 ghost use Rattle.rv_rows.specs.declared.linear.Row.{Row as RowModel};
 ghost use Rattle.rv_rows.specs.Forms.{value, FormWithin};
 ghost use Rattle.rv_boxes.specs.Ends.{AreEnds};
 ghost use Rattle.rv_boxes.specs.Boxed.{ArePremises, IsUncrossed, IsOpenBox};
-ghost use Rattle.rv_boxes.specs.Limits.{AreLoosened};
 ghost use Rattle.rv_boxes.specs.Opening.{HasTests, IsTold, AreOppositeForms, IsToldOf, AreUpdates, IsOpened};
 
 use crate::ends::{End, narrow};
@@ -89,7 +88,7 @@ fn opposite_forms(alloc: Global, forms: &Many<Form>) -> Result<Many<Form>, Memor
 fn are_shut(alloc: Global, rows: &Many<Row>, columns: usize) -> Result<bool, Memory>
     requires premises { ArePremises columns rows.now }
     requires few { columns < 256 }
-    ensures { IfOk result (λ shut. shut ≡ true → ¬ IsOpenBox columns rows.now) }
+    ensures { IfOk result (λ shut. MatchBool shut (¬ IsOpenBox columns rows.now) (IsOpenBox columns rows.now)) }
 {
     let nothing = Many::new(alloc);
     let premises = Premises::new(&nothing, rows);

@@ -1,4 +1,4 @@
-ghost use Rattle.std.specs.Prelude.{◌≡◌, ◌<◌, ◌≤◌, ◌^◌, length, take, drop, All, IfOk};
+ghost use Rattle.std.specs.Prelude.{◌<◌, ◌≤◌, length, take, drop, All, IfOk};
 ghost use Rattle.rv_boxes.specs.Weighing.{Rises, IsInserted};
 
 use rv_base::{Many, Memory};

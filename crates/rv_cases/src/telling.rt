@@ -1,6 +1,6 @@
 //! What is so throughout a condition: which order tests are present, and their rows, the forms of the integer memories, the observer.
 
-ghost use Rattle.std.specs.Prelude.{◌≡◌, ℕ, ◌+◌, ◌<◌, ◌≤◌, ◌^◌, true, List, [], length, IfOk, OnOk};
+ghost use Rattle.std.specs.Prelude.{◌≡◌, ℕ, ◌+◌, ◌<◌, ◌≤◌, ◌^◌, true, length, IfOk, OnOk};
 ghost use Rattle.rv_diagram.specs.Nodes.{value_of};
 ghost use Rattle.rv_proofs.specs.Systems.{System};
 ghost use Rattle.rv_cases.specs.Conditions.{IsSampleOf};

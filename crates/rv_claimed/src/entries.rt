@@ -1,15 +1,13 @@
 //! Entries of a certificate: a case whose premises are shut at once is dead, and another is a step, in which a pair of premises shows
 //! each row of the claim after the updates. The premises of a case are made ready for all these questions once.
 
-ghost use Rattle.std.specs.Prelude.{◌≡◌, ◌↔◌, ◌<◌, ◌+◌, ◌^◌, ◌||◌, ℕ, false, All, Some, IsTrue, IfOk, IfSome, IfNone, length, slice_get};
+ghost use Rattle.std.specs.Prelude.{◌≡◌, ◌↔◌, ◌<◌, ◌+◌, ◌^◌, ◌||◌, ℕ, false, Some, IsTrue, IfOk, IfSome, IfNone, length, slice_get};
 ghost use Rattle.rv_diagram.specs.declared.frozen.Frozen.{Frozen as FrozenModel};
 ghost use Rattle.rv_rows.specs.declared.linear.Row.{Row as RowModel};
-ghost use Rattle.rv_rows.specs.Rows.{RowWithin};
-ghost use Rattle.rv_rows.specs.Multipliers.{ShowsAtOnce, AreShutAtOnce};
+ghost use Rattle.rv_rows.specs.Multipliers.{AreShutAtOnce};
 ghost use Rattle.rv_proofs.specs.Systems.{System};
 ghost use Rattle.rv_proofs.specs.Accepted.{IsStepKind};
 ghost use Rattle.rv_claims.specs.Claiming.{claim_of};
-ghost use Rattle.rv_claimed.specs.Placing.{IsPairOf};
 ghost use Rattle.rv_claimed.specs.Certifying.{CanShow, premises_in, IsReached, IsShut, AreReached, IsMadeKind};
 ghost use Rattle.rv_claimed.specs.Certifying.{IsJudgeable, IsSetting, IsCaseIn, AreCasesIn, IsMadeEntry, AreListed};
 

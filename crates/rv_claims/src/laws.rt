@@ -5,7 +5,6 @@ ghost use Rattle.rv_diagram.specs.Nodes.{Valuation};
 ghost use Rattle.rv_rows.specs.declared.linear.Row.{Row};
 ghost use Rattle.rv_rows.specs.Multipliers.{ShowsAtOnce, Proves, Refutes};
 ghost use Rattle.rv_proofs.specs.Systems.{System, IsSystem};
-ghost use Rattle.rv_proofs.specs.Runs.{IsSafeSystem};
 ghost use Rattle.rv_proofs.specs.RowClaims.{RowClaim, IsRowClaim, IsRowTaken, IsRowClosed, IsRowGood, IsRowTighter, HasGoodRows, premises_at};
 ghost use Rattle.rv_proofs.specs.Accepted.{IsAccepted};
 ghost use Rattle.rv_proofs.specs.declared.certificate.Certificate.{Certificate};

@@ -1,6 +1,6 @@
 //! A trace from the words of a run, by the order of the diagram variables.
 
-ghost use Rattle.std.specs.Prelude.{◌≡◌, ℕ, ◌+◌, ◌*◌, ◌<◌, ◌≤◌, ◌^◌, pos, cond, false, [], map, length, slice_index_or, IfOk, IsTrue};
+ghost use Rattle.std.specs.Prelude.{◌≡◌, ◌+◌, ◌*◌, ◌<◌, ◌≤◌, ◌^◌, pos, cond, false, [], map, length, slice_index_or, IfOk, IsTrue};
 ghost use Rattle.rv_tree.specs.Tree.{ProgramTree};
 ghost use Rattle.rv_tree.specs.Places.{Identifier};
 ghost use Rattle.rv_meaning.specs.Codes.{code};

@@ -1,6 +1,6 @@
 //! Terms that have one form at every valuation, and copies.
 
-ghost use Rattle.std.specs.Prelude.{◌≡◌, ℕ, ◌+◌, ◌<◌, ◌≤◌, ◌^◌, pos, cond, nat_eq, List, [], length, IfOk, IsErrOf};
+ghost use Rattle.std.specs.Prelude.{◌≡◌, ◌<◌, ◌≤◌, pos, cond, nat_eq, List, length, IfOk, IsErrOf};
 ghost use Rattle.rv_meaning.specs.Meaning.{number as whole_number};
 ghost use Rattle.rv_rows.specs.Arithmetic.{zeros, unit, constant_form, column_form};
 ghost use Rattle.rv_diagram.specs.declared.Triple.{Triple};

@@ -1,6 +1,6 @@
 //! Integer expressions read into terms, and what the integer memories hold after an instant.
 
-ghost use Rattle.std.specs.Prelude.{◌≡◌, ℕ, ◌<◌, ◌≤◌, ◌^◌, true, cond, List, length, slice_get, slice_index_or, None, Some};
+ghost use Rattle.std.specs.Prelude.{◌≡◌, ℕ, ◌<◌, ◌^◌, true, cond, List, length, slice_get, slice_index_or, None, Some};
 ghost use Rattle.std.specs.Prelude.{IfOk, OnOk, IsErrOf};
 ghost use Rattle.rv_tree.specs.Places.{Sites};
 ghost use Rattle.rv_tree.specs.Limits.{heaviest};
@@ -16,7 +16,7 @@ ghost use Rattle.rv_symbolic.specs.Linked.{AreRefs};
 ghost use Rattle.rv_bits.specs.Reads.{tree_in};
 ghost use Rattle.rv_bits.specs.Shown.{clock_bit};
 ghost use Rattle.rv_forms.specs.Columns.{gives_whole, combined_form};
-ghost use Rattle.rv_forms.specs.Terms.{weights_of, parts_at, IsWithin, GivesTerm, ReadsAs, AreKnown, IsReady, IsAfterRead};
+ghost use Rattle.rv_forms.specs.Terms.{weights_of, IsWithin, GivesTerm, ReadsAs, AreKnown, IsReady, IsAfterRead};
 
 use crate::constants::{constant_term, copied, term_at, zero_term};
 use crate::over::Wholes;

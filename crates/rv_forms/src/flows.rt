@@ -1,6 +1,6 @@
 //! The terms of the memories, the inputs and the flows.
 
-ghost use Rattle.std.specs.Prelude.{◌≡◌, ℕ, ◌+◌, ◌<◌, ◌≤◌, ◌^◌, true, List, [], ◌∷◌, length, slice_get, Some};
+ghost use Rattle.std.specs.Prelude.{◌≡◌, ◌+◌, ◌<◌, ◌^◌, List, [], ◌∷◌, length, slice_get, Some};
 ghost use Rattle.std.specs.Prelude.{IfOk, OnOk, IsErrOf};
 ghost use Rattle.rv_diagram.specs.declared.Triple.{Triple as TripleModel};
 ghost use Rattle.rv_agreement.specs.Trees.{memory_kinds};

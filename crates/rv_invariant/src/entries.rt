@@ -1,9 +1,7 @@
 //! Reading the entries of a location.
 
-ghost use Rattle.std.specs.Prelude.{◌≡◌, ◌+◌, ◌<◌, ◌≤◌, ◌^◌, ℕ, List, [], length, codes, true, false, IfOk, OnOk};
-ghost use Rattle.std.specs.Str.{bytes_eq};
+ghost use Rattle.std.specs.Prelude.{◌≡◌, ◌+◌, ◌<◌, ◌≤◌, ◌^◌, [], length, false, IfOk};
 ghost use Rattle.rv_invfile.specs.Ahead.{here};
-ghost use Rattle.rv_invfile.specs.Forms.{word_of};
 ghost use Rattle.rv_invfile.specs.Parts.{turns};
 ghost use Rattle.rv_invfile.specs.Readers.{Reads, run};
 ghost use Rattle.rv_invariant.specs.Certificates as spec;

@@ -1,6 +1,6 @@
 //! What stands before the entries of a location.
 
-ghost use Rattle.std.specs.Prelude.{◌≡◌, ◌≤◌, ◌^◌, length, IfOk};
+ghost use Rattle.std.specs.Prelude.{◌≡◌, ◌≤◌, length, IfOk};
 ghost use Rattle.rv_invfile.specs.Readers.{Reads, run};
 ghost use Rattle.rv_invariant.specs.Certificates as spec;
 

@@ -1,6 +1,6 @@
 //! Reading multipliers.
 
-ghost use Rattle.std.specs.Prelude.{◌≡◌, ◌+◌, ◌*◌, ◌<◌, ◌≤◌, ◌^◌, ◌&&◌, ℕ, List, length, true, false, pos, nat_le, nat_lt, MatchOption, codes};
+ghost use Rattle.std.specs.Prelude.{◌≡◌, ◌+◌, ◌*◌, ◌<◌, ◌≤◌, ◌^◌, ◌&&◌, true, false, pos, nat_le, nat_lt, MatchOption, codes};
 ghost use Rattle.rv_invfile.specs.Ahead.{here, ReadsFields};
 ghost use Rattle.rv_invfile.specs.Forms.{field};
 ghost use Rattle.rv_invfile.specs.Parts.{times};

@@ -1,6 +1,6 @@
 //! Reading certificates.
 
-ghost use Rattle.std.specs.Prelude.{◌≡◌, ◌≤◌, length, IfOk, IfErr};
+ghost use Rattle.std.specs.Prelude.{◌≤◌, length, IfOk, IfErr};
 ghost use Rattle.rv_invfile.specs.Csv.{records_of};
 ghost use Rattle.rv_invfile.specs.Faults.{IsFirstFault};
 ghost use Rattle.rv_invfile.specs.Readers.{Gives, Reads, run, whole};

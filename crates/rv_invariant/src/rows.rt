@@ -1,6 +1,6 @@
 //! Reading rows.
 
-ghost use Rattle.std.specs.Prelude.{◌≡◌, ◌+◌, ◌<◌, ◌≤◌, ℕ, ℤ, List, length, IfOk};
+ghost use Rattle.std.specs.Prelude.{◌≡◌, ◌+◌, ◌<◌, ◌≤◌, length, IfOk};
 ghost use Rattle.rv_invfile.specs.Ahead.{here, ReadsFields};
 ghost use Rattle.rv_invfile.specs.Parts.{times};
 ghost use Rattle.rv_invfile.specs.Readers.{Reads, run};

@@ -1,6 +1,6 @@
 //! Writing certificates.
 
-ghost use Rattle.std.specs.Prelude.{◌≡◌, ◌∷◌, ◌++◌, [], map, flat_map, length, codes, decimal, IfOk, OnOk};
+ghost use Rattle.std.specs.Prelude.{◌≡◌, flat_map, IfOk, OnOk};
 ghost use Rattle.rv_control.specs.Control.{control_of};
 ghost use Rattle.rv_invfile.specs.Csv.{records_of};
 ghost use Rattle.rv_invfile.specs.Rules.{IsDocument};

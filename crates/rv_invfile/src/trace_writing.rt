@@ -1,6 +1,6 @@
 //! Writing traces.
 
-ghost use Rattle.std.specs.Prelude.{◌≡◌, ◌++◌, ◌∷◌, List, [], map, length, codes, decimal, string_bytes, IfOk, OnOk, OnErr};
+ghost use Rattle.std.specs.Prelude.{◌≡◌, ◌++◌, ◌∷◌, [], map, length, codes, string_bytes, IfOk, OnOk};
 ghost use Rattle.csv.specs.Records.{fields_of, partial_of};
 ghost use Rattle.std.specs.List.{AllByRecursion};
 ghost use Rattle.rv_invfile.specs.Csv.{records_of};

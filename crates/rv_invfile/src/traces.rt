@@ -1,6 +1,6 @@
 //! Reading traces.
 
-ghost use Rattle.std.specs.Prelude.{◌≡◌, ◌<◌, ◌≤◌, ◌-◌, ℕ, List, ◌+◌, length, map, true, IfOk, IfErr, OnOk, string_bytes, ◌++◌, ◌∷◌, flat_map, decimal, None, [], ◌↔◌};
+ghost use Rattle.std.specs.Prelude.{◌≡◌, ◌<◌, ◌≤◌, ◌-◌, ◌+◌, length, IfOk, IfErr, string_bytes};
 ghost use Rattle.rv_invfile.specs.Readers.{Reads, Gives, run, closing, whole};
 ghost use Rattle.rv_invfile.specs.Csv.{records_of};
 ghost use Rattle.rv_invfile.specs.Rules.{IsDocument};
@@ -16,7 +16,6 @@ ghost use Rattle.std.specs.Str.{bytes_eq};
 ghost use Rattle.rv_invfile.specs.Traces as spec;
 ghost use Rattle.rv_invfile.specs.Traces.{Fits};
 ghost use Rattle.rv_invfile.specs.Texts as texts;
-ghost use Rattle.rv_base.specs.declared.value.Value.{Value as ValueModel};
 
 use crate::fault::FileFault;
 use crate::records::Records;

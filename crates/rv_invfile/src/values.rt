@@ -1,6 +1,6 @@
 //! Values in fields.
 
-ghost use Rattle.std.specs.Prelude.{◌≡◌, ◌<◌, ◌≤◌, MatchOption, true, false, []};
+ghost use Rattle.std.specs.Prelude.{◌≡◌, ◌<◌, MatchOption, true, false, []};
 ghost use Rattle.rv_invfile.specs.Texts as texts;
 ghost use Rattle.rv_types.specs.declared.typed.Kind.TheVariants as kind;
 

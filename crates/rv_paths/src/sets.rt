@@ -1,6 +1,6 @@
 //! Sets of control states in a store, which is left as it was.
 
-ghost use Rattle.std.specs.Prelude.{◌≡◌, ◌<◌, ◌^◌, IfOk, IsErrOf};
+ghost use Rattle.std.specs.Prelude.{◌≡◌, ◌<◌, ◌^◌, IsErrOf};
 ghost use Rattle.rv_diagram.specs.Nodes.{IsOrderedOver};
 ghost use Rattle.rv_symbolic.specs.Growing.{Extends};
 

@@ -1,6 +1,6 @@
 //! The nodes of a search, and what it goes by.
 
-ghost use Rattle.std.specs.Prelude.{◌≡◌, ◌<◌, ◌++◌, ◌∷◌, [], length, IfOk, IfSome};
+ghost use Rattle.std.specs.Prelude.{◌≡◌, ◌<◌, length, IfSome};
 ghost use Rattle.rv_paths.specs.Searching.{cases_of};
 
 use crate::spans::Span;

@@ -3,7 +3,6 @@
 // there, say what the earlier numbers have to meet for it (Fourier and Motzkin). An equality is substituted in the others. What is chosen
 // so is tested against the rows themselves, so these functions promise nothing but widths and limits.
 ghost use Rattle.std.specs.Prelude.{◌≡◌, ◌<◌, ◌≤◌, length, All, IfOk, IfSome, OnOk};
-ghost use Rattle.rv_rows.specs.Tight.{Fits};
 ghost use Rattle.rv_poly.specs.Guides.{IsGuide, IsGuided};
 
 use crate::eliminate::combine;

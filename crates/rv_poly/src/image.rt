@@ -1,9 +1,8 @@
 // The image of a polyhedron under updates.
-ghost use Rattle.std.specs.Prelude.{◌≡◌, ◌⊎◌, ℕ, ◌<◌, ◌≤◌, ◌+◌, ◌^◌, ℤ, pos, ◌-ℤ◌};
-ghost use Rattle.std.specs.Prelude.{◌≤ℤ◌, List, ◌++◌, length, take, All, MatchBool, IfOk, IfSome, IsSomeAnd, slice_index_or};
+ghost use Rattle.std.specs.Prelude.{◌≡◌, ◌<◌, ◌≤◌, ◌+◌, ◌^◌, ℤ, pos, ◌-ℤ◌};
+ghost use Rattle.std.specs.Prelude.{◌≤ℤ◌, List, ◌++◌, length, All, MatchBool, IfOk, IfSome, IsSomeAnd};
 ghost use Rattle.std.specs.Int.RustNames.{unsigned_abs};
-ghost use Rattle.rv_rows.specs.declared.linear.Row.{Row as RowModel};
-ghost use Rattle.rv_rows.specs.Rows.{Holds, RowWithin, coefficient};
+ghost use Rattle.rv_rows.specs.Rows.{Holds};
 ghost use Rattle.rv_rows.specs.Forms.{FormWithin, forms_width, number, values};
 ghost use Rattle.rv_rows.specs.Tight.{Fits};
 ghost use Rattle.rv_seek.specs.Least.{bounded};

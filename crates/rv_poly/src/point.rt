@@ -1,5 +1,5 @@
 // Whole points of polyhedra whose numbers a trace may have.
-ghost use Rattle.std.specs.Prelude.{◌≡◌, ℤ, List, length, All, IfOk, IfSome, IsTrue, None};
+ghost use Rattle.std.specs.Prelude.{◌≡◌, ℤ, List, length, All, IfOk, IfSome, None};
 ghost use Rattle.rv_rows.specs.Tight.{Fits};
 ghost use Rattle.rv_poly.specs.Points.{HasPoint};
 ghost use Rattle.rv_poly.specs.Polys.{IsPoly, rows_width};

@@ -1,5 +1,5 @@
 // The choice of the numbers of a point, one column after the other, with steps back.
-ghost use Rattle.std.specs.Prelude.{◌≡◌, ◌<◌, ◌≤◌, ◌^◌, ℤ, pos, ◌-ℤ◌, ◌≤ℤ◌, ◌<ℤ◌, length, All, IfOk, IfSome, OnOk};
+ghost use Rattle.std.specs.Prelude.{◌<◌, ◌≤◌, ◌^◌, ℤ, pos, ◌-ℤ◌, ◌≤ℤ◌, ◌<ℤ◌, length, IfSome, OnOk};
 ghost use Rattle.rv_poly.specs.Whole.{IsInReplay};
 ghost use Rattle.rv_poly.specs.Guides.{IsGuide, IsTrail};
 

@@ -1,5 +1,5 @@
 // Rows with 1 or -1 at one or two columns that all points of a set meet.
-ghost use Rattle.std.specs.Prelude.{◌≡◌, ℕ, ◌<◌, ◌≤◌, ◌^◌, ℤ, pos, List, length, All, IfOk, OnOk, if◌then◌else◌};
+ghost use Rattle.std.specs.Prelude.{◌≡◌, ℕ, ◌<◌, ℤ, pos, List, length, IfOk, OnOk, if◌then◌else◌};
 ghost use Rattle.std.specs.Int.RustNames.{unsigned_abs};
 ghost use Rattle.rv_rows.specs.Forms.{number};
 ghost use Rattle.rv_poly.specs.Closing.{unit_number, IsUnitAdded, IsPairAdded, ArePairsAdded, AreAxesAdded, AreDiagonalsAdded, AreUnitsAdded};

@@ -15,7 +15,6 @@ ghost use Rattle.rv_proofs.specs.Verdicts.{IsVerdict, Fails};
 ghost use Rattle.rv_proofs.specs.declared.verdict.Verdict.{Verdict};
 ghost use Rattle.rv_proofs.specs.declared.verdict.Reason.{Reason};
 ghost use Rattle.rv_proofs.specs.Scopes.{IsSettled};
-ghost use Rattle.rv_proofs.specs.Implied.{IsImplied};
 ghost use Rattle.rv_proofs.specs.Accepted.{AreImplied};
 ghost use Rattle.rv_proofs.specs.Cones.{IsInCone, IsMoved};
 ghost use Rattle.rv_rows.specs.declared.linear.Row.{Row};

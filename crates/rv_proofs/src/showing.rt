@@ -1,6 +1,6 @@
 //! Whether multipliers prove what an implication wants, from premises and updates that are written out.
 
-ghost use Rattle.std.specs.Prelude.{◌≡◌, ◌≤◌, ◌^◌, pos, All, IfOk, MatchBool, MatchOption, List, ◌++◌, ◌↔◌, ℕ, length};
+ghost use Rattle.std.specs.Prelude.{◌≤◌, ◌^◌, All, IfOk, MatchBool, List, ◌++◌, ◌↔◌};
 ghost use Rattle.std.specs.Int.RustNames.{unsigned_abs};
 ghost use Rattle.rv_rows.specs.Rows.{RowWithin};
 ghost use Rattle.rv_rows.specs.Forms.{CanSubstitute, IsSubstituted};

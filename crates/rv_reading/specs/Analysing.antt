@@ -1,5 +1,5 @@
 -- What is proved of a system that no box claim decides.
-use Rattle.std.specs.Prelude.{◌≡◌, ℕ, ◌≤◌, ◌^◌, ℤ, Bool, true, false, List, [], All, IsTrue}
+use Rattle.std.specs.Prelude.{◌≡◌, ◌≤◌, ◌^◌, ℤ, Bool, true, false, List, [], All, IsTrue}
 use Rattle.std.specs.Int.RustNames.{unsigned_abs}
 use Rattle.rv_diagram.specs.Nodes.{Valuation, Diagrams}
 use Rattle.rv_proofs.specs.Systems.{System}

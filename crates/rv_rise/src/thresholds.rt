@@ -1,6 +1,6 @@
 //! The least threshold that holds a value from above.
 
-ghost use Rattle.std.specs.Prelude.{◌≡◌, ℤ, ◌<ℤ◌, ◌≤ℤ◌, List, [], ◌∷◌, ◌++◌, MatchBool};
+ghost use Rattle.std.specs.Prelude.{ℤ, ◌<ℤ◌, ◌≤ℤ◌, List, [], ◌∷◌, ◌++◌, MatchBool};
 ghost use Rattle.rv_rise.specs.Orders.{IsLeastAbove};
 
 use rv_base::Many;

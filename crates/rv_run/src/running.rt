@@ -1,6 +1,6 @@
 //! The top call: from the words to the report, which is shown.
 
-ghost use Rattle.std.specs.Prelude.{◌≡◌, ◌↔◌, ◌+◌, ◌<◌, ◌≤◌, ◌⊎◌, IsTrue, List, length, ℕ, codes, None, Some};
+ghost use Rattle.std.specs.Prelude.{◌≡◌, ◌+◌, ◌<◌, ◌≤◌, ◌⊎◌, IsTrue, List, length, ℕ, codes, None, Some};
 ghost use Rattle.std.specs.Io.KnownBytes.{Appends, Keeps};
 ghost use Rattle.rv_base.specs.Causes.{Rose, raised};
 ghost use Rattle.rv_base.specs.Shelf.{HoldsUnder};

@@ -1,4 +1,4 @@
-ghost use Rattle.std.specs.Prelude.{◌≡◌, ◌⊎◌, ◌<◌, ◌≤◌, ◌^◌, [], List, ℤ, negsuc, ◌+ℤ◌, ◌≤ℤ◌, pos, All, length, IfSome, IfNone, IsSome, IfOk, IsSomeAnd, Some};
+ghost use Rattle.std.specs.Prelude.{◌≡◌, ◌⊎◌, ◌<◌, ◌≤◌, ◌^◌, [], List, ℤ, negsuc, ◌+ℤ◌, ◌≤ℤ◌, All, length, IfSome, IfNone, IsSome, IfOk, IsSomeAnd, Some};
 ghost use Rattle.std.specs.Int.RustNames.{unsigned_abs};
 ghost use Rattle.rv_rows.specs.Rows.{RowWithin, Holds};
 ghost use Rattle.rv_rows.specs.Multipliers.{Proves, Refutes, ShowsAtOnce, AreShutAtOnce};

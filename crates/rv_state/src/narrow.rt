@@ -1,8 +1,7 @@
 //! Polyhedra whose rows have few coefficients: boxes, whose rows bound single columns as those of the box pass do, and rows over two
 //! columns, as those of row claims.
 
-ghost use Rattle.std.specs.Prelude.{◌≡◌, ◌≢◌, ◌⊎◌, ℕ, ◌<◌, ℤ, pos, List, length, All, IsTrue, IfOk, OnOk, MatchBool, slice_index_or};
-ghost use Rattle.rv_rows.specs.Forms.{forms_width, values};
+ghost use Rattle.std.specs.Prelude.{◌≡◌, ◌≢◌, ℕ, ◌<◌, ℤ, pos, List, length, All, IfOk, OnOk, MatchBool, slice_index_or};
 ghost use Rattle.rv_poly.specs.Points.{HasPoint};
 ghost use Rattle.rv_poly.specs.Polys.{IsPoly};
 ghost use Rattle.rv_state.specs.Narrow.{present, support, IsNotedRow, IsNarrowed, SpansNarrow};

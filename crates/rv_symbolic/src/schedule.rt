@@ -1,6 +1,6 @@
 //! The order in which variables are quantified: each with the last part that reads it (Burch, Clarke and Long 1991).
 
-ghost use Rattle.std.specs.Prelude.{◌≡◌, ℕ, ◌<◌, ◌≤◌, ◌&&◌, not, length, IfOk};
+ghost use Rattle.std.specs.Prelude.{◌≡◌, ℕ, ◌<◌, ◌&&◌, not, length, IfOk};
 ghost use Rattle.rv_diagram.specs.Nodes.{valuation_of};
 ghost use Rattle.rv_symbolic.specs.Linked.{AreRefs, AreScheduled};
 

@@ -1,6 +1,6 @@
 //! Cases of a system without integers: the valuations at which the observer is true, and the others.
 
-ghost use Rattle.std.specs.Prelude.{◌≡◌, ◌<◌, ◌^◌, true, false, [], List, IfOk, OnOk, IsErrOf, MatchBool};
+ghost use Rattle.std.specs.Prelude.{◌≡◌, ◌<◌, true, false, [], List, IfOk, OnOk, MatchBool};
 ghost use Rattle.rv_diagram.specs.Nodes.{Valuation, value_of, IsRef};
 ghost use Rattle.rv_proofs.specs.declared.report.Case.{Case};
 ghost use Rattle.rv_symbolic.specs.Parted.{IsAdded};

@@ -1,6 +1,6 @@
 //! The least valuations of sets in a store, as words, and what was built of them.
 
-ghost use Rattle.std.specs.Prelude.{◌≡◌, ◌*◌, ◌<◌, ◌≤◌, ◌^◌, length, IfOk, IsErrOf};
+ghost use Rattle.std.specs.Prelude.{◌*◌, ◌<◌, ◌≤◌, ◌^◌, length, IfOk, IsErrOf};
 ghost use Rattle.rv_diagram.specs.Nodes.{IsRef, IsOrderedOver};
 ghost use Rattle.rv_diagram.specs.Several.{ArePartRefs};
 ghost use Rattle.rv_symbolic.specs.Growing.{Extends, Finds};

@@ -1,8 +1,8 @@
 //! The calls on terms. Each is exact on every valuation, and after a fault the store is as before.
 
-ghost use Rattle.std.specs.Prelude.{◌≡◌, ◌≢◌, ◌⊎◌, ◌∷◌, pos, ℕ, ◌+◌, ◌*◌, ◌<◌, ◌≤◌, ◌^◌, ◌↔◌, ◌&&◌, true, false, ℤ, ◌*ℤ◌, List, [], length, if◌then◌else◌};
+ghost use Rattle.std.specs.Prelude.{◌≡◌, ◌≢◌, ◌⊎◌, ◌∷◌, pos, ℕ, ◌+◌, ◌*◌, ◌<◌, ◌≤◌, ◌^◌, ◌↔◌, ◌&&◌, true, false, List, [], length, if◌then◌else◌};
 ghost use Rattle.std.specs.Prelude.{Some, None};
-ghost use Rattle.std.specs.Prelude.{IfOk, OnOk, OnErr, IsErrOf, IsTrue, MatchOption, MatchBool};
+ghost use Rattle.std.specs.Prelude.{IfOk, OnOk, OnErr, IsErrOf, MatchOption, MatchBool};
 ghost use Rattle.std.specs.Option.{ForSome};
 ghost use Rattle.rv_rows.specs.Forms.{CanAdd, CanScale};
 ghost use Rattle.rv_diagram.specs.declared.Triple.{Triple};

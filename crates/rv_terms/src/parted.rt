@@ -1,13 +1,11 @@
 //! Terms, and how one is made: part by part, under references that are true at no common valuation.
 
-ghost use Rattle.std.specs.Prelude.{◌*◌, ◌≡◌, ◌≢◌, ℕ, ◌+◌, ◌<◌, ◌≤◌, ◌^◌, ◌↔◌, ◌&&◌, ◌||◌, true, false, ℤ, ◌*ℤ◌, List, length, IfOk, OnOk, OnErr, not, IsErrOf};
+ghost use Rattle.std.specs.Prelude.{◌*◌, ◌≡◌, ◌≢◌, ℕ, ◌+◌, ◌<◌, ◌≤◌, ◌^◌, ◌↔◌, ◌&&◌, ◌||◌, true, false, length, IfOk, OnOk, OnErr, IsErrOf};
 ghost use Rattle.std.specs.Prelude.{IsTrue, MatchOption};
-ghost use Rattle.rv_rows.specs.Forms.{CanAdd, CanScale};
-ghost use Rattle.rv_diagram.specs.Nodes.{Valuation, value_of, IsRef, Answers};
+ghost use Rattle.rv_diagram.specs.Nodes.{value_of, IsRef, Answers};
 ghost use Rattle.rv_terms.specs.Growing.{Extends, LacksRoom};
 ghost use Rattle.rv_terms.specs.Counting.{count};
-ghost use Rattle.rv_rows.specs.Arithmetic.{form_sum, form_times};
-ghost use Rattle.rv_terms.specs.Parts.{part_at, form_at, AreRefs, IsTerm, Adds};
+ghost use Rattle.rv_terms.specs.Parts.{part_at, AreRefs, Adds};
 
 use rv_base::{Many, Memory};
 use rv_diagram::{Ref, Store, StoreFault};

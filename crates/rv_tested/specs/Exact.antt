@@ -1,5 +1,5 @@
 -- References that answer a question exactly, and questions whose answers are those of a system.
-use Rattle.std.specs.Prelude.{◌≡◌, ◌↔◌, ℕ, zero, suc, ◌+◌, ◌<◌, Bool, true, false, List, [], length, Option, Some, slice_index_or}
+use Rattle.std.specs.Prelude.{◌≡◌, ◌↔◌, ℕ, zero, suc, ◌+◌, ◌<◌, Bool, true, false, List, length, Option, Some, slice_index_or}
 use Rattle.std.specs.Prelude.{None as Nothing}
 use Rattle.rv_diagram.specs.declared.Triple.{Triple}
 use Rattle.rv_diagram.specs.Nodes.{Valuation, Diagrams}

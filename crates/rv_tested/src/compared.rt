@@ -1,6 +1,6 @@
 //! The comparisons of integers of a flat system.
 
-ghost use Rattle.std.specs.Prelude.{◌≡◌, ◌++◌, ◌∷◌, [], not, nat_eq, List, length, map, flat_map, IfOk, OnOk};
+ghost use Rattle.std.specs.Prelude.{◌≡◌, ◌++◌, not, nat_eq, List, length, map, flat_map, IfOk, OnOk};
 ghost use Rattle.rv_types.specs.Lists.{sides_of};
 ghost use Rattle.rv_agreement.specs.Trees.{nth_item};
 ghost use Rattle.rv_agreement.specs.Valuations.{own, comparisons, comparisons_of as all_in, item_comparisons, all_comparisons};

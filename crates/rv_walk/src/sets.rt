@@ -1,4 +1,4 @@
-//! Sets of control states in a store, which is left as it was.
+//! Sets of control states in a store. `extend` and `without` leave it as it was; what `grow` and `keep` build of a union stays there.
 
 ghost use Rattle.std.specs.Prelude.{◌≡◌, ◌<◌, ◌≤◌, ◌^◌, ◌&&◌, not, false, length, Some, IfOk, IsErrOf, MatchOption};
 ghost use Rattle.rv_diagram.specs.Nodes.{Valuation, Diagrams, value_of, IsRef, IsOrderedOver};

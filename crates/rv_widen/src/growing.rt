@@ -1,7 +1,7 @@
 //! Rows that grow by joins: what the cases of a set of control states make of the rows of a location. Cases whose observer is false are left
 //! out, since in a certificate their premises are refuted.
 
-ghost use Rattle.std.specs.Prelude.{◌≡◌, IfOk, IfSome};
+ghost use Rattle.std.specs.Prelude.{IfOk, IfSome};
 ghost use Rattle.rv_proofs.specs.Systems.{System};
 ghost use Rattle.rv_proofs.specs.Ranges.{AreKept};
 ghost use Rattle.rv_proofs.specs.Cases.{IsCaseOf};

@@ -1,6 +1,6 @@
 //! Lists of rows that are kept or not, one by one.
 
-ghost use Rattle.std.specs.Prelude.{◌≡◌, ◌+◌, ◌≤◌, length, All, IfOk, OnOk};
+ghost use Rattle.std.specs.Prelude.{◌+◌, ◌≤◌, length, All, IfOk, OnOk};
 ghost use Rattle.rv_proofs.specs.Systems.{System};
 ghost use Rattle.rv_proofs.specs.Ranges.{AreKept};
 ghost use Rattle.rv_widen.specs.Given.{IsKeptRow};

@@ -1,6 +1,6 @@
 //! Multipliers over the premises of a case, by the numbers of a certificate.
 
-ghost use Rattle.std.specs.Prelude.{◌≡◌, ◌+◌, ◌<◌, ◌^◌, pos, IfOk, IfSome};
+ghost use Rattle.std.specs.Prelude.{◌≡◌, ◌+◌, ◌<◌, ◌^◌, IfOk, IfSome};
 ghost use Rattle.rv_proofs.specs.Ranges.{IsRecord};
 
 use crate::records::has_ranges;

@@ -1,7 +1,7 @@
 //! Rows that fall: those that the cases of a location do not show after their updates are dropped. Cases whose observer is false are left
 //! out, since in a certificate their premises are refuted.
 
-ghost use Rattle.std.specs.Prelude.{◌≡◌, ◌+◌, ◌<◌, ◌≤◌, ◌^◌, ◌++◌, length, All, IfOk, IfSome};
+ghost use Rattle.std.specs.Prelude.{◌<◌, ◌^◌, length, All, IfOk, IfSome};
 ghost use Rattle.rv_rows.specs.Rows.{RowWithin};
 ghost use Rattle.rv_proofs.specs.Systems.{System};
 ghost use Rattle.rv_proofs.specs.Ranges.{AreKept};

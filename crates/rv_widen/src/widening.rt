@@ -1,6 +1,6 @@
 //! A certificate by forward iteration.
 
-ghost use Rattle.std.specs.Prelude.{◌≡◌, ◌<◌, ◌≤◌, ◌^◌, ℤ, List, IfOk, IfSome, IsErrOf};
+ghost use Rattle.std.specs.Prelude.{◌≡◌, ◌<◌, ◌^◌, ℤ, List, IfOk, IfSome, IsErrOf};
 ghost use Rattle.rv_proofs.specs.Systems.{System};
 ghost use Rattle.rv_proofs.specs.Ranges.{AreKept};
 ghost use Rattle.rv_proofs.specs.Cases.{IsInitialSet};

@@ -69,9 +69,9 @@ returns-in_ok-fresh-in-Some-clause-known c s q base given setting of known =
 pub returns-then-told-clause-grown : goal.returns-then-told-clause-grown
 returns-then-told-clause-grown c s q base given setting kept of met told known =
     let r = given.relation in
+    let shut = rw c.if-told.true at told.shut in
     grown_told s r.system c.args.frame.now given.frame base c.args.from.now c.args.given.now setting c.args.case.now of
-    (c.args.given.now ++ c.args.told.now.rows) (record { told = c.args.told.now.rows; is_told = told.rows; are = refl }) (told.shut c.if-told.true)
-    c.args.claim.now kept
+    (c.args.given.now ++ c.args.told.now.rows) (record { told = c.args.told.now.rows; is_told = told.rows; are = refl }) shut c.args.claim.now kept
 
 pub returns-in-None-clause-grown : goal.returns-in-None-clause-grown
 returns-in-None-clause-grown c s q base given setting kept of met told known =
