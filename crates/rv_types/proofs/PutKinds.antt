@@ -1,5 +1,5 @@
 -- A type put into a list of them.
-use Rattle.std.proofs.Common.{◌≡◌, ◌+◌, ◌<◌, List, [], ◌∷◌, ◌++◌, length, refl, ap, arith, slice_set}
+use Rattle.std.proofs.Common.{◌≡◌, ◌<◌, List, [], ◌∷◌, ◌++◌, length, refl, ap, arith, slice_set}
 use Rattle.rv_types.specs.declared.typed.Kind.{Kind}
 
 -- what is put where a list goes on stands there

@@ -1,23 +1,24 @@
 //! The types of the operands of the `pre` and `current` of a node, in one walk.
 
-ghost use Rattle.std.specs.Prelude.{◌≡◌, ◌++◌, ◌∷◌, ◌||◌, ◌&&◌, List, length, map, flat_map, unwrap_or, IfOk, OnOk};
+ghost use Rattle.std.specs.Prelude.{◌≡◌, ◌++◌, ◌∷◌, ◌||◌, List, length, map, flat_map, unwrap_or, IfOk, OnOk};
 ghost use Rattle.rv_tree.specs.Tree.{tree_of, trees, node_tree, equation_tree, assertion_tree};
-ghost use Rattle.rv_tree.specs.Tree.{Not, Minus, Pre, AtMostOne, Call};
+ghost use Rattle.rv_tree.specs.Tree.{Pre, AtMostOne, Call};
 ghost use Rattle.rv_tree.specs.Delays.{node_delays};
 ghost use Rattle.rv_types.specs.Delayed.{delayed_kinds, delayed_in, delayed_in_all, node_delayed};
 ghost use Rattle.rv_types.specs.Readings.{view_of};
 ghost use Rattle.rv_types.specs.Tables.{scope_of, stays_constant};
-ghost use Rattle.rv_types.specs.Types.{verdict, is_constant, is_constant_form, are_constant, form_verdict, kind_of, kinds_of_all, all_typed, all_suit, fit, kind_in, two_of, three_of, binary_rule, if_rule};
+ghost use Rattle.rv_types.specs.Types.{is_constant, is_constant_form, are_constant, form_verdict, kind_of, kinds_of_all, all_typed, all_suit, fit, kind_in, two_of, binary_rule};
 ghost use Rattle.rv_types.specs.declared.typed.Kind.{Kind as AnyKind};
 ghost use Rattle.rv_types.specs.declared.typed.Kind.TheVariants as kind;
 
+use crate::fault::Verdict;
 use crate::reading::{NodeTables, ProgramTables, view};
-use crate::rules::{of_at_most_one, of_memory, of_minus, of_not};
-use crate::typed::Kind;
-use crate::typing::{
-    Judged, Operands, made, made_binary, made_call, made_if, made_literal, made_name, made_when,
-    one_more, wanted_by, whole,
+use crate::rules::{
+    kind_of_verdict, of_at_most_one, of_binary, of_if, of_memory, of_minus, of_name, of_not,
+    of_when,
 };
+use crate::typed::Kind;
+use crate::typing::{Judged, Operands, of_call, one_more, wanted_by, whole};
 use crate::view::View;
 use rv_base::{Many, Memory, Text};
 use rv_tree::{Assertion, Equation, Expr, ExprForm, Node, Op};
@@ -81,96 +82,103 @@ fn gather_assertions(
     Ok(())
 }
 
+/// What is found of an expression beside the types that it adds: its own type, where it has one, and whether it is constant.
+#[derive(Clone, Copy, Debug)]
+struct Told {
+    kind: Option<Kind>,
+    constant: bool,
+}
+
 /// Adds those of an expression, and answers what is found of its own type. It calls itself for each operand, so as deep
-/// as the tree is: 20,101 levels at most, all but 200 of them left operands and operands of `when`. So little else
-/// stands in the frame of this function.
+/// as the tree is: 20,301 levels at most, all but 200 of them left operands and operands of `when`. So what it answers is
+/// small, and no fault is looked for.
 #[cycle(gather)]
-fn gather(view: &View, e: &Expr, found: &mut Many<Kind>) -> Result<Judged, Memory>
-    ensures verdict { IfOk result (λ j. j.verdict ≡ verdict (scope_of view.now) (tree_of e.now)) }
-    ensures constant { IfOk result (λ j. j.constant ≡ is_constant (scope_of view.now) (tree_of e.now)) }
+fn gather(view: &View, e: &Expr, found: &mut Many<Kind>) -> Result<Told, Memory>
+    ensures kind { IfOk result (λ o. o.kind ≡ kind_of (scope_of view.now) (tree_of e.now)) }
+    ensures constant { IfOk result (λ o. o.constant ≡ is_constant (scope_of view.now) (tree_of e.now)) }
     ensures found { OnOk result (found.new ≡ found.old ++ delayed_in (scope_of view.now) (tree_of e.now)) }
 {
     match &e.form {
         ExprForm::Binary(op, a, b) => {
             let a = gather(view, a, found)?;
-            gather_right(view, e.at, *op, &a, b, found)
+            gather_right(view, *op, a, b, found)
         }
         ExprForm::When(a, c) => {
             let a = gather(view, a, found)?;
-            Ok(made_when(view, e.at, &a, &c.text))
+            Ok(from_verdict(of_when(view.moves(), a.kind, view.clock(&c.text)), false))
         }
-        ExprForm::True | ExprForm::False => Ok(made_literal(Kind::Bool)),
-        ExprForm::Number(_) => Ok(made_literal(Kind::Int)),
-        ExprForm::Named(x) => Ok(made_name(view, e.at, x)),
-        ExprForm::Not(a) => gather_not(view, e.at, a, found),
-        ExprForm::Minus(a) => gather_minus(view, e.at, a, found),
-        ExprForm::Pre(a) | ExprForm::Current(a) => gather_memory(view, e.at, a, found),
+        ExprForm::True | ExprForm::False => Ok(from_verdict(Verdict::Has(Kind::Bool), true)),
+        ExprForm::Number(_) => Ok(from_verdict(Verdict::Has(Kind::Int), true)),
+        ExprForm::Named(x) => Ok(from_verdict(of_name(view.kind(x)), view.is_fixed(x))),
+        ExprForm::Not(a) => {
+            let a = gather(view, a, found)?;
+            Ok(from_verdict(of_not(a.kind), a.constant))
+        }
+        ExprForm::Minus(a) => {
+            let a = gather(view, a, found)?;
+            Ok(from_verdict(of_minus(a.kind), a.constant))
+        }
+        ExprForm::Pre(a) | ExprForm::Current(a) => gather_memory(view, a, found),
         ExprForm::If(a, b, c) => {
             let a = gather(view, a, found)?;
             let b = gather(view, b, found)?;
-            gather_else(view, e.at, &a, &b, c, found)
+            let c = gather(view, c, found)?;
+            let constant = a.constant && (b.constant && c.constant);
+            Ok(from_verdict(of_if(a.kind, b.kind, c.kind), constant))
         }
-        ExprForm::AtMostOne(es) => gather_at_most_one(view, e.at, es.as_slice(), found),
-        ExprForm::Call(f, es) => gather_call(view, e.at, f, es.as_slice(), found),
+        ExprForm::AtMostOne(es) => gather_at_most_one(view, es.as_slice(), found),
+        ExprForm::Call(f, es) => gather_call(view, f, es.as_slice(), found),
+    }
+}
+
+/// What a verdict tells of the type.
+fn from_verdict(verdict: Verdict, constant: bool) -> Told
+    ensures kind { result.kind ≡ kind_in verdict }
+    ensures constant { result.constant ≡ constant }
+{
+    Told {
+        kind: kind_of_verdict(verdict),
+        constant,
     }
 }
 
 /// Adds those of the right operand of an operator, of whose left one this is found.
 #[cycle(gather)]
-#[inline(never)]
 fn gather_right(
     view: &View,
-    at: u32,
     op: Op,
-    a: &Judged,
+    a: Told,
     b: &Expr,
     found: &mut Many<Kind>,
-) -> Result<Judged, Memory>
-    ensures verdict { IfOk result (λ j. j.verdict ≡ two_of (binary_rule (scope_of view.now).moves (a.now.constant || is_constant (scope_of view.now) (tree_of b.now)) op) (kind_in a.now.verdict) (kind_of (scope_of view.now) (tree_of b.now))) }
-    ensures constant { IfOk result (λ j. j.constant ≡ stays_constant op a.now.constant (is_constant (scope_of view.now) (tree_of b.now))) }
+) -> Result<Told, Memory>
+    ensures kind { IfOk result (λ o. o.kind ≡ kind_in (two_of (binary_rule (scope_of view.now).moves (a.constant || is_constant (scope_of view.now) (tree_of b.now)) op) a.kind (kind_of (scope_of view.now) (tree_of b.now)))) }
+    ensures constant { IfOk result (λ o. o.constant ≡ stays_constant op a.constant (is_constant (scope_of view.now) (tree_of b.now))) }
     ensures found { OnOk result (found.new ≡ found.old ++ delayed_in (scope_of view.now) (tree_of b.now)) }
 {
     let b = gather(view, b, found)?;
-    Ok(made_binary(at, view.moves(), op, a, &b))
-}
-
-/// The same of `not`.
-#[cycle(gather)]
-#[inline(never)]
-fn gather_not(view: &View, at: u32, a: &Expr, found: &mut Many<Kind>) -> Result<Judged, Memory>
-    ensures verdict { IfOk result (λ j. j.verdict ≡ form_verdict (scope_of view.now) (Not (tree_of a.now))) }
-    ensures constant { IfOk result (λ j. j.constant ≡ is_constant_form (scope_of view.now) (Not (tree_of a.now))) }
-    ensures found { OnOk result (found.new ≡ found.old ++ delayed_in (scope_of view.now) (tree_of a.now)) }
-{
-    let a = gather(view, a, found)?;
-    Ok(made(at, of_not(a.kind()), a.constant, a.fault))
-}
-
-/// The same of `-`.
-#[cycle(gather)]
-#[inline(never)]
-fn gather_minus(view: &View, at: u32, a: &Expr, found: &mut Many<Kind>) -> Result<Judged, Memory>
-    ensures verdict { IfOk result (λ j. j.verdict ≡ form_verdict (scope_of view.now) (Minus (tree_of a.now))) }
-    ensures constant { IfOk result (λ j. j.constant ≡ is_constant_form (scope_of view.now) (Minus (tree_of a.now))) }
-    ensures found { OnOk result (found.new ≡ found.old ++ delayed_in (scope_of view.now) (tree_of a.now)) }
-{
-    let a = gather(view, a, found)?;
-    Ok(made(at, of_minus(a.kind()), a.constant, a.fault))
+    let scaled = a.constant || b.constant;
+    let constant = match op {
+        Op::Arrow => false,
+        _ => a.constant && b.constant,
+    };
+    Ok(from_verdict(
+        of_binary(view.moves(), scaled, op, a.kind, b.kind),
+        constant,
+    ))
 }
 
 /// The same of `pre` and `current`, with the type of the operand before those that stand in it.
 #[cycle(gather)]
-#[inline(never)]
-fn gather_memory(view: &View, at: u32, a: &Expr, found: &mut Many<Kind>) -> Result<Judged, Memory>
-    ensures verdict { IfOk result (λ j. j.verdict ≡ form_verdict (scope_of view.now) (Pre (tree_of a.now))) }
-    ensures constant { IfOk result (λ j. j.constant ≡ is_constant_form (scope_of view.now) (Pre (tree_of a.now))) }
+fn gather_memory(view: &View, a: &Expr, found: &mut Many<Kind>) -> Result<Told, Memory>
+    ensures kind { IfOk result (λ o. o.kind ≡ kind_in (form_verdict (scope_of view.now) (Pre (tree_of a.now)))) }
+    ensures constant { IfOk result (λ o. o.constant ≡ is_constant_form (scope_of view.now) (Pre (tree_of a.now))) }
     ensures found { OnOk result (found.new ≡ found.old ++ unwrap_or (kind_of (scope_of view.now) (tree_of a.now)) kind.Bool ∷ delayed_in (scope_of view.now) (tree_of a.now)) }
 {
     let number = found.len();
     found.push(Kind::Bool)?;
     let a = gather(view, a, found)?;
-    put(number, a.kind(), found);
-    Ok(made(at, of_memory(view.moves(), a.kind()), false, a.fault))
+    put(number, a.kind, found);
+    Ok(from_verdict(of_memory(view.moves(), a.kind), false))
 }
 
 /// Puts a type in the place of the one with a number; `Bool` where there is none.
@@ -183,68 +191,35 @@ fn put(number: usize, one: Option<Kind>, found: &mut Many<Kind>)
     }
 }
 
-/// Those of the second part of an `if`, of whose condition and first part this is found.
-#[cycle(gather)]
-#[inline(never)]
-fn gather_else(
-    view: &View,
-    at: u32,
-    a: &Judged,
-    b: &Judged,
-    c: &Expr,
-    found: &mut Many<Kind>,
-) -> Result<Judged, Memory>
-    ensures verdict { IfOk result (λ j. j.verdict ≡ three_of if_rule (kind_in a.now.verdict) (kind_in b.now.verdict) (kind_of (scope_of view.now) (tree_of c.now))) }
-    ensures constant { IfOk result (λ j. j.constant ≡ (a.now.constant && (b.now.constant && is_constant (scope_of view.now) (tree_of c.now)))) }
-    ensures found { OnOk result (found.new ≡ found.old ++ delayed_in (scope_of view.now) (tree_of c.now)) }
-{
-    let c = gather(view, c, found)?;
-    Ok(made_if(at, a, b, &c))
-}
-
 /// Those of the operands of `#`.
 #[cycle(gather)]
-#[inline(never)]
-fn gather_at_most_one(
-    view: &View,
-    at: u32,
-    es: &[Expr],
-    found: &mut Many<Kind>,
-) -> Result<Judged, Memory>
-    ensures verdict { IfOk result (λ j. j.verdict ≡ form_verdict (scope_of view.now) (AtMostOne (trees (map tree_of es.now)))) }
-    ensures constant { IfOk result (λ j. j.constant ≡ is_constant_form (scope_of view.now) (AtMostOne (trees (map tree_of es.now)))) }
+fn gather_at_most_one(view: &View, es: &[Expr], found: &mut Many<Kind>) -> Result<Told, Memory>
+    ensures kind { IfOk result (λ o. o.kind ≡ kind_in (form_verdict (scope_of view.now) (AtMostOne (trees (map tree_of es.now))))) }
+    ensures constant { IfOk result (λ o. o.constant ≡ is_constant_form (scope_of view.now) (AtMostOne (trees (map tree_of es.now)))) }
     ensures found { OnOk result (found.new ≡ found.old ++ delayed_in_all (scope_of view.now) (trees (map tree_of es.now))) }
 {
     let all = gather_all(view, &[], es, found)?;
-    Ok(made(
-        at,
-        of_at_most_one(all.typed, all.boolean),
-        all.constant,
-        all.fault,
-    ))
+    Ok(from_verdict(of_at_most_one(all.typed, all.boolean), all.constant))
 }
 
 /// Those of the arguments of a call.
 #[cycle(gather)]
-#[inline(never)]
 fn gather_call(
     view: &View,
-    at: u32,
     name: &Text,
     es: &[Expr],
     found: &mut Many<Kind>,
-) -> Result<Judged, Memory>
-    ensures verdict { IfOk result (λ j. j.verdict ≡ form_verdict (scope_of view.now) (Call name.now (trees (map tree_of es.now)))) }
-    ensures constant { IfOk result (λ j. j.constant ≡ is_constant_form (scope_of view.now) (Call name.now (trees (map tree_of es.now)))) }
+) -> Result<Told, Memory>
+    ensures kind { IfOk result (λ o. o.kind ≡ kind_in (form_verdict (scope_of view.now) (Call name.now (trees (map tree_of es.now))))) }
+    ensures constant { IfOk result (λ o. o.constant ≡ is_constant_form (scope_of view.now) (Call name.now (trees (map tree_of es.now)))) }
     ensures found { OnOk result (found.new ≡ found.old ++ delayed_in_all (scope_of view.now) (trees (map tree_of es.now))) }
 {
     let arguments = gather_all(view, wanted_by(view, name), es, found)?;
-    Ok(made_call(at, view, name, &arguments))
+    Ok(from_verdict(of_call(view.moves(), view.callee(name), &arguments), false))
 }
 
 /// Adds those of some expressions, where these types are wanted, and answers what is found of them together.
 #[cycle(gather)]
-#[inline(never)]
 fn gather_all(
     view: &View,
     wanted: &[Kind],
@@ -267,7 +242,19 @@ fn gather_all(
     };
     for e in es {
         let one = gather(view, e, found)?;
-        together = one_more(wanted, together, one);
+        together = one_more(wanted, together, judged(one));
     }
     Ok(whole(wanted, together))
+}
+
+/// What is told, as what is found of an expression without a fault.
+fn judged(one: Told) -> Judged
+    ensures verdict { kind_in result.verdict ≡ one.kind }
+    ensures constant { result.constant ≡ one.constant }
+{
+    Judged {
+        verdict: of_name(one.kind),
+        constant: one.constant,
+        fault: None,
+    }
 }

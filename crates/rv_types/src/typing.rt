@@ -3,7 +3,7 @@
 ghost use Rattle.std.specs.Prelude.{◌≡◌, ◌||◌, ◌&&◌, ◌++◌, ◌+◌, ◌<◌, List, Option, map, [], true, false, is_some, length, nat_le, ◌^◌};
 ghost use Rattle.std.specs.Option.{option_copied};
 ghost use Rattle.rv_tree.specs.Tree.{tree_of, trees};
-ghost use Rattle.rv_types.specs.Types.{verdict, is_constant, is_constant_form, are_constant, form_verdict, when_of, expression_types, own_type_fault, kinds_of_all, all_typed, all_suit, fit, suits, kind_in, fault_in, two_of, three_of, binary_rule, if_rule, where_met, call_of};
+ghost use Rattle.rv_types.specs.Types.{verdict, is_constant, is_constant_form, are_constant, form_verdict, when_of, expression_types, own_type_fault, kinds_of_all, all_typed, all_suit, fit, suits, kind_in, fault_in, two_of, three_of, binary_rule, if_rule, call_of};
 ghost use Rattle.rv_types.specs.Parts.{faults_of_all, faults_below};
 ghost use Rattle.rv_tree.specs.Tree.{Named, Not, Minus, Pre, AtMostOne, Call};
 ghost use Rattle.rv_types.specs.Tables.{scope_of, takes_in, suits_at, stays_constant};
@@ -59,7 +59,7 @@ pub struct Operands {
 
 /// What is found of an expression from its own verdict and the first fault of its parts.
 #[inline(never)]
-pub(crate) fn made(at: u32, verdict: Verdict, constant: bool, below: Option<NameFault>) -> Judged
+fn made(at: u32, verdict: Verdict, constant: bool, below: Option<NameFault>) -> Judged
     ensures verdict { result.verdict ≡ verdict }
     ensures constant { result.constant ≡ constant }
     ensures fault { (faults : List NameFault) → below ≡ first faults → result.fault ≡ first (fault_in at verdict ++ faults) }
@@ -72,7 +72,7 @@ pub(crate) fn made(at: u32, verdict: Verdict, constant: bool, below: Option<Name
 }
 
 #[inline(never)]
-pub(crate) fn made_binary(at: u32, moves: bool, op: Op, a: &Judged, b: &Judged) -> Judged
+fn made_binary(at: u32, moves: bool, op: Op, a: &Judged, b: &Judged) -> Judged
     ensures verdict { result.verdict ≡ two_of (binary_rule moves (a.now.constant || b.now.constant) op) (kind_in a.now.verdict) (kind_in b.now.verdict) }
     ensures constant { result.constant ≡ stays_constant op a.now.constant b.now.constant }
     ensures fault { (xs ys : List NameFault) → a.now.fault ≡ first xs → b.now.fault ≡ first ys → result.fault ≡ first (fault_in at result.verdict ++ (xs ++ ys)) }
@@ -87,7 +87,7 @@ pub(crate) fn made_binary(at: u32, moves: bool, op: Op, a: &Judged, b: &Judged) 
 }
 
 #[inline(never)]
-pub(crate) fn made_if(at: u32, a: &Judged, b: &Judged, c: &Judged) -> Judged
+fn made_if(at: u32, a: &Judged, b: &Judged, c: &Judged) -> Judged
     ensures verdict { result.verdict ≡ three_of if_rule (kind_in a.now.verdict) (kind_in b.now.verdict) (kind_in c.now.verdict) }
     ensures constant { result.constant ≡ (a.now.constant && (b.now.constant && c.now.constant)) }
     ensures fault { (xs ys zs : List NameFault) → a.now.fault ≡ first xs → b.now.fault ≡ first ys → c.now.fault ≡ first zs → result.fault ≡ first (fault_in at result.verdict ++ (xs ++ (ys ++ zs))) }
@@ -128,7 +128,7 @@ pub fn of_call(moves: bool, signature: Option<&Signature>, arguments: &Operands)
 }
 
 #[inline(never)]
-pub(crate) fn made_call(at: u32, view: &View, name: &Text, arguments: &Operands) -> Judged
+fn made_call(at: u32, view: &View, name: &Text, arguments: &Operands) -> Judged
     ensures constant { result.constant ≡ false }
     ensures verdict { (ks : List (Option AnyKind)) → arguments.now.typed ≡ all_typed ks → arguments.now.fit ≡ fit (takes_in ((scope_of view.now).callee name.now)) ks → result.verdict ≡ call_of (scope_of view.now).moves ((scope_of view.now).callee name.now) ks }
     ensures fault { (xs : List NameFault) → arguments.now.fault ≡ first xs → result.fault ≡ first (fault_in at result.verdict ++ xs) }
@@ -145,7 +145,7 @@ pub(crate) fn wanted_by<'a>(view: &View<'a>, name: &Text) -> &'a [Kind]
 }
 
 #[inline(never)]
-pub(crate) fn made_literal(kind: Kind) -> Judged
+fn made_literal(kind: Kind) -> Judged
     ensures verdict { result.verdict ≡ Verdict.Has kind }
     ensures constant { result.constant ≡ true }
     ensures fault { result.fault ≡ None }
@@ -158,7 +158,7 @@ pub(crate) fn made_literal(kind: Kind) -> Judged
 }
 
 #[inline(never)]
-pub(crate) fn made_name(view: &View, at: u32, name: &Text) -> Judged
+fn made_name(view: &View, at: u32, name: &Text) -> Judged
     ensures verdict { result.verdict ≡ form_verdict (scope_of view.now) (Named name.now) }
     ensures constant { result.constant ≡ is_constant_form (scope_of view.now) (Named name.now) }
     ensures fault { result.fault ≡ first (fault_in at result.verdict ++ faults_below (own_type_fault (scope_of view.now)) (Named name.now)) }
@@ -167,7 +167,7 @@ pub(crate) fn made_name(view: &View, at: u32, name: &Text) -> Judged
 }
 
 #[inline(never)]
-pub(crate) fn made_when(view: &View, at: u32, a: &Judged, clock: &Text) -> Judged
+fn made_when(view: &View, at: u32, a: &Judged, clock: &Text) -> Judged
     ensures verdict { result.verdict ≡ when_of (scope_of view.now).moves (kind_in a.now.verdict) ((scope_of view.now).clock clock.now) }
     ensures constant { result.constant ≡ false }
     ensures fault { (xs : List NameFault) → a.now.fault ≡ first xs → result.fault ≡ first (fault_in at result.verdict ++ xs) }
