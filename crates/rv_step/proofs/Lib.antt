@@ -3,3 +3,4 @@ pub mod Reading
 pub mod Keeping
 pub mod OneStep
 pub mod TickSteps
+pub mod SameFronts

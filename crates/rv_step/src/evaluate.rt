@@ -1,6 +1,6 @@
 //! The value of a flat expression, exactly.
 
-ghost use Rattle.std.specs.Prelude.{◌≡◌, ◌*ℤ◌, ◌<◌, length, false, true, slice_index_or, None, Some};
+ghost use Rattle.std.specs.Prelude.{◌≡◌, ◌*ℤ◌, ◌<◌, false, true, slice_index_or, None, Some};
 ghost use Rattle.rv_base.specs.declared.value.Value.TheVariants.{Flag, Whole};
 ghost use Rattle.rv_meaning.specs.Meaning as meaning;
 ghost use Rattle.rv_flat.specs.FlatInstants.{held, is_on, is_on_at, nth};
