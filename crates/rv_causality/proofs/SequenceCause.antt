@@ -11,21 +11,21 @@ use Rattle.rv_types.specs.Needs.{IsSequence}
 use Rattle.rv_types.specs.Settled.{IsAnswer}
 use Rattle.rv_types.specs.WellFormed.{AreSited, AreWell}
 use Rattle.rv_instances.specs.declared.answer.Instance.{Instance as Numbered}
-use Rattle.rv_causality.specs.declared.fault.CauseFault.{CauseFault}
-use Rattle.rv_causality.specs.declared.fault.CauseFault.TheVariants.{Recursive, Cycle, TooLarge, TooWide, Memory}
+use Rattle.rv_calls.specs.declared.fault.CauseFault.{CauseFault}
+use Rattle.rv_calls.specs.declared.fault.CauseFault.TheVariants.{Recursive, Cycle, TooLarge, TooWide, Memory}
 use Rattle.rv_instances.specs.AllInstances.{AreFed, AreInstances}
 use Rattle.rv_causality.specs.Causes.{HasNoCycle, IsAccepted, IsOrder, IsCause, HasCause, Matches}
 use Rattle.rv_instances.specs.Expanded.{IsExpanded}
-use Rattle.rv_causality.specs.Nodes.{IsSized}
-use Rattle.rv_causality.specs.Reach.{HasNoRecursion}
-use Rattle.rv_causality.specs.Sequenced.{AreSequenced, IsSequenceFault}
-use Rattle.rv_causality.specs.Sizes.{measures, AreWithin}
+use Rattle.rv_sizes.specs.Sized.{IsSized}
+use Rattle.rv_calls.specs.Reach.{HasNoRecursion}
+use Rattle.rv_sequence.specs.Sequenced.{AreSequenced, IsSequenceFault}
+use Rattle.rv_sizes.specs.Sizes.{measures, AreWithin}
 use Rattle.rv_causality.proofs.Answered.{answer_named, main_within}
-use Rattle.rv_causality.proofs.FewInstances.{expanded_program}
-use Rattle.rv_causality.proofs.NoCycle as cycles
-use Rattle.rv_causality.proofs.Numbered.{sided}
+use Rattle.rv_calls.proofs.FewInstances.{expanded_program}
+use Rattle.rv_sequence.proofs.NoCycle as cycles
+use Rattle.rv_sequence.proofs.Numbered.{sided}
 use Rattle.rv_causality.proofs.OneCause.{no_first, within_not_above}
-use Rattle.rv_causality.proofs.WideFlows.{not_both, one_first}
+use Rattle.rv_sequence.proofs.WideFlows.{not_both, one_first}
 
 -- the instances of a program that is settled, without recursion and within the limits
 pub known : (p : ProgramTree) (t : Typed) (instances : List Numbered) (count : ℕ) → IsBounded p → AreSited p → IsAnswer p t → AreWell p → HasNoRecursion p

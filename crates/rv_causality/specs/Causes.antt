@@ -5,12 +5,13 @@ use Rattle.rv_tree.specs.Tree.{ProgramTree}
 use Rattle.rv_tree.specs.Places.{Identifier, Sites}
 use Rattle.rv_types.specs.Lists.{sites_of}
 use Rattle.rv_instances.specs.declared.answer.Order.{Order}
-use Rattle.rv_causality.specs.declared.fault.CauseFault.{CauseFault}
-use Rattle.rv_causality.specs.declared.fault.CauseFault.TheVariants.{Recursive, Cycle, TooLarge, TooWide, Memory}
-use Rattle.rv_types.specs.Needs.{IsSequence, IsCycle, StartsWithLeast}
-use Rattle.rv_causality.specs.Reach.{HasNoRecursion, IsFirstRecursion}
+use Rattle.rv_calls.specs.declared.fault.CauseFault.{CauseFault}
+use Rattle.rv_calls.specs.declared.fault.CauseFault.TheVariants.{Recursive, Cycle, TooLarge, TooWide, Memory}
+use Rattle.rv_types.specs.Needs.{IsSequence, IsCycle}
+use Rattle.rv_sequence.specs.Cycles.{IsCycleFromLeast}
+use Rattle.rv_calls.specs.Reach.{HasNoRecursion, IsFirstRecursion}
 use Rattle.rv_instances.specs.Counts.{expanded}
-use Rattle.rv_causality.specs.Sizes.{measures, AreWithin, IsFirstAbove}
+use Rattle.rv_sizes.specs.Sizes.{measures, AreWithin, IsFirstAbove}
 use Rattle.rv_instances.specs.Weights.{AreLight, IsFirstTooWide}
 use Rattle.rv_instances.specs.AllInstances.{AreInstances}
 
@@ -32,10 +33,6 @@ pub record IsOrder (p : ProgramTree) (main : Identifier) (o : Order) : Type 0 wh
   pub instances : AreInstances p main o.instances
   pub sequence : IsSequence p main (sites_of o.sequence)
   pub nodes : o.expanded ≡ expanded p main
-
--- a cycle, from its least place on
-abbrev pub IsCycleFromLeast : ProgramTree → Identifier → List Sites → Type 0
-IsCycleFromLeast p main ps = IsCycle p main ps × StartsWithLeast ps
 
 -- The fault with which a program is refused. Recursion comes before all others, then sizes, cycles and weights.
 -- Where there are several cycles, each is such a fault.

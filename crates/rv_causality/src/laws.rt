@@ -8,14 +8,11 @@ ghost use Rattle.rv_tree.specs.Tree.{ProgramTree};
 ghost use Rattle.rv_types.specs.Names.{name_faults};
 ghost use Rattle.rv_types.specs.WellFormed.{AreWell, AreSited};
 ghost use Rattle.rv_instances.specs.AllInstances.{names_of, AreFed, AreInstances};
-ghost use Rattle.rv_causality.specs.Callings.{callings_of};
 ghost use Rattle.rv_instances.specs.Counts.{instance_count};
 ghost use Rattle.rv_types.specs.Instances.{Instance as InstanceTree, IsInstance, all_instances, name_at};
-ghost use Rattle.rv_causality.specs.declared.calls.Calling.{Calling};
 ghost use Rattle.rv_instances.specs.declared.answer.Instance.{Instance as InstanceModel};
 ghost use Rattle.rv_instances.specs.Expanded.{IsExpanded};
-ghost use Rattle.rv_causality.specs.Listing.{AreAllSorted, all_listed};
-ghost use Rattle.rv_causality.specs.Reach.{HasNoRecursion};
+ghost use Rattle.rv_calls.specs.Reach.{HasNoRecursion};
 ghost use Rattle.rv_types.specs.Needs.{IsSequence, IsCycle};
 ghost use Rattle.rv_tree.specs.SourceTrees.{IsSourceTree};
 ghost use Rattle.rv_types.specs.declared.typed.Typed.{Typed as TypedModel};
@@ -37,11 +34,6 @@ pub fn counted_instances()
 /// Where there is an order of evaluation, no flow needs itself at one instant.
 pub fn no_cycle()
     ensures { (p : ProgramTree) (main : Identifier) (sequence cycle : List Sites) → name_faults p ≡ [] → is_among (names_of p) main ≡ true → AreFed p → IsSequence p main sequence → IsCycle p main cycle → ⊥ }
-{}
-
-/// The instances that a walk over sorted calls comes to are all instances, in the order of their paths.
-pub(crate) fn instance_list()
-    ensures { (p : ProgramTree) (main : ℕ) (sorted : List (List Calling)) → name_faults p ≡ [] → HasNoRecursion p → AreSited p → AreAllSorted (callings_of p) sorted → main < length p.nodes → AreInstances p (name_at p main) (all_listed sorted [] main) }
 {}
 
 /// A program whose names, types and clocks are right is known with its instances, where these are no more than they may

@@ -6,7 +6,7 @@ use Rattle.std.specs.List.{Contains}
 use Rattle.rv_tree.specs.Tree.{NodeTree, ProgramTree}
 use Rattle.rv_tree.specs.Places.{Identifier, is_same}
 use Rattle.rv_types.specs.Instances.{CallTree, calls, node_of}
-use Rattle.rv_causality.specs.Reach.{Reaches, itself, by_call, HasNoRecursion}
+use Rattle.rv_calls.specs.Reach.{Reaches, itself, by_call, HasNoRecursion}
 use Rattle.rv_causality.specs.Causes.{IsAccepted}
 use Rattle.rv_make.specs.Chains.{Offsets, link_node, main_node, chain_program}
 use Rattle.rv_instances.proofs.Known.{cons_cases, nothing_in}

@@ -6,7 +6,7 @@ use Rattle.std.specs.Prelude.{slice_get}
 use Rattle.rv_types.specs.Variables.{total}
 use Rattle.std.proofs.lemmas.Bool.{and_parts, and_from, or_parts, or_from}
 use Rattle.rv_instances.proofs.Known.{cons_cases, nothing_in, text_itself}
-use Rattle.rv_causality.proofs.Summing.{total_append}
+use Rattle.rv_sizes.proofs.Summing.{total_append}
 use Rattle.rv_tree.specs.Places.{Identifier, is_same, is_among, index_of}
 
 -- a list with one element has no other

@@ -13,11 +13,11 @@ use Rattle.rv_types.specs.Instances.{Instance, clock_in, all_instances}
 use Rattle.rv_types.specs.Variables.{total, is_integer, memories_beside, kind_bits, memory_bits, order_tests, own_tests, parts, node_parts, arrow_clocks}
 use Rattle.rv_types.specs.Variables.{is_arrow, different, ticks, over_instances, variable_count}
 use Rattle.rv_instances.specs.Counts.{size, node_size, integer_memories, instance_count, expanded}
-use Rattle.rv_causality.specs.Sizes.{measures, AreWithin}
+use Rattle.rv_sizes.specs.Sizes.{measures, AreWithin}
 use Rattle.rv_make.specs.Made.{link_name}
 use Rattle.rv_make.specs.Chains.{Offsets, flow_read, seen_equation, ok_equation, link_calls, main_node, chain_program}
 use Rattle.rv_instances.proofs.Known.{split_nil}
-use Rattle.rv_causality.proofs.Summing.{total_append}
+use Rattle.rv_sizes.proofs.Summing.{total_append}
 use Rattle.rv_made_order.proofs.Lists.{both_none, in_tail, none_of_each, total_flat, length_total}
 use Rattle.rv_made_order.proofs.Program.{call_equation, each_later, each_equation}
 use Rattle.rv_made_order.proofs.Instances.{main_copy, over_all, listed_made}

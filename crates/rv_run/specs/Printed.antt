@@ -6,10 +6,10 @@ use Rattle.rv_syntax.specs.declared.fault.TextFault.{TextFault}
 use Rattle.rv_syntax.specs.declared.fault.TextFault.TheVariants.{BadText, TooDeep, LeftOut, Memory as TextMemory}
 use Rattle.rv_types.specs.declared.fault.NameFault.{NameFault}
 use Rattle.rv_types.specs.declared.fault.NameFault.TheVariants.{NoNode, UnknownName, DefinedTwice, Undefined, TypeClash, Nonlinear, ClockClash, NotObserver, Memory as NameMemory}
-use Rattle.rv_causality.specs.declared.fault.CauseFault.{CauseFault}
-use Rattle.rv_causality.specs.declared.fault.CauseFault.TheVariants.{Recursive, Cycle, TooLarge, TooWide, Memory as CauseMemory}
-use Rattle.rv_causality.specs.declared.fault.Quantity.{Quantity}
-use Rattle.rv_causality.specs.declared.fault.Quantity.TheVariants as quantity
+use Rattle.rv_calls.specs.declared.fault.CauseFault.{CauseFault}
+use Rattle.rv_calls.specs.declared.fault.CauseFault.TheVariants.{Recursive, Cycle, TooLarge, TooWide, Memory as CauseMemory}
+use Rattle.rv_calls.specs.declared.fault.Quantity.{Quantity}
+use Rattle.rv_calls.specs.declared.fault.Quantity.TheVariants as quantity
 use Rattle.rv_invfile.specs.declared.fault.FileFault.{FileFault}
 use Rattle.rv_invfile.specs.declared.fault.FileFault.TheVariants.{NotRecords, WrongKind, WrongProgram, BadNumber, Ends, Memory as FileMemory}
 use Rattle.rv_proofs.specs.declared.verdict.Reason.{Reason}

@@ -15,8 +15,8 @@ use Rattle.rv_types.specs.declared.typed.Typed.{Typed}
 use Rattle.rv_types.specs.Instances.{name_at}
 use Rattle.rv_types.specs.Settled.{IsSettled, IsFirstFault}
 use Rattle.rv_types.specs.Settled as settled_specs
-use Rattle.rv_causality.specs.declared.fault.CauseFault.{CauseFault}
-use Rattle.rv_causality.specs.declared.fault.CauseFault.TheVariants as cause
+use Rattle.rv_calls.specs.declared.fault.CauseFault.{CauseFault}
+use Rattle.rv_calls.specs.declared.fault.CauseFault.TheVariants as cause
 use Rattle.rv_source.specs.declared.fault.SourceFault.{SourceFault}
 use Rattle.rv_source.specs.declared.fault.SourceFault.TheVariants.{Text, Names, Cause, Memory}
 use Rattle.rv_causality.specs.Causes.{IsAccepted, IsCause, Orders}

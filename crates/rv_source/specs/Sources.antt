@@ -10,8 +10,8 @@ use Rattle.rv_types.specs.declared.fault.NameFault.{NameFault}
 use Rattle.rv_types.specs.declared.fault.NameFault.TheVariants as name
 use Rattle.rv_types.specs.declared.typed.Typed.{Typed}
 use Rattle.rv_types.specs.Settled.{IsSettled, IsFirstFault}
-use Rattle.rv_causality.specs.declared.fault.CauseFault.{CauseFault}
-use Rattle.rv_causality.specs.declared.fault.CauseFault.TheVariants as cause
+use Rattle.rv_calls.specs.declared.fault.CauseFault.{CauseFault}
+use Rattle.rv_calls.specs.declared.fault.CauseFault.TheVariants as cause
 use Rattle.rv_instances.specs.declared.source.Source.{Source}
 use Rattle.rv_source.specs.declared.fault.SourceFault.{SourceFault}
 use Rattle.rv_source.specs.declared.fault.SourceFault.TheVariants.{Text, Names, Cause, Memory}

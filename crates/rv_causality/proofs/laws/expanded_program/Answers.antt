@@ -1,4 +1,4 @@
-use Rattle.rv_causality.proofs.FewInstances as law
+use Rattle.rv_calls.proofs.FewInstances as law
 use Rattle.rv_causality.proofs.laws.expanded_program.Goals as goal
 
 pub returns : goal.returns

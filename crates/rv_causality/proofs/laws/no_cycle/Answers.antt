@@ -1,4 +1,4 @@
-use Rattle.rv_causality.proofs.NoCycle as cycles
+use Rattle.rv_sequence.proofs.NoCycle as cycles
 use Rattle.rv_causality.proofs.laws.no_cycle.Goals as goal
 
 pub returns : goal.returns

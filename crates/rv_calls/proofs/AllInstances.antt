@@ -1,0 +1,178 @@
+-- Where no node reaches itself, unrolling gives all instances.
+use Rattle.std.proofs.Common.{◌≡◌, ℕ, zero, suc, ◌-◌, ◌<◌, ◌≤◌, ◌⊎◌, inl, inr, Bool, true, false, List, [], ◌∷◌, ◌++◌, length, get_or, set, replicate, refl, sym, ◌∙◌, ap, subst, arith}
+use Rattle.std.specs.List.{Contains, flat_map}
+use Rattle.std.proofs.lemmas.List.{length-set, length-replicate, get_or-set_other, get_or-replicate}
+use Rattle.std.proofs.lemmas.List.Elements.{Contains-append_left, Contains-append_right, Contains-append_cases, Contains-get_or}
+use Rattle.rv_tree.specs.Tree.{NodeTree, ProgramTree}
+use Rattle.rv_tree.specs.Places.{Identifier, is_among, index_of}
+use Rattle.rv_types.specs.Names.{name_faults}
+use Rattle.rv_types.specs.Instances.{CallTree, calls, Instance, no_node, node_of, callee, unrolled, all_instances, main_instance, IsInstance, is_main, is_callee}
+use Rattle.rv_calls.specs.Reach.{Reaches, itself, by_call, HasNoRecursion}
+use Rattle.rv_calls.specs.Graphs.{falses}
+use Rattle.rv_instances.specs.AllInstances.{names_of}
+use Rattle.rv_calls.proofs.Walks.{snoc_at, snoc_front, snoc_length, set_falses}
+use Rattle.rv_instances.proofs.Known.{cons_cases, nothing_in, called, calls_declared, node_of_number}
+
+-- different numbers below a bound are no more than the bound
+pigeons : (xs : List ℕ) (bs : List Bool) → ((i : ℕ) → i < length xs → get_or xs i 0 < length bs) → ((i : ℕ) → i < length xs → get_or bs (get_or xs i 0) false ≡ false)
+    → ((i j : ℕ) → i < j → j < length xs → get_or xs i 0 ≡ get_or xs j 0 → ⊥) → length xs ≤ falses bs
+pigeons [] bs within free apart = omega arith
+pigeons (x ∷ xs) bs within free apart =
+    let more = pigeons xs (set bs x true)
+    (λ i lt. let n = length-set bs x true in let h = within (suc i) (omega (arith, lt)) in omega (arith, n, h))
+    (λ i lt. get_or-set_other bs x (get_or xs i 0) true false (λ e. apart 0 (suc i) (omega arith) (omega (arith, lt)) (sym e)) ∙ free (suc i) (omega (arith, lt)))
+    (λ i j less lt. apart (suc i) (suc j) (omega (arith, less)) (omega (arith, lt))) in
+    let one = set_falses bs x (within 0 (omega arith)) (free 0 (omega arith)) in
+    omega (arith, more, one)
+
+all_false : (n : ℕ) → falses (replicate n false) ≡ n
+all_false zero = refl
+all_false (suc n) = let h = all_false n in omega (arith, h)
+
+pub pigeonhole : (n : ℕ) (xs : List ℕ) → ((i : ℕ) → i < length xs → get_or xs i 0 < n) → ((i j : ℕ) → i < j → j < length xs → get_or xs i 0 ≡ get_or xs j 0 → ⊥) → length xs ≤ n
+pigeonhole n xs within apart =
+    let l = length-replicate {A = Bool} n false in
+    let f = all_false n in
+    let h = pigeons xs (replicate n false) (λ i lt. let h = within i lt in omega (arith, l, h)) (λ i lt. get_or-replicate {A = Bool} n (get_or xs i 0) false false (within i lt)) apart in
+    omega (arith, h, f)
+
+-- what reaches a node reaches what that calls
+reach_on : (p : ProgramTree) (n f : Identifier) (c : CallTree) → Reaches p n f → Contains (calls (node_of p n)) c → Reaches p c.name f
+reach_on p n _ c itself w = by_call n c w itself
+reach_on p n _ c (by_call f d v rest) w = by_call f d v (reach_on p n d.name c rest w)
+
+-- an instance stands in what an instance is unrolled to, with so many levels below it
+abbrev Deep : ProgramTree → ℕ → Instance → ℕ → Instance → Type 0
+Deep p zero a left i = ⊥
+Deep p (suc levels) a left i = ((i ≡ a) × (left ≡ levels)) ⊎ ((c : CallTree) × Contains (calls a.node) c × Deep p levels (callee p a c) left i)
+
+pub in_flat_map : {X Y : Type 0} (f : X → List Y) (xs : List X) (x : X) (y : Y) → Contains xs x → Contains (f x) y → Contains (flat_map f xs) y
+in_flat_map f [] x y w v = nothing_in x w
+in_flat_map f (z ∷ zs) x y w v = elim (cons_cases z zs x w) [
+  | inl same ↦ Contains-append_left (f z) (flat_map f zs) y (subst (λ u. Contains (f u) y) (sym same) v)
+  | inr rest ↦ Contains-append_right (f z) (flat_map f zs) y (in_flat_map f zs x y rest v)
+]
+
+pub of_flat_map : {X Y : Type 0} (f : X → List Y) (xs : List X) (y : Y) → Contains (flat_map f xs) y → (x : X) × Contains xs x × Contains (f x) y
+of_flat_map f [] y w = nothing_in y w
+of_flat_map f (z ∷ zs) y w = elim (Contains-append_cases (f z) (flat_map f zs) y w) [
+  | inl here ↦ (z, (0, omega arith, refl), here)
+  | inr rest ↦ let v = of_flat_map f zs y rest in (v.0, Contains-append_right (z ∷ []) zs v.0 v.1, v.2)
+]
+
+deep_contains : (p : ProgramTree) (levels : ℕ) (a : Instance) (left : ℕ) (i : Instance) → Deep p levels a left i → Contains (unrolled p levels a) i
+deep_contains p zero a left i d = absurd d
+deep_contains p (suc levels) a left i (inl d) = subst (λ (j : Instance). Contains (unrolled p (suc levels) a) j) (sym d.0) (0, omega arith, refl)
+deep_contains p (suc levels) a left i (inr d) =
+    Contains-append_right (a ∷ []) (flat_map (λ (c : CallTree). unrolled p levels (callee p a c)) (calls a.node)) i
+    (in_flat_map (λ (c : CallTree). unrolled p levels (callee p a c)) (calls a.node) d.0 i d.1 (deep_contains p levels (callee p a d.0) left i d.2))
+
+deep_step : (p : ProgramTree) (levels : ℕ) (a : Instance) (left : ℕ) (i : Instance) (c : CallTree) → Deep p levels a (suc left) i → Contains (calls i.node) c → Deep p levels a left (callee p i c)
+deep_step p zero a left i c d w = absurd d
+deep_step p (suc levels) a left i c (inl d) w =
+    inr (
+      c,
+      subst (λ (j : Instance). Contains (calls j.node) c) d.0 w,
+      subst (λ (j : Instance). Deep p levels (callee p j c) left (callee p i c)) d.0
+          (subst (λ n. Deep p n (callee p i c) left (callee p i c)) d.1 (inl (refl, refl))),
+    )
+deep_step p (suc levels) a left i c (inr d) w = inr (d.0, d.1, deep_step p levels (callee p a d.0) left i c d.2 w)
+
+-- what is unrolled from an instance are instances
+pub only_instances : (p : ProgramTree) (main : Identifier) (levels : ℕ) (a i : Instance) → IsInstance p main a → Contains (unrolled p levels a) i → IsInstance p main i
+only_instances p main zero a i is w = nothing_in i w
+only_instances p main (suc levels) a i is w = elim (cons_cases a (flat_map (λ (c : CallTree). unrolled p levels (callee p a c)) (calls a.node)) i w) [
+  | inl same ↦ subst (IsInstance p main) same is
+  | inr rest ↦
+      let v = of_flat_map (λ (c : CallTree). unrolled p levels (callee p a c)) (calls a.node) i rest in
+      only_instances p main levels (callee p a v.0) i (is_callee v.0 is v.1) v.2
+]
+
+-- The nodes from main to an instance: they are different, and each reaches the last.
+record Trail (p : ProgramTree) (i : Instance) : Type 0 where
+  trail : List ℕ
+  number : ℕ
+  is_node : number < length p.nodes
+  node_is : i.node ≡ get_or p.nodes number no_node
+  within : (j : ℕ) → j < length trail → get_or trail j 0 < length p.nodes
+  apart : (j k : ℕ) → j < k → k < length trail → get_or trail j 0 ≡ get_or trail k 0 → ⊥
+  reaches : (j : ℕ) → j < length trail → Reaches p i.node.name.text (get_or p.nodes (get_or trail j 0) no_node).name.text
+  some : 0 < length trail
+
+module _ (p : ProgramTree) (main : Identifier) (named : name_faults p ≡ []) (none : HasNoRecursion p) (declared : is_among (names_of p) main ≡ true) where
+  start : Trail p (main_instance p main)
+  start =
+      let to = called p named main declared in
+      record {
+        trail = index_of (names_of p) main ∷ [];
+        number = index_of (names_of p) main;
+        is_node = to.0;
+        node_is = to.1;
+        within = λ j lt. subst (λ k. get_or (index_of (names_of p) main ∷ []) k 0 < length p.nodes) (let z : 0 ≡ j = omega (arith, lt) in z) to.0;
+        apart = λ j k less lt e. omega (arith, less, lt);
+        reaches = λ j lt. subst (λ k. Reaches p (node_of p main).name.text (get_or p.nodes (get_or (index_of (names_of p) main ∷ []) k 0) no_node).name.text) (let z : 0 ≡ j = omega (arith, lt) in z)
+            (subst (λ (n : NodeTree). Reaches p (node_of p main).name.text n.name.text) to.1 itself);
+        some = omega arith;
+      }
+
+  next : (i : Instance) (c : CallTree) → Trail p i → Contains (calls i.node) c → Trail p (callee p i c)
+  next i c t w =
+      let at_node : Contains p.nodes i.node = subst (Contains p.nodes) (sym t.node_is) (Contains-get_or p.nodes t.number no_node t.is_node) in
+      let to = called p named c.name (calls_declared p named i.node c at_node w) in
+      let k = index_of (names_of p) c.name in
+      let itself_node : node_of p i.node.name.text ≡ i.node = ap (λ (n : NodeTree). node_of p n.name.text) t.node_is ∙ node_of_number p named t.number t.is_node ∙ sym t.node_is in
+      let in_node : Contains (calls (node_of p i.node.name.text)) c = subst (λ (n : NodeTree). Contains (calls n) c) (sym itself_node) w in
+      let last_name : (node_of p c.name).name.text ≡ c.name = ap (λ (n : NodeTree). n.name.text) to.1 ∙ to.2 in
+      record {
+        trail = t.trail ++ k ∷ [];
+        number = k;
+        is_node = to.0;
+        node_is = to.1;
+        within = λ j lt. elim (snoc_at t.trail k j lt) [
+          | inl s ↦ subst (λ u. u < length p.nodes) (sym s.1) (t.within j s.0)
+          | inr s ↦ subst (λ u. u < length p.nodes) (sym s.1) to.0
+        ];
+        apart = λ j m less lt e.
+            let n = snoc_length t.trail k in
+            let before : j < length t.trail = omega (arith, n, less, lt) in
+            elim (snoc_at t.trail k m lt) [
+              | inl s ↦ t.apart j m less s.0 (sym (snoc_front t.trail k j before) ∙ e ∙ s.1)
+              | inr s ↦
+                  let is : get_or t.trail j 0 ≡ k = sym (snoc_front t.trail k j before) ∙ e ∙ s.1 in
+                  none i.node c (record {
+                    node = at_node;
+                    call = w;
+                    back = subst (λ f. Reaches p i.node.name.text f) (ap (λ u. (get_or p.nodes u no_node).name.text) is ∙ to.2) (t.reaches j before);
+                  })
+            ];
+        reaches = λ j lt. elim (snoc_at t.trail k j lt) [
+          | inl s ↦ subst (λ u. Reaches p (node_of p c.name).name.text (get_or p.nodes u no_node).name.text) (sym s.1)
+              (subst (λ g. Reaches p g (get_or p.nodes (get_or t.trail j 0) no_node).name.text) (sym last_name)
+              (reach_on p i.node.name.text (get_or p.nodes (get_or t.trail j 0) no_node).name.text c (t.reaches j s.0) in_node))
+          | inr s ↦ subst (λ u. Reaches p (node_of p c.name).name.text (get_or p.nodes u no_node).name.text) (sym s.1)
+              (subst (λ (n : NodeTree). Reaches p (node_of p c.name).name.text n.name.text) to.1 itself)
+        ];
+        some = let n = snoc_length t.trail k in omega (arith, n);
+      }
+
+  -- an instance with its trail stands in what main is unrolled to
+  found : (i : Instance) → IsInstance p main i → (t : Trail p i) × Deep p (length p.nodes) (main_instance p main) (length p.nodes - length t.trail) i
+  unfolding start next
+  found _ is_main = (start, at (length p.nodes) (let w = start.within 0 start.some in omega (arith, w)))
+    where
+      at : (n : ℕ) → 0 < n → Deep p n (main_instance p main) (n - 1) (main_instance p main)
+      at zero lt = absurd (omega (arith, lt))
+      at (suc n) lt = inl (refl, omega arith)
+  found _ (is_callee {i} c is w) =
+      let before = found i is in
+      let t = next i c before.0 w in
+      let few = pigeonhole (length p.nodes) t.trail t.within t.apart in
+      let size = snoc_length before.0.trail (index_of (names_of p) c.name) in
+      let left : length p.nodes - length before.0.trail ≡ suc (length p.nodes - length t.trail) = omega (arith, few, size) in (
+        t,
+        deep_step p (length p.nodes) (main_instance p main) (length p.nodes - length t.trail) i c
+            (subst (λ n. Deep p (length p.nodes) (main_instance p main) n i) left before.1) w,
+      )
+
+  pub all_found : (i : Instance) → IsInstance p main i → Contains (all_instances p main) i
+  all_found i is = let f = found i is in deep_contains p (length p.nodes) (main_instance p main) (length p.nodes - length f.0.trail) i f.1

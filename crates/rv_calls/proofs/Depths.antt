@@ -1,0 +1,112 @@
+-- How a search in depth goes on, whatever it finds.
+use Rattle.std.proofs.Common.{◌≡◌, ℕ, ◌+◌, ◌-◌, ◌<◌, inl, inr, true, false, List, [], ◌∷◌, ◌++◌, length, get_or, set, take, replicate, sym, ◌∙◌, ap, subst, arith, length-take-le}
+use Rattle.std.proofs.lemmas.List.{length-replicate, length-set}
+use Rattle.rv_calls.specs.Graphs.{Graph, falses}
+use Rattle.rv_calls.specs.declared.graph.Walk.{Walk}
+use Rattle.rv_calls.specs.Components.{AreVertices, IsDepth}
+use Rattle.rv_calls.proofs.Walks.{snoc_at, snoc_front, snoc_last, snoc_length, get_or-take_below, set_falses}
+
+vertices_snoc : (g : Graph) (vs : List ℕ) (v : ℕ) → AreVertices g vs → v < length g → AreVertices g (vs ++ v ∷ [])
+vertices_snoc g vs v are within i lt = elim (snoc_at vs v i lt) [
+  | inl s ↦ subst (λ u. u < length g) (sym s.1) (are i s.0)
+  | inr s ↦ subst (λ u. u < length g) (sym s.1) within
+]
+
+vertices_front : (g : Graph) (vs : List ℕ) → AreVertices g vs → AreVertices g (take (length vs - 1) vs)
+vertices_front g vs are i lt =
+    let n = length-take-le (length vs - 1) vs (omega arith) in
+    let below : i < length vs - 1 = omega (arith, n, lt) in
+    subst (λ u. u < length g) (sym (get_or-take_below vs (length vs - 1) i 0 below)) (are i (omega (arith, below)))
+
+-- the last vertex apart
+pub vertices_rest : (g : Graph) (vs rest : List ℕ) (v : ℕ) → AreVertices g vs → vs ≡ rest ++ v ∷ []
+    → AreVertices g rest × (v < length g) × (length rest < length vs)
+vertices_rest g vs rest v are is = (
+  (λ i lt. subst (λ u. u < length g) (at i lt) (are i (let n = size in omega (arith, n, lt)))),
+  subst (λ u. u < length g) last (are (length rest) (let n = size in omega (arith, n))),
+  (let n = size in omega (arith, n)),
+)
+  where
+    size : length vs ≡ length rest + 1
+    size = ap length is ∙ snoc_length rest v
+
+    at : (i : ℕ) → i < length rest → get_or vs i 0 ≡ get_or rest i 0
+    at i lt = ap (λ l. get_or l i 0) is ∙ snoc_front rest v i lt
+
+    last : get_or vs (length rest) 0 ≡ v
+    last = ap (λ l. get_or l (length rest) 0) is ∙ snoc_last rest v
+
+-- the search at its start
+pub depth_start : (g : Graph) (w : Walk)
+    → (w.entered ≡ replicate (length g) false) × (w.finished ≡ replicate (length g) false) × (w.cursor ≡ replicate (length g) 0) × (w.path ≡ []) × (w.order ≡ []) → IsDepth g w
+depth_start g w e = record {
+  entered = ap length e.0 ∙ length-replicate (length g) false;
+  finished = ap length e.1 ∙ length-replicate (length g) false;
+  cursor = ap length e.2 ∙ length-replicate (length g) 0;
+  path = λ i lt. absurd (let n = ap length e.3 in omega (arith, n, lt));
+  order = λ i lt. absurd (let n = ap length e.4 in omega (arith, n, lt));
+}
+
+-- what is left to do
+abbrev pub weight : Walk → ℕ
+weight w = falses w.entered + falses w.entered + length w.path
+
+module _ (g : Graph) where
+  pub step_entered : (w : Walk) → IsDepth g w → (v : ℕ) (new : Walk) → v < length g
+      → new ≡ record w { entered = set w.entered v true; cursor = set w.cursor v 0; path = w.path ++ v ∷ [] } → IsDepth g new
+  step_entered w d v new within is = subst (IsDepth g) (sym is) after
+    where
+      after : IsDepth g (record { entered = set w.entered v true; finished = w.finished; cursor = set w.cursor v 0; path = w.path ++ v ∷ []; order = w.order })
+      after = record {
+        entered = length-set w.entered v true ∙ d.entered;
+        finished = d.finished;
+        cursor = length-set w.cursor v 0 ∙ d.cursor;
+        path = vertices_snoc g w.path v d.path within;
+        order = d.order;
+      }
+
+  step_left : (w : Walk) → IsDepth g w → (v : ℕ) (new : Walk) → v < length g
+      → new ≡ record w { finished = set w.finished v true; path = take (length w.path - 1) w.path; order = w.order ++ v ∷ [] } → IsDepth g new
+  step_left w d v new within is = subst (IsDepth g) (sym is) after
+    where
+      after : IsDepth g (record { entered = w.entered; finished = set w.finished v true; cursor = w.cursor; path = take (length w.path - 1) w.path; order = w.order ++ v ∷ [] })
+      after = record {
+        entered = d.entered;
+        finished = length-set w.finished v true ∙ d.finished;
+        cursor = d.cursor;
+        path = vertices_front g w.path d.path;
+        order = vertices_snoc g w.order v d.order within;
+      }
+
+module _ (g : Graph) (w : Walk) (d : IsDepth g w) where
+  turned : (mid : Walk) → mid ≡ record w { cursor = mid.cursor } → length mid.cursor ≡ length g → IsDepth g mid
+  turned mid is size = subst (IsDepth g) (sym is) (record { entered = d.entered; finished = d.finished; cursor = size; path = d.path; order = d.order })
+
+  -- the last vertex of the path
+  pub top_within : (v : ℕ) → 0 < length w.path → get_or w.path (length w.path - 1) 0 ≡ v → v < length g
+  top_within v some last = subst (λ u. u < length g) last (d.path (length w.path - 1) (omega arith))
+
+  -- One step of the search, over what `next_new` leaves.
+  module _ (mid : Walk) (is : mid ≡ record w { cursor = mid.cursor }) (size : length mid.cursor ≡ length g) where
+    pub left_step : (v : ℕ) (new : Walk) → 0 < length w.path → get_or w.path (length w.path - 1) 0 ≡ v
+        → new ≡ record mid { finished = set mid.finished v true; path = take (length mid.path - 1) mid.path; order = mid.order ++ v ∷ [] } → IsDepth g new × (weight new < weight w)
+    left_step v new some last new_is = (
+      step_left g mid (turned mid is size) v new (top_within v some last) new_is,
+      (let p = ap length (ap (λ (m : Walk). m.path) new_is) in
+          let q = length-take-le (length mid.path - 1) mid.path (omega arith) in
+          let r = ap (λ (m : Walk). length m.path) is in
+          let e = ap (λ (m : Walk). falses m.entered) new_is in
+          let f = ap (λ (m : Walk). falses m.entered) is in
+          omega (arith, p, q, r, e, f, some)),
+    )
+
+    pub went_step : (child : ℕ) (new : Walk) → child < length g → get_or w.entered child false ≡ false
+        → new ≡ record mid { entered = set mid.entered child true; cursor = set mid.cursor child 0; path = mid.path ++ child ∷ [] } → IsDepth g new × (weight new < weight w)
+    went_step child new within free new_is = (
+      step_entered g mid (turned mid is size) child new within new_is,
+      (let p = ap (λ (m : Walk). length m.path) new_is ∙ snoc_length mid.path child in
+          let r = ap (λ (m : Walk). length m.path) is in
+          let e = ap (λ (m : Walk). falses m.entered) new_is ∙ ap (λ (m : Walk). falses (set m.entered child true)) is in
+          let one = set_falses w.entered child (let n = d.entered in omega (arith, n, within)) free in
+          omega (arith, p, r, e, one)),
+    )

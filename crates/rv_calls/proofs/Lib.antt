@@ -1,0 +1,16 @@
+pub mod HashedNames
+pub mod Walks
+pub mod Turns
+pub mod Depths
+pub mod Searches
+pub mod Turned
+pub mod Parting
+pub mod Lowering
+pub mod Recursions
+pub mod AllInstances
+pub mod OnceInstances
+pub mod Expanding
+pub mod Listed
+pub mod SortedCalls
+pub mod FewInstances
+pub mod Collected

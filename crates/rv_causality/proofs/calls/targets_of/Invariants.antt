@@ -1,6 +1,0 @@
-use Rattle.std.proofs.Common.{◌≡◌, ◌++◌, drop}
-use Rattle.rv_causality.specs.Callings.{callees}
-use Rattle.rv_causality.proofs.calls.targets_of.Given as goal
-
-abbrev pub invariant-loop-call : goal.invariant-loop-call
-invariant-loop-call l = l.targets ++ callees (drop l.call-index l.calls) ≡ callees l.calls

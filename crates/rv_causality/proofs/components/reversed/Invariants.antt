@@ -1,5 +1,0 @@
-use Rattle.rv_causality.specs.Components.{IsReversedTo}
-use Rattle.rv_causality.proofs.components.reversed.Given as goal
-
-abbrev pub invariant-loop-v : goal.invariant-loop-v
-invariant-loop-v l = IsReversedTo l.graph l.v l.turned.items

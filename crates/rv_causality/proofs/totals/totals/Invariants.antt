@@ -1,5 +1,0 @@
-use Rattle.rv_causality.specs.Totals.{AreSummed}
-use Rattle.rv_causality.proofs.totals.totals.Given as goal
-
-abbrev pub invariant-loop-node : goal.invariant-loop-node
-invariant-loop-node l = AreSummed l.own l.calls l.order l.node-index l.totals

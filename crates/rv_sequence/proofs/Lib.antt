@@ -1,0 +1,15 @@
+pub mod NoCycle
+pub mod Sequences
+pub mod WeightParts
+pub mod WeightReads
+pub mod WeightFlows
+pub mod WideFlows
+pub mod TableWeights
+pub mod WideLeast
+pub mod TypedCalls
+pub mod NumbersNeeded
+pub mod Needed
+pub mod ToldNeeds
+pub mod GiverNeeds
+pub mod NeedsGraph
+pub mod Numbered

@@ -1,0 +1,188 @@
+-- An order of the graph of flows is a sequence, and a loop in it is a cycle.
+use Rattle.std.proofs.Common.{◌≡◌, ℕ, zero, suc, ◌+◌, ◌-◌, ◌<◌, ◌≤◌, inl, inr, List, [], ◌∷◌, ◌++◌, map, length, length-drop, get_or, take, drop, refl, sym, ◌∙◌, ap, subst, arith}
+use Rattle.std.specs.List.{Contains}
+use Rattle.std.proofs.lemmas.List.{append-nil, get_or_default, take-append-drop}
+use Rattle.std.proofs.lemmas.List.Elements.{Contains-append_cases, Contains-append_left, Contains-append_right}
+use Rattle.std.proofs.lemmas.Bool.{cases_eq}
+use Rattle.rv_tree.specs.Tree.{ProgramTree}
+use Rattle.rv_tree.specs.Places.{Identifier, Sites}
+use Rattle.rv_types.specs.Instances.{IsFlow}
+use Rattle.rv_types.specs.Needs.{Gives, needs_of, IsSequence, IsAmongFirst, Leads, IsCycle, IsBefore, StartsWithLeast}
+use Rattle.rv_calls.specs.Graphs.{Graph, edges, IsGraph, IsOrdered, Follows, IsLoop}
+use Rattle.rv_sequence.specs.Cycles.{IsCycleFromLeast}
+use Rattle.rv_instances.specs.Flowing.{place_at}
+use Rattle.rv_sequence.specs.FlowGraphs.{IsFlowGraph, AreTurned}
+use Rattle.rv_instances.proofs.Lists.{nat_split, contains_at, length_map}
+use Rattle.rv_calls.proofs.Turns.{turn}
+use Rattle.rv_instances.proofs.Known.{nothing_in, cons_cases, map_at, of_map}
+
+-- of two places one is not before and after the other
+pub not_both : (a b : Sites) → IsBefore a b → IsBefore b a → ⊥
+not_both a [] h k = h
+not_both [] (y ∷ ys) h k = k
+not_both (x ∷ xs) (y ∷ ys) (inl h) (inl k) = absurd (omega (arith, h, k))
+not_both (x ∷ xs) (y ∷ ys) (inl h) (inr k) = let e = k.0 in absurd (omega (arith, h, e))
+not_both (x ∷ xs) (y ∷ ys) (inr h) (inl k) = let e = h.0 in absurd (omega (arith, k, e))
+not_both (x ∷ xs) (y ∷ ys) (inr h) (inr k) = not_both xs ys h.1 k.1
+
+-- Loops.
+
+split : (g : Graph) (a : ℕ) (xs : List ℕ) (y : ℕ) (ys : List ℕ) (b : ℕ) → Follows g a (xs ++ y ∷ ys) b → Follows g a xs y × Follows g y ys b
+split g a [] y ys b f = (f.0, f.1)
+split g a (x ∷ xs) y ys b f = let s = split g x xs y ys b f.1 in ((f.0, s.0), s.1)
+
+join : (g : Graph) (a : ℕ) (xs : List ℕ) (y : ℕ) (ys : List ℕ) (b : ℕ) → Follows g a xs y → Follows g y ys b → Follows g a (xs ++ y ∷ ys) b
+join g a [] y ys b f h = (f, h)
+join g a (x ∷ xs) y ys b f h = (f.0, join g x xs y ys b f.1 h)
+
+module _ (g : Graph) (graph : IsGraph g) where
+  edge_within : (a b : ℕ) → a < length g → Contains (edges g a) b → b < length g
+  edge_within a b lt w = let v = contains_at (edges g a) b w in subst (λ k. k < length g) v.2 (graph a v.0 lt v.1)
+
+  follows_within : (a : ℕ) (xs : List ℕ) (b : ℕ) → a < length g → Follows g a xs b → b < length g
+  follows_within a [] b lt f = edge_within a b lt f
+  follows_within a (x ∷ xs) b lt f = follows_within x xs b (edge_within a x lt f.0) f.1
+
+  between_within : (a : ℕ) (xs : List ℕ) (b c : ℕ) → a < length g → Follows g a xs b → Contains xs c → c < length g
+  between_within a [] b c lt f w = nothing_in c w
+  between_within a (x ∷ xs) b c lt f w = elim (cons_cases x xs c w) [
+    | inl same ↦ subst (λ k. k < length g) same (edge_within a x lt f.0)
+    | inr rest ↦ between_within x xs b c (edge_within a x lt f.0) f.1 rest
+  ]
+
+  pub loop_within : (xs : List ℕ) → IsLoop g xs → (k : ℕ) → Contains xs k → k < length g
+  loop_within [] l k w = absurd l
+  loop_within (x ∷ xs) l k w = elim (cons_cases x xs k w) [
+    | inl same ↦ subst (λ k. k < length g) same l.0
+    | inr rest ↦ between_within x xs x k l.0 l.1 rest
+  ]
+
+  pub turned_loop : (front back : List ℕ) → IsLoop g (front ++ back) → IsLoop g (back ++ front)
+  turned_loop [] back l = subst (IsLoop g) (sym (append-nil back)) l
+  turned_loop (x ∷ xs) [] l = subst (IsLoop g) (append-nil (x ∷ xs)) l
+  turned_loop (x ∷ xs) (y ∷ ys) l =
+      let s = split g x xs y ys x l.1 in
+      (follows_within x xs y l.0 s.0, join g y ys x xs y s.1 s.0)
+
+module _ (p : ProgramTree) (main : Identifier) (places : List Sites) (g : Graph) (f : IsFlowGraph p main places g) where
+  nth : (order : List ℕ) (k : ℕ) → k < length order → get_or (map (place_at places) order) k [] ≡ place_at places (get_or order k 0)
+  nth order k lt = map_at (place_at places) order k [] 0 lt
+
+  same_number : (a b : ℕ) → a < length places → b < length places → place_at places a ≡ place_at places b → a ≡ b
+  same_number a b la lb e = elim (cases_eq a b) [
+    | inl same ↦ same
+    | inr other ↦ elim (nat_split a b) [
+      | inl lt ↦ let h = f.placed.rising a b lt lb in absurd (not_both (place_at places a) (place_at places b) h (subst (λ q. IsBefore q (place_at places a)) e (subst (IsBefore (place_at places a)) (sym e) h)))
+      | inr ge ↦
+          let lt : b < a = elim (nat_split b a) [ inl less ↦ less | inr more ↦ absurd (other (omega (arith, ge, more))) ] in
+          let h = f.placed.rising b a lt la in
+          absurd (not_both (place_at places b) (place_at places a) h (subst (λ q. IsBefore q (place_at places b)) (sym e) (subst (IsBefore (place_at places b)) e h)))
+    ]
+  ]
+
+  pub ordered_sequence : (order : List ℕ) → IsOrdered g order → IsSequence p main (map (place_at places) order)
+  ordered_sequence order o =
+      let size = f.size in
+      let long = length_map (place_at places) order in
+      record {
+        once = λ j k less lt e.
+            let lk : k < length order = omega (arith, long, lt) in
+            let lj : j < length order = omega (arith, lk, less) in
+            let wj = o.only j lj in
+            let wk = o.only k lk in
+            o.once j k less lk
+            (same_number (get_or order j 0) (get_or order k 0) (omega (arith, wj, size)) (omega (arith, wk, size)) (sym (nth order j lj) ∙ e ∙ nth order k lk));
+        flows = λ q is.
+            let w = f.placed.flows q is in
+            let lt = w.1 in
+            let v = contains_at order w.0 (o.all w.0 (omega (arith, lt, size))) in
+            let lv = v.1 in
+            let less : v.0 < length (map (place_at places) order) = omega (arith, lv, long) in
+            (v.0, less, get_or_default (map (place_at places) order) v.0 q [] less ∙ nth order v.0 lv ∙ ap (place_at places) v.2 ∙ get_or_default places w.0 [] q lt ∙ w.2);
+        only = λ k lt.
+            let lk : k < length order = omega (arith, long, lt) in
+            let wk = o.only k lk in
+            subst (IsFlow p main) (sym (nth order k lk)) (f.placed.only (get_or order k 0) (omega (arith, wk, size)));
+        after = λ k giver lt gives.
+            let lk : k < length order = omega (arith, long, lt) in
+            let wk = o.only k lk in
+            let needed = f.whole (get_or order k 0) giver (omega (arith, wk, size)) (subst (λ q. Gives p main q giver) (nth order k lk) gives) in
+            λ i d less. stands order o k lk (get_or (needs_of p giver) i d) (needed i d less);
+      }
+    where
+      stands : (order : List ℕ) → IsOrdered g order → (k : ℕ) → k < length order → (q : Sites) → ((j : ℕ) × Contains (edges g (get_or order k 0)) j × (place_at places j ≡ q))
+          → IsAmongFirst p main (map (place_at places) order) k q
+      stands order o k lk q w =
+          let e = contains_at (edges g (get_or order k 0)) w.0 w.1 in
+          let v = o.after k e.0 lk e.1 in
+          let below = v.1 in
+          (v.0, below, nth order v.0 (omega (arith, below, lk)) ∙ ap (place_at places) (v.2 ∙ e.2) ∙ w.2)
+
+  module _ (graph : IsGraph g) where
+    leads : (a : ℕ) (rs : List ℕ) (b : ℕ) → a < length g → Follows g a rs b → Leads p main (place_at places a) (map (place_at places) rs) (place_at places b)
+    leads a [] b lt w = let size = f.size in f.sound a b (omega (arith, lt, size)) w
+    leads a (r ∷ rs) b lt w = let size = f.size in (f.sound a r (omega (arith, lt, size)) w.0, leads r rs b (edge_within g graph a r lt w.0) w.1)
+
+    loop_cycle : (xs : List ℕ) → IsLoop g xs → IsCycle p main (map (place_at places) xs)
+    loop_cycle [] l = l
+    loop_cycle (x ∷ xs) l = leads x xs x l.0 l.1
+
+    least_first : (xs : List ℕ) → IsLoop g xs → ((j : ℕ) → Contains xs j → get_or xs 0 0 ≤ j) → StartsWithLeast (map (place_at places) xs)
+    least_first [] l least = tt
+    least_first (x ∷ xs) l least = λ q w before.
+        let v = of_map (place_at places) xs q w in
+        let after : Contains (x ∷ xs) v.0 = (suc v.1.0, (let lt = v.1.1 in omega (arith, lt)), v.1.2) in
+        let le = least v.0 after in
+        let size = f.size in
+        let within = loop_within g graph (x ∷ xs) l v.0 after in
+        let back : IsBefore (place_at places v.0) (place_at places x) = subst (λ r. IsBefore r (place_at places x)) (sym v.2) before in
+        elim (cases_eq x v.0) [
+          | inl same ↦ not_both (place_at places x) (place_at places x)
+              (subst (λ k. IsBefore (place_at places k) (place_at places x)) (sym same) back) (subst (λ k. IsBefore (place_at places k) (place_at places x)) (sym same) back)
+          | inr other ↦ elim (nat_split x v.0) [
+            | inl lt ↦ not_both (place_at places x) (place_at places v.0) (f.placed.rising x v.0 lt (omega (arith, within, size))) back
+            | inr ge ↦ absurd (other (omega (arith, le, ge)))
+          ]
+        ]
+
+    pub turned_cycle : (old new : List ℕ) → IsLoop g old → AreTurned old new → IsCycleFromLeast p main (map (place_at places) new)
+    turned_cycle old new l t =
+        let again = subst (IsLoop g) (sym t.is) (turned_loop g graph t.front t.back (subst (IsLoop g) t.was l)) in
+        (loop_cycle new again, least_first new again t.least)
+
+pub turned_within : (g : Graph) → IsGraph g → (old new : List ℕ) → IsLoop g old → AreTurned old new → (k : ℕ) → Contains new k → k < length g
+turned_within g graph old new l t k w = loop_within g graph new (subst (IsLoop g) (sym t.is) (turned_loop g graph t.front t.back (subst (IsLoop g) t.was l))) k w
+
+pub loop_some : (g : Graph) (xs : List ℕ) → IsLoop g xs → 0 < length xs
+loop_some g [] l = absurd l
+loop_some g (x ∷ xs) l = omega arith
+
+-- numbers from the least on, and then those before it
+pub turned_from : (numbers new : List ℕ) (k : ℕ) → k < length numbers → ((j : ℕ) → j < length numbers → get_or numbers k 0 ≤ get_or numbers j 0) → new ≡ drop k numbers ++ take k numbers → AreTurned numbers new
+turned_from numbers new k lt least is =
+    let whole : numbers ≡ take k numbers ++ drop k numbers = sym (take-append-drop k numbers) in
+    let head : get_or new 0 0 ≡ get_or numbers k 0 =
+    ap (λ l. get_or l 0 0) is ∙ ap (λ l. get_or (l ++ take k numbers) 0 0) (turn numbers k (get_or numbers k 0) lt (get_or_default numbers k 0 (get_or numbers k 0) lt)) in
+    record {
+      front = take k numbers;
+      back = drop k numbers;
+      was = whole;
+      is = is;
+      least = λ j w.
+          let v = contains_at numbers j (elim (Contains-append_cases (drop k numbers) (take k numbers) j (subst (λ l. Contains l j) is w)) [
+            | inl back ↦ subst (λ l. Contains l j) (sym whole) (Contains-append_right (take k numbers) (drop k numbers) j back)
+            | inr front ↦ subst (λ l. Contains l j) (sym whole) (Contains-append_left (take k numbers) (drop k numbers) j front)
+          ]) in
+          let le = least v.0 v.1 in
+          let e = v.2 in
+          omega (arith, le, e, head);
+    }
+
+take_whole : (n : ℕ) (xs : List ℕ) → length xs ≤ n → take n xs ≡ xs
+take_whole zero [] le = refl
+take_whole zero (x ∷ xs) le = absurd (omega (arith, le))
+take_whole (suc n) [] le = refl
+take_whole (suc n) (x ∷ xs) le = ap (λ l. x ∷ l) (take_whole n xs (omega (arith, le)))
+
+pub rest_whole : (xs : List ℕ) (k : ℕ) → take (length xs - k) (drop k xs) ≡ drop k xs
+rest_whole xs k = take_whole (length xs - k) (drop k xs) (let n = length-drop k xs in omega (arith, n))

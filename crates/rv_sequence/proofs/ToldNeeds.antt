@@ -1,0 +1,59 @@
+-- Of an expression that is free or on a clock, what is needed by the clocks that operands tell is what is needed.
+use Rattle.std.proofs.Common.{◌≡◌, ℕ, ◌++◌, refl, Option}
+use Rattle.rv_tree.specs.Tree.{Tree, Node, Form, True, False, Number, Named, Not, Minus, Pre, Current, When, Binary, If, AtMostOne, Call, Trees, None, More, NodeTree}
+use Rattle.rv_tree.specs.Places.{site_of}
+use Rattle.rv_types.specs.declared.typed.Clock.TheVariants.{Base}
+use Rattle.rv_types.specs.Clocks.{seen, meet, pace, form_pace, pace_of_all}
+use Rattle.rv_types.specs.Instances.{clock_of, taken}
+use Rattle.rv_types.specs.ToldPaces.{IsTimed, told_clock}
+use Rattle.rv_types.proofs.ToldPaces.{seen_is, grounded_is, current_is, joined, operands, when_is, told_is}
+use Rattle.rv_instances.specs.Layouts.{Here}
+use Rattle.rv_instances.specs.NumberedNeeds.{listed, clock_number}
+use Rattle.rv_sequence.specs.Needed.{needed, form_needed, needed_by_all, form_needed_by, told_needed, told_needed_by_all}
+
+module _ (n : NodeTree) (h : Here) where
+  mutual
+    pub told_needs : (e : Tree) → IsTimed (pace n e) → told_needed n h e ≡ needed n h e
+    told_needs (Node at site form) t = form_told_needs site form t
+
+    form_told_needs : (site : Option ℕ) (form : Form) → IsTimed (form_pace n form) → form_needed_by n h (told_clock n) site form ≡ form_needed n h site form
+    form_told_needs site True t = refl
+    form_told_needs site False t = refl
+    form_told_needs site (Number v) t = refl
+    form_told_needs site (Named x) t = refl
+    form_told_needs site (Not e) t = seen_needs e t
+    form_told_needs site (Minus e) t = seen_needs e t
+    form_told_needs site (Pre e) t = refl
+    form_told_needs site (Current e) t =
+        let s = current_is n (seen (pace n e)) t in
+        let inside = seen_needs e s in
+        let clock = told_is n e (seen_is (pace n e) s).0 in
+        λ i. inside i ++ listed (clock_number h (taken Base (clock i)))
+    form_told_needs site (When e c) t =
+        let inside = seen_needs e (when_is n (seen (pace n e)) (site_of n c.text) t).0 in
+        λ i. inside i ++ listed (clock_number h (clock_of n c.text))
+    form_told_needs site (Binary o a b) t =
+        let s = operands o (seen (pace n a)) (seen (pace n b)) t in
+        let left = seen_needs a s.left in
+        let right = seen_needs b s.right in
+        λ i. left i ++ right i
+    form_told_needs site (If a b c) t =
+        let s = joined (seen (pace n a)) (meet (seen (pace n b)) (seen (pace n c))) t in
+        let r = joined (seen (pace n b)) (seen (pace n c)) s.right in
+        let condition = seen_needs a s.left in
+        let first = seen_needs b r.left in
+        let second = seen_needs c r.right in
+        λ i. condition i ++ (first i ++ second i)
+    form_told_needs site (AtMostOne es) t = all_told_needs es t
+    form_told_needs site (Call f es) t = refl
+
+    seen_needs : (e : Tree) → IsTimed (seen (pace n e)) → told_needed n h e ≡ needed n h e
+    seen_needs (Node at site form) t = form_told_needs site form (seen_is (form_pace n form) t).0
+
+    all_told_needs : (es : Trees) → IsTimed (pace_of_all n es) → told_needed_by_all n h es ≡ needed_by_all n h es
+    all_told_needs None t = refl
+    all_told_needs (More e es) t =
+        let s = joined (seen (pace n e)) (pace_of_all n es) t in
+        let one = seen_needs e s.left in
+        let rest = all_told_needs es s.right in
+        λ i. one i ++ rest i

@@ -1,0 +1,17 @@
+pub mod Summing
+pub mod Unrolling
+pub mod Measured
+pub mod Sized
+pub mod Inputs
+pub mod Remembered
+pub mod EachNode
+pub mod Main
+pub mod Tested
+pub mod Codes
+pub mod Varied
+pub mod TickLists
+pub mod TickPlaces
+pub mod TickLevels
+pub mod TickWalks
+pub mod TickSteps
+pub mod Limits

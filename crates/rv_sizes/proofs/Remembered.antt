@@ -1,0 +1,118 @@
+-- The memories of a node, found by the tables of its expressions.
+use Rattle.std.proofs.Common.{◌≡◌, ℕ, Bool, true, false, cond, ◌||◌, nat_eq, List, [], ◌∷◌, ◌++◌, map, flat_map, unwrap_or, Option, refl, sym, ◌∙◌, ap, ◌+◌, length, length-append}
+use Rattle.std.specs.Prelude.{slice_index_or}
+use Rattle.std.proofs.lemmas.List.{append_assoc}
+use Rattle.std.specs.List.{Contains, list_any}
+use Rattle.std.specs.Cmp.{nat_eq_equiv, partial_equiv_from_equiv}
+use Rattle.indexmap.specs.IndexSet.{insert_key}
+use Rattle.rv_tree.specs.Tree.{Tree, Node, Named, NodeTree, ProgramTree}
+use Rattle.rv_tree.specs.Places.{Identifier, flows, memory_site}
+use Rattle.rv_tree.specs.Delays.{Delay, node_delays}
+use Rattle.rv_types.specs.declared.typed.Kind.{Kind}
+use Rattle.rv_types.specs.declared.typed.Kind.TheVariants as kind
+use Rattle.rv_types.specs.declared.reading.ProgramTables.{ProgramTables}
+use Rattle.rv_types.specs.declared.reading.NodeTables.{NodeTables}
+use Rattle.rv_types.specs.Delayed.{delayed_kinds}
+use Rattle.rv_types.specs.Names.{texts, decls, decl_names, lefts, repeated, repeated_values, node_names, type_names, alias_use, constant_uses, names_in_node, name_faults, undefined_unless, flow_use, clock_use, equation_uses, assertion_uses}
+use Rattle.rv_types.specs.Readings.{view_of}
+use Rattle.rv_types.specs.Scopes.{node_scope}
+use Rattle.rv_types.specs.Tables.{scope_of}
+use Rattle.rv_types.specs.Types.{Scope, kind_of}
+use Rattle.rv_sizes.specs.declared.memories.MemoryRead.{MemoryRead}
+use Rattle.rv_types.specs.Variables.{is_in, memories_beside}
+use Rattle.rv_types.specs.Values.{operand_kind}
+use Rattle.rv_sizes.specs.Memories.{site_in, read_of, reads, sites_read, paired, with_site, kinds_beside, memory_kinds}
+use Rattle.rv_instances.proofs.Known.{split_nil, each_nil}
+
+-- a site is among some where one of them equals it
+pub any_in : (xs : List ℕ) (k : ℕ) → list_any (nat_eq k) xs ≡ is_in xs k
+any_in [] k = refl
+any_in (x ∷ xs) k = λ i. (partial_equiv_from_equiv nat_eq_equiv).symm k x i || any_in xs k i
+
+-- a site is inserted where it is not among them
+pub inserted_site : (xs : List ℕ) (k : ℕ) → insert_key nat_eq xs k ≡ with_site xs k
+inserted_site xs k = ap (λ b. cond b xs (xs ++ k ∷ [])) (any_in xs k)
+
+or_assoc : (a b c : Bool) → (a || (b || c)) ≡ ((a || b) || c)
+or_assoc true b c = refl
+or_assoc false b c = refl
+
+in_append : (xs ys : List ℕ) (k : ℕ) → is_in (xs ++ ys) k ≡ (is_in xs k || is_in ys k)
+in_append [] ys k = refl
+in_append (x ∷ xs) ys k = ap (λ c. nat_eq x k || c) (in_append xs ys k) ∙ or_assoc (nat_eq x k) (is_in xs k) (is_in ys k)
+
+swapped : (a b : Bool) → (a || (b || false)) ≡ (b || a)
+swapped true true = refl
+swapped true false = refl
+swapped false true = refl
+swapped false false = refl
+
+-- the site of a memory, by the names of the flows
+site_same : (n : NodeTree) (site : Option ℕ) (e : Tree) → site_in (flows n) site e ≡ memory_site n site e
+site_same n site (Node at s (Named x)) = refl
+site_same n site (Node at s form) = refl
+
+module _ (p : ProgramTree) (n : NodeTree) (s : Scope) (names : List Identifier) (scope : s ≡ node_scope p n) (flow : names ≡ flows n) where
+  read_site : (d : Delay) → (read_of s names d).site ≡ memory_site n d.site d.operand
+  read_site d = ap (λ (xs : List Identifier). site_in xs d.site d.operand) flow ∙ site_same n d.site d.operand
+
+  read_kind : (d : Delay) → (read_of s names d).kind ≡ operand_kind p n d.operand
+  read_kind d = ap (λ (c : Scope). unwrap_or (kind_of c d.operand) kind.Bool) scope
+
+  -- what is kept of the reads are the types of the memories
+  beside_same : (ds : List Delay) (seen other : List ℕ) → ((k : ℕ) → is_in seen k ≡ is_in other k) → kinds_beside seen (map (read_of s names) ds) ≡ map (λ (d : Delay). operand_kind p n d.operand) (memories_beside n other ds)
+  beside_same [] seen other same = refl
+  beside_same (d ∷ ds) seen other same =
+      let r = read_of s names d in
+      let m = memory_site n d.site d.operand in
+      tested (is_in seen r.site) (is_in other m) (same r.site ∙ ap (is_in other) (read_site d)) r.site m (read_site d) r.kind (read_kind d) (beside_same ds)
+    where
+      tested : (a b : Bool) → a ≡ b → (k m : ℕ) → k ≡ m → (j : Kind) → j ≡ operand_kind p n d.operand
+          → ((seen other : List ℕ) → ((k : ℕ) → is_in seen k ≡ is_in other k) → kinds_beside seen (map (read_of s names) ds) ≡ map (λ (d : Delay). operand_kind p n d.operand) (memories_beside n other ds))
+          → (cond a [] (j ∷ []) ++ kinds_beside (cond a seen (seen ++ k ∷ [])) (map (read_of s names) ds))
+          ≡ map (λ (d : Delay). operand_kind p n d.operand) (cond b (memories_beside n other ds) (d ∷ memories_beside n (m ∷ other) ds))
+      tested true true e k m at j is more = more seen other same
+      tested false false e k m at j is more =
+          let both : (i : ℕ) → is_in (seen ++ k ∷ []) i ≡ is_in (m ∷ other) i =
+          λ i. in_append seen (k ∷ []) i ∙ (λ t. same i t || (nat_eq (at t) i || false)) ∙ swapped (is_in other i) (nat_eq m i) in
+          λ t. is t ∷ more (seen ++ k ∷ []) (m ∷ other) both t
+      tested true false e k m at j is more = absurd (let b : ⊥ = cc in b)
+      tested false true e k m at j is more = absurd (let b : ⊥ = cc in b)
+
+-- sites and types of the same reads, put together
+paired_from : (s : Scope) (names : List Identifier) (ks : List Kind) (ds : List Delay)
+    → paired (ks ++ delayed_kinds s ds) (length ks) (sites_read names ds) ≡ map (read_of s names) ds
+paired_from s names ks [] = refl
+paired_from s names ks (d ∷ ds) =
+    let k = unwrap_or (kind_of s d.operand) kind.Bool in
+    let here : slice_index_or (ks ++ k ∷ delayed_kinds s ds) (length ks) kind.Bool ≡ k = index_here ks k (delayed_kinds s ds) in
+    let on : paired (ks ++ k ∷ delayed_kinds s ds) (length ks + 1) (sites_read names ds) ≡ map (read_of s names) ds =
+    (λ i. paired (sym (append_assoc ks (k ∷ []) (delayed_kinds s ds)) i) (sym (length-append ks (k ∷ [])) i) (sites_read names ds)) ∙ paired_from s names (ks ++ k ∷ []) ds in
+    λ i. record { site = site_in names d.site d.operand; kind = here i } ∷ on i
+  where
+    index_here : (xs : List Kind) (x : Kind) (ys : List Kind) → slice_index_or (xs ++ x ∷ ys) (length xs) kind.Bool ≡ x
+    index_here [] x ys = refl
+    index_here (y ∷ xs) x ys = index_here xs x ys
+
+pub paired_reads : (t : ProgramTables) (own : NodeTables) (ds : List Delay)
+    → paired (delayed_kinds (scope_of (view_of t own)) ds) 0 (sites_read (texts own.flows) ds) ≡ reads t own ds
+paired_reads t own ds = paired_from (scope_of (view_of t own)) (texts own.flows) [] ds
+
+-- the types of the memories of a node
+pub remembered : (p : ProgramTree) (n : NodeTree) (t : ProgramTables) (own : NodeTables) (found : List MemoryRead) → scope_of (view_of t own) ≡ node_scope p n → texts own.flows ≡ flows n
+    → found ≡ reads t own (node_delays n) → kinds_beside [] found ≡ memory_kinds p n
+remembered p n t own found scope flow is =
+    ap (kinds_beside []) is ∙ beside_same p n (scope_of (view_of t own)) (texts own.flows) scope flow (node_delays n) [] [] (λ k. refl)
+
+-- The flows of a node have different names.
+pub flows_once : (p : ProgramTree) → name_faults p ≡ [] → (n : NodeTree) → Contains p.nodes n → repeated [] (decl_names (decls n)) ≡ []
+flows_once p named n w =
+    let a = split_nil (repeated [] (node_names p) ++ (repeated [] (type_names p) ++ repeated_values p))
+    ((flat_map (alias_use p) p.types ++ flat_map (constant_uses p) p.constants) ++ flat_map (names_in_node p) p.nodes) named in
+    let b = split_nil (flat_map (alias_use p) p.types ++ flat_map (constant_uses p) p.constants) (flat_map (names_in_node p) p.nodes) a.1 in
+    let all = each_nil (names_in_node p) p.nodes b.1 n w in
+    let c = split_nil (repeated [] (decl_names (decls n)) ++ repeated (decl_names n.inputs) (lefts n))
+    (flat_map (undefined_unless (lefts n)) (decl_names (n.outputs ++ n.locals))
+    ++ ((flat_map (flow_use p) (decls n) ++ flat_map (clock_use n) n.locals)
+    ++ (flat_map (equation_uses p n) n.equations ++ flat_map (assertion_uses p n) n.assertions))) all in
+    (split_nil (repeated [] (decl_names (decls n))) (repeated (decl_names n.inputs) (lefts n)) c.0).0

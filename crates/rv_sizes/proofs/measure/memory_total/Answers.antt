@@ -1,0 +1,29 @@
+use Rattle.std.proofs.Common.{◌≡◌, length, map, sym, ◌∙◌, ap, subst, ℕ}
+use Rattle.rv_tree.specs.Tree.{NodeTree, program_tree}
+use Rattle.rv_instances.specs.Counts.{integer_memories}
+use Rattle.rv_types.specs.Variables.{over_instances}
+use Rattle.rv_sizes.specs.Totals.{AreCapped, total_at}
+use Rattle.rv_calls.specs.Callings.{callings_of}
+use Rattle.rv_types.specs.Instances.{name_at}
+use Rattle.rv_sizes.specs.Capped.{capped}
+use Rattle.rv_instances.proofs.Lists.{length_map, if_ok}
+use Rattle.rv_sizes.proofs.Measured.{numbers_capped, sum_measured, integers_measured}
+use Rattle.rv_sizes.proofs.measure.memory_total.Goals as goal
+
+pub total_of-requires : goal.total_of-requires
+total_of-requires c =
+    let p = program_tree c.args.p.now in
+    let own : c.in_ok-own.own ≡ map (λ (n : NodeTree). capped (integer_memories p n)) p.nodes = integers_measured p c.in_ok-kinds.kinds c.in_ok-own.own c.in_ok-kinds.ensures c.in_ok-own.ensures in
+    record {
+      named = c.requires.named;
+      nodes = c.requires.nodes;
+      main = c.requires.main;
+      size = ap length own ∙ length_map (λ (n : NodeTree). capped (integer_memories p n)) p.nodes;
+      own = subst AreCapped (sym own) (numbers_capped (integer_memories p) p.nodes);
+    }
+
+pub returns : goal.returns
+returns c =
+    let p = program_tree c.args.p.now in
+    if_ok c.total_of.result (λ (sum : ℕ). sum ≡ capped (total_at c.in_ok-own.own (callings_of p) (length p.nodes) c.args.main)) (λ (sum : ℕ). sum ≡ capped (over_instances p (name_at p c.args.main) (integer_memories p)))
+    (λ sum is. sum_measured p c.requires.named c.args.main c.requires.main (integer_memories p) c.in_ok-own.own sum (integers_measured p c.in_ok-kinds.kinds c.in_ok-own.own c.in_ok-kinds.ensures c.in_ok-own.ensures) is) c.total_of.ensures

@@ -1,0 +1,13 @@
+use Rattle.std.proofs.Common.{◌≡◌, ◌+◌, ◌≤◌, map, drop}
+use Rattle.rv_tree.specs.Tree.{AssertionTree, assertion_tree}
+use Rattle.rv_instances.specs.Counts.{size}
+use Rattle.rv_types.specs.Variables.{total}
+use Rattle.rv_tree.specs.Limits.{heaviest}
+use Rattle.rv_sizes.specs.Capped.{capped}
+use Rattle.rv_sizes.proofs.sizes.size_of_assertions.Given as goal
+
+abbrev pub invariant-loop-assertion : goal.invariant-loop-assertion
+invariant-loop-assertion l = record {
+  bound : l.sum ≤ heaviest;
+  sum : capped (l.sum + total (λ (a : AssertionTree). size a.body) (map assertion_tree (drop l.assertion-index l.assertions))) ≡ capped (total (λ (a : AssertionTree). size a.body) (map assertion_tree l.assertions));
+}
