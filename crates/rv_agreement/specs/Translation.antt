@@ -17,7 +17,7 @@ use Rattle.rv_types.specs.Instances.{Body, Output, Instance, place, absolute, cl
 use Rattle.rv_types.specs.Needs.{Giver, Given, Of, Gives, IsSequence}
 use Rattle.rv_types.specs.Lists.{IsAny, AreMemories, AreTicks, delay_place}
 use Rattle.rv_meaning.specs.Meaning.{kept_place}
-use Rattle.rv_agreement.specs.Trees.{FlatTree, TreeForm, FlatTrees, Item, System, Kept, nth_item, memory_items, memory_places}
+use Rattle.rv_agreement.specs.Trees.{FlatTree, TreeForm, FlatTrees, Item, System, nth_item, memory_items, memory_places}
 use Rattle.rv_agreement.specs.Trees as flat
 use Rattle.rv_agreement.specs.Programs.{operator_place, coefficient, operation, Compared}
 use Rattle.rv_agreement.specs.Valuations.{Comparison}

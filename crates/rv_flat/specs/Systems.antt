@@ -13,7 +13,7 @@ use Rattle.rv_flat.specs.declared.parts.FlatInput.{FlatInput}
 use Rattle.rv_flat.specs.declared.parts.FlatMemory.{FlatMemory}
 use Rattle.rv_flat.specs.Inlined.{inlined, table_of, tree_among}
 use Rattle.rv_flat.specs.Lists.{tick_places}
-use Rattle.rv_flat.specs.RawTree.{RawTree, Node, RawForm, Constant, Flow, If, raw_tree}
+use Rattle.rv_flat.specs.RawTree.{RawTree, Node, Constant, Flow, If, raw_tree}
 
 -- the places of some flows, and of some memories
 abbrev pub places_of : List FlatFlow → List Sites

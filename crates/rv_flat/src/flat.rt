@@ -1,6 +1,6 @@
 //! The flat system: the flows of a program by numbers, each given by an expression over earlier ones.
 
-ghost use Rattle.std.specs.Prelude.{◌≡◌, ◌<◌, ◌≤◌, length, map, IsTrue, Option, slice_get};
+ghost use Rattle.std.specs.Prelude.{◌<◌, ◌≤◌, length, map, IsTrue, Option, slice_get};
 ghost use Rattle.rv_tree.specs.Places.{Sites, is_same};
 ghost use Rattle.rv_types.specs.declared.typed.Kind.TheVariants as kind;
 ghost use Rattle.rv_agreement.specs.Agreement.{AreApart};

@@ -2,7 +2,6 @@
 use Rattle.std.specs.Prelude.{◌≡◌, ℕ, ◌+◌, ◌<◌, ℤ, pos, negsuc, Bool, true, false, cond, unwrap_or, List, [], ◌∷◌, ◌++◌, map, length, Option, Some, slice_get, slice_index_or}
 use Rattle.std.specs.Prelude.{None as Nothing}
 use Rattle.std.specs.List.{Contains}
-use Rattle.std.specs.Option.{option_map}
 use Rattle.rv_base.specs.declared.value.Value.TheVariants.{Flag}
 use Rattle.rv_base.specs.declared.value.Value.TheVariants as value
 use Rattle.rv_tree.specs.declared.tree.Op.{Op}

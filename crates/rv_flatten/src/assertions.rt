@@ -4,7 +4,7 @@ ghost use Rattle.std.specs.Prelude.{◌≡◌, ◌<◌, ◌++◌, ◌∷◌, [],
 ghost use Rattle.std.specs.List.{Contains};
 ghost use Rattle.rv_tree.specs.Tree.{assertion_tree};
 ghost use Rattle.rv_types.specs.Instances.{Instance, IsInstance};
-ghost use Rattle.rv_instances.specs.Layouts.{IsNumberOf, node_at};
+ghost use Rattle.rv_instances.specs.Layouts.{IsNumberOf};
 ghost use Rattle.rv_flatten.specs.Building.{AreAsserted, IsFoundOf, IsGiven, main_given, numbers_of, program_given};
 ghost use Rattle.rv_flat.specs.RawTree.{raw_tree};
 ghost use Rattle.rv_flatten.specs.Readings.{assertion_of};

@@ -3,17 +3,11 @@
 ghost use Rattle.std.specs.Prelude.{◌≡◌, ◌≤◌, [], IfOk};
 ghost use Rattle.rv_tree.specs.Tree.{program_tree};
 ghost use Rattle.rv_types.specs.Instances.{name_at};
-ghost use Rattle.rv_types.specs.Kinds.{flow_kinds};
 ghost use Rattle.rv_types.specs.Scopes.{constant_values, observer_faults};
 ghost use Rattle.rv_types.specs.Settled.{node_number};
-ghost use Rattle.rv_types.specs.Readings.{AreTables};
-ghost use Rattle.rv_types.specs.Lists.{sites_of};
-ghost use Rattle.rv_types.specs.Needs.{IsSequence};
 ghost use Rattle.rv_instances.specs.AllInstances.{AreCounted};
-ghost use Rattle.rv_instances.specs.Expanded.{IsKnown, program_of, main_of};
 ghost use Rattle.rv_instances.specs.Fitting.{AreFew, Fits};
 ghost use Rattle.rv_instances.specs.Counts.{expanded};
-ghost use Rattle.rv_instances.specs.Weights.{AreLight};
 ghost use Rattle.rv_flatten.specs.Building.{IsFoundOf, IsGiven, main_given, program_given};
 ghost use Rattle.rv_flat.specs.FlatOf.{IsFlatOf};
 

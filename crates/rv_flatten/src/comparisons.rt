@@ -176,7 +176,7 @@ fn gather_assertions(
     Ok(())
 }
 
-/// Adds those of an expression. It calls itself for each operand, so as deep as the tree is: 20,101 levels at most.
+/// Adds those of an expression. It calls itself for each operand, so as deep as the tree is: 20,301 levels at most.
 #[cycle(gather)]
 fn gather(reader: &NodeReader, e: &Expr, found: &mut Many<Tested>) -> Result<(), Memory>
     ensures { OnOk result (found.new ≡ found.old ++ tests_by (is_told_test (scope_read reader.now)) (tree_of e.now)) }

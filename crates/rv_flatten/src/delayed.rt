@@ -56,7 +56,7 @@ fn gather_assertions(
 }
 
 /// Adds those of an expression, and answers its pace. It calls itself for each operand, so as deep as the tree is:
-/// 20,101 levels at most, all but 200 of them left operands and operands of `when`. So little else stands in the frame
+/// 20,301 levels at most, all but 200 of them left operands and operands of `when`. So little else stands in the frame
 /// of this function.
 #[cycle(gather)]
 fn gather(clocks: &NodeClocks, e: &Expr, found: &mut Many<Clock>) -> Result<Pace, Memory>

@@ -1,6 +1,6 @@
 //! Expressions of instances as flat ones.
 
-ghost use Rattle.std.specs.Prelude.{◌≡◌, false, ◌++◌, ◌∷◌, [], ℕ, negsuc, pos, map, min, slice_index_or, Some, IfOk, IsSome, OnOk};
+ghost use Rattle.std.specs.Prelude.{◌≡◌, false, ◌++◌, ◌∷◌, [], negsuc, pos, map, min, slice_index_or, Some, IfOk, IsSome, OnOk};
 ghost use Rattle.std.specs.List.{Contains};
 ghost use Rattle.rv_tree.specs.Tree as tree;
 ghost use Rattle.rv_tree.specs.Tree.{Tree, tree_of, trees};

@@ -297,7 +297,7 @@ fn gather_assertions<'a>(
     Ok(())
 }
 
-/// Adds those of an expression. It calls itself for each operand, so as deep as the tree is: 20,101 levels at most.
+/// Adds those of an expression. It calls itself for each operand, so as deep as the tree is: 20,301 levels at most.
 #[cycle(gather)]
 fn gather<'a>(
     reader: &NodeReader<'a, '_>,

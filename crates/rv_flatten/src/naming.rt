@@ -1,6 +1,6 @@
 //! The labels of a program's enumerations, and the inputs of its main node.
 
-ghost use Rattle.std.specs.Prelude.{◌≡◌, ◌≤◌, length, map, take, IfOk, OnOk, ◌++◌, ◌∷◌, []};
+ghost use Rattle.std.specs.Prelude.{◌≡◌, ◌≤◌, length, map, take, IfOk};
 ghost use Rattle.rv_tree.specs.Places.{names};
 ghost use Rattle.rv_types.specs.Names.{labels_of as declared_labels, texts};
 

@@ -8,7 +8,7 @@ ghost use Rattle.rv_types.specs.Lists.{AreRising, AreTicks};
 ghost use Rattle.rv_instances.specs.Expanded.{IsKnown, program_of, main_of};
 ghost use Rattle.rv_instances.specs.Flowing.{place_at};
 ghost use Rattle.rv_instances.specs.Layouts.{IsLayout, IsWithin, all_places};
-ghost use Rattle.rv_instances.specs.NumberedNeeds.{IsReader, clock_number, listed, numbers_of};
+ghost use Rattle.rv_instances.specs.NumberedNeeds.{IsReader, listed, numbers_of};
 ghost use Rattle.rv_flatten.specs.Arrows.{arrow_numbers, arrow_numbers_to, marked_from, numbers_of_clocks, with_marks};
 
 use crate::arrows::arrow_clocks;

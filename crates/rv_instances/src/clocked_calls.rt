@@ -80,7 +80,7 @@ fn gather_assertions<'a>(
 }
 
 /// Adds the calls of an expression, each before those in its arguments, and answers its pace. Each expression is looked at
-/// once. It calls itself for each operand, so as deep as the tree is: 20,101 levels at most, all but 200 of them left operands
+/// once. It calls itself for each operand, so as deep as the tree is: 20,301 levels at most, all but 200 of them left operands
 /// and operands of `when`. So little else stands in the frame of this function.
 #[cycle(gather)]
 fn gather<'a>(

@@ -1,5 +1,5 @@
 -- The states and instants of a run.
-use Rattle.std.specs.Prelude.{◌≡◌, ℕ, suc, ◌+◌, ◌<◌, List, [], length, Option, slice_index_or}
+use Rattle.std.specs.Prelude.{◌≡◌, ℕ, ◌+◌, ◌<◌, List, length, Option, slice_index_or}
 use Rattle.std.specs.FinMap as map
 use Rattle.std.specs.List.{Contains}
 use Rattle.rv_base.specs.declared.value.Value.{Value}
@@ -9,11 +9,11 @@ use Rattle.rv_tree.specs.Delays.{Delay, node_delays}
 use Rattle.rv_types.specs.declared.typed.Kind.{Kind}
 use Rattle.rv_types.specs.declared.typed.Clock.TheVariants.{Base}
 use Rattle.rv_types.specs.Kinds.{flow_kind}
-use Rattle.rv_types.specs.Values.{HasKind, operand_kind}
+use Rattle.rv_types.specs.Values.{HasKind}
 use Rattle.rv_types.specs.Instances.{Instance, place, clock_in, IsInstance}
 use Rattle.std.specs.Prelude.{Some}
 use Rattle.rv_meaning.specs.Meaning.{Cells, was_there, last_before, kept_place, content}
-use Rattle.rv_meaning.specs.Runs.{Instant, History, cell}
+use Rattle.rv_meaning.specs.Runs.{Instant, cell}
 use Rattle.rv_meaning.specs.Instants.{State, IsInstant, IsNext, IsStart}
 
 -- what the memory of a `pre` or `current` of an instance holds before the instant t of a history

@@ -15,7 +15,7 @@ use Rattle.rv_types.specs.declared.typed.Clock.{Clock}
 use Rattle.rv_types.specs.declared.typed.Clock.TheVariants.{Base}
 use Rattle.rv_types.specs.Kinds.{decl_kinds}
 use Rattle.rv_types.specs.Scopes.{constant_value}
-use Rattle.rv_types.specs.Values.{HasKind, operand_kind}
+use Rattle.rv_types.specs.Values.{HasKind}
 use Rattle.rv_types.specs.Instances.{CallTree, Right, Body, Output, IsRight, IsArgument, calls, clock_of, Instance, place, absolute, clock_in, clock_of_arguments, output_place, node_of, IsInstance, IsFlow}
 use Rattle.rv_meaning.specs.Meaning.{is_true, number, held, is_on, operate, kept_place}
 use Rattle.rv_meaning.specs.Runs.{Instant, cell, observer_place}

@@ -112,7 +112,7 @@ fn gather_assertions(
     Ok(())
 }
 
-/// Adds the calls of an expression. It calls itself for each operand, so as deep as the tree is: 20,101 levels at most.
+/// Adds the calls of an expression. It calls itself for each operand, so as deep as the tree is: 20,301 levels at most.
 #[cycle(gather)]
 fn gather(e: &Expr, names: &Numbers, found: &mut Many<Calling>) -> Result<(), Memory>
     ensures { OnOk result (found.new ≡ found.old ++ callings names.now (calls_in (tree_of e.now))) }

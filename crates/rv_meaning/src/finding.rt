@@ -82,7 +82,7 @@ fn callee_in_assertions<'a>(assertions: &'a [Assertion], site: u32) -> Option<&'
     None
 }
 
-/// The same in an expression. It calls itself for each operand, so as deep as the tree is: 20,101 levels at most.
+/// The same in an expression. It calls itself for each operand, so as deep as the tree is: 20,301 levels at most.
 #[cycle(callee)]
 fn callee_in<'a>(e: &'a Expr, site: u32) -> Option<&'a Text>
     ensures { option_copied result ≡ callee_within (tree_of e.now) site }
@@ -163,7 +163,7 @@ fn operand_in_assertions<'a>(assertions: &'a [Assertion], site: u32) -> Option<&
     None
 }
 
-/// The same in an expression. It calls itself for each operand, so as deep as the tree is: 20,101 levels at most.
+/// The same in an expression. It calls itself for each operand, so as deep as the tree is: 20,301 levels at most.
 #[cycle(operand)]
 fn operand_in<'a>(e: &'a Expr, site: u32) -> Option<&'a Expr>
     ensures { option_map tree_of (option_copied result) ≡ operand_within (tree_of e.now) site }

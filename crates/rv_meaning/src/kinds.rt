@@ -1,10 +1,10 @@
 //! The type of what stands at a place.
 
-ghost use Rattle.std.specs.Prelude.{◌≡◌, ◌≤◌, map, reverse, unwrap_or, length, slice_get, IfSome, IfNone};
+ghost use Rattle.std.specs.Prelude.{◌≡◌, ◌≤◌, map, reverse, length, slice_get, IfSome, IfNone};
 ghost use Rattle.rv_tree.specs.Bounded.{IsBounded, most};
 ghost use Rattle.rv_tree.specs.SourceTrees.{IsSourceTree};
 ghost use Rattle.rv_tree.specs.Places.{index_of, names, site_of};
-ghost use Rattle.rv_tree.specs.Tree.{ProgramTree, tree_of, node_tree, constant_tree, program_tree};
+ghost use Rattle.rv_tree.specs.Tree.{tree_of, node_tree, constant_tree, program_tree};
 ghost use Rattle.rv_types.specs.declared.typed.Kind.{Kind as KindModel};
 ghost use Rattle.rv_types.specs.declared.typed.Kind.TheVariants as kind;
 ghost use Rattle.rv_types.specs.Instances.{name_at};
@@ -29,7 +29,7 @@ enum Teller<'a> {
 }
 
 /// What tells the type of an expression: its operand with the same type, where it has one. It calls itself for that, so
-/// as deep as the tree is: 20,101 levels at most.
+/// as deep as the tree is: 20,301 levels at most.
 fn teller_of<'a>(e: &'a Expr) -> Teller<'a>
     ensures { telling_of result ≡ telling (tree_of e.now) }
 {

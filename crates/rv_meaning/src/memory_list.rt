@@ -1,10 +1,10 @@
 //! The places of memories.
 
-ghost use Rattle.std.specs.Prelude.{◌≡◌, ◌≤◌, ◌<◌, ◌++◌, ◌∷◌, [], ℕ, List, map, flat_map, length, slice_index_or, IfOk, OnOk};
+ghost use Rattle.std.specs.Prelude.{◌≡◌, ◌≤◌, ◌<◌, ◌++◌, ◌∷◌, [], ℕ, map, flat_map, length, slice_index_or, IfOk, OnOk};
 ghost use Rattle.std.specs.List.{Contains};
 ghost use Rattle.std.specs.Cmp.Lexicographic.{slice_cmp};
 ghost use Rattle.std.specs.Ordering.{nat_cmp};
-ghost use Rattle.rv_tree.specs.Bounded.{most, IsBounded};
+ghost use Rattle.rv_tree.specs.Bounded.{most};
 ghost use Rattle.rv_tree.specs.SourceTrees.{IsSourceTree};
 ghost use Rattle.rv_tree.specs.Delays.{delays, delays_of_all, delays_in_equations, delays_in_assertions, node_delays};
 ghost use Rattle.rv_tree.specs.Places.{flows};
@@ -193,7 +193,7 @@ fn gather_assertions(
     Ok(())
 }
 
-/// Adds what an expression reads. It calls itself for each operand, so as deep as the tree is: 20,101 levels at most.
+/// Adds what an expression reads. It calls itself for each operand, so as deep as the tree is: 20,301 levels at most.
 #[cycle(gather)]
 fn gather(e: &Expr, flows: &Numbers, sites: &mut Many<u32>) -> Result<(), Memory>
     ensures { OnOk result (sites.new ≡ sites.old ++ sites_by flows.now (delays (tree_of e.now))) }

@@ -1,6 +1,6 @@
 //! Names by their numbers.
 
-ghost use Rattle.std.specs.Prelude.{◌≡◌, ◌≤◌, ◌+◌, ◌^◌, ◌<◌, ℕ, List, length, map, OnOk, IfOk};
+ghost use Rattle.std.specs.Prelude.{◌≡◌, ◌≤◌, ◌+◌, ◌<◌, ℕ, List, length, map, OnOk, IfOk};
 ghost use Rattle.std.specs.HashMap.{get};
 ghost use Rattle.rv_tree.specs.Bounded.{most};
 ghost use Rattle.rv_tree.specs.Places.{flows, is_same, names};

@@ -5,7 +5,7 @@
 //! with `parse` below, then specs/ProgramText.antt for the grammar.
 #![tactic(auto)]
 
-ghost use Rattle.std.specs.Prelude.{true, ◌≡◌, ◌⊎◌, ◌<◌, ◌≤◌, [], ◌∷◌, ◌++◌, ℕ, List, length, slice_index_or, IfOk, IfErr};
+ghost use Rattle.std.specs.Prelude.{true, ◌≡◌, ◌⊎◌, ◌<◌, ◌≤◌, [], ◌∷◌, ◌++◌, ℕ, List, length, IfOk, IfErr};
 ghost use Rattle.std.specs.List.{All, Contains};
 ghost use Rattle.rv_syntax.specs.Correct.{Finds, Explains, Refuses};
 ghost use Rattle.rv_tree.specs.Delays.{IsNumbered};

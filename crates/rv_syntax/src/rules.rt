@@ -1,6 +1,6 @@
 //! Reading the rules of a program's text.
 
-ghost use Rattle.std.specs.Prelude.{⊤, ◌≡◌, ◌++◌, [], ◌∷◌, List, Option, None, IfOk, OnOk, map};
+ghost use Rattle.std.specs.Prelude.{◌≡◌, ◌++◌, [], ◌∷◌, List, Option, None, IfOk, OnOk, map};
 ghost use Rattle.rv_syntax.specs.Parse.{maybe, starts};
 ghost use Rattle.rv_syntax.specs.Marks.{is_mark};
 ghost use Rattle.rv_syntax.specs.ProgramText.{all_flows, joined};
@@ -8,7 +8,7 @@ ghost use Rattle.rv_tree.specs.Groups.{flows_of};
 ghost use Rattle.rv_tree.specs.declared.tree.Decl.{Decl as DeclModel};
 ghost use Rattle.rv_syntax.specs.Reading as spec;
 ghost use Rattle.rv_syntax.specs.Reads.{Reads, same};
-ghost use Rattle.rv_tree.specs.Tree.{assertion_tree, constant_tree, equation_tree, node_tree, program_tree, tree_of};
+ghost use Rattle.rv_tree.specs.Tree.{constant_tree, node_tree, program_tree, tree_of};
 
 use crate::fault::Stop;
 use crate::parser::Parser;

@@ -66,7 +66,7 @@ fn collect_operator(op: Op, at: u32, offsets: &mut Vec<u32>) -> Result<(), Alloc
 }
 
 /// Adds the offset of each part of an expression that has a site. It calls itself for each operand, so as deep as the
-/// tree is: 20,101 levels at most, where each bracket begins a chain of left operands.
+/// tree is: 20,301 levels at most, where each bracket begins a chain of left operands.
 #[cycle(collect)]
 fn collect(expr: &Expr, offsets: &mut Vec<u32>) -> Result<(), AllocError>
     ensures { OnOk result (offsets.new.items ≡ offsets.old.items ++ spec.offsets (tree_of expr.now)) }

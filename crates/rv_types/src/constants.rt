@@ -1,6 +1,6 @@
 //! The types and values of constants, from the first to the last.
 
-ghost use Rattle.std.specs.Prelude.{◌≡◌, ◌≤◌, ◌++◌, [], ◌∷◌, reverse, nat_abs, IfOk, List};
+ghost use Rattle.std.specs.Prelude.{◌≡◌, ◌≤◌, ◌++◌, [], ◌∷◌, reverse, nat_abs, IfOk};
 ghost use Rattle.rv_tree.specs.Tree.{constant_tree, program_tree, tree_of};
 ghost use Rattle.rv_types.specs.Constants.{whole_in, value_of};
 ghost use Rattle.rv_types.specs.ConstantTables.{AreTablesOf, as_declared_by, declared_clash, constant_types_by};
@@ -10,7 +10,6 @@ ghost use Rattle.rv_types.specs.Tables.{entry_in, scope_of, value_in};
 ghost use Rattle.rv_types.specs.Types.{kind_of};
 ghost use Rattle.rv_tree.specs.Limits.{too_heavy};
 ghost use Rattle.rv_types.specs.ValueTables.{known_in, AreSmall};
-ghost use Rattle.rv_types.specs.declared.fault.NameFault.{NameFault as AnyFault};
 
 use crate::fault::NameFault;
 use crate::first::sooner_of;

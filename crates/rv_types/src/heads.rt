@@ -13,7 +13,7 @@ use rv_base::Text;
 use rv_tree::{Expr, ExprForm, Op};
 
 /// The type that the head of an expression tells. It calls itself for the left operand of `->`, the first part of `if`, and
-/// the operand of `pre`, `current` and `when`, so as deep as the tree is: 20,101 levels at most. Of nested comparisons each
+/// the operand of `pre`, `current` and `when`, so as deep as the tree is: 20,301 levels at most. Of nested comparisons each
 /// is a head that tells at once, so no expression is looked at for two of them.
 pub fn head(view: &View, e: &Expr) -> Kind
     ensures { result ≡ head_kind (scope_of view.now) (tree_of e.now) }

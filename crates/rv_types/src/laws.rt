@@ -1,6 +1,6 @@
 //! What follows from the rules alone.
 
-ghost use Rattle.std.specs.Prelude.{◌≡◌, ◌↔◌, ◌⊎◌, ℕ, suc, List, length, IsTrue};
+ghost use Rattle.std.specs.Prelude.{◌≡◌, ◌↔◌, ◌⊎◌, suc, length, IsTrue};
 ghost use Rattle.rv_tree.specs.SourceTrees.{IsSourceTree};
 ghost use Rattle.rv_tree.specs.Places.{Identifier};
 ghost use Rattle.rv_tree.specs.Tree.{NodeTree, ProgramTree};

@@ -1,6 +1,6 @@
 //! The rules of types of equations, assertions and declared clocks.
 
-ghost use Rattle.std.specs.Prelude.{◌≡◌, ◌+◌, ◌<◌, ◌&&◌, ℕ, not, map, flat_map, ◌++◌, ◌∷◌, [], length, slice_get, nat_le};
+ghost use Rattle.std.specs.Prelude.{◌≡◌, ◌+◌, ◌<◌, ◌&&◌, ℕ, map, flat_map, ◌∷◌, [], length, slice_get, nat_le};
 ghost use Rattle.rv_tree.specs.declared.tree.Decl.{Decl as AnyDecl};
 ghost use Rattle.rv_tree.specs.Tree.{tree_of, trees, equation_tree, assertion_tree, node_tree};
 ghost use Rattle.rv_types.specs.Earliest.{first};

@@ -1,10 +1,10 @@
 //! The spaces of names of a whole program.
 
-ghost use Rattle.std.specs.Prelude.{◌≡◌, ◌++◌, ◌∷◌, [], IfOk, map, flat_map, cond};
+ghost use Rattle.std.specs.Prelude.{◌≡◌, ◌∷◌, [], IfOk, map, flat_map, cond};
 ghost use Rattle.rv_tree.specs.Tree.{program_tree, constant_tree, node_tree};
 ghost use Rattle.rv_types.specs.declared.fault.NameFault.TheVariants.{DefinedTwice};
-ghost use Rattle.rv_types.specs.Names.{is_declared, labels_of, decl_names, repeated, repeated_after, node_names, type_names, constant_names, label_names, repeated_values};
-ghost use Rattle.rv_types.specs.Firsts.{with_name, firsts_after, firsts};
+ghost use Rattle.rv_types.specs.Names.{is_declared, labels_of, decl_names, repeated, repeated_after};
+ghost use Rattle.rv_types.specs.Firsts.{with_name, firsts_after};
 ghost use Rattle.rv_types.specs.Known.{first_spaces, second_declarations};
 ghost use Rattle.rv_types.specs.Earliest.{first};
 

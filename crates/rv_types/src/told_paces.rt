@@ -3,7 +3,6 @@
 ghost use Rattle.std.specs.Prelude.{◌≡◌, map};
 ghost use Rattle.rv_tree.specs.Places.{site_of};
 ghost use Rattle.rv_tree.specs.Tree.{tree_of, trees, node_tree};
-ghost use Rattle.rv_types.specs.Clocks.{current_pace, seen};
 ghost use Rattle.rv_types.specs.ToldPaces as told;
 ghost use Rattle.rv_types.specs.declared.fault.Pace.TheVariants.{At};
 ghost use Rattle.rv_types.specs.declared.typed.Clock.TheVariants.{On};
@@ -16,7 +15,7 @@ use rv_base::Text;
 use rv_tree::{Expr, ExprForm, Op};
 
 /// The pace that an expression tells. It looks no further than to the first operand that has a clock: before that are literals,
-/// constants and labels alone. It calls itself for operands, so as deep as the tree is: 20,101 levels at most.
+/// constants and labels alone. It calls itself for operands, so as deep as the tree is: 20,301 levels at most.
 #[cycle(told)]
 pub fn told_by(timing: &Timing, e: &Expr) -> Pace
     ensures { result ≡ told.told_pace (node_tree timing.now.node.now) (tree_of e.now) }

@@ -1,6 +1,6 @@
 //! The types of all flows, the values of all constants, and the first fault of types.
 
-ghost use Rattle.std.specs.Prelude.{◌≡◌, [], map, reverse, IfOk};
+ghost use Rattle.std.specs.Prelude.{◌≡◌, [], map, IfOk};
 ghost use Rattle.rv_tree.specs.Bounded.{IsBounded};
 ghost use Rattle.rv_tree.specs.Tree.{node_tree, program_tree, ProgramTree};
 ghost use Rattle.rv_types.specs.ConstantTables.{AreTablesOf, AreNodeTablesOf};

@@ -2,7 +2,7 @@
 
 ghost use Rattle.std.specs.Prelude.{◌≡◌, map};
 ghost use Rattle.rv_tree.specs.Tree.{tree_of, trees};
-ghost use Rattle.rv_types.specs.Names.{is_declared, use_at, use_of};
+ghost use Rattle.rv_types.specs.Names.{use_at};
 ghost use Rattle.rv_types.specs.Known.{knows_value, knows_clock, unknown_in, unknown_in_all};
 ghost use Rattle.rv_types.specs.Earliest.{first};
 

@@ -1,6 +1,6 @@
 //! The value of a constant expression, and its weight, in one walk.
 
-ghost use Rattle.std.specs.Prelude.{◌≡◌, ◌≤◌, ◌&&◌, ◌||◌, min, max, cond, ℕ, not, nat_abs, map};
+ghost use Rattle.std.specs.Prelude.{◌≡◌, ◌≤◌, ◌&&◌, ◌||◌, min, max, cond, ℕ, nat_abs, map};
 ghost use Rattle.rv_tree.specs.Tree.{tree_of, trees, Named, Not, Minus};
 ghost use Rattle.rv_types.specs.Constants.{flag_in, whole_in, weight_of, form_weight, value_of, form_value, value_under, weight_under, counted_part, flags_of_all, at_most_one};
 ghost use Rattle.rv_types.specs.Tables.{entry_in};
