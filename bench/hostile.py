@@ -3,7 +3,7 @@
 
 Each shape is tried at a quarter, half and whole of what the limits of a source allow (1,048,576 bytes, a nesting of 200, 4,000 instances, 200,000 expressions ..),
 with 1 GB of address space and a stack of 6,000 KiB. It prints, for each, the processor seconds and the most memory, in MB, of the three runs, and how each answer
-begins; `killed` where a run was ended by a signal or took longer than a minute. The last line names the shapes of which a run took more than 2 seconds or 300 MB.
+begins; `killed` where a run was ended by a signal or took longer than a minute. The last line names the shapes of which a run took more than 2 seconds or 300 MB, or was killed.
 """
 import os
 import resource
@@ -251,7 +251,7 @@ def main():
                     beyond.append(name)
             told = answers[0] if len(set(answers)) == 1 else " / ".join(answers)
             print(f"{name}: {', '.join(seconds)} s; {', '.join(memory)} MB; {size // 1000} kB; {told}", flush=True)
-    print("beyond 2 s or 300 MB:", ", ".join(dict.fromkeys(beyond)) or "none")
+    print("beyond 2 s or 300 MB, or killed:", ", ".join(dict.fromkeys(beyond)) or "none")
 
 
 main()
