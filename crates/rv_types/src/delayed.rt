@@ -1,13 +1,13 @@
 //! The types of the operands of the `pre` and `current` of a node, in one walk.
 
-ghost use Rattle.std.specs.Prelude.{◌≡◌, ◌++◌, ◌∷◌, ◌||◌, List, length, map, flat_map, unwrap_or, IfOk, OnOk};
+ghost use Rattle.std.specs.Prelude.{◌≡◌, ◌++◌, ◌∷◌, ◌||◌, ◌&&◌, false, List, length, map, flat_map, unwrap_or, IfOk, OnOk};
 ghost use Rattle.rv_tree.specs.Tree.{tree_of, trees, node_tree, equation_tree, assertion_tree};
-ghost use Rattle.rv_tree.specs.Tree.{Pre, AtMostOne, Call};
+ghost use Rattle.rv_tree.specs.Tree.{Named, AtMostOne, Call};
 ghost use Rattle.rv_tree.specs.Delays.{node_delays};
 ghost use Rattle.rv_types.specs.Delayed.{delayed_kinds, delayed_in, delayed_in_all, node_delayed};
 ghost use Rattle.rv_types.specs.Readings.{view_of};
 ghost use Rattle.rv_types.specs.Tables.{scope_of, stays_constant};
-ghost use Rattle.rv_types.specs.Types.{is_constant, is_constant_form, are_constant, form_verdict, kind_of, kinds_of_all, all_typed, all_suit, fit, kind_in, two_of, binary_rule};
+ghost use Rattle.rv_types.specs.Types.{is_constant, is_constant_form, are_constant, form_verdict, kind_of, kinds_of_all, all_typed, all_suit, fit, kind_in, two_of, three_of, binary_rule, if_rule, when_of};
 ghost use Rattle.rv_types.specs.declared.typed.Kind.{Kind as AnyKind};
 ghost use Rattle.rv_types.specs.declared.typed.Kind.TheVariants as kind;
 
@@ -62,8 +62,9 @@ fn gather_equations(
 ) -> Result<(), Memory>
     ensures { OnOk result (found.new ≡ found.old ++ flat_map (λ q. delayed_in (scope_of view.now) q.right) (map equation_tree equations.now)) }
 {
+    let mut told = nothing_told();
     for equation in equations {
-        gather(view, &equation.right, found)?;
+        gather(view, &equation.right, &mut told, found)?;
     }
     Ok(())
 }
@@ -76,58 +77,25 @@ fn gather_assertions(
 ) -> Result<(), Memory>
     ensures { OnOk result (found.new ≡ found.old ++ flat_map (λ a. delayed_in (scope_of view.now) a.body) (map assertion_tree assertions.now)) }
 {
+    let mut told = nothing_told();
     for assertion in assertions {
-        gather(view, &assertion.body, found)?;
+        gather(view, &assertion.body, &mut told, found)?;
     }
     Ok(())
 }
 
-/// What is found of an expression beside the types that it adds: its own type, where it has one, and whether it is constant.
+/// What is told of an expression beside the types that it adds: its own type, where it has one, and whether it is constant.
 #[derive(Clone, Copy, Debug)]
 struct Told {
     kind: Option<Kind>,
     constant: bool,
 }
 
-/// Adds those of an expression, and answers what is found of its own type. It calls itself for each operand, so as deep
-/// as the tree is: 20,301 levels at most, all but 200 of them left operands and operands of `when`. So what it answers is
-/// small, and no fault is looked for.
-#[cycle(gather)]
-fn gather(view: &View, e: &Expr, found: &mut Many<Kind>) -> Result<Told, Memory>
-    ensures kind { IfOk result (λ o. o.kind ≡ kind_of (scope_of view.now) (tree_of e.now)) }
-    ensures constant { IfOk result (λ o. o.constant ≡ is_constant (scope_of view.now) (tree_of e.now)) }
-    ensures found { OnOk result (found.new ≡ found.old ++ delayed_in (scope_of view.now) (tree_of e.now)) }
-{
-    match &e.form {
-        ExprForm::Binary(op, a, b) => {
-            let a = gather(view, a, found)?;
-            gather_right(view, *op, a, b, found)
-        }
-        ExprForm::When(a, c) => {
-            let a = gather(view, a, found)?;
-            Ok(from_verdict(of_when(view.moves(), a.kind, view.clock(&c.text)), false))
-        }
-        ExprForm::True | ExprForm::False => Ok(from_verdict(Verdict::Has(Kind::Bool), true)),
-        ExprForm::Number(_) => Ok(from_verdict(Verdict::Has(Kind::Int), true)),
-        ExprForm::Named(x) => Ok(from_verdict(of_name(view.kind(x)), view.is_fixed(x))),
-        ExprForm::Not(a) => {
-            let a = gather(view, a, found)?;
-            Ok(from_verdict(of_not(a.kind), a.constant))
-        }
-        ExprForm::Minus(a) => {
-            let a = gather(view, a, found)?;
-            Ok(from_verdict(of_minus(a.kind), a.constant))
-        }
-        ExprForm::Pre(a) | ExprForm::Current(a) => gather_memory(view, a, found),
-        ExprForm::If(a, b, c) => {
-            let a = gather(view, a, found)?;
-            let b = gather(view, b, found)?;
-            let c = gather(view, c, found)?;
-            let constant = a.constant && (b.constant && c.constant);
-            Ok(from_verdict(of_if(a.kind, b.kind, c.kind), constant))
-        }
-        ExprForm::AtMostOne(es) => gather_at_most_one(view, es.as_slice(), found),
-        ExprForm::Call(f, es) => gather_call(view, f, es.as_slice(), found),
+/// What stands where nothing has been told yet.
+fn nothing_told() -> Told {
+    Told {
+        kind: None,
+        constant: false,
     }
 }
 
@@ -142,43 +110,122 @@ fn from_verdict(verdict: Verdict, constant: bool) -> Told
     }
 }
 
-/// Adds those of the right operand of an operator, of whose left one this is found.
+/// Adds those of an expression, and tells its own type. It calls itself for each operand, so as deep as the tree is: 20,301
+/// levels at most, all but 200 of them left operands and operands of `when`. So what it tells is written over and over in one
+/// place, no fault is looked for, and little else stands in its frame.
 #[cycle(gather)]
-fn gather_right(
-    view: &View,
-    op: Op,
-    a: Told,
-    b: &Expr,
-    found: &mut Many<Kind>,
-) -> Result<Told, Memory>
-    ensures kind { IfOk result (λ o. o.kind ≡ kind_in (two_of (binary_rule (scope_of view.now).moves (a.constant || is_constant (scope_of view.now) (tree_of b.now)) op) a.kind (kind_of (scope_of view.now) (tree_of b.now)))) }
-    ensures constant { IfOk result (λ o. o.constant ≡ stays_constant op a.constant (is_constant (scope_of view.now) (tree_of b.now))) }
-    ensures found { OnOk result (found.new ≡ found.old ++ delayed_in (scope_of view.now) (tree_of b.now)) }
+fn gather(view: &View, e: &Expr, told: &mut Told, found: &mut Many<Kind>) -> Result<(), Memory>
+    ensures kind { OnOk result (told.new.kind ≡ kind_of (scope_of view.now) (tree_of e.now)) }
+    ensures constant { OnOk result (told.new.constant ≡ is_constant (scope_of view.now) (tree_of e.now)) }
+    ensures found { OnOk result (found.new ≡ found.old ++ delayed_in (scope_of view.now) (tree_of e.now)) }
 {
-    let b = gather(view, b, found)?;
-    let scaled = a.constant || b.constant;
-    let constant = match op {
-        Op::Arrow => false,
-        _ => a.constant && b.constant,
-    };
-    Ok(from_verdict(
-        of_binary(view.moves(), scaled, op, a.kind, b.kind),
-        constant,
-    ))
+    match &e.form {
+        ExprForm::Binary(op, a, b) => {
+            gather(view, a, told, found)?;
+            let first = *told;
+            gather(view, b, told, found)?;
+            *told = told_of_two(view.moves(), *op, first, *told);
+            Ok(())
+        }
+        ExprForm::When(a, c) => {
+            gather(view, a, told, found)?;
+            *told = told_of_when(view, *told, &c.text);
+            Ok(())
+        }
+        ExprForm::True | ExprForm::False => {
+            *told = from_verdict(Verdict::Has(Kind::Bool), true);
+            Ok(())
+        }
+        ExprForm::Number(_) => {
+            *told = from_verdict(Verdict::Has(Kind::Int), true);
+            Ok(())
+        }
+        ExprForm::Named(x) => {
+            *told = told_of_name(view, x);
+            Ok(())
+        }
+        ExprForm::Not(a) => {
+            gather(view, a, told, found)?;
+            *told = from_verdict(of_not(told.kind), told.constant);
+            Ok(())
+        }
+        ExprForm::Minus(a) => {
+            gather(view, a, told, found)?;
+            *told = from_verdict(of_minus(told.kind), told.constant);
+            Ok(())
+        }
+        ExprForm::Pre(a) | ExprForm::Current(a) => {
+            let number = found.len();
+            found.push(Kind::Bool)?;
+            gather(view, a, told, found)?;
+            put(number, told.kind, found);
+            *told = from_verdict(of_memory(view.moves(), told.kind), false);
+            Ok(())
+        }
+        ExprForm::If(a, b, c) => {
+            gather(view, a, told, found)?;
+            let first = *told;
+            gather(view, b, told, found)?;
+            let second = *told;
+            gather(view, c, told, found)?;
+            *told = told_of_three(first, second, *told);
+            Ok(())
+        }
+        ExprForm::AtMostOne(es) => gather_at_most_one(view, es.as_slice(), told, found),
+        ExprForm::Call(f, es) => gather_call(view, f, es.as_slice(), told, found),
+    }
 }
 
-/// The same of `pre` and `current`, with the type of the operand before those that stand in it.
-#[cycle(gather)]
-fn gather_memory(view: &View, a: &Expr, found: &mut Many<Kind>) -> Result<Told, Memory>
-    ensures kind { IfOk result (λ o. o.kind ≡ kind_in (form_verdict (scope_of view.now) (Pre (tree_of a.now)))) }
-    ensures constant { IfOk result (λ o. o.constant ≡ is_constant_form (scope_of view.now) (Pre (tree_of a.now))) }
-    ensures found { OnOk result (found.new ≡ found.old ++ unwrap_or (kind_of (scope_of view.now) (tree_of a.now)) kind.Bool ∷ delayed_in (scope_of view.now) (tree_of a.now)) }
+/// What is told of an operator between two operands.
+fn told_of_two(moves: bool, op: Op, a: Told, b: Told) -> Told
+    ensures kind { result.kind ≡ kind_in (two_of (binary_rule moves (a.constant || b.constant) op) a.kind b.kind) }
+    ensures constant { result.constant ≡ stays_constant op a.constant b.constant }
 {
-    let number = found.len();
-    found.push(Kind::Bool)?;
-    let a = gather(view, a, found)?;
-    put(number, a.kind, found);
-    Ok(from_verdict(of_memory(view.moves(), a.kind), false))
+    let scaled = is_either(a.constant, b.constant);
+    let verdict = of_binary(moves, scaled, op, a.kind, b.kind);
+    from_verdict(verdict, is_constant_by(op, a.constant, b.constant))
+}
+
+/// Whether one of two is constant.
+fn is_either(a: bool, b: bool) -> bool
+    ensures { result ≡ (a || b) }
+{
+    a || b
+}
+
+/// Whether an operator gives a constant, where these operands are or are not.
+fn is_constant_by(op: Op, a: bool, b: bool) -> bool
+    ensures { result ≡ stays_constant op a b }
+{
+    match op {
+        Op::Arrow => false,
+        _ => a && b,
+    }
+}
+
+/// What is told of an `if`.
+fn told_of_three(a: Told, b: Told, c: Told) -> Told
+    ensures kind { result.kind ≡ kind_in (three_of if_rule a.kind b.kind c.kind) }
+    ensures constant { result.constant ≡ (a.constant && (b.constant && c.constant)) }
+{
+    let constant = a.constant && (b.constant && c.constant);
+    from_verdict(of_if(a.kind, b.kind, c.kind), constant)
+}
+
+/// What is told of a `when` on the flow of a name.
+fn told_of_when(view: &View, a: Told, clock: &Text) -> Told
+    ensures kind { result.kind ≡ kind_in (when_of (scope_of view.now).moves a.kind ((scope_of view.now).clock clock.now)) }
+    ensures constant { result.constant ≡ false }
+{
+    from_verdict(of_when(view.moves(), a.kind, view.clock(clock)), false)
+}
+
+/// What is told of a name.
+fn told_of_name(view: &View, name: &Text) -> Told
+    ensures kind { result.kind ≡ kind_in (form_verdict (scope_of view.now) (Named name.now)) }
+    ensures constant { result.constant ≡ is_constant_form (scope_of view.now) (Named name.now) }
+{
+    from_verdict(of_name(view.kind(name)), view.is_fixed(name))
 }
 
 /// Puts a type in the place of the one with a number; `Bool` where there is none.
@@ -193,13 +240,19 @@ fn put(number: usize, one: Option<Kind>, found: &mut Many<Kind>)
 
 /// Those of the operands of `#`.
 #[cycle(gather)]
-fn gather_at_most_one(view: &View, es: &[Expr], found: &mut Many<Kind>) -> Result<Told, Memory>
-    ensures kind { IfOk result (λ o. o.kind ≡ kind_in (form_verdict (scope_of view.now) (AtMostOne (trees (map tree_of es.now))))) }
-    ensures constant { IfOk result (λ o. o.constant ≡ is_constant_form (scope_of view.now) (AtMostOne (trees (map tree_of es.now)))) }
+fn gather_at_most_one(
+    view: &View,
+    es: &[Expr],
+    told: &mut Told,
+    found: &mut Many<Kind>,
+) -> Result<(), Memory>
+    ensures kind { OnOk result (told.new.kind ≡ kind_in (form_verdict (scope_of view.now) (AtMostOne (trees (map tree_of es.now))))) }
+    ensures constant { OnOk result (told.new.constant ≡ is_constant_form (scope_of view.now) (AtMostOne (trees (map tree_of es.now)))) }
     ensures found { OnOk result (found.new ≡ found.old ++ delayed_in_all (scope_of view.now) (trees (map tree_of es.now))) }
 {
     let all = gather_all(view, &[], es, found)?;
-    Ok(from_verdict(of_at_most_one(all.typed, all.boolean), all.constant))
+    *told = from_verdict(of_at_most_one(all.typed, all.boolean), all.constant);
+    Ok(())
 }
 
 /// Those of the arguments of a call.
@@ -208,14 +261,16 @@ fn gather_call(
     view: &View,
     name: &Text,
     es: &[Expr],
+    told: &mut Told,
     found: &mut Many<Kind>,
-) -> Result<Told, Memory>
-    ensures kind { IfOk result (λ o. o.kind ≡ kind_in (form_verdict (scope_of view.now) (Call name.now (trees (map tree_of es.now))))) }
-    ensures constant { IfOk result (λ o. o.constant ≡ is_constant_form (scope_of view.now) (Call name.now (trees (map tree_of es.now)))) }
+) -> Result<(), Memory>
+    ensures kind { OnOk result (told.new.kind ≡ kind_in (form_verdict (scope_of view.now) (Call name.now (trees (map tree_of es.now))))) }
+    ensures constant { OnOk result (told.new.constant ≡ is_constant_form (scope_of view.now) (Call name.now (trees (map tree_of es.now)))) }
     ensures found { OnOk result (found.new ≡ found.old ++ delayed_in_all (scope_of view.now) (trees (map tree_of es.now))) }
 {
     let arguments = gather_all(view, wanted_by(view, name), es, found)?;
-    Ok(from_verdict(of_call(view.moves(), view.callee(name), &arguments), false))
+    *told = from_verdict(of_call(view.moves(), view.callee(name), &arguments), false);
+    Ok(())
 }
 
 /// Adds those of some expressions, where these types are wanted, and answers what is found of them together.
@@ -240,8 +295,9 @@ fn gather_all(
         count: 0,
         fault: None,
     };
+    let mut one = nothing_told();
     for e in es {
-        let one = gather(view, e, found)?;
+        gather(view, e, &mut one, found)?;
         together = one_more(wanted, together, judged(one));
     }
     Ok(whole(wanted, together))
