@@ -1,5 +1,6 @@
 pub mod Causes
 pub mod Fronts
+pub mod Limits
 pub mod Shelf
 pub mod Shown
 pub mod MemoryFiles

@@ -1,7 +1,7 @@
 //! The calls of the nodes of a program.
 
 ghost use Rattle.std.specs.Prelude.{◌≡◌, ◌++◌, ◌∷◌, ◌≤◌, [], map, length, unwrap_or, IfOk, OnOk};
-ghost use Rattle.rv_tree.specs.Limits.{source_limit};
+ghost use Rattle.rv_base.specs.Limits.{source_limit};
 ghost use Rattle.rv_tree.specs.Places.{index_of};
 ghost use Rattle.rv_tree.specs.Tree.{tree_of, trees, node_tree, equation_tree, assertion_tree, program_tree};
 ghost use Rattle.rv_types.specs.Names.{name_faults};

@@ -21,7 +21,7 @@ use Rattle.rv_types.specs.Instances.{Instance, place, clock_in, IsArgument, head
 use Rattle.rv_meaning.specs.Meaning.{is_true, number, is_equal, held, operate}
 use Rattle.rv_meaning.specs.Runs.{Instant, cell}
 use Rattle.rv_meaning.specs.Instants.{State, now, form_now, trues_now}
-use Rattle.rv_tree.specs.Limits.{heaviest, too_heavy}
+use Rattle.rv_base.specs.Limits.{heaviest, too_heavy}
 use Rattle.rv_instances.specs.Weights.{constant_size, weight, form_weight}
 use Rattle.rv_flatten.proofs.Standing.{Stands, as_child, of_not, of_minus, of_left, of_right, of_condition, of_first, of_second, of_operand}
 use Rattle.rv_flat.proofs.TypedParts.{no_flag, both_hold, IsTyped, not_typed, minus_typed, binary_typed, if_typed, most_typed}

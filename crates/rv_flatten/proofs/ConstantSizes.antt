@@ -12,7 +12,7 @@ use Rattle.rv_base.specs.declared.value.Value.TheVariants as value
 use Rattle.rv_tree.specs.declared.tree.Op.{Op}
 use Rattle.rv_tree.specs.declared.tree.Op.TheVariants as op
 use Rattle.rv_tree.specs.Tree.{Tree, Node, Form, True, False, Number, Named, Not, Minus, Pre, Current, When, Binary, If, AtMostOne, Call, ConstantTree, ProgramTree}
-use Rattle.rv_tree.specs.Limits.{heaviest, too_heavy}
+use Rattle.rv_base.specs.Limits.{heaviest, too_heavy}
 use Rattle.rv_tree.specs.Places.{Identifier, is_same}
 use Rattle.rv_types.specs.Kinds.{LabelPlace, label_of}
 use Rattle.rv_types.specs.Scopes.{constant_value_after, constant_values_of, constant_values}

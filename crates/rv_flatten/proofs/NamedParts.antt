@@ -6,7 +6,7 @@ use Rattle.rv_tree.specs.Tree as tree
 use Rattle.rv_tree.specs.Tree.{Tree, Form, Trees, AssertionTree, NodeTree, ProgramTree}
 use Rattle.rv_tree.specs.Places.{Identifier, Sites, flows, is_among}
 use Rattle.rv_tree.specs.Delays.{Delay, node_delays}
-use Rattle.rv_tree.specs.Limits.{heaviest}
+use Rattle.rv_base.specs.Limits.{heaviest}
 use Rattle.rv_types.specs.declared.typed.Kind.{Kind}
 use Rattle.rv_types.specs.declared.typed.Kind.TheVariants as kind
 use Rattle.rv_types.specs.declared.typed.Clock.TheVariants.{Base}

@@ -24,7 +24,7 @@ use Rattle.rv_meaning.specs.Meaning.{Cells, is_there, held, is_on, is_true}
 use Rattle.rv_meaning.specs.Runs.{Instant, flat, cell}
 use Rattle.rv_meaning.specs.Givers.{AreDefined, expected}
 use Rattle.rv_meaning.specs.Instants.{State as Brought, is_on_in, now, value_now, right_now, IsInstant, IsNext}
-use Rattle.rv_tree.specs.Limits.{heaviest}
+use Rattle.rv_base.specs.Limits.{heaviest}
 use Rattle.rv_instances.specs.Weights.{weight, AreLight}
 use Rattle.rv_agreement.specs.Evaluation.{form_value, integers}
 use Rattle.rv_agreement.specs.Evaluation as evaluation

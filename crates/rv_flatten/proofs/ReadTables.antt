@@ -24,7 +24,7 @@ use Rattle.rv_types.specs.Kinds.{decl_kinds, flow_kind, flow_kinds, kind_in_prog
 use Rattle.rv_types.specs.Types.{kind_in, kind_of, both_are, binary_rule, is_constant}
 use Rattle.rv_types.specs.Constants.{whole_in, value_of, weight_of}
 use Rattle.rv_types.specs.ConstantParts.{constant_part}
-use Rattle.rv_tree.specs.Limits.{too_heavy}
+use Rattle.rv_base.specs.Limits.{too_heavy}
 use Rattle.rv_types.specs.Scopes.{node_scope, constant_value}
 use Rattle.rv_types.specs.Names.{texts}
 use Rattle.rv_types.specs.Instances.{CallTree, calls, Instance, place, absolute, clock_in, taken, output_place, node_of, IsNode, IsArgument, head, tail}

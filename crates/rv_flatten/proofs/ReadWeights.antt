@@ -24,7 +24,7 @@ use Rattle.rv_types.specs.Scopes.{node_scope, constant_value}
 use Rattle.rv_types.specs.Instances.{CallTree, Body, Output, Instance, place, absolute, clock_of, clock_taken as taken_clock, clock_in, clock_of_arguments, output_place, IsInstance, IsFlow, IsNode, IsArgument, head, tail}
 use Rattle.rv_types.specs.Needs.{flow_of, needs, form_needs, needs_of, Giver, Gives, given, by_equation, by_call, IsAmongFirst}
 use Rattle.rv_types.specs.WellFormed.{AreWell}
-use Rattle.rv_tree.specs.Limits.{heaviest}
+use Rattle.rv_base.specs.Limits.{heaviest}
 use Rattle.rv_instances.specs.Weights.{constant_size, weight, form_weight, weight_of_giver, IsTooWide, AreWeights}
 use Rattle.rv_agreement.specs.Programs.{coefficient, operation}
 use Rattle.rv_agreement.specs.Translation.{Numbers, tick_number, unplaced, flat_of, flat_form, flats_of, giver_item, IsTranslated}

@@ -8,7 +8,7 @@ use Rattle.rv_tree.specs.Places.{Identifier, Sites, is_same, is_among}
 use Rattle.rv_types.specs.Kinds.{node_among}
 use Rattle.rv_types.specs.Instances.{Instance, no_node, IsInstance, is_main, is_callee, IsNode}
 use Rattle.rv_types.specs.WellFormed.{IsWellFormed, IsWellTyped, AreWell}
-use Rattle.rv_tree.specs.Limits.{heaviest}
+use Rattle.rv_base.specs.Limits.{heaviest}
 use Rattle.rv_instances.specs.Weights.{weight, too_wide, weighed, IsTooWide}
 use Rattle.rv_flat.proofs.Members.{none_in, at_head, in_tail, head_or_tail}
 use Rattle.rv_flatten.proofs.Standing.{Stands, stands_weighed}

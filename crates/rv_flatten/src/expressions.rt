@@ -4,7 +4,7 @@ ghost use Rattle.std.specs.Prelude.{◌≡◌, false, ◌++◌, ◌∷◌, [], n
 ghost use Rattle.std.specs.List.{Contains};
 ghost use Rattle.rv_tree.specs.Tree as tree;
 ghost use Rattle.rv_tree.specs.Tree.{Tree, tree_of, trees};
-ghost use Rattle.rv_tree.specs.Limits.{too_heavy};
+ghost use Rattle.rv_base.specs.Limits.{too_heavy};
 ghost use Rattle.rv_tree.specs.Places.{memory_site};
 ghost use Rattle.rv_types.specs.Constants.{counted, whole_in};
 ghost use Rattle.rv_types.specs.ConstantParts.{IsKnownBound, constant_form};

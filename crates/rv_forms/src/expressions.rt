@@ -3,7 +3,7 @@
 ghost use Rattle.std.specs.Prelude.{◌≡◌, ℕ, ◌<◌, ◌^◌, true, cond, List, length, slice_get, slice_index_or, None, Some};
 ghost use Rattle.std.specs.Prelude.{IfOk, OnOk, IsErrOf};
 ghost use Rattle.rv_tree.specs.Places.{Sites};
-ghost use Rattle.rv_tree.specs.Limits.{heaviest};
+ghost use Rattle.rv_base.specs.Limits.{heaviest};
 ghost use Rattle.rv_diagram.specs.declared.Triple.{Triple as TripleModel};
 ghost use Rattle.rv_terms.specs.declared.parted.Term.{Term as TermModel};
 ghost use Rattle.rv_terms.specs.Parts.{form_at, IsTerm};

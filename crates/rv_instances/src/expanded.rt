@@ -1,7 +1,7 @@
 //! A program with all its instances.
 
 ghost use Rattle.std.specs.Prelude.{◌≡◌, ◌<◌, ◌≤◌, length, map, IfOk};
-ghost use Rattle.rv_tree.specs.Limits.{source_limit};
+ghost use Rattle.rv_base.specs.Limits.{source_limit};
 ghost use Rattle.rv_tree.specs.Tree.{node_tree, program_tree};
 ghost use Rattle.rv_types.specs.Instances.{name_at};
 ghost use Rattle.rv_instances.specs.Expanded.{IsExpanded, IsKnown, program_of, told, calls_told};

@@ -4,6 +4,7 @@ use Rattle.std.specs.List.{list_all}
 use Rattle.rv_flat.specs.declared.flat.Flat.{Flat}
 use Rattle.rv_tree.specs.Words.{is_name}
 use Rattle.rv_invfile.specs.Texts.{all_few, HasKind}
+use Rattle.rv_base.specs.Limits.{source_limit}
 use Rattle.rv_base.specs.declared.value.Value.{Value}
 use Rattle.rv_flat.specs.declared.parts.FlatInput.{FlatInput}
 use Rattle.rv_flat.specs.declared.parts.FlatMemory.{FlatMemory}
@@ -26,7 +27,7 @@ pub record IsTold (f : Flat) : Type 0 where
   pub labels : list_all (list_all is_name) f.labels ≡ true
   pub different : (e : ℕ) → AreDifferent (get_or f.labels e [])
   pub few_labels : all_few f.labels
-  pub few_inputs : length f.inputs ≤ 1048576
+  pub few_inputs : length f.inputs ≤ source_limit
   pub few_memories : length f.memories < 2 ^ 64
 
 -- something is one of these

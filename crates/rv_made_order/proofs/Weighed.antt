@@ -2,7 +2,7 @@
 use Rattle.std.proofs.Common.{◌≡◌, ℕ, zero, suc, ◌+◌, ◌^◌, ◌<◌, ◌≤◌, inl, inr, cond, List, [], ◌∷◌, ◌++◌, refl, sym, ◌∙◌, ap, subst, arith}
 use Rattle.std.specs.Prelude.{codes, nat_abs, nat_lt}
 use Rattle.std.specs.List.{Contains, flat_map}
-use Rattle.rv_tree.specs.Limits.{heaviest}
+use Rattle.rv_base.specs.Limits.{heaviest}
 use Rattle.rv_tree.specs.Tree.{Tree, Node, EquationTree, NodeTree, ProgramTree}
 use Rattle.rv_tree.specs.Places.{Identifier, Sites, site_of}
 use Rattle.rv_types.specs.Constants.{whole_in}

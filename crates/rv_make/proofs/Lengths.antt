@@ -2,7 +2,7 @@
 use Rattle.std.proofs.Common.{◌≡◌, ℕ, zero, suc, ◌+◌, ◌*◌, ◌<◌, ◌≤◌, List, [], ◌∷◌, ◌++◌, length, length-append, arith}
 use Rattle.std.specs.Prelude.{codes, decimal}
 use Rattle.std.proofs.lemmas.Fmt.{length-decimal-le}
-use Rattle.rv_tree.specs.Limits.{source_limit}
+use Rattle.rv_base.specs.Limits.{source_limit}
 use Rattle.rv_make.specs.Made.{line, link_name, declared_links, link_equation, link_equations, link_text, main_text, made_text}
 
 -- the name of a flow has at most five bytes

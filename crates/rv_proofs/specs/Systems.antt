@@ -2,6 +2,7 @@
 -- one and a flat system gives the same.
 use Rattle.std.specs.Prelude.{◌≡◌, ℕ, zero, suc, ◌+◌, ◌*◌, ◌^◌, ◌<◌, ◌≤◌, ℤ, List, [], ◌∷◌, ◌++◌, length, Bool, true, false, Option, Some, IsTrue, All}
 use Rattle.std.specs.Prelude.{None as Nothing}
+use Rattle.rv_base.specs.Limits.{heaviest}
 use Rattle.rv_diagram.specs.Nodes.{Valuation}
 use Rattle.rv_rows.specs.declared.linear.Row.{Row}
 use Rattle.rv_rows.specs.declared.linear.Form.{Form}
@@ -58,10 +59,10 @@ pub record IsTestRow (s : System) (r : Row) : Type 0 where
   pub coefficients : All (λ c. unsigned_abs c ≤ 2 ^ 41) r.coefficients
   pub bound : unsigned_abs r.bound ≤ 2 ^ 60
 
--- An update: one coefficient for each column, and no number of a magnitude above 2^40.
+-- An update: one coefficient for each column, and no number of a magnitude above `heaviest`.
 pub record IsUpdate (s : System) (f : Form) : Type 0 where
   pub wide : length f.coefficients ≡ s.columns
-  pub small : FormWithin (2 ^ 40) f
+  pub small : FormWithin heaviest f
 
 -- How many variables, memories, columns and tests there may be.
 pub record HasLimits (s : System) : Type 0 where

@@ -1,7 +1,7 @@
 -- From what a document's bytes do over an accepted source to what the files hold under the name of the document.
 use Rattle.std.proofs.Common.{◌≡◌, ℕ, ◌<◌, ◌≤◌, List, length, sym, ◌∙◌, ap, subst, arith, Option}
 use Rattle.rv_base.specs.Shelf.{Shelf, HoldsUnder}
-use Rattle.rv_tree.specs.Limits.{source_limit}
+use Rattle.rv_base.specs.Limits.{source_limit}
 use Rattle.rv_tree.specs.Tree.{ProgramTree, program_tree}
 use Rattle.rv_tree.specs.Places.{Identifier}
 use Rattle.rv_syntax.specs.ProgramText.{IsTextOf}

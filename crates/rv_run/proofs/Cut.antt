@@ -5,7 +5,7 @@ use Rattle.rv_make.specs.Made.{made_text}
 use Rattle.rv_proofs.specs.declared.certificate.Certificate.{Certificate}
 use Rattle.std.specs.Prelude.{codes}
 use Rattle.rv_meaning.specs.Runs.{IsSafe}
-use Rattle.rv_tree.specs.Limits.{source_limit}
+use Rattle.rv_base.specs.Limits.{source_limit}
 use Rattle.rv_words.specs.Asked.{make, tour}
 use Rattle.rv_run.specs.Words.{Wanted, usual_nodes, wanted_of}
 use Rattle.rv_run.specs.Answers.{OnFile, OnSource, IsNodesReport, IsTold, IsTouredReport, IsVerdict, Tells}

@@ -1,7 +1,7 @@
 -- What a replay says of the bytes of a trace: the trace that they are and what it does, or why they are none.
 use Rattle.std.specs.Prelude.{◌≡◌, ◌⊎◌, ◌<◌, ◌≤◌, ℕ, List, length, ⊤}
 use Rattle.rv_base.specs.declared.value.Trace.{Trace}
-use Rattle.rv_tree.specs.Limits.{source_limit}
+use Rattle.rv_base.specs.Limits.{source_limit}
 use Rattle.rv_tree.specs.Tree.{ProgramTree}
 use Rattle.rv_tree.specs.Places.{Identifier}
 use Rattle.rv_flat.specs.declared.flat.Flat.{Flat}

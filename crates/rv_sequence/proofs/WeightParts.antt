@@ -8,7 +8,7 @@ use Rattle.rv_types.specs.declared.weighing.Weighed.{Weighed}
 use Rattle.rv_types.specs.Constants.{whole_in}
 use Rattle.rv_types.specs.ConstantParts.{constant_form}
 use Rattle.rv_types.specs.Types.{Scope}
-use Rattle.rv_tree.specs.Limits.{too_heavy}
+use Rattle.rv_base.specs.Limits.{too_heavy}
 use Rattle.rv_types.specs.WideConstants.{lesser}
 
 -- what is known of a constant or label is its value

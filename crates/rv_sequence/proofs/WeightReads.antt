@@ -13,7 +13,7 @@ use Rattle.rv_types.specs.ConstantParts.{constant_part}
 use Rattle.rv_types.specs.Instances.{CallTree, calls, Instance, place, node_of, output_place}
 use Rattle.rv_types.specs.Scopes.{node_scope, constant_value, is_fixed}
 use Rattle.rv_types.specs.Types.{Scope, is_constant, is_constant_form, are_constant}
-use Rattle.rv_tree.specs.Limits.{too_heavy}
+use Rattle.rv_base.specs.Limits.{too_heavy}
 use Rattle.rv_instances.specs.Weights.{constant_size, weight, form_weight as exact_weight}
 use Rattle.rv_sequence.specs.Weighing.{Weighing, product_of, weight_in, form_weight_in}
 use Rattle.rv_instances.proofs.Lists.{nat_split}

@@ -14,7 +14,7 @@ use Rattle.rv_instances.specs.declared.answer.Instance.{Instance as Numbered}
 use Rattle.rv_instances.specs.Expanded.{IsExpanded}
 use Rattle.rv_sequence.specs.Sided.{AreSided}
 use Rattle.rv_types.specs.Variables.{parts, form_parts, parts_of_all}
-use Rattle.rv_tree.specs.Limits.{heaviest}
+use Rattle.rv_base.specs.Limits.{heaviest}
 use Rattle.rv_instances.specs.Weights.{weight, too_wide, weighed_of_several, weighed_under, weighed, AreWeights, IsTooWide, AreLight, IsFirstTooWide}
 use Rattle.rv_calls.proofs.AllInstances.{of_flat_map}
 use Rattle.rv_instances.proofs.CallsInside.{in_argument, in_right, in_body, calls_nested}

@@ -13,7 +13,7 @@ use Rattle.rv_types.specs.Constants.{weight_of, form_weight}
 use Rattle.rv_types.specs.Instances.{Instance, IsInstance}
 use Rattle.rv_types.specs.Needs.{IsSequence}
 use Rattle.rv_types.specs.Scopes.{constant_value, constant_value_after}
-use Rattle.rv_tree.specs.Limits.{too_heavy, heaviest}
+use Rattle.rv_base.specs.Limits.{too_heavy, heaviest}
 use Rattle.rv_types.specs.ValueTables.{NamedTables, value_by}
 use Rattle.rv_types.specs.WideConstants.{lesser, wide_at, first_wide, wide_below, first_wide_of_all, first_wide_constant}
 use Rattle.rv_instances.specs.declared.answer.Instance.{Instance as Numbered}

@@ -4,7 +4,7 @@ use Rattle.rv_tree.specs.Tree.{Tree, Node, ProgramTree, tree_of}
 use Rattle.rv_tree.specs.Places.{Identifier, Sites, site_of}
 use Rattle.rv_types.specs.Needs.{IsSequence}
 use Rattle.rv_types.specs.Scopes.{is_fixed}
-use Rattle.rv_tree.specs.Limits.{too_heavy}
+use Rattle.rv_base.specs.Limits.{too_heavy}
 use Rattle.rv_types.specs.ValueTables.{NamedTables, value_by}
 use Rattle.rv_instances.specs.declared.answer.Instance.{Instance as Numbered}
 use Rattle.rv_instances.specs.declared.givers.Giver.{Giver as Told}

@@ -8,7 +8,7 @@ ghost use Rattle.std.proofs.Props.{props};
 ghost use Rattle.rv_types.specs.Constants.{counted};
 ghost use Rattle.rv_types.specs.ConstantParts.{IsBound, IsKnownBound, constant_part, constant_form, no_trues, trues_over};
 ghost use Rattle.rv_types.specs.Types.{Scope};
-ghost use Rattle.rv_tree.specs.Limits.{too_heavy};
+ghost use Rattle.rv_base.specs.Limits.{too_heavy};
 ghost use Rattle.rv_types.specs.WideConstants.{lesser, wide_at};
 ghost use Rattle.rv_instances.specs.Layouts.{here_of};
 ghost use Rattle.rv_sequence.specs.Weighing.{weighing, weight_in, form_weight_in, first_in, first_below, first_in_all, product_of, weight_of_operator};

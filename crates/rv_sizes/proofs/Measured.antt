@@ -11,7 +11,7 @@ use Rattle.rv_instances.specs.Counts.{node_size, instance_count, expanded, integ
 use Rattle.rv_types.specs.Variables.{total, over_instances, is_integer, memories}
 use Rattle.rv_types.specs.Values.{operand_kind}
 use Rattle.rv_calls.specs.Callings.{callings_of}
-use Rattle.rv_tree.specs.Limits.{heaviest}
+use Rattle.rv_base.specs.Limits.{heaviest}
 use Rattle.rv_sizes.specs.Totals.{total_at, AreTotals, AreCapped}
 use Rattle.rv_sizes.specs.Capped.{capped, capped_sizes}
 use Rattle.rv_sizes.specs.Memories.{integers, memory_kinds}

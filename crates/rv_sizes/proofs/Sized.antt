@@ -8,7 +8,7 @@ use Rattle.rv_sizes.specs.Sizes.{first_above, measures, IsFirstAbove}
 use Rattle.rv_types.specs.Variables.{over_instances, variable_count}
 use Rattle.rv_types.specs.Values.{label_count}
 use Rattle.rv_types.specs.Instances.{node_of}
-use Rattle.rv_tree.specs.Limits.{heaviest}
+use Rattle.rv_base.specs.Limits.{heaviest}
 use Rattle.rv_sizes.specs.Capped.{capped}
 use Rattle.rv_sizes.specs.Sized.{IsSmall, IsSized}
 

@@ -7,7 +7,7 @@ use Rattle.rv_calls.specs.declared.calls.Calling.{Calling}
 use Rattle.rv_types.specs.Variables.{total}
 use Rattle.rv_calls.specs.Graphs.{IsOrdered}
 use Rattle.rv_calls.specs.Callings.{callees, call_graph}
-use Rattle.rv_tree.specs.Limits.{heaviest}
+use Rattle.rv_base.specs.Limits.{heaviest}
 use Rattle.rv_sizes.specs.Totals.{total_at, AreTotals, called_total, AreSummed}
 use Rattle.rv_instances.proofs.Lists.{contains_at, got, length_map}
 use Rattle.rv_calls.proofs.Lowering.{edge_of}

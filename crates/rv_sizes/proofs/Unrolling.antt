@@ -9,7 +9,7 @@ use Rattle.rv_types.specs.Instances.{CallTree, calls, Instance, no_node, callee,
 use Rattle.rv_types.specs.Variables.{total}
 use Rattle.rv_calls.specs.Callings.{calling, callings_of}
 use Rattle.rv_instances.specs.AllInstances.{names_of}
-use Rattle.rv_tree.specs.Limits.{heaviest}
+use Rattle.rv_base.specs.Limits.{heaviest}
 use Rattle.rv_sizes.specs.Totals.{total_at}
 use Rattle.rv_sizes.specs.Capped.{capped}
 use Rattle.rv_instances.proofs.Known.{map_at, called, calls_declared}

@@ -14,7 +14,7 @@ use Rattle.rv_sizes.specs.Capped.{capped}
 use Rattle.rv_sizes.specs.Memories.{memory_kinds}
 use Rattle.rv_types.specs.Variables.{total, memories, memory_bits, kind_bits}
 use Rattle.rv_types.specs.Values.{operand_kind, labels_at, label_count}
-use Rattle.rv_tree.specs.Limits.{heaviest}
+use Rattle.rv_base.specs.Limits.{heaviest}
 use Rattle.rv_sizes.proofs.Codes.{bits_same}
 use Rattle.rv_sizes.proofs.Unrolling.{total_map}
 

@@ -2,7 +2,7 @@
 use Rattle.std.specs.Prelude.{ℕ, min, List, map}
 use Rattle.rv_tree.specs.Tree.{NodeTree}
 use Rattle.rv_instances.specs.Counts.{node_size}
-use Rattle.rv_tree.specs.Limits.{heaviest}
+use Rattle.rv_base.specs.Limits.{heaviest}
 
 -- a number, or 2^40 where that is less
 abbrev pub capped : ℕ → ℕ

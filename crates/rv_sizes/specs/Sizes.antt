@@ -1,7 +1,7 @@
 -- How large a program may be: its instances, the expressions and memories of all of them, its inputs, its enumerations, and
 -- the variables of its decision diagrams.
 use Rattle.std.specs.Prelude.{◌≡◌, ◌⊎◌, ℕ, ◌<◌, ◌≤◌, min, cond, nat_lt, List, [], ◌∷◌, map}
-use Rattle.rv_tree.specs.Limits.{heaviest}
+use Rattle.rv_base.specs.Limits.{heaviest}
 use Rattle.rv_tree.specs.Tree.{ProgramTree}
 use Rattle.rv_tree.specs.Places.{Identifier}
 use Rattle.rv_types.specs.Values.{label_count}

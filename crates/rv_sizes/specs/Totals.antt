@@ -1,6 +1,6 @@
 -- Sums over a node and all that it calls, by the numbers of nodes.
 use Rattle.std.specs.Prelude.{◌≡◌, ℕ, zero, suc, ◌+◌, ◌<◌, ◌≤◌, min, List, [], length, slice_index_or}
-use Rattle.rv_tree.specs.Limits.{heaviest}
+use Rattle.rv_base.specs.Limits.{heaviest}
 use Rattle.rv_calls.specs.declared.calls.Calling.{Calling}
 use Rattle.rv_types.specs.Variables.{total}
 

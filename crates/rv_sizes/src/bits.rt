@@ -5,7 +5,7 @@ ghost use Rattle.rv_instances.specs.Bits.{bits_of as bits_of_type, bits_of_all};
 ghost use Rattle.rv_sizes.specs.Capped.{capped};
 ghost use Rattle.rv_types.specs.Variables.{bits_for as least_bits};
 ghost use Rattle.rv_types.specs.Values.{labels_at as labels_of_type};
-ghost use Rattle.rv_tree.specs.Limits.{heaviest};
+ghost use Rattle.rv_base.specs.Limits.{heaviest};
 
 use crate::declared_sizes::labels_in;
 use crate::totals::capped_sum;

@@ -5,7 +5,7 @@ ghost use Rattle.std.specs.List.{Contains};
 ghost use Rattle.rv_calls.specs.declared.calls.Calling.{Calling as CallingModel};
 ghost use Rattle.rv_calls.specs.Graphs.{IsGraph, IsOrdered};
 ghost use Rattle.rv_calls.specs.Callings.{call_graph};
-ghost use Rattle.rv_tree.specs.Limits.{heaviest};
+ghost use Rattle.rv_base.specs.Limits.{heaviest};
 ghost use Rattle.rv_sizes.specs.Totals.{AreTotals, AreCapped, called_total};
 
 use rv_base::{Many, Memory};

@@ -12,7 +12,7 @@ ghost use Rattle.rv_types.specs.Variables.{over_instances, memory_bits, order_te
 ghost use Rattle.rv_sizes.specs.Capped.{capped};
 ghost use Rattle.rv_types.specs.Instances.{name_at};
 ghost use Rattle.rv_calls.specs.Nodes.{AreOrderedNodes};
-ghost use Rattle.rv_tree.specs.Limits.{heaviest};
+ghost use Rattle.rv_base.specs.Limits.{heaviest};
 
 use crate::bits::{bits_of_kinds, memory_bits_of};
 use crate::measure::total_of;

@@ -13,7 +13,7 @@ use Rattle.rv_tree.specs.declared.tree.Op.{Op}
 use Rattle.rv_tree.specs.declared.tree.Op.TheVariants as op
 use Rattle.rv_tree.specs.Tree.{Tree, Form, Node, Number, Named, Minus, Binary, If, ConstantTree, ProgramTree}
 use Rattle.rv_tree.specs.Places.{Identifier, is_same}
-use Rattle.rv_tree.specs.Limits.{heaviest, too_heavy}
+use Rattle.rv_base.specs.Limits.{heaviest, too_heavy}
 use Rattle.rv_types.specs.Kinds.{LabelPlace, label_of}
 use Rattle.rv_types.specs.Constants.{flag_in, whole_in, counted, counted_part, value_under, weight_under, value_of, form_value, weight_of, form_weight}
 use Rattle.rv_types.specs.Scopes.{constant_value_after, constant_values_of, constant_values}

@@ -3,7 +3,7 @@ use Rattle.std.specs.Prelude.{ℕ, ◌≤◌, ℤ, Option}
 use Rattle.std.specs.Int.RustNames.{unsigned_abs}
 use Rattle.std.specs.List.{Contains}
 use Rattle.rv_base.specs.declared.value.Value.TheVariants.{Whole}
-use Rattle.rv_tree.specs.Limits.{too_heavy}
+use Rattle.rv_base.specs.Limits.{too_heavy}
 use Rattle.rv_tree.specs.Tree.{Node, Number, ConstantTree, NodeTree, ProgramTree}
 use Rattle.rv_types.specs.Scopes.{constant_values}
 use Rattle.rv_types.specs.Variables.{parts, node_parts}

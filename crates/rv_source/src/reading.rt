@@ -1,7 +1,7 @@
 //! From the bytes of a file to an accepted source.
 
 ghost use Rattle.std.specs.Prelude.{◌≡◌, ◌≤◌, length, IfOk, IfErr};
-ghost use Rattle.rv_tree.specs.Limits.{source_limit};
+ghost use Rattle.rv_base.specs.Limits.{source_limit};
 ghost use Rattle.rv_tree.specs.Tree.{ProgramTree};
 ghost use Rattle.rv_types.specs.declared.typed.Typed.{Typed};
 ghost use Rattle.rv_source.specs.declared.fault.SourceFault.{SourceFault as FaultModel};

@@ -8,7 +8,7 @@ use Rattle.std.specs.List.{Contains, prefix_len}
 use Rattle.std.specs.Str.Parse.{digits_value}
 use Rattle.std.proofs.lemmas.Bool.{cases_Bool}
 use Rattle.std.proofs.lemmas.Bool.Decides.{nat_tests}
-use Rattle.rv_tree.specs.Limits.{too_heavy}
+use Rattle.rv_base.specs.Limits.{too_heavy}
 use Rattle.rv_tree.specs.Words.{is_name_byte, is_name}
 use Rattle.rv_syntax.specs.declared.lexer.Comment.{Comment}
 use Rattle.rv_syntax.specs.declared.lexer.Comment.TheVariants as comment

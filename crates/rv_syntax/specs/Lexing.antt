@@ -4,7 +4,7 @@ use Rattle.std.specs.Char.{is_ascii_alphabetic, is_ascii_alphanumeric, is_ascii_
 use Rattle.std.specs.List.{prefix_len}
 use Rattle.std.specs.Str.{bytes_eq, IsAscii}
 use Rattle.std.specs.Str.Parse.{digits_value}
-use Rattle.rv_tree.specs.Limits.{too_heavy}
+use Rattle.rv_base.specs.Limits.{too_heavy}
 use Rattle.rv_syntax.specs.declared.token.Mark.{Mark}
 use Rattle.rv_syntax.specs.declared.token.Mark.TheVariants as mark
 use Rattle.rv_syntax.specs.declared.token.Kind.{Kind}

@@ -1,6 +1,6 @@
 -- The trees of sources.
 use Rattle.std.specs.Prelude.{◌≤◌, ℕ, List, length}
-use Rattle.rv_tree.specs.Limits.{source_limit}
+use Rattle.rv_base.specs.Limits.{source_limit}
 use Rattle.rv_tree.specs.Tree.{ProgramTree}
 use Rattle.rv_syntax.specs.ProgramText.{IsTextOf}
 

@@ -4,7 +4,7 @@ ghost use Rattle.std.specs.Prelude.{◌≡◌, ◌≤◌, ◌<◌, ◌++◌, ℕ
 ghost use Rattle.std.specs.Str.{bytes_eq, IsAscii};
 ghost use Rattle.std.specs.Str.Parse.{digits_value};
 ghost use Rattle.rv_syntax.specs.Lexing as spec;
-ghost use Rattle.rv_tree.specs.Limits.{source_limit};
+ghost use Rattle.rv_base.specs.Limits.{source_limit};
 
 use crate::token::{Kind, Mark, Token};
 use rv_base::{Memory, Text};

@@ -19,7 +19,7 @@ ghost use Rattle.rv_tree.specs.Words.{HasPlainNames};
 ghost use Rattle.rv_syntax.specs.TextTrees.{IsTreeOfText};
 ghost use Rattle.rv_syntax.specs.Literals.{HasSmallLiterals};
 ghost use Rattle.rv_syntax.specs.declared.fault.TextFault.{TextFault as FaultModel};
-ghost use Rattle.rv_tree.specs.Limits.{source_limit};
+ghost use Rattle.rv_base.specs.Limits.{source_limit};
 ghost use Rattle.rv_syntax.specs.Longest.{AreTokens, IsLongest};
 ghost use Rattle.rv_syntax.specs.ProgramText.{IsTextOf};
 ghost use Rattle.rv_syntax.specs.Grammar.{fixed, name_token};

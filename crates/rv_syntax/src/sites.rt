@@ -4,7 +4,7 @@
 ghost use Rattle.std.specs.Prelude.{◌≡◌, ◌+◌, ◌≤◌, ◌++◌, ℕ, length, map, IsTrue, IfOk, OnOk, Some, None};
 ghost use Rattle.std.specs.List.{All};
 ghost use Rattle.std.specs.List.Sorted.{IsNonDecreasing};
-ghost use Rattle.rv_tree.specs.Limits.{source_limit};
+ghost use Rattle.rv_base.specs.Limits.{source_limit};
 ghost use Rattle.rv_syntax.specs.ProgramText.{program_with_sites};
 ghost use Rattle.rv_tree.specs.Sites as spec;
 ghost use Rattle.rv_tree.specs.Tree.{assertion_tree, equation_tree, node_tree, program_tree, tree_of, trees};

@@ -1,6 +1,6 @@
 -- What is read of the comparisons of a flat system, and of its tests.
 use Rattle.std.specs.Prelude.{◌≡◌, ℕ, ◌+◌, ◌<◌, ◌^◌, true, not, List, [], ◌∷◌, ◌++◌, length, take, map, Option, Some, slice_get}
-use Rattle.rv_tree.specs.Limits.{heaviest}
+use Rattle.rv_base.specs.Limits.{heaviest}
 use Rattle.rv_types.specs.Lists.{Side, Variable}
 use Rattle.rv_tree.specs.Places.{Sites}
 use Rattle.rv_rows.specs.declared.linear.Row.{Row}

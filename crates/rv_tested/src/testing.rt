@@ -14,7 +14,7 @@ ghost use Rattle.rv_symbolic.specs.Growing.{Extends};
 ghost use Rattle.rv_bits.specs.Shown.{clock_bit};
 ghost use Rattle.rv_cases.specs.Conditions.{AreRefs};
 ghost use Rattle.rv_forms.specs.Terms.{IsReady, IsWithin};
-ghost use Rattle.rv_tree.specs.Limits.{heaviest};
+ghost use Rattle.rv_base.specs.Limits.{heaviest};
 ghost use Rattle.rv_tested.specs.Compared.{comparison_in, AreInside, IsInside};
 ghost use Rattle.rv_tested.specs.Rows.{IsAnswered, IsLaid};
 ghost use Rattle.rv_tested.specs.Testing.{AreSidesRead, AreAllRead, AreTestsRead, IsDifference, IsTestTerm, row_in, row_of_variable};

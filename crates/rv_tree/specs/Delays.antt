@@ -1,7 +1,7 @@
 -- Every `pre` and `current` of a node, with its operand, and the memories that they read.
 use Rattle.std.specs.Prelude.{◌≡◌, ℕ, ◌+◌, ◌<◌, ◌≤◌, cond, nat_lt, nat_eq, List, [], ◌∷◌, ◌++◌, map, length, slice_index_or, Option, Some}
 use Rattle.std.specs.List.{Contains}
-use Rattle.rv_tree.specs.Limits.{source_limit}
+use Rattle.rv_base.specs.Limits.{source_limit}
 use Rattle.rv_tree.specs.Tree.{Tree, Node, Form, True, False, Number, Named, Not, Minus, Pre, Current, When, Binary, If, AtMostOne, Call, Trees, None, More, EquationTree, AssertionTree, NodeTree}
 use Rattle.rv_tree.specs.Places.{flows, memory_site}
 use Rattle.rv_tree.specs.SitedParts.{SitedPart, node_parts}

@@ -12,11 +12,10 @@ ghost use Rattle.rv_tree.specs.Places.{memory_site};
 ghost use Rattle.rv_tree.specs.Tree.{NodeTree};
 
 mod decls;
-mod limits;
 mod tree;
 
 pub use decls::Decls;
-pub use limits::{HEAVIEST, SOURCE_LIMIT, TOO_HEAVY};
+pub use rv_base::{HEAVIEST, SOURCE_LIMIT, TOO_HEAVY};
 pub use tree::{
     Assertion, ConstDecl, Decl, Equation, Expr, ExprForm, Name, Node, Op, Program, TypeBody,
     TypeDecl, TypeName,

@@ -24,7 +24,7 @@ use Rattle.rv_types.specs.Scopes.{label_kind, label_value, constant_scope, as_de
 use Rattle.rv_types.specs.Earliest.{first, sooner}
 use Rattle.rv_types.specs.Tables.{entry_in, type_of_label, constant_or, value_in}
 use Rattle.rv_types.specs.TypeTables.{declared_kinds, places_from}
-use Rattle.rv_tree.specs.Limits.{too_heavy}
+use Rattle.rv_base.specs.Limits.{too_heavy}
 use Rattle.rv_types.specs.ValueTables.{value_of_label, value_or, known_in, AreSmall}
 use Rattle.rv_types.specs.ConstantTables.{AreTablesOf, as_declared_by, declared_clash, constant_types_by}
 use Rattle.rv_types.proofs.Joined.{first_append}

@@ -16,7 +16,7 @@ use Rattle.rv_types.specs.Kinds.{LabelPlace, label_of}
 use Rattle.rv_types.specs.Types.{Scope, is_constant, is_constant_form, are_constant}
 use Rattle.rv_types.specs.Constants.{flag_in, whole_in, counted_part, value_of, form_value, weight_of, form_weight, flags_of_all}
 use Rattle.rv_types.specs.Scopes.{constant_value, constant_value_after}
-use Rattle.rv_tree.specs.Limits.{too_heavy}
+use Rattle.rv_base.specs.Limits.{too_heavy}
 use Rattle.rv_types.specs.ValueTables.{AreSmall, at_most_after}
 use Rattle.rv_types.specs.ConstantParts.{constant_form, constant_part, trues_after, trues_over}
 use Rattle.rv_types.proofs.Weights.{counted_small, under_small}

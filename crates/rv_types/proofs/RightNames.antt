@@ -5,7 +5,7 @@ use Rattle.rv_tree.specs.declared.tree.TypeBody.{TypeBody}
 use Rattle.rv_tree.specs.declared.tree.TypeBody.TheVariants.{Alias, Labels}
 use Rattle.rv_tree.specs.declared.tree.TypeDecl.{TypeDecl}
 use Rattle.rv_tree.specs.Tree.{NodeTree, ProgramTree}
-use Rattle.rv_tree.specs.Limits.{source_limit}
+use Rattle.rv_base.specs.Limits.{source_limit}
 use Rattle.rv_types.specs.Names.{labels_of, type_names, constant_names, label_names, node_names, repeated, names_in_node, name_faults}
 use Rattle.rv_types.specs.Known.{first_spaces, flow_names}
 use Rattle.rv_types.specs.TypeTables.{declared_kinds, places_from}

@@ -8,7 +8,7 @@ use Rattle.rv_base.specs.declared.value.Value.TheVariants.{Whole}
 use Rattle.rv_tree.specs.declared.tree.Op.{Op}
 use Rattle.rv_tree.specs.declared.tree.Op.TheVariants as op
 use Rattle.rv_types.specs.Constants.{whole_in, counted, value_under, weight_under}
-use Rattle.rv_tree.specs.Limits.{heaviest, too_heavy}
+use Rattle.rv_base.specs.Limits.{heaviest, too_heavy}
 
 pub counted_small : (m : ℕ) (z : ℤ) → nat_abs z ≤ m → nat_abs (whole_in (counted m z)) ≤ min m too_heavy
 counted_small m z h = tested (nat_le m heaviest) refl

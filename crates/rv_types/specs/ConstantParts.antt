@@ -9,7 +9,7 @@ use Rattle.rv_types.specs.declared.weighing.Weighed.{Weighed}
 use Rattle.rv_types.specs.declared.reading_values.Trues.{Trues}
 use Rattle.rv_types.specs.Types.{Scope, is_constant_form}
 use Rattle.rv_types.specs.Constants.{flag_in, whole_in, form_value, form_weight}
-use Rattle.rv_tree.specs.Limits.{too_heavy}
+use Rattle.rv_base.specs.Limits.{too_heavy}
 
 -- A value is no larger than its weight, and that counts to 2^40 + 1.
 pub record IsBound (w : Weighed) : Type 0 where

@@ -7,7 +7,7 @@ use Rattle.rv_tree.specs.declared.tree.Op.{Op}
 use Rattle.rv_tree.specs.declared.tree.Op.TheVariants as op
 use Rattle.rv_tree.specs.Tree.{Tree, Form, Trees, Node, True, False, Number, Named, Not, Minus, Binary, If, AtMostOne, None, More}
 use Rattle.rv_tree.specs.Places.{Identifier}
-use Rattle.rv_tree.specs.Limits.{heaviest, too_heavy}
+use Rattle.rv_base.specs.Limits.{heaviest, too_heavy}
 
 -- the truth of a Boolean value
 abbrev pub flag_in : Value → Bool

@@ -8,7 +8,7 @@ ghost use Rattle.rv_types.specs.Earliest.{first, sooner};
 ghost use Rattle.rv_types.specs.Scopes.{constant_scope, constant_kinds_of, constant_values, constant_types};
 ghost use Rattle.rv_types.specs.Tables.{entry_in, scope_of, value_in};
 ghost use Rattle.rv_types.specs.Types.{kind_of};
-ghost use Rattle.rv_tree.specs.Limits.{too_heavy};
+ghost use Rattle.rv_base.specs.Limits.{too_heavy};
 ghost use Rattle.rv_types.specs.ValueTables.{known_in, AreSmall};
 
 use crate::fault::NameFault;

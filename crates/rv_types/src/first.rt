@@ -9,7 +9,7 @@ use crate::fault::NameFault;
 /// Offset and number as one key.
 fn rank_of(fault: NameFault) -> u64
     ensures value { result ≡ rank fault }
-    ensures small { result < 2 ^ 40 }
+    ensures small { result < 2 ^ 37 }
 {
     match fault {
         NameFault::NoNode => 4,

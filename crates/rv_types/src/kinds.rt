@@ -3,7 +3,7 @@
 ghost use Rattle.std.specs.Prelude.{◌≡◌, ◌+◌, ◌≤◌, ◌<◌, ◌++◌, ℕ, [], map, reverse, length, slice_get, IfOk};
 ghost use Rattle.rv_tree.specs.declared.tree.Decl.{Decl as AnyDecl};
 ghost use Rattle.rv_tree.specs.Tree.{node_tree};
-ghost use Rattle.rv_tree.specs.Limits.{source_limit};
+ghost use Rattle.rv_base.specs.Limits.{source_limit};
 ghost use Rattle.rv_tree.specs.declared.tree.TypeDecl.{TypeDecl as AnyType};
 ghost use Rattle.rv_types.specs.Names.{repeated, labels_of};
 ghost use Rattle.rv_types.specs.Kinds.{written_kind, declared_kind};

@@ -9,7 +9,7 @@ ghost use Rattle.rv_types.specs.ConstantParts.{IsBound, IsKnownBound, constant_f
 ghost use Rattle.rv_types.specs.Readings.{AreTables};
 ghost use Rattle.rv_types.specs.Scopes.{constant_value, constant_value_after, constant_values, constant_values_of};
 ghost use Rattle.rv_types.specs.Types.{Scope};
-ghost use Rattle.rv_tree.specs.Limits.{too_heavy};
+ghost use Rattle.rv_base.specs.Limits.{too_heavy};
 ghost use Rattle.rv_types.specs.ValueTables.{value_by};
 
 use crate::reading::ProgramTables;

@@ -4,7 +4,7 @@ ghost use Rattle.std.specs.Prelude.{◌≡◌, ◌≤◌, ◌&&◌, ◌||◌, mi
 ghost use Rattle.rv_tree.specs.Tree.{tree_of, trees, Named, Not, Minus};
 ghost use Rattle.rv_types.specs.Constants.{flag_in, whole_in, weight_of, form_weight, value_of, form_value, value_under, weight_under, counted_part, flags_of_all, at_most_one};
 ghost use Rattle.rv_types.specs.Tables.{entry_in};
-ghost use Rattle.rv_tree.specs.Limits.{too_heavy};
+ghost use Rattle.rv_base.specs.Limits.{too_heavy};
 ghost use Rattle.rv_types.specs.ValueTables.{value_of_label, value_or, known_in, AreSmall};
 
 use crate::space::Space;

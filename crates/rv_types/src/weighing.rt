@@ -3,7 +3,7 @@
 
 ghost use Rattle.std.specs.Prelude.{◌≡◌, ◌+◌, ◌*◌, ◌^◌, ◌≤◌, ℕ, max, min, nat_abs, cond, ◌+ℤ◌, ◌-ℤ◌, ◌*ℤ◌, neg_ℤ, pos};
 ghost use Rattle.rv_types.specs.Constants.{flag_in, whole_in, counted, counted_part, same_value, flag_under, value_under, weight_under};
-ghost use Rattle.rv_tree.specs.Limits.{too_heavy};
+ghost use Rattle.rv_base.specs.Limits.{too_heavy};
 
 use rv_base::Value;
 use rv_tree::{HEAVIEST, Op, TOO_HEAVY};

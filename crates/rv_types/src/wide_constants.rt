@@ -6,7 +6,7 @@ ghost use Rattle.rv_types.specs.Constants.{flag_in, whole_in, counted, counted_p
 ghost use Rattle.rv_types.specs.ConstantParts.{IsBound};
 ghost use Rattle.rv_types.specs.Readings.{AreTables};
 ghost use Rattle.rv_types.specs.Scopes.{constant_values};
-ghost use Rattle.rv_tree.specs.Limits.{too_heavy};
+ghost use Rattle.rv_base.specs.Limits.{too_heavy};
 ghost use Rattle.rv_types.specs.ValueTables.{value_by};
 ghost use Rattle.rv_types.specs.WideConstants.{lesser, wide_at, first_wide, wide_below, first_wide_of_all, first_wide_constant};
 

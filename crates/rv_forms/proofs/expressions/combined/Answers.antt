@@ -1,6 +1,6 @@
 use Rattle.std.proofs.Common.{◌≡◌, ◌∙◌, ◌*◌, negsuc, ap, sym, subst, arith}
 use Rattle.std.specs.Prelude.{nat_abs}
-use Rattle.rv_tree.specs.Limits.{heaviest}
+use Rattle.rv_base.specs.Limits.{heaviest}
 use Rattle.rv_tree.specs.declared.tree.Op.{Op}
 use Rattle.rv_rows.specs.Forms.{CanAdd}
 use Rattle.rv_rows.specs.Arithmetic.{form_sum, form_times}

@@ -3,7 +3,7 @@ use Rattle.std.specs.Prelude.{String}
 use Rattle.std.specs.Global.{Global}
 use Rattle.rv_replay.specs.Replays.{FailsAt, IsFalsifiedAt, NeverEnds, OutgrowsAt}
 use Rattle.rv_make.specs.Made.{made_text}
-use Rattle.rv_tree.specs.Limits.{source_limit}
+use Rattle.rv_base.specs.Limits.{source_limit}
 use Rattle.rv_run.specs.declared.report.Report.TheVariants.{Accepted, Rejected, Falsified, AssertionFails, NeverFalse, Outgrown, Made, BadFile, TooLong, Memory}
 use Rattle.rv_run.specs.declared.words.Task.{Task}
 use Rattle.rv_run.specs.declared.words.Task.TheVariants.{Replay, Check}

@@ -1,6 +1,6 @@
 use Rattle.std.proofs.Common.{◌≡◌, ◌+◌, ◌≤◌, drop}
 use Rattle.rv_instances.specs.Bits.{bits_of_all}
-use Rattle.rv_tree.specs.Limits.{heaviest}
+use Rattle.rv_base.specs.Limits.{heaviest}
 use Rattle.rv_sizes.specs.Capped.{capped}
 use Rattle.rv_sizes.proofs.bits.bits_of_kinds.Given as goal
 

@@ -3,7 +3,7 @@ use Rattle.rv_tree.specs.Tree.{tree_of, trees}
 use Rattle.rv_types.specs.Readings.{view_of}
 use Rattle.rv_types.specs.Tables.{scope_of}
 use Rattle.rv_sizes.specs.Tests.{tests_of_all}
-use Rattle.rv_tree.specs.Limits.{heaviest}
+use Rattle.rv_base.specs.Limits.{heaviest}
 use Rattle.rv_sizes.specs.Capped.{capped}
 use Rattle.rv_sizes.proofs.order_tests.+tests.Given as goal
 

@@ -4,7 +4,7 @@ use Rattle.rv_types.specs.Readings.{view_of}
 use Rattle.rv_types.specs.Tables.{scope_of}
 use Rattle.rv_types.specs.Variables.{total}
 use Rattle.rv_sizes.specs.Tests.{tests}
-use Rattle.rv_tree.specs.Limits.{heaviest}
+use Rattle.rv_base.specs.Limits.{heaviest}
 use Rattle.rv_sizes.specs.Capped.{capped}
 use Rattle.rv_sizes.proofs.order_tests.tests_in_equations.Given as goal
 

@@ -1,7 +1,7 @@
 use Rattle.std.proofs.Common.{◌≡◌, ◌+◌, ◌≤◌, map, drop}
 use Rattle.rv_tree.specs.Tree.{tree_of, trees}
 use Rattle.rv_instances.specs.Counts.{size_of_all}
-use Rattle.rv_tree.specs.Limits.{heaviest}
+use Rattle.rv_base.specs.Limits.{heaviest}
 use Rattle.rv_sizes.specs.Capped.{capped}
 use Rattle.rv_sizes.proofs.sizes.+size.Given as goal
 

@@ -2,7 +2,7 @@ use Rattle.std.proofs.Common.{◌≡◌, ◌+◌, ◌≤◌, map, drop}
 use Rattle.rv_tree.specs.Tree.{AssertionTree, assertion_tree}
 use Rattle.rv_instances.specs.Counts.{size}
 use Rattle.rv_types.specs.Variables.{total}
-use Rattle.rv_tree.specs.Limits.{heaviest}
+use Rattle.rv_base.specs.Limits.{heaviest}
 use Rattle.rv_sizes.specs.Capped.{capped}
 use Rattle.rv_sizes.proofs.sizes.size_of_assertions.Given as goal
 

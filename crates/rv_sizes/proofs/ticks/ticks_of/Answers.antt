@@ -1,5 +1,5 @@
 use Rattle.std.proofs.Common.{◌≤◌, ◌≡◌, length, refl, ap, arith}
-use Rattle.rv_tree.specs.Limits.{source_limit}
+use Rattle.rv_base.specs.Limits.{source_limit}
 use Rattle.rv_tree.specs.Places.{flows}
 use Rattle.rv_tree.specs.Tree.{node_tree, program_tree}
 use Rattle.rv_instances.proofs.Known.{flows_once}

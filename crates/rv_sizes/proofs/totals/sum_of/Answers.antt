@@ -1,6 +1,6 @@
 use Rattle.std.proofs.Common.{◌≤◌, get_or, sym, subst, arith}
 use Rattle.std.proofs.lemmas.List.Elements.{Contains-get_or}
-use Rattle.rv_tree.specs.Limits.{heaviest}
+use Rattle.rv_base.specs.Limits.{heaviest}
 use Rattle.rv_instances.proofs.Lists.{got}
 use Rattle.rv_sizes.proofs.Summing.{called_more}
 use Rattle.rv_sizes.proofs.totals.sum_of.Goals as goal

@@ -7,7 +7,7 @@ use Rattle.rv_instances.specs.Bits.{bits_of_all}
 use Rattle.rv_sizes.specs.Capped.{capped}
 use Rattle.rv_types.specs.Variables.{input_bits}
 use Rattle.rv_types.specs.Values.{labels_at}
-use Rattle.rv_tree.specs.Limits.{heaviest}
+use Rattle.rv_base.specs.Limits.{heaviest}
 use Rattle.rv_instances.proofs.Lists.{length_map}
 use Rattle.rv_sizes.proofs.Main.{main_node, main_kinds, inputs_few}
 use Rattle.rv_sizes.proofs.Inputs.{input_kinds}

@@ -5,7 +5,7 @@ use Rattle.rv_types.specs.declared.typed.Kind.{Kind}
 use Rattle.rv_instances.specs.Bits.{bits_of_all}
 use Rattle.rv_types.specs.Variables.{memory_bits, over_instances}
 use Rattle.rv_types.specs.Values.{labels_at}
-use Rattle.rv_tree.specs.Limits.{heaviest}
+use Rattle.rv_base.specs.Limits.{heaviest}
 use Rattle.rv_sizes.specs.Totals.{AreCapped, total_at}
 use Rattle.rv_calls.specs.Callings.{callings_of}
 use Rattle.rv_types.specs.Instances.{name_at}

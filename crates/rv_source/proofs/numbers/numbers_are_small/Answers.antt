@@ -2,7 +2,7 @@ use Rattle.std.proofs.lemmas.List.Elements.{All-append, All-contains}
 use Rattle.std.specs.List.{flat_map}
 use Rattle.rv_base.specs.declared.value.Value.TheVariants.{Whole}
 use Rattle.std.proofs.Common.{◌≤◌}
-use Rattle.rv_tree.specs.Limits.{too_heavy}
+use Rattle.rv_base.specs.Limits.{too_heavy}
 use Rattle.rv_tree.specs.Tree.{Node, Number}
 use Rattle.rv_types.specs.Scopes.{constant_values}
 use Rattle.rv_types.specs.Variables.{parts, node_parts}

@@ -1,7 +1,7 @@
 use Rattle.std.proofs.Common.{◌≡◌, ◌&&◌, min, nat_abs, Some, subst, arith, ◌∙◌}
 use Rattle.rv_types.specs.Constants.{whole_in, value_under, weight_under, weight_of}
 use Rattle.rv_types.specs.ConstantParts.{IsKnownBound, constant_part}
-use Rattle.rv_tree.specs.Limits.{too_heavy}
+use Rattle.rv_base.specs.Limits.{too_heavy}
 use Rattle.rv_tree.specs.Tree.{Binary}
 use Rattle.rv_types.proofs.ConstantValues.{is_part, makes_form, not_arrow}
 use Rattle.rv_types.proofs.reading_values.constant_binary.Goals as goal

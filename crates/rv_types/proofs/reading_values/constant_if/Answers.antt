@@ -1,6 +1,6 @@
 use Rattle.std.proofs.Common.{◌≡◌, min, subst, arith}
 use Rattle.rv_types.specs.ConstantParts.{IsKnownBound}
-use Rattle.rv_tree.specs.Limits.{too_heavy}
+use Rattle.rv_base.specs.Limits.{too_heavy}
 use Rattle.rv_types.proofs.reading_values.constant_if.Goals as goal
 
 pub returns-in-Some-b-clause-bound : goal.returns-in-Some-b-clause-bound

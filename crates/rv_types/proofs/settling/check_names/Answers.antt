@@ -1,6 +1,6 @@
 use Rattle.std.proofs.Common.{◌≡◌, ◌<◌, ◌≤◌, ◌^◌, ◌∙◌, ap, sym, subst, rules, arith, true, false, length, Some, None}
 use Rattle.std.proofs.lemmas.List.{length-map}
-use Rattle.rv_tree.specs.Limits.{source_limit}
+use Rattle.rv_base.specs.Limits.{source_limit}
 use Rattle.rv_tree.specs.Tree.{program_tree}
 use Rattle.rv_tree.specs.Places.{index_of}
 use Rattle.rv_types.specs.Names.{texts, is_declared, node_names, name_faults}

@@ -1,6 +1,6 @@
 use Rattle.std.proofs.Common.{◌≡◌, ap, ◌∙◌, arith, rules, min, nat_abs}
 use Rattle.rv_types.specs.Constants.{whole_in, weight_under}
-use Rattle.rv_tree.specs.Limits.{too_heavy}
+use Rattle.rv_base.specs.Limits.{too_heavy}
 use Rattle.rv_types.proofs.Weights.{no_larger}
 use Rattle.rv_types.proofs.weighing.of_operator.Goals as goal
 

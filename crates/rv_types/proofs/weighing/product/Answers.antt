@@ -3,7 +3,7 @@ use mir.Val.{SFits, to_z, of_z}
 use mir.Syntax.{w128}
 use lib.IntN.{ℤ}
 use Rattle.std.proofs.lemmas.Int.{to_z-of_z, fits_signed_mul}
-use Rattle.rv_tree.specs.Limits.{too_heavy}
+use Rattle.rv_base.specs.Limits.{too_heavy}
 use Rattle.rv_types.proofs.weighing.product.Goals as goal
 
 exact : (a b x y : ℤ) → x ≡ a → y ≡ b → SFits w128 (a *ℤ b) → to_z w128 (of_z w128 (x *ℤ y)) ≡ a *ℤ b

@@ -1,5 +1,5 @@
 use Rattle.std.proofs.Common.{◌≡◌, min, arith}
-use Rattle.rv_tree.specs.Limits.{too_heavy}
+use Rattle.rv_base.specs.Limits.{too_heavy}
 use Rattle.rv_types.proofs.wide_constants.of_three.Goals as goal
 
 pub part_of-requires : goal.part_of-requires
