@@ -13,7 +13,8 @@ use Rattle.rv_rows.specs.Forms as forms
 use Rattle.rv_rows.specs.Arithmetic.{test_row}
 use Rattle.rv_agreement.specs.Trees.{System, memory_kinds, memory_places, kind_at}
 use Rattle.rv_agreement.specs.Evaluation.{integers, value}
-use Rattle.rv_agreement.specs.Valuations.{Valuation, Reading, Truth, Name, Linear, at_point, is_linear, form_of, width, reads_at, found_at, IsSymbolic, Comparison, all_comparisons, is_of_integers, read, tested, tested_form, Agrees, IsCoded}
+use Rattle.rv_agreement.specs.Valuations.{Valuation, Reading, Truth, Name, Linear, at_point, is_linear, form_of, width, reads_at, found_at, IsSymbolic}
+use Rattle.rv_agreement.specs.Valuations.{Comparison, all_comparisons, is_of_integers, read, tested, tested_form, Agrees, IsCoded}
 use Rattle.rv_agreement.specs.Agreement.{State, point, found_in, IsWholeInstant, IsNext, IsTyped, IsAgreed, IsWell, Gives, AreAlike}
 use Rattle.rv_agreement.proofs.LinearLemmas.{Laws, told, side_told}
 use Rattle.rv_agreement.proofs.Operators.{number_at}
@@ -41,21 +42,26 @@ module _ (laws : Laws) (s : System) (v : Valuation) (now : State) (inputs : List
   operands_told c side matched = form_told c side matched ∙ (λ i. told side (number (sym matched.0 i)) (number (sym matched.1 i)))
 
   -- where the point meets the rows, the present tests tell the truth
-  pub tell_agreed : Agrees s v symbolic (point s now inputs) → (c : Comparison) → Contains (all_comparisons s) c → IsTold s v now inputs row symbolic (point s now inputs) c
+  pub tell_agreed : Agrees s v symbolic (point s now inputs) → (c : Comparison) → Contains (all_comparisons s) c
+      → IsTold s v now inputs row symbolic (point s now inputs) c
   tell_agreed agrees c w on matched integral side side_is =
       let tight = laws.some_tightened (test_row (v.test c.at side) (tested_form (width s) v.test (tested s v symbolic c) side)) in
       let holds = agrees c side tight.0 w (record { there = on; whole = integral; side_is = side_is }, tight.1) in
-      (laws.tests (v.test c.at side) (tested_form (width s) v.test (tested s v symbolic c) side) (point s now inputs)).0 ((laws.same_points (test_row (v.test c.at side) (tested_form (width s) v.test (tested s v symbolic c) side)) tight.0 tight.1 (point s now inputs)).0 holds)
+      (laws.tests (v.test c.at side) (tested_form (width s) v.test (tested s v symbolic c) side) (point s now inputs)).0
+      ((laws.same_points (test_row (v.test c.at side) (tested_form (width s) v.test (tested s v symbolic c) side)) tight.0 tight.1 (point s now inputs)).0
+      holds)
       ∙ operands_told c side matched
 
   -- and where they tell it, it meets the rows
   agrees_told : IsWell s → IsFound s v now inputs row symbolic (point s now inputs) → IsSymbolic s v symbolic → IsWholeInstant s now inputs row
-      → ((c : Comparison) → Contains (all_comparisons s) c → IsTold s v now inputs row symbolic (point s now inputs) c) → Agrees s v symbolic (point s now inputs)
+      → ((c : Comparison) → Contains (all_comparisons s) c → IsTold s v now inputs row symbolic (point s now inputs) c)
+      → Agrees s v symbolic (point s now inputs)
   agrees_told well found instant rows tell c side r w is =
       let matched = operands_same s v now inputs row symbolic (point s now inputs) laws well found instant tell rows c w is.0.there in
       let truth = tell c w is.0.there matched is.0.whole side is.0.side_is in
       (laws.same_points (test_row (v.test c.at side) (tested_form (width s) v.test (tested s v symbolic c) side)) r is.1 (point s now inputs)).1
-      ((laws.tests (v.test c.at side) (tested_form (width s) v.test (tested s v symbolic c) side) (point s now inputs)).1 (truth ∙ sym (operands_told c side matched)))
+      ((laws.tests (v.test c.at side) (tested_form (width s) v.test (tested s v symbolic c) side) (point s now inputs)).1
+      (truth ∙ sym (operands_told c side matched)))
 
 -- whether a value is an integer
 is_whole : Value → Bool
@@ -68,7 +74,8 @@ linear_at x (Truth b) = refl
 linear_at x (Name l) = refl
 linear_at x (Linear f) = refl
 
-integral_at : (x : List ℤ) (o : Op) (a b c d : Reading) → at_point x a ≡ at_point x c → at_point x b ≡ at_point x d → is_of_integers o a b ≡ is_of_integers o c d
+integral_at : (x : List ℤ) (o : Op) (a b c d : Reading) → at_point x a ≡ at_point x c → at_point x b ≡ at_point x d
+    → is_of_integers o a b ≡ is_of_integers o c d
 integral_at x o a b c d left right = by o
   where
     linear : (p q : Reading) → at_point x p ≡ at_point x q → is_linear p ≡ is_linear q
@@ -94,7 +101,8 @@ integral_at x o a b c d left right = by o
     by op.Mod = refl
 
 -- there is a valuation that agrees
-pub some_agreed : Laws → (s : System) (now : State) (inputs : List Value) (row : List (Option Value)) → IsWell s → IsTyped s now inputs → IsWholeInstant s now inputs row
+pub some_agreed : Laws → (s : System) (now : State) (inputs : List Value) (row : List (Option Value)) → IsWell s → IsTyped s now inputs
+    → IsWholeInstant s now inputs row
     → (v : Valuation) × (symbolic : List (Option Reading)) × IsCoded s v × IsAgreed s v symbolic now inputs
 some_agreed laws s now inputs row well typed rows =
     let v = chosen s now inputs row in
@@ -104,12 +112,18 @@ some_agreed laws s now inputs row well typed rows =
       v,
       one.0,
       is_coded s now inputs row well typed,
-      (spelling, one.1, agrees_told laws s v now inputs row one.0 well found one.1 rows (λ c w on matched integral side side_is. test_is s now inputs row well typed c w side)),
+      (
+        spelling,
+        one.1,
+        agrees_told laws s v now inputs row one.0 well found one.1 rows
+            (λ c w on matched integral side side_is. test_is s now inputs row well typed c w side),
+      ),
     )
 
 -- it gives the instant
 pub gives : Laws → (s : System) (now next : State) (inputs : List Value) (row : List (Option Value)) (v : Valuation) (symbolic : List (Option Reading))
-    → IsWell s → IsTyped s now inputs → IsWholeInstant s now inputs row → IsNext s now inputs row next → IsAgreed s v symbolic now inputs → Gives s v symbolic now inputs row next
+    → IsWell s → IsTyped s now inputs → IsWholeInstant s now inputs row → IsNext s now inputs row next → IsAgreed s v symbolic now inputs
+    → Gives s v symbolic now inputs row next
 gives laws s now next inputs row v symbolic well typed rows is_next agreed =
     let x = point s now inputs in
     let found = is_found laws s v now inputs typed agreed.0 row symbolic in
@@ -119,7 +133,8 @@ gives laws s now next inputs row v symbolic well typed rows is_next agreed =
       assertions = assertion_same s v now inputs row symbolic x laws well found agreed.1 tell rows;
       observer = flow_same s v now inputs row symbolic x laws well found agreed.1 tell rows s.observer well.observer;
       ticks = λ k lt. is_next.ticked k lt
-          ∙ (λ i. agreed.0.ticks k (omega (arith, well.ticks, lt)) i || there_same s v now inputs row symbolic x laws well found agreed.1 tell rows (slice_index_or s.tick_clocks k Nothing) (well.tick_clocks k lt) i);
+          ∙ (λ i. agreed.0.ticks k (omega (arith, well.ticks, lt)) i || there_same s v now inputs row symbolic x laws well found agreed.1 tell rows
+          (slice_index_or s.tick_clocks k Nothing) (well.tick_clocks k lt) i);
       memories = λ m lt. is_next.kept m lt ∙ memory_same s v now inputs row symbolic x laws well found agreed.1 tell rows m lt;
     }
 
@@ -134,14 +149,18 @@ alike laws s now inputs row v w first second well typed rows one other =
     let other_tell = tell_agreed laws s w now inputs row second other.2 in
     record {
       ticks = λ k lt. sym (one.0.ticks k lt) ∙ other.0.ticks k lt;
-      memories = λ m b lt less. same_bits s.labels (kind_at (memory_kinds s) m) (v.kept (slice_index_or (memory_places s) m [])) (w.kept (slice_index_or (memory_places s) m [])) (slice_index_or now.kept m (Flag false)) (one.0.memories m lt) (other.0.memories m lt) b less;
-      inputs = λ j b lt less. same_bits s.labels (kind_at s.inputs j) (v.input j) (w.input j) (slice_index_or inputs j (Flag false)) (one.0.given j lt) (other.0.given j lt) b less;
+      memories = λ m b lt less. same_bits s.labels (kind_at (memory_kinds s) m) (v.kept (slice_index_or (memory_places s) m []))
+          (w.kept (slice_index_or (memory_places s) m [])) (slice_index_or now.kept m (Flag false)) (one.0.memories m lt) (other.0.memories m lt) b less;
+      inputs = λ j b lt less. same_bits s.labels (kind_at s.inputs j) (v.input j) (w.input j) (slice_index_or inputs j (Flag false)) (one.0.given j lt)
+          (other.0.given j lt) b less;
       tests = λ c side in' present.
           let named = clock_named s v now inputs row first x laws well found one.1 tell rows c in' in
-          let on = sym (there_same s w now inputs row second x laws well other_found other.1 other_tell rows c.clock named) ∙ there_same s v now inputs row first x laws well found one.1 tell rows c.clock named ∙ present.there in
+          let on = sym (there_same s w now inputs row second x laws well other_found other.1 other_tell rows c.clock named)
+          ∙ there_same s v now inputs row first x laws well found one.1 tell rows c.clock named ∙ present.there in
           let matched = operands_same s v now inputs row first x laws well found one.1 tell rows c in' present.there in
           let other_matched = operands_same s w now inputs row second x laws well other_found other.1 other_tell rows c in' on in
-          let integral = integral_at x c.operator (read s w second c.left) (read s w second c.right) (read s v first c.left) (read s v first c.right) (sym other_matched.0 ∙ matched.0) (sym other_matched.1 ∙ matched.1) ∙ present.whole in
+          let integral = integral_at x c.operator (read s w second c.left) (read s w second c.right) (read s v first c.left) (read s v first c.right)
+          (sym other_matched.0 ∙ matched.0) (sym other_matched.1 ∙ matched.1) ∙ present.whole in
           tell c in' present.there matched present.whole side present.side_is
           ∙ sym (other_tell c in' on other_matched integral side present.side_is);
     }

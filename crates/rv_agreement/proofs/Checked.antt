@@ -1,5 +1,6 @@
 -- A flat system that passes the tests and is inlined is well formed.
-use Rattle.std.proofs.Common.{◌≡◌, ℕ, zero, suc, ◌+◌, ◌<◌, Bool, true, false, not, ◌&&◌, cond, nat_eq, nat_lt, List, [], ◌∷◌, map, length, get_or, slice_get, refl, sym, ◌∙◌, ap, subst, arith, Option, Some, inl, inr}
+use Rattle.std.proofs.Common.{◌≡◌, ℕ, zero, suc, ◌+◌, ◌<◌, Bool, true, false, not, ◌&&◌, cond, nat_eq, nat_lt, List, [], ◌∷◌, map, length, get_or, slice_get}
+use Rattle.std.proofs.Common.{refl, sym, ◌∙◌, ap, subst, arith, Option, Some, inl, inr}
 use Rattle.std.proofs.Common.{None as Nothing}
 use Rattle.std.specs.Prelude.{slice_index_or}
 use Rattle.std.specs.List.{Contains}
@@ -16,10 +17,13 @@ use Rattle.rv_types.specs.declared.typed.Kind.TheVariants as kind
 use Rattle.rv_types.specs.Lists.{sides_of}
 use Rattle.rv_types.specs.Types.{same_kind}
 use Rattle.rv_types.specs.Variables.{is_integer}
-use Rattle.rv_agreement.specs.Trees.{FlatTree, Node, TreeForm, FlatTrees, Constant, Flow, Memory, Ticked, Input, Not, Binary, Scale, If, AtMostOne, When, Current, None, More, Item, nth_item, Kept, System, memory_kinds, memory_places, kind_at}
+use Rattle.rv_agreement.specs.Trees.{FlatTree, Node, TreeForm, FlatTrees, Constant, Flow, Memory, Ticked, Input, Not, Binary, Scale, If, AtMostOne, When}
+use Rattle.rv_agreement.specs.Trees.{Current, None, More, Item, nth_item, Kept, System, memory_kinds, memory_places, kind_at}
 use Rattle.rv_agreement.specs.Valuations.{is_placed}
 use Rattle.rv_agreement.specs.Agreement.{HasKind, IsRule, IsPlaced, IsNamed, Fits, FormFits, AllFit, ItemFits, IsWell}
-use Rattle.rv_agreement.specs.Checks.{same_sites, same_flow, same_clock, is_among, are_distinct, any_of, is_of, constant_fits, gives, operands, is_placed_for, clock_fits, fits, form_fits, all_fit, IsShared, FormIsShared, AreShared, item_fits, flows_fit, memories_fit, assertions_fit, clocks_fit, IsChecked, IsInlined}
+use Rattle.rv_agreement.specs.Checks.{same_sites, same_flow, same_clock, is_among, are_distinct, any_of, is_of, constant_fits, gives, operands, is_placed_for}
+use Rattle.rv_agreement.specs.Checks.{clock_fits, fits, form_fits, all_fit, IsShared, FormIsShared, AreShared, item_fits, flows_fit, memories_fit}
+use Rattle.rv_agreement.specs.Checks.{assertions_fit, clocks_fit, IsChecked, IsInlined}
 use Rattle.rv_agreement.proofs.Controls.{no_flag}
 use Rattle.rv_agreement.proofs.Matching.{in_tail, only_one}
 use Rattle.rv_agreement.proofs.Chosen.{sites_itself, flow_itself}
@@ -111,7 +115,8 @@ module _ (s : System) where
     fits_told : (n : ℕ) (k : Option ℕ) (j : Kind) (e : FlatTree) → fits s n k j e ≡ true → IsShared s e → Fits s n k j e
     fits_told n k j (Node at form) e shared = form_told n k j at form e shared
 
-    form_told : (n : ℕ) (k : Option ℕ) (j : Kind) (at : Sites) (form : TreeForm) → form_fits s n k j at form ≡ true → FormIsShared s form → FormFits s n k j at form
+    form_told : (n : ℕ) (k : Option ℕ) (j : Kind) (at : Sites) (form : TreeForm) → form_fits s n k j at form ≡ true → FormIsShared s form
+        → FormFits s n k j at form
     form_told n k j at (Constant c) e shared = constant_told s.labels j c e
     form_told n k j at (Flow c) e shared =
         let p = and_parts (nat_lt c n) (is_of j (slice_get s.kinds c) && same_clock k (nth_item s.flows c).clock) e in
@@ -163,7 +168,8 @@ module _ (s : System) where
       let p = and_parts (clock_fits s n x.clock) (fits s n x.clock j x.body) e in
       (named_told n x.clock p.0, fits_told n x.clock j x.body p.1 shared)
 
-  flow_told : (n : ℕ) (xs : List Item) (k : ℕ) → flows_fit s n xs ≡ true → k < length xs → IsShared s (nth_item xs k).body → ItemFits s (n + k) (kind_at s.kinds (n + k)) (nth_item xs k)
+  flow_told : (n : ℕ) (xs : List Item) (k : ℕ) → flows_fit s n xs ≡ true → k < length xs → IsShared s (nth_item xs k).body
+      → ItemFits s (n + k) (kind_at s.kinds (n + k)) (nth_item xs k)
   flow_told n [] k e lt shared = absurd (omega arith)
   flow_told n (x ∷ xs) zero e lt shared =
       subst (λ m. ItemFits s m (kind_at s.kinds m) x) (let d : n ≡ n + 0 = omega arith in d)
@@ -175,13 +181,18 @@ module _ (s : System) where
   memories_told : (ms : List Kept) (k : ℕ) → memories_fit s ms ≡ true → k < length ms → IsShared s (nth_item (map (λ m. m.item) ms) k).body
       → ItemFits s (length s.flows) (kind_at (map (λ m. m.kind) ms) k) (nth_item (map (λ m. m.item) ms) k)
   memories_told [] k e lt shared = absurd (omega arith)
-  memories_told (m ∷ ms) zero e lt shared = item_told (length s.flows) m.kind m.item (and_parts (item_fits s (length s.flows) m.kind m.item) (memories_fit s ms) e).0 shared
-  memories_told (m ∷ ms) (suc k) e lt shared = memories_told ms k (and_parts (item_fits s (length s.flows) m.kind m.item) (memories_fit s ms) e).1 (omega arith) shared
+  memories_told (m ∷ ms) zero e lt shared = item_told (length s.flows) m.kind m.item
+      (and_parts (item_fits s (length s.flows) m.kind m.item) (memories_fit s ms) e).0 shared
+  memories_told (m ∷ ms) (suc k) e lt shared = memories_told ms k (and_parts (item_fits s (length s.flows) m.kind m.item) (memories_fit s ms) e).1
+      (omega arith) shared
 
-  assertions_told : (xs : List Item) (k : ℕ) → assertions_fit s xs ≡ true → k < length xs → IsShared s (nth_item xs k).body → ItemFits s (length s.flows) kind.Bool (nth_item xs k)
+  assertions_told : (xs : List Item) (k : ℕ) → assertions_fit s xs ≡ true → k < length xs → IsShared s (nth_item xs k).body
+      → ItemFits s (length s.flows) kind.Bool (nth_item xs k)
   assertions_told [] k e lt shared = absurd (omega arith)
-  assertions_told (x ∷ xs) zero e lt shared = item_told (length s.flows) kind.Bool x (and_parts (item_fits s (length s.flows) kind.Bool x) (assertions_fit s xs) e).0 shared
-  assertions_told (x ∷ xs) (suc k) e lt shared = assertions_told xs k (and_parts (item_fits s (length s.flows) kind.Bool x) (assertions_fit s xs) e).1 (omega arith) shared
+  assertions_told (x ∷ xs) zero e lt shared = item_told (length s.flows) kind.Bool x
+      (and_parts (item_fits s (length s.flows) kind.Bool x) (assertions_fit s xs) e).0 shared
+  assertions_told (x ∷ xs) (suc k) e lt shared = assertions_told xs k (and_parts (item_fits s (length s.flows) kind.Bool x) (assertions_fit s xs) e).1
+      (omega arith) shared
 
   clocks_told : (ks : List (Option ℕ)) (k : ℕ) → clocks_fit s ks ≡ true → k < length ks → IsNamed (length s.flows) (slice_index_or ks k Nothing)
   clocks_told [] k e lt = absurd (omega arith)
@@ -197,20 +208,25 @@ module _ (K : Type 0) (same : K → K → Bool) (itself : (p : K) → same p p �
   distinct_told : (ks : List K) → are_distinct K same ks ≡ true → (i j : ℕ) (d : K) → i < length ks → j < length ks → get_or ks i d ≡ get_or ks j d → i ≡ j
   distinct_told [] e i j d less lt is = absurd (omega arith)
   distinct_told (k ∷ ks) e zero zero d less lt is = refl
-  distinct_told (k ∷ ks) e zero (suc j) d less lt is = absurd (not_among k ks j d (not-true (is_among K same k ks) (and_parts (not (is_among K same k ks)) (are_distinct K same ks) e).0) (omega arith) is)
-  distinct_told (k ∷ ks) e (suc i) zero d less lt is = absurd (not_among k ks i d (not-true (is_among K same k ks) (and_parts (not (is_among K same k ks)) (are_distinct K same ks) e).0) (omega arith) (sym is))
-  distinct_told (k ∷ ks) e (suc i) (suc j) d less lt is = ap suc (distinct_told ks (and_parts (not (is_among K same k ks)) (are_distinct K same ks) e).1 i j d (omega arith) (omega arith) is)
+  distinct_told (k ∷ ks) e zero (suc j) d less lt is = absurd (not_among k ks j d
+      (not-true (is_among K same k ks) (and_parts (not (is_among K same k ks)) (are_distinct K same ks) e).0) (omega arith) is)
+  distinct_told (k ∷ ks) e (suc i) zero d less lt is = absurd (not_among k ks i d
+      (not-true (is_among K same k ks) (and_parts (not (is_among K same k ks)) (are_distinct K same ks) e).0) (omega arith) (sym is))
+  distinct_told (k ∷ ks) e (suc i) (suc j) d less lt is = ap suc (distinct_told ks (and_parts (not (is_among K same k ks)) (are_distinct K same ks) e).1 i j d
+      (omega arith) (omega arith) is)
 
 pub is_well : (s : System) → IsChecked s → IsInlined s → IsWell s
 is_well s checked inlined = record {
   kinds = checked.kinds;
-  flows = λ k lt. subst (λ m. ItemFits s m (kind_at s.kinds m) (nth_item s.flows k)) (let d : 0 + k ≡ k = omega arith in d) (flow_told s 0 s.flows k checked.flows lt (inlined.flows k lt));
+  flows = λ k lt. subst (λ m. ItemFits s m (kind_at s.kinds m) (nth_item s.flows k)) (let d : 0 + k ≡ k = omega arith in d)
+      (flow_told s 0 s.flows k checked.flows lt (inlined.flows k lt));
   memories = λ m lt. memories_told s s.memories m checked.memories lt (inlined.memories m lt);
   assertions = λ k lt. assertions_told s s.assertions k checked.assertions lt (inlined.assertions k lt);
   observer = let o = of_told kind.Bool s.kinds s.observer checked.observer in omega (arith, o.0, checked.kinds);
   ticks = checked.ticks;
   tick_clocks = λ k lt. clocks_told s s.tick_clocks k checked.tick_clocks lt;
   ticks_apart = λ j k less lt is. distinct_told (Option Sites) same_flow flow_itself s.ticks checked.tick_places j k Nothing less lt is;
-  memories_apart = λ j k less lt is. distinct_told Sites same_sites sites_itself (memory_places s) checked.memory_places j k [] (rw length-map less) (rw length-map lt) is;
+  memories_apart = λ j k less lt is. distinct_told Sites same_sites sites_itself (memory_places s) checked.memory_places j k [] (rw length-map less)
+      (rw length-map lt) is;
   apart = checked.comparisons;
 }

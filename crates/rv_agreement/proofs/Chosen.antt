@@ -1,5 +1,6 @@
 -- The valuation that a state and an instant in whole numbers choose.
-use Rattle.std.proofs.Common.{◌≡◌, ℕ, zero, suc, ◌<◌, Bool, true, false, ◌&&◌, cond, List, [], ◌∷◌, length, map, get_or, nat_eq, refl, sym, ◌∙◌, ap, subst, arith}
+use Rattle.std.proofs.Common.{◌≡◌, ℕ, zero, suc, ◌<◌, Bool, true, false, ◌&&◌, cond, List, [], ◌∷◌, length, map, get_or, nat_eq, refl, sym, ◌∙◌, ap, subst}
+use Rattle.std.proofs.Common.{arith}
 use Rattle.std.proofs.Common.{Option, None as Nothing, Some}
 use Rattle.std.specs.Prelude.{slice_index_or}
 use Rattle.std.specs.List.{Contains}
@@ -47,12 +48,15 @@ module _ (K B : Type 0) (same : K → K → Bool) (sound : (p q : K) → same p 
   look [] f p = no
   look (k ∷ ks) f p = cond (same k p) (f 0) (look ks (λ j. f (suc j)) p)
 
-  look_at : (ks : List K) (f : ℕ → B) (j : ℕ) (d : K) → j < length ks → ((i : ℕ) → i < length ks → get_or ks i d ≡ get_or ks j d → f i ≡ f j) → look ks f (get_or ks j d) ≡ f j
+  look_at : (ks : List K) (f : ℕ → B) (j : ℕ) (d : K) → j < length ks → ((i : ℕ) → i < length ks → get_or ks i d ≡ get_or ks j d → f i ≡ f j)
+      → look ks f (get_or ks j d) ≡ f j
   look_at [] f j d lt alone = absurd (omega arith)
   look_at (k ∷ ks) f zero d lt alone = ap (λ b. cond b (f 0) (look ks (λ i. f (suc i)) k)) (itself k)
-  look_at (k ∷ ks) f (suc j) d lt alone = by (same k (get_or ks j d)) refl (look_at ks (λ i. f (suc i)) j d (omega arith) (λ i lt same. alone (suc i) (omega arith) same))
+  look_at (k ∷ ks) f (suc j) d lt alone = by (same k (get_or ks j d)) refl
+      (look_at ks (λ i. f (suc i)) j d (omega arith) (λ i lt same. alone (suc i) (omega arith) same))
     where
-      by : (b : Bool) → same k (get_or ks j d) ≡ b → look ks (λ i. f (suc i)) (get_or ks j d) ≡ f (suc j) → cond b (f 0) (look ks (λ i. f (suc i)) (get_or ks j d)) ≡ f (suc j)
+      by : (b : Bool) → same k (get_or ks j d) ≡ b → look ks (λ i. f (suc i)) (get_or ks j d) ≡ f (suc j)
+          → cond b (f 0) (look ks (λ i. f (suc i)) (get_or ks j d)) ≡ f (suc j)
       by true e later = alone 0 (omega arith) (sound k (get_or ks j d) e)
       by false e later = later
 
@@ -72,7 +76,8 @@ module _ (s : System) (now : State) (inputs : List Value) (row : List (Option Va
     ticked = look (Option Sites) Bool same_flow flow_told flow_itself false s.ticks (λ k. slice_index_or now.ticked k false);
     kept = λ p. bits_of (look Sites Value same_sites sites_told sites_itself (Flag false) (memory_places s) (λ m. slice_index_or now.kept m (Flag false)) p);
     input = λ j. bits_of (slice_index_or inputs j (Flag false));
-    test = λ p side. look Sites Bool same_sites sites_told sites_itself false (map (λ c. c.at) (all_comparisons s)) (λ j. test_of side (slice_index_or (all_comparisons s) j no_comparison)) p;
+    test = λ p side. look Sites Bool same_sites sites_told sites_itself false (map (λ c. c.at) (all_comparisons s))
+        (λ j. test_of side (slice_index_or (all_comparisons s) j no_comparison)) p;
   }
 
   module _ (well : IsWell s) (typed : IsTyped s now inputs) where
@@ -83,28 +88,33 @@ module _ (s : System) (now : State) (inputs : List Value) (row : List (Option Va
 
     kept_is : (m : ℕ) → m < length s.memories → chosen.kept (slice_index_or (memory_places s) m []) ≡ bits_of (slice_index_or now.kept m (Flag false))
     unfolding chosen
-    kept_is m lt = ap bits_of (look_at Sites Value same_sites sites_told sites_itself (Flag false) (memory_places s) (λ j. slice_index_or now.kept j (Flag false)) m [] (rw length-map lt)
-        (λ i less same. ap (λ j. slice_index_or now.kept j (Flag false)) (well.memories_apart i m (let l : i < length (memory_places s) = less in simp length-map at l) lt same)))
+    kept_is m lt = ap bits_of (look_at Sites Value same_sites sites_told sites_itself (Flag false) (memory_places s)
+        (λ j. slice_index_or now.kept j (Flag false)) m [] (rw length-map lt)
+        (λ i less same. ap (λ j. slice_index_or now.kept j (Flag false))
+        (well.memories_apart i m (let l : i < length (memory_places s) = less in simp length-map at l) lt same)))
 
     pub spells : Spells s chosen now inputs
     unfolding chosen
     spells = record {
       ticks = λ k lt. sym (tick_is k lt);
-      memories = λ m lt. subst (λ bits. IsSpelled s.labels (kind_at (memory_kinds s) m) bits (slice_index_or now.kept m (Flag false))) (sym (kept_is m lt)) (is_spelled s.labels (kind_at (memory_kinds s) m) (slice_index_or now.kept m (Flag false)) (typed.memories.each m (rw length-map lt)));
+      memories = λ m lt. subst (λ bits. IsSpelled s.labels (kind_at (memory_kinds s) m) bits (slice_index_or now.kept m (Flag false))) (sym (kept_is m lt))
+          (is_spelled s.labels (kind_at (memory_kinds s) m) (slice_index_or now.kept m (Flag false)) (typed.memories.each m (rw length-map lt)));
       given = λ j lt. is_spelled s.labels (kind_at s.inputs j) (slice_index_or inputs j (Flag false)) (typed.given.each j lt);
     }
 
     pub is_coded : IsCoded s chosen
     unfolding chosen
     is_coded = record {
-      memories = λ m lt. subst (λ bits. IsCodedAs s.labels (kind_at (memory_kinds s) m) bits) (sym (kept_is m lt)) (is_coded_as s.labels (kind_at (memory_kinds s) m) (slice_index_or now.kept m (Flag false)) (typed.memories.each m (rw length-map lt)));
+      memories = λ m lt. subst (λ bits. IsCodedAs s.labels (kind_at (memory_kinds s) m) bits) (sym (kept_is m lt))
+          (is_coded_as s.labels (kind_at (memory_kinds s) m) (slice_index_or now.kept m (Flag false)) (typed.memories.each m (rw length-map lt)));
       inputs = λ j lt. is_coded_as s.labels (kind_at s.inputs j) (slice_index_or inputs j (Flag false)) (typed.given.each j lt);
     }
 
     comparison_at : (c : Comparison) (w : Contains (all_comparisons s) c) → slice_index_or (all_comparisons s) w.0 no_comparison ≡ c
     comparison_at c w = get_or_default (all_comparisons s) w.0 no_comparison c w.1 ∙ w.2
 
-    place_at : (i : ℕ) → i < length (all_comparisons s) → get_or (map (λ d. d.at) (all_comparisons s)) i [] ≡ (slice_index_or (all_comparisons s) i no_comparison).at
+    place_at : (i : ℕ) → i < length (all_comparisons s) → get_or (map (λ d. d.at) (all_comparisons s)) i
+        [] ≡ (slice_index_or (all_comparisons s) i no_comparison).at
     place_at i lt = get_or-map (λ d. d.at) (all_comparisons s) i no_comparison [] lt
 
     same_test : (side : Side) (i j : ℕ) → i < length (all_comparisons s) → j < length (all_comparisons s)
@@ -118,13 +128,15 @@ module _ (s : System) (now : State) (inputs : List Value) (row : List (Option Va
         λ t. told side (number (whole (operands.0 t))) (number (whole (operands.1 t)))
 
     -- its tests tell the truth
-    pub test_is : (c : Comparison) → Contains (all_comparisons s) c → (side : Side) → chosen.test c.at side ≡ told side (number (whole c.left)) (number (whole c.right))
+    pub test_is : (c : Comparison) → Contains (all_comparisons s) c → (side : Side)
+        → chosen.test c.at side ≡ told side (number (whole c.left)) (number (whole c.right))
     unfolding chosen test_of
     test_is c w side =
         let places = map (λ d. d.at) (all_comparisons s) in
         let within : w.0 < length (map (λ d. d.at) (all_comparisons s)) = rw length-map w.1 in
         let here : get_or (map (λ d. d.at) (all_comparisons s)) w.0 [] ≡ c.at = place_at w.0 w.1 ∙ ap (λ d. d.at) (comparison_at c w) in
         ap (λ p. chosen.test p side) (sym here)
-        ∙ look_at Sites Bool same_sites sites_told sites_itself false (map (λ d. d.at) (all_comparisons s)) (λ j. test_of side (slice_index_or (all_comparisons s) j no_comparison)) w.0 [] within
+        ∙ look_at Sites Bool same_sites sites_told sites_itself false (map (λ d. d.at) (all_comparisons s))
+        (λ j. test_of side (slice_index_or (all_comparisons s) j no_comparison)) w.0 [] within
         (λ i less same. same_test side i w.0 (let l : i < length (map (λ d. d.at) (all_comparisons s)) = less in simp length-map at l) w.1 same)
         ∙ ap (test_of side) (comparison_at c w)

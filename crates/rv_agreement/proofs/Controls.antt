@@ -15,9 +15,11 @@ use Rattle.rv_types.specs.declared.typed.Kind.TheVariants as kind
 use Rattle.rv_types.specs.Lists.{Side, sides_of}
 use Rattle.rv_types.specs.Variables.{is_integer}
 use Rattle.rv_rows.specs.declared.linear.Form.{Form}
-use Rattle.rv_agreement.specs.Trees.{FlatTree, Node, TreeForm, Constant, Flow, Memory, Ticked, Input, Not, Binary, Scale, If, AtMostOne, When, Current, nth_item, System, memory_kinds, memory_places, kind_at}
+use Rattle.rv_agreement.specs.Trees.{FlatTree, Node, TreeForm, Constant, Flow, Memory, Ticked, Input, Not, Binary, Scale, If, AtMostOne, When, Current}
+use Rattle.rv_agreement.specs.Trees.{nth_item, System, memory_kinds, memory_places, kind_at}
 use Rattle.rv_agreement.specs.Evaluation.{nth, held, is_there, form_value}
-use Rattle.rv_agreement.specs.Valuations.{Valuation, Reading, is_linear, constant_reading, operated, is_of_integers, spelled, width, reads_at, found_at, holds_true, IsSymbolic, read}
+use Rattle.rv_agreement.specs.Valuations.{Valuation, Reading, is_linear, constant_reading, operated, is_of_integers, spelled, width, reads_at, found_at}
+use Rattle.rv_agreement.specs.Valuations.{holds_true, IsSymbolic, read}
 use Rattle.rv_agreement.specs.Agreement.{HasKind, IsRule, Fits, FormFits, IsWell}
 
 pub no_flag : {A : Type 0} → false ≡ true → A
@@ -27,7 +29,8 @@ no_flag e = absurd (grind arith)
 no_integer : {A : Type 0} (j : Kind) → j ≡ kind.Int → is_integer j ≡ false → A
 no_integer j is not = no_flag (sym not ∙ ap is_integer is)
 
-constant_control : (labels : List ℕ) (n : ℕ) (test : Sites → Side → Bool) (j : Kind) (c : Value) → HasKind labels j c → is_integer j ≡ false → is_linear (constant_reading n test c) ≡ false
+constant_control : (labels : List ℕ) (n : ℕ) (test : Sites → Side → Bool) (j : Kind) (c : Value) → HasKind labels j c → is_integer j ≡ false
+    → is_linear (constant_reading n test c) ≡ false
 constant_control labels n test j (value.Flag b) has not = refl
 constant_control labels n test j (value.Label l) has not = refl
 constant_control labels n test kind.Bool (value.Whole z) has not = absurd has
@@ -43,7 +46,8 @@ chosen_control : (b : Bool) (p q : Reading) → is_linear p ≡ false → is_lin
 chosen_control true p q first second = first
 chosen_control false p q first second = second
 
-operated_control : (n : ℕ) (test : Sites → Side → Bool) (at : Sites) (o : Op) (i j : Kind) (a b : Reading) → IsRule o i j → is_integer j ≡ false → is_linear (operated n test at o a b) ≡ false
+operated_control : (n : ℕ) (test : Sites → Side → Bool) (at : Sites) (o : Op) (i j : Kind) (a b : Reading) → IsRule o i j → is_integer j ≡ false
+    → is_linear (operated n test at o a b) ≡ false
 operated_control n test at op.Arrow i j a b rule not = absurd rule
 operated_control n test at op.Implies i j a b rule not = refl
 operated_control n test at op.Or i j a b rule not = refl
@@ -63,11 +67,13 @@ operated_control n test at op.Div i j a b rule not = absurd rule
 operated_control n test at op.Mod i j a b rule not = absurd rule
 
 -- Where operands of control types never read as forms, a comparison that reads them as forms is one of integers.
-either_integer : (b : Bool) (i : Kind) (a : Reading) (c : Bool) → is_integer i ≡ b → (is_integer i ≡ false → is_linear a ≡ false) → (is_linear a && c) ≡ true → is_integer i ≡ true
+either_integer : (b : Bool) (i : Kind) (a : Reading) (c : Bool) → is_integer i ≡ b → (is_integer i ≡ false → is_linear a ≡ false) → (is_linear a && c) ≡ true
+    → is_integer i ≡ true
 either_integer true i a c is control integral = is
 either_integer false i a c is control integral = no_flag (sym (control is) ∙ (and_parts (is_linear a) c integral).0)
 
-pub of_integers : (o : Op) (i j : Kind) (a b : Reading) (side : Side) → IsRule o i j → (is_integer i ≡ false → is_linear a ≡ false) → is_of_integers o a b ≡ true → Contains (sides_of o) side → is_integer i ≡ true
+pub of_integers : (o : Op) (i j : Kind) (a b : Reading) (side : Side) → IsRule o i j → (is_integer i ≡ false → is_linear a ≡ false)
+    → is_of_integers o a b ≡ true → Contains (sides_of o) side → is_integer i ≡ true
 of_integers op.Arrow i j a b side rule control integral w = absurd rule
 of_integers op.Implies i j a b side rule control integral w = absurd (omega (arith, w.1))
 of_integers op.Or i j a b side rule control integral w = absurd (omega (arith, w.1))
@@ -109,11 +115,13 @@ module _ (s : System) (v : Valuation) (row : List (Option Reading)) where
       control_form k j at (Not e) fit not = refl
       control_form k j at (Binary o a b) fit not = operated_control (width s) v.test at o fit.0 j (read s v row a) (read s v row b) fit.1 not
       control_form k j at (Scale z e) fit not = no_integer j fit.0 not
-      control_form k j at (If c a b) fit not = chosen_control (holds_true (read s v row c)) (read s v row a) (read s v row b) (control k j a fit.1 not) (control k j b fit.2 not)
+      control_form k j at (If c a b) fit not = chosen_control (holds_true (read s v row c)) (read s v row a) (read s v row b) (control k j a fit.1 not)
+          (control k j b fit.2 not)
       control_form k j at (AtMostOne es) fit not = refl
       control_form k j at (When c e) fit not = control (nth_item s.flows c).clock j e fit.2 not
       control_form k j at (Current m i e) fit not =
-          chosen_control (is_there Reading (reads_at s v) row i) (read s v row e) ((found_at s v).kept m) (control i j e fit.4 not) (memory_control m j fit.1 not)
+          chosen_control (is_there Reading (reads_at s v) row i) (read s v row e) ((found_at s v).kept m) (control i j e fit.4 not)
+          (memory_control m j fit.1 not)
 
   held_control : (b : Bool) (x : Reading) → is_linear x ≡ false → is_linear (held Reading (reads_at s v) (cond b (Some x) Nothing)) ≡ false
   held_control true x is = is
@@ -137,5 +145,6 @@ module _ (s : System) (v : Valuation) (row : List (Option Reading)) where
         ]
 
     -- An expression over the first flows of a control type never reads as a form.
-    pub never_linear : (n : ℕ) → n ≤ length s.flows → (k : Option ℕ) (j : Kind) (e : FlatTree) → Fits s n k j e → is_integer j ≡ false → is_linear (read s v row e) ≡ false
+    pub never_linear : (n : ℕ) → n ≤ length s.flows → (k : Option ℕ) (j : Kind) (e : FlatTree) → Fits s n k j e → is_integer j ≡ false
+        → is_linear (read s v row e) ≡ false
     never_linear n le = control n (first_controls n le)

@@ -11,14 +11,16 @@ use Rattle.rv_agreement.specs.Agreement.{Fits, ItemFits, IsNamed, IsWell}
 use Rattle.rv_agreement.specs.Examples.{flow, system_of, compared_then_sampled, sampled_then_compared}
 use Rattle.rv_agreement.proofs.Matching.{only_one}
 
-flow_fits : (body : FlatTree) → Fits (system_of body) 3 (Some 2) kind.Bool body → (k : ℕ) → k < 4 → ItemFits (system_of body) k (kind_at (system_of body).kinds k) (nth_item (system_of body).flows k)
+flow_fits : (body : FlatTree) → Fits (system_of body) 3 (Some 2) kind.Bool body → (k : ℕ) → k < 4
+    → ItemFits (system_of body) k (kind_at (system_of body).kinds k) (nth_item (system_of body).flows k)
 flow_fits body fit zero lt = (tt, (omega arith, refl))
 flow_fits body fit (suc zero) lt = (tt, (omega arith, refl))
 flow_fits body fit (suc (suc zero)) lt = (tt, (omega arith, refl))
 flow_fits body fit (suc (suc (suc zero))) lt = (omega arith, fit)
 flow_fits body fit (suc (suc (suc (suc k)))) lt = absurd (omega arith)
 
-well_of : (body : FlatTree) (c : Comparison) → Fits (system_of body) 3 (Some 2) kind.Bool body → all_comparisons (system_of body) ≡ c ∷ [] → IsWell (system_of body)
+well_of : (body : FlatTree) (c : Comparison) → Fits (system_of body) 3 (Some 2) kind.Bool body → all_comparisons (system_of body) ≡ c ∷ []
+    → IsWell (system_of body)
 well_of body c fit one = record {
   kinds = refl;
   flows = flow_fits body fit;
@@ -41,7 +43,8 @@ well_of body c fit one = record {
     clock (suc k) lt = absurd (omega arith)
 
 pub first_well : IsWell compared_then_sampled
-first_well = well_of (Node [] (When 2 (Node (4 ∷ []) (Binary op.Less (flow 0) (flow 1))))) (record { at = 4 ∷ []; clock = Nothing; operator = op.Less; left = flow 0; right = flow 1 })
+first_well = well_of (Node [] (When 2 (Node (4 ∷ []) (Binary op.Less (flow 0) (flow 1)))))
+    (record { at = 4 ∷ []; clock = Nothing; operator = op.Less; left = flow 0; right = flow 1 })
     (refl, omega arith, (kind.Int, (refl, refl), (λ some. refl), (omega arith, refl, refl), (omega arith, refl, refl))) refl
 
 pub second_well : IsWell sampled_then_compared

@@ -31,11 +31,13 @@ wholes_at : (ks : List Kind) (vs : List Value) (m : ℕ) → m < length ks → l
     → (rank ks m < whole_count ks) × (get_or (wholes ks vs) (rank ks m) (pos 0) ≡ number (slice_index_or vs m (Flag false)))
 wholes_at [] vs m lt many is = absurd (omega arith)
 wholes_at (k ∷ ks) [] m lt many is = absurd (omega arith)
-wholes_at (k ∷ ks) (v ∷ vs) zero lt many is = subst (λ j. (0 < cond (is_integer j) 1 0 + whole_count ks) × (get_or (cond (is_integer j) (number v ∷ wholes ks vs) (wholes ks vs)) 0 (pos 0) ≡ number v)) (sym is) (omega arith, refl)
+wholes_at (k ∷ ks) (v ∷ vs) zero lt many is = subst (λ j. (0 < cond (is_integer j) 1 0 + whole_count ks)
+    × (get_or (cond (is_integer j) (number v ∷ wholes ks vs) (wholes ks vs)) 0 (pos 0) ≡ number v)) (sym is) (omega arith, refl)
 wholes_at (k ∷ ks) (v ∷ vs) (suc m) lt many is = by (is_integer k) (wholes_at ks vs m (omega arith) (omega arith) is)
   where
     by : (b : Bool) → (rank ks m < whole_count ks) × (get_or (wholes ks vs) (rank ks m) (pos 0) ≡ number (slice_index_or vs m (Flag false)))
-        → (cond b 1 0 + rank ks m < cond b 1 0 + whole_count ks) × (get_or (cond b (number v ∷ wholes ks vs) (wholes ks vs)) (cond b 1 0 + rank ks m) (pos 0) ≡ number (slice_index_or vs m (Flag false)))
+        → (cond b 1 0 + rank ks m < cond b 1 0 + whole_count ks) × (get_or (cond b (number v ∷ wholes ks vs) (wholes ks vs)) (cond b 1 0 + rank ks m)
+        (pos 0) ≡ number (slice_index_or vs m (Flag false)))
     by true h = (omega (arith, h.0), (let e : 1 + rank ks m ≡ suc (rank ks m) = omega arith in ap (λ n. get_or (number v ∷ wholes ks vs) n (pos 0)) e) ∙ h.1)
     by false h = (omega (arith, h.0), (let e : 0 + rank ks m ≡ rank ks m = omega arith in ap (λ n. get_or (wholes ks vs) n (pos 0)) e) ∙ h.1)
 
@@ -61,7 +63,8 @@ module _ (laws : Laws) (s : System) (v : Valuation) (now : State) (inputs : List
       ∙ w.1)
 
   input_column : (j : ℕ) → j < length s.inputs → kind_at s.inputs j ≡ kind.Int
-      → number (slice_index_or inputs j (Flag false)) ≡ forms.value (column_form (width s) (whole_count (memory_kinds s) + rank s.inputs j)) (point s now inputs)
+      → number (slice_index_or inputs j (Flag false)) ≡ forms.value (column_form (width s) (whole_count (memory_kinds s) + rank s.inputs j))
+      (point s now inputs)
   input_column j lt is =
       let w = wholes_at s.inputs inputs j lt typed.given.many is in
       let long = length-wholes (memory_kinds s) now.kept in
@@ -74,8 +77,10 @@ module _ (laws : Laws) (s : System) (v : Valuation) (now : State) (inputs : List
   pub is_found : (row : List _) (symbolic : List _) → IsFound s v now inputs row symbolic (point s now inputs)
   is_found row symbolic = record {
     ticked = spells.ticks;
-    kept = λ m lt. found_kind s.labels (point s now inputs) (kind_at (memory_kinds s) m) (v.kept (slice_index_or (memory_places s) m [])) (column_form (width s) (rank (memory_kinds s) m))
+    kept = λ m lt. found_kind s.labels (point s now inputs) (kind_at (memory_kinds s) m) (v.kept (slice_index_or (memory_places s) m []))
+        (column_form (width s) (rank (memory_kinds s) m))
         (slice_index_or now.kept m (Flag false)) (typed.memories.each m (rw length-map lt)) (spells.memories m lt) (memory_column m lt);
-    given = λ j lt. found_kind s.labels (point s now inputs) (kind_at s.inputs j) (v.input j) (column_form (width s) (whole_count (memory_kinds s) + rank s.inputs j))
+    given = λ j lt. found_kind s.labels (point s now inputs) (kind_at s.inputs j) (v.input j)
+        (column_form (width s) (whole_count (memory_kinds s) + rank s.inputs j))
         (slice_index_or inputs j (Flag false)) (typed.given.each j lt) (spells.given j lt) (input_column j lt);
   }

@@ -1,5 +1,6 @@
 -- Places by their numbers, and what is found at them.
-use Rattle.std.proofs.Common.{◌≡◌, ◌⊎◌, inl, inr, suc, ◌+◌, ◌<◌, ◌≤◌, Bool, true, false, cond, List, [], ◌∷◌, map, length, get_or, refl, sym, ◌∙◌, ap, subst, arith, Option}
+use Rattle.std.proofs.Common.{◌≡◌, ◌⊎◌, inl, inr, suc, ◌+◌, ◌<◌, ◌≤◌, Bool, true, false, cond, List, [], ◌∷◌, map, length, get_or, refl, sym, ◌∙◌, ap, subst}
+use Rattle.std.proofs.Common.{arith, Option}
 use Rattle.std.proofs.Common.{None as Nothing}
 use Rattle.std.proofs.lemmas.List.{length-map, get_or-map, get_or_past}
 use Rattle.std.proofs.lemmas.Bool.{cases_lt}
@@ -43,7 +44,8 @@ index_within : (ps : List Sites) (q : Sites) → Contains ps q → index_of ps q
 index_within [] q w = none_in q w
 index_within (p ∷ ps) q w = tested (is_same p q) refl (head_or_tail p ps q w) (index_within ps q)
   where
-    tested : (b : Bool) → is_same p q ≡ b → (p ≡ q) ⊎ Contains ps q → (Contains ps q → index_of ps q < length ps) → cond b 0 (index_of ps q + 1) < length (p ∷ ps)
+    tested : (b : Bool) → is_same p q ≡ b → (p ≡ q) ⊎ Contains ps q → (Contains ps q → index_of ps q < length ps)
+        → cond b 0 (index_of ps q + 1) < length (p ∷ ps)
     tested true e at later = omega arith
     tested false e (inl is) later = no_flag (sym e ∙ ap (λ z. is_same z q) is ∙ itself q)
     tested false e (inr rest) later = let lt = later rest in omega (arith, lt)
@@ -59,7 +61,8 @@ pub made_past : {Y : Type 0} (f : Sites → Y) (ps : List Sites) (q : Sites) (d 
 made_past f ps q d le = let long = length-map ps f in get_or_past (map f ps) (index_of ps q) d (omega (arith, long, le))
 
 -- Cells that are absent where no flow is stand in the row of the flows.
-pub row_agrees : {Y : Type 0} (f : Sites → Option Y) (ps : List Sites) → ((q : Sites) → (Contains ps q → ⊥) → f q ≡ Nothing) → (q : Sites) → get_or (map f ps) (index_of ps q) Nothing ≡ f q
+pub row_agrees : {Y : Type 0} (f : Sites → Option Y) (ps : List Sites) → ((q : Sites) → (Contains ps q → ⊥) → f q ≡ Nothing) → (q : Sites)
+    → get_or (map f ps) (index_of ps q) Nothing ≡ f q
 row_agrees f ps none q = elim (cases_lt (index_of ps q) (length ps)) [
   | inl lt ↦ made_at f ps q Nothing lt
   | inr le ↦ made_past f ps q Nothing le ∙ sym (none q (λ w. let lt = index_within ps q w in absurd (omega (arith, lt, le))))

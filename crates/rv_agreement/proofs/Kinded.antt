@@ -12,9 +12,11 @@ use Rattle.rv_types.specs.declared.typed.Kind.{Kind}
 use Rattle.rv_types.specs.declared.typed.Kind.TheVariants as kind
 use Rattle.rv_types.specs.Lists.{Side}
 use Rattle.rv_rows.specs.declared.linear.Form.{Form}
-use Rattle.rv_agreement.specs.Trees.{FlatTree, Node, TreeForm, Constant, Flow, Memory, Ticked, Input, Not, Binary, Scale, If, AtMostOne, When, Current, nth_item, System, memory_items, memory_kinds, memory_places, kind_at}
+use Rattle.rv_agreement.specs.Trees.{FlatTree, Node, TreeForm, Constant, Flow, Memory, Ticked, Input, Not, Binary, Scale, If, AtMostOne, When, Current}
+use Rattle.rv_agreement.specs.Trees.{nth_item, System, memory_items, memory_kinds, memory_places, kind_at}
 use Rattle.rv_agreement.specs.Evaluation.{nth, is_on, held, is_there, form_value}
-use Rattle.rv_agreement.specs.Valuations.{Valuation, Reading, Truth, Linear, constant_reading, operated, spelled, width, reads_at, found_at, holds_true, IsSymbolic, IsCoded, IsCodedAs, read, updated}
+use Rattle.rv_agreement.specs.Valuations.{Valuation, Reading, Truth, Linear, constant_reading, operated, spelled, width, reads_at, found_at, holds_true}
+use Rattle.rv_agreement.specs.Valuations.{IsSymbolic, IsCoded, IsCodedAs, read, updated}
 use Rattle.rv_agreement.specs.Agreement.{HasKind, IsRule, Fits, FormFits, IsWell}
 use Rattle.rv_agreement.specs.Kinding.{ReadsAs}
 use Rattle.rv_agreement.proofs.Matching.{there_of_on}
@@ -46,7 +48,8 @@ module _ (labels : List ℕ) where
   form_reads : (j : Kind) (f : Form) → j ≡ kind.Int → ReadsAs labels j (Linear f)
   form_reads j f is = subst (λ k. ReadsAs labels k (Linear f)) (sym is) tt
 
-  operated_reads : (n : ℕ) (test : Sites → Side → Bool) (at : Sites) (o : Op) (i j : Kind) (a b : Reading) → IsRule o i j → ReadsAs labels j (operated n test at o a b)
+  operated_reads : (n : ℕ) (test : Sites → Side → Bool) (at : Sites) (o : Op) (i j : Kind) (a b : Reading) → IsRule o i j
+      → ReadsAs labels j (operated n test at o a b)
   operated_reads n test at op.Arrow i j a b rule = absurd rule
   operated_reads n test at op.Implies i j a b rule = truth_reads j _ rule.1
   operated_reads n test at op.Or i j a b rule = truth_reads j _ rule.1
@@ -72,19 +75,22 @@ module _ (s : System) (v : Valuation) (row : List (Option Reading)) (well : IsWe
   memory_reads : (m : ℕ) → m < length s.memories → ReadsAs s.labels (kind_at (memory_kinds s) m) ((found_at s v).kept m)
   memory_reads m lt = spelled_reads s.labels (kind_at (memory_kinds s) m) (v.kept (slice_index_or (memory_places s) m [])) _ (coded.memories m lt)
 
-  module _ (n : ℕ) (most : n ≤ length s.flows) (before : (k : ℕ) (a : Reading) → k < n → nth Reading (reads_at s v) row k ≡ Some a → ReadsAs s.labels (kind_at s.kinds k) a) where
+  module _ (n : ℕ) (most : n ≤ length s.flows) (before : (k : ℕ) (a : Reading) → k < n → nth Reading (reads_at s v) row k ≡ Some a
+      → ReadsAs s.labels (kind_at s.kinds k) a) where
     clock_there : (c : ℕ) → c < n → there (Some c) ≡ true → there (nth_item s.flows c).clock ≡ true
     clock_there c lt on = there_of_on (there (nth_item s.flows c).clock) (read s v row (nth_item s.flows c).body) holds_true (is_on Reading (reads_at s v)) refl
         (ap (is_on Reading (reads_at s v)) (sym (instant.holds c (omega arith))) ∙ on)
 
-    flow_reads : (k : Option ℕ) (j : Kind) (c : ℕ) → c < n → there k ≡ true → kind_at s.kinds c ≡ j → (nth_item s.flows c).clock ≡ k → ReadsAs s.labels j (held Reading (reads_at s v) (nth Reading (reads_at s v) row c))
+    flow_reads : (k : Option ℕ) (j : Kind) (c : ℕ) → c < n → there k ≡ true → kind_at s.kinds c ≡ j → (nth_item s.flows c).clock ≡ k
+        → ReadsAs s.labels j (held Reading (reads_at s v) (nth Reading (reads_at s v) row c))
     flow_reads k j c lt on kind_is clock_is =
         let present : nth Reading (reads_at s v) row c ≡ Some (read s v row (nth_item s.flows c).body) =
         instant.holds c (omega arith) ∙ ap (λ b. cond b (Some (read s v row (nth_item s.flows c).body)) Nothing) (ap there clock_is ∙ on) in
         subst (λ o. ReadsAs s.labels j (held Reading (reads_at s v) o)) (sym present)
         (subst (λ t. ReadsAs s.labels t (read s v row (nth_item s.flows c).body)) kind_is (before c (read s v row (nth_item s.flows c).body) lt present))
 
-    current_reads : (i : Option ℕ) (j : Kind) (b : Bool) → there i ≡ b → (m : ℕ) (e : FlatTree) → (there i ≡ true → ReadsAs s.labels j (read s v row e)) → ReadsAs s.labels j ((found_at s v).kept m)
+    current_reads : (i : Option ℕ) (j : Kind) (b : Bool) → there i ≡ b → (m : ℕ) (e : FlatTree) → (there i ≡ true → ReadsAs s.labels j (read s v row e))
+        → ReadsAs s.labels j ((found_at s v).kept m)
         → ReadsAs s.labels j (cond b (read s v row e) ((found_at s v).kept m))
     current_reads i j true is m e shown kept = shown is
     current_reads i j false is m e shown kept = kept
@@ -99,15 +105,18 @@ module _ (s : System) (v : Valuation) (row : List (Option Reading)) (well : IsWe
       reads_form k j at (Flow c) fit on = flow_reads k j c fit.0 on fit.1 fit.2
       reads_form k j at (Memory m) fit on = subst (λ t. ReadsAs s.labels t ((found_at s v).kept m)) fit.1 (memory_reads m fit.0)
       reads_form k j at (Ticked t) fit on = truth_reads s.labels j _ fit.1
-      reads_form k j at (Input i) fit on = subst (λ t. ReadsAs s.labels t ((found_at s v).given i)) fit.1 (spelled_reads s.labels (kind_at s.inputs i) (v.input i) _ (coded.inputs i fit.0))
+      reads_form k j at (Input i) fit on = subst (λ t. ReadsAs s.labels t ((found_at s v).given i)) fit.1
+          (spelled_reads s.labels (kind_at s.inputs i) (v.input i) _ (coded.inputs i fit.0))
       reads_form k j at (Not e) fit on = truth_reads s.labels j _ fit.0
       reads_form k j at (Binary o a b) fit on = operated_reads s.labels (width s) v.test at o fit.0 j (read s v row a) (read s v row b) fit.1
       reads_form k j at (Scale z e) fit on = form_reads s.labels j _ fit.0
-      reads_form k j at (If c a b) fit on = chosen_reads s.labels (holds_true (read s v row c)) j (read s v row a) (read s v row b) (reads k j a fit.1 on) (reads k j b fit.2 on)
+      reads_form k j at (If c a b) fit on = chosen_reads s.labels (holds_true (read s v row c)) j (read s v row a) (read s v row b) (reads k j a fit.1 on)
+          (reads k j b fit.2 on)
       reads_form k j at (AtMostOne es) fit on = truth_reads s.labels j _ fit.0
       reads_form k j at (When c e) fit on = reads (nth_item s.flows c).clock j e fit.2 (clock_there c fit.1 (ap there (sym fit.0) ∙ on))
       reads_form k j at (Current m i e) fit on =
-          current_reads i j (there i) refl m e (λ shown. reads i j e fit.4 shown) (subst (λ t. ReadsAs s.labels t ((found_at s v).kept m)) fit.1 (memory_reads m fit.0))
+          current_reads i j (there i) refl m e (λ shown. reads i j e fit.4 shown)
+          (subst (λ t. ReadsAs s.labels t ((found_at s v).kept m)) fit.1 (memory_reads m fit.0))
 
   some_of : (b : Bool) (x a : Reading) → cond b (Some x) Nothing ≡ Some a → (b ≡ true) × (x ≡ a)
   some_of true x a e = (refl, let f : x ≡ a = cc in f)
@@ -120,7 +129,8 @@ module _ (s : System) (v : Valuation) (row : List (Option Reading)) (well : IsWe
       elim (eq-or-lt_of_le {n = k} {m = n} (omega arith)) [
         | inl same ↦
             let there_is : nth Reading (reads_at s v) row n ≡ Some a = ap (nth Reading (reads_at s v) row) (sym same) ∙ is in
-            let parts = some_of (there (nth_item s.flows n).clock) (read s v row (nth_item s.flows n).body) a (sym (instant.holds n (omega arith)) ∙ there_is) in
+            let parts = some_of (there (nth_item s.flows n).clock) (read s v row (nth_item s.flows n).body) a
+            (sym (instant.holds n (omega arith)) ∙ there_is) in
             subst (λ m. ReadsAs s.labels (kind_at s.kinds m) a) (sym same)
             (subst (ReadsAs s.labels (kind_at s.kinds n)) parts.1
             (reads n (omega arith) before (nth_item s.flows n).clock (kind_at s.kinds n) (nth_item s.flows n).body (well.flows n (omega arith)).1 parts.0))
@@ -135,6 +145,8 @@ module _ (s : System) (v : Valuation) (row : List (Option Reading)) (well : IsWe
 
   pub memories_read : (m : ℕ) → m < length s.memories → ReadsAs s.labels (kind_at (memory_kinds s) m) (updated s v row m)
   memories_read m lt =
-      current_reads (length s.flows) (omega arith) flows_read (nth_item (memory_items s) m).clock (kind_at (memory_kinds s) m) (there (nth_item (memory_items s) m).clock) refl m (nth_item (memory_items s) m).body
-      (λ shown. reads (length s.flows) (omega arith) flows_read (nth_item (memory_items s) m).clock (kind_at (memory_kinds s) m) (nth_item (memory_items s) m).body (well.memories m lt).1 shown)
+      current_reads (length s.flows) (omega arith) flows_read (nth_item (memory_items s) m).clock (kind_at (memory_kinds s) m)
+      (there (nth_item (memory_items s) m).clock) refl m (nth_item (memory_items s) m).body
+      (λ shown. reads (length s.flows) (omega arith) flows_read (nth_item (memory_items s) m).clock (kind_at (memory_kinds s) m)
+      (nth_item (memory_items s) m).body (well.memories m lt).1 shown)
       (memory_reads m lt)

@@ -1,6 +1,7 @@
 -- Where a valuation spells what an instant finds, and its present tests tell the truth, the symbolic instant gives at the point
 -- what the instant in whole numbers gives.
-use Rattle.std.proofs.Common.{◌≡◌, ℕ, zero, suc, ◌+◌, ◌<◌, ◌≤◌, ℤ, ◌*ℤ◌, Bool, true, false, not, cond, List, [], ◌∷◌, ◌++◌, length, flat_map, get_or, refl, sym, ◌∙◌, ap, subst, arith, inl, inr, ◌⊎◌}
+use Rattle.std.proofs.Common.{◌≡◌, ℕ, zero, suc, ◌+◌, ◌<◌, ◌≤◌, ℤ, ◌*ℤ◌, Bool, true, false, not, cond, List, [], ◌∷◌, ◌++◌, length, flat_map, get_or, refl, sym}
+use Rattle.std.proofs.Common.{◌∙◌, ap, subst, arith, inl, inr, ◌⊎◌}
 use Rattle.std.proofs.Common.{Option, None as Nothing, Some}
 use Rattle.std.specs.Prelude.{nat_le, nat_eq}
 use Rattle.std.specs.List.{Contains}
@@ -17,9 +18,12 @@ use Rattle.rv_types.specs.declared.typed.Kind.TheVariants as kind
 use Rattle.rv_types.specs.Variables.{is_integer}
 use Rattle.rv_types.specs.Lists.{Side, sides_of}
 use Rattle.rv_meaning.specs.Meaning.{is_true, number, operate}
-use Rattle.rv_agreement.specs.Trees.{FlatTree, Node, TreeForm, FlatTrees, Constant, Flow, Memory, Ticked, Input, Not, Binary, Scale, If, AtMostOne, When, Current, None, More, Item, nth_item, no_item, System, memory_items, memory_kinds, kind_at}
+use Rattle.rv_agreement.specs.Trees.{FlatTree, Node, TreeForm, FlatTrees, Constant, Flow, Memory, Ticked, Input, Not, Binary, Scale, If, AtMostOne, When}
+use Rattle.rv_agreement.specs.Trees.{Current, None, More, Item, nth_item, no_item, System, memory_items, memory_kinds, kind_at}
 use Rattle.rv_agreement.specs.Evaluation.{nth, is_on, held, is_there, value, form_value, trues, item_value, after, is_met, integers}
-use Rattle.rv_agreement.specs.Valuations.{Valuation, Reading, at_point, holds_true, reads_at, found_at, width, IsSymbolic, Comparison, is_placed, own, comparisons, form_comparisons, comparisons_of, item_comparisons, all_items, all_comparisons, is_of_integers, is_linear, read}
+use Rattle.rv_agreement.specs.Valuations.{Valuation, Reading, at_point, holds_true, reads_at, found_at, width, IsSymbolic, Comparison, is_placed, own}
+use Rattle.rv_agreement.specs.Valuations.{comparisons, form_comparisons, comparisons_of, item_comparisons, all_items, all_comparisons, is_of_integers}
+use Rattle.rv_agreement.specs.Valuations.{is_linear, read}
 use Rattle.rv_agreement.specs.Agreement.{State, found_in, IsWholeInstant, value_there, IsRule, IsPlaced, IsNamed, Fits, FormFits, AllFit, ItemFits, IsWell}
 use Rattle.rv_agreement.proofs.LinearLemmas.{Laws, told}
 use Rattle.rv_agreement.proofs.Operators.{truth_at, constant_at, scaled_at, operated_at}
@@ -59,7 +63,8 @@ pub only_one : {X : Type 0} (y x : X) → Contains (y ∷ []) x → y ≡ x
 only_one y x w = elim (head_or_tail y [] x w) [ inl is ↦ is | inr rest ↦ none_in x rest ]
 
 -- where a value is there, its clock is
-pub there_of_on : {V : Type 0} (b : Bool) (x : V) (test : V → Bool) (on : Option V → Bool) → (on Nothing ≡ false) → on (cond b (Some x) Nothing) ≡ true → b ≡ true
+pub there_of_on : {V : Type 0} (b : Bool) (x : V) (test : V → Bool) (on : Option V → Bool) → (on Nothing ≡ false) → on (cond b (Some x) Nothing) ≡ true
+    → b ≡ true
 there_of_on true x test on none e = refl
 there_of_on false x test on none e = let bad : false ≡ true = sym none ∙ e in absurd (grind arith)
 
@@ -134,10 +139,12 @@ module _ (s : System) where
 
   module _ (P : Comparison → Type 0) (n : ℕ) (clocks : (j : ℕ) → j < n → IsNamed n (nth_item s.flows j).clock) where
     mutual
-      pub inside : (k : Option ℕ) (j : Kind) (e : FlatTree) → IsNamed n k → Fits s n k j e → ((d : Comparison) → Contains (comparisons s.flows k e) d → P d) → (c : Comparison) → Contains (comparisons s.flows k e) c → Inside P n c
+      pub inside : (k : Option ℕ) (j : Kind) (e : FlatTree) → IsNamed n k → Fits s n k j e → ((d : Comparison) → Contains (comparisons s.flows k e) d → P d)
+          → (c : Comparison) → Contains (comparisons s.flows k e) c → Inside P n c
       inside k j (Node at form) named fit all c w = inside_form k j at form named fit all c w
 
-      inside_form : (k : Option ℕ) (j : Kind) (at : Sites) (form : TreeForm) → IsNamed n k → FormFits s n k j at form → ((d : Comparison) → Contains (form_comparisons s.flows k at form) d → P d)
+      inside_form : (k : Option ℕ) (j : Kind) (at : Sites) (form : TreeForm) → IsNamed n k → FormFits s n k j at form
+          → ((d : Comparison) → Contains (form_comparisons s.flows k at form) d → P d)
           → (c : Comparison) → Contains (form_comparisons s.flows k at form) c → Inside P n c
       inside_form k j at (Constant z) named fit all c w = none_in c w
       inside_form k j at (Flow x) named fit all c w = none_in c w
@@ -149,10 +156,13 @@ module _ (s : System) where
           let y : Comparison = record { at = at; clock = k; operator = o; left = a; right = b } in
           let lefts = comparisons s.flows k a in
           let rights = comparisons s.flows k b in
-          let in_left : (d : Comparison) → Contains lefts d → P d = λ d u. all d (Contains-append_right (own o y) (lefts ++ rights) d (Contains-append_left lefts rights d u)) in
-          let in_right : (d : Comparison) → Contains rights d → P d = λ d u. all d (Contains-append_right (own o y) (lefts ++ rights) d (Contains-append_right lefts rights d u)) in
+          let in_left : (d : Comparison) → Contains lefts d → P d = λ d u. all d
+          (Contains-append_right (own o y) (lefts ++ rights) d (Contains-append_left lefts rights d u)) in
+          let in_right : (d : Comparison) → Contains rights d → P d = λ d u. all d
+          (Contains-append_right (own o y) (lefts ++ rights) d (Contains-append_right lefts rights d u)) in
           elim (Contains-append_cases (own o y) (lefts ++ rights) c w) [
-            | inl here ↦ subst (Inside P n) (in_own (is_placed at) (nat_eq (length (sides_of o)) 0) y c here) (record { named = named; operand = fit.0; left = fit.3; right = fit.4; left_all = in_left; right_all = in_right })
+            | inl here ↦ subst (Inside P n) (in_own (is_placed at) (nat_eq (length (sides_of o)) 0) y c here)
+                (record { named = named; operand = fit.0; left = fit.3; right = fit.4; left_all = in_left; right_all = in_right })
             | inr rest ↦ elim (Contains-append_cases lefts rights c rest) [
               | inl u ↦ inside k fit.0 a named fit.3 in_left c u
               | inr u ↦ inside k fit.0 b named fit.4 in_right c u
@@ -174,11 +184,13 @@ module _ (s : System) where
       inside_form k j at (When x e) named fit all c w = inside (nth_item s.flows x).clock j e (clocks x fit.1) fit.2 all c w
       inside_form k j at (Current m i e) named fit all c w = none_in c w
 
-      inside_all : (k : Option ℕ) (es : FlatTrees) → IsNamed n k → AllFit s n k es → ((d : Comparison) → Contains (comparisons_of s.flows k es) d → P d) → (c : Comparison) → Contains (comparisons_of s.flows k es) c → Inside P n c
+      inside_all : (k : Option ℕ) (es : FlatTrees) → IsNamed n k → AllFit s n k es → ((d : Comparison) → Contains (comparisons_of s.flows k es) d → P d)
+          → (c : Comparison) → Contains (comparisons_of s.flows k es) c → Inside P n c
       inside_all k None named fit all c w = none_in c w
       inside_all k (More e es) named fit all c w =
           elim (Contains-append_cases (comparisons s.flows k e) (comparisons_of s.flows k es) c w) [
-            | inl here ↦ inside k kind.Bool e named fit.0 (λ d u. all d (Contains-append_left (comparisons s.flows k e) (comparisons_of s.flows k es) d u)) c here
+            | inl here ↦ inside k kind.Bool e named fit.0 (λ d u. all d (Contains-append_left (comparisons s.flows k e) (comparisons_of s.flows k es) d u)) c
+                here
             | inr rest ↦ inside_all k es named fit.1 (λ d u. all d (Contains-append_right (comparisons s.flows k e) (comparisons_of s.flows k es) d u)) c rest
           ]
 
@@ -208,7 +220,8 @@ module _ (s : System) (v : Valuation) (now : State) (inputs : List Value) (row :
   IsTold c = there c.clock ≡ true → AreMatched c → is_of_integers c.operator (reading c.left) (reading c.right) ≡ true
       → (side : Side) → Contains (sides_of c.operator) side → v.test c.at side ≡ told side (number (whole c.left)) (number (whole c.right))
 
-  module _ (laws : Laws) (well : IsWell s) (found : IsFound) (instant : IsSymbolic s v symbolic) (tell : (c : Comparison) → Contains (all_comparisons s) c → IsTold c) where
+  module _ (laws : Laws) (well : IsWell s) (found : IsFound) (instant : IsSymbolic s v symbolic)
+      (tell : (c : Comparison) → Contains (all_comparisons s) c → IsTold c) where
     on_at : (o : Option Reading) → is_on Value integers (value_there x o) ≡ is_on Reading (reads_at s v) o
     on_at Nothing = refl
     on_at (Some a) = truth_at x a
@@ -231,98 +244,116 @@ module _ (s : System) (v : Valuation) (now : State) (inputs : List Value) (row :
     item_told : (y : Item) → Contains (all_items s) y → (c : Comparison) → Contains (comparisons s.flows y.clock y.body) c → IsTold c
     item_told y w c inside = tell c (in_flat_map (item_comparisons s.flows) (all_items s) y c w inside)
 
-    module _ (n : ℕ) (most : n ≤ length s.flows) (agree : (k : ℕ) → k < n → nth Value integers row k ≡ value_there x (nth Reading (reads_at s v) symbolic k)) where
-      there_at : (k : Option ℕ) → IsNamed n k → is_there Value integers row k ≡ there k
-      there_at Nothing fit = refl
-      there_at (Some k) fit = ap (is_on Value integers) (agree k fit) ∙ on_at (nth Reading (reads_at s v) symbolic k)
+    module _ (n : ℕ) (most : n ≤ length s.flows) (agree : (k : ℕ) → k < n → nth Value integers row k ≡ value_there x (nth Reading (reads_at s v) symbolic k))
+      where
+        there_at : (k : Option ℕ) → IsNamed n k → is_there Value integers row k ≡ there k
+        there_at Nothing fit = refl
+        there_at (Some k) fit = ap (is_on Value integers) (agree k fit) ∙ on_at (nth Reading (reads_at s v) symbolic k)
 
-      -- the clock of a clock that is there is there
-      clock_of_clock : (c : ℕ) → c < n → there (Some c) ≡ true → there (nth_item s.flows c).clock ≡ true
-      clock_of_clock c lt on =
-          let is = instant.holds c (omega arith) in
-          there_of_on (there (nth_item s.flows c).clock) (reading (nth_item s.flows c).body) holds_true (is_on Reading (reads_at s v)) refl (ap (is_on Reading (reads_at s v)) (sym is) ∙ on)
+        -- the clock of a clock that is there is there
+        clock_of_clock : (c : ℕ) → c < n → there (Some c) ≡ true → there (nth_item s.flows c).clock ≡ true
+        clock_of_clock c lt on =
+            let is = instant.holds c (omega arith) in
+            there_of_on (there (nth_item s.flows c).clock) (reading (nth_item s.flows c).body) holds_true (is_on Reading (reads_at s v)) refl
+            (ap (is_on Reading (reads_at s v)) (sym is) ∙ on)
 
-      match_binary : (k : Option ℕ) (at : Sites) (o : Op) (i j : Kind) (a b : FlatTree) → IsRule o i j → IsPlaced at o i → (is_integer i ≡ false → is_linear (reading a) ≡ false)
-          → whole a ≡ at_point x (reading a) → whole b ≡ at_point x (reading b) → there k ≡ true
-          → ((c : Comparison) → Contains (form_comparisons s.flows k at (Binary o a b)) c → IsTold c)
-          → operate o false (whole a) (whole b) ≡ at_point x (form_value Reading (reads_at s v) (found_at s v) symbolic at (Binary o a b))
-      match_binary k at o i j a b rule placed control left right on say =
-          (λ t. operate o false (left t) (right t))
-          ∙ operated_at laws x (width s) v.test at o i j (reading a) (reading b) rule
-          (λ integral side w.
-          let c : Comparison = record { at = at; clock = k; operator = o; left = a; right = b } in
-          let there_is : is_placed at ≡ true = placed (some_sides (sides_of o) side w) ∙ of_integers o i j (reading a) (reading b) side rule control integral w in
-          say c (Contains-append_left (own o c) (comparisons s.flows k a ++ comparisons s.flows k b) c (own_there o c side there_is w)) on (left, right) integral side w
-          ∙ (λ t. told side (number (left t)) (number (right t))))
+        match_binary : (k : Option ℕ) (at : Sites) (o : Op) (i j : Kind) (a b : FlatTree) → IsRule o i j → IsPlaced at o i
+            → (is_integer i ≡ false → is_linear (reading a) ≡ false)
+            → whole a ≡ at_point x (reading a) → whole b ≡ at_point x (reading b) → there k ≡ true
+            → ((c : Comparison) → Contains (form_comparisons s.flows k at (Binary o a b)) c → IsTold c)
+            → operate o false (whole a) (whole b) ≡ at_point x (form_value Reading (reads_at s v) (found_at s v) symbolic at (Binary o a b))
+        match_binary k at o i j a b rule placed control left right on say =
+            (λ t. operate o false (left t) (right t))
+            ∙ operated_at laws x (width s) v.test at o i j (reading a) (reading b) rule
+            (λ integral side w.
+            let c : Comparison = record { at = at; clock = k; operator = o; left = a; right = b } in
+            let there_is : is_placed at ≡ true = placed (some_sides (sides_of o) side w)
+            ∙ of_integers o i j (reading a) (reading b) side rule control integral w in
+            say c (Contains-append_left (own o c) (comparisons s.flows k a ++ comparisons s.flows k b) c (own_there o c side there_is w)) on
+            (left, right) integral side w
+            ∙ (λ t. told side (number (left t)) (number (right t))))
 
-      truth_of : (e : FlatTree) → whole e ≡ at_point x (reading e) → is_true (whole e) ≡ holds_true (reading e)
-      truth_of e is = ap is_true is ∙ truth_at x (reading e)
+        truth_of : (e : FlatTree) → whole e ≡ at_point x (reading e) → is_true (whole e) ≡ holds_true (reading e)
+        truth_of e is = ap is_true is ∙ truth_at x (reading e)
 
-      current_of : (m : ℕ) (j : Option ℕ) (e : FlatTree) (b : Bool) → there j ≡ b → (there j ≡ true → whole e ≡ at_point x (reading e)) → m < length s.memories
-          → cond b (whole e) ((found_in now inputs).kept m) ≡ at_point x (cond b (reading e) ((found_at s v).kept m))
-      current_of m j e true is shown lt = shown is
-      current_of m j e false is shown lt = found.kept m lt
+        current_of : (m : ℕ) (j : Option ℕ) (e : FlatTree) (b : Bool) → there j ≡ b → (there j ≡ true → whole e ≡ at_point x (reading e))
+            → m < length s.memories
+            → cond b (whole e) ((found_in now inputs).kept m) ≡ at_point x (cond b (reading e) ((found_at s v).kept m))
+        current_of m j e true is shown lt = shown is
+        current_of m j e false is shown lt = found.kept m lt
 
-      mutual
-        match : (k : Option ℕ) (j : Kind) (e : FlatTree) → Fits s n k j e → there k ≡ true → ((c : Comparison) → Contains (comparisons s.flows k e) c → IsTold c) → whole e ≡ at_point x (reading e)
-        match k j (Node at form) fit on told = match_form k j at form fit on told
+        mutual
+          match : (k : Option ℕ) (j : Kind) (e : FlatTree) → Fits s n k j e → there k ≡ true
+              → ((c : Comparison) → Contains (comparisons s.flows k e) c → IsTold c) → whole e ≡ at_point x (reading e)
+          match k j (Node at form) fit on told = match_form k j at form fit on told
 
-        match_form : (k : Option ℕ) (j : Kind) (at : Sites) (form : TreeForm) → FormFits s n k j at form → there k ≡ true → ((c : Comparison) → Contains (form_comparisons s.flows k at form) c → IsTold c)
-            → form_value Value integers (found_in now inputs) row at form ≡ at_point x (form_value Reading (reads_at s v) (found_at s v) symbolic at form)
-        match_form k j at (Constant c) fit on told = constant_at laws x (width s) v.test c
-        match_form k j at (Flow c) fit on told = ap (held Value integers) (agree c fit.0) ∙ held_at (nth Reading (reads_at s v) symbolic c)
-        match_form k j at (Memory m) fit on told = found.kept m fit.0
-        match_form k j at (Ticked t) fit on told = ap Flag (found.ticked t fit.0)
-        match_form k j at (Input i) fit on told = found.given i fit.0
-        match_form k j at (Not e) fit on told = ap (λ t. Flag (not t)) (truth_of e (match k kind.Bool e fit.1 on told))
-        match_form k j at (Binary o a b) fit on told = match_binary k at o fit.0 j a b fit.1 fit.2 (never_linear s v symbolic well instant n most k fit.0 a fit.3)
-            (match k fit.0 a fit.3 on (λ c w. told c (Contains-append_right (own o (record { at = at; clock = k; operator = o; left = a; right = b })) (comparisons s.flows k a ++ comparisons s.flows k b) c (Contains-append_left (comparisons s.flows k a) (comparisons s.flows k b) c w))))
-            (match k fit.0 b fit.4 on (λ c w. told c (Contains-append_right (own o (record { at = at; clock = k; operator = o; left = a; right = b })) (comparisons s.flows k a ++ comparisons s.flows k b) c (Contains-append_right (comparisons s.flows k a) (comparisons s.flows k b) c w))))
-            on told
-        match_form k j at (Scale z e) fit on told = ap (λ u. Whole (z *ℤ number u)) (match k kind.Int e fit.1 on told) ∙ scaled_at laws x (width s) v.test z (reading e)
-        match_form k j at (If c a b) fit on told =
-            (λ i. cond (truth_of c (match k kind.Bool c fit.0 on (λ d w. told d (Contains-append_left (comparisons s.flows k c) (comparisons s.flows k a ++ comparisons s.flows k b) d w))) i)
-            (match k j a fit.1 on (λ d w. told d (Contains-append_right (comparisons s.flows k c) (comparisons s.flows k a ++ comparisons s.flows k b) d (Contains-append_left (comparisons s.flows k a) (comparisons s.flows k b) d w))) i)
-            (match k j b fit.2 on (λ d w. told d (Contains-append_right (comparisons s.flows k c) (comparisons s.flows k a ++ comparisons s.flows k b) d (Contains-append_right (comparisons s.flows k a) (comparisons s.flows k b) d w))) i))
-            ∙ chosen_at x (holds_true (reading c)) (reading a) (reading b)
-        match_form k j at (AtMostOne es) fit on told = ap (λ t. Flag (nat_le t 1)) (match_trues k es fit.1 on told)
-        match_form k j at (When c e) fit on told = match (nth_item s.flows c).clock j e fit.2 (clock_of_clock c fit.1 (ap there (sym fit.0) ∙ on)) told
-        match_form k j at (Current m i e) fit on told =
-            ap (λ b. cond b (whole e) ((found_in now inputs).kept m)) (there_at i fit.3)
-            ∙ current_of m i e (there i) refl (λ is. match i j e fit.4 is (λ c w. memory_told m c fit.0 (subst (λ y. Contains (item_comparisons s.flows y) c) (sym fit.2) w))) fit.0
+          match_form : (k : Option ℕ) (j : Kind) (at : Sites) (form : TreeForm) → FormFits s n k j at form → there k ≡ true
+              → ((c : Comparison) → Contains (form_comparisons s.flows k at form) c → IsTold c)
+              → form_value Value integers (found_in now inputs) row at form ≡ at_point x (form_value Reading (reads_at s v) (found_at s v) symbolic at form)
+          match_form k j at (Constant c) fit on told = constant_at laws x (width s) v.test c
+          match_form k j at (Flow c) fit on told = ap (held Value integers) (agree c fit.0) ∙ held_at (nth Reading (reads_at s v) symbolic c)
+          match_form k j at (Memory m) fit on told = found.kept m fit.0
+          match_form k j at (Ticked t) fit on told = ap Flag (found.ticked t fit.0)
+          match_form k j at (Input i) fit on told = found.given i fit.0
+          match_form k j at (Not e) fit on told = ap (λ t. Flag (not t)) (truth_of e (match k kind.Bool e fit.1 on told))
+          match_form k j at (Binary o a b) fit on told = match_binary k at o fit.0 j a b fit.1 fit.2
+              (never_linear s v symbolic well instant n most k fit.0 a fit.3)
+              (match k fit.0 a fit.3 on (λ c w. told c (Contains-append_right (own o (record { at = at; clock = k; operator = o; left = a; right = b }))
+              (comparisons s.flows k a ++ comparisons s.flows k b) c (Contains-append_left (comparisons s.flows k a) (comparisons s.flows k b) c w))))
+              (match k fit.0 b fit.4 on (λ c w. told c (Contains-append_right (own o (record { at = at; clock = k; operator = o; left = a; right = b }))
+              (comparisons s.flows k a ++ comparisons s.flows k b) c (Contains-append_right (comparisons s.flows k a) (comparisons s.flows k b) c w))))
+              on told
+          match_form k j at (Scale z e) fit on told = ap (λ u. Whole (z *ℤ number u)) (match k kind.Int e fit.1 on told)
+              ∙ scaled_at laws x (width s) v.test z (reading e)
+          match_form k j at (If c a b) fit on told =
+              (λ i. cond (truth_of c (match k kind.Bool c fit.0 on (λ d w. told d
+              (Contains-append_left (comparisons s.flows k c) (comparisons s.flows k a ++ comparisons s.flows k b) d w))) i)
+              (match k j a fit.1 on (λ d w. told d (Contains-append_right (comparisons s.flows k c) (comparisons s.flows k a ++ comparisons s.flows k b) d
+              (Contains-append_left (comparisons s.flows k a) (comparisons s.flows k b) d w))) i)
+              (match k j b fit.2 on (λ d w. told d (Contains-append_right (comparisons s.flows k c) (comparisons s.flows k a ++ comparisons s.flows k b) d
+              (Contains-append_right (comparisons s.flows k a) (comparisons s.flows k b) d w))) i))
+              ∙ chosen_at x (holds_true (reading c)) (reading a) (reading b)
+          match_form k j at (AtMostOne es) fit on told = ap (λ t. Flag (nat_le t 1)) (match_trues k es fit.1 on told)
+          match_form k j at (When c e) fit on told = match (nth_item s.flows c).clock j e fit.2 (clock_of_clock c fit.1 (ap there (sym fit.0) ∙ on)) told
+          match_form k j at (Current m i e) fit on told =
+              ap (λ b. cond b (whole e) ((found_in now inputs).kept m)) (there_at i fit.3)
+              ∙ current_of m i e (there i) refl (λ is. match i j e fit.4 is
+              (λ c w. memory_told m c fit.0 (subst (λ y. Contains (item_comparisons s.flows y) c) (sym fit.2) w))) fit.0
 
-        match_trues : (k : Option ℕ) (es : FlatTrees) → AllFit s n k es → there k ≡ true → ((c : Comparison) → Contains (comparisons_of s.flows k es) c → IsTold c)
-            → trues Value integers (found_in now inputs) row es ≡ trues Reading (reads_at s v) (found_at s v) symbolic es
-        match_trues k None fit on told = refl
-        match_trues k (More e es) fit on told = λ i.
-            cond (truth_of e (match k kind.Bool e fit.0 on (λ c w. told c (Contains-append_left (comparisons s.flows k e) (comparisons_of s.flows k es) c w))) i) 1 0
-            + match_trues k es fit.1 on (λ c w. told c (Contains-append_right (comparisons s.flows k e) (comparisons_of s.flows k es) c w)) i
+          match_trues : (k : Option ℕ) (es : FlatTrees) → AllFit s n k es → there k ≡ true
+              → ((c : Comparison) → Contains (comparisons_of s.flows k es) c → IsTold c)
+              → trues Value integers (found_in now inputs) row es ≡ trues Reading (reads_at s v) (found_at s v) symbolic es
+          match_trues k None fit on told = refl
+          match_trues k (More e es) fit on told = λ i.
+              cond (truth_of e (match k kind.Bool e fit.0 on (λ c w. told c (Contains-append_left (comparisons s.flows k e) (comparisons_of s.flows k es) c w)))
+              i) 1 0
+              + match_trues k es fit.1 on (λ c w. told c (Contains-append_right (comparisons s.flows k e) (comparisons_of s.flows k es) c w)) i
 
-      -- an item has the same
-      body_match : (j : Kind) (y : Item) → ItemFits s n j y → Contains (all_items s) y → there y.clock ≡ true → whole y.body ≡ at_point x (reading y.body)
-      body_match j y fit w on = match y.clock j y.body fit.1 on (item_told y w)
+        -- an item has the same
+        body_match : (j : Kind) (y : Item) → ItemFits s n j y → Contains (all_items s) y → there y.clock ≡ true → whole y.body ≡ at_point x (reading y.body)
+        body_match j y fit w on = match y.clock j y.body fit.1 on (item_told y w)
 
-      item_match : (j : Kind) (y : Item) → ItemFits s n j y → Contains (all_items s) y
-          → item_value Value integers (found_in now inputs) row y ≡ value_there x (item_value Reading (reads_at s v) (found_at s v) symbolic y)
-      item_match j y fit w = ap (λ b. cond b (Some (whole y.body)) Nothing) (there_at y.clock fit.0) ∙ by (there y.clock) refl
-        where
-          by : (b : Bool) → there y.clock ≡ b → cond b (Some (whole y.body)) Nothing ≡ value_there x (cond b (Some (reading y.body)) Nothing)
-          by true is = ap Some (body_match j y fit w is)
-          by false is = refl
+        item_match : (j : Kind) (y : Item) → ItemFits s n j y → Contains (all_items s) y
+            → item_value Value integers (found_in now inputs) row y ≡ value_there x (item_value Reading (reads_at s v) (found_at s v) symbolic y)
+        item_match j y fit w = ap (λ b. cond b (Some (whole y.body)) Nothing) (there_at y.clock fit.0) ∙ by (there y.clock) refl
+          where
+            by : (b : Bool) → there y.clock ≡ b → cond b (Some (whole y.body)) Nothing ≡ value_there x (cond b (Some (reading y.body)) Nothing)
+            by true is = ap Some (body_match j y fit w is)
+            by false is = refl
 
-      met_match : (j : Kind) (y : Item) → ItemFits s n j y → Contains (all_items s) y
-          → is_met Value integers (found_in now inputs) row y ≡ is_met Reading (reads_at s v) (found_at s v) symbolic y
-      met_match j y fit w = ap (λ b. cond b (is_true (whole y.body)) true) (there_at y.clock fit.0) ∙ by (there y.clock) refl
-        where
-          by : (b : Bool) → there y.clock ≡ b → cond b (is_true (whole y.body)) true ≡ cond b (holds_true (reading y.body)) true
-          by true is = truth_of y.body (body_match j y fit w is)
-          by false is = refl
+        met_match : (j : Kind) (y : Item) → ItemFits s n j y → Contains (all_items s) y
+            → is_met Value integers (found_in now inputs) row y ≡ is_met Reading (reads_at s v) (found_at s v) symbolic y
+        met_match j y fit w = ap (λ b. cond b (is_true (whole y.body)) true) (there_at y.clock fit.0) ∙ by (there y.clock) refl
+          where
+            by : (b : Bool) → there y.clock ≡ b → cond b (is_true (whole y.body)) true ≡ cond b (holds_true (reading y.body)) true
+            by true is = truth_of y.body (body_match j y fit w is)
+            by false is = refl
 
-      after_match : (j : Kind) (y : Item) (m : ℕ) → ItemFits s n j y → Contains (all_items s) y → m < length s.memories
-          → after Value integers (found_in now inputs) row y m ≡ at_point x (after Reading (reads_at s v) (found_at s v) symbolic y m)
-      after_match j y m fit w lt =
-          ap (λ b. cond b (whole y.body) ((found_in now inputs).kept m)) (there_at y.clock fit.0)
-          ∙ current_of m y.clock y.body (there y.clock) refl (body_match j y fit w) lt
+        after_match : (j : Kind) (y : Item) (m : ℕ) → ItemFits s n j y → Contains (all_items s) y → m < length s.memories
+            → after Value integers (found_in now inputs) row y m ≡ at_point x (after Reading (reads_at s v) (found_at s v) symbolic y m)
+        after_match j y m fit w lt =
+            ap (λ b. cond b (whole y.body) ((found_in now inputs).kept m)) (there_at y.clock fit.0)
+            ∙ current_of m y.clock y.body (there y.clock) refl (body_match j y fit w) lt
 
     module _ (rows : IsWholeInstant s now inputs row) where
       -- the flows have the same
@@ -362,12 +393,15 @@ module _ (s : System) (v : Valuation) (now : State) (inputs : List Value) (row :
       there_same = there_at (length s.flows) (omega arith) agreed
 
       pub assertion_same : (k : ℕ) → k < length s.assertions
-          → is_met Value integers (found_in now inputs) row (nth_item s.assertions k) ≡ is_met Reading (reads_at s v) (found_at s v) symbolic (nth_item s.assertions k)
+          → is_met Value integers (found_in now inputs) row (nth_item s.assertions k) ≡ is_met Reading (reads_at s v) (found_at s v) symbolic
+          (nth_item s.assertions k)
       assertion_same k lt = met_match (length s.flows) (omega arith) agreed kind.Bool (nth_item s.assertions k) (well.assertions k lt) (assertion_in k lt)
 
       pub memory_same : (m : ℕ) → m < length s.memories
-          → after Value integers (found_in now inputs) row (nth_item (memory_items s) m) m ≡ at_point x (after Reading (reads_at s v) (found_at s v) symbolic (nth_item (memory_items s) m) m)
-      memory_same m lt = after_match (length s.flows) (omega arith) agreed (kind_at (memory_kinds s) m) (nth_item (memory_items s) m) m (well.memories m lt) (memory_in m lt) lt
+          → after Value integers (found_in now inputs) row (nth_item (memory_items s) m) m ≡ at_point x
+          (after Reading (reads_at s v) (found_at s v) symbolic (nth_item (memory_items s) m) m)
+      memory_same m lt = after_match (length s.flows) (omega arith) agreed (kind_at (memory_kinds s) m) (nth_item (memory_items s) m) m (well.memories m lt)
+          (memory_in m lt) lt
 
       -- each item is over the flows
       fits_all : (y : Item) → Contains (all_items s) y → (j : Kind) × ItemFits s (length s.flows) j y
@@ -383,7 +417,11 @@ module _ (s : System) (v : Valuation) (now : State) (inputs : List Value) (row :
             subst (ItemFits s (length s.flows) (kind_at (memory_kinds s) memory.0)) (read_in (memory_items s) y memory)
                 (well.memories memory.0 (let lt : memory.0 < length (memory_items s) = memory.1 in simp length-map at lt)),
           )
-          | inr assertion ↦ (kind.Bool, subst (ItemFits s (length s.flows) kind.Bool) (read_in s.assertions y assertion) (well.assertions assertion.0 assertion.1))
+          | inr assertion ↦ (
+            kind.Bool,
+            subst (ItemFits s (length s.flows) kind.Bool) (read_in s.assertions y assertion)
+                (well.assertions assertion.0 assertion.1),
+          )
         ]
       ]
 
@@ -403,5 +441,8 @@ module _ (s : System) (v : Valuation) (now : State) (inputs : List Value) (row :
       -- the operands of a present comparison have the same
       pub operands_same : (c : Comparison) → Contains (all_comparisons s) c → there c.clock ≡ true → AreMatched c
       operands_same c w on =
-          let i = within c w in
-          (match (length s.flows) (omega arith) agreed c.clock i.operand c.left i.left on i.left_all, match (length s.flows) (omega arith) agreed c.clock i.operand c.right i.right on i.right_all)
+          let i = within c w in (
+            match (length s.flows) (omega arith) agreed c.clock i.operand c.left i.left on i.left_all,
+            match (length s.flows) (omega arith) agreed c.clock
+                i.operand c.right i.right on i.right_all,
+          )

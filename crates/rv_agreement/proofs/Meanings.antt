@@ -19,7 +19,8 @@ use Rattle.rv_meaning.specs.Runs.{Instant, cell}
 use Rattle.rv_meaning.specs.Instants.{State, is_on_in, now, form_now, trues_now}
 use Rattle.rv_agreement.specs.Evaluation.{integers}
 use Rattle.rv_agreement.specs.Evaluation as by
-use Rattle.rv_agreement.specs.Programs.{found_of, coefficient, operation, is_there, meant, form_meant, trues_meant, HasProducts, FormHasProducts, AllHaveProducts}
+use Rattle.rv_agreement.specs.Programs.{found_of, coefficient, operation, is_there, meant, form_meant, trues_meant, HasProducts, FormHasProducts}
+use Rattle.rv_agreement.specs.Programs.{AllHaveProducts}
 use Rattle.rv_agreement.proofs.LinearLemmas.{less_times}
 
 pub held_same : (o : Option Value) → by.held Value integers o ≡ held o
@@ -68,7 +69,8 @@ module _ (program : ProgramTree) (state : State) (inputs : ℕ → Value) (row :
   there_same Nothing = refl
   there_same (Some q) = on_same (cell row q)
 
-  named_same : (x : Identifier) (b : Bool) → cond b (by.held Value integers (cell row (place i x))) (constant_value program x) ≡ cond b (held (cell row (place i x))) (constant_value program x)
+  named_same : (x : Identifier) (b : Bool) → cond b (by.held Value integers (cell row (place i x))) (constant_value program x) ≡ cond b
+      (held (cell row (place i x))) (constant_value program x)
   named_same x true = held_same (cell row (place i x))
   named_same x false = refl
 
@@ -76,13 +78,15 @@ module _ (program : ProgramTree) (state : State) (inputs : ℕ → Value) (row :
     pub meant_same : (e : Tree) → HasProducts program state row i e → has e ≡ now program state row i e
     meant_same (tree.Node at site form) products = form_same site form products
 
-    form_same : (site : Option ℕ) (form : Form) → FormHasProducts program state row i site form → form_meant Value integers program (found_of state inputs) (cell row) i site form ≡ form_now program state row i site form
+    form_same : (site : Option ℕ) (form : Form) → FormHasProducts program state row i site form
+        → form_meant Value integers program (found_of state inputs) (cell row) i site form ≡ form_now program state row i site form
     form_same site tree.True products = refl
     form_same site tree.False products = refl
     form_same site (tree.Number n) products = refl
     form_same site (tree.Named x) products = named_same x (is_flow i.node x)
     form_same site (tree.Not e) products = ap (λ v. Flag (not (is_true v))) (meant_same e products)
-    form_same site (tree.Minus e) products = ap (λ v. Whole (negsuc 0 *ℤ number v)) (meant_same e products) ∙ ap Whole (less_times (number (now program state row i e)))
+    form_same site (tree.Minus e) products = ap (λ v. Whole (negsuc 0 *ℤ number v)) (meant_same e products)
+        ∙ ap Whole (less_times (number (now program state row i e)))
     form_same site (tree.Pre e) products = refl
     form_same site (tree.Current e) products = λ t. cond (there_same (clock_in i Base e) t) (meant_same e products t) (state.kept (kept_place i site e))
     form_same site (tree.When e c) products = meant_same e products
@@ -91,15 +95,18 @@ module _ (program : ProgramTree) (state : State) (inputs : ℕ → Value) (row :
         let c = is_constant (node_scope program i.node) a in
         let left = meant_same a products.0 in
         let right = meant_same b products.1 in
-        (λ t. operation o (cond (state.ticked k) (right t) (left t)) (cond c (Whole (coefficient program a *ℤ number (right t))) (Whole (coefficient program b *ℤ number (left t)))) (operate o false (left t) (right t)))
+        (λ t. operation o (cond (state.ticked k) (right t) (left t)) (cond c (Whole (coefficient program a *ℤ number (right t)))
+        (Whole (coefficient program b *ℤ number (left t)))) (operate o false (left t) (right t)))
         ∙ operator_same o (not (state.ticked k)) (cond (state.ticked k) (now program state row i b) (now program state row i a))
         (cond c (Whole (coefficient program a *ℤ number (now program state row i b))) (Whole (coefficient program b *ℤ number (now program state row i a))))
         (now program state row i a) (now program state row i b) (turned (state.ticked k) (now program state row i a) (now program state row i b))
-        (λ times. product_same c (coefficient program a) (coefficient program b) (now program state row i a) (now program state row i b) (products.2 times) (products.3 times))
+        (λ times. product_same c (coefficient program a) (coefficient program b) (now program state row i a) (now program state row i b) (products.2 times)
+        (products.3 times))
     form_same site (tree.If a b c) products = λ t. cond (is_true (meant_same a products.0 t)) (meant_same b products.1 t) (meant_same c products.2 t)
     form_same site (tree.AtMostOne es) products = ap (λ n. Flag (nat_le n 1)) (trues_same es products)
     form_same site (tree.Call f args) products = held_same (cell row (output_place program i (unwrap_or site 0) f 0))
 
-    trues_same : (es : Trees) → AllHaveProducts program state row i es → trues_meant Value integers program (found_of state inputs) (cell row) i es ≡ trues_now program state row i es
+    trues_same : (es : Trees) → AllHaveProducts program state row i es
+        → trues_meant Value integers program (found_of state inputs) (cell row) i es ≡ trues_now program state row i es
     trues_same tree.None products = refl
     trues_same (tree.More e es) products = λ t. cond (is_true (meant_same e products.0 t)) 1 0 + trues_same es products.1 t

@@ -49,7 +49,8 @@ module _ (program : ProgramTree) (P : Sites → Type 0) (Q : Option Sites → Ty
       pub operands_named : (k : Option Sites) (e : Tree) → Names i P Q Any e → (c : Compared) → Contains (compared program i k e) c → AreNamedIn c
       operands_named k (tree.Node at site form) names c w = form_named k site form names c w
 
-      form_named : (k : Option Sites) (site : Option ℕ) (form : Form) → FormNames i P Q Any site form → (c : Compared) → Contains (form_compared program i k site form) c → AreNamedIn c
+      form_named : (k : Option Sites) (site : Option ℕ) (form : Form) → FormNames i P Q Any site form → (c : Compared)
+          → Contains (form_compared program i k site form) c → AreNamedIn c
       form_named k site tree.True names c w = none_in c w
       form_named k site tree.False names c w = none_in c w
       form_named k site (tree.Number n) names c w = none_in c w
@@ -66,13 +67,14 @@ module _ (program : ProgramTree) (P : Sites → Type 0) (Q : Option Sites → Ty
           | inr u ↦ operands_named k b names.2 c u
         ]
       ]
-      form_named k site (tree.If a b d) names c w = elim (Contains-append_cases (compared program i k a) (compared program i k b ++ compared program i k d) c w) [
-        | inl u ↦ operands_named k a names.0 c u
-        | inr rest ↦ elim (Contains-append_cases (compared program i k b) (compared program i k d) c rest) [
-          | inl u ↦ operands_named k b names.1 c u
-          | inr u ↦ operands_named k d names.2 c u
-        ]
-      ]
+      form_named k site (tree.If a b d) names c w = elim (Contains-append_cases (compared program i k a)
+          (compared program i k b ++ compared program i k d) c w) [
+            | inl u ↦ operands_named k a names.0 c u
+            | inr rest ↦ elim (Contains-append_cases (compared program i k b) (compared program i k d) c rest) [
+              | inl u ↦ operands_named k b names.1 c u
+              | inr u ↦ operands_named k d names.2 c u
+            ]
+          ]
       form_named k site (tree.AtMostOne es) names c w = all_named k es names c w
       form_named k site (tree.Call f args) names c w = none_in c w
 

@@ -1,5 +1,6 @@
 -- A flat system has exactly one row for what an instant finds, whatever its expressions are read as.
-use Rattle.std.proofs.Common.{◌≡◌, ℕ, zero, suc, ◌+◌, ◌<◌, ◌≤◌, not, cond, List, [], ◌∷◌, ◌++◌, length, refl, sym, ◌∙◌, subst, ap, arith, length-append, inl, inr}
+use Rattle.std.proofs.Common.{◌≡◌, ℕ, zero, suc, ◌+◌, ◌<◌, ◌≤◌, not, cond, List, [], ◌∷◌, ◌++◌, length, refl, sym, ◌∙◌, subst, ap, arith, length-append, inl}
+use Rattle.std.proofs.Common.{inr}
 use Rattle.std.proofs.Common.{Option, None as Nothing, Some}
 use Rattle.std.specs.Prelude.{nat_le}
 use Rattle.std.proofs.lemmas.List.{get_or_append_left, get_or_push, ext_get_or}
@@ -7,7 +8,8 @@ use Rattle.std.proofs.Math.Nat.{eq-or-lt_of_le}
 use Rattle.rv_tree.specs.Places.{Sites}
 use Rattle.rv_types.specs.declared.typed.Kind.{Kind}
 use Rattle.rv_types.specs.declared.typed.Kind.TheVariants as kind
-use Rattle.rv_agreement.specs.Trees.{FlatTree, Node, TreeForm, FlatTrees, Constant, Flow, Memory, Ticked, Input, Not, Binary, Scale, If, AtMostOne, When, Current, None, More, Item, nth_item, System, kind_at}
+use Rattle.rv_agreement.specs.Trees.{FlatTree, Node, TreeForm, FlatTrees, Constant, Flow, Memory, Ticked, Input, Not, Binary, Scale, If, AtMostOne, When}
+use Rattle.rv_agreement.specs.Trees.{Current, None, More, Item, nth_item, System, kind_at}
 use Rattle.rv_agreement.specs.Evaluation.{Reads, Found, IsInstant, nth, is_on, held, is_there, value, form_value, trues, item_value}
 use Rattle.rv_agreement.specs.Agreement.{Fits, FormFits, AllFit, ItemFits, IsNamed, IsWell}
 
@@ -22,7 +24,8 @@ module _ (V : Type 0) (r : Reads V) (s : System) (found : Found V) where
       same_value : (k : Option ℕ) (j : Kind) (e : FlatTree) → Fits s n k j e → value V r found row e ≡ value V r found other e
       same_value k j (Node at form) fit = same_form k j at form fit
 
-      same_form : (k : Option ℕ) (j : Kind) (at : Sites) (form : TreeForm) → FormFits s n k j at form → form_value V r found row at form ≡ form_value V r found other at form
+      same_form : (k : Option ℕ) (j : Kind) (at : Sites) (form : TreeForm) → FormFits s n k j at form
+          → form_value V r found row at form ≡ form_value V r found other at form
       same_form k j at (Constant c) fit = refl
       same_form k j at (Flow c) fit = ap (held V r) (agree c fit.0)
       same_form k j at (Memory m) fit = refl
@@ -53,12 +56,14 @@ module _ (V : Type 0) (r : Reads V) (s : System) (found : Found V) where
     one_filled : (n : ℕ) (row : List (Option V)) (x : Option V) → n < length s.flows → x ≡ item_value V r found row (nth_item s.flows n)
         → IsFilled n row → IsFilled (n + 1) (row ++ x ∷ [])
     one_filled n row x lt is filled =
-        let agree : (k : ℕ) → k < n → nth V r row k ≡ nth V r (row ++ x ∷ []) k = λ k less. sym (get_or_append_left row (x ∷ []) Nothing k (omega (arith, filled.flows))) in
+        let agree : (k : ℕ) → k < n → nth V r row k ≡ nth V r (row ++ x ∷ []) k = λ k less. sym
+        (get_or_append_left row (x ∷ []) Nothing k (omega (arith, filled.flows))) in
         record {
           flows = omega (arith, length-append row (x ∷ []), filled.flows);
           holds = λ k less. elim (eq-or-lt_of_le {n = k} {m = n} (omega arith)) [
             | inl at_end ↦ subst (λ j. nth V r (row ++ x ∷ []) j ≡ item_value V r found (row ++ x ∷ []) (nth_item s.flows j)) (sym at_end)
-                (get_or_push row x Nothing n filled.flows ∙ is ∙ same_item row (row ++ x ∷ []) n agree (kind_at s.kinds n) (nth_item s.flows n) (well.flows n lt))
+                (get_or_push row x Nothing n filled.flows ∙ is ∙ same_item row (row ++ x ∷ []) n agree (kind_at s.kinds n) (nth_item s.flows n)
+                (well.flows n lt))
             | inr below ↦ sym (agree k below) ∙ filled.holds k below
                 ∙ same_item row (row ++ x ∷ []) k (λ j under. agree j (omega arith)) (kind_at s.kinds k) (nth_item s.flows k) (well.flows k (omega arith))
           ];
@@ -75,13 +80,15 @@ module _ (V : Type 0) (r : Reads V) (s : System) (found : Found V) where
         )
 
     -- two instants agree
-    first_agree : (row other : List (Option V)) → IsInstant V r s found row → IsInstant V r s found other → (n : ℕ) → n ≤ length s.flows → (k : ℕ) → k < n → nth V r row k ≡ nth V r other k
+    first_agree : (row other : List (Option V)) → IsInstant V r s found row → IsInstant V r s found other → (n : ℕ) → n ≤ length s.flows → (k : ℕ) → k < n
+        → nth V r row k ≡ nth V r other k
     first_agree row other a b zero le k less = absurd (omega arith)
     first_agree row other a b (suc n) le k less =
         let before = first_agree row other a b n (omega arith) in
         elim (eq-or-lt_of_le {n = k} {m = n} (omega arith)) [
           | inl same ↦ subst (λ j. nth V r row j ≡ nth V r other j) (sym same)
-              (a.holds n (omega arith) ∙ same_item row other n before (kind_at s.kinds n) (nth_item s.flows n) (well.flows n (omega arith)) ∙ sym (b.holds n (omega arith)))
+              (a.holds n (omega arith) ∙ same_item row other n before (kind_at s.kinds n) (nth_item s.flows n) (well.flows n (omega arith))
+              ∙ sym (b.holds n (omega arith)))
           | inr below ↦ before k below
         ]
 

@@ -52,7 +52,8 @@ module _ (laws : Laws) (x : List ℤ) where
 
     -- the tests of a comparison between these two tell the truth
     abbrev pub IsTold : Sites → Op → Reading → Reading → Type 0
-    IsTold at o a b = is_of_integers o a b ≡ true → (side : Side) → Contains (sides_of o) side → test at side ≡ told side (number (at_point x a)) (number (at_point x b))
+    IsTold at o a b = is_of_integers o a b ≡ true → (side : Side) → Contains (sides_of o) side
+        → test at side ≡ told side (number (at_point x a)) (number (at_point x b))
 
     same_at : (at : Sites) (a b : Reading) → IsTold at op.Equal a b → is_equal (at_point x a) (at_point x b) ≡ is_same n test at a b
     same_at at (Truth a) (Truth b) tell = refl
@@ -67,7 +68,8 @@ module _ (laws : Laws) (x : List ℤ) where
         int_equal (forms.value a x) (forms.value b x)
         ∙ (λ i. sym (tell refl AtMost (head_in AtMost (AtLeast ∷ []))) i && sym (tell refl AtLeast (second_in AtMost AtLeast [])) i)
 
-    pub operated_at : (at : Sites) (o : Op) (i j : Kind) (a b : Reading) → IsRule o i j → IsTold at o a b → operate o false (at_point x a) (at_point x b) ≡ at_point x (operated n test at o a b)
+    pub operated_at : (at : Sites) (o : Op) (i j : Kind) (a b : Reading) → IsRule o i j → IsTold at o a b
+        → operate o false (at_point x a) (at_point x b) ≡ at_point x (operated n test at o a b)
     operated_at at op.Arrow i j a b rule tell = absurd rule
     operated_at at op.Implies i j a b rule tell = λ t. Flag (not (truth_at x a t) || truth_at x b t)
     operated_at at op.Or i j a b rule tell = λ t. Flag (truth_at x a t || truth_at x b t)

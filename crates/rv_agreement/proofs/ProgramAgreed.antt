@@ -1,5 +1,6 @@
 -- What holds of the instants of a flat system holds of those of the program that it is read from, by places.
-use Rattle.std.proofs.Common.{◌≡◌, zero, ◌↔◌, ◌⊎◌, inl, inr, ℕ, suc, ◌+◌, ◌<◌, ℤ, Bool, true, false, ◌||◌, cond, List, [], ◌∷◌, ◌++◌, map, length, get_or, refl, sym, ◌∙◌, ap, subst, arith, Option, Some, IsSome}
+use Rattle.std.proofs.Common.{◌≡◌, zero, ◌↔◌, ◌⊎◌, inl, inr, ℕ, suc, ◌+◌, ◌<◌, ℤ, Bool, true, false, ◌||◌, cond, List, [], ◌∷◌, ◌++◌, map, length, get_or, refl}
+use Rattle.std.proofs.Common.{sym, ◌∙◌, ap, subst, arith, Option, Some, IsSome}
 use Rattle.std.proofs.Common.{None as Nothing}
 use Rattle.std.specs.Prelude.{slice_index_or}
 use Rattle.std.specs.FinMap as finite
@@ -20,7 +21,8 @@ use Rattle.rv_types.specs.Values.{operand_kind}
 use Rattle.rv_types.specs.Kinds.{kind_in_program}
 use Rattle.rv_types.specs.Variables.{is_integer}
 use Rattle.rv_types.specs.Lists.{MemoryAt, delay_place}
-use Rattle.rv_types.specs.Instances.{Body, Output, Right, Instance, main_instance, absolute, clock_in, clock_of, clock_of_arguments, output_place, node_of, IsInstance, IsFlow}
+use Rattle.rv_types.specs.Instances.{Body, Output, Right, Instance, main_instance, absolute, clock_in, clock_of, clock_of_arguments, output_place, node_of}
+use Rattle.rv_types.specs.Instances.{IsInstance, IsFlow}
 use Rattle.rv_types.specs.Needs.{Of, Gives, given, by_equation, by_call}
 use Rattle.rv_meaning.specs.Meaning.{is_true, number}
 use Rattle.rv_meaning.specs.Runs.{Instant, cell, flat, observer_place, AreStarts}
@@ -32,12 +34,17 @@ use Rattle.rv_rows.specs.Arithmetic.{column_form}
 use Rattle.rv_agreement.specs.Trees.{System, nth_item, memory_items, memory_kinds, memory_places, kind_at}
 use Rattle.rv_agreement.specs.Evaluation.{integers}
 use Rattle.rv_agreement.specs.Evaluation as by
-use Rattle.rv_agreement.specs.Valuations.{Valuation, Reading, at_point, holds_true, form_of, rank, whole_count, readings, spelled, width, reads_at, found_at, IsSymbolic, Comparison, all_comparisons, IsPresent, IsRowOf, read, tested, Agrees, updated, next_tick, IsCoded, IsCodedAs, IsAllowed}
+use Rattle.rv_agreement.specs.Valuations.{Valuation, Reading, at_point, holds_true, form_of, rank, whole_count, readings, spelled, width, reads_at, found_at}
+use Rattle.rv_agreement.specs.Valuations.{IsSymbolic, Comparison, all_comparisons, IsPresent, IsRowOf, read, tested, Agrees, updated, next_tick, IsCoded}
+use Rattle.rv_agreement.specs.Valuations.{IsCodedAs, IsAllowed}
 use Rattle.rv_agreement.specs.Agreement as flats
 use Rattle.rv_agreement.specs.Agreement.{point, IsSpelledAs, Leads, found_in, IsWholeInstant, IsTyped, IsSpelled, Spells, IsAgreed, value_there, bit_count}
-use Rattle.rv_agreement.specs.Programs.{FoundAt, is_there, meant, given_by, IsInstantOf, Compared, IsComparison, in_flow, in_memory, in_assertion, label_counts, kinds_of, input_kinds, columns_of, found_by, IsSymbolicOf, tested_in, AgreesWith, found_of, HasProducts}
+use Rattle.rv_agreement.specs.Programs.{FoundAt, is_there, meant, given_by, IsInstantOf, Compared, IsComparison, in_flow, in_memory, in_assertion, label_counts}
+use Rattle.rv_agreement.specs.Programs.{kinds_of, input_kinds, columns_of, found_by, IsSymbolicOf, tested_in, AgreesWith, found_of, HasProducts}
 use Rattle.rv_agreement.specs.Translation.{Numbers, Names, AreNamed, clock_number, tick_number, flat_of, delay_item, assertion_item, flat_compared, IsClockOf}
-use Rattle.rv_agreement.specs.ProgramAgreement.{integers_of, IsDelay, point_of, IsCodedOf, SpellsOf, IsSymbolicAt, IsAgreedOf, is_there_at, meant_at, is_met_at, IsAllowedOf, next_tick_at, updated_at, AreUpdated, updates_of, LeadsTo, GivesOf, AreAlikeOf, HaveProducts, IsSystemOf, memories_of}
+use Rattle.rv_agreement.specs.ProgramAgreement.{integers_of, IsDelay, point_of, IsCodedOf, SpellsOf, IsSymbolicAt, IsAgreedOf, is_there_at, meant_at, is_met_at}
+use Rattle.rv_agreement.specs.ProgramAgreement.{IsAllowedOf, next_tick_at, updated_at, AreUpdated, updates_of, LeadsTo, GivesOf, AreAlikeOf, HaveProducts}
+use Rattle.rv_agreement.specs.ProgramAgreement.{IsSystemOf, memories_of}
 use Rattle.rv_agreement.proofs.LinearLemmas.{Laws}
 use Rattle.rv_agreement.proofs.Operators.{truth_at, number_at}
 use Rattle.rv_agreement.proofs.OneRow.{one_row}
@@ -51,7 +58,8 @@ use Rattle.rv_agreement.proofs.Systems.{forward, backward, comparison_there, com
 use Rattle.rv_agreement.proofs.Meanings.{held_same, on_same, meant_same, there_same}
 use Rattle.rv_agreement.proofs.Indexed.{index_is, indexed, row_agrees}
 use Rattle.rv_agreement.proofs.NamedParts.{names_more, operands_named, AreNamedIn}
-use Rattle.rv_agreement.proofs.Witnessed.{numbered, length-numbered, numbered_at, wholes_are, has_kind, kinds_same, places_same, width_same, memory_of, number_of, own_number, place_numbered, clock_of_tick, tick_at, tick_numbered, is_tick}
+use Rattle.rv_agreement.proofs.Witnessed.{numbered, length-numbered, numbered_at, wholes_are, has_kind, kinds_same, places_same, width_same, memory_of}
+use Rattle.rv_agreement.proofs.Witnessed.{number_of, own_number, place_numbered, clock_of_tick, tick_at, tick_numbered, is_tick}
 
 -- a row has nothing at a place that it does not have
 no_cell : (row : Instant) (q : Sites) → (IsSome (finite.get row q) → ⊥) → cell row q ≡ Nothing
@@ -76,12 +84,15 @@ allowed true v = (to, from v)
     from (Whole z) e = absurd (grind arith)
 
 -- integers that are the values of forms
-integers_are : (x : List ℤ) (ks : List Kind) (f : ℕ → Value) (g : ℕ → Form) → ((m : ℕ) → m < length ks → number (f m) ≡ forms.value (g m) x) → integers_of ks f ≡ forms.values (flats.forms_from ks g) x
+integers_are : (x : List ℤ) (ks : List Kind) (f : ℕ → Value) (g : ℕ → Form) → ((m : ℕ) → m < length ks → number (f m) ≡ forms.value (g m) x)
+    → integers_of ks f ≡ forms.values (flats.forms_from ks g) x
 integers_are x [] f g is = refl
-integers_are x (k ∷ ks) f g is = split (is_integer k) (is 0 (omega arith)) (integers_are x ks (λ m. f (suc m)) (λ m. g (suc m)) (λ m lt. is (suc m) (omega arith)))
+integers_are x (k ∷ ks) f g is = split (is_integer k) (is 0 (omega arith))
+    (integers_are x ks (λ m. f (suc m)) (λ m. g (suc m)) (λ m lt. is (suc m) (omega arith)))
   where
     split : (b : Bool) → number (f 0) ≡ forms.value (g 0) x → integers_of ks (λ m. f (suc m)) ≡ forms.values (flats.forms_from ks (λ m. g (suc m))) x
-        → cond b (number (f 0) ∷ integers_of ks (λ m. f (suc m))) (integers_of ks (λ m. f (suc m))) ≡ forms.values (cond b (g 0 ∷ flats.forms_from ks (λ m. g (suc m))) (flats.forms_from ks (λ m. g (suc m)))) x
+        → cond b (number (f 0) ∷ integers_of ks (λ m. f (suc m))) (integers_of ks (λ m. f (suc m))) ≡ forms.values
+        (cond b (g 0 ∷ flats.forms_from ks (λ m. g (suc m))) (flats.forms_from ks (λ m. g (suc m)))) x
     split true head rest = λ i. head i ∷ rest i
     split false head rest = rest
 
@@ -91,7 +102,8 @@ none_ticked g [] none k = refl
 none_ticked g (o ∷ ks) none zero = none o
 none_ticked g (o ∷ ks) none (suc k) = none_ticked g ks none k
 
-module _ (program : ProgramTree) (main : Identifier) (numbers : Numbers) (s : System) (witness : IsSystemOf program main numbers s) (defined : AreDefined program main) where
+module _ (program : ProgramTree) (main : Identifier) (numbers : Numbers) (s : System) (witness : IsSystemOf program main numbers s)
+    (defined : AreDefined program main) where
   abbrev listed : List MemoryAt
   listed = memories_of s
 
@@ -117,11 +129,13 @@ module _ (program : ProgramTree) (main : Identifier) (numbers : Numbers) (s : Sy
   pub long_places : length (memory_places s) ≡ length s.memories
   long_places = length-map s.memories (λ m. m.place)
 
-  pub kept_at : (state : State) (m : ℕ) → m < length s.memories → slice_index_or (flat_state state).kept m (Flag false) ≡ state.kept (slice_index_or (memory_places s) m [])
+  pub kept_at : (state : State) (m : ℕ) → m < length s.memories → slice_index_or (flat_state state).kept m (Flag false) ≡ state.kept
+      (slice_index_or (memory_places s) m [])
   unfolding flat_state
   kept_at state m lt = get_or-map state.kept (memory_places s) m [] (Flag false) (omega (arith, lt, long_places))
 
-  pub ticked_at : (state : State) (m : ℕ) → m < length s.ticks → slice_index_or (flat_state state).ticked m false ≡ state.ticked (slice_index_or s.ticks m Nothing)
+  pub ticked_at : (state : State) (m : ℕ) → m < length s.ticks → slice_index_or (flat_state state).ticked m false ≡ state.ticked
+      (slice_index_or s.ticks m Nothing)
   unfolding flat_state
   ticked_at state m lt = get_or-map state.ticked s.ticks m Nothing false lt
 
@@ -147,7 +161,8 @@ module _ (program : ProgramTree) (main : Identifier) (numbers : Numbers) (s : Sy
 
   point_same : (state : State) (inputs : ℕ → Value) → point s (flat_state state) (flat_given inputs) ≡ point_of program main listed state inputs
   point_same state inputs =
-      (λ t. wholes_are (memory_kinds s) (flat_state state).kept (λ m. state.kept (slice_index_or (memory_places s) m [])) (long_kept state) (λ m lt. kept_at state m (omega (arith, lt, long_kinds))) t
+      (λ t. wholes_are (memory_kinds s) (flat_state state).kept (λ m. state.kept (slice_index_or (memory_places s) m [])) (long_kept state)
+      (λ m lt. kept_at state m (omega (arith, lt, long_kinds))) t
       ++ wholes_are s.inputs (flat_given inputs) inputs (long_given inputs) (given_at inputs) t)
       ∙ (λ t. integers_of (kinds_same program main numbers s witness t) (λ m. state.kept (slice_index_or (places_same program main numbers s witness t) m []))
       ++ integers_of (witness.inputs t) inputs)
@@ -162,25 +177,31 @@ module _ (program : ProgramTree) (main : Identifier) (numbers : Numbers) (s : Sy
   abbrev pub given_there : (ℕ → Value) → ℕ → Value
   given_there inputs j = slice_index_or (flat_given inputs) j (Flag false)
 
-  within_places : (q : Sites) → place_in q → (index_of numbers.memories q < length s.memories) × (slice_index_or (memory_places s) (index_of numbers.memories q) [] ≡ q)
+  within_places : (q : Sites) → place_in q → (index_of numbers.memories q < length s.memories)
+      × (slice_index_or (memory_places s) (index_of numbers.memories q) [] ≡ q)
   within_places q w =
       let n = indexed numbers.memories q w in
       let e = ap length witness.translated.memory_numbers in
       (omega (arith, n.0, e, long_places), ap (λ ps. slice_index_or ps (index_of numbers.memories q) []) (sym witness.translated.memory_numbers) ∙ n.1)
 
-  pub kept_found : (state : State) (inputs : ℕ → Value) (q : Sites) → place_in q → (found_in (flat_state state) (flat_given inputs)).kept (index_of numbers.memories q) ≡ state.kept q
+  pub kept_found : (state : State) (inputs : ℕ → Value) (q : Sites) → place_in q
+      → (found_in (flat_state state) (flat_given inputs)).kept (index_of numbers.memories q) ≡ state.kept q
   kept_found state inputs q w = let n = within_places q w in kept_at state (index_of numbers.memories q) n.0 ∙ ap state.kept n.1
 
-  ticked_found : (state : State) (inputs : ℕ → Value) (k : Option Sites) → tick_in k → (found_in (flat_state state) (flat_given inputs)).ticked (tick_number numbers k) ≡ state.ticked k
+  ticked_found : (state : State) (inputs : ℕ → Value) (k : Option Sites) → tick_in k
+      → (found_in (flat_state state) (flat_given inputs)).ticked (tick_number numbers k) ≡ state.ticked k
   ticked_found state inputs k w = let n = tick_at program main numbers s witness k w in ticked_at state (tick_number numbers k) n.0 ∙ ap state.ticked n.1
 
   kept_read : (v : Valuation) (q : Sites) → place_in q → (found_at s v).kept (index_of numbers.memories q) ≡ (found_by program main listed v).kept q
   kept_read v q w =
       let n = within_places q w in
       let m = index_of numbers.memories q in
-      let other : index_of numbers.memories q ≡ index_of (map (λ m. m.place) listed) q = ap (λ ps. index_of ps q) (witness.translated.memory_numbers ∙ places_same program main numbers s witness) in
-      (λ t. spelled (witness.labels t) (kind_at (kinds_same program main numbers s witness t) m) (v.kept (n.1 t)) (column_form (width_same program main numbers s witness t) (rank (kinds_same program main numbers s witness t) m)))
-      ∙ ap (λ m. spelled counts (kind_at (kinds_of program main listed) m) (v.kept q) (column_form (columns_of program main listed) (rank (kinds_of program main listed) m))) other
+      let other : index_of numbers.memories q ≡ index_of (map (λ m. m.place) listed) q = ap (λ ps. index_of ps q)
+      (witness.translated.memory_numbers ∙ places_same program main numbers s witness) in
+      (λ t. spelled (witness.labels t) (kind_at (kinds_same program main numbers s witness t) m) (v.kept (n.1 t))
+      (column_form (width_same program main numbers s witness t) (rank (kinds_same program main numbers s witness t) m)))
+      ∙ ap (λ m. spelled counts (kind_at (kinds_of program main listed) m) (v.kept q)
+      (column_form (columns_of program main listed) (rank (kinds_of program main listed) m))) other
 
   ticked_read : (v : Valuation) (k : Option Sites) → tick_in k → (found_at s v).ticked (tick_number numbers k) ≡ (found_by program main listed v).ticked k
   ticked_read v k w = ap v.ticked (tick_at program main numbers s witness k w).1
@@ -191,18 +212,22 @@ module _ (program : ProgramTree) (main : Identifier) (numbers : Numbers) (s : Sy
 
   -- the cells of what is no flow
   is_flow_of : (q : Sites) → Contains numbers.flows q → IsFlow program main q
-  is_flow_of q w = subst (IsFlow program main) (indexed numbers.flows q w).1 (witness.translated.sequence.only (index_of numbers.flows q) (indexed numbers.flows q w).0)
+  is_flow_of q w = subst (IsFlow program main) (indexed numbers.flows q w).1
+      (witness.translated.sequence.only (index_of numbers.flows q) (indexed numbers.flows q w).0)
 
-  past_flows : {V : Type 0} (row : List (Option V)) → length row ≡ length s.flows → (q : Sites) → (IsFlow program main q → ⊥) → get_or row (index_of numbers.flows q) Nothing ≡ Nothing
+  past_flows : {V : Type 0} (row : List (Option V)) → length row ≡ length s.flows → (q : Sites) → (IsFlow program main q → ⊥)
+      → get_or row (index_of numbers.flows q) Nothing ≡ Nothing
   past_flows row long q none = elim (cases_lt (index_of numbers.flows q) (length numbers.flows)) [
     | inl lt ↦ absurd (none (subst (IsFlow program main) (index_is numbers.flows q lt) (witness.translated.sequence.only (index_of numbers.flows q) lt)))
     | inr le ↦ get_or_past row (index_of numbers.flows q) Nothing (let many = witness.translated.many in omega (arith, le, long, many))
   ]
 
-  pub agreeing : {V : Type 0} (cells : Sites → Option V) → ((q : Sites) → (IsFlow program main q → ⊥) → cells q ≡ Nothing) → (q : Sites) → get_or (row_of cells) (index_of numbers.flows q) Nothing ≡ cells q
+  pub agreeing : {V : Type 0} (cells : Sites → Option V) → ((q : Sites) → (IsFlow program main q → ⊥) → cells q ≡ Nothing) → (q : Sites)
+      → get_or (row_of cells) (index_of numbers.flows q) Nothing ≡ cells q
   agreeing cells only = row_agrees cells numbers.flows (λ q none. only q (λ f. none (witness.translated.sequence.flows q f)))
 
-  module _ (state : State) (inputs : ℕ → Value) (row : Instant) (instant : IsInstant program main state inputs row) (products : HaveProducts program main state row) where
+  module _ (state : State) (inputs : ℕ → Value) (row : Instant) (instant : IsInstant program main state inputs row)
+      (products : HaveProducts program main state row) where
     abbrev found_there : FoundAt Value
     found_there = found_of state (given_there inputs)
 
@@ -213,23 +238,28 @@ module _ (program : ProgramTree) (main : Identifier) (numbers : Numbers) (s : Sy
     agrees_row = agreeing (cell row) absent
 
     -- what gives a flow its value over the integers
-    body_given : (i : Instance) (k : Clock) (e : Tree) → HasProducts program state row i e → value_now program state row i k e ≡ given_by Value integers program found_there (cell row) (Of i k (Body e))
+    body_given : (i : Instance) (k : Clock) (e : Tree) → HasProducts program state row i e
+        → value_now program state row i k e ≡ given_by Value integers program found_there (cell row) (Of i k (Body e))
     body_given i k e product = λ t.
-        cond (sym (there_same program state (given_there inputs) row i (clock_in i k e)) t) (Some (sym (meant_same program state (given_there inputs) row i e product) t)) Nothing
+        cond (sym (there_same program state (given_there inputs) row i (clock_in i k e)) t)
+        (Some (sym (meant_same program state (given_there inputs) row i e product) t)) Nothing
 
     right_given : (i : Instance) (k : Clock) (r : Right) → ((e : Tree) → r ≡ Body e → HasProducts program state row i e)
         → right_now program state row i k r ≡ given_by Value integers program found_there (cell row) (Of i k r)
     right_given i k (Body e) product = body_given i k e (product e refl)
     right_given i k (Output c j) product = λ t.
-        cond (sym (there_same program state (given_there inputs) row i (absolute i (clock_of_arguments i c.args))) t) (Some (sym (held_same (cell row (output_place program i c.site c.name j))) t)) Nothing
+        cond (sym (there_same program state (given_there inputs) row i (absolute i (clock_of_arguments i c.args))) t)
+        (Some (sym (held_same (cell row (output_place program i c.site c.name j))) t)) Nothing
 
     instant_of : IsInstantOf Value integers program main found_there (cell row)
     instant_of q _ (given j lt is) =
-        let many : length s.inputs ≡ length (node_of program main).inputs = ap length witness.inputs ∙ length-map (node_of program main).inputs (λ d. kind_in_program program d.kind) in
+        let many : length s.inputs ≡ length (node_of program main).inputs = ap length witness.inputs
+        ∙ length-map (node_of program main).inputs (λ d. kind_in_program program d.kind) in
         ap (cell row) (sym is) ∙ instant.given j lt ∙ ap Some (sym (given_at inputs j (omega (arith, lt, many))))
     instant_of q _ (by_equation i x r inst right is) =
         ap (cell row) (sym is) ∙ instant.equations i x r inst right
-        ∙ right_given i (clock_of i.node x) r (λ e body. products.flows q i (clock_of i.node x) e (subst (λ u. Gives program main q (Of i (clock_of i.node x) u)) body (by_equation i x r inst right is)))
+        ∙ right_given i (clock_of i.node x) r (λ e body. products.flows q i (clock_of i.node x) e
+        (subst (λ u. Gives program main q (Of i (clock_of i.node x) u)) body (by_equation i x r inst right is)))
     instant_of q _ (by_call i c j e inst call argument is) =
         ap (cell row) (sym is) ∙ instant.arguments i c j e inst call argument
         ∙ body_given i (clock_of_arguments i c.args) e (products.flows q i (clock_of_arguments i c.args) e (by_call i c j e inst call argument is))
@@ -238,33 +268,41 @@ module _ (program : ProgramTree) (main : Identifier) (numbers : Numbers) (s : Sy
     whole_names : (i : Instance) (e : Tree) → Names i place_in tick_in (IsClockOf numbers s i) e
         → Names i (λ q. (found_in (flat_state state) (flat_given inputs)).kept (index_of numbers.memories q) ≡ found_there.kept q)
         (λ k. (found_in (flat_state state) (flat_given inputs)).ticked (tick_number numbers k) ≡ found_there.ticked k) (λ x. Unit {0}) e
-    whole_names i e names = names_more i place_in (λ q. (found_in (flat_state state) (flat_given inputs)).kept (index_of numbers.memories q) ≡ found_there.kept q)
-        tick_in (λ k. (found_in (flat_state state) (flat_given inputs)).ticked (tick_number numbers k) ≡ found_there.ticked k) (IsClockOf numbers s i) (λ x. Unit {0})
+    whole_names i e names = names_more i place_in (λ q. (found_in (flat_state state) (flat_given inputs)).kept (index_of numbers.memories q) ≡ found_there.kept
+        q)
+        tick_in (λ k. (found_in (flat_state state) (flat_given inputs)).ticked (tick_number numbers k) ≡ found_there.ticked k) (IsClockOf numbers s i)
+        (λ x. Unit {0})
         (kept_found state inputs) (ticked_found state inputs) (λ x is. tt) e names
 
     pub whole_instant : IsWholeInstant s (flat_state state) (flat_given inputs) (row_of (cell row))
-    whole_instant = forward Value integers (λ b. refl) program main numbers s witness.translated (found_in (flat_state state) (flat_given inputs)) found_there (λ j. refl)
+    whole_instant = forward Value integers (λ b. refl) program main numbers s witness.translated (found_in (flat_state state) (flat_given inputs)) found_there
+        (λ j. refl)
         (λ q i k e gives. whole_names i e (witness.named.flows q i k e gives)) (cell row) agrees_row instant_of
 
     -- what an expression has in the flat system and in the program
     pub whole_read : (i : Instance) (e : Tree) → Names i place_in tick_in (IsClockOf numbers s i) e → HasProducts program state row i e
-        → by.value Value integers (found_in (flat_state state) (flat_given inputs)) (row_of (cell row)) (flat_of program numbers i e) ≡ now program state row i e
+        → by.value Value integers (found_in (flat_state state) (flat_given inputs)) (row_of (cell row)) (flat_of program numbers i e) ≡ now program state row i
+        e
     whole_read i e names product =
-        value_read Value integers (λ b. refl) program numbers (found_in (flat_state state) (flat_given inputs)) (row_of (cell row)) found_there (cell row) agrees_row i e (whole_names i e names)
+        value_read Value integers (λ b. refl) program numbers (found_in (flat_state state) (flat_given inputs)) (row_of (cell row)) found_there
+        (cell row) agrees_row i e (whole_names i e names)
         ∙ meant_same program state (given_there inputs) row i e product
 
     pub whole_there : (i : Instance) (k : Option Sites) → by.is_there Value integers (row_of (cell row)) (clock_number numbers k) ≡ is_on_in row k
     whole_there i k =
-        on_clock Value integers (λ b. refl) program numbers (found_in (flat_state state) (flat_given inputs)) (row_of (cell row)) found_there (cell row) agrees_row i k
+        on_clock Value integers (λ b. refl) program numbers (found_in (flat_state state) (flat_given inputs)) (row_of (cell row)) found_there
+        (cell row) agrees_row i k
         ∙ there_same program state (given_there inputs) row i k
 
-  pub typed_state : (state : State) (inputs : ℕ → Value) → AreStarts program main state.kept → AreGiven program main inputs → IsTyped s (flat_state state) (flat_given inputs)
+  pub typed_state : (state : State) (inputs : ℕ → Value) → AreStarts program main state.kept → AreGiven program main inputs
+      → IsTyped s (flat_state state) (flat_given inputs)
   typed_state state inputs starts given_typed = record {
     memories = record { many = long_kept state; each = λ m lt. memory_typed m (omega (arith, lt, long_kinds)) };
     given = record { many = long_given inputs; each = input_typed };
   }
     where
-      memory_typed : (m : ℕ) → m < length s.memories → flats.HasKind s.labels (kind_at (memory_kinds s) m) (slice_index_or (flat_state state).kept m (Flag false))
+      memory_typed : (m : ℕ) → m < length s.memories → flats.HasKind s.labels (kind_at (memory_kinds s) m)
+          (slice_index_or (flat_state state).kept m (Flag false))
       memory_typed m lt =
           let o = memory_of program main numbers s witness m lt in
           let has = has_kind program (operand_kind program o.0.node o.1.operand) (state.kept (delay_place o.0 o.1)) (starts o.0 o.1 o.2.0 o.2.1) in
@@ -275,7 +313,8 @@ module _ (program : ProgramTree) (main : Identifier) (numbers : Numbers) (s : Sy
       input_typed : (j : ℕ) → j < length s.inputs → flats.HasKind s.labels (kind_at s.inputs j) (slice_index_or (flat_given inputs) j (Flag false))
       input_typed j lt =
           let less : j < length given_kinds = omega (arith, lt, ap length witness.inputs) in
-          let has = has_kind program (kind_at given_kinds j) (inputs j) (given_typed j (kind_at given_kinds j) (slice_get-get_or given_kinds j kind.Bool less)) in
+          let has = has_kind program (kind_at given_kinds j) (inputs j) (given_typed j (kind_at given_kinds j) (slice_get-get_or given_kinds j kind.Bool less))
+          in
           subst (flats.HasKind s.labels (kind_at s.inputs j)) (sym (given_at inputs j lt))
           (subst (λ ks. flats.HasKind s.labels (kind_at ks j) (inputs j)) (sym witness.inputs)
           (subst (λ ls. flats.HasKind ls (kind_at given_kinds j) (inputs j)) (sym witness.labels) has))
@@ -287,8 +326,10 @@ module _ (program : ProgramTree) (main : Identifier) (numbers : Numbers) (s : Sy
     assertions = λ i a inst w. clock_names i a.body (witness.named.assertions i a inst w);
   }
     where
-      clock_names : (i : Instance) (e : Tree) → Names i place_in tick_in (IsClockOf numbers s i) e → Names i (λ q. Unit {0}) (λ k. Unit {0}) (IsClockOf numbers s i) e
-      clock_names i e names = names_more i place_in (λ q. Unit {0}) tick_in (λ k. Unit {0}) (IsClockOf numbers s i) (IsClockOf numbers s i) (λ q w. tt) (λ k w. tt) (λ x is. is) e names
+      clock_names : (i : Instance) (e : Tree) → Names i place_in tick_in (IsClockOf numbers s i) e
+          → Names i (λ q. Unit {0}) (λ k. Unit {0}) (IsClockOf numbers s i) e
+      clock_names i e names = names_more i place_in (λ q. Unit {0}) tick_in (λ k. Unit {0}) (IsClockOf numbers s i) (IsClockOf numbers s i) (λ q w. tt)
+          (λ k w. tt) (λ x is. is) e names
 
   -- A valuation.
   module _ (v : Valuation) where
@@ -300,23 +341,27 @@ module _ (program : ProgramTree) (main : Identifier) (numbers : Numbers) (s : Sy
       given = λ j lt.
           subst (IsSpelled s.labels (kind_at s.inputs j) (v.input j)) (sym (given_at inputs j lt))
           (subst (λ ks. IsSpelled s.labels (kind_at ks j) (v.input j) (inputs j)) (sym witness.inputs)
-          (subst (λ ls. IsSpelled ls (kind_at given_kinds j) (v.input j) (inputs j)) (sym witness.labels) (spells.given j (omega (arith, lt, ap length witness.inputs)))));
+          (subst (λ ls. IsSpelled ls (kind_at given_kinds j) (v.input j) (inputs j)) (sym witness.labels)
+          (spells.given j (omega (arith, lt, ap length witness.inputs)))));
     }
       where
-        memory : (m : ℕ) → m < length s.memories → IsSpelled s.labels (kind_at (memory_kinds s) m) (v.kept (slice_index_or (memory_places s) m [])) (slice_index_or (flat_state state).kept m (Flag false))
+        memory : (m : ℕ) → m < length s.memories → IsSpelled s.labels (kind_at (memory_kinds s) m) (v.kept (slice_index_or (memory_places s) m []))
+            (slice_index_or (flat_state state).kept m (Flag false))
         memory m lt =
             let o = memory_of program main numbers s witness m lt in
             subst (IsSpelled s.labels (kind_at (memory_kinds s) m) (v.kept (slice_index_or (memory_places s) m []))) (sym (kept_at state m lt))
             (subst (λ p. IsSpelled s.labels (kind_at (memory_kinds s) m) (v.kept p) (state.kept p)) (sym o.3)
             (subst (λ j. IsSpelled s.labels j (v.kept (delay_place o.0 o.1)) (state.kept (delay_place o.0 o.1))) (sym o.4)
-            (subst (λ ls. IsSpelled ls (operand_kind program o.0.node o.1.operand) (v.kept (delay_place o.0 o.1)) (state.kept (delay_place o.0 o.1))) (sym witness.labels) (spells.memories o.0 o.1 o.2))))
+            (subst (λ ls. IsSpelled ls (operand_kind program o.0.node o.1.operand) (v.kept (delay_place o.0 o.1)) (state.kept (delay_place o.0 o.1)))
+            (sym witness.labels) (spells.memories o.0 o.1 o.2))))
 
     spells_places : (state : State) (inputs : ℕ → Value) → Spells s v (flat_state state) (flat_given inputs) → SpellsOf program main listed v state inputs
     spells_places state inputs spells = record {
       ticks = λ k is.
           let n = tick_at program main numbers s witness k (tick_numbered program main numbers s witness k is) in
           ap state.ticked (sym n.1) ∙ sym (ticked_at state (tick_number numbers k) n.0) ∙ spells.ticks (tick_number numbers k) n.0 ∙ ap v.ticked n.1;
-      memories = λ i d is. by_number (index_of numbers.memories (delay_place i d)) (delay_place i d) (operand_kind program i.node d.operand) (number_of program main numbers s witness i d is);
+      memories = λ i d is. by_number (index_of numbers.memories (delay_place i d)) (delay_place i d) (operand_kind program i.node d.operand)
+          (number_of program main numbers s witness i d is);
       given = λ j lt.
           let less : j < length s.inputs = omega (arith, lt, ap length witness.inputs) in
           subst (λ ls. IsSpelled ls (kind_at given_kinds j) (v.input j) (inputs j)) witness.labels
@@ -324,22 +369,26 @@ module _ (program : ProgramTree) (main : Identifier) (numbers : Numbers) (s : Sy
           (subst (IsSpelled s.labels (kind_at s.inputs j) (v.input j)) (given_at inputs j less) (spells.given j less)));
     }
       where
-        by_number : (m : ℕ) (p : Sites) (j : Kind) → (m < length s.memories) × (slice_index_or (memory_places s) m [] ≡ p) × (kind_at (memory_kinds s) m ≡ j) → IsSpelled counts j (v.kept p) (state.kept p)
+        by_number : (m : ℕ) (p : Sites) (j : Kind) → (m < length s.memories) × (slice_index_or (memory_places s) m [] ≡ p) × (kind_at (memory_kinds s) m ≡ j)
+            → IsSpelled counts j (v.kept p) (state.kept p)
         by_number m p j n =
             subst (λ ls. IsSpelled ls j (v.kept p) (state.kept p)) witness.labels
             (subst (λ j. IsSpelled s.labels j (v.kept p) (state.kept p)) n.2
             (subst (λ p. IsSpelled s.labels (kind_at (memory_kinds s) m) (v.kept p) (state.kept p)) n.1
-            (subst (IsSpelled s.labels (kind_at (memory_kinds s) m) (v.kept (slice_index_or (memory_places s) m []))) (kept_at state m n.0) (spells.memories m n.0))))
+            (subst (IsSpelled s.labels (kind_at (memory_kinds s) m) (v.kept (slice_index_or (memory_places s) m []))) (kept_at state m n.0)
+            (spells.memories m n.0))))
 
     coded_places : IsCoded s v → IsCodedOf program main listed v
     coded_places coded = record {
-      memories = λ i d is. by_number (index_of numbers.memories (delay_place i d)) (delay_place i d) (operand_kind program i.node d.operand) (number_of program main numbers s witness i d is);
+      memories = λ i d is. by_number (index_of numbers.memories (delay_place i d)) (delay_place i d) (operand_kind program i.node d.operand)
+          (number_of program main numbers s witness i d is);
       inputs = λ j lt.
           subst (λ ls. IsCodedAs ls (kind_at given_kinds j) (v.input j)) witness.labels
           (subst (λ ks. IsCodedAs s.labels (kind_at ks j) (v.input j)) witness.inputs (coded.inputs j (omega (arith, lt, ap length witness.inputs))));
     }
       where
-        by_number : (m : ℕ) (p : Sites) (j : Kind) → (m < length s.memories) × (slice_index_or (memory_places s) m [] ≡ p) × (kind_at (memory_kinds s) m ≡ j) → IsCodedAs counts j (v.kept p)
+        by_number : (m : ℕ) (p : Sites) (j : Kind) → (m < length s.memories) × (slice_index_or (memory_places s) m [] ≡ p) × (kind_at (memory_kinds s) m ≡ j)
+            → IsCodedAs counts j (v.kept p)
         by_number m p j n =
             subst (λ ls. IsCodedAs ls j (v.kept p)) witness.labels
             (subst (λ j. IsCodedAs s.labels j (v.kept p)) n.2
@@ -358,7 +407,8 @@ module _ (program : ProgramTree) (main : Identifier) (numbers : Numbers) (s : Sy
             let o = memory_of program main numbers s witness m lt in
             subst (λ p. IsCodedAs s.labels (kind_at (memory_kinds s) m) (v.kept p)) (sym o.3)
             (subst (λ j. IsCodedAs s.labels j (v.kept (delay_place o.0 o.1))) (sym o.4)
-            (subst (λ ls. IsCodedAs ls (operand_kind program o.0.node o.1.operand) (v.kept (delay_place o.0 o.1))) (sym witness.labels) (coded.memories o.0 o.1 o.2)))
+            (subst (λ ls. IsCodedAs ls (operand_kind program o.0.node o.1.operand) (v.kept (delay_place o.0 o.1))) (sym witness.labels)
+            (coded.memories o.0 o.1 o.2)))
 
     -- the names of an expression are found at the valuation
     symbolic_names : (i : Instance) (e : Tree) → Names i place_in tick_in (λ x. Unit {0}) e
@@ -372,13 +422,16 @@ module _ (program : ProgramTree) (main : Identifier) (numbers : Numbers) (s : Sy
     unclocked i e names = names_more i place_in place_in tick_in tick_in (IsClockOf numbers s i) (λ x. Unit {0}) (λ q w. w) (λ k w. w) (λ x is. tt) e names
 
     -- the symbolic instant of the flat system is that of the program
-    pub symbolic_places : (symbolic : List (Option Reading)) → IsSymbolic s v symbolic → IsSymbolicOf program main listed v (λ q. by.nth Reading (reads_at s v) symbolic (index_of numbers.flows q))
+    pub symbolic_places : (symbolic : List (Option Reading)) → IsSymbolic s v symbolic
+        → IsSymbolicOf program main listed v (λ q. by.nth Reading (reads_at s v) symbolic (index_of numbers.flows q))
     symbolic_places symbolic instant =
-        subst (λ n. IsInstantOf Reading (readings n v.test) program main (found_by program main listed v) (λ q. by.nth Reading (reads_at s v) symbolic (index_of numbers.flows q))) (width_same program main numbers s witness)
+        subst (λ n. IsInstantOf Reading (readings n v.test) program main (found_by program main listed v)
+        (λ q. by.nth Reading (reads_at s v) symbolic (index_of numbers.flows q))) (width_same program main numbers s witness)
         (backward Reading (reads_at s v) (λ b. refl) program main numbers s witness.translated (found_at s v) (found_by program main listed v) (given_read v)
         (λ q i k e gives. symbolic_names i e (unclocked i e (witness.named.flows q i k e gives))) defined (indexed numbers.flows) symbolic instant)
 
-    pub symbolic_at : (symbolic : List (Option Reading)) → IsSymbolic s v symbolic → IsSymbolicAt program main listed v (λ q. by.nth Reading (reads_at s v) symbolic (index_of numbers.flows q))
+    pub symbolic_at : (symbolic : List (Option Reading)) → IsSymbolic s v symbolic
+        → IsSymbolicAt program main listed v (λ q. by.nth Reading (reads_at s v) symbolic (index_of numbers.flows q))
     symbolic_at symbolic instant = (symbolic_places symbolic instant, past_flows symbolic instant.flows)
 
     module _ (cells : Sites → Option Reading) (agrees : (q : Sites) → get_or (row_of cells) (index_of numbers.flows q) Nothing ≡ cells q) where
@@ -386,27 +439,36 @@ module _ (program : ProgramTree) (main : Identifier) (numbers : Numbers) (s : Sy
       symbolic_flat instant =
           forward Reading (reads_at s v) (λ b. refl) program main numbers s witness.translated (found_at s v) (found_by program main listed v) (given_read v)
           (λ q i k e gives. symbolic_names i e (unclocked i e (witness.named.flows q i k e gives))) cells agrees
-          (subst (λ n. IsInstantOf Reading (readings n v.test) program main (found_by program main listed v) cells) (sym (width_same program main numbers s witness)) instant)
+          (subst (λ n. IsInstantOf Reading (readings n v.test) program main (found_by program main listed v) cells)
+          (sym (width_same program main numbers s witness)) instant)
 
-    module _ (symbolic : List (Option Reading)) (cells : Sites → Option Reading) (agrees : (q : Sites) → by.nth Reading (reads_at s v) symbolic (index_of numbers.flows q) ≡ cells q) where
+    module _ (symbolic : List (Option Reading)) (cells : Sites → Option Reading)
+        (agrees : (q : Sites) → by.nth Reading (reads_at s v) symbolic (index_of numbers.flows q) ≡ cells q) where
       -- what an expression has there
-      symbolic_read : (i : Instance) (e : Tree) → Names i place_in tick_in (λ x. Unit {0}) e → read s v symbolic (flat_of program numbers i e) ≡ meant_at program main listed v cells i e
+      symbolic_read : (i : Instance) (e : Tree) → Names i place_in tick_in (λ x. Unit {0}) e
+          → read s v symbolic (flat_of program numbers i e) ≡ meant_at program main listed v cells i e
       symbolic_read i e names =
-          value_read Reading (reads_at s v) (λ b. refl) program numbers (found_at s v) symbolic (found_by program main listed v) cells agrees i e (symbolic_names i e names)
+          value_read Reading (reads_at s v) (λ b. refl) program numbers (found_at s v) symbolic (found_by program main listed v) cells agrees i e
+          (symbolic_names i e names)
           ∙ (λ t. meant Reading (readings (width_same program main numbers s witness t) v.test) program (found_by program main listed v) cells i e)
 
-      symbolic_there : (i : Instance) (k : Option Sites) → by.is_there Reading (reads_at s v) symbolic (clock_number numbers k) ≡ is_there_at program main listed v cells k
+      symbolic_there : (i : Instance) (k : Option Sites) → by.is_there Reading (reads_at s v) symbolic (clock_number numbers k) ≡ is_there_at program main
+          listed v cells k
       symbolic_there i k =
           on_clock Reading (reads_at s v) (λ b. refl) program numbers (found_at s v) symbolic (found_by program main listed v) cells agrees i k
           ∙ (λ t. is_there Reading (readings (width_same program main numbers s witness t) v.test) program (found_by program main listed v) cells k)
 
       -- the operands of a comparison of the program are named
       compared_names : (c : Compared) → IsComparison program main c → AreNamedIn program place_in tick_in c
-      compared_names c (in_flow q i k e gives w) = operands_named program place_in tick_in i (clock_in i k e) e (unclocked i e (witness.named.flows q i k e gives)) c w
-      compared_names c (in_memory i d inst there w) = operands_named program place_in tick_in i (clock_in i Base d.operand) d.operand (unclocked i d.operand (witness.named.memories i d inst there)) c w
-      compared_names c (in_assertion i a inst there w) = operands_named program place_in tick_in i (clock_in i Base a.body) a.body (unclocked i a.body (witness.named.assertions i a inst there)) c w
+      compared_names c (in_flow q i k e gives w) = operands_named program place_in tick_in i (clock_in i k e) e
+          (unclocked i e (witness.named.flows q i k e gives)) c w
+      compared_names c (in_memory i d inst there w) = operands_named program place_in tick_in i (clock_in i Base d.operand) d.operand
+          (unclocked i d.operand (witness.named.memories i d inst there)) c w
+      compared_names c (in_assertion i a inst there w) = operands_named program place_in tick_in i (clock_in i Base a.body) a.body
+          (unclocked i a.body (witness.named.assertions i a inst there)) c w
 
-      tested_same : (c : Compared) → IsComparison program main c → tested s v symbolic (flat_compared program numbers c) ≡ tested_in program main listed v cells c
+      tested_same : (c : Compared) → IsComparison program main c → tested s v symbolic (flat_compared program numbers c) ≡ tested_in program main listed v cells
+          c
       tested_same c is =
           let names = compared_names c is in
           λ t. record {
@@ -418,23 +480,28 @@ module _ (program : ProgramTree) (main : Identifier) (numbers : Numbers) (s : Sy
           }
 
       -- what a memory has after the instant
-      pub updated_same : (i : Instance) (d : Delay) → IsDelay program main i d → updated s v symbolic (index_of numbers.memories (delay_place i d)) ≡ updated_at program main listed v cells i d
+      pub updated_same : (i : Instance) (d : Delay) → IsDelay program main i d
+          → updated s v symbolic (index_of numbers.memories (delay_place i d)) ≡ updated_at program main listed v cells i d
       updated_same i d is =
           let names = witness.named.memories i d is.0 is.1 in
           let among = place_numbered program main numbers s witness i d is in
-          ap (λ y. by.after Reading (reads_at s v) (found_at s v) symbolic y (index_of numbers.memories (delay_place i d))) (witness.translated.memory i d is.0 is.1)
-          ∙ (λ t. cond (symbolic_there i (clock_in i Base d.operand) t) (symbolic_read i d.operand (unclocked i d.operand names) t) (kept_read v (delay_place i d) among t))
+          ap (λ y. by.after Reading (reads_at s v) (found_at s v) symbolic y (index_of numbers.memories (delay_place i d)))
+          (witness.translated.memory i d is.0 is.1)
+          ∙ (λ t. cond (symbolic_there i (clock_in i Base d.operand) t) (symbolic_read i d.operand (unclocked i d.operand names) t)
+          (kept_read v (delay_place i d) among t))
 
       -- whether an assertion is met
       met_same : (i : Instance) (a : AssertionTree) → IsInstance program main i → Contains i.node.assertions a
           → by.is_met Reading (reads_at s v) (found_at s v) symbolic (assertion_item program numbers i a) ≡ is_met_at program main listed v cells i a
       met_same i a inst w =
-          λ t. cond (symbolic_there i (clock_in i Base a.body) t) (holds_true (symbolic_read i a.body (unclocked i a.body (witness.named.assertions i a inst w)) t)) true
+          λ t. cond (symbolic_there i (clock_in i Base a.body) t) (holds_true
+          (symbolic_read i a.body (unclocked i a.body (witness.named.assertions i a inst w)) t)) true
 
       -- the ticks after it
       tick_same : (m : ℕ) → m < length s.ticks → next_tick s v symbolic m ≡ next_tick_at program main listed v cells (slice_index_or s.ticks m Nothing)
       tick_same m lt =
-          ap (λ k. v.ticked (slice_index_or s.ticks m Nothing) || by.is_there Reading (reads_at s v) symbolic k) (clock_of_tick program main numbers s witness m lt)
+          ap (λ k. v.ticked (slice_index_or s.ticks m Nothing) || by.is_there Reading (reads_at s v) symbolic k)
+          (clock_of_tick program main numbers s witness m lt)
           ∙ ap (λ b. v.ticked (slice_index_or s.ticks m Nothing) || b) (symbolic_there (main_instance program main) (slice_index_or s.ticks m Nothing))
 
       pub allowed_same : IsAllowedOf program main listed v cells ↔ IsAllowed s v symbolic
@@ -449,7 +516,8 @@ module _ (program : ProgramTree) (main : Identifier) (numbers : Numbers) (s : Sy
           coded_places allowed_there.0,
           λ i a inst w.
               let there = witness.translated.asserts i a inst w in
-              sym (met_same i a inst w) ∙ ap (by.is_met Reading (reads_at s v) (found_at s v) symbolic) (sym (read_in s.assertions (assertion_item program numbers i a) there)) ∙ allowed_there.1 there.0 there.1,
+              sym (met_same i a inst w) ∙ ap (by.is_met Reading (reads_at s v) (found_at s v) symbolic)
+              (sym (read_in s.assertions (assertion_item program numbers i a) there)) ∙ allowed_there.1 there.0 there.1,
         ),
       )
 
@@ -465,7 +533,8 @@ module _ (program : ProgramTree) (main : Identifier) (numbers : Numbers) (s : Sy
               (subst (IsSpelledAs s.labels (kind_at (memory_kinds s) m) (w.kept (slice_index_or (memory_places s) m []))) (sym (updated_same o.0 o.1 o.2))
               (subst (λ p. IsSpelledAs s.labels (kind_at (memory_kinds s) m) (w.kept p) (updated_at program main listed v cells o.0 o.1)) (sym o.3)
               (subst (λ j. IsSpelledAs s.labels j (w.kept (delay_place o.0 o.1)) (updated_at program main listed v cells o.0 o.1)) (sym o.4)
-              (subst (λ ls. IsSpelledAs ls (operand_kind program o.0.node o.1.operand) (w.kept (delay_place o.0 o.1)) (updated_at program main listed v cells o.0 o.1)) (sym witness.labels) (leads.memories o.0 o.1 o.2)))))
+              (subst (λ ls. IsSpelledAs ls (operand_kind program o.0.node o.1.operand) (w.kept (delay_place o.0 o.1))
+              (updated_at program main listed v cells o.0 o.1)) (sym witness.labels) (leads.memories o.0 o.1 o.2)))))
 
           to : LeadsTo program main listed v cells w → Leads s v symbolic w
           to leads = record {
@@ -478,22 +547,26 @@ module _ (program : ProgramTree) (main : Identifier) (numbers : Numbers) (s : Sy
           from_memory i d is leads =
               let m = index_of numbers.memories (delay_place i d) in
               let n = number_of program main numbers s witness i d is in
-              subst (λ ls. IsSpelledAs ls (operand_kind program i.node d.operand) (w.kept (delay_place i d)) (updated_at program main listed v cells i d)) witness.labels
+              subst (λ ls. IsSpelledAs ls (operand_kind program i.node d.operand) (w.kept (delay_place i d)) (updated_at program main listed v cells i d))
+              witness.labels
               (subst (λ j. IsSpelledAs s.labels j (w.kept (delay_place i d)) (updated_at program main listed v cells i d)) n.2
               (subst (λ p. IsSpelledAs s.labels (kind_at (memory_kinds s) m) (w.kept p) (updated_at program main listed v cells i d)) n.1
-              (subst (IsSpelledAs s.labels (kind_at (memory_kinds s) m) (w.kept (slice_index_or (memory_places s) m []))) (updated_same i d is) (leads.memories m n.0))))
+              (subst (IsSpelledAs s.labels (kind_at (memory_kinds s) m) (w.kept (slice_index_or (memory_places s) m []))) (updated_same i d is)
+              (leads.memories m n.0))))
 
           from : Leads s v symbolic w → LeadsTo program main listed v cells w
           from leads = record {
             ticks = λ k is.
                 let n = tick_at program main numbers s witness k (tick_numbered program main numbers s witness k is) in
-                ap w.ticked (sym n.1) ∙ leads.ticks (tick_number numbers k) n.0 ∙ tick_same (tick_number numbers k) n.0 ∙ ap (next_tick_at program main listed v cells) n.1;
+                ap w.ticked (sym n.1) ∙ leads.ticks (tick_number numbers k) n.0 ∙ tick_same (tick_number numbers k) n.0
+                ∙ ap (next_tick_at program main listed v cells) n.1;
             memories = λ i d is. from_memory i d is leads;
           }
 
       pub agrees_places : (x : List ℤ) → Agrees s v symbolic x → AgreesWith program main listed v cells x
       agrees_places x holds c side r is row =
-          holds (flat_compared program numbers c) side r (comparison_there program main numbers s witness.translated defined (indexed numbers.flows) clocks c is)
+          holds (flat_compared program numbers c) side r (comparison_there program main numbers s witness.translated defined (indexed numbers.flows) clocks c
+          is)
           (subst (λ n. IsRowOf n v.test (tested s v symbolic (flat_compared program numbers c)) side r) (sym (width_same program main numbers s witness))
           (subst (λ a. IsRowOf (columns_of program main listed) v.test a side r) (sym (tested_same c is)) row))
 
@@ -506,7 +579,8 @@ module _ (program : ProgramTree) (main : Identifier) (numbers : Numbers) (s : Sy
           (subst (λ c. IsRowOf (width s) v.test (tested s v symbolic c) side r) f.2 row)))
 
     -- there is one symbolic instant by places
-    pub one_of : (first second : Sites → Option Reading) → IsSymbolicAt program main listed v first → IsSymbolicAt program main listed v second → (q : Sites) → first q ≡ second q
+    pub one_of : (first second : Sites → Option Reading) → IsSymbolicAt program main listed v first → IsSymbolicAt program main listed v second → (q : Sites)
+        → first q ≡ second q
     one_of first second one other q =
         let only = one_row Reading (reads_at s v) s (found_at s v) witness.well in
         let left = only.2 (row_of first) (symbolic_flat first (agreeing first one.1) one.0) in
@@ -514,7 +588,8 @@ module _ (program : ProgramTree) (main : Identifier) (numbers : Numbers) (s : Sy
         sym (agreeing first one.1 q) ∙ ap (λ row. get_or row (index_of numbers.flows q) Nothing) (left ∙ sym right) ∙ agreeing second other.1 q
 
   -- A state, inputs and their instant.
-  module _ (laws : Laws) (state : State) (inputs : ℕ → Value) (row : Instant) (starts : AreStarts program main state.kept) (given_typed : AreGiven program main inputs)
+  module _ (laws : Laws) (state : State) (inputs : ℕ → Value) (row : Instant) (starts : AreStarts program main state.kept)
+      (given_typed : AreGiven program main inputs)
       (instant : IsInstant program main state inputs row) (products : HaveProducts program main state row) where
     typed : IsTyped s (flat_state state) (flat_given inputs)
     typed = typed_state state inputs starts given_typed
@@ -523,7 +598,8 @@ module _ (program : ProgramTree) (main : Identifier) (numbers : Numbers) (s : Sy
     rows = whole_instant state inputs row instant products
 
     -- some valuation agrees
-    pub some_agreed_of : (v : Valuation) × (cells : Sites → Option Reading) × IsCodedOf program main listed v × IsAgreedOf program main listed v cells state inputs
+    pub some_agreed_of : (v : Valuation) × (cells : Sites → Option Reading) × IsCodedOf program main listed v
+        × IsAgreedOf program main listed v cells state inputs
     some_agreed_of =
         let a = some_agreed laws s (flat_state state) (flat_given inputs) (row_of (cell row)) witness.well typed rows in
         let v = a.0 in
@@ -534,7 +610,8 @@ module _ (program : ProgramTree) (main : Identifier) (numbers : Numbers) (s : Sy
           (
             spells_places v state inputs a.3.0,
             symbolic_at v a.1 a.3.1,
-            subst (AgreesWith program main listed v cells) (point_same state inputs) (agrees_places v a.1 cells (λ q. refl) (point s (flat_state state) (flat_given inputs)) a.3.2),
+            subst (AgreesWith program main listed v cells) (point_same state inputs)
+                (agrees_places v a.1 cells (λ q. refl) (point s (flat_state state) (flat_given inputs)) a.3.2),
           ),
         )
 
@@ -550,7 +627,8 @@ module _ (program : ProgramTree) (main : Identifier) (numbers : Numbers) (s : Sy
       flat_agreed = (
         spells_flat v state inputs agreed.0,
         flat_symbolic,
-        subst (Agrees s v (row_of cells)) (sym (point_same state inputs)) (agrees_flat v (row_of cells) cells agrees_cells (point_of program main listed state inputs) agreed.2),
+        subst (Agrees s v (row_of cells)) (sym (point_same state inputs))
+            (agrees_flat v (row_of cells) cells agrees_cells (point_of program main listed state inputs) agreed.2),
       )
 
       abbrev x : List ℤ
@@ -567,10 +645,12 @@ module _ (program : ProgramTree) (main : Identifier) (numbers : Numbers) (s : Sy
       flow_given q = elim (cases_lt (index_of numbers.flows q) (length numbers.flows)) [
         | inl lt ↦
             sym (agrees_row state inputs row instant products q)
-            ∙ flow_same s v (flat_state state) (flat_given inputs) (row_of (cell row)) (row_of cells) x laws witness.well found flat_symbolic tell rows (index_of numbers.flows q) (let many = witness.translated.many in omega (arith, lt, many))
+            ∙ flow_same s v (flat_state state) (flat_given inputs) (row_of (cell row)) (row_of cells) x laws witness.well found flat_symbolic tell rows
+            (index_of numbers.flows q) (let many = witness.translated.many in omega (arith, lt, many))
             ∙ (λ t. value_there (point_same state inputs t) (agrees_cells q t))
         | inr le ↦
-            let none : IsFlow program main q → ⊥ = λ f. let w = indexed numbers.flows q (witness.translated.sequence.flows q f) in absurd (omega (arith, w.0, le)) in
+            let none : IsFlow program main q → ⊥ = λ f. let w = indexed numbers.flows q (witness.translated.sequence.flows q f) in
+            absurd (omega (arith, w.0, le)) in
             absent state inputs row instant products q none ∙ sym (ap (value_there (point_of program main listed state inputs)) (agreed.1.1 q none))
       ]
 
@@ -578,7 +658,8 @@ module _ (program : ProgramTree) (main : Identifier) (numbers : Numbers) (s : Sy
       there_given Nothing = refl
       there_given (Some q) = sym (on_same (cell row q)) ∙ ap (by.is_on Value integers) (flow_given q) ∙ on_at (cells q)
         where
-          on_at : (o : Option Reading) → by.is_on Value integers (value_there (point_of program main listed state inputs) o) ≡ by.is_on Reading (readings (columns_of program main listed) v.test) o
+          on_at : (o : Option Reading) → by.is_on Value integers (value_there (point_of program main listed state inputs) o) ≡ by.is_on Reading
+              (readings (columns_of program main listed) v.test) o
           on_at Nothing = refl
           on_at (Some a) = truth_at (point_of program main listed state inputs) a
 
@@ -586,26 +667,32 @@ module _ (program : ProgramTree) (main : Identifier) (numbers : Numbers) (s : Sy
           → cond (is_on_in row (clock_in i Base a.body)) (is_true (now program state row i a.body)) true ≡ is_met_at program main listed v cells i a
       assertion_given i a inst w =
           let there = witness.translated.asserts i a inst w in
-          let same = assertion_same s v (flat_state state) (flat_given inputs) (row_of (cell row)) (row_of cells) x laws witness.well found flat_symbolic tell rows there.0 there.1 in
+          let same = assertion_same s v (flat_state state) (flat_given inputs) (row_of (cell row)) (row_of cells) x laws witness.well found flat_symbolic tell
+          rows there.0 there.1 in
           let item : nth_item s.assertions there.0 ≡ assertion_item program numbers i a = read_in s.assertions (assertion_item program numbers i a) there in
           let names = witness.named.assertions i a inst w in
-          (λ t. cond (sym (whole_there state inputs row instant products i (clock_in i Base a.body)) t) (is_true (sym (whole_read state inputs row instant products i a.body names (products.assertions i a inst w)) t)) true)
+          (λ t. cond (sym (whole_there state inputs row instant products i (clock_in i Base a.body)) t)
+          (is_true (sym (whole_read state inputs row instant products i a.body names (products.assertions i a inst w)) t)) true)
           ∙ ap (by.is_met Value integers (found_in (flat_state state) (flat_given inputs)) (row_of (cell row))) (sym item)
           ∙ same
           ∙ ap (by.is_met Reading (reads_at s v) (found_at s v) (row_of cells)) item
-          ∙ (λ t. cond (symbolic_there v (row_of cells) cells agrees_cells i (clock_in i Base a.body) t) (holds_true (symbolic_read v (row_of cells) cells agrees_cells i a.body (unclocked v i a.body names) t)) true)
+          ∙ (λ t. cond (symbolic_there v (row_of cells) cells agrees_cells i (clock_in i Base a.body) t)
+          (holds_true (symbolic_read v (row_of cells) cells agrees_cells i a.body (unclocked v i a.body names) t)) true)
 
       -- what a memory has after the instant
       memory_given : (i : Instance) (d : Delay) → IsDelay program main i d
-          → cond (is_on_in row (clock_in i Base d.operand)) (now program state row i d.operand) (state.kept (delay_place i d)) ≡ at_point (point_of program main listed state inputs) (updated_at program main listed v cells i d)
+          → cond (is_on_in row (clock_in i Base d.operand)) (now program state row i d.operand) (state.kept (delay_place i d)) ≡ at_point
+          (point_of program main listed state inputs) (updated_at program main listed v cells i d)
       memory_given i d is =
           let m = index_of numbers.memories (delay_place i d) in
           let n = number_of program main numbers s witness i d is in
           let among = place_numbered program main numbers s witness i d is in
-          let same = memory_same s v (flat_state state) (flat_given inputs) (row_of (cell row)) (row_of cells) x laws witness.well found flat_symbolic tell rows m n.0 in
+          let same = memory_same s v (flat_state state) (flat_given inputs) (row_of (cell row)) (row_of cells) x laws witness.well found flat_symbolic tell rows
+          m n.0 in
           let item : nth_item (memory_items s) m ≡ delay_item program numbers i d = witness.translated.memory i d is.0 is.1 in
           let names = witness.named.memories i d is.0 is.1 in
-          (λ t. cond (sym (whole_there state inputs row instant products i (clock_in i Base d.operand)) t) (sym (whole_read state inputs row instant products i d.operand names (products.memories i d is)) t)
+          (λ t. cond (sym (whole_there state inputs row instant products i (clock_in i Base d.operand)) t)
+          (sym (whole_read state inputs row instant products i d.operand names (products.memories i d is)) t)
           (sym (kept_found state inputs (delay_place i d) among) t))
           ∙ ap (λ y. by.after Value integers (found_in (flat_state state) (flat_given inputs)) (row_of (cell row)) y m) (sym item)
           ∙ same
@@ -618,7 +705,8 @@ module _ (program : ProgramTree) (main : Identifier) (numbers : Numbers) (s : Sy
         gives_of = record {
           flows = flow_given;
           assertions = λ i a inst w.
-              subst (λ b. ((value_now program state row i Base a.body ≡ Nothing) ⊎ (value_now program state row i Base a.body ≡ Some (Flag true))) ↔ (b ≡ true)) (assertion_given i a inst w)
+              subst (λ b. ((value_now program state row i Base a.body ≡ Nothing) ⊎ (value_now program state row i Base a.body ≡ Some (Flag true))) ↔ (b ≡ true))
+              (assertion_given i a inst w)
               (allowed (is_on_in row (clock_in i Base a.body)) (now program state row i a.body));
           observer = flow_given (observer_place program main);
           ticks = λ k is. is_next.ticks k ∙ (λ t. agreed.0.ticks k is t || there_given k t);
@@ -627,31 +715,39 @@ module _ (program : ProgramTree) (main : Identifier) (numbers : Numbers) (s : Sy
 
         -- the integer memories after the instant
         pub updates_are_of : (after : Sites → Reading) → AreUpdated program main listed v cells after
-            → integers_of (kinds_of program main listed) (λ m. next.kept (slice_index_or (map (λ m. m.place) listed) m [])) ≡ forms.values (updates_of program main listed v cells after) (point_of program main listed state inputs)
+            → integers_of (kinds_of program main listed) (λ m. next.kept (slice_index_or (map (λ m. m.place) listed) m [])) ≡ forms.values
+            (updates_of program main listed v cells after) (point_of program main listed state inputs)
         updates_are_of after updated =
-            integers_are (point_of program main listed state inputs) (kinds_of program main listed) (λ m. next.kept (slice_index_or (map (λ m. m.place) listed) m []))
+            integers_are (point_of program main listed state inputs) (kinds_of program main listed)
+            (λ m. next.kept (slice_index_or (map (λ m. m.place) listed) m []))
             (λ m. form_of (columns_of program main listed) v.test (after (slice_index_or (map (λ m. m.place) listed) m []))) each
           where
             at_place : (q : Sites) (i : Instance) (d : Delay) → IsDelay program main i d → q ≡ delay_place i d
                 → number (next.kept q) ≡ forms.value (form_of (columns_of program main listed) v.test (after q)) (point_of program main listed state inputs)
             at_place q i d is at =
                 ap (λ p. number (next.kept p)) at
-                ∙ ap number (is_next.memories i d is.0 is.1 ∙ memory_given i d is ∙ ap (at_point (point_of program main listed state inputs)) (sym (updated i d is)))
+                ∙ ap number (is_next.memories i d is.0 is.1 ∙ memory_given i d is
+                ∙ ap (at_point (point_of program main listed state inputs)) (sym (updated i d is)))
                 ∙ number_at laws (point_of program main listed state inputs) (columns_of program main listed) v.test (after (delay_place i d))
                 ∙ ap (λ p. forms.value (form_of (columns_of program main listed) v.test (after p)) (point_of program main listed state inputs)) (sym at)
 
             each : (m : ℕ) → m < length (kinds_of program main listed)
-                → number (next.kept (slice_index_or (map (λ m. m.place) listed) m [])) ≡ forms.value (form_of (columns_of program main listed) v.test (after (slice_index_or (map (λ m. m.place) listed) m []))) (point_of program main listed state inputs)
+                → number (next.kept (slice_index_or (map (λ m. m.place) listed) m [])) ≡ forms.value
+                (form_of (columns_of program main listed) v.test (after (slice_index_or (map (λ m. m.place) listed) m [])))
+                (point_of program main listed state inputs)
             each m lt =
                 let same = ap length (kinds_same program main numbers s witness) in
                 let o = memory_of program main numbers s witness m (omega (arith, lt, same, long_kinds)) in
-                at_place (slice_index_or (map (λ m. m.place) listed) m []) o.0 o.1 o.2 (ap (λ ps. slice_index_or ps m []) (sym (places_same program main numbers s witness)) ∙ o.3)
+                at_place (slice_index_or (map (λ m. m.place) listed) m []) o.0 o.1 o.2
+                (ap (λ ps. slice_index_or ps m []) (sym (places_same program main numbers s witness)) ∙ o.3)
 
         -- the control state after it
-        pub leads_to_of : (w : Valuation) (after : Sites → Option Reading) (later : ℕ → Value) → IsAgreedOf program main listed w after next later → LeadsTo program main listed v cells w
+        pub leads_to_of : (w : Valuation) (after : Sites → Option Reading) (later : ℕ → Value) → IsAgreedOf program main listed w after next later
+            → LeadsTo program main listed v cells w
         leads_to_of w after later other = record {
           ticks = λ k is. sym (other.0.ticks k is) ∙ is_next.ticks k ∙ (λ t. agreed.0.ticks k is t || there_given k t);
-          memories = λ i d is. spelled_as (point_of program main listed state inputs) counts (operand_kind program i.node d.operand) (w.kept (delay_place i d)) (updated_at program main listed v cells i d)
+          memories = λ i d is. spelled_as (point_of program main listed state inputs) counts (operand_kind program i.node d.operand) (w.kept (delay_place i d))
+              (updated_at program main listed v cells i d)
               (next.kept (delay_place i d)) (is_next.memories i d is.0 is.1 ∙ memory_given i d is) (other.0.memories i d is);
         }
 
@@ -660,16 +756,20 @@ module _ (program : ProgramTree) (main : Identifier) (numbers : Numbers) (s : Sy
       some_updated = (λ q. updated s v (row_of cells) (index_of numbers.memories q), updated_same v (row_of cells) cells agrees_cells)
 
     -- two valuations that agree are alike
-    pub alike_of : (v w : Valuation) (first second : Sites → Option Reading) → IsAgreedOf program main listed v first state inputs → IsAgreedOf program main listed w second state inputs
+    pub alike_of : (v w : Valuation) (first second : Sites → Option Reading) → IsAgreedOf program main listed v first state inputs
+        → IsAgreedOf program main listed w second state inputs
         → AreAlikeOf program main listed v first w
     alike_of v w first second one other =
         let flat_one = flat_agreed v first one in
-        let both = alike laws s (flat_state state) (flat_given inputs) (row_of (cell row)) v w (row_of first) (row_of second) witness.well typed rows flat_one (flat_agreed w second other) in
+        let both = alike laws s (flat_state state) (flat_given inputs) (row_of (cell row)) v w (row_of first) (row_of second) witness.well typed rows flat_one
+        (flat_agreed w second other) in
         record {
           ticks = λ k is. sym (one.0.ticks k is) ∙ other.0.ticks k is;
-          memories = λ i d b is less. same_bits counts (operand_kind program i.node d.operand) (v.kept (delay_place i d)) (w.kept (delay_place i d)) (state.kept (delay_place i d)) (one.0.memories i d is) (other.0.memories i d is) b less;
+          memories = λ i d b is less. same_bits counts (operand_kind program i.node d.operand) (v.kept (delay_place i d)) (w.kept (delay_place i d))
+              (state.kept (delay_place i d)) (one.0.memories i d is) (other.0.memories i d is) b less;
           inputs = λ j b lt less. same_bits counts (kind_at given_kinds j) (v.input j) (w.input j) (inputs j) (one.0.given j lt) (other.0.given j lt) b less;
           tests = λ c side is present.
-              both.tests (flat_compared program numbers c) side (comparison_there program main numbers s witness.translated defined (indexed numbers.flows) clocks c is)
+              both.tests (flat_compared program numbers c) side (comparison_there program main numbers s witness.translated defined
+              (indexed numbers.flows) clocks c is)
               (subst (λ a. IsPresent a side) (sym (tested_same v (row_of first) first (agrees_cells v first one) c is)) present);
         }

@@ -1,5 +1,6 @@
 -- The instants of a run of a program, and what is inductive over the valuations of its flat system.
-use Rattle.std.proofs.Common.{◌≡◌, ◌↔◌, ℕ, zero, suc, ◌+◌, ◌<◌, ◌≤◌, ℤ, Bool, true, false, ◌||◌, cond, List, [], map, length, sym, ◌∙◌, ap, subst, arith, Option, Some}
+use Rattle.std.proofs.Common.{◌≡◌, ◌↔◌, ℕ, zero, suc, ◌+◌, ◌<◌, ◌≤◌, ℤ, Bool, true, false, ◌||◌, cond, List, [], map, length, sym, ◌∙◌, ap, subst, arith}
+use Rattle.std.proofs.Common.{Option, Some}
 use Rattle.std.proofs.Common.{None as Nothing}
 use Rattle.std.specs.Prelude.{slice_index_or}
 use Rattle.std.specs.FinMap.{empty}
@@ -32,21 +33,28 @@ use Rattle.rv_agreement.specs.Agreement.{found_in, HasKind, IsSpelled}
 use Rattle.rv_agreement.specs.FlatRuns.{IsFlatRun, AreMetIn, IsInductive}
 use Rattle.rv_agreement.specs.Programs.{label_counts, input_kinds, kinds_of}
 use Rattle.rv_agreement.specs.Translation.{Numbers, clock_number, delay_item}
-use Rattle.rv_agreement.specs.ProgramAgreement.{IsCodedOf, IsInitialOf, SpellsOf, IsAgreedOf, IsAllowedOf, GivesOf, LeadsTo, AreAlikeOf, AreUpdated, updates_of, integers_of, point_of, HaveProducts, KeepsProducts, IsSystemOf, memories_of}
+use Rattle.rv_agreement.specs.ProgramAgreement.{IsCodedOf, IsInitialOf, SpellsOf, IsAgreedOf, IsAllowedOf, GivesOf, LeadsTo, AreAlikeOf, AreUpdated, updates_of}
+use Rattle.rv_agreement.specs.ProgramAgreement.{integers_of, point_of, HaveProducts, KeepsProducts, IsSystemOf, memories_of}
 use Rattle.rv_agreement.proofs.LinearLemmas.{Laws}
 use Rattle.rv_agreement.proofs.Inductive.{observer_true}
 use Rattle.rv_agreement.proofs.Witnessed.{has_kind, memory_of, own_number, clock_of_tick}
-use Rattle.rv_agreement.proofs.ProgramAgreed.{allowed, flat_state, flat_given, row_of, long_kinds, kept_at, never_ticked, ticked_at, long_kept, long_ticked, agrees_row, whole_instant, whole_read, whole_there, typed_state, assertion_given, some_agreed_of, alike_of, gives_of, leads_to_of, updates_are_of}
+use Rattle.rv_agreement.proofs.ProgramAgreed.{allowed, flat_state, flat_given, row_of, long_kinds, kept_at, never_ticked, ticked_at, long_kept, long_ticked}
+use Rattle.rv_agreement.proofs.ProgramAgreed.{agrees_row, whole_instant, whole_read, whole_there, typed_state, assertion_given, some_agreed_of, alike_of}
+use Rattle.rv_agreement.proofs.ProgramAgreed.{gives_of, leads_to_of, updates_are_of}
 
 -- the laws of runs
 pub record RunLaws : Type 0 where
-  pub some : (program : ProgramTree) (main : Identifier) (starts : Sites → Value) (h : History) (t : ℕ) → AreWell program → IsNode program main → (state : State) × IsStateAt program main starts (cells h) t state
-  pub start : (program : ProgramTree) (main : Identifier) (starts : Sites → Value) (h : History) (state : State) → IsStateAt program main starts (cells h) 0 state ↔ IsStart program main starts state
+  pub some : (program : ProgramTree) (main : Identifier) (starts : Sites → Value) (h : History) (t : ℕ) → AreWell program → IsNode program main
+      → (state : State) × IsStateAt program main starts (cells h) t state
+  pub start : (program : ProgramTree) (main : Identifier) (starts : Sites → Value) (h : History) (state : State)
+      → IsStateAt program main starts (cells h) 0 state ↔ IsStart program main starts state
   pub next : (program : ProgramTree) (main : Identifier) (starts : Sites → Value) (h : History) (t : ℕ) (state next : State)
-      → IsStateAt program main starts (cells h) t state → IsStateAt program main starts (cells h) (t + 1) next → IsNext program main state (slice_index_or h t empty) next
+      → IsStateAt program main starts (cells h) t state → IsStateAt program main starts (cells h) (t + 1) next
+      → IsNext program main state (slice_index_or h t empty) next
   pub instant : (program : ProgramTree) (main : Identifier) (starts : Sites → Value) (inputs : ℕ → ℕ → Value) (n : ℕ) (h : History) (t : ℕ) (state : State)
       → IsRun program main starts inputs n h → t < n → IsStateAt program main starts (cells h) t state
-      → IsInstant program main state (inputs t) (slice_index_or h t empty) × (AssertionsHold program main starts h t ↔ AllowsAt program main state (slice_index_or h t empty))
+      → IsInstant program main state (inputs t) (slice_index_or h t empty)
+      × (AssertionsHold program main starts h t ↔ AllowsAt program main state (slice_index_or h t empty))
   pub typed : (program : ProgramTree) (main : Identifier) (sequence : List Sites) (state next : State) (inputs : ℕ → Value) (row : Instant)
       → AreWell program → IsNode program main → IsSequence program main sequence → AreStarts program main state.kept → AreGiven program main inputs
       → IsInstant program main state inputs row → IsNext program main state row next → AreStarts program main next.kept
@@ -57,7 +65,8 @@ coded_as labels kind.Bool bits v has is = tt
 coded_as labels kind.Int bits v has is = tt
 coded_as labels (kind.Labels i) bits v has is = subst (HasKind labels (kind.Labels i)) is has
 
-module _ (laws : Laws) (runs : RunLaws) (program : ProgramTree) (main : Identifier) (numbers : Numbers) (s : System) (witness : IsSystemOf program main numbers s) (defined : AreDefined program main)
+module _ (laws : Laws) (runs : RunLaws) (program : ProgramTree) (main : Identifier) (numbers : Numbers) (s : System)
+    (witness : IsSystemOf program main numbers s) (defined : AreDefined program main)
     (sound : AreWell program) (node : IsNode program main) where
   abbrev state_of : State → flats.State
   state_of state = flat_state program main numbers s witness defined state
@@ -68,7 +77,8 @@ module _ (laws : Laws) (runs : RunLaws) (program : ProgramTree) (main : Identifi
   abbrev flat_row : Instant → List (Option Value)
   flat_row row = row_of program main numbers s witness defined (cell row)
 
-  module _ (state : State) (inputs : ℕ → Value) (row : Instant) (instant : IsInstant program main state inputs row) (products : HaveProducts program main state row) where
+  module _ (state : State) (inputs : ℕ → Value) (row : Instant) (instant : IsInstant program main state inputs row)
+      (products : HaveProducts program main state row) where
     there : (i : Instance) (k : Option Sites) → by.is_there Value integers (flat_row row) (clock_number numbers k) ≡ is_on_in row k
     there i k = whole_there program main numbers s witness defined state inputs row instant products i k
 
@@ -80,7 +90,8 @@ module _ (laws : Laws) (runs : RunLaws) (program : ProgramTree) (main : Identifi
           ticked_at program main numbers s witness defined next k less
           ∙ is_next.ticks (slice_index_or s.ticks k Nothing)
           ∙ (λ t. sym (ticked_at program main numbers s witness defined state k less) t || sym (there main_instance' (slice_index_or s.ticks k Nothing)) t)
-          ∙ ap (λ c. slice_index_or (state_of state).ticked k false || by.is_there Value integers (flat_row row) c) (sym (clock_of_tick program main numbers s witness k less));
+          ∙ ap (λ c. slice_index_or (state_of state).ticked k false || by.is_there Value integers (flat_row row) c)
+          (sym (clock_of_tick program main numbers s witness k less));
       memories = long_kept program main numbers s witness defined next ∙ long_kinds program main numbers s witness defined;
       kept = memory_next;
     }
@@ -88,12 +99,14 @@ module _ (laws : Laws) (runs : RunLaws) (program : ProgramTree) (main : Identifi
         main_instance' : Instance
         main_instance' = main_instance program main
 
-        memory_next : (m : ℕ) → m < length s.memories → slice_index_or (state_of next).kept m (Flag false) ≡ by.after Value integers (found_in (state_of state) (given_of inputs)) (flat_row row) (nth_item (memory_items s) m) m
+        memory_next : (m : ℕ) → m < length s.memories → slice_index_or (state_of next).kept m (Flag false) ≡ by.after Value integers
+            (found_in (state_of state) (given_of inputs)) (flat_row row) (nth_item (memory_items s) m) m
         memory_next m lt =
             let o = memory_of program main numbers s witness m lt in
             let own = own_number program main numbers s witness m o.0 o.1 o.2 lt o.3 in
             let names = witness.named.memories o.0 o.1 o.2.0 o.2.1 in
-            let item : nth_item (memory_items s) m ≡ delay_item program numbers o.0 o.1 = ap (nth_item (memory_items s)) (sym own) ∙ witness.translated.memory o.0 o.1 o.2.0 o.2.1 in
+            let item : nth_item (memory_items s) m ≡ delay_item program numbers o.0 o.1 = ap (nth_item (memory_items s)) (sym own)
+            ∙ witness.translated.memory o.0 o.1 o.2.0 o.2.1 in
             kept_at program main numbers s witness defined next m lt
             ∙ ap next.kept o.3
             ∙ is_next.memories o.0 o.1 o.2.0 o.2.1
@@ -108,7 +121,8 @@ module _ (laws : Laws) (runs : RunLaws) (program : ProgramTree) (main : Identifi
         let names = witness.named.assertions o.0 o.1 o.2 o.3 in
         ap (by.is_met Value integers (found_in (state_of state) (given_of inputs)) (flat_row row)) o.4
         ∙ (λ t. cond (there o.0 (clock_in o.0 Base o.1.body) t)
-        (is_true (whole_read program main numbers s witness defined state inputs row instant products o.0 o.1.body names (products.assertions o.0 o.1 o.2 o.3) t)) true)
+        (is_true (whole_read program main numbers s witness defined state inputs row instant products o.0 o.1.body names (products.assertions o.0 o.1 o.2 o.3)
+        t)) true)
         ∙ (allowed (is_on_in row (clock_in o.0 Base o.1.body)) (now program state row o.0 o.1.body)).0 (allows o.0 o.1 o.2 o.3)
 
     flat_observer : by.nth Value integers (flat_row row) s.observer ≡ cell row (observer_place program main)
@@ -130,14 +144,16 @@ module _ (laws : Laws) (runs : RunLaws) (program : ProgramTree) (main : Identifi
     -- what the memories hold has its type
     pub typed_at : (t : ℕ) → t ≤ n → (state : State) → IsStateAt program main starts (cells h) t state → AreStarts program main state.kept
     typed_at zero le state is = λ i d inst w.
-        subst (types.HasKind program (operand_kind program i.node d.operand)) (sym (((runs.start program main starts h state).0 is).memories i d inst w)) (run.starts_typed i d inst w)
+        subst (types.HasKind program (operand_kind program i.node d.operand)) (sym (((runs.start program main starts h state).0 is).memories i d inst w))
+        (run.starts_typed i d inst w)
     typed_at (suc t) le state is =
         let before = runs.some program main starts h t sound node in
         let lt : t < n = omega (arith, le) in
         let typed = typed_at t (omega (arith, le)) before.0 before.1 in
         let more : suc t ≡ t + 1 = omega arith in
         let is_next = runs.next program main starts h t before.0 state before.1 (subst (λ u. IsStateAt program main starts (cells h) u state) more is) in
-        runs.typed program main numbers.flows before.0 state (inputs t) (row_at t) sound node witness.translated.sequence typed (given_typed t lt) (instant_at t lt before.0 before.1) is_next
+        runs.typed program main numbers.flows before.0 state (inputs t) (row_at t) sound node witness.translated.sequence typed (given_typed t lt)
+        (instant_at t lt before.0 before.1) is_next
 
     abbrev brought : ℕ → State
     brought t = (runs.some program main starts h t sound node).0
@@ -149,26 +165,34 @@ module _ (laws : Laws) (runs : RunLaws) (program : ProgramTree) (main : Identifi
     flat_run : KeepsProducts program main → IsFlatRun s n (λ t. state_of (brought t)) (λ t. given_of (inputs t)) (λ t. flat_row (row_at t))
     flat_run keeps = record {
       start = never_ticked program main numbers s witness defined (brought 0) ((runs.start program main starts h (brought 0)).0 (brought_is 0)).ticks;
-      typed = λ t lt. typed_state program main numbers s witness defined (brought t) (inputs t) (typed_at t (omega (arith, lt)) (brought t) (brought_is t)) (given_typed t lt);
-      instant = λ t lt. whole_instant program main numbers s witness defined (brought t) (inputs t) (row_at t) (instant_at t lt (brought t) (brought_is t)) (products_at t lt);
+      typed = λ t lt. typed_state program main numbers s witness defined (brought t) (inputs t) (typed_at t (omega (arith, lt)) (brought t) (brought_is t))
+          (given_typed t lt);
+      instant = λ t lt. whole_instant program main numbers s witness defined (brought t) (inputs t) (row_at t) (instant_at t lt (brought t) (brought_is t))
+          (products_at t lt);
       next = λ t lt.
           let more : t + 1 ≡ suc t = omega arith in
           flat_next (brought t) (inputs t) (row_at t) (instant_at t lt (brought t) (brought_is t)) (products_at t lt) (brought (suc t))
-          (runs.next program main starts h t (brought t) (brought (suc t)) (brought_is t) (subst (λ u. IsStateAt program main starts (cells h) u (brought (suc t))) (sym more) (brought_is (suc t))));
+          (runs.next program main starts h t (brought t) (brought (suc t)) (brought_is t)
+          (subst (λ u. IsStateAt program main starts (cells h) u (brought (suc t))) (sym more) (brought_is (suc t))));
     }
       where
         products_at : (t : ℕ) → t < n → HaveProducts program main (brought t) (row_at t)
-        products_at t lt = keeps (brought t) (inputs t) (row_at t) (typed_at t (omega (arith, lt)) (brought t) (brought_is t)) (given_typed t lt) (instant_at t lt (brought t) (brought_is t))
+        products_at t lt = keeps (brought t) (inputs t) (row_at t) (typed_at t (omega (arith, lt)) (brought t) (brought_is t)) (given_typed t lt)
+            (instant_at t lt (brought t) (brought_is t))
 
-    pub safe_at : KeepsProducts program main → (holds : Valuation → List ℤ → Bool) → IsInductive s holds → (t : ℕ) → t < n → IsAllowed program main starts h t → cells h t (observer_place program main) ≡ Some (Flag true)
+    pub safe_at : KeepsProducts program main → (holds : Valuation → List ℤ → Bool) → IsInductive s holds → (t : ℕ) → t < n → IsAllowed program main starts h t
+        → cells h t (observer_place program main) ≡ Some (Flag true)
     safe_at keeps holds inductive t lt met =
         let at : (u : ℕ) → u < n → IsInstant program main (brought u) (inputs u) (row_at u) = λ u less. instant_at u less (brought u) (brought_is u) in
-        let products : (u : ℕ) → u < n → HaveProducts program main (brought u) (row_at u) = λ u less. keeps (brought u) (inputs u) (row_at u) (typed_at u (omega (arith, less)) (brought u) (brought_is u)) (given_typed u less) (at u less) in
+        let products : (u : ℕ) → u < n → HaveProducts program main (brought u) (row_at u) = λ u less. keeps (brought u) (inputs u) (row_at u)
+        (typed_at u (omega (arith, less)) (brought u) (brought_is u)) (given_typed u less) (at u less) in
         sym (flat_observer (brought t) (inputs t) (row_at t) (at t lt) (products t lt))
-        ∙ observer_true laws s witness.well holds inductive n (λ u. state_of (brought u)) (λ u. given_of (inputs u)) (λ u. flat_row (row_at u)) (flat_run keeps) t lt
+        ∙ observer_true laws s witness.well holds inductive n (λ u. state_of (brought u)) (λ u. given_of (inputs u)) (λ u. flat_row (row_at u))
+        (flat_run keeps) t lt
         (λ u le.
         let less : u < n = omega (arith, le, lt) in
-        flat_met (brought u) (inputs u) (row_at u) (at u less) (products u less) ((runs.instant program main starts inputs n h u (brought u) run less (brought_is u)).1.0 (met u le)))
+        flat_met (brought u) (inputs u) (row_at u) (at u less) (products u less)
+        ((runs.instant program main starts inputs n h u (brought u) run less (brought_is u)).1.0 (met u le)))
 
     -- An instant of the run.
     module _ (t : ℕ) (lt : t < n) (state : State) (is : IsStateAt program main starts (cells h) t state) where
@@ -176,12 +200,15 @@ module _ (laws : Laws) (runs : RunLaws) (program : ProgramTree) (main : Identifi
       pub coded_of : (v : Valuation) → SpellsOf program main (memories_of s) v state (inputs t) → IsCodedOf program main (memories_of s) v
       coded_of v spells = record {
         memories = λ i d delay.
-            coded_as (label_counts program main (memories_of s)) (operand_kind program i.node d.operand) (v.kept (delay_place i d)) (state.kept (delay_place i d))
-            (has_kind program (operand_kind program i.node d.operand) (state.kept (delay_place i d)) (typed_at t (omega (arith, lt)) state is i d delay.0 delay.1)) (spells.memories i d delay);
+            coded_as (label_counts program main (memories_of s)) (operand_kind program i.node d.operand) (v.kept (delay_place i d))
+            (state.kept (delay_place i d))
+            (has_kind program (operand_kind program i.node d.operand) (state.kept (delay_place i d))
+            (typed_at t (omega (arith, lt)) state is i d delay.0 delay.1)) (spells.memories i d delay);
         inputs = λ j less.
             coded_as (label_counts program main (memories_of s)) (kind_at (input_kinds program main (memories_of s)) j) (v.input j) (inputs t j)
             (has_kind program (kind_at (input_kinds program main (memories_of s)) j) (inputs t j)
-            (given_typed t lt j (kind_at (input_kinds program main (memories_of s)) j) (slice_get-get_or (input_kinds program main (memories_of s)) j kind.Bool less))) (spells.given j less);
+            (given_typed t lt j (kind_at (input_kinds program main (memories_of s)) j)
+            (slice_get-get_or (input_kinds program main (memories_of s)) j kind.Bool less))) (spells.given j less);
       }
 
       -- where the assertions hold, a valuation that agrees is allowed
@@ -191,7 +218,8 @@ module _ (laws : Laws) (runs : RunLaws) (program : ProgramTree) (main : Identifi
           let allows = (runs.instant program main starts inputs n h t state run lt is).1.0 hold in (
             coded_of v agreed.0,
             λ i a inst w.
-                sym (assertion_given program main numbers s witness defined laws state (inputs t) (row_at t) (typed_at t (omega (arith, lt)) state is) (given_typed t lt) (instant_at t lt state is) products v symbolic agreed i a inst w)
+                sym (assertion_given program main numbers s witness defined laws state (inputs t) (row_at t) (typed_at t (omega (arith, lt)) state is)
+                (given_typed t lt) (instant_at t lt state is) products v symbolic agreed i a inst w)
                 ∙ (allowed (is_on_in (row_at t) (clock_in i Base a.body)) (now program state (row_at t) i a.body)).0 (allows i a inst w),
           )
 
@@ -226,16 +254,22 @@ module _ (laws : Laws) (runs : RunLaws) (program : ProgramTree) (main : Identifi
       pub alike_at : (v w : Valuation) (first second : symbolic_of) → agrees_at v first → agrees_at w second → AreAlikeOf program main (memories_of s) v first w
       alike_at = alike_of program main numbers s witness defined laws state (inputs t) (row_at t) typed_here (given_typed t lt) at_instant products_here
 
-      module _ (next : State) (next_is : IsStateAt program main starts (cells h) (t + 1) next) (v : Valuation) (symbolic : symbolic_of) (agreed : agrees_at v symbolic) where
+      module _ (next : State) (next_is : IsStateAt program main starts (cells h) (t + 1) next) (v : Valuation) (symbolic : symbolic_of)
+          (agreed : agrees_at v symbolic) where
         is_next : IsNext program main state (row_at t) next
         is_next = runs.next program main starts h t state next is next_is
 
         pub gives_at : GivesOf program main (memories_of s) v symbolic state (inputs t) (row_at t) next
-        gives_at = gives_of program main numbers s witness defined laws state (inputs t) (row_at t) typed_here (given_typed t lt) at_instant products_here v symbolic agreed next is_next
+        gives_at = gives_of program main numbers s witness defined laws state (inputs t) (row_at t) typed_here (given_typed t lt) at_instant products_here v
+            symbolic agreed next is_next
 
-        pub leads_at : (w : Valuation) (after : symbolic_of) (later : ℕ → Value) → IsAgreedOf program main (memories_of s) w after next later → LeadsTo program main (memories_of s) v symbolic w
-        leads_at = leads_to_of program main numbers s witness defined laws state (inputs t) (row_at t) typed_here (given_typed t lt) at_instant products_here v symbolic agreed next is_next
+        pub leads_at : (w : Valuation) (after : symbolic_of) (later : ℕ → Value) → IsAgreedOf program main (memories_of s) w after next later
+            → LeadsTo program main (memories_of s) v symbolic w
+        leads_at = leads_to_of program main numbers s witness defined laws state (inputs t) (row_at t) typed_here (given_typed t lt) at_instant products_here v
+            symbolic agreed next is_next
 
         pub updates_at : (after : Sites → Reading) → AreUpdated program main (memories_of s) v symbolic after
-            → integers_of (kinds_of program main (memories_of s)) (λ m. next.kept (slice_index_or (map (λ m. m.place) (memories_of s)) m [])) ≡ forms.values (updates_of program main (memories_of s) v symbolic after) (point_of program main (memories_of s) state (inputs t))
-        updates_at = updates_are_of program main numbers s witness defined laws state (inputs t) (row_at t) typed_here (given_typed t lt) at_instant products_here v symbolic agreed next is_next
+            → integers_of (kinds_of program main (memories_of s)) (λ m. next.kept (slice_index_or (map (λ m. m.place) (memories_of s)) m [])) ≡ forms.values
+            (updates_of program main (memories_of s) v symbolic after) (point_of program main (memories_of s) state (inputs t))
+        updates_at = updates_are_of program main numbers s witness defined laws state (inputs t) (row_at t) typed_here (given_typed t lt) at_instant
+            products_here v symbolic agreed next is_next

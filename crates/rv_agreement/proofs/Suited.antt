@@ -87,7 +87,8 @@ suits_when : (k : Clock) (n : NodeTree) (p : Pace) (j : ℕ) → Suits k (when_p
 suits_when k n Free j h = tt
 suits_when k n (At c) j h = by (same_clock c (clock_at n j)) refl h
   where
-    by : (b : Bool) → same_clock c (clock_at n j) ≡ b → Suits k (elim (cond b (At c) Differ) as (λ _. Pace) [ Free ↦ At (On j) | At d ↦ At (On j) | Mute ↦ Mute | Differ ↦ Differ ]) → c ≡ clock_at n j
+    by : (b : Bool) → same_clock c (clock_at n j) ≡ b → Suits k (elim (cond b (At c) Differ) as
+        (λ _. Pace) [ Free ↦ At (On j) | At d ↦ At (On j) | Mute ↦ Mute | Differ ↦ Differ ]) → c ≡ clock_at n j
     by true e h = clock_told c (clock_at n j) e
     by false e h = absurd h
 suits_when k n Mute j h = absurd h
@@ -122,7 +123,8 @@ module _ (program : ProgramTree) (i : Instance) where
 
   -- where a comparison of an operator stands
   pub stands : (k : Option Sites) (site : Option ℕ) (o : Op) (a b : Tree) (c : Compared) → Contains (form_compared program i k site (tree.Binary o a b)) c
-      → (record { at = operator_place program i site o a; clock = k; operator = o; within = i; left = a; right = b } ≡ c) ⊎ (Contains (compared program i k a) c ⊎ Contains (compared program i k b) c)
+      → (record { at = operator_place program i site o a; clock = k; operator = o; within = i; left = a; right = b } ≡ c)
+      ⊎ (Contains (compared program i k a) c ⊎ Contains (compared program i k b) c)
   stands k site o a b c w =
       let y : Compared = record { at = operator_place program i site o a; clock = k; operator = o; within = i; left = a; right = b } in
       let lefts = compared program i k a in
@@ -142,7 +144,8 @@ module _ (program : ProgramTree) (i : Instance) where
     pub suited : (k : Clock) (e : Tree) → Suits k (pace i.node e) → (c : Compared) → Contains (compared program i (absolute i k) e) c → IsSuited c
     suited k (tree.Node at site form) h c w = form_suited k site form h c w
 
-    form_suited : (k : Clock) (site : Option ℕ) (form : Form) → Suits k (form_pace i.node form) → (c : Compared) → Contains (form_compared program i (absolute i k) site form) c → IsSuited c
+    form_suited : (k : Clock) (site : Option ℕ) (form : Form) → Suits k (form_pace i.node form) → (c : Compared)
+        → Contains (form_compared program i (absolute i k) site form) c → IsSuited c
     form_suited k site tree.True h c w = none_in c w
     form_suited k site tree.False h c w = none_in c w
     form_suited k site (tree.Number n) h c w = none_in c w
@@ -152,7 +155,8 @@ module _ (program : ProgramTree) (i : Instance) where
     form_suited k site (tree.Pre e) h c w = none_in c w
     form_suited k site (tree.Current e) h c w = none_in c w
     form_suited k site (tree.When e x) h c w =
-        suited (clock_of i.node x.text) e (suits_seen (clock_of i.node x.text) (pace i.node e) (suits_when k i.node (seen (pace i.node e)) (site_of i.node x.text) h)) c w
+        suited (clock_of i.node x.text) e (suits_seen (clock_of i.node x.text) (pace i.node e)
+        (suits_when k i.node (seen (pace i.node e)) (site_of i.node x.text) h)) c w
     form_suited k site (tree.Binary o a b) h c w =
         let parts = suits_binary k o (seen (pace i.node a)) (seen (pace i.node b)) h in
         elim (stands (absolute i k) site o a b c w) [
@@ -175,7 +179,8 @@ module _ (program : ProgramTree) (i : Instance) where
     form_suited k site (tree.AtMostOne es) h c w = all_suited k es h c w
     form_suited k site (tree.Call f args) h c w = none_in c w
 
-    all_suited : (k : Clock) (es : Trees) → Suits k (pace_of_all i.node es) → (c : Compared) → Contains (compared_all program i (absolute i k) es) c → IsSuited c
+    all_suited : (k : Clock) (es : Trees) → Suits k (pace_of_all i.node es) → (c : Compared) → Contains (compared_all program i (absolute i k) es) c
+        → IsSuited c
     all_suited k tree.None h c w = none_in c w
     all_suited k (tree.More e es) h c w =
         let parts = suits_meet k (seen (pace i.node e)) (pace_of_all i.node es) h in

@@ -17,14 +17,17 @@ use Rattle.rv_agreement.specs.Trees.{Item, nth_item, no_item, System, memory_ite
 use Rattle.rv_agreement.specs.Evaluation.{Reads, Found, IsInstant, nth, held, item_value}
 use Rattle.rv_agreement.specs.Valuations.{Comparison, comparisons, item_comparisons, all_items, all_comparisons}
 use Rattle.rv_agreement.specs.Programs.{FoundAt, given_by, IsInstantOf, Compared, compared, IsComparison, in_flow, in_memory, in_assertion}
-use Rattle.rv_agreement.specs.Translation.{Names, Numbers, clock_number, tick_number, flat_of, giver_item, assertion_item, IsTranslated, AreNamed, IsClockOf, AreIndexed, flat_compared}
+use Rattle.rv_agreement.specs.Translation.{Names, Numbers, clock_number, tick_number, flat_of, giver_item, assertion_item, IsTranslated, AreNamed, IsClockOf}
+use Rattle.rv_agreement.specs.Translation.{AreIndexed, flat_compared}
 use Rattle.rv_agreement.proofs.Translated.{value_read, on_clock, compared_read}
 use Rattle.rv_agreement.proofs.Matching.{none_in, in_tail, head_or_tail, in_flat_map, from_flat_map, read_in}
 
-module _ (V : Type 0) (r : Reads V) (flagged : (b : Bool) → r.truth (r.flag b) ≡ b) (p : ProgramTree) (main : Identifier) (numbers : Numbers) (s : System) (translated : IsTranslated p main numbers s)
+module _ (V : Type 0) (r : Reads V) (flagged : (b : Bool) → r.truth (r.flag b) ≡ b) (p : ProgramTree) (main : Identifier) (numbers : Numbers) (s : System)
+    (translated : IsTranslated p main numbers s)
     (found : Found V) (at_place : FoundAt V) (inputs : (j : ℕ) → found.given j ≡ at_place.given j)
     (names : (q : Sites) (i : Instance) (k : Clock) (e : Tree) → Gives p main q (Of i k (Body e))
-    → Names i (λ q. found.kept (index_of numbers.memories q) ≡ at_place.kept q) (λ t. found.ticked (tick_number numbers t) ≡ at_place.ticked t) (λ x. Unit {0}) e) where
+    → Names i (λ q. found.kept (index_of numbers.memories q) ≡ at_place.kept q) (λ t. found.ticked (tick_number numbers t) ≡ at_place.ticked t)
+    (λ x. Unit {0}) e) where
   module _ (row : List (Option V)) (cells : Sites → Option V) (agrees : (q : Sites) → nth V r row (index_of numbers.flows q) ≡ cells q) where
     -- an item has what gives the flow its value
     item_read : (q : Sites) (g : Giver) → Gives p main q g → item_value V r found row (giver_item p numbers g) ≡ given_by V r p at_place cells g
@@ -50,7 +53,8 @@ module _ (V : Type 0) (r : Reads V) (flagged : (b : Bool) → r.truth (r.flag b)
   }
 
   -- and the other way round
-  pub backward : AreDefined p main → ((q : Sites) → Contains numbers.flows q → (index_of numbers.flows q < length numbers.flows) × (slice_index_or numbers.flows (index_of numbers.flows q) [] ≡ q))
+  pub backward : AreDefined p main → ((q : Sites) → Contains numbers.flows q
+      → (index_of numbers.flows q < length numbers.flows) × (slice_index_or numbers.flows (index_of numbers.flows q) [] ≡ q))
       → (row : List (Option V)) → IsInstant V r s found row → IsInstantOf V r p main at_place (λ q. nth V r row (index_of numbers.flows q))
   backward defined index row instant q g gives =
       let w = index q (translated.sequence.flows q (defined.flow q g gives)) in
@@ -77,7 +81,8 @@ from_map f (x ∷ xs) y w = elim (head_or_tail (f x) (map f xs) y w) [
 ]
 
 -- The comparisons.
-module _ (p : ProgramTree) (main : Identifier) (numbers : Numbers) (s : System) (translated : IsTranslated p main numbers s) (defined : AreDefined p main) (index : AreIndexed numbers.flows)
+module _ (p : ProgramTree) (main : Identifier) (numbers : Numbers) (s : System) (translated : IsTranslated p main numbers s) (defined : AreDefined p main)
+    (index : AreIndexed numbers.flows)
     (names : AreNamed p main (λ q. Unit {0}) (λ t. Unit {0}) (IsClockOf numbers s)) where
   -- those of what is read of an expression
   read_in' : (i : Instance) (k : Option Sites) (e : Tree) → Names i (λ q. Unit {0}) (λ t. Unit {0}) (IsClockOf numbers s i) e
@@ -85,8 +90,10 @@ module _ (p : ProgramTree) (main : Identifier) (numbers : Numbers) (s : System) 
   read_in' i k e named = compared_read p numbers s.flows i k e named
 
   -- an item of the flat system has them
-  by_item : (y : Item) (i : Instance) (k : Option Sites) (e : Tree) (c : Compared) → Contains (all_items s) y → y ≡ record { clock = clock_number numbers k; body = flat_of p numbers i e }
-      → Names i (λ q. Unit {0}) (λ t. Unit {0}) (IsClockOf numbers s i) e → Contains (compared p i k e) c → Contains (all_comparisons s) (flat_compared p numbers c)
+  by_item : (y : Item) (i : Instance) (k : Option Sites) (e : Tree) (c : Compared) → Contains (all_items s) y
+      → y ≡ record { clock = clock_number numbers k; body = flat_of p numbers i e }
+      → Names i (λ q. Unit {0}) (λ t. Unit {0}) (IsClockOf numbers s i) e → Contains (compared p i k e) c
+      → Contains (all_comparisons s) (flat_compared p numbers c)
   by_item y i k e c inside is named w =
       in_flat_map (item_comparisons s.flows) (all_items s) y (flat_compared p numbers c) inside
       (subst (λ z. Contains (item_comparisons s.flows z) (flat_compared p numbers c)) (sym is)
@@ -99,22 +106,27 @@ module _ (p : ProgramTree) (main : Identifier) (numbers : Numbers) (s : System) 
       let f = translated.flow (index_of numbers.flows q) lt in
       let here : Gives p main q f.0 = subst (λ u. Gives p main u f.0) v.1 f.1 in
       by_item (nth_item s.flows (index_of numbers.flows q)) i (clock_in i k e) e c
-      (Contains-append_left s.flows (memory_items s ++ s.assertions) (nth_item s.flows (index_of numbers.flows q)) (Contains-get_or s.flows (index_of numbers.flows q) no_item lt))
+      (Contains-append_left s.flows (memory_items s ++ s.assertions) (nth_item s.flows (index_of numbers.flows q))
+      (Contains-get_or s.flows (index_of numbers.flows q) no_item lt))
       (f.2 ∙ ap (giver_item p numbers) (defined.one q f.0 (Of i k (Body e)) here gives)) (names.flows q i k e gives) w
   comparison_there c (in_memory i d inst there w) =
       let v = translated.memory_there i d inst there in
       by_item (nth_item (memory_items s) (index_of numbers.memories (delay_place i d))) i (clock_in i Base d.operand) d.operand c
       (Contains-append_right s.flows (memory_items s ++ s.assertions) (nth_item (memory_items s) (index_of numbers.memories (delay_place i d)))
-      (Contains-append_left (memory_items s) s.assertions (nth_item (memory_items s) (index_of numbers.memories (delay_place i d))) (Contains-get_or (memory_items s) (index_of numbers.memories (delay_place i d)) no_item (rw length-map v))))
+      (Contains-append_left (memory_items s) s.assertions (nth_item (memory_items s) (index_of numbers.memories (delay_place i d)))
+      (Contains-get_or (memory_items s) (index_of numbers.memories (delay_place i d)) no_item (rw length-map v))))
       (translated.memory i d inst there) (names.memories i d inst there) w
   comparison_there c (in_assertion i a inst there w) =
       by_item (assertion_item p numbers i a) i (clock_in i Base a.body) a.body c
-      (Contains-append_right s.flows (memory_items s ++ s.assertions) (assertion_item p numbers i a) (Contains-append_right (memory_items s) s.assertions (assertion_item p numbers i a) (translated.asserts i a inst there)))
+      (Contains-append_right s.flows (memory_items s ++ s.assertions) (assertion_item p numbers i a)
+      (Contains-append_right (memory_items s) s.assertions (assertion_item p numbers i a) (translated.asserts i a inst there)))
       refl (names.assertions i a inst there) w
 
   -- and no others
-  from_item : (y : Item) (i : Instance) (k : Option Sites) (e : Tree) (d : Comparison) → y ≡ record { clock = clock_number numbers k; body = flat_of p numbers i e }
-      → Names i (λ q. Unit {0}) (λ t. Unit {0}) (IsClockOf numbers s i) e → Contains (item_comparisons s.flows y) d → (c : Compared) × Contains (compared p i k e) c × (d ≡ flat_compared p numbers c)
+  from_item : (y : Item) (i : Instance) (k : Option Sites) (e : Tree) (d : Comparison)
+      → y ≡ record { clock = clock_number numbers k; body = flat_of p numbers i e }
+      → Names i (λ q. Unit {0}) (λ t. Unit {0}) (IsClockOf numbers s i) e → Contains (item_comparisons s.flows y) d
+      → (c : Compared) × Contains (compared p i k e) c × (d ≡ flat_compared p numbers c)
   from_item y i k e d is named w =
       from_map (flat_compared p numbers) (compared p i k e) d
       (subst (λ cs. Contains cs d) (read_in' i k e named) (subst (λ z. Contains (item_comparisons s.flows z) d) is w))
@@ -127,19 +139,23 @@ module _ (p : ProgramTree) (main : Identifier) (numbers : Numbers) (s : System) 
         | inr rest ↦ elim (Contains-append_cases (memory_items s) s.assertions y.0 rest) [
           | inl memory ↦
               let m = translated.memory_only memory.0 (let lt : memory.0 < length (memory_items s) = memory.1 in simp length-map at lt) in
-              let f = from_item y.0 m.0 (clock_in m.0 Base m.1.operand) m.1.operand d (sym (read_in (memory_items s) y.0 memory) ∙ m.4) (names.memories m.0 m.1 m.2 m.3) y.2 in
+              let f = from_item y.0 m.0 (clock_in m.0 Base m.1.operand) m.1.operand d (sym (read_in (memory_items s) y.0 memory) ∙ m.4)
+              (names.memories m.0 m.1 m.2 m.3) y.2 in
               (f.0, in_memory m.0 m.1 m.2 m.3 f.1, f.2)
           | inr assertion ↦
               let m = translated.asserted assertion.0 assertion.1 in
-              let f = from_item y.0 m.0 (clock_in m.0 Base m.1.body) m.1.body d (sym (read_in s.assertions y.0 assertion) ∙ m.4) (names.assertions m.0 m.1 m.2 m.3) y.2 in
+              let f = from_item y.0 m.0 (clock_in m.0 Base m.1.body) m.1.body d (sym (read_in s.assertions y.0 assertion) ∙ m.4)
+              (names.assertions m.0 m.1 m.2 m.3) y.2 in
               (f.0, in_assertion m.0 m.1 m.2 m.3 f.1, f.2)
         ]
       ]
     where
-      by_giver : (y : Item) (flow : Contains s.flows y) → ((g : Giver) × Gives p main (slice_index_or numbers.flows flow.0 []) g × (nth_item s.flows flow.0 ≡ giver_item p numbers g))
+      by_giver : (y : Item) (flow : Contains s.flows y) → ((g : Giver) × Gives p main (slice_index_or numbers.flows flow.0 []) g
+          × (nth_item s.flows flow.0 ≡ giver_item p numbers g))
           → Contains (item_comparisons s.flows y) d → (c : Compared) × IsComparison p main c × (d ≡ flat_compared p numbers c)
       by_giver y flow (Given j, gives, is) w = none_in d (subst (λ z. Contains (item_comparisons s.flows z) d) (sym (read_in s.flows y flow) ∙ is) w)
       by_giver y flow (Of i k (Body e), gives, is) w =
           let f = from_item y i (clock_in i k e) e d (sym (read_in s.flows y flow) ∙ is) (names.flows (slice_index_or numbers.flows flow.0 []) i k e gives) w in
           (f.0, in_flow (slice_index_or numbers.flows flow.0 []) i k e gives f.1, f.2)
-      by_giver y flow (Of i k (Output c j), gives, is) w = none_in d (subst (λ z. Contains (item_comparisons s.flows z) d) (sym (read_in s.flows y flow) ∙ is) w)
+      by_giver y flow (Of i k (Output c j), gives, is) w = none_in d (subst (λ z. Contains (item_comparisons s.flows z) d) (sym (read_in s.flows y flow) ∙ is)
+          w)

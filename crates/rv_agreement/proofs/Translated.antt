@@ -1,5 +1,6 @@
 -- What is read of an expression has what the expression has, whatever expressions are read as; and its comparisons are its own.
-use Rattle.std.proofs.Common.{◌≡◌, ℕ, ◌+◌, ℤ, negsuc, Bool, true, false, not, cond, List, [], ◌∷◌, ◌++◌, map, length, refl, sym, ◌∙◌, ap, unwrap_or, Option, Some}
+use Rattle.std.proofs.Common.{◌≡◌, ℕ, ◌+◌, ℤ, negsuc, Bool, true, false, not, cond, List, [], ◌∷◌, ◌++◌, map, length, refl, sym, ◌∙◌, ap, unwrap_or, Option}
+use Rattle.std.proofs.Common.{Some}
 use Rattle.std.proofs.Common.{None as Nothing}
 use Rattle.std.specs.Prelude.{nat_le, nat_eq}
 use Rattle.std.proofs.lemmas.List.{map-append}
@@ -18,7 +19,8 @@ use Rattle.rv_agreement.specs.Trees as flat
 use Rattle.rv_agreement.specs.Evaluation.{Reads, Found}
 use Rattle.rv_agreement.specs.Evaluation as by
 use Rattle.rv_agreement.specs.Valuations.{Comparison, is_placed, own, comparisons, form_comparisons, comparisons_of}
-use Rattle.rv_agreement.specs.Programs.{FoundAt, operator_place, coefficient, operation, is_there, meant, form_meant, trues_meant, Compared, own_compared, compared, form_compared, compared_all}
+use Rattle.rv_agreement.specs.Programs.{FoundAt, operator_place, coefficient, operation, is_there, meant, form_meant, trues_meant, Compared, own_compared}
+use Rattle.rv_agreement.specs.Programs.{compared, form_compared, compared_all}
 use Rattle.rv_agreement.specs.Translation.{Names, FormNames, AllNames, Numbers, clock_number, tick_number, flat_of, flat_form, flats_of}
 
 -- An operator under a function, and with equal parts.
@@ -60,7 +62,8 @@ operation_same op.Slash c d p q y z choice product other = other
 operation_same op.Div c d p q y z choice product other = other
 operation_same op.Mod c d p q y z choice product other = other
 
-module _ (V : Type 0) (r : Reads V) (flagged : (b : Bool) → r.truth (r.flag b) ≡ b) (program : ProgramTree) (numbers : Numbers) (found : Found V) (row : List (Option V)) (at_place : FoundAt V)
+module _ (V : Type 0) (r : Reads V) (flagged : (b : Bool) → r.truth (r.flag b) ≡ b) (program : ProgramTree) (numbers : Numbers) (found : Found V)
+    (row : List (Option V)) (at_place : FoundAt V)
     (cells : Sites → Option V) (agrees : (q : Sites) → by.nth V r row (index_of numbers.flows q) ≡ cells q) (i : Instance) where
   abbrev read : FlatTree → V
   read = by.value V r found row
@@ -82,12 +85,14 @@ module _ (V : Type 0) (r : Reads V) (flagged : (b : Bool) → r.truth (r.flag b)
   on_clock Nothing = refl
   on_clock (Some q) = ap (by.is_on V r) (agrees q)
 
-  name_read : (at : Sites) (x : Identifier) (b : Bool) → by.form_value V r found row at (cond b (flat.Flow (index_of numbers.flows (place i x))) (flat.Constant (constant_value program x)))
+  name_read : (at : Sites) (x : Identifier) (b : Bool) → by.form_value V r found row at
+      (cond b (flat.Flow (index_of numbers.flows (place i x))) (flat.Constant (constant_value program x)))
       ≡ cond b (by.held V r (cells (place i x))) (r.constant (constant_value program x))
   name_read at x true = ap (by.held V r) (agrees (place i x))
   name_read at x false = refl
 
-  scale_read : (at : Sites) (b : Bool) (y z : ℤ) (f g : FlatTree) → by.form_value V r found row at (cond b (flat.Scale y g) (flat.Scale z f)) ≡ cond b (r.scale y (read g)) (r.scale z (read f))
+  scale_read : (at : Sites) (b : Bool) (y z : ℤ) (f g : FlatTree) → by.form_value V r found row at (cond b (flat.Scale y g) (flat.Scale z f)) ≡ cond b
+      (r.scale y (read g)) (r.scale z (read f))
   scale_read at true y z f g = refl
   scale_read at false y z f g = refl
 
@@ -119,7 +124,8 @@ module _ (V : Type 0) (r : Reads V) (flagged : (b : Bool) → r.truth (r.flag b)
         ∙ operation_same o
         (cond (r.truth (r.flag (found.ticked (tick_number numbers k)))) (read (flat_of program numbers i b)) (read (flat_of program numbers i a)))
         (cond (at_place.ticked k) (has b) (has a))
-        (by.form_value V r found row at (cond c (flat.Scale (coefficient program a) (flat_of program numbers i b)) (flat.Scale (coefficient program b) (flat_of program numbers i a))))
+        (by.form_value V r found row at (cond c (flat.Scale (coefficient program a) (flat_of program numbers i b))
+        (flat.Scale (coefficient program b) (flat_of program numbers i a))))
         (cond c (r.scale (coefficient program a) (has b)) (r.scale (coefficient program b) (has a)))
         (r.operate at o (read (flat_of program numbers i a)) (read (flat_of program numbers i b)))
         (r.operate at o (has a) (has b))
@@ -131,7 +137,8 @@ module _ (V : Type 0) (r : Reads V) (flagged : (b : Bool) → r.truth (r.flag b)
     form_read site (tree.AtMostOne es) names = ap (λ n. r.flag (nat_le n 1)) (trues_read es names)
     form_read site (tree.Call f args) names = ap (by.held V r) (agrees (output_place program i (unwrap_or site 0) f 0))
 
-    trues_read : (es : Trees) → AllNames i IsKept IsTick Any es → by.trues V r found row (flats_of program numbers i es) ≡ trues_meant V r program at_place cells i es
+    trues_read : (es : Trees) → AllNames i IsKept IsTick Any es → by.trues V r found row (flats_of program numbers i es) ≡ trues_meant V r program at_place
+        cells i es
     trues_read tree.None names = refl
     trues_read (tree.More e es) names = λ j. cond (r.truth (value_read e names.0 j)) 1 0 + trues_read es names.1 j
 
@@ -140,7 +147,13 @@ module _ (V : Type 0) (r : Reads V) (flagged : (b : Bool) → r.truth (r.flag b)
 module _ (program : ProgramTree) (numbers : Numbers) (flows : List Item) (i : Instance) where
   -- a comparison of the program in the flat system
   abbrev pub flat_comparison : Compared → Comparison
-  flat_comparison c = record { at = c.at; clock = clock_number numbers c.clock; operator = c.operator; left = flat_of program numbers c.within c.left; right = flat_of program numbers c.within c.right }
+  flat_comparison c = record {
+    at = c.at;
+    clock = clock_number numbers c.clock;
+    operator = c.operator;
+    left = flat_of program numbers c.within c.left;
+    right = flat_of program numbers c.within c.right;
+  }
 
   -- the flow of a clock is on the clock of that flow
   abbrev pub IsClock : Identifier → Type 0
@@ -155,11 +168,13 @@ module _ (program : ProgramTree) (numbers : Numbers) (flows : List Item) (i : In
   abbrev found_in : Option Sites → Tree → List Comparison
   found_in k e = comparisons flows (clock_number numbers k) (flat_of program numbers i e)
 
-  named_in : (k : Option ℕ) (at : Sites) (x : Identifier) (b : Bool) → form_comparisons flows k at (cond b (flat.Flow (index_of numbers.flows (place i x))) (flat.Constant (constant_value program x))) ≡ []
+  named_in : (k : Option ℕ) (at : Sites) (x : Identifier) (b : Bool) → form_comparisons flows k at
+      (cond b (flat.Flow (index_of numbers.flows (place i x))) (flat.Constant (constant_value program x))) ≡ []
   named_in k at x true = refl
   named_in k at x false = refl
 
-  scale_in : (k : Option ℕ) (at : Sites) (b : Bool) (y z : ℤ) (f g : FlatTree) → form_comparisons flows k at (cond b (flat.Scale y g) (flat.Scale z f)) ≡ cond b (comparisons flows k g) (comparisons flows k f)
+  scale_in : (k : Option ℕ) (at : Sites) (b : Bool) (y z : ℤ) (f g : FlatTree)
+      → form_comparisons flows k at (cond b (flat.Scale y g) (flat.Scale z f)) ≡ cond b (comparisons flows k g) (comparisons flows k f)
   scale_in k at true y z f g = refl
   scale_in k at false y z f g = refl
 
@@ -211,11 +226,13 @@ module _ (program : ProgramTree) (numbers : Numbers) (flows : List Item) (i : In
         (own o (flat_comparison self) ++ (comparisons flows n f ++ comparisons flows n g))
         (map flat_comparison (own_compared o self ++ (compared program i k a ++ compared program i k b)))
         (λ arrow. (λ j. right j ++ left j) ∙ sym (map-append flat_comparison (compared program i k b) (compared program i k a)))
-        (scale_in n at c (coefficient program a) (coefficient program b) f g ∙ (λ j. cond c (right j) (left j)) ∙ sym (map_cond flat_comparison c (compared program i k b) (compared program i k a)))
+        (scale_in n at c (coefficient program a) (coefficient program b) f g ∙ (λ j. cond c (right j) (left j))
+        ∙ sym (map_cond flat_comparison c (compared program i k b) (compared program i k a)))
         ((λ j. own_read o self j ++ (left j ++ right j))
         ∙ (λ j. map flat_comparison (own_compared o self) ++ sym (map-append flat_comparison (compared program i k a) (compared program i k b)) j)
         ∙ sym (map-append flat_comparison (own_compared o self) (compared program i k a ++ compared program i k b)))
-        ∙ sym (operation_under (map flat_comparison) o (compared program i k b ++ compared program i k a) (cond c (compared program i k b) (compared program i k a))
+        ∙ sym (operation_under (map flat_comparison) o (compared program i k b ++ compared program i k a)
+        (cond c (compared program i k b) (compared program i k a))
         (own_compared o self ++ (compared program i k a ++ compared program i k b)))
     form_read' k site (tree.If a b c) names =
         (λ j. compared_read k a names.0 j ++ (compared_read k b names.1 j ++ compared_read k c names.2 j))
@@ -224,7 +241,8 @@ module _ (program : ProgramTree) (numbers : Numbers) (flows : List Item) (i : In
     form_read' k site (tree.AtMostOne es) names = all_read k es names
     form_read' k site (tree.Call f args) names = refl
 
-    all_read : (k : Option Sites) (es : Trees) → AllNames i AnyPlace AnyTick IsClock es → comparisons_of flows (clock_number numbers k) (flats_of program numbers i es) ≡ map flat_comparison (compared_all program i k es)
+    all_read : (k : Option Sites) (es : Trees) → AllNames i AnyPlace AnyTick IsClock es
+        → comparisons_of flows (clock_number numbers k) (flats_of program numbers i es) ≡ map flat_comparison (compared_all program i k es)
     all_read k tree.None names = refl
     all_read k (tree.More e es) names =
         (λ j. compared_read k e names.0 j ++ all_read k es names.1 j) ∙ sym (map-append flat_comparison (compared program i k e) (compared_all program i k es))

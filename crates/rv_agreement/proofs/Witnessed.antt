@@ -1,5 +1,6 @@
 -- The memories, ticks, inputs and columns of a program by their numbers in a flat system that is read from it.
-use Rattle.std.proofs.Common.{◌≡◌, inl, inr, ℕ, zero, suc, ◌+◌, ◌<◌, Bool, true, false, cond, List, [], ◌∷◌, map, length, get_or, refl, sym, ◌∙◌, ap, subst, arith, Option, Some}
+use Rattle.std.proofs.Common.{◌≡◌, inl, inr, ℕ, zero, suc, ◌+◌, ◌<◌, Bool, true, false, cond, List, [], ◌∷◌, map, length, get_or, refl, sym, ◌∙◌, ap, subst}
+use Rattle.std.proofs.Common.{arith, Option, Some}
 use Rattle.std.proofs.Common.{None as Nothing}
 use Rattle.std.specs.Prelude.{slice_index_or}
 use Rattle.std.specs.List.{Contains}
@@ -49,10 +50,12 @@ numbered_at (suc n) f zero d lt = refl
 numbered_at (suc n) f (suc j) d lt = numbered_at n (λ i. f (suc i)) j d (omega arith)
 
 -- integers of a list are those of a function that gives its values
-pub wholes_are : (ks : List Kind) (vs : List Value) (f : ℕ → Value) → length vs ≡ length ks → ((m : ℕ) → m < length ks → get_or vs m (value.Flag false) ≡ f m) → wholes ks vs ≡ integers_of ks f
+pub wholes_are : (ks : List Kind) (vs : List Value) (f : ℕ → Value) → length vs ≡ length ks → ((m : ℕ) → m < length ks → get_or vs m (value.Flag false) ≡ f m)
+    → wholes ks vs ≡ integers_of ks f
 wholes_are [] vs f many is = refl
 wholes_are (k ∷ ks) [] f many is = absurd (omega arith)
-wholes_are (k ∷ ks) (v ∷ vs) f many is = by (is_integer k) (ap number (is 0 (omega arith))) (wholes_are ks vs (λ m. f (suc m)) (omega arith) (λ m lt. is (suc m) (omega arith)))
+wholes_are (k ∷ ks) (v ∷ vs) f many is = by (is_integer k) (ap number (is 0 (omega arith)))
+    (wholes_are ks vs (λ m. f (suc m)) (omega arith) (λ m lt. is (suc m) (omega arith)))
   where
     by : (b : Bool) → number v ≡ number (f 0) → wholes ks vs ≡ integers_of ks (λ m. f (suc m))
         → cond b (number v ∷ wholes ks vs) (wholes ks vs) ≡ cond b (number (f 0) ∷ integers_of ks (λ m. f (suc m))) (integers_of ks (λ m. f (suc m)))
@@ -103,7 +106,8 @@ module _ (program : ProgramTree) (main : Identifier) (numbers : Numbers) (s : Sy
   memory_number m = record { place = slice_index_or (memory_places s) m []; kind = kind_at (memory_kinds s) m }
 
   listed_at : (ms : List Kept) (m : ℕ) → m < length ms → (d : MemoryAt)
-      → get_or (map (λ m. record { place = m.place; kind = m.kind }) ms) m d ≡ record { place = slice_index_or (map (λ m. m.place) ms) m []; kind = kind_at (map (λ m. m.kind) ms) m }
+      → get_or (map (λ m. record { place = m.place; kind = m.kind }) ms) m d ≡ record
+      { place = slice_index_or (map (λ m. m.place) ms) m []; kind = kind_at (map (λ m. m.kind) ms) m }
   listed_at [] m lt d = absurd (omega arith)
   listed_at (k ∷ ks) zero lt d = refl
   listed_at (k ∷ ks) (suc m) lt d = listed_at ks m (omega arith) d
@@ -113,14 +117,16 @@ module _ (program : ProgramTree) (main : Identifier) (numbers : Numbers) (s : Sy
 
   -- each memory with a number is that of a `pre` or `current`
   pub memory_of : (m : ℕ) → m < length s.memories
-      → (i : Instance) × (d : Delay) × IsDelay program main i d × (slice_index_or (memory_places s) m [] ≡ delay_place i d) × (kind_at (memory_kinds s) m ≡ operand_kind program i.node d.operand)
+      → (i : Instance) × (d : Delay) × IsDelay program main i d × (slice_index_or (memory_places s) m [] ≡ delay_place i d)
+      × (kind_at (memory_kinds s) m ≡ operand_kind program i.node d.operand)
   memory_of m lt =
       let o = witness.translated.memories.only (memory_number m) (m, omega (arith, long, lt), listed_at s.memories m lt (memory_number m)) in
       (o.0, o.1, (o.2, o.4), ap (λ a. a.place) o.5, ap (λ a. a.kind) o.5)
 
   -- and each of these has a number
   pub number_of : (i : Instance) (d : Delay) → IsDelay program main i d
-      → (index_of numbers.memories (delay_place i d) < length s.memories) × (slice_index_or (memory_places s) (index_of numbers.memories (delay_place i d)) [] ≡ delay_place i d)
+      → (index_of numbers.memories (delay_place i d) < length s.memories)
+      × (slice_index_or (memory_places s) (index_of numbers.memories (delay_place i d)) [] ≡ delay_place i d)
       × (kind_at (memory_kinds s) (index_of numbers.memories (delay_place i d)) ≡ operand_kind program i.node d.operand)
   number_of i d is =
       let m = index_of numbers.memories (delay_place i d) in
@@ -144,11 +150,17 @@ module _ (program : ProgramTree) (main : Identifier) (numbers : Numbers) (s : Sy
       (subst (Contains (memory_places s)) n.1 (Contains-get_or (memory_places s) (index_of numbers.memories (delay_place i d)) [] (rw length-map n.0)))
 
   -- a tick has a number, and what has one is a tick
-  pub tick_at : (k : Option Sites) → Contains s.ticks k → (tick_number numbers k < length s.ticks) × (slice_index_or s.ticks (tick_number numbers k) Nothing ≡ k)
+  pub tick_at : (k : Option Sites) → Contains s.ticks k → (tick_number numbers k < length s.ticks)
+      × (slice_index_or s.ticks (tick_number numbers k) Nothing ≡ k)
   tick_at k w = by k (subst (λ ks. Contains ks k) witness.translated.tick_places w)
     where
-      by : (k : Option Sites) → Contains (Nothing ∷ map Some numbers.ticks) k → (tick_number numbers k < length s.ticks) × (slice_index_or s.ticks (tick_number numbers k) Nothing ≡ k)
-      by Nothing v = (let e = ap length witness.translated.tick_places in omega (arith, e), ap (λ ks. slice_index_or ks 0 Nothing) witness.translated.tick_places)
+      by : (k : Option Sites) → Contains (Nothing ∷ map Some numbers.ticks) k
+          → (tick_number numbers k < length s.ticks) × (slice_index_or s.ticks (tick_number numbers k) Nothing ≡ k)
+      by Nothing v = (
+        let e = ap length witness.translated.tick_places in
+            omega (arith, e),
+        ap (λ ks. slice_index_or ks 0 Nothing) witness.translated.tick_places,
+      )
       by (Some q) v = elim (head_or_tail Nothing (map Some numbers.ticks) (Some q) v) [
         | inl is ↦ absurd (let e : Nothing ≡ Some q = is in cc)
         | inr rest ↦
@@ -171,10 +183,12 @@ module _ (program : ProgramTree) (main : Identifier) (numbers : Numbers) (s : Sy
     where
       by : (k : Option Sites) → IsTick program main k → Contains (Nothing ∷ map Some numbers.ticks) k
       by Nothing is = (0, omega arith, refl)
-      by (Some q) is = in_tail Nothing (map Some numbers.ticks) (Some q) (in_map Some numbers.ticks q (witness.translated.ticks.all is.0 is.1 q is.2 is.3 is.4 is.5))
+      by (Some q) is = in_tail Nothing (map Some numbers.ticks) (Some q)
+          (in_map Some numbers.ticks q (witness.translated.ticks.all is.0 is.1 q is.2 is.3 is.4 is.5))
 
   pub is_tick : (m : ℕ) → m < length s.ticks → IsTick program main (slice_index_or s.ticks m Nothing)
-  is_tick m lt = by (slice_index_or s.ticks m Nothing) (subst (λ ks. Contains ks (slice_index_or s.ticks m Nothing)) witness.translated.tick_places (Contains-get_or s.ticks m Nothing lt))
+  is_tick m lt = by (slice_index_or s.ticks m Nothing) (subst (λ ks. Contains ks (slice_index_or s.ticks m Nothing)) witness.translated.tick_places
+      (Contains-get_or s.ticks m Nothing lt))
     where
       by : (k : Option Sites) → Contains (Nothing ∷ map Some numbers.ticks) k → IsTick program main k
       by Nothing w = tt
@@ -186,7 +200,8 @@ module _ (program : ProgramTree) (main : Identifier) (numbers : Numbers) (s : Sy
       ]
 
   -- the number of the memory of a `pre` or `current` is its own
-  pub own_number : (m : ℕ) (i : Instance) (d : Delay) → IsDelay program main i d → m < length s.memories → slice_index_or (memory_places s) m [] ≡ delay_place i d
+  pub own_number : (m : ℕ) (i : Instance) (d : Delay) → IsDelay program main i d → m < length s.memories
+      → slice_index_or (memory_places s) m [] ≡ delay_place i d
       → index_of numbers.memories (delay_place i d) ≡ m
   own_number m i d is lt at =
       let n = number_of i d is in
@@ -200,7 +215,8 @@ module _ (program : ProgramTree) (main : Identifier) (numbers : Numbers) (s : Sy
       ∙ ap (λ ks. clock_number numbers (slice_index_or ks k Nothing)) (sym witness.translated.tick_places)
     where
       at : (k : ℕ) → k < length (Nothing ∷ map Some numbers.ticks)
-          → slice_index_or (Nothing ∷ map (λ q. Some (index_of numbers.flows q)) numbers.ticks) k Nothing ≡ clock_number numbers (slice_index_or (Nothing ∷ map Some numbers.ticks) k Nothing)
+          → slice_index_or (Nothing ∷ map (λ q. Some (index_of numbers.flows q)) numbers.ticks) k Nothing ≡ clock_number numbers
+          (slice_index_or (Nothing ∷ map Some numbers.ticks) k Nothing)
       at zero lt = refl
       at (suc k) lt =
           let many = length-map numbers.ticks Some in

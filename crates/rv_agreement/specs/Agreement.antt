@@ -13,9 +13,11 @@ use Rattle.rv_types.specs.Lists.{Side, sides_of}
 use Rattle.rv_types.specs.Variables.{is_integer, bits_for}
 use Rattle.rv_meaning.specs.Codes.{code}
 use Rattle.rv_rows.specs.declared.linear.Form.{Form}
-use Rattle.rv_agreement.specs.Trees.{FlatTree, Node, TreeForm, FlatTrees, Constant, Flow, Memory, Ticked, Input, Not, Binary, Scale, If, AtMostOne, When, Current, None, More, Item, nth_item, System, memory_items, memory_kinds, memory_places, kind_at}
+use Rattle.rv_agreement.specs.Trees.{FlatTree, Node, TreeForm, FlatTrees, Constant, Flow, Memory, Ticked, Input, Not, Binary, Scale, If, AtMostOne, When}
+use Rattle.rv_agreement.specs.Trees.{Current, None, More, Item, nth_item, System, memory_items, memory_kinds, memory_places, kind_at}
 use Rattle.rv_agreement.specs.Evaluation.{Found, IsInstant, is_there, value, after, is_met, integers, nth}
-use Rattle.rv_agreement.specs.Valuations.{Valuation, Reading, Truth, Name, wholes, at_point, form_of, width, IsSymbolic, Comparison, all_comparisons, is_placed, IsPresent, tested, Agrees, updated, next_tick, observed, reads_at, found_at}
+use Rattle.rv_agreement.specs.Valuations.{Valuation, Reading, Truth, Name, wholes, at_point, form_of, width, IsSymbolic, Comparison, all_comparisons, is_placed}
+use Rattle.rv_agreement.specs.Valuations.{IsPresent, tested, Agrees, updated, next_tick, observed, reads_at, found_at}
 
 -- what a flat system brings to an instant: whether each tick has been, and what each memory holds
 pub record State : Type 0 where
@@ -40,9 +42,11 @@ IsWholeInstant s now inputs row = IsInstant Value integers s (found_in now input
 -- the state after it
 pub record IsNext (s : System) (now : State) (inputs : List Value) (row : List (Option Value)) (next : State) : Type 0 where
   pub ticks : length next.ticked ≡ length s.tick_clocks
-  pub ticked : (k : ℕ) → k < length s.tick_clocks → slice_index_or next.ticked k false ≡ (slice_index_or now.ticked k false || is_there Value integers row (slice_index_or s.tick_clocks k Nothing))
+  pub ticked : (k : ℕ) → k < length s.tick_clocks → slice_index_or next.ticked k
+      false ≡ (slice_index_or now.ticked k false || is_there Value integers row (slice_index_or s.tick_clocks k Nothing))
   pub memories : length next.kept ≡ length s.memories
-  pub kept : (m : ℕ) → m < length s.memories → slice_index_or next.kept m (Flag false) ≡ after Value integers (found_in now inputs) row (nth_item (memory_items s) m) m
+  pub kept : (m : ℕ) → m < length s.memories → slice_index_or next.kept m (Flag false) ≡ after Value integers (found_in now inputs) row
+      (nth_item (memory_items s) m) m
 
 -- a value of a type, whole numbers of any size
 abbrev pub HasKind : List ℕ → Kind → Value → Type 0
@@ -69,7 +73,8 @@ IsSpelled labels (kind.Labels i) bits value = value ≡ Label (code (bits_for (s
 -- The valuation spells the ticks, the control memories and the control inputs.
 pub record Spells (s : System) (v : Valuation) (now : State) (inputs : List Value) : Type 0 where
   pub ticks : (k : ℕ) → k < length s.ticks → slice_index_or now.ticked k false ≡ v.ticked (slice_index_or s.ticks k Nothing)
-  pub memories : (m : ℕ) → m < length s.memories → IsSpelled s.labels (kind_at (memory_kinds s) m) (v.kept (slice_index_or (memory_places s) m [])) (slice_index_or now.kept m (Flag false))
+  pub memories : (m : ℕ) → m < length s.memories → IsSpelled s.labels (kind_at (memory_kinds s) m) (v.kept (slice_index_or (memory_places s) m []))
+      (slice_index_or now.kept m (Flag false))
   pub given : (j : ℕ) → j < length s.inputs → IsSpelled s.labels (kind_at s.inputs j) (v.input j) (slice_index_or inputs j (Flag false))
 
 -- A state and inputs agree with a valuation: it spells the control, and their point meets every row of the symbolic instant.
@@ -122,7 +127,8 @@ module _ (s : System) where
     FormFits before k j at (If c a b) = Fits before k kind.Bool c × Fits before k j a × Fits before k j b
     FormFits before k j at (AtMostOne es) = (j ≡ kind.Bool) × AllFit before k es
     FormFits before k j at (When c e) = (k ≡ Some c) × (c < before) × Fits before (nth_item s.flows c).clock j e
-    FormFits before k j at (Current m i e) = (m < length s.memories) × (kind_at (memory_kinds s) m ≡ j) × (nth_item (memory_items s) m ≡ record { clock = i; body = e }) × IsNamed before i × Fits before i j e
+    FormFits before k j at (Current m i e) = (m < length s.memories) × (kind_at (memory_kinds s) m ≡ j)
+        × (nth_item (memory_items s) m ≡ record { clock = i; body = e }) × IsNamed before i × Fits before i j e
 
     pub AllFit : ℕ → Option ℕ → FlatTrees → Type 0
     AllFit before k None = Unit {0}
@@ -144,7 +150,8 @@ module _ (s : System) where
     pub ticks : length s.tick_clocks ≡ length s.ticks
     pub tick_clocks : (k : ℕ) → k < length s.tick_clocks → IsNamed (length s.flows) (slice_index_or s.tick_clocks k Nothing)
     pub ticks_apart : (j k : ℕ) → j < length s.ticks → k < length s.ticks → slice_index_or s.ticks j Nothing ≡ slice_index_or s.ticks k Nothing → j ≡ k
-    pub memories_apart : (j k : ℕ) → j < length s.memories → k < length s.memories → slice_index_or (memory_places s) j [] ≡ slice_index_or (memory_places s) k [] → j ≡ k
+    pub memories_apart : (j k : ℕ) → j < length s.memories → k < length s.memories
+        → slice_index_or (memory_places s) j [] ≡ slice_index_or (memory_places s) k [] → j ≡ k
     pub apart : AreApart
 
 -- what a flow has at a point
@@ -153,10 +160,12 @@ value_there x Nothing = Nothing
 value_there x (Some a) = Some (at_point x a)
 
 -- The symbolic instant gives the values, the truth of the assertions and of the observer, and the state after the instant.
-pub record Gives (s : System) (v : Valuation) (symbolic : List (Option Reading)) (now : State) (inputs : List Value) (row : List (Option Value)) (next : State) : Type 0 where
+pub record Gives (s : System) (v : Valuation) (symbolic : List (Option Reading)) (now : State) (inputs : List Value) (row : List (Option Value))
+    (next : State) : Type 0 where
   pub flows : (k : ℕ) → k < length s.flows → nth Value integers row k ≡ value_there (point s now inputs) (nth Reading (reads_at s v) symbolic k)
   pub assertions : (k : ℕ) → k < length s.assertions
-      → is_met Value integers (found_in now inputs) row (nth_item s.assertions k) ≡ is_met Reading (reads_at s v) (found_at s v) symbolic (nth_item s.assertions k)
+      → is_met Value integers (found_in now inputs) row (nth_item s.assertions k) ≡ is_met Reading (reads_at s v) (found_at s v) symbolic
+      (nth_item s.assertions k)
   pub observer : nth Value integers row s.observer ≡ value_there (point s now inputs) (observed s v symbolic)
   pub ticks : (k : ℕ) → k < length s.tick_clocks → slice_index_or next.ticked k false ≡ next_tick s v symbolic k
   pub memories : (m : ℕ) → m < length s.memories → slice_index_or next.kept m (Flag false) ≡ at_point (point s now inputs) (updated s v symbolic m)
@@ -192,4 +201,5 @@ IsSpelledAs labels (kind.Labels i) bits a = a ≡ Name (code (bits_for (slice_in
 -- `next(v)` is the control state of w.
 pub record Leads (s : System) (v : Valuation) (symbolic : List (Option Reading)) (w : Valuation) : Type 0 where
   pub ticks : (k : ℕ) → k < length s.ticks → w.ticked (slice_index_or s.ticks k Nothing) ≡ next_tick s v symbolic k
-  pub memories : (m : ℕ) → m < length s.memories → IsSpelledAs s.labels (kind_at (memory_kinds s) m) (w.kept (slice_index_or (memory_places s) m [])) (updated s v symbolic m)
+  pub memories : (m : ℕ) → m < length s.memories → IsSpelledAs s.labels (kind_at (memory_kinds s) m) (w.kept (slice_index_or (memory_places s) m []))
+      (updated s v symbolic m)

@@ -23,7 +23,8 @@ use Rattle.rv_rows.specs.declared.linear.Form.{Form}
 use Rattle.rv_agreement.specs.Trees.{System, kind_at}
 use Rattle.rv_agreement.specs.Valuations.{Valuation, Reading, at_point, holds_true, form_of, readings, IsPresent, IsCodedAs}
 use Rattle.rv_agreement.specs.Agreement.{IsSpelled, IsSpelledAs, IsWell, bit_count, forms_from, value_there}
-use Rattle.rv_agreement.specs.Programs.{Compared, IsComparison, is_there, meant, label_counts, kinds_of, input_kinds, columns_of, found_by, IsSymbolicOf, tested_in, AgreesWith, HasProducts}
+use Rattle.rv_agreement.specs.Programs.{Compared, IsComparison, is_there, meant, label_counts, kinds_of, input_kinds, columns_of, found_by, IsSymbolicOf}
+use Rattle.rv_agreement.specs.Programs.{tested_in, AgreesWith, HasProducts}
 use Rattle.rv_agreement.specs.Translation.{Numbers, IsTranslated, AreNamed, IsClockOf}
 
 -- the integers among values of these types, by their numbers
@@ -35,7 +36,8 @@ module _ (program : ProgramTree) (main : Identifier) where
   -- A tick: main's, or that of a clock on which a `->` stands.
   abbrev pub IsTick : Option Sites → Type 0
   IsTick Nothing = Unit {0}
-  IsTick (Some q) = (i : Instance) × (e : Tree) × IsInstance program main i × Contains (node_parts i.node) e × (is_arrow e ≡ true) × (clock_in i Base e ≡ Some q)
+  IsTick (Some q) = (i : Instance) × (e : Tree) × IsInstance program main i × Contains (node_parts i.node) e × (is_arrow e ≡ true)
+      × (clock_in i Base e ≡ Some q)
 
   -- A memory: that of a `pre` or `current` of an instance.
   abbrev pub IsDelay : Instance → Delay → Type 0
@@ -71,7 +73,8 @@ module _ (program : ProgramTree) (main : Identifier) where
     -- The valuation spells the ticks, the control memories and the control inputs.
     pub record SpellsOf (v : Valuation) (state : State) (inputs : ℕ → Value) : Type 0 where
       pub ticks : (k : Option Sites) → IsTick k → state.ticked k ≡ v.ticked k
-      pub memories : (i : Instance) (d : Delay) → IsDelay i d → IsSpelled counts (operand_kind program i.node d.operand) (v.kept (delay_place i d)) (state.kept (delay_place i d))
+      pub memories : (i : Instance) (d : Delay) → IsDelay i d → IsSpelled counts (operand_kind program i.node d.operand) (v.kept (delay_place i d))
+          (state.kept (delay_place i d))
       pub given : (j : ℕ) → j < length inputs_of → IsSpelled counts (kind_at inputs_of j) (v.input j) (inputs j)
 
     -- The symbolic instant at a valuation has nothing where no flow is.
@@ -117,7 +120,8 @@ module _ (program : ProgramTree) (main : Identifier) where
       -- `next(v)` is the control state of w.
       pub record LeadsTo (w : Valuation) : Type 0 where
         pub ticks : (k : Option Sites) → IsTick k → w.ticked k ≡ next_tick_at k
-        pub memories : (i : Instance) (d : Delay) → IsDelay i d → IsSpelledAs counts (operand_kind program i.node d.operand) (w.kept (delay_place i d)) (updated_at i d)
+        pub memories : (i : Instance) (d : Delay) → IsDelay i d → IsSpelledAs counts (operand_kind program i.node d.operand) (w.kept (delay_place i d))
+            (updated_at i d)
 
       -- The symbolic instant gives at the point of a state and inputs the values of their instant, the truth of its assertions and
       -- of its observer, and the state after it.
@@ -132,9 +136,11 @@ module _ (program : ProgramTree) (main : Identifier) where
       -- Two valuations differ only in the truth of tests that are absent.
       pub record AreAlikeOf (w : Valuation) : Type 0 where
         pub ticks : (k : Option Sites) → IsTick k → v.ticked k ≡ w.ticked k
-        pub memories : (i : Instance) (d : Delay) (b : ℕ) → IsDelay i d → b < bit_count counts (operand_kind program i.node d.operand) → v.kept (delay_place i d) b ≡ w.kept (delay_place i d) b
+        pub memories : (i : Instance) (d : Delay) (b : ℕ) → IsDelay i d → b < bit_count counts (operand_kind program i.node d.operand)
+            → v.kept (delay_place i d) b ≡ w.kept (delay_place i d) b
         pub inputs : (j b : ℕ) → j < length inputs_of → b < bit_count counts (kind_at inputs_of j) → v.input j b ≡ w.input j b
-        pub tests : (c : Compared) (side : Side) → IsComparison program main c → IsPresent (tested_in program main listed v cells c) side → v.test c.at side ≡ w.test c.at side
+        pub tests : (c : Compared) (side : Side) → IsComparison program main c → IsPresent (tested_in program main listed v cells c) side
+            → v.test c.at side ≡ w.test c.at side
 
   -- The constant operand of each product of the program has its value, which holds where the source is accepted.
   pub record HaveProducts (state : State) (row : Instant) : Type 0 where
@@ -144,7 +150,8 @@ module _ (program : ProgramTree) (main : Identifier) where
 
   -- In every instant of the program the constant operand of each product has its value.
   abbrev pub KeepsProducts : Type 0
-  KeepsProducts = (state : State) (inputs : ℕ → Value) (row : Instant) → AreStarts program main state.kept → AreGiven program main inputs → IsInstant program main state inputs row → HaveProducts state row
+  KeepsProducts = (state : State) (inputs : ℕ → Value) (row : Instant) → AreStarts program main state.kept → AreGiven program main inputs
+      → IsInstant program main state inputs row → HaveProducts state row
 
   -- The flat system of a program: it is well formed and read from it, with its labels, inputs and observer, and each memory, tick and
   -- clock that the program names has a number in it.

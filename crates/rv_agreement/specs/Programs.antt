@@ -1,6 +1,7 @@
 -- One text of an instant of a program for all that its expressions may have: whole numbers, or forms at a valuation.
 -- (Halbwachs, Caspi, Raymond and Pilaud 1991 for the language, Jeannet 2003 for the control state.)
-use Rattle.std.specs.Prelude.{◌≡◌, ℕ, ◌+◌, ℤ, pos, negsuc, Bool, true, false, not, ◌&&◌, cond, nat_eq, nat_le, unwrap_or, List, [], ◌∷◌, ◌++◌, map, length, Option, Some}
+use Rattle.std.specs.Prelude.{◌≡◌, ℕ, ◌+◌, ℤ, pos, negsuc, Bool, true, false, not, ◌&&◌, cond, nat_eq, nat_le, unwrap_or, List, [], ◌∷◌, ◌++◌, map, length}
+use Rattle.std.specs.Prelude.{Option, Some}
 use Rattle.std.specs.Prelude.{None as Nothing}
 use Rattle.std.specs.List.{Contains}
 use Rattle.rv_base.specs.declared.value.Value.{Value}
@@ -104,7 +105,8 @@ module _ (V : Type 0) (r : Reads V) (program : ProgramTree) (found : FoundAt V) 
   abbrev pub given_by : Giver → Option V
   given_by (Given j) = Some (found.given j)
   given_by (Of i k (Body e)) = cond (is_there (clock_in i k e)) (Some (meant i e)) Nothing
-  given_by (Of i k (Output c j)) = cond (is_there (absolute i (clock_of_arguments i c.args))) (Some (flat.held V r (cells (output_place program i c.site c.name j)))) Nothing
+  given_by (Of i k (Output c j)) = cond (is_there (absolute i (clock_of_arguments i c.args)))
+      (Some (flat.held V r (cells (output_place program i c.site c.name j)))) Nothing
 
 -- An instant of a program: each flow has what gives it its value.
 abbrev pub IsInstantOf : (V : Type 0) → Reads V → ProgramTree → Identifier → FoundAt V → (Sites → Option V) → Type 0
@@ -142,7 +144,8 @@ module _ (program : ProgramTree) (i : Instance) where
     form_compared k site (tree.Binary o a b) = operation o
         (compared k b ++ compared k a)
         (cond (is_constant (node_scope program i.node) a) (compared k b) (compared k a))
-        (own_compared o (record { at = operator_place program i site o a; clock = k; operator = o; within = i; left = a; right = b }) ++ (compared k a ++ compared k b))
+        (own_compared o (record { at = operator_place program i site o a; clock = k; operator = o; within = i; left = a; right = b })
+        ++ (compared k a ++ compared k b))
     form_compared k site (tree.If a b c) = compared k a ++ (compared k b ++ compared k c)
     form_compared k site (tree.AtMostOne es) = compared_all k es
     form_compared k site (tree.Call f args) = []
@@ -153,9 +156,12 @@ module _ (program : ProgramTree) (i : Instance) where
 
 -- All comparisons of a program: in what gives a flow, in what a memory takes, in assertions.
 pub data IsComparison (program : ProgramTree) (main : Identifier) (c : Compared) : Type 0 where
-  in_flow : (q : Sites) (i : Instance) (k : Clock) (e : Tree) → Gives program main q (Of i k (Body e)) → Contains (compared program i (clock_in i k e) e) c → IsComparison program main c
-  in_memory : (i : Instance) (d : Delay) → IsInstance program main i → Contains (node_delays i.node) d → Contains (compared program i (clock_in i Base d.operand) d.operand) c → IsComparison program main c
-  in_assertion : (i : Instance) (a : AssertionTree) → IsInstance program main i → Contains i.node.assertions a → Contains (compared program i (clock_in i Base a.body) a.body) c → IsComparison program main c
+  in_flow : (q : Sites) (i : Instance) (k : Clock) (e : Tree) → Gives program main q (Of i k (Body e)) → Contains (compared program i (clock_in i k e) e) c
+      → IsComparison program main c
+  in_memory : (i : Instance) (d : Delay) → IsInstance program main i → Contains (node_delays i.node) d
+      → Contains (compared program i (clock_in i Base d.operand) d.operand) c → IsComparison program main c
+  in_assertion : (i : Instance) (a : AssertionTree) → IsInstance program main i → Contains i.node.assertions a
+      → Contains (compared program i (clock_in i Base a.body) a.body) c → IsComparison program main c
 
 -- The memories in the order of their places say which columns there are.
 module _ (program : ProgramTree) (main : Identifier) (memories : List MemoryAt) where
@@ -175,7 +181,8 @@ module _ (program : ProgramTree) (main : Identifier) (memories : List MemoryAt) 
   abbrev pub found_by : Valuation → FoundAt Reading
   found_by v = record {
     ticked = v.ticked;
-    kept = λ q. spelled label_counts (kind_at kinds_of (index_of (map (λ m. m.place) memories) q)) (v.kept q) (column_form columns_of (rank kinds_of (index_of (map (λ m. m.place) memories) q)));
+    kept = λ q. spelled label_counts (kind_at kinds_of (index_of (map (λ m. m.place) memories) q)) (v.kept q)
+        (column_form columns_of (rank kinds_of (index_of (map (λ m. m.place) memories) q)));
     given = λ j. spelled label_counts (kind_at input_kinds j) (v.input j) (column_form columns_of (whole_count kinds_of + rank input_kinds j));
   }
 
@@ -195,7 +202,8 @@ module _ (program : ProgramTree) (main : Identifier) (memories : List MemoryAt) 
 
   -- a whole point meets every row of `rows(v)`
   abbrev pub AgreesWith : Valuation → (Sites → Option Reading) → List ℤ → Type 0
-  AgreesWith v cells x = (c : Compared) (side : Side) (r : Row) → IsComparison program main c → IsRowOf columns_of v.test (tested_in v cells c) side r → Holds r x
+  AgreesWith v cells x = (c : Compared) (side : Side) (r : Row) → IsComparison program main c → IsRowOf columns_of v.test (tested_in v cells c) side r
+      → Holds r x
 
 -- What the instants of a program over the integers find and have, as the state and the row that they are said of.
 abbrev pub found_of : State → (ℕ → Value) → FoundAt Value

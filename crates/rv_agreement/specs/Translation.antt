@@ -49,11 +49,13 @@ module _ (program : ProgramTree) (numbers : Numbers) (i : Instance) where
     flat_form site tree.True = unplaced (flat.Constant (Flag true))
     flat_form site tree.False = unplaced (flat.Constant (Flag false))
     flat_form site (tree.Number n) = unplaced (flat.Constant (Whole (pos n)))
-    flat_form site (tree.Named x) = unplaced (cond (is_flow i.node x) (flat.Flow (index_of numbers.flows (place i x))) (flat.Constant (constant_value program x)))
+    flat_form site (tree.Named x) = unplaced (cond (is_flow i.node x) (flat.Flow (index_of numbers.flows (place i x)))
+        (flat.Constant (constant_value program x)))
     flat_form site (tree.Not e) = unplaced (flat.Not (flat_of e))
     flat_form site (tree.Minus e) = unplaced (flat.Scale (negsuc 0) (flat_of e))
     flat_form site (tree.Pre e) = unplaced (flat.Memory (index_of numbers.memories (kept_place i site e)))
-    flat_form site (tree.Current e) = unplaced (flat.Current (index_of numbers.memories (kept_place i site e)) (clock_number numbers (clock_in i Base e)) (flat_of e))
+    flat_form site (tree.Current e) = unplaced (flat.Current (index_of numbers.memories (kept_place i site e)) (clock_number numbers (clock_in i Base e))
+        (flat_of e))
     flat_form site (tree.When e c) = unplaced (flat.When (index_of numbers.flows (place i c.text)) (flat_of e))
     flat_form site (tree.Binary o a b) = flat.Node (operator_place program i site o a) (operation o
         (flat.If (unplaced (flat.Ticked (tick_number numbers (clock_in i Base (tree.Node 0 site (tree.Binary o a b)))))) (flat_of b) (flat_of a))
@@ -93,7 +95,8 @@ module _ (i : Instance) (IsKept : Sites → Type 0) (IsTick : Option Sites → T
     AllNames (tree.More e es) = Names e × AllNames es
 
 -- The same of every expression of a program.
-pub record AreNamed (program : ProgramTree) (main : Identifier) (IsKept : Sites → Type 0) (IsTick : Option Sites → Type 0) (IsClock : Instance → Identifier → Type 0) : Type 0 where
+pub record AreNamed (program : ProgramTree) (main : Identifier) (IsKept : Sites → Type 0) (IsTick : Option Sites → Type 0)
+    (IsClock : Instance → Identifier → Type 0) : Type 0 where
   pub flows : (q : Sites) (i : Instance) (k : Clock) (e : Tree) → Gives program main q (Of i k (Body e)) → Names i IsKept IsTick (IsClock i) e
   pub memories : (i : Instance) (d : Delay) → IsInstance program main i → Contains (node_delays i.node) d → Names i IsKept IsTick (IsClock i) d.operand
   pub assertions : (i : Instance) (a : AssertionTree) → IsInstance program main i → Contains i.node.assertions a → Names i IsKept IsTick (IsClock i) a.body
@@ -122,14 +125,19 @@ pub record IsTranslated (program : ProgramTree) (main : Identifier) (numbers : N
   pub tick_places : s.ticks ≡ Nothing ∷ map (λ q. Some q) numbers.ticks
   pub tick_clocks : s.tick_clocks ≡ Nothing ∷ map (λ q. Some (index_of numbers.flows q)) numbers.ticks
   pub many : length s.flows ≡ length numbers.flows
-  pub flow : (k : ℕ) → k < length s.flows → (g : Giver) × Gives program main (slice_index_or numbers.flows k []) g × (nth_item s.flows k ≡ giver_item program numbers g)
+  pub flow : (k : ℕ) → k < length s.flows → (g : Giver) × Gives program main (slice_index_or numbers.flows k []) g
+      × (nth_item s.flows k ≡ giver_item program numbers g)
   -- every reader of a memory, so that all of a memory's readers take the same
   pub memory : (i : Instance) (d : Delay) → IsInstance program main i → Contains (node_delays i.node) d
       → nth_item (memory_items s) (index_of numbers.memories (delay_place i d)) ≡ delay_item program numbers i d
-  pub memory_there : (i : Instance) (d : Delay) → IsInstance program main i → Contains (node_delays i.node) d → index_of numbers.memories (delay_place i d) < length s.memories
-  pub memory_only : (m : ℕ) → m < length s.memories → (i : Instance) × (d : Delay) × IsInstance program main i × Contains (node_delays i.node) d × (nth_item (memory_items s) m ≡ delay_item program numbers i d)
-  pub asserts : (i : Instance) (a : AssertionTree) → IsInstance program main i → Contains i.node.assertions a → Contains s.assertions (assertion_item program numbers i a)
-  pub asserted : (k : ℕ) → k < length s.assertions → (i : Instance) × (a : AssertionTree) × IsInstance program main i × Contains i.node.assertions a × (nth_item s.assertions k ≡ assertion_item program numbers i a)
+  pub memory_there : (i : Instance) (d : Delay) → IsInstance program main i → Contains (node_delays i.node) d
+      → index_of numbers.memories (delay_place i d) < length s.memories
+  pub memory_only : (m : ℕ) → m < length s.memories → (i : Instance) × (d : Delay) × IsInstance program main i × Contains (node_delays i.node) d
+      × (nth_item (memory_items s) m ≡ delay_item program numbers i d)
+  pub asserts : (i : Instance) (a : AssertionTree) → IsInstance program main i → Contains i.node.assertions a
+      → Contains s.assertions (assertion_item program numbers i a)
+  pub asserted : (k : ℕ) → k < length s.assertions → (i : Instance) × (a : AssertionTree) × IsInstance program main i × Contains i.node.assertions a
+      × (nth_item s.assertions k ≡ assertion_item program numbers i a)
 
 -- the flow of a clock is on the clock of that flow
 abbrev pub IsClockOf : Numbers → System → Instance → Identifier → Type 0
@@ -141,4 +149,10 @@ AreIndexed ps = (q : Sites) → Contains ps q → (index_of ps q < length ps) ×
 
 -- a comparison of the program in the flat system
 abbrev pub flat_compared : ProgramTree → Numbers → Compared → Comparison
-flat_compared program numbers c = record { at = c.at; clock = clock_number numbers c.clock; operator = c.operator; left = flat_of program numbers c.within c.left; right = flat_of program numbers c.within c.right }
+flat_compared program numbers c = record {
+  at = c.at;
+  clock = clock_number numbers c.clock;
+  operator = c.operator;
+  left = flat_of program numbers c.within c.left;
+  right = flat_of program numbers c.within c.right;
+}

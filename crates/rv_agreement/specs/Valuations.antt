@@ -1,6 +1,7 @@
 -- Valuations of the control and of the order tests of a flat system, what its flows have at one, and the points that agree.
 -- (Jeannet 2003 for the control state.)
-use Rattle.std.specs.Prelude.{◌≡◌, ℕ, zero, suc, ◌+◌, ◌<◌, ℤ, pos, Bool, true, false, not, ◌&&◌, ◌||◌, cond, nat_eq, List, [], ◌∷◌, ◌++◌, flat_map, length, Option, slice_index_or}
+use Rattle.std.specs.Prelude.{◌≡◌, ℕ, zero, suc, ◌+◌, ◌<◌, ℤ, pos, Bool, true, false, not, ◌&&◌, ◌||◌, cond, nat_eq, List, [], ◌∷◌, ◌++◌, flat_map, length}
+use Rattle.std.specs.Prelude.{Option, slice_index_or}
 use Rattle.std.specs.Prelude.{None as Nothing}
 use Rattle.std.specs.List.{Contains}
 use Rattle.rv_base.specs.declared.value.Value.{Value}
@@ -20,7 +21,8 @@ use Rattle.rv_rows.specs.Rows.{Holds}
 use Rattle.rv_rows.specs.Forms as forms
 use Rattle.rv_rows.specs.Tight.{IsTightened}
 use Rattle.rv_rows.specs.Arithmetic.{constant_form, column_form, form_sum, form_times, form_difference, test_row}
-use Rattle.rv_agreement.specs.Trees.{FlatTree, Node, TreeForm, FlatTrees, Constant, Flow, Memory, Ticked, Input, Not, Binary, Scale, If, AtMostOne, When, Current, None, More, Item, nth_item, System, memory_items, memory_kinds, memory_places, kind_at}
+use Rattle.rv_agreement.specs.Trees.{FlatTree, Node, TreeForm, FlatTrees, Constant, Flow, Memory, Ticked, Input, Not, Binary, Scale, If, AtMostOne, When}
+use Rattle.rv_agreement.specs.Trees.{Current, None, More, Item, nth_item, System, memory_items, memory_kinds, memory_places, kind_at}
 use Rattle.rv_agreement.specs.Evaluation.{Reads, Found, IsInstant, is_there, value, after, is_met, nth}
 
 -- A truth value, freely, for each diagram variable: a tick by the place of its clock's flow (none for main's), a bit of a

@@ -16,7 +16,8 @@ ghost use Rattle.rv_agreement.specs.Checks.{IsChecked, IsInlined};
 ghost use Rattle.rv_agreement.specs.FlatRuns.{IsFlatRun, AreMetIn, IsInductive};
 ghost use Rattle.rv_agreement.specs.Evaluation.{nth, is_there, integers};
 ghost use Rattle.rv_agreement.specs.Trees.{FlatTree, System, memory_kinds, kind_at};
-ghost use Rattle.rv_agreement.specs.Valuations.{Valuation, Reading, IsSymbolic, IsCoded, wholes, all_comparisons, is_linear, read, reads_at, updated, Tested, IsPresent, IsRowOf};
+ghost use Rattle.rv_agreement.specs.Valuations.{Valuation, Reading, IsSymbolic, IsCoded, wholes, all_comparisons, is_linear, read, reads_at, updated, Tested};
+ghost use Rattle.rv_agreement.specs.Valuations.{IsPresent, IsRowOf};
 ghost use Rattle.rv_agreement.specs.Agreement.{State, point, IsWholeInstant, IsNext, IsTyped, IsAgreed, Fits, IsWell, Gives, AreAlike, updates, Leads};
 
 use rv_rows::{forms_at_points, rows_of_tests, tightened_rows};
@@ -30,7 +31,8 @@ pub fn checked_is_well()
 /// of a comparison that is present.
 pub fn rows_of_valuations()
     ensures some { (columns : ℕ) (test : Sites → Side → Bool) (t : Tested) (side : Side) → IsPresent t side → (r : Row) × IsRowOf columns test t side r }
-    ensures one { (columns : ℕ) (test : Sites → Side → Bool) (t : Tested) (side : Side) (a b : Row) → IsRowOf columns test t side a → IsRowOf columns test t side b → a ≡ b }
+    ensures one { (columns : ℕ) (test : Sites → Side → Bool) (t : Tested) (side : Side) (a b : Row) → IsRowOf columns test t side a
+        → IsRowOf columns test t side b → a ≡ b }
     ensures tight { (columns : ℕ) (test : Sites → Side → Bool) (t : Tested) (side : Side) (r : Row) → IsRowOf columns test t side r → IsTightened r r }
     ensures present { (columns : ℕ) (test : Sites → Side → Bool) (t : Tested) (side : Side) (r : Row) → IsRowOf columns test t side r → IsPresent t side }
 {
@@ -39,7 +41,8 @@ pub fn rows_of_valuations()
 
 /// At each valuation there is exactly one symbolic instant.
 pub fn one_symbolic_instant()
-    ensures { (s : System) (v : Valuation) → IsWell s → (row : List (Option Reading)) × IsSymbolic s v row × ((other : List (Option Reading)) → IsSymbolic s v other → other ≡ row) }
+    ensures { (s : System) (v : Valuation) → IsWell s → (row : List (Option Reading)) × IsSymbolic s v row
+        × ((other : List (Option Reading)) → IsSymbolic s v other → other ≡ row) }
 {}
 
 /// At a valuation whose codes name labels each flow that is present has a value of its type: an integer a form, a label a label
@@ -47,7 +50,8 @@ pub fn one_symbolic_instant()
 /// memory has a form as its update. And no expression of another type than int has a form, present or not.
 pub fn typed_readings()
     ensures flows { (s : System) (v : Valuation) (symbolic : List (Option Reading)) (k : ℕ) (a : Reading)
-        → IsWell s → IsCoded s v → IsSymbolic s v symbolic → k < length s.flows → nth Reading (reads_at s v) symbolic k ≡ Some a → ReadsAs s.labels (kind_at s.kinds k) a }
+        → IsWell s → IsCoded s v → IsSymbolic s v symbolic → k < length s.flows → nth Reading (reads_at s v) symbolic k ≡ Some a
+        → ReadsAs s.labels (kind_at s.kinds k) a }
     ensures expressions { (s : System) (v : Valuation) (symbolic : List (Option Reading)) (k : Option ℕ) (j : Kind) (e : FlatTree)
         → IsWell s → IsCoded s v → IsSymbolic s v symbolic → Fits s (length s.flows) k j e → is_there Reading (reads_at s v) symbolic k ≡ true
         → ReadsAs s.labels j (read s v symbolic e) }
@@ -65,7 +69,8 @@ pub fn instants_agree()
         → IsWell s → IsTyped s now inputs → IsWholeInstant s now inputs row
         → (v : Valuation) × (symbolic : List (Option Reading)) × IsCoded s v × IsAgreed s v symbolic now inputs }
     ensures alike { (s : System) (now : State) (inputs : List Value) (row : List (Option Value)) (v w : Valuation) (first second : List (Option Reading))
-        → IsWell s → IsTyped s now inputs → IsWholeInstant s now inputs row → IsAgreed s v first now inputs → IsAgreed s w second now inputs → AreAlike s v w first }
+        → IsWell s → IsTyped s now inputs → IsWholeInstant s now inputs row → IsAgreed s v first now inputs → IsAgreed s w second now inputs
+        → AreAlike s v w first }
     ensures gives { (s : System) (now next : State) (inputs : List Value) (row : List (Option Value)) (v : Valuation) (symbolic : List (Option Reading))
         → IsWell s → IsTyped s now inputs → IsWholeInstant s now inputs row → IsNext s now inputs row next → IsAgreed s v symbolic now inputs
         → Gives s v symbolic now inputs row next }
@@ -81,8 +86,10 @@ pub fn steps_agree()
     ensures updates { (s : System) (now next : State) (inputs : List Value) (row : List (Option Value)) (v : Valuation) (symbolic : List (Option Reading))
         → IsWell s → IsTyped s now inputs → IsWholeInstant s now inputs row → IsNext s now inputs row next → IsAgreed s v symbolic now inputs
         → wholes (memory_kinds s) next.kept ≡ values (updates s v symbolic) (point s now inputs) }
-    ensures leads { (s : System) (now next : State) (inputs later : List Value) (row : List (Option Value)) (v w : Valuation) (symbolic after : List (Option Reading))
-        → IsWell s → IsTyped s now inputs → IsWholeInstant s now inputs row → IsNext s now inputs row next → IsAgreed s v symbolic now inputs → IsAgreed s w after next later
+    ensures leads { (s : System) (now next : State) (inputs later : List Value) (row : List (Option Value)) (v w : Valuation)
+        (symbolic after : List (Option Reading))
+        → IsWell s → IsTyped s now inputs → IsWholeInstant s now inputs row → IsNext s now inputs row next → IsAgreed s v symbolic now inputs
+        → IsAgreed s w after next later
         → Leads s v symbolic w }
 {
     forms_at_points();

@@ -79,7 +79,8 @@ starts_written labels (m ∷ ms) (v ∷ vs) = ap (λ rs. (codes "start" ∷ dott
 module _ (f g : Flat) (main : f.main ≡ g.main) (inputs : f.inputs ≡ g.inputs) where
   module _ (variables : f.variables ≡ g.variables) (columns : f.columns ≡ g.columns) where
     pub same_certificate_rule : control_of f ≡ control_of g → certificate_rule f ≡ certificate_rule g
-    same_certificate_rule control = λ i. rule_by (main i) (map (bit_text (inputs i)) (variables i)) (map (column_text (inputs i)) (columns i)) (shape_of (control i))
+    same_certificate_rule control = λ i. rule_by (main i) (map (bit_text (inputs i)) (variables i)) (map (column_text (inputs i)) (columns i))
+        (shape_of (control i))
 
     pub same_certificate_records : (c : Certificate) → certificate_records f c ≡ certificate_records g c
     same_certificate_records c = λ i.

@@ -8,7 +8,8 @@ use Rattle.rv_tree.specs.Tree.{ProgramTree}
 use Rattle.rv_tree.specs.Places.{Identifier, Sites}
 use Rattle.rv_types.specs.Kinds.{decl_kinds}
 use Rattle.rv_types.specs.Instances.{node_of}
-use Rattle.rv_types.specs.Lists.{MemoryAt, AreMemories, IsAny, AreTicks, ComparisonAt, AreComparisons, Variable, MainTick, Tick, with_copies, memory_variables, input_variables, test_variables, AreVariables, Column, memory_columns, input_columns, AreColumns}
+use Rattle.rv_types.specs.Lists.{MemoryAt, AreMemories, IsAny, AreTicks, ComparisonAt, AreComparisons, Variable, MainTick, Tick, with_copies, memory_variables}
+use Rattle.rv_types.specs.Lists.{input_variables, test_variables, AreVariables, Column, memory_columns, input_columns, AreColumns}
 use Rattle.rv_flat.specs.Thresholds.{AreThresholds}
 use Rattle.rv_alike.proofs.Rising.{AreSorted, sorted_by, one_sorted, one_rising, one_places}
 

@@ -65,13 +65,16 @@ rising_sorted {A = A} place xs rising = sorted_by A (λ x y. IsBefore (place x) 
     (subst (IsBefore (get_or (map place xs) j [])) (get_or-map place xs k d [] lt) (rising j k less (omega (arith, long, lt)))))
 
 -- Two lists with rising places and the same members are one list.
-pub one_rising : {A : Type 0} (place : A → Sites) (xs ys : List A) → AreRising (map place xs) → AreRising (map place ys) → ((z : A) → Contains xs z → Contains ys z)
+pub one_rising : {A : Type 0} (place : A → Sites) (xs ys : List A) → AreRising (map place xs) → AreRising (map place ys)
+    → ((z : A) → Contains xs z → Contains ys z)
     → ((z : A) → Contains ys z → Contains xs z) → xs ≡ ys
 one_rising {A = A} place xs ys p q to from =
-    one_sorted A (λ x y. IsBefore (place x) (place y)) (λ x y. before_once (place x) (place y)) xs ys (rising_sorted place xs p) (rising_sorted place ys q) to from
+    one_sorted A (λ x y. IsBefore (place x) (place y)) (λ x y. before_once (place x) (place y)) xs ys (rising_sorted place xs p) (rising_sorted place ys q) to
+    from
 
 -- the same of places themselves
-pub one_places : (ps qs : List Sites) → AreRising ps → AreRising qs → ((z : Sites) → Contains ps z → Contains qs z) → ((z : Sites) → Contains qs z → Contains ps z)
+pub one_places : (ps qs : List Sites) → AreRising ps → AreRising qs → ((z : Sites) → Contains ps z → Contains qs z)
+    → ((z : Sites) → Contains qs z → Contains ps z)
     → ps ≡ qs
 one_places ps qs a b to from =
     one_sorted Sites IsBefore before_once ps qs (places_sorted ps a) (places_sorted qs b) to from

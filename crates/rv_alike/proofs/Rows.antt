@@ -43,7 +43,8 @@ row_to once s t w row other wide apart have p side r e =
     (subst (λ x. IsRowOf (width s) w.test x side r) d.3 h.is) in
     let found = row_there t w other (all_comparisons t) d.0 side d.1 is.0 in
     let told = row_told t w other (all_comparisons t) d.0.at side found.0 found.1 in
-    let same : found.0 ≡ r = one_row once t w other told.comparison d.0 side found.0 r told.place (apart told.comparison d.0 told.there d.1 told.place) told.is is in
+    let same : found.0 ≡ r = one_row once t w other told.comparison d.0 side found.0 r told.place (apart told.comparison d.0 told.there d.1 told.place) told.is
+    is in
     let here : p ≡ d.0.at = sym (d.2 ∙ h.place) in
     ap (λ q. row_among t w other (all_comparisons t) q side) here ∙ found.1 ∙ ap Some same
 

@@ -1,5 +1,6 @@
 -- Two systems that are read from one program are one system of valuations: at each valuation both have the program's symbolic instant.
-use Rattle.std.proofs.Common.{◌≡◌, ◌↔◌, inl, inr, ℕ, zero, suc, ◌+◌, ◌-◌, ◌<◌, ◌≤◌, pos, Bool, true, false, ◌&&◌, ◌||◌, List, [], ◌∷◌, length, map, refl, sym, ◌∙◌, ap, subst, arith, Option, Some}
+use Rattle.std.proofs.Common.{◌≡◌, ◌↔◌, inl, inr, ℕ, zero, suc, ◌+◌, ◌-◌, ◌<◌, ◌≤◌, pos, Bool, true, false, ◌&&◌, ◌||◌, List, [], ◌∷◌, length, map, refl, sym}
+use Rattle.std.proofs.Common.{◌∙◌, ap, subst, arith, Option, Some}
 use Rattle.std.proofs.Common.{None as Nothing}
 use Rattle.std.specs.Prelude.{slice_index_or}
 use Rattle.std.specs.List.{Contains}
@@ -16,14 +17,16 @@ use Rattle.rv_meaning.specs.Runs.{observer_place}
 use Rattle.rv_rows.specs.Arithmetic.{constant_form, column_form}
 use Rattle.rv_agreement.specs.Trees.{Kept as KeptMemory, System, no_item, memory_items, memory_kinds, memory_places, kind_at}
 use Rattle.rv_agreement.specs.Evaluation.{Found, is_on, is_there, value, after}
-use Rattle.rv_agreement.specs.Valuations.{Valuation, Reading, Truth, form_of, whole_count, width, rank, readings, spelled, reads_at, found_at, IsSymbolic, Comparison, all_comparisons, read, tested, updated, next_tick, observed, IsAllowed}
+use Rattle.rv_agreement.specs.Valuations.{Valuation, Reading, Truth, form_of, whole_count, width, rank, readings, spelled, reads_at, found_at, IsSymbolic}
+use Rattle.rv_agreement.specs.Valuations.{Comparison, all_comparisons, read, tested, updated, next_tick, observed, IsAllowed}
 use Rattle.rv_agreement.specs.Agreement.{forms_from, updates, IsWell}
 use Rattle.rv_agreement.specs.Programs.{FoundAt, meant, Compared, IsComparison, in_flow, in_memory, in_assertion}
 use Rattle.rv_agreement.specs.Translation.{Numbers, Names, clock_number, tick_number, flat_of, flat_compared, IsClockOf}
 use Rattle.rv_agreement.specs.ProgramAgreement.{IsDelay, IsSymbolicAt, IsAllowedOf, updated_at, IsSystemOf, memories_of}
 use Rattle.rv_agreement.proofs.NamedParts.{names_more, operands_named, AreNamedIn}
 use Rattle.rv_agreement.proofs.Witnessed.{kinds_same, places_same, memory_of, own_number}
-use Rattle.rv_control.specs.Control.{state_bits, order_tests, names_label, memories_named, none_ticked, is_initial, tick_index, bit_of, is_allowed, row_of, next_truth, control_over}
+use Rattle.rv_control.specs.Control.{state_bits, order_tests, names_label, memories_named, none_ticked, is_initial, tick_index, bit_of, is_allowed, row_of}
+use Rattle.rv_control.specs.Control.{next_truth, control_over}
 use Rattle.rv_control.specs.Named.{by_names}
 use Rattle.rv_control.specs.Symbolic.{symbolic}
 use Rattle.rv_control.proofs.Abstract.{allowed_there, allowed_told}
@@ -49,7 +52,8 @@ pub record Laws (program : ProgramTree) (main : Identifier) : Type 0 where
       × ((other : List (Option Reading)) → IsSymbolic s v other → other ≡ row)
   pub read : (numbers : Numbers) (columns : ℕ) (test : Sites → Side → Bool) (found : Found Reading) (row : List (Option Reading)) (at_place : FoundAt Reading)
       (cells : Sites → Option Reading) → ((q : Sites) → slice_index_or row (index_of numbers.flows q) Nothing ≡ cells q) → (i : Instance) (e : Tree)
-      → Names i (λ q. found.kept (index_of numbers.memories q) ≡ at_place.kept q) (λ k. found.ticked (tick_number numbers k) ≡ at_place.ticked k) (λ x. Unit {0}) e
+      → Names i (λ q. found.kept (index_of numbers.memories q) ≡ at_place.kept q) (λ k. found.ticked (tick_number numbers k) ≡ at_place.ticked k)
+      (λ x. Unit {0}) e
       → value Reading (readings columns test) found row (flat_of program numbers i e) ≡ meant Reading (readings columns test) program at_place cells i e
   pub tight : TightensOnce
 
@@ -85,7 +89,8 @@ clock_of numbers (p ∷ ps) zero = refl
 clock_of numbers (p ∷ ps) (suc k) = clock_of numbers ps k
 
 first_clock_of : (numbers : Numbers) (ps : List Sites) (k : ℕ)
-    → slice_index_or (Nothing ∷ map (λ q. Some (index_of numbers.flows q)) ps) k Nothing ≡ clock_number numbers (slice_index_or (Nothing ∷ map (λ q. Some q) ps) k Nothing)
+    → slice_index_or (Nothing ∷ map (λ q. Some (index_of numbers.flows q)) ps) k Nothing ≡ clock_number numbers
+    (slice_index_or (Nothing ∷ map (λ q. Some q) ps) k Nothing)
 first_clock_of numbers ps zero = refl
 first_clock_of numbers ps (suc k) = clock_of numbers ps k
 
@@ -176,7 +181,8 @@ module _ (program : ProgramTree) (main : Identifier) (laws : Laws program main) 
           (λ e. allowed_there t w other ((laws.allowed others t w cells second at_other).0
           (subst (λ ms. IsAllowedOf program main ms w cells) same_memories ((laws.allowed numbers s w cells first at).1 (allowed_told s w row e)))))
           (λ e. allowed_there s w row ((laws.allowed numbers s w cells first at).0
-          (subst (λ ms. IsAllowedOf program main ms w cells) (sym same_memories) ((laws.allowed others t w cells second at_other).1 (allowed_told t w other e)))))
+          (subst (λ ms. IsAllowedOf program main ms w cells) (sym same_memories)
+          ((laws.allowed others t w cells second at_other).1 (allowed_told t w other e)))))
 
       updated_within : (m : ℕ) → m < length s.memories → updated s w row m ≡ updated t w other m
       updated_within m lt =
@@ -198,13 +204,15 @@ module _ (program : ProgramTree) (main : Identifier) (laws : Laws program main) 
           same_count : length s.memories ≡ length t.memories
           same_count = sym (length-map s.memories (λ x. x.place)) ∙ ap length same_places ∙ length-map t.memories (λ x. x.place)
 
-      same_there : (k : Option Sites) → is_there Reading (reads_at s w) row (clock_number numbers k) ≡ is_there Reading (reads_at t w) other (clock_number others k)
+      same_there : (k : Option Sites) → is_there Reading (reads_at s w) row (clock_number numbers k) ≡ is_there Reading (reads_at t w) other
+          (clock_number others k)
       same_there Nothing = refl
       same_there (Some q) = let both = agrees q ∙ sym (agrees_other q) in λ i. is_on Reading (same_reads i) (both i)
 
       same_tick : (k : ℕ) → next_tick s w row k ≡ next_tick t w other k
       same_tick k =
-          let there : is_there Reading (reads_at s w) row (slice_index_or s.tick_clocks k Nothing) ≡ is_there Reading (reads_at t w) other (slice_index_or t.tick_clocks k Nothing) =
+          let there : is_there Reading (reads_at s w) row (slice_index_or s.tick_clocks k Nothing) ≡ is_there Reading (reads_at t w) other
+          (slice_index_or t.tick_clocks k Nothing) =
           ap (is_there Reading (reads_at s w) row) (clock_at program main numbers s first k)
           ∙ same_there (slice_index_or s.ticks k Nothing)
           ∙ ap (λ ts. is_there Reading (reads_at t w) other (clock_number others (slice_index_or ts k Nothing))) same_ticks
@@ -215,7 +223,8 @@ module _ (program : ProgramTree) (main : Identifier) (laws : Laws program main) 
       same_observed =
           let o = observer_place program main in
           let both : observed s w row ≡ observed t w other =
-          ap (λ n. slice_index_or row n Nothing) first.observer ∙ agrees o ∙ sym (agrees_other o) ∙ ap (λ n. slice_index_or other n Nothing) (sym second.observer) in
+          ap (λ n. slice_index_or row n Nothing) first.observer ∙ agrees o ∙ sym (agrees_other o)
+          ∙ ap (λ n. slice_index_or other n Nothing) (sym second.observer) in
           λ i. is_on Reading (same_reads i) (both i)
 
       -- What a comparison of the program has in both.
@@ -250,13 +259,15 @@ module _ (program : ProgramTree) (main : Identifier) (laws : Laws program main) 
       unclocked i e names = names_more i IsKept IsKept IsTick IsTick (IsClockOf numbers s i) (λ x. Unit {0}) (λ q is. is) (λ k is. is) (λ x is. tt) e names
 
       compared_names : (c : Compared) → IsComparison program main c → AreNamedIn program IsKept IsTick c
-      compared_names c (in_flow q i k e gives v) = operands_named program IsKept IsTick i (clock_in i k e) e (unclocked i e (first.named.flows q i k e gives)) c v
+      compared_names c (in_flow q i k e gives v) = operands_named program IsKept IsTick i (clock_in i k e) e (unclocked i e (first.named.flows q i k e gives)) c
+          v
       compared_names c (in_memory i d inst there v) = operands_named program IsKept IsTick i (clock_in i Base d.operand) d.operand
           (unclocked i d.operand (first.named.memories i d inst there)) c v
       compared_names c (in_assertion i a inst there v) = operands_named program IsKept IsTick i (clock_in i Base a.body) a.body
           (unclocked i a.body (first.named.assertions i a inst there)) c v
 
-      same_tested : (c : Compared) → IsComparison program main c → tested s w row (flat_compared program numbers c) ≡ tested t w other (flat_compared program others c)
+      same_tested : (c : Compared) → IsComparison program main c → tested s w row (flat_compared program numbers c) ≡ tested t w other
+          (flat_compared program others c)
       same_tested c is =
           let names = compared_names c is in
           λ j. record {
@@ -270,49 +281,50 @@ module _ (program : ProgramTree) (main : Identifier) (laws : Laws program main) 
       module _ (have : (c : Compared) → IsComparison program main c → Contains (all_comparisons s) (flat_compared program numbers c))
           (only : (d : Comparison) → Contains (all_comparisons s) d → (c : Compared) × IsComparison program main c × (d ≡ flat_compared program numbers c))
           (have_too : (c : Compared) → IsComparison program main c → Contains (all_comparisons t) (flat_compared program others c))
-          (only_too : (d : Comparison) → Contains (all_comparisons t) d → (c : Compared) × IsComparison program main c × (d ≡ flat_compared program others c)) where
-        tested_to : HaveTested s t w row other
-        tested_to d there =
-            let r = only d there in (
-              flat_compared program others r.0,
-              have_too r.0 r.1,
-              ap (λ (x : Comparison). x.at) (sym r.2),
-              ap (tested s w row) r.2 ∙ same_tested r.0 r.1,
-            )
+          (only_too : (d : Comparison) → Contains (all_comparisons t) d → (c : Compared) × IsComparison program main c × (d ≡ flat_compared program others c))
+        where
+          tested_to : HaveTested s t w row other
+          tested_to d there =
+              let r = only d there in (
+                flat_compared program others r.0,
+                have_too r.0 r.1,
+                ap (λ (x : Comparison). x.at) (sym r.2),
+                ap (tested s w row) r.2 ∙ same_tested r.0 r.1,
+              )
 
-        tested_from : HaveTested t s w other row
-        tested_from d there =
-            let r = only_too d there in (
-              flat_compared program numbers r.0,
-              have r.0 r.1,
-              ap (λ (x : Comparison). x.at) (sym r.2),
-              ap (tested t w other) r.2 ∙ sym (same_tested r.0 r.1),
-            )
+          tested_from : HaveTested t s w other row
+          tested_from d there =
+              let r = only_too d there in (
+                flat_compared program numbers r.0,
+                have r.0 r.1,
+                ap (λ (x : Comparison). x.at) (sym r.2),
+                ap (tested t w other) r.2 ∙ sym (same_tested r.0 r.1),
+              )
 
-        same_row : (x : Variable) → row_of s w row x ≡ row_of t w other x
-        same_row MainTick = refl
-        same_row (Tick p) = refl
-        same_row (Kept p b) = refl
-        same_row Next = refl
-        same_row (Input j b) = refl
-        same_row (Test p side) = same_rows laws.tight s t w row other same_width first.well.apart second.well.apart tested_to tested_from p side
+          same_row : (x : Variable) → row_of s w row x ≡ row_of t w other x
+          same_row MainTick = refl
+          same_row (Tick p) = refl
+          same_row (Kept p b) = refl
+          same_row Next = refl
+          same_row (Input j b) = refl
+          same_row (Test p side) = same_rows laws.tight s t w row other same_width first.well.apart second.well.apart tested_to tested_from p side
 
-        same_next : (x : Variable) → next_truth s w row x ≡ next_truth t w other x
-        same_next MainTick = same_tick (tick_index s.ticks Nothing) ∙ ap (λ ts. next_tick t w other (tick_index ts Nothing)) same_ticks
-        same_next (Tick p) = same_tick (tick_index s.ticks (Some p)) ∙ ap (λ ts. next_tick t w other (tick_index ts (Some p))) same_ticks
-        same_next (Kept p b) = ap (λ a. bit_of a b) (same_updated (index_of (memory_places s) p) ∙ ap (λ ps. updated t w other (index_of ps p)) same_places)
-        same_next Next = refl
-        same_next (Input j b) = refl
-        same_next (Test p side) = refl
+          same_next : (x : Variable) → next_truth s w row x ≡ next_truth t w other x
+          same_next MainTick = same_tick (tick_index s.ticks Nothing) ∙ ap (λ ts. next_tick t w other (tick_index ts Nothing)) same_ticks
+          same_next (Tick p) = same_tick (tick_index s.ticks (Some p)) ∙ ap (λ ts. next_tick t w other (tick_index ts (Some p))) same_ticks
+          same_next (Kept p b) = ap (λ a. bit_of a b) (same_updated (index_of (memory_places s) p) ∙ ap (λ ps. updated t w other (index_of ps p)) same_places)
+          same_next Next = refl
+          same_next (Input j b) = refl
+          same_next (Test p side) = refl
 
-        pub same_at : AreSameAt s t w row other
-        same_at = record {
-          allowed = same_allowed;
-          rows = same_row;
-          forms = λ j. forms_from (same_kinds j) (λ m. form_of (same_width j) w.test (same_updated m j));
-          observer = same_observed;
-          next = same_next;
-        }
+          pub same_at : AreSameAt s t w row other
+          same_at = record {
+            allowed = same_allowed;
+            rows = same_row;
+            forms = λ j. forms_from (same_kinds j) (λ m. form_of (same_width j) w.test (same_updated m j));
+            observer = same_observed;
+            next = same_next;
+          }
 
   module _ (have : (c : Compared) → IsComparison program main c → Contains (all_comparisons s) (flat_compared program numbers c))
       (only : (d : Comparison) → Contains (all_comparisons s) d → (c : Compared) × IsComparison program main c × (d ≡ flat_compared program numbers c))

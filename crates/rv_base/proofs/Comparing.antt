@@ -1,5 +1,6 @@
 -- How two lists compare from a place on.
-use Rattle.std.proofs.Common.{◌≡◌, ◌≢◌, ℕ, suc, ◌+◌, ◌<◌, ◌≤◌, List, [], ◌∷◌, length, drop, get_or, refl, sym, ◌∙◌, ap, Some, None, slice_get, add-one, drop-cons}
+use Rattle.std.proofs.Common.{◌≡◌, ◌≢◌, ℕ, suc, ◌+◌, ◌<◌, ◌≤◌, List, [], ◌∷◌, length, drop, get_or, refl, sym, ◌∙◌, ap, Some, None, slice_get, add-one}
+use Rattle.std.proofs.Common.{drop-cons}
 use Rattle.std.proofs.lemmas.List.{drop_all}
 use Rattle.std.proofs.lemmas.Option.{slice_get_within, get_or_from_slice_get, slice_get_cases}
 use Rattle.std.proofs.Common.{inl, inr}
@@ -20,17 +21,23 @@ pub drop-none : (xs : List ℕ) (k : ℕ) → slice_get xs k ≡ None → drop k
 drop-none xs k h = elim (slice_get_cases xs k).1 [ inl w ↦ absurd (let e : Some w.0 ≡ None = sym w.2 ∙ h in cc) | inr w ↦ drop_all k xs w.0 ]
 
 -- the first one ends, and the second goes on
-pub first-ends : (xs ys : List ℕ) (k : ℕ) → slice_cmp nat_cmp (drop k xs) (drop k ys) ≡ slice_cmp nat_cmp xs ys → length xs ≤ k → k < length ys → Less ≡ slice_cmp nat_cmp xs ys
-first-ends xs ys k same a b = sym (let F : List ℕ → List ℕ → Ordering = slice_cmp nat_cmp in ap (λ v. F v (drop k ys)) (drop_all k xs a) ∙ ap (F []) (drop-cons ys k 0 b)) ∙ same
+pub first-ends : (xs ys : List ℕ) (k : ℕ) → slice_cmp nat_cmp (drop k xs) (drop k ys) ≡ slice_cmp nat_cmp xs ys → length xs ≤ k → k < length ys
+    → Less ≡ slice_cmp nat_cmp xs ys
+first-ends xs ys k same a b = sym (let F : List ℕ → List ℕ → Ordering = slice_cmp nat_cmp in ap (λ v. F v (drop k ys)) (drop_all k xs a)
+    ∙ ap (F []) (drop-cons ys k 0 b)) ∙ same
 
 -- the second one ends
-pub second-ends : (xs ys : List ℕ) (k x : ℕ) → slice_cmp nat_cmp (drop k xs) (drop k ys) ≡ slice_cmp nat_cmp xs ys → slice_get xs k ≡ Some x → slice_get ys k ≡ None → Greater ≡ slice_cmp nat_cmp xs ys
-second-ends xs ys k x same a b = sym (let F : List ℕ → List ℕ → Ordering = slice_cmp nat_cmp in ap (λ v. F v (drop k ys)) (drop-some xs k x a) ∙ ap (F (x ∷ drop (k + 1) xs)) (drop-none ys k b)) ∙ same
+pub second-ends : (xs ys : List ℕ) (k x : ℕ) → slice_cmp nat_cmp (drop k xs) (drop k ys) ≡ slice_cmp nat_cmp xs ys → slice_get xs k ≡ Some x
+    → slice_get ys k ≡ None → Greater ≡ slice_cmp nat_cmp xs ys
+second-ends xs ys k x same a b = sym (let F : List ℕ → List ℕ → Ordering = slice_cmp nat_cmp in ap (λ v. F v (drop k ys)) (drop-some xs k x a)
+    ∙ ap (F (x ∷ drop (k + 1) xs)) (drop-none ys k b)) ∙ same
 
 -- both go on: the elements here decide, and then what is left
-pub both-go-on : (xs ys : List ℕ) (k x y : ℕ) → slice_cmp nat_cmp (drop k xs) (drop k ys) ≡ slice_cmp nat_cmp xs ys → slice_get xs k ≡ Some x → slice_get ys k ≡ Some y
+pub both-go-on : (xs ys : List ℕ) (k x y : ℕ) → slice_cmp nat_cmp (drop k xs) (drop k ys) ≡ slice_cmp nat_cmp xs ys → slice_get xs k ≡ Some x
+    → slice_get ys k ≡ Some y
     → ordering_then (nat_cmp x y) (slice_cmp nat_cmp (drop (k + 1) xs) (drop (k + 1) ys)) ≡ slice_cmp nat_cmp xs ys
-both-go-on xs ys k x y same a b = sym (let F : List ℕ → List ℕ → Ordering = slice_cmp nat_cmp in ap (λ v. F v (drop k ys)) (drop-some xs k x a) ∙ ap (F (x ∷ drop (k + 1) xs)) (drop-some ys k y b)) ∙ same
+both-go-on xs ys k x y same a b = sym (let F : List ℕ → List ℕ → Ordering = slice_cmp nat_cmp in ap (λ v. F v (drop k ys)) (drop-some xs k x a)
+    ∙ ap (F (x ∷ drop (k + 1) xs)) (drop-some ys k y b)) ∙ same
 
 -- equal elements leave it to the rest
 pub equal-here : (o rest whole : Ordering) → o ≡ Equal → ordering_then o rest ≡ whole → rest ≡ whole

@@ -28,14 +28,16 @@ neither true whole body = refl
 neither false whole body = refl
 
 -- a choice on a clock, or the whole
-pub choice_same : (whole there body absent : RawTree) → guarded whole (cond (is_true_tree absent) (guard_tree there) guard.Neither) body ≡ asserted_on whole there body absent
+pub choice_same : (whole there body absent : RawTree) → guarded whole (cond (is_true_tree absent) (guard_tree there) guard.Neither) body ≡ asserted_on whole
+    there body absent
 choice_same whole (Node at (Constant (Flag true))) body (Node other (Constant (Flag true))) = refl
 choice_same whole (Node at (Constant (Flag true))) body (Node other form) = refl
 choice_same whole (Node at (Flow c)) body (Node other (Constant (Flag true))) = refl
 choice_same whole (Node at (Flow c)) body (Node other form) = refl
 choice_same whole there body absent = neither (is_true_tree absent) whole body
 
-pub met_made : (f : Flat) (a b c : Diagrams) (r : FlowRefs) (clock : Option ℕ) (t : FlatTree) (bits : List ℕ) (one : ℕ) → ReadsTo f a b t bits → AreFlowRefs f b.nodes r → IsNamed (length r.on) clock
+pub met_made : (f : Flat) (a b c : Diagrams) (r : FlowRefs) (clock : Option ℕ) (t : FlatTree) (bits : List ℕ) (one : ℕ) → ReadsTo f a b t bits
+    → AreFlowRefs f b.nodes r → IsNamed (length r.on) clock
     → Makes b c (λ v. cond (clock_bit b.nodes r.on clock v) (bit b.nodes bits v 0) true) one → IsMetRead f a c (record { clock = clock; body = t }) one
 met_made f a b c r clock t bits one reads flows within made = record {
   extends = extends_trans a b c reads.extends made.extends;
@@ -43,18 +45,22 @@ met_made f a b c r clock t bits one reads flows within made = record {
   means = λ v row instant fits. made.means v ∙ by v row instant fits clock within (is_there_at f v row clock) refl;
 }
   where
-    shown : (k : Option ℕ) → IsNamed (length r.on) k → (v : Valuation) (row : List (Option Reading)) → IsSymbolic (system_of f) (named f v) row → clock_bit b.nodes r.on k v ≡ is_there_at f v row k
+    shown : (k : Option ℕ) → IsNamed (length r.on) k → (v : Valuation) (row : List (Option Reading)) → IsSymbolic (system_of f) (named f v) row
+        → clock_bit b.nodes r.on k v ≡ is_there_at f v row k
     shown Nothing within v row instant = refl
     shown (Some n) within v row instant = flows.on_shows n v row within instant
 
-    by : (v : Valuation) (row : List (Option Reading)) → IsSymbolic (system_of f) (named f v) row → ItemFits (system_of f) (length (system_of f).flows) kind.Bool (record { clock = clock; body = t })
+    by : (v : Valuation) (row : List (Option Reading)) → IsSymbolic (system_of f) (named f v) row
+        → ItemFits (system_of f) (length (system_of f).flows) kind.Bool (record { clock = clock; body = t })
         → (k : Option ℕ) → IsNamed (length r.on) clock → (there : Bool) → is_there_at f v row clock ≡ there
         → cond (clock_bit b.nodes r.on clock v) (bit b.nodes bits v 0) true ≡ met_at f v row (record { clock = clock; body = t })
     by v row instant fits k inside there is = ap (λ x. cond x (bit b.nodes bits v 0) true) (shown clock inside v row instant) ∙ cases there is
       where
-        cases : (x : Bool) → is_there_at f v row clock ≡ x → cond (is_there_at f v row clock) (bit b.nodes bits v 0) true ≡ met_at f v row (record { clock = clock; body = t })
+        cases : (x : Bool) → is_there_at f v row clock ≡ x → cond (is_there_at f v row clock) (bit b.nodes bits v 0) true ≡ met_at f v row
+            (record { clock = clock; body = t })
         cases true e =
-            let own : read (system_of f) (named f v) row t ≡ Truth (bit b.nodes bits v 0) = shows_truth b.nodes v bits (read (system_of f) (named f v) row t) (reads.shows v row clock kind.Bool instant fits.1 e) in
+            let own : read (system_of f) (named f v) row t ≡ Truth (bit b.nodes bits v 0) = shows_truth b.nodes v bits (read (system_of f) (named f v) row t)
+            (reads.shows v row clock kind.Bool instant fits.1 e) in
             ap (λ x. cond (is_there_at f v row clock) x true) (sym (ap holds_true own))
         cases false e = ap (λ x. cond x (bit b.nodes bits v 0) true) e ∙ sym (ap (λ x. cond x (holds_true (read (system_of f) (named f v) row t)) true) e)
 
@@ -67,7 +73,8 @@ and_done true total e = e
 and_done false total e = e
 
 -- an assertion more
-pub met_more : (f : Flat) (a s mid new : Diagrams) (xs : List Item) (i : ℕ) (x : Item) (all one r : ℕ) → i < length xs → drop i xs ≡ x ∷ drop (i + 1) xs → IsRef s.nodes all → IsMetRead f s mid x one
+pub met_more : (f : Flat) (a s mid new : Diagrams) (xs : List Item) (i : ℕ) (x : Item) (all one r : ℕ) → i < length xs → drop i xs ≡ x ∷ drop (i + 1) xs
+    → IsRef s.nodes all → IsMetRead f s mid x one
     → ItemFits (system_of f) (length (system_of f).flows) kind.Bool x → Answers mid new (λ v. value_of mid.nodes all v && value_of mid.nodes one v) r
     → (v : Valuation) (row : List (Option Reading)) → IsSymbolic (system_of f) (named f v) row
     → (value_of s.nodes all v && all_met (system_of f) (named f v) row (drop i xs)) ≡ all_met (system_of f) (named f v) row xs

@@ -1,5 +1,6 @@
 -- Numbers and their bits.
-use Rattle.std.proofs.Common.{◌≡◌, ◌⊎◌, ℕ, zero, suc, ◌+◌, ◌*◌, ◌/◌, ◌%◌, ◌^◌, ◌<◌, ◌≤◌, Bool, true, false, ◌&&◌, ◌||◌, cond, nat_eq, nat_le, nat_lt, refl, sym, ◌∙◌, ap, subst, arith, add_comm, inl, inr}
+use Rattle.std.proofs.Common.{◌≡◌, ◌⊎◌, ℕ, zero, suc, ◌+◌, ◌*◌, ◌/◌, ◌%◌, ◌^◌, ◌<◌, ◌≤◌, Bool, true, false, ◌&&◌, ◌||◌, cond, nat_eq, nat_le, nat_lt, refl, sym}
+use Rattle.std.proofs.Common.{◌∙◌, ap, subst, arith, add_comm, inl, inr}
 use Rattle.std.proofs.Math.Nat.{pow-succ', mod-eq_of_lt, eq-or-lt_of_le}
 use Rattle.std.proofs.Math.Arith.{mod-mul}
 use Rattle.std.proofs.lemmas.Bool.{leb-true, le-leb, ltb-true, lt-ltb, eqb-true, eqb-false, eq-eqb, ne_eqb, cases_Bool, cases_lt, and_parts, and_from}
@@ -79,7 +80,8 @@ code_bits (suc n) bits other e b lt =
       | inr below ↦ code_bits n bits other h.1 b below
     ]
   where
-    by : (p q : Bool) → code n bits + cond p (2 ^ n) 0 ≡ code n other + cond q (2 ^ n) 0 → code n bits < 2 ^ n → code n other < 2 ^ n → (p ≡ q) × (code n bits ≡ code n other)
+    by : (p q : Bool) → code n bits + cond p (2 ^ n) 0 ≡ code n other + cond q (2 ^ n) 0 → code n bits < 2 ^ n → code n other < 2 ^ n
+        → (p ≡ q) × (code n bits ≡ code n other)
     by true true e l m = (refl, omega arith)
     by true false e l m = absurd (omega arith)
     by false true e l m = absurd (omega arith)
@@ -144,10 +146,12 @@ are_same_from (suc n) f g e b lt =
 
 are_same_to : (n : ℕ) (f g : ℕ → Bool) → ((b : ℕ) → b < n → f b ≡ g b) → are_same n f g ≡ true
 are_same_to zero f g same = refl
-are_same_to (suc n) f g same = and_from (are_same n f g) (is_same (f n) (g n)) (are_same_to n f g (λ b lt. same b (omega arith))) (same_to (f n) (g n) (same n (omega arith)))
+are_same_to (suc n) f g same = and_from (are_same n f g) (is_same (f n) (g n)) (are_same_to n f g (λ b lt. same b (omega arith)))
+    (same_to (f n) (g n) (same n (omega arith)))
 
 -- two numbers by their bits, of which those from n on are false
-pub same_numbers : (n l m : ℕ) (f g : ℕ → Bool) → ((b : ℕ) → f b ≡ bit_of l b) → ((b : ℕ) → g b ≡ bit_of m b) → ((b : ℕ) → n ≤ b → f b ≡ false) → ((b : ℕ) → n ≤ b → g b ≡ false)
+pub same_numbers : (n l m : ℕ) (f g : ℕ → Bool) → ((b : ℕ) → f b ≡ bit_of l b) → ((b : ℕ) → g b ≡ bit_of m b) → ((b : ℕ) → n ≤ b → f b ≡ false)
+    → ((b : ℕ) → n ≤ b → g b ≡ false)
     → are_same n f g ≡ nat_eq l m
 same_numbers n l m f g left right none_left none_right = both_ways (are_same n f g) (nat_eq l m)
     (λ e. eq-eqb l m (same_from_bits l m (λ b. bit_from l m b (sym (left b) ∙ at (are_same_from n f g e) b ∙ right b))))
@@ -159,13 +163,15 @@ same_numbers n l m f g left right none_left none_right = both_ways (are_same n f
 -- COMPARING
 
 -- codes of one bit more
-pub code_within : (n : ℕ) (f g : ℕ → Bool) → cond (f n) (g n && nat_le (code n f) (code n g)) (g n || nat_le (code n f) (code n g)) ≡ nat_le (code (suc n) f) (code (suc n) g)
+pub code_within : (n : ℕ) (f g : ℕ → Bool) → cond (f n) (g n && nat_le (code n f) (code n g)) (g n || nat_le (code n f) (code n g)) ≡ nat_le (code (suc n) f)
+    (code (suc n) g)
 code_within n f g = by (f n) (g n) (code_below n f) (code_below n g)
   where
     by : (p q : Bool) → code n f < 2 ^ n → code n g < 2 ^ n
         → cond p (q && nat_le (code n f) (code n g)) (q || nat_le (code n f) (code n g)) ≡ nat_le (code n f + cond p (2 ^ n) 0) (code n g + cond q (2 ^ n) 0)
     by true true l m = le_alike (code n f) (code n g) (code n f + 2 ^ n) (code n g + 2 ^ n) (λ h. omega arith) (λ h. omega arith)
-    by true false l m = both_ways false (nat_le (code n f + 2 ^ n) (code n g + 0)) (λ e. let bad : false ≡ true = e in absurd (grind arith)) (λ e. let h : code n f + 2 ^ n ≤ code n g + 0 = leb-true (code n f + 2 ^ n) (code n g + 0) e in absurd (omega arith))
+    by true false l m = both_ways false (nat_le (code n f + 2 ^ n) (code n g + 0)) (λ e. let bad : false ≡ true = e in absurd (grind arith))
+        (λ e. let h : code n f + 2 ^ n ≤ code n g + 0 = leb-true (code n f + 2 ^ n) (code n g + 0) e in absurd (omega arith))
     by false true l m = sym (le-leb (code n f + 0) (code n g + 2 ^ n) (omega arith))
     by false false l m = le_alike (code n f) (code n g) (code n f + 0) (code n g + 0) (λ h. omega arith) (λ h. omega arith)
 

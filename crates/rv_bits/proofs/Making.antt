@@ -1,5 +1,6 @@
 -- What calls of the store make of references.
-use Rattle.std.proofs.Common.{◌≡◌, ℕ, suc, ◌+◌, ◌-◌, ◌*◌, ◌/◌, ◌%◌, ◌^◌, ◌<◌, ◌≤◌, Bool, true, false, not, ◌&&◌, ◌||◌, cond, nat_eq, nat_le, nat_lt, max, List, [], ◌∷◌, ◌++◌, length, refl, sym, ◌∙◌, ap, subst, arith, length-append, inl, inr}
+use Rattle.std.proofs.Common.{◌≡◌, ℕ, suc, ◌+◌, ◌-◌, ◌*◌, ◌/◌, ◌%◌, ◌^◌, ◌<◌, ◌≤◌, Bool, true, false, not, ◌&&◌, ◌||◌, cond, nat_eq, nat_le, nat_lt, max, List}
+use Rattle.std.proofs.Common.{[], ◌∷◌, ◌++◌, length, refl, sym, ◌∙◌, ap, subst, arith, length-append, inl, inr}
 use Rattle.std.proofs.lemmas.Bool.{cases_lt}
 use Rattle.std.proofs.lemmas.List.{get_or_append_left}
 use Rattle.std.proofs.Math.ListN.{get_or-eq_default}
@@ -64,13 +65,16 @@ choice_made a b c p q s r f g h e on first second t = record {
   means = λ v. t.means v ∙ (λ i. cond (on v i) (first v i) (second v i));
 }
 
-pub equal_made : (a b c : Diagrams) (p q n r : ℕ) → IsRef a.nodes p → IsRef a.nodes q → Answers a b (λ v. not (value_of a.nodes q v)) n → Answers b c (choice b.nodes p q n) r
+pub equal_made : (a b c : Diagrams) (p q n r : ℕ) → IsRef a.nodes p → IsRef a.nodes q → Answers a b (λ v. not (value_of a.nodes q v)) n
+    → Answers b c (choice b.nodes p q n) r
     → Makes a c (λ v. is_same (value_of a.nodes p v) (value_of a.nodes q v)) r
 equal_made a b c p q n r left right s t =
-    choice_made a b c p q n r (value_of a.nodes p) (value_of a.nodes q) (λ v. not (value_of a.nodes q v)) (grows_extends a b s.grows) (λ v. s.grows.kept p left v) (λ v. s.grows.kept q right v) s.means t
+    choice_made a b c p q n r (value_of a.nodes p) (value_of a.nodes q) (λ v. not (value_of a.nodes q v)) (grows_extends a b s.grows)
+    (λ v. s.grows.kept p left v) (λ v. s.grows.kept q right v) s.means t
 
 -- the conjunction of a reference and of what was made after it
-pub and_made : (a b c : Diagrams) (p q r : ℕ) (f : Valuation → Bool) → IsRef a.nodes p → Makes a b f q → Answers b c (λ v. value_of b.nodes p v && value_of b.nodes q v) r
+pub and_made : (a b c : Diagrams) (p q r : ℕ) (f : Valuation → Bool) → IsRef a.nodes p → Makes a b f q
+    → Answers b c (λ v. value_of b.nodes p v && value_of b.nodes q v) r
     → Makes a c (λ v. value_of a.nodes p v && f v) r
 and_made a b c p q r f is m t = record {
   extends = extends_trans a b c m.extends (grows_extends b c t.grows);
@@ -101,7 +105,8 @@ counted_more a b c none most one n m count found_none found_most found s t p q =
 pub makes_to : (a b c : Diagrams) (f g : Valuation → Bool) (r : ℕ) → Extends a b → Makes b c f r → ((v : Valuation) → f v ≡ g v) → Makes a c g r
 makes_to a b c f g r e m same = record { extends = extends_trans a b c e m.extends; found = m.found; means = λ v. m.means v ∙ same v }
 
-pub counted_to : (a b c : Diagrams) (f g : Valuation → ℕ) (none most : ℕ) → Extends a b → AreCounted b c f none most → ((v : Valuation) → f v ≡ g v) → AreCounted a c g none most
+pub counted_to : (a b c : Diagrams) (f g : Valuation → ℕ) (none most : ℕ) → Extends a b → AreCounted b c f none most → ((v : Valuation) → f v ≡ g v)
+    → AreCounted a c g none most
 counted_to a b c f g none most e m same = record {
   extends = extends_trans a b c e m.extends;
   none_found = m.none_found;
@@ -130,8 +135,10 @@ pub count_more : (a b c : Diagrams) (refs : List ℕ) (none most n m k : ℕ) �
     → AreCounted b c (λ v. count_true k (bit a.nodes refs v) + cond (value_of b.nodes (ref_at refs k) v) 1 0) n m
     → AreCounted a c (λ v. count_true (k + 1) (bit a.nodes refs v)) n m
 count_more a b c refs none most n m k are before t =
-    counted_to a b c (λ v. count_true k (bit a.nodes refs v) + cond (value_of b.nodes (ref_at refs k) v) 1 0) (λ v. count_true (k + 1) (bit a.nodes refs v)) n m before.extends t
-    (λ v. (λ i. count_true k (bit a.nodes refs v) + cond (bits_kept a b refs before.extends are v k i) 1 0) ∙ ap (λ j. count_true j (bit a.nodes refs v)) (next_number k))
+    counted_to a b c (λ v. count_true k (bit a.nodes refs v) + cond (value_of b.nodes (ref_at refs k) v) 1 0) (λ v. count_true (k + 1) (bit a.nodes refs v)) n m
+    before.extends t
+    (λ v. (λ i. count_true k (bit a.nodes refs v) + cond (bits_kept a b refs before.extends are v k i) 1 0)
+    ∙ ap (λ j. count_true j (bit a.nodes refs v)) (next_number k))
 
 -- a code of one bit more is within a number
 pub within_more : (a b c : Diagrams) (refs : List ℕ) (last within r k : ℕ) → AreRefs a.nodes refs
@@ -154,7 +161,8 @@ code_named a b refs labels within k e some m =
     record {
       extends = m.extends;
       found = m.found;
-      means = λ v. m.means v ∙ (λ i. nat_le (code (e i) (bit a.nodes refs v)) (whole i)) ∙ within_below (code (bits_for labels) (bit a.nodes refs v)) (labels - 1) labels (omega arith);
+      means = λ v. m.means v ∙ (λ i. nat_le (code (e i) (bit a.nodes refs v)) (whole i))
+          ∙ within_below (code (bits_for labels) (bit a.nodes refs v)) (labels - 1) labels (omega arith);
     }
 
 -- a reference more in a list whose first bits have these meanings
@@ -163,7 +171,8 @@ pub means_more : (a b : Diagrams) (refs : List ℕ) (r k : ℕ) (meaning : ℕ �
     → (n : ℕ) (v : Valuation) → n < k + 1 → bit b.nodes (refs ++ r ∷ []) v n ≡ meaning n v
 means_more a b refs r k meaning size e are before last n v lt = elim (cases_lt n k) [
   | inl below ↦ ap (λ x. value_of b.nodes x v) (ref_before refs r n (omega arith)) ∙ bits_kept a b refs e are v n ∙ before n v below
-  | inr le ↦ let same : k ≡ n = omega arith in subst (λ j. bit b.nodes (refs ++ r ∷ []) v j ≡ meaning j v) same (ap (λ x. value_of b.nodes x v) (ref_last refs r k size) ∙ last v)
+  | inr le ↦ let same : k ≡ n = omega arith in subst (λ j. bit b.nodes (refs ++ r ∷ []) v j ≡ meaning j v) same
+      (ap (λ x. value_of b.nodes x v) (ref_last refs r k size) ∙ last v)
 ]
 
 -- a list of references whose first bits have these meanings, where all further ones are false
@@ -206,18 +215,26 @@ pub chosen_past : (nodes : List Triple) (condition : ℕ) (first second : List �
 chosen_past nodes condition first second n v le =
     let one : length first ≤ max (length first) (length second) = le-max_left (length first) (length second) in
     let two : length second ≤ max (length first) (length second) = le-max_right (length first) (length second) in
-    (λ i. cond (value_of nodes condition v) (bit_none nodes first v n (omega arith) i) (bit_none nodes second v n (omega arith) i)) ∙ cond-same (value_of nodes condition v)
+    (λ i. cond (value_of nodes condition v) (bit_none nodes first v n (omega arith) i) (bit_none nodes second v n (omega arith) i))
+    ∙ cond-same (value_of nodes condition v)
   where
     cond-same : (b : Bool) → cond b false false ≡ false
     cond-same true = refl
     cond-same false = refl
 
 -- a negation of what was made
-pub not_made : (a b c : Diagrams) (f : Valuation → Bool) (p r : ℕ) → Makes a b f p → Answers b c (λ v. not (value_of b.nodes p v)) r → Makes a c (λ v. not (f v)) r
-not_made a b c f p r m t = record { extends = extends_trans a b c m.extends (grows_extends b c t.grows); found = t.found; means = λ v. t.means v ∙ ap not (m.means v) }
+pub not_made : (a b c : Diagrams) (f : Valuation → Bool) (p r : ℕ) → Makes a b f p → Answers b c (λ v. not (value_of b.nodes p v)) r
+    → Makes a c (λ v. not (f v)) r
+not_made a b c f p r m t = record {
+  extends = extends_trans a b c m.extends (grows_extends b c t.grows);
+  found = t.found;
+  means = λ v. t.means v
+      ∙ ap not (m.means v);
+}
 
 -- a conjunction of what was made in turn
-pub both_made_of : (a b c d : Diagrams) (f g : Valuation → Bool) (p q r : ℕ) → Makes a b f p → Makes b c g q → Answers c d (λ v. value_of c.nodes p v && value_of c.nodes q v) r
+pub both_made_of : (a b c d : Diagrams) (f g : Valuation → Bool) (p q r : ℕ) → Makes a b f p → Makes b c g q
+    → Answers c d (λ v. value_of c.nodes p v && value_of c.nodes q v) r
     → Makes a d (λ v. f v && g v) r
 both_made_of a b c d f g p q r m n t = record {
   extends = extends_trans a c d (extends_trans a b c m.extends n.extends) (grows_extends c d t.grows);
@@ -229,14 +246,17 @@ pub implies_made : (a c : Diagrams) (p q r : ℕ) → Answers a c (choice a.node
 implies_made a c p q r t = record {
   extends = grows_extends a c t.grows;
   found = t.found;
-  means = λ v. t.means v ∙ (λ i. cond (value_of a.nodes p v) (value_of a.nodes q v) (value_of-true a.nodes v i)) ∙ by (value_of a.nodes p v) (value_of a.nodes q v);
+  means = λ v. t.means v ∙ (λ i. cond (value_of a.nodes p v) (value_of a.nodes q v) (value_of-true a.nodes v i))
+      ∙ by (value_of a.nodes p v) (value_of a.nodes q v);
 }
   where
     by : (x y : Bool) → cond x y true ≡ (not x || y)
     by true y = refl
     by false y = refl
 
-pub exclusive_made : (a b c : Diagrams) (p q n r : ℕ) → IsRef a.nodes p → IsRef a.nodes q → Answers a b (λ v. not (value_of a.nodes q v)) n → Answers b c (choice b.nodes p n q) r
+pub exclusive_made : (a b c : Diagrams) (p q n r : ℕ) → IsRef a.nodes p → IsRef a.nodes q → Answers a b (λ v. not (value_of a.nodes q v)) n
+    → Answers b c (choice b.nodes p n q) r
     → Makes a c (λ v. cond (value_of a.nodes p v) (not (value_of a.nodes q v)) (value_of a.nodes q v)) r
 exclusive_made a b c p q n r left right s t =
-    choice_made a b c p n q r (value_of a.nodes p) (λ v. not (value_of a.nodes q v)) (value_of a.nodes q) (grows_extends a b s.grows) (λ v. s.grows.kept p left v) s.means (λ v. s.grows.kept q right v) t
+    choice_made a b c p n q r (value_of a.nodes p) (λ v. not (value_of a.nodes q v)) (value_of a.nodes q) (grows_extends a b s.grows)
+    (λ v. s.grows.kept p left v) s.means (λ v. s.grows.kept q right v) t

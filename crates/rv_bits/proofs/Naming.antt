@@ -1,5 +1,6 @@
 -- Variables found by their names, and how many bits a type has.
-use Rattle.std.proofs.Common.{◌≡◌, ◌⊎◌, ℕ, zero, suc, ◌+◌, ◌-◌, ◌^◌, ◌<◌, ◌≤◌, true, false, cond, nat_le, List, [], ◌∷◌, length, map, get_or, refl, sym, ◌∙◌, ap, subst, arith, inl, inr, Some}
+use Rattle.std.proofs.Common.{◌≡◌, ◌⊎◌, ℕ, zero, suc, ◌+◌, ◌-◌, ◌^◌, ◌<◌, ◌≤◌, true, false, cond, nat_le, List, [], ◌∷◌, length, map, get_or, refl, sym, ◌∙◌}
+use Rattle.std.proofs.Common.{ap, subst, arith, inl, inr, Some}
 use Rattle.std.proofs.Common.{None as Nothing}
 use Rattle.std.specs.Prelude.{slice_get}
 use Rattle.std.proofs.lemmas.Bool.{and_parts, leb-true, le-leb, cases_Bool}
@@ -11,7 +12,8 @@ use Rattle.rv_diagram.specs.Nodes.{Valuation}
 use Rattle.rv_flat.specs.Facts.{all_few}
 use Rattle.rv_control.specs.Named.{same_variable, truth_at}
 
-pub truth_first : (ys : List Variable) (x : Variable) (n : ℕ) → n < length ys → ((k : ℕ) → k < n → same_variable (get_or ys k Next) x ≡ false) → same_variable (get_or ys n Next) x ≡ true
+pub truth_first : (ys : List Variable) (x : Variable) (n : ℕ) → n < length ys → ((k : ℕ) → k < n → same_variable (get_or ys k Next) x ≡ false)
+    → same_variable (get_or ys n Next) x ≡ true
     → (v : Valuation) → truth_at ys v x ≡ v n
 unfolding truth_at
 truth_first [] x n lt none here v = absurd (omega arith)
@@ -20,10 +22,12 @@ truth_first (y ∷ ys) x (suc n) lt none here v =
     ap (λ b. cond b (v 0) (truth_at ys (λ k. v (suc k)) x)) (none 0 (omega arith))
     ∙ truth_first ys x n (omega arith) (λ k low. none (suc k) (omega arith)) here (λ k. v (suc k))
 
-pub truth_none : (ys : List Variable) (x : Variable) → ((k : ℕ) → k < length ys → same_variable (get_or ys k Next) x ≡ false) → (v : Valuation) → truth_at ys v x ≡ false
+pub truth_none : (ys : List Variable) (x : Variable) → ((k : ℕ) → k < length ys → same_variable (get_or ys k Next) x ≡ false) → (v : Valuation)
+    → truth_at ys v x ≡ false
 unfolding truth_at
 truth_none [] x none v = refl
-truth_none (y ∷ ys) x none v = ap (λ b. cond b (v 0) (truth_at ys (λ k. v (suc k)) x)) (none 0 (omega arith)) ∙ truth_none ys x (λ k low. none (suc k) (omega arith)) (λ k. v (suc k))
+truth_none (y ∷ ys) x none v = ap (λ b. cond b (v 0) (truth_at ys (λ k. v (suc k)) x)) (none 0 (omega arith))
+    ∙ truth_none ys x (λ k low. none (suc k) (omega arith)) (λ k. v (suc k))
 
 below_power : (n : ℕ) → n ≤ 2 ^ n
 below_power zero = omega arith

@@ -1,5 +1,6 @@
 -- What the state bits are after the instant.
-use Rattle.std.proofs.Common.{◌≡◌, ℕ, zero, suc, ◌+◌, ◌*◌, ◌<◌, ◌≤◌, Bool, true, false, ◌||◌, cond, nat_eq, List, [], ◌∷◌, ◌++◌, length, map, drop, refl, sym, ◌∙◌, ap, subst, arith, inl, inr, length-append, Option, Some}
+use Rattle.std.proofs.Common.{◌≡◌, ℕ, zero, suc, ◌+◌, ◌*◌, ◌<◌, ◌≤◌, Bool, true, false, ◌||◌, cond, nat_eq, List, [], ◌∷◌, ◌++◌, length, map, drop, refl, sym}
+use Rattle.std.proofs.Common.{◌∙◌, ap, subst, arith, inl, inr, length-append, Option, Some}
 use Rattle.std.proofs.Common.{None as Nothing}
 use Rattle.std.specs.Prelude.{slice_get, slice_index_or}
 use Rattle.std.proofs.lemmas.Bool.{and_parts, eqb-true, cases_lt}
@@ -42,7 +43,8 @@ no_flag : {A : Type 0} → false ≡ true → A
 no_flag e = absurd (grind arith)
 
 -- one variable more is counted
-pub copies_more : (vs : List Bit) (i : ℕ) (x : Bit) → drop i vs ≡ x ∷ drop (i + 1) vs → state_bits (map variable_of (drop i vs)) ≡ copies_in x + state_bits (map variable_of (drop (i + 1) vs))
+pub copies_more : (vs : List Bit) (i : ℕ) (x : Bit) → drop i vs ≡ x ∷ drop (i + 1) vs
+    → state_bits (map variable_of (drop i vs)) ≡ copies_in x + state_bits (map variable_of (drop (i + 1) vs))
 unfolding state_bits
 copies_more vs i x left = ap (λ l. state_bits (map variable_of l)) left ∙ by x
   where
@@ -81,7 +83,8 @@ abbrev ticks_of : List Bit → List (Option Sites)
 ticks_of vs = map (λ p. Some p) (tick_places vs)
 
 -- the tick is this one
-pub tick_here : (vs : List Bit) (i : ℕ) (x : Bit) (p : Sites) → drop i vs ≡ x ∷ drop (i + 1) vs → same_variable (variable_of x) (lists.Tick p) ≡ true → tick_index (map (λ q. Some q) (tick_places (drop i vs))) (Some p) ≡ 0
+pub tick_here : (vs : List Bit) (i : ℕ) (x : Bit) (p : Sites) → drop i vs ≡ x ∷ drop (i + 1) vs → same_variable (variable_of x) (lists.Tick p) ≡ true
+    → tick_index (map (λ q. Some q) (tick_places (drop i vs))) (Some p) ≡ 0
 unfolding tick_index
 tick_here vs i x p left is = ap (λ l. tick_index (ticks_of l) (Some p)) left ∙ by x is
   where
@@ -95,7 +98,8 @@ tick_here vs i x p left is = ap (λ l. tick_index (ticks_of l) (Some p)) left �
 
 -- or a later one
 pub tick_later : (vs : List Bit) (i : ℕ) (x : Bit) (p : Sites) → drop i vs ≡ x ∷ drop (i + 1) vs → same_variable (variable_of x) (lists.Tick p) ≡ false
-    → tick_index (map (λ q. Some q) (tick_places (drop i vs))) (Some p) ≡ length (ticks_in x) + tick_index (map (λ q. Some q) (tick_places (drop (i + 1) vs))) (Some p)
+    → tick_index (map (λ q. Some q) (tick_places (drop i vs))) (Some p) ≡ length (ticks_in x) + tick_index (map (λ q. Some q) (tick_places (drop (i + 1) vs)))
+    (Some p)
 unfolding tick_index
 tick_later vs i x p left is = ap (λ l. tick_index (ticks_of l) (Some p)) left ∙ by x is
   where
@@ -114,7 +118,8 @@ pub tick_none : (vs : List Bit) (i : ℕ) (p : Sites) → length vs ≤ i → ti
 unfolding tick_index
 tick_none vs i p le = ap (λ l. tick_index (ticks_of l) (Some p)) (drop_of_length-le vs le)
 
-pub tick_start : (vs : List Bit) (p : Sites) → 1 + tick_index (map (λ q. Some q) (tick_places vs)) (Some p) ≡ tick_index (Nothing ∷ map (λ q. Some q) (tick_places vs)) (Some p)
+pub tick_start : (vs : List Bit) (p : Sites) → 1 + tick_index (map (λ q. Some q) (tick_places vs)) (Some p) ≡ tick_index
+    (Nothing ∷ map (λ q. Some q) (tick_places vs)) (Some p)
 unfolding tick_index
 tick_start vs p = let z : 1 + tick_index (ticks_of vs) (Some p) ≡ suc (tick_index (ticks_of vs) (Some p)) = omega arith in z
 
@@ -123,7 +128,8 @@ unfolding tick_index
 tick_main ts = refl
 
 -- the memory is this one, or a later one
-pub index_step : (ps : List Sites) (i : ℕ) (q p : Sites) → drop i ps ≡ q ∷ drop (i + 1) ps → index_of (drop i ps) p ≡ cond (is_same q p) 0 (index_of (drop (i + 1) ps) p + 1)
+pub index_step : (ps : List Sites) (i : ℕ) (q p : Sites) → drop i ps ≡ q ∷ drop (i + 1) ps
+    → index_of (drop i ps) p ≡ cond (is_same q p) 0 (index_of (drop (i + 1) ps) p + 1)
 index_step ps i q p left = ap (λ l. index_of l p) left
 
 -- numbers that are told to be the same
@@ -144,7 +150,8 @@ clock_none g (t ∷ ts) zero e = let bad : Some (g t) ≡ Nothing = e in absurd 
 clock_none g (t ∷ ts) (suc m) e = clock_none g ts m e
 
 -- a bit of what a memory holds
-pub kept_shown : (nodes : List Triple) (v : Valuation) (j : Kind) (refs : List ℕ) (a : Reading) (b : ℕ) → Shows nodes v j refs a → value_of nodes (kept_ref j refs b) v ≡ bit_of a b
+pub kept_shown : (nodes : List Triple) (v : Valuation) (j : Kind) (refs : List ℕ) (a : Reading) (b : ℕ) → Shows nodes v j refs a
+    → value_of nodes (kept_ref j refs b) v ≡ bit_of a b
 kept_shown nodes v kind.Bool refs a b shows = sym (ap (λ x. bit_of x b) (shows_truth nodes v refs a shows))
 kept_shown nodes v kind.Int refs (Linear g) b shows = value_of-false nodes v
 kept_shown nodes v kind.Int refs (Truth t) b shows = no_flag shows
@@ -152,12 +159,14 @@ kept_shown nodes v kind.Int refs (Name l) b shows = no_flag shows
 kept_shown nodes v (kind.Labels i) refs a b (l, is, number) = number b ∙ sym (ap (λ x. bit_of x b) is)
 
 -- one state bit more
-pub next_pushed : (f : Flat) (a s new : Diagrams) (n : ℕ) (refs : List ℕ) (r : ℕ) → AreNextRead f a s n refs → IsNextRead f s new (variable_at f (2 * n)) r → AreNextRead f a new (n + 1) (refs ++ r ∷ [])
+pub next_pushed : (f : Flat) (a s new : Diagrams) (n : ℕ) (refs : List ℕ) (r : ℕ) → AreNextRead f a s n refs → IsNextRead f s new (variable_at f (2 * n)) r
+    → AreNextRead f a new (n + 1) (refs ++ r ∷ [])
 next_pushed f a s new n refs r are one = record {
   extends = extends_trans a s new are.extends one.extends;
   size = length-append refs (r ∷ []) ∙ ap (λ k. k + 1) are.size;
   each = λ i lt v row instant. elim (cases_lt i n) [
-    | inl below ↦ ap (λ x. value_of new.nodes x v) (ref_before refs r i (omega (arith, are.size))) ∙ one.extends.kept (ref_at refs i) (are.are_refs i below) v ∙ are.each i below v row instant
+    | inl below ↦ ap (λ x. value_of new.nodes x v) (ref_before refs r i (omega (arith, are.size))) ∙ one.extends.kept (ref_at refs i) (are.are_refs i below) v
+        ∙ are.each i below v row instant
     | inr le ↦
         let same : n ≡ i = omega arith in
         subst (λ k. value_of new.nodes (ref_at (refs ++ r ∷ []) k) v ≡ next_truth (system_of f) (named f v) row (variable_at f (2 * k))) same
@@ -165,7 +174,8 @@ next_pushed f a s new n refs r are one = record {
   ];
   are_refs = λ i lt. elim (cases_lt i n) [
     | inl below ↦ subst (IsRef new.nodes) (sym (ref_before refs r i (omega (arith, are.size)))) (omega (arith, are.are_refs i below, one.extends.longer))
-    | inr le ↦ let same : n ≡ i = omega arith in subst (λ k. IsRef new.nodes (ref_at (refs ++ r ∷ []) k)) same (subst (IsRef new.nodes) (sym (ref_last refs r n are.size)) one.is_ref)
+    | inr le ↦ let same : n ≡ i = omega arith in subst (λ k. IsRef new.nodes (ref_at (refs ++ r ∷ []) k)) same
+        (subst (IsRef new.nodes) (sym (ref_last refs r n are.size)) one.is_ref)
   ];
 }
 
@@ -203,7 +213,8 @@ module _ (f : Flat) where
 
   -- a bit of what the memory with a number holds
   pub bit_shown : (nodes : List Triple) (m b : ℕ) (memory : FlatMemory) (refs : List ℕ) → slice_get f.memories m ≡ Some memory → IsAfter f nodes m refs
-      → (v : Valuation) (row : List (Option Reading)) → IsSymbolic (system_of f) (named f v) row → value_of nodes (kept_ref memory.kind refs b) v ≡ bit_of (updated (system_of f) (named f v) row m) b
+      → (v : Valuation) (row : List (Option Reading)) → IsSymbolic (system_of f) (named f v) row
+      → value_of nodes (kept_ref memory.kind refs b) v ≡ bit_of (updated (system_of f) (named f v) row m) b
   bit_shown nodes m b memory refs is after v row instant =
       let inside : m < length (system_of f).memories = omega (arith, memory_within m memory is, length-map f.memories (kept_of f.memories)) in
       kept_shown nodes v memory.kind refs (updated (system_of f) (named f v) row m) b

@@ -1,5 +1,6 @@
 -- What references show of expressions, form by form.
-use Rattle.std.proofs.Common.{◌≡◌, ℕ, zero, suc, ◌^◌, ◌<◌, ◌≤◌, Bool, true, false, not, ◌&&◌, ◌||◌, cond, nat_eq, nat_le, max, List, [], ◌∷◌, length, refl, sym, ◌∙◌, ap, subst, arith, Option, Some}
+use Rattle.std.proofs.Common.{◌≡◌, ℕ, zero, suc, ◌^◌, ◌<◌, ◌≤◌, Bool, true, false, not, ◌&&◌, ◌||◌, cond, nat_eq, nat_le, max, List, [], ◌∷◌, length, refl, sym}
+use Rattle.std.proofs.Common.{◌∙◌, ap, subst, arith, Option, Some}
 use Rattle.std.proofs.Common.{None as Nothing}
 use Rattle.std.specs.Prelude.{ℤ}
 use Rattle.std.proofs.Math.Nat.{le-max_left, le-max_right}
@@ -18,8 +19,10 @@ use Rattle.rv_diagram.specs.Several.{ref_at}
 use Rattle.rv_diagram.proofs.Calls.{value_of-false}
 use Rattle.rv_agreement.specs.Agreement.{Fits, HasKind, IsRule, IsPlaced, IsNamed, IsWell}
 use Rattle.rv_agreement.specs.Evaluation.{is_on, held, nth}
-use Rattle.rv_agreement.specs.Trees.{FlatTree, Node, FlatTrees, Constant, Flow, Memory, Ticked, Input, Not, Binary, Scale, If, AtMostOne, When, Current, Item, nth_item, memory_items, memory_kinds, kind_at}
-use Rattle.rv_agreement.specs.Valuations.{Reading, Truth, Name, Linear, holds_true, is_linear, is_placed, is_same, operated, constant_reading, width, reads_at, read, updated, IsSymbolic}
+use Rattle.rv_agreement.specs.Trees.{FlatTree, Node, FlatTrees, Constant, Flow, Memory, Ticked, Input, Not, Binary, Scale, If, AtMostOne, When, Current, Item}
+use Rattle.rv_agreement.specs.Trees.{nth_item, memory_items, memory_kinds, kind_at}
+use Rattle.rv_agreement.specs.Valuations.{Reading, Truth, Name, Linear, holds_true, is_linear, is_placed, is_same, operated, constant_reading, width, reads_at}
+use Rattle.rv_agreement.specs.Valuations.{read, updated, IsSymbolic}
 use Rattle.rv_flat.specs.declared.flat.Flat.{Flat}
 use Rattle.rv_flat.specs.FlatInstants.{system_of}
 use Rattle.rv_control.specs.Named.{named, variables_of, truth_at}
@@ -56,17 +59,20 @@ single_number nodes v r t e (suc b) = value_of-false nodes v ∙ sym (bit_past (
 pub shows_truth : (nodes : List Triple) (v : Valuation) (refs : List ℕ) (a : Reading) → Shows nodes v kind.Bool refs a → a ≡ Truth (bit nodes refs v 0)
 shows_truth nodes v refs a (t, is, number) = is ∙ ap Truth (sym (number 0 ∙ truth_bit t))
 
-pub shows_same : (a b : List Triple) (v : Valuation) (j : Kind) (refs other : List ℕ) (x : Reading) → ((k : ℕ) → bit b other v k ≡ bit a refs v k) → Shows a v j refs x → Shows b v j other x
+pub shows_same : (a b : List Triple) (v : Valuation) (j : Kind) (refs other : List ℕ) (x : Reading) → ((k : ℕ) → bit b other v k ≡ bit a refs v k)
+    → Shows a v j refs x → Shows b v j other x
 shows_same a b v kind.Bool refs other x same (t, is, number) = (t, is, λ k. same k ∙ number k)
 shows_same a b v kind.Int refs other x same shows = shows
 shows_same a b v (kind.Labels i) refs other x same (l, is, number) = (l, is, λ k. same k ∙ number k)
 
-pub shows_kept : (a b : Diagrams) (v : Valuation) (j : Kind) (refs : List ℕ) (x : Reading) → Extends a b → AreRefs a.nodes refs → Shows a.nodes v j refs x → Shows b.nodes v j refs x
+pub shows_kept : (a b : Diagrams) (v : Valuation) (j : Kind) (refs : List ℕ) (x : Reading) → Extends a b → AreRefs a.nodes refs → Shows a.nodes v j refs x
+    → Shows b.nodes v j refs x
 shows_kept a b v j refs x e are shows = shows_same a.nodes b.nodes v j refs refs x (bits_kept a b refs e are v) shows
 
 -- CONSTANTS
 
-constant_shows : (nodes : List Triple) (v : Valuation) (labels : List ℕ) (columns : ℕ) (test : Sites → Side → Bool) (j : Kind) (c : Value) (refs : List ℕ) → HasKind labels j c → ((b : ℕ) → bit nodes refs v b ≡ constant_bit c b)
+constant_shows : (nodes : List Triple) (v : Valuation) (labels : List ℕ) (columns : ℕ) (test : Sites → Side → Bool) (j : Kind) (c : Value) (refs : List ℕ)
+    → HasKind labels j c → ((b : ℕ) → bit nodes refs v b ≡ constant_bit c b)
     → Shows nodes v j refs (constant_reading columns test c)
 constant_shows nodes v labels columns test kind.Bool (Flag t) refs has bits = (t, refl, bits)
 constant_shows nodes v labels columns test kind.Bool (Label l) refs has bits = absurd has
@@ -78,7 +84,8 @@ constant_shows nodes v labels columns test (kind.Labels i) (Flag t) refs has bit
 constant_shows nodes v labels columns test (kind.Labels i) (Label l) refs has bits = (l, refl, bits)
 constant_shows nodes v labels columns test (kind.Labels i) (Whole z) refs has bits = absurd has
 
-pub reads_constant : (f : Flat) (d : Diagrams) (at : Sites) (c : Value) (refs : List ℕ) → AreRefs d.nodes refs → ((b : ℕ) (v : Valuation) → bit d.nodes refs v b ≡ constant_bit c b)
+pub reads_constant : (f : Flat) (d : Diagrams) (at : Sites) (c : Value) (refs : List ℕ) → AreRefs d.nodes refs
+    → ((b : ℕ) (v : Valuation) → bit d.nodes refs v b ≡ constant_bit c b)
     → ReadsTo f d d (Node at (Constant c)) refs
 reads_constant f d at c refs are bits = record {
   extends = extends_refl d;
@@ -104,21 +111,24 @@ module _ (f : Flat) (v : Valuation) (row : List (Option Reading)) where
   flow_here instant n lt on = instant.holds n lt ∙ ap (λ b. cond b (Some (value_here (nth_item (system_of f).flows n).body)) Nothing) on
 
   -- a flow that is there and true has a clock that is there
-  clock_here : IsSymbolic (system_of f) (named f v) row → (n : ℕ) → n < length (system_of f).flows → there (Some n) ≡ true → there (nth_item (system_of f).flows n).clock ≡ true
+  clock_here : IsSymbolic (system_of f) (named f v) row → (n : ℕ) → n < length (system_of f).flows → there (Some n) ≡ true
+      → there (nth_item (system_of f).flows n).clock ≡ true
   clock_here instant n lt on = by (there (nth_item (system_of f).flows n).clock) (instant.holds n lt)
     where
       by : (b : Bool) → cell n ≡ cond b (Some (value_here (nth_item (system_of f).flows n).body)) Nothing → b ≡ true
       by true e = refl
       by false e = no_flag (sym (ap (is_on Reading (reads_at (system_of f) (named f v))) e) ∙ on)
 
-pub reads_flow : (f : Flat) (d : Diagrams) (at : Sites) (n : ℕ) (r : FlowRefs) → AreFlowRefs f d.nodes r → n < length r.on → ReadsTo f d d (Node at (Flow n)) (refs_at r.bits n)
+pub reads_flow : (f : Flat) (d : Diagrams) (at : Sites) (n : ℕ) (r : FlowRefs) → AreFlowRefs f d.nodes r → n < length r.on
+    → ReadsTo f d d (Node at (Flow n)) (refs_at r.bits n)
 reads_flow f d at n r are lt = record {
   extends = extends_refl d;
   are_refs = are.bit_refs n;
   shows = λ v row k j instant fits there.
       let here : nth Reading (reads_at (system_of f) (named f v)) row n ≡ Some (read (system_of f) (named f v) row (nth_item (system_of f).flows n).body) =
       flow_here f v row instant n fits.0 (ap (is_there_at f v row) fits.2 ∙ there) in
-      let shown : Shows d.nodes v (kind_at (system_of f).kinds n) (refs_at r.bits n) (read (system_of f) (named f v) row (nth_item (system_of f).flows n).body) =
+      let shown : Shows d.nodes v (kind_at (system_of f).kinds n) (refs_at r.bits n) (read (system_of f) (named f v) row (nth_item (system_of f).flows n).body)
+      =
       are.shows n v row (read (system_of f) (named f v) row (nth_item (system_of f).flows n).body) lt instant here in
       subst (λ (x : Kind). Shows d.nodes v x (refs_at r.bits n) (read (system_of f) (named f v) row (Node at (Flow n)))) fits.1
       (subst (Shows d.nodes v (kind_at (system_of f).kinds n) (refs_at r.bits n)) (sym (ap (held Reading (reads_at (system_of f) (named f v))) here)) shown);
@@ -142,10 +152,12 @@ one_ref : (nodes : List Triple) (r : ℕ) → IsRef nodes r → AreRefs nodes (r
 one_ref nodes r is zero lt = is
 one_ref nodes r is (suc k) lt = absurd (omega arith)
 
-pub shows_single : (nodes : List Triple) (v : Valuation) (j : Kind) (r : ℕ) (t : Bool) → j ≡ kind.Bool → value_of nodes r v ≡ t → Shows nodes v j (r ∷ []) (Truth t)
+pub shows_single : (nodes : List Triple) (v : Valuation) (j : Kind) (r : ℕ) (t : Bool) → j ≡ kind.Bool → value_of nodes r v ≡ t
+    → Shows nodes v j (r ∷ []) (Truth t)
 shows_single nodes v j r t e is = subst (λ (x : Kind). Shows nodes v x (r ∷ []) (Truth t)) (sym e) (t, refl, single_number nodes v r t is)
 
-pub reads_tick : (f : Flat) (d : Diagrams) (at : Sites) (n : ℕ) (t : Tables) → AreTables f d.nodes t → ReadsTo f d d (Node at (Ticked n)) (ref_at t.ticks n ∷ [])
+pub reads_tick : (f : Flat) (d : Diagrams) (at : Sites) (n : ℕ) (t : Tables) → AreTables f d.nodes t
+    → ReadsTo f d d (Node at (Ticked n)) (ref_at t.ticks n ∷ [])
 reads_tick f d at n t are = record {
   extends = extends_refl d;
   are_refs = one_ref d.nodes (ref_at t.ticks n) (any_ref d.nodes t.ticks are.tick_refs n);
@@ -156,10 +168,12 @@ pub reads_scale : (f : Flat) (d : Diagrams) (at : Sites) (z : ℤ) (e : FlatTree
 reads_scale f d at z e = record {
   extends = extends_refl d;
   are_refs = λ k lt. absurd (omega arith);
-  shows = λ v row k j instant fits there. subst (λ (x : Kind). Shows d.nodes v x [] (read (system_of f) (named f v) row (Node at (Scale z e)))) (sym fits.0) refl;
+  shows = λ v row k j instant fits there. subst (λ (x : Kind). Shows d.nodes v x [] (read (system_of f) (named f v) row (Node at (Scale z e))))
+      (sym fits.0) refl;
 }
 
-pub reads_when : (f : Flat) (a b : Diagrams) (at : Sites) (c : ℕ) (e : FlatTree) (refs : List ℕ) → ReadsTo f a b e refs → ReadsTo f a b (Node at (When c e)) refs
+pub reads_when : (f : Flat) (a b : Diagrams) (at : Sites) (c : ℕ) (e : FlatTree) (refs : List ℕ) → ReadsTo f a b e refs
+    → ReadsTo f a b (Node at (When c e)) refs
 reads_when f a b at c e refs r = record {
   extends = r.extends;
   are_refs = r.are_refs;
@@ -167,7 +181,8 @@ reads_when f a b at c e refs r = record {
       (clock_here f v row instant c fits.1 (ap (is_there_at f v row) (sym fits.0) ∙ there));
 }
 
-pub reads_current : (f : Flat) (a b : Diagrams) (at : Sites) (m : ℕ) (i : Option ℕ) (e : FlatTree) (refs : List ℕ) → ShowsTo f a b m refs → ReadsTo f a b (Node at (Current m i e)) refs
+pub reads_current : (f : Flat) (a b : Diagrams) (at : Sites) (m : ℕ) (i : Option ℕ) (e : FlatTree) (refs : List ℕ) → ShowsTo f a b m refs
+    → ReadsTo f a b (Node at (Current m i e)) refs
 reads_current f a b at m i e refs s = record {
   extends = s.extends;
   are_refs = s.is_after.are_refs;
@@ -180,14 +195,17 @@ reads_current f a b at m i e refs s = record {
 
 -- OPERATORS
 
-pub reads_not : (f : Flat) (a b c : Diagrams) (at : Sites) (e : FlatTree) (bits refs : List ℕ) → ReadsTo f a b e bits → IsSingle b c (λ v. not (bit b.nodes bits v 0)) refs → ReadsTo f a c (Node at (Not e)) refs
+pub reads_not : (f : Flat) (a b c : Diagrams) (at : Sites) (e : FlatTree) (bits refs : List ℕ) → ReadsTo f a b e bits
+    → IsSingle b c (λ v. not (bit b.nodes bits v 0)) refs → ReadsTo f a c (Node at (Not e)) refs
 reads_not f a b c at e bits refs r s = record {
   extends = extends_trans a b c r.extends s.made.extends;
   are_refs = subst (AreRefs c.nodes) (sym s.is) (one_ref c.nodes s.one s.made.found);
   shows = λ v row k j instant fits there.
-      let own : read (system_of f) (named f v) row e ≡ Truth (bit b.nodes bits v 0) = shows_truth b.nodes v bits (read (system_of f) (named f v) row e) (r.shows v row k kind.Bool instant fits.1 there) in
+      let own : read (system_of f) (named f v) row e ≡ Truth (bit b.nodes bits v 0) = shows_truth b.nodes v bits (read (system_of f) (named f v) row e)
+      (r.shows v row k kind.Bool instant fits.1 there) in
       subst (λ (l : List ℕ). Shows c.nodes v j l (read (system_of f) (named f v) row (Node at (Not e)))) (sym s.is)
-      (shows_single c.nodes v j s.one (not (holds_true (read (system_of f) (named f v) row e))) fits.0 (s.made.means v ∙ ap (λ x. not (holds_true x)) (sym own)));
+      (shows_single c.nodes v j s.one (not (holds_true (read (system_of f) (named f v) row e))) fits.0
+      (s.made.means v ∙ ap (λ x. not (holds_true x)) (sym own)));
 }
 
 -- the bits of a truth value are none but the first
@@ -201,8 +219,10 @@ module _ (nodes : List Triple) (names : List Variable) (columns : ℕ) (at : Sit
   abbrev tests : Sites → Side → Bool
   tests p side = truth_at names v (Test p side)
 
-  not_placed : (i : Kind) (o : Op) → (is_placed at ≡ false) → (left right : List ℕ) → same_by nodes names at left right v ≡ are_same (max (length left) (length right)) (bit nodes left v) (bit nodes right v)
-  not_placed i o e left right = ap (λ b. cond b (tests at AtMost && tests at AtLeast) (are_same (max (length left) (length right)) (bit nodes left v) (bit nodes right v))) e
+  not_placed : (i : Kind) (o : Op) → (is_placed at ≡ false) → (left right : List ℕ)
+      → same_by nodes names at left right v ≡ are_same (max (length left) (length right)) (bit nodes left v) (bit nodes right v)
+  not_placed i o e left right = ap (λ b. cond b (tests at AtMost && tests at AtLeast)
+      (are_same (max (length left) (length right)) (bit nodes left v) (bit nodes right v))) e
 
   numbers_same : (left right : List ℕ) (l m : ℕ) → IsNumber nodes v left l → IsNumber nodes v right m
       → are_same (max (length left) (length right)) (bit nodes left v) (bit nodes right v) ≡ nat_eq l m
@@ -239,11 +259,14 @@ module _ (nodes : List Triple) (names : List Variable) (columns : ℕ) (at : Sit
   linear_shown new j one x e is = subst (λ (y : Kind). Shows new v y (one ∷ []) x) (sym e) is
 
   -- what an operator makes of what its operands show
-  pub operator_shown : (new : List Triple) (o : Op) (i j : Kind) (left right : List ℕ) (a b : Reading) (one : ℕ) → IsRule o i j → IsPlaced at o i → Shows nodes v i left a → Shows nodes v i right b
-      → value_of new one v ≡ operated_by nodes names at left right v o → Shows new v j (one ∷ []) (operated columns (λ p side. truth_at names v (Test p side)) at o a b)
+  pub operator_shown : (new : List Triple) (o : Op) (i j : Kind) (left right : List ℕ) (a b : Reading) (one : ℕ) → IsRule o i j → IsPlaced at o i
+      → Shows nodes v i left a → Shows nodes v i right b
+      → value_of new one v ≡ operated_by nodes names at left right v o
+      → Shows new v j (one ∷ []) (operated columns (λ p side. truth_at names v (Test p side)) at o a b)
   operator_shown new op.Arrow i j left right a b one rule placed first second is = absurd rule
   operator_shown new op.Implies i j left right a b one rule placed first second is =
-      shows_single new v j one (not (holds_true a) || holds_true b) rule.1 (is ∙ (λ k. not (truth_of i left a rule.0 first k) || truth_of i right b rule.0 second k))
+      shows_single new v j one (not (holds_true a) || holds_true b) rule.1
+      (is ∙ (λ k. not (truth_of i left a rule.0 first k) || truth_of i right b rule.0 second k))
   operator_shown new op.Or i j left right a b one rule placed first second is =
       shows_single new v j one (holds_true a || holds_true b) rule.1 (is ∙ (λ k. truth_of i left a rule.0 first k || truth_of i right b rule.0 second k))
   operator_shown new op.Xor i j left right a b one rule placed first second is =
@@ -266,24 +289,29 @@ module _ (nodes : List Triple) (names : List Variable) (columns : ℕ) (at : Sit
   operator_shown new op.Div i j left right a b one rule placed first second is = absurd rule
   operator_shown new op.Mod i j left right a b one rule placed first second is = absurd rule
 
-pub reads_binary : (f : Flat) (a b c d : Diagrams) (at : Sites) (o : Op) (e g : FlatTree) (left right : List ℕ) (one : ℕ) → ReadsTo f a b e left → ReadsTo f b c g right
+pub reads_binary : (f : Flat) (a b c d : Diagrams) (at : Sites) (o : Op) (e g : FlatTree) (left right : List ℕ) (one : ℕ) → ReadsTo f a b e left
+    → ReadsTo f b c g right
     → Makes c d (λ v. operated_by c.nodes (variables_of f) at left right v o) one → ReadsTo f a d (Node at (Binary o e g)) (one ∷ [])
 reads_binary f a b c d at o e g left right one first second made = record {
   extends = extends_trans a c d (extends_trans a b c first.extends second.extends) made.extends;
   are_refs = one_ref d.nodes one made.found;
   shows = λ v row k j instant fits there.
-      operator_shown c.nodes (variables_of f) (width (system_of f)) at v d.nodes o fits.0 j left right (read (system_of f) (named f v) row e) (read (system_of f) (named f v) row g) one fits.1 fits.2
+      operator_shown c.nodes (variables_of f) (width (system_of f)) at v d.nodes o fits.0 j left right (read (system_of f) (named f v) row e)
+      (read (system_of f) (named f v) row g) one fits.1 fits.2
       (shows_kept b c v fits.0 left (read (system_of f) (named f v) row e) second.extends first.are_refs (first.shows v row k fits.0 instant fits.3 there))
       (second.shows v row k fits.0 instant fits.4 there) (made.means v);
 }
 
-chosen_shown : (nodes : List Triple) (v : Valuation) (j : Kind) (refs : List ℕ) (t : Bool) (x y : Reading) (one two : ℕ → Bool) → ((k : ℕ) → bit nodes refs v k ≡ cond t (one k) (two k))
-    → ((other : List Triple) (l : List ℕ) → t ≡ true → ((k : ℕ) → bit other l v k ≡ one k) → Shows other v j l x) → ((other : List Triple) (l : List ℕ) → t ≡ false → ((k : ℕ) → bit other l v k ≡ two k) → Shows other v j l y)
+chosen_shown : (nodes : List Triple) (v : Valuation) (j : Kind) (refs : List ℕ) (t : Bool) (x y : Reading) (one two : ℕ → Bool)
+    → ((k : ℕ) → bit nodes refs v k ≡ cond t (one k) (two k))
+    → ((other : List Triple) (l : List ℕ) → t ≡ true → ((k : ℕ) → bit other l v k ≡ one k) → Shows other v j l x)
+    → ((other : List Triple) (l : List ℕ) → t ≡ false → ((k : ℕ) → bit other l v k ≡ two k) → Shows other v j l y)
     → Shows nodes v j refs (cond t x y)
 chosen_shown nodes v j refs true x y one two bits first second = first nodes refs refl bits
 chosen_shown nodes v j refs false x y one two bits first second = second nodes refs refl bits
 
-pub reads_if : (f : Flat) (a b c d h : Diagrams) (at : Sites) (e g i : FlatTree) (test one other refs : List ℕ) → ReadsTo f a b e test → ReadsTo f b c g one → ReadsTo f c d i other
+pub reads_if : (f : Flat) (a b c d h : Diagrams) (at : Sites) (e g i : FlatTree) (test one other refs : List ℕ) → ReadsTo f a b e test → ReadsTo f b c g one
+    → ReadsTo f c d i other
     → Spells d h (λ k v. cond (value_of d.nodes (ref_at test 0) v) (bit d.nodes one v k) (bit d.nodes other v k)) refs → ReadsTo f a h (Node at (If e g i)) refs
 reads_if f a b c d h at e g i test one other refs first second third s =
     let bd : Extends b d = extends_trans b c d second.extends third.extends in
@@ -292,12 +320,15 @@ reads_if f a b c d h at e g i test one other refs first second third s =
       are_refs = s.found;
       shows = λ v row k j instant fits there.
           let own : read (system_of f) (named f v) row e ≡ Truth (bit d.nodes test v 0) =
-          shows_truth d.nodes v test (read (system_of f) (named f v) row e) (shows_kept b d v kind.Bool test (read (system_of f) (named f v) row e) bd first.are_refs (first.shows v row k kind.Bool instant fits.0 there)) in
+          shows_truth d.nodes v test (read (system_of f) (named f v) row e)
+          (shows_kept b d v kind.Bool test (read (system_of f) (named f v) row e) bd first.are_refs (first.shows v row k kind.Bool instant fits.0 there)) in
           let shown_one : Shows d.nodes v j one (read (system_of f) (named f v) row g) =
           shows_kept c d v j one (read (system_of f) (named f v) row g) third.extends second.are_refs (second.shows v row k j instant fits.1 there) in
           let shown_other : Shows d.nodes v j other (read (system_of f) (named f v) row i) = third.shows v row k j instant fits.2 there in
-          subst (λ (t : Bool). Shows h.nodes v j refs (cond t (read (system_of f) (named f v) row g) (read (system_of f) (named f v) row i))) (sym (ap holds_true own))
-          (chosen_shown h.nodes v j refs (bit d.nodes test v 0) (read (system_of f) (named f v) row g) (read (system_of f) (named f v) row i) (bit d.nodes one v) (bit d.nodes other v) (λ n. s.means n v)
+          subst (λ (t : Bool). Shows h.nodes v j refs (cond t (read (system_of f) (named f v) row g) (read (system_of f) (named f v) row i)))
+          (sym (ap holds_true own))
+          (chosen_shown h.nodes v j refs (bit d.nodes test v 0) (read (system_of f) (named f v) row g) (read (system_of f) (named f v) row i)
+          (bit d.nodes one v) (bit d.nodes other v) (λ n. s.means n v)
           (λ nodes l t same. shows_same d.nodes nodes v j one l (read (system_of f) (named f v) row g) same shown_one)
           (λ nodes l t same. shows_same d.nodes nodes v j other l (read (system_of f) (named f v) row i) same shown_other));
     }
@@ -312,7 +343,8 @@ reads_most f a b c at es refs one counted made = record {
 }
 
 -- what a memory holds after the instant
-pub shows_after : (f : Flat) (a b c : Diagrams) (m : ℕ) (clock : Option ℕ) (t : FlatTree) (tables : Tables) (flows : FlowRefs) (body refs : List ℕ) → IsWell (system_of f) → AreTables f b.nodes tables → AreFlowRefs f b.nodes flows
+pub shows_after : (f : Flat) (a b c : Diagrams) (m : ℕ) (clock : Option ℕ) (t : FlatTree) (tables : Tables) (flows : FlowRefs) (body refs : List ℕ)
+    → IsWell (system_of f) → AreTables f b.nodes tables → AreFlowRefs f b.nodes flows
     → nth_item (memory_items (system_of f)) m ≡ record { clock = clock; body = t } → IsNamed (length flows.on) clock
     → ReadsTo f a b t body → Spells b c (λ k v. cond (clock_bit b.nodes flows.on clock v) (bit b.nodes body v k) (bit b.nodes (refs_at tables.kept m) v k)) refs
     → ShowsTo f a c m refs
@@ -322,18 +354,21 @@ shows_after f a b c m clock t tables flows body refs well are_tables are_flows i
     are_refs = s.found;
     shows = λ v row lt instant.
         let j : Kind = kind_at (memory_kinds (system_of f)) m in
-        let fits : Fits (system_of f) (length (system_of f).flows) clock j t = subst (λ (x : Item). Fits (system_of f) (length (system_of f).flows) x.clock j x.body) item (well.memories m lt).1 in
+        let fits : Fits (system_of f) (length (system_of f).flows) clock j t = subst
+        (λ (x : Item). Fits (system_of f) (length (system_of f).flows) x.clock j x.body) item (well.memories m lt).1 in
         let same : cond (is_there_at f v row clock) (read (system_of f) (named f v) row t) ((found f v).kept m) ≡ updated (system_of f) (named f v) row m =
         ap (λ (x : Item). cond (is_there_at f v row x.clock) (read (system_of f) (named f v) row x.body) ((found f v).kept m)) (sym item) in
         let on : clock_bit b.nodes flows.on clock v ≡ is_there_at f v row clock = clock_shown clock among v row instant in
         subst (Shows c.nodes v j refs) same
-        (chosen_shown c.nodes v j refs (is_there_at f v row clock) (read (system_of f) (named f v) row t) ((found f v).kept m) (bit b.nodes body v) (bit b.nodes (refs_at tables.kept m) v)
+        (chosen_shown c.nodes v j refs (is_there_at f v row clock) (read (system_of f) (named f v) row t) ((found f v).kept m) (bit b.nodes body v)
+        (bit b.nodes (refs_at tables.kept m) v)
         (λ n. s.means n v ∙ ap (λ x. cond x (bit b.nodes body v n) (bit b.nodes (refs_at tables.kept m) v n)) on)
         (λ nodes l there bits. shows_same b.nodes nodes v j body l (read (system_of f) (named f v) row t) bits (r.shows v row clock j instant fits there))
         (λ nodes l there bits. shows_same b.nodes nodes v j (refs_at tables.kept m) l ((found f v).kept m) bits (are_tables.kept m v lt)));
   };
 }
   where
-    clock_shown : (k : Option ℕ) → IsNamed (length flows.on) k → (v : Valuation) (row : List (Option Reading)) → IsSymbolic (system_of f) (named f v) row → clock_bit b.nodes flows.on k v ≡ is_there_at f v row k
+    clock_shown : (k : Option ℕ) → IsNamed (length flows.on) k → (v : Valuation) (row : List (Option Reading)) → IsSymbolic (system_of f) (named f v) row
+        → clock_bit b.nodes flows.on k v ≡ is_there_at f v row k
     clock_shown Nothing within v row instant = refl
     clock_shown (Some n) within v row instant = are_flows.on_shows n v row within instant

@@ -47,7 +47,8 @@ truth_small true = omega arith
 truth_small false = omega arith
 
 -- the bits of a type spell what a valuation gives it
-pub bits_show : (nodes : List Triple) (names : List Variable) (labels : List ℕ) (j : Kind) (owned : ℕ → Variable) (refs : List ℕ) (v : Valuation) (w : ℕ → Bool) (column : Form)
+pub bits_show : (nodes : List Triple) (names : List Variable) (labels : List ℕ) (j : Kind) (owned : ℕ → Variable) (refs : List ℕ) (v : Valuation) (w : ℕ → Bool)
+    (column : Form)
     → AreBits nodes names owned (bit_count labels j) refs → ((b : ℕ) → w b ≡ truth_at names v (owned b)) → Shows nodes v j refs (spelled labels j w column)
 bits_show nodes names labels kind.Bool owned refs v w column are same = (w 0, refl, number)
   where
@@ -60,18 +61,26 @@ bits_show nodes names labels (kind.Labels i) owned refs v w column are same = (c
     number : IsNumber nodes v refs (code (bits_for (slice_index_or labels i 0)) w)
     number b = elim (cases_lt b (bits_for (slice_index_or labels i 0))) [
       | inl lt ↦ are.means b v lt ∙ sym (same b) ∙ sym (bit_of_code (bits_for (slice_index_or labels i 0)) w b lt)
-      | inr le ↦ bit_none nodes refs v b (omega (arith, are.size)) ∙ sym (bit_past (code (bits_for (slice_index_or labels i 0)) w) (bits_for (slice_index_or labels i 0)) b (code_below (bits_for (slice_index_or labels i 0)) w) le)
+      | inr le ↦ bit_none nodes refs v b (omega (arith, are.size)) ∙ sym
+          (bit_past (code (bits_for (slice_index_or labels i 0)) w) (bits_for (slice_index_or labels i 0)) b
+          (code_below (bits_for (slice_index_or labels i 0)) w) le)
     ]
 
 kinds_same : (all ms : List FlatMemory) → map (λ (m : FlatMemory). m.kind) ms ≡ map (λ (y : Kept). y.kind) (map (kept_of all) ms)
 kinds_same all [] = refl
 kinds_same all (m ∷ ms) = ap (λ l. m.kind ∷ l) (kinds_same all ms)
 
-are_bits_kept : (a b : Diagrams) (names : List Variable) (owned : ℕ → Variable) (count : ℕ) (refs : List ℕ) → Extends a b → AreBits a.nodes names owned count refs → AreBits b.nodes names owned count refs
-are_bits_kept a b names owned count refs e are = record { size = are.size; found = refs_kept a b refs e are.found; means = λ n v lt. bits_kept a b refs e are.found v n ∙ are.means n v lt }
+are_bits_kept : (a b : Diagrams) (names : List Variable) (owned : ℕ → Variable) (count : ℕ) (refs : List ℕ) → Extends a b
+    → AreBits a.nodes names owned count refs → AreBits b.nodes names owned count refs
+are_bits_kept a b names owned count refs e are = record {
+  size = are.size;
+  found = refs_kept a b refs e are.found;
+  means = λ n v lt. bits_kept a b refs e are.found v n ∙ are.means n v lt;
+}
 
 -- every list has references of the store
-list_refs : (labels : List ℕ) (names : List Variable) (owned : ℕ → ℕ → Variable) (kinds : ℕ → Kind) (nodes : List Triple) (n : ℕ) (lists : List (List ℕ)) → length lists ≡ n → AreAllBits labels names owned kinds nodes n lists
+list_refs : (labels : List ℕ) (names : List Variable) (owned : ℕ → ℕ → Variable) (kinds : ℕ → Kind) (nodes : List Triple) (n : ℕ) (lists : List (List ℕ))
+    → length lists ≡ n → AreAllBits labels names owned kinds nodes n lists
     → (m : ℕ) → AreRefs nodes (refs_at lists m)
 list_refs labels names owned kinds nodes n lists size are m = elim (cases_lt m n) [
   | inl lt ↦ (are m lt).found
@@ -98,8 +107,10 @@ tables_read f old a b c t ticks kept given =
         kept_refs = list_refs labels names (memory_bit f) (kind_at (memory_kinds f)) c.nodes (length f.memories) t.kept kept.size all_kept;
         kept = λ m v lt.
             let inside : m < length f.memories = omega (arith, length-map f.memories (kept_of f.memories)) in
-            let same_kind : kind_at (memory_kinds f) m ≡ kind_at (trees.memory_kinds (system_of f)) m = ap (λ l. kind_at l m) (kinds_same f.memories f.memories) in
-            let place : slice_index_or (memory_places f) m [] ≡ slice_index_or (trees.memory_places (system_of f)) m [] = ap (λ (l : List Sites). slice_index_or l m []) (places_same f.memories f.memories) in
+            let same_kind : kind_at (memory_kinds f) m ≡ kind_at (trees.memory_kinds (system_of f)) m = ap (λ l. kind_at l m)
+            (kinds_same f.memories f.memories) in
+            let place : slice_index_or (memory_places f) m [] ≡ slice_index_or (trees.memory_places (system_of f)) m [] = ap
+            (λ (l : List Sites). slice_index_or l m []) (places_same f.memories f.memories) in
             bits_show c.nodes names labels (kind_at (trees.memory_kinds (system_of f)) m) (memory_bit f m) (refs_at t.kept m) v _ _
             (subst (λ (j : Kind). AreBits c.nodes names (memory_bit f m) (bit_count labels j) (refs_at t.kept m)) same_kind (all_kept m inside))
             (λ n. ap (λ (p : Sites). truth_at names v (lists.Kept p n)) (sym place));

@@ -12,7 +12,8 @@ use Rattle.rv_symbolic.specs.Growing.{Extends, Makes}
 use Rattle.rv_symbolic.proofs.Extending.{extends_trans, grows_extends}
 
 -- a conjunction of what was made in turn, the later first
-pub both_swapped : (a b c d : Diagrams) (f g : Numbered → Bool) (p q r : ℕ) → Makes a b f p → Makes b c g q → Answers c d (λ v. value_of c.nodes q v && value_of c.nodes p v) r → Makes a d (λ v. g v && f v) r
+pub both_swapped : (a b c d : Diagrams) (f g : Numbered → Bool) (p q r : ℕ) → Makes a b f p → Makes b c g q
+    → Answers c d (λ v. value_of c.nodes q v && value_of c.nodes p v) r → Makes a d (λ v. g v && f v) r
 both_swapped a b c d f g p q r m n t = record {
   extends = extends_trans a c d (extends_trans a b c m.extends n.extends) (grows_extends c d t.grows);
   found = t.found;
@@ -20,7 +21,8 @@ both_swapped a b c d f g p q r m n t = record {
 }
 
 -- a conjunction of what was made and of a reference that there was
-pub and_kept : (a b c : Diagrams) (f : Numbered → Bool) (p m r : ℕ) → Makes a b f p → IsRef a.nodes m → Answers b c (λ v. value_of b.nodes p v && value_of b.nodes m v) r → Makes a c (λ v. f v && value_of a.nodes m v) r
+pub and_kept : (a b c : Diagrams) (f : Numbered → Bool) (p m r : ℕ) → Makes a b f p → IsRef a.nodes m
+    → Answers b c (λ v. value_of b.nodes p v && value_of b.nodes m v) r → Makes a c (λ v. f v && value_of a.nodes m v) r
 and_kept a b c f p m r made is t = record {
   extends = extends_trans a b c made.extends (grows_extends b c t.grows);
   found = t.found;
@@ -31,7 +33,8 @@ pub initial_is : (s : System) (w : Valuation) → (none_ticked w s.ticks && memo
 unfolding is_initial
 initial_is s w = refl
 
-pub allowed_is : (s : System) (w : Valuation) (row : List (Option Reading)) → ((memories_named s.labels w s.memories && inputs_named s.labels w 0 s.inputs) && all_met s w row s.assertions) ≡ is_allowed s w row
+pub allowed_is : (s : System) (w : Valuation) (row : List (Option Reading))
+    → ((memories_named s.labels w s.memories && inputs_named s.labels w 0 s.inputs) && all_met s w row s.assertions) ≡ is_allowed s w row
 unfolding is_allowed
 allowed_is s w row = refl
 

@@ -41,10 +41,12 @@ met_at f v row x = is_met Reading (reads_at (system_of f) (named f v)) (found_at
 pub record IsMetRead (f : Flat) (old new : Diagrams) (x : Item) (r : ℕ) : Type 0 where
   pub extends : Extends old new
   pub is_ref : IsRef new.nodes r
-  pub means : (v : Valuation) (row : List (Option Reading)) → IsSymbolic (system_of f) (named f v) row → ItemFits (system_of f) (length (system_of f).flows) kind.Bool x → value_of new.nodes r v ≡ met_at f v row x
+  pub means : (v : Valuation) (row : List (Option Reading)) → IsSymbolic (system_of f) (named f v) row
+      → ItemFits (system_of f) (length (system_of f).flows) kind.Bool x → value_of new.nodes r v ≡ met_at f v row x
 
 -- The calls gave a reference that is true exactly where all assertions are true or absent.
 pub record AreMetRead (f : Flat) (old new : Diagrams) (xs : List Item) (r : ℕ) : Type 0 where
   pub extends : Extends old new
   pub is_ref : IsRef new.nodes r
-  pub means : (v : Valuation) (row : List (Option Reading)) → IsSymbolic (system_of f) (named f v) row → value_of new.nodes r v ≡ all_met (system_of f) (named f v) row xs
+  pub means : (v : Valuation) (row : List (Option Reading)) → IsSymbolic (system_of f) (named f v) row
+      → value_of new.nodes r v ≡ all_met (system_of f) (named f v) row xs

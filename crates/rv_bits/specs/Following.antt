@@ -35,7 +35,8 @@ kept_ref (kind.Labels i) refs b = ref_at refs b
 pub record IsTickRead (f : Flat) (old new : Diagrams) (k : ℕ) (r : ℕ) : Type 0 where
   pub extends : Extends old new
   pub is_ref : IsRef new.nodes r
-  pub means : (v : Valuation) (row : List (Option Reading)) → IsSymbolic (system_of f) (named f v) row → value_of new.nodes r v ≡ next_tick (system_of f) (named f v) row k
+  pub means : (v : Valuation) (row : List (Option Reading)) → IsSymbolic (system_of f) (named f v) row
+      → value_of new.nodes r v ≡ next_tick (system_of f) (named f v) row k
 
 -- The reference is a bit of what the memory at a place holds after the instant.
 pub record IsKeptBit (f : Flat) (nodes : List Triple) (p : Sites) (b : ℕ) (r : ℕ) : Type 0 where
@@ -47,7 +48,8 @@ pub record IsKeptBit (f : Flat) (nodes : List Triple) (p : Sites) (b : ℕ) (r :
 pub record IsNextRead (f : Flat) (old new : Diagrams) (x : Variable) (r : ℕ) : Type 0 where
   pub extends : Extends old new
   pub is_ref : IsRef new.nodes r
-  pub means : (v : Valuation) (row : List (Option Reading)) → IsSymbolic (system_of f) (named f v) row → value_of new.nodes r v ≡ next_truth (system_of f) (named f v) row x
+  pub means : (v : Valuation) (row : List (Option Reading)) → IsSymbolic (system_of f) (named f v) row
+      → value_of new.nodes r v ≡ next_truth (system_of f) (named f v) row x
 
 -- The references are what the first state bits are after the instant, as many as are said.
 pub record AreNextRead (f : Flat) (old new : Diagrams) (n : ℕ) (refs : List ℕ) : Type 0 where

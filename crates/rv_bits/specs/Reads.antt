@@ -33,7 +33,8 @@ pub record AreCountedIn (f : Flat) (old new : Diagrams) (es : FlatTrees) (refs :
   pub extends : Extends old new
   pub are_refs : AreRefs new.nodes refs
   pub counts : (v : Valuation) (row : List (Option Reading)) (k : Option ℕ) → IsSymbolic (system_of f) (named f v) row
-      → AllFit (system_of f) (length (system_of f).flows) k es → is_there_at f v row k ≡ true → count_true (length refs) (bit new.nodes refs v) ≡ true_at f v row es
+      → AllFit (system_of f) (length (system_of f).flows) k es → is_there_at f v row k ≡ true
+      → count_true (length refs) (bit new.nodes refs v) ≡ true_at f v row es
 
 -- The calls gave references that show what a memory holds after the instant.
 pub record ShowsTo (f : Flat) (old new : Diagrams) (m : ℕ) (refs : List ℕ) : Type 0 where

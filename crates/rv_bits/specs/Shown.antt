@@ -53,9 +53,11 @@ module _ (f : Flat) (nodes : List Triple) where
     pub tick_refs : AreRefs nodes t.ticks
     pub ticks : (k : ℕ) (v : Valuation) → k < length (system_of f).ticks → value_of nodes (ref_at t.ticks k) v ≡ (found f v).ticked k
     pub kept_refs : (m : ℕ) → AreRefs nodes (refs_at t.kept m)
-    pub kept : (m : ℕ) (v : Valuation) → m < length (system_of f).memories → Shows nodes v (kind_at (memory_kinds (system_of f)) m) (refs_at t.kept m) ((found f v).kept m)
+    pub kept : (m : ℕ) (v : Valuation) → m < length (system_of f).memories
+        → Shows nodes v (kind_at (memory_kinds (system_of f)) m) (refs_at t.kept m) ((found f v).kept m)
     pub given_refs : (j : ℕ) → AreRefs nodes (refs_at t.given j)
-    pub given : (j : ℕ) (v : Valuation) → j < length (system_of f).inputs → Shows nodes v (kind_at (system_of f).inputs j) (refs_at t.given j) ((found f v).given j)
+    pub given : (j : ℕ) (v : Valuation) → j < length (system_of f).inputs
+        → Shows nodes v (kind_at (system_of f).inputs j) (refs_at t.given j) ((found f v).given j)
 
   -- The references of the first flows show whether each is there and true, and what it has where it is there.
   pub record AreFlowRefs (r : FlowRefs) : Type 0 where

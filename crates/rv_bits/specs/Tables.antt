@@ -28,7 +28,8 @@ pub record AreTickRefs (names : List Variable) (old new : Diagrams) (ticks : Lis
   pub extends : Extends old new
   pub size : length refs ≡ length ticks
   pub found : AreRefs new.nodes refs
-  pub means : (k : ℕ) (v : Valuation) → k < length ticks → value_of new.nodes (ref_at refs k) v ≡ truth_at names v (tick_variable (slice_index_or ticks k Nothing))
+  pub means : (k : ℕ) (v : Valuation) → k < length ticks → value_of new.nodes (ref_at refs k) v ≡ truth_at names v
+      (tick_variable (slice_index_or ticks k Nothing))
 
 -- The references are those of the first bits of a memory or input, as many as are said.
 pub record AreBits (nodes : List Triple) (names : List Variable) (owned : ℕ → Variable) (count : ℕ) (refs : List ℕ) : Type 0 where
@@ -37,7 +38,8 @@ pub record AreBits (nodes : List Triple) (names : List Variable) (owned : ℕ �
   pub means : (b : ℕ) (v : Valuation) → b < count → bit nodes refs v b ≡ truth_at names v (owned b)
 
 -- The lists are those of the first memories or inputs, as many as are said.
-pub record AreBitLists (labels : List ℕ) (names : List Variable) (owned : ℕ → ℕ → Variable) (kinds : ℕ → Kind) (old new : Diagrams) (n : ℕ) (lists : List (List ℕ)) : Type 0 where
+pub record AreBitLists (labels : List ℕ) (names : List Variable) (owned : ℕ → ℕ → Variable) (kinds : ℕ → Kind) (old new : Diagrams) (n : ℕ)
+    (lists : List (List ℕ)) : Type 0 where
   pub extends : Extends old new
   pub size : length lists ≡ n
   pub each : (m : ℕ) → m < n → AreBits new.nodes names (owned m) (bit_count labels (kinds m)) (refs_at lists m)

@@ -32,7 +32,8 @@ pub record AreTablesRead (f : Flat) (old new : Diagrams) (t : Tables) : Type 0 w
 pub record IsRestRead (f : Flat) (old new : Diagrams) (r : Rest) : Type 0 where
   pub extends : Extends old new
   pub met_ref : IsRef new.nodes r.met
-  pub met : (v : Valuation) (row : List (Option Reading)) → IsSymbolic (system_of f) (named f v) row → value_of new.nodes r.met v ≡ all_met (system_of f) (named f v) row (system_of f).assertions
+  pub met : (v : Valuation) (row : List (Option Reading)) → IsSymbolic (system_of f) (named f v) row
+      → value_of new.nodes r.met v ≡ all_met (system_of f) (named f v) row (system_of f).assertions
   pub observer_ref : IsRef new.nodes r.observer
   pub observer : (v : Valuation) (row : List (Option Reading)) → IsSymbolic (system_of f) (named f v) row
       → value_of new.nodes r.observer v ≡ is_on Reading (reads_at (system_of f) (named f v)) (observed (system_of f) (named f v) row)
@@ -45,7 +46,8 @@ pub record IsRestRead (f : Flat) (old new : Diagrams) (r : Rest) : Type 0 where
 pub record ArePartsRead (f : Flat) (old new : Diagrams) (p : Parts) : Type 0 where
   pub extends : Extends old new
   pub allowed_ref : IsRef new.nodes p.allowed
-  pub allowed : (v : Valuation) (row : List (Option Reading)) → IsSymbolic (system_of f) (named f v) row → value_of new.nodes p.allowed v ≡ is_allowed (system_of f) (named f v) row
+  pub allowed : (v : Valuation) (row : List (Option Reading)) → IsSymbolic (system_of f) (named f v) row
+      → value_of new.nodes p.allowed v ≡ is_allowed (system_of f) (named f v) row
   pub observer_ref : IsRef new.nodes p.observer
   pub observer : (v : Valuation) (row : List (Option Reading)) → IsSymbolic (system_of f) (named f v) row
       → value_of new.nodes p.observer v ≡ is_on Reading (reads_at (system_of f) (named f v)) (observed (system_of f) (named f v) row)

@@ -54,7 +54,8 @@ pub fn memories_named(
     flat: &Flat,
     kept: &Many<Many<Ref>>,
 ) -> Result<Ref, StoreFault>
-    requires { AreAllBits (label_counts flat.now) (map variable_of flat.now.variables) (memory_bit flat.now) (kind_at (memory_kinds flat.now)) store.old.nodes (length flat.now.memories) kept.now }
+    requires { AreAllBits (label_counts flat.now) (map variable_of flat.now.variables) (memory_bit flat.now) (kind_at (memory_kinds flat.now)) store.old.nodes
+        (length flat.now.memories) kept.now }
     ensures ok { IfOk result (Makes store.old store.new (λ v. are_memories (label_counts flat.now) (named flat.now v) (system_of flat.now).memories)) }
     ensures roomy { IsErrOf result StoreFault.Nodes → store.old.limit < 2 ^ (2 ^ store.old.variables) }
 {
@@ -72,7 +73,8 @@ pub fn inputs_named(
     flat: &Flat,
     given: &Many<Many<Ref>>,
 ) -> Result<Ref, StoreFault>
-    requires { AreAllBits (label_counts flat.now) (map variable_of flat.now.variables) Input (kind_at (input_kinds flat.now)) store.old.nodes (length flat.now.inputs) given.now }
+    requires { AreAllBits (label_counts flat.now) (map variable_of flat.now.variables) Input (kind_at (input_kinds flat.now)) store.old.nodes
+        (length flat.now.inputs) given.now }
     ensures ok { IfOk result (Makes store.old store.new (λ v. are_inputs (label_counts flat.now) (named flat.now v) 0 (system_of flat.now).inputs)) }
     ensures roomy { IsErrOf result StoreFault.Nodes → store.old.limit < 2 ^ (2 ^ store.old.variables) }
 {

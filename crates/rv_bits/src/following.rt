@@ -132,7 +132,8 @@ fn bit_after(kind: Kind, refs: &[Ref], number: u32) -> Ref
 
 /// A bit of what the memory at a place holds after the instant.
 fn kept_after(flat: &Flat, after: &Many<Many<Ref>>, place: &Place, number: u32) -> Ref
-    ensures { (old new : Diagrams) → AreAfters flat.now old new (length flat.now.memories) after.now → IsKeptBit flat.now new.nodes place.now.sites number result }
+    ensures { (old new : Diagrams) → AreAfters flat.now old new (length flat.now.memories) after.now
+        → IsKeptBit flat.now new.nodes place.now.sites number result }
 {
     let memory = memory_number(flat.memories.as_slice(), place);
     match flat.memories.get(memory) {

@@ -42,7 +42,8 @@ fn both_tests(store: &mut Store, variables: &[Bit], at: &Place) -> Result<Ref, S
     requires few { length variables.now ≤ 4096 }
     requires variables { length variables.now ≤ store.old.variables }
     ensures ok { IfOk result (Makes store.old store.new
-        (λ v. truth_at (map variable_of variables.now) v (Test at.now.sites AtMost) && truth_at (map variable_of variables.now) v (Test at.now.sites AtLeast))) }
+        (λ v. truth_at (map variable_of variables.now) v (Test at.now.sites AtMost) && truth_at (map variable_of variables.now) v
+        (Test at.now.sites AtLeast))) }
     ensures roomy { IsErrOf result StoreFault.Nodes → store.old.limit < 2 ^ (2 ^ store.old.variables) }
 {
     let at_most = test(store, variables, at, Side::AtMost)?;
@@ -84,7 +85,8 @@ fn differs(
     requires variables { length variables.now ≤ store.old.variables }
     requires left { AreRefs store.old.nodes left.now }
     requires right { AreRefs store.old.nodes right.now }
-    ensures ok { IfOk result (Makes store.old store.new (λ v. not (same_by store.old.nodes (map variable_of variables.now) at.now.sites left.now right.now v))) }
+    ensures ok { IfOk result (Makes store.old store.new (λ v. not (same_by store.old.nodes (map variable_of variables.now) at.now.sites left.now
+        right.now v))) }
     ensures roomy { IsErrOf result StoreFault.Nodes → store.old.limit < 2 ^ (2 ^ store.old.variables) }
 {
     let found = same(store, variables, at, left, right)?;
@@ -105,7 +107,8 @@ fn implies(store: &mut Store, a: Ref, b: Ref) -> Result<Ref, StoreFault>
 fn exclusive(store: &mut Store, a: Ref, b: Ref) -> Result<Ref, StoreFault>
     requires a { IsRef store.old.nodes a }
     requires b { IsRef store.old.nodes b }
-    ensures ok { IfOk result (Makes store.old store.new (λ v. cond (value_of store.old.nodes a v) (not (value_of store.old.nodes b v)) (value_of store.old.nodes b v))) }
+    ensures ok { IfOk result (Makes store.old store.new (λ v. cond (value_of store.old.nodes a v) (not (value_of store.old.nodes b v))
+        (value_of store.old.nodes b v))) }
     ensures roomy { IsErrOf result StoreFault.Nodes → store.old.limit < 2 ^ (2 ^ store.old.variables) }
 {
     let not_b = store.not(b)?;
@@ -147,7 +150,8 @@ pub fn operated(
     requires variables { length variables.now ≤ store.old.variables }
     requires left { AreRefs store.old.nodes left.now }
     requires right { AreRefs store.old.nodes right.now }
-    ensures ok { IfOk result (Makes store.old store.new (λ v. operated_by store.old.nodes (map variable_of variables.now) at.now.sites left.now right.now v op)) }
+    ensures ok { IfOk result (Makes store.old store.new (λ v. operated_by store.old.nodes (map variable_of variables.now) at.now.sites left.now
+        right.now v op)) }
     ensures roomy { IsErrOf result StoreFault.Nodes → store.old.limit < 2 ^ (2 ^ store.old.variables) }
 {
     match op {

@@ -101,7 +101,8 @@ fn read_binary(
     requires shown { AreAfter around.now.flat.now store.old.nodes shown.old }
     requires left { IsOver (length around.now.read.now.on) (tree_in around.now left.now) }
     requires right { IsOver (length around.now.read.now.on) (tree_in around.now right.now) }
-    ensures ok { IfOk result (ReadsTo around.now.flat.now store.old store.new (Node at.now.sites (Binary op (tree_in around.now left.now) (tree_in around.now right.now)))) }
+    ensures ok { IfOk result (ReadsTo around.now.flat.now store.old store.new
+        (Node at.now.sites (Binary op (tree_in around.now left.now) (tree_in around.now right.now)))) }
     ensures shown { OnOk result (AreAfter around.now.flat.now store.new.nodes shown.new) }
     ensures roomy { IsErrOf result StoreFault.Nodes → store.old.limit < 2 ^ (2 ^ store.old.variables) }
 {
@@ -212,7 +213,8 @@ fn read_at_most_one(
     requires around { IsAround store.old around.now }
     requires shown { AreAfter around.now.flat.now store.old.nodes shown.old }
     requires over { AreOver (length around.now.read.now.on) (trees_in around.now operands.now) }
-    ensures ok { IfOk result (λ refs. (at : Sites) → ReadsTo around.now.flat.now store.old store.new (Node at (AtMostOne (trees_in around.now operands.now))) refs) }
+    ensures ok { IfOk result (λ refs. (at : Sites) → ReadsTo around.now.flat.now store.old store.new (Node at (AtMostOne (trees_in around.now operands.now)))
+        refs) }
     ensures shown { OnOk result (AreAfter around.now.flat.now store.new.nodes shown.new) }
     ensures roomy { IsErrOf result StoreFault.Nodes → store.old.limit < 2 ^ (2 ^ store.old.variables) }
 {
@@ -249,7 +251,8 @@ fn after_body(
 ) -> Result<Many<Ref>, StoreFault>
     requires around { IsAround store.old around.now }
     requires body { AreRefs store.old.nodes body.now }
-    ensures ok { IfOk result (Spells store.old store.new (λ b v. cond (clock_bit store.old.nodes around.now.read.now.on clock v) (bit store.old.nodes body.now v b)
+    ensures ok { IfOk result (Spells store.old store.new (λ b v. cond (clock_bit store.old.nodes around.now.read.now.on clock v)
+        (bit store.old.nodes body.now v b)
         (bit store.old.nodes (refs_at around.now.tables.now.kept number) v b))) }
     ensures roomy { IsErrOf result StoreFault.Nodes → store.old.limit < 2 ^ (2 ^ store.old.variables) }
 {

@@ -62,7 +62,8 @@ pub fn memory_refs(
     flat: &Flat,
 ) -> Result<Many<Many<Ref>>, StoreFault>
     requires { length flat.now.variables ≤ store.old.variables }
-    ensures ok { IfOk result (AreBitLists (label_counts flat.now) (map variable_of flat.now.variables) (memory_bit flat.now) (kind_at (memory_kinds flat.now)) store.old store.new (length flat.now.memories)) }
+    ensures ok { IfOk result (AreBitLists (label_counts flat.now) (map variable_of flat.now.variables) (memory_bit flat.now) (kind_at (memory_kinds flat.now))
+        store.old store.new (length flat.now.memories)) }
     ensures roomy { IsErrOf result StoreFault.Nodes → store.old.limit < 2 ^ (2 ^ store.old.variables) }
 {
     let mut lists = Many::new(alloc);
@@ -81,7 +82,8 @@ pub fn input_refs(
     flat: &Flat,
 ) -> Result<Many<Many<Ref>>, StoreFault>
     requires { length flat.now.variables ≤ store.old.variables }
-    ensures ok { IfOk result (AreBitLists (label_counts flat.now) (map variable_of flat.now.variables) Input (kind_at (input_kinds flat.now)) store.old store.new (length flat.now.inputs)) }
+    ensures ok { IfOk result (AreBitLists (label_counts flat.now) (map variable_of flat.now.variables) Input (kind_at (input_kinds flat.now)) store.old
+        store.new (length flat.now.inputs)) }
     ensures roomy { IsErrOf result StoreFault.Nodes → store.old.limit < 2 ^ (2 ^ store.old.variables) }
 {
     let mut lists = Many::new(alloc);

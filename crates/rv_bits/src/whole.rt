@@ -56,7 +56,8 @@ pub fn read_tables(alloc: Global, store: &mut Store, flat: &Flat) -> Result<Tabl
 pub fn read_initial(store: &mut Store, flat: &Flat, tables: &Tables) -> Result<Ref, StoreFault>
     requires tables { AreTables flat.now store.old.nodes tables.now }
     requires size { length tables.now.ticks ≡ length (system_of flat.now).ticks }
-    requires kept { AreAllBits (label_counts flat.now) (map variable_of flat.now.variables) (memory_bit flat.now) (kind_at (memory_kinds flat.now)) store.old.nodes (length flat.now.memories) tables.now.kept }
+    requires kept { AreAllBits (label_counts flat.now) (map variable_of flat.now.variables) (memory_bit flat.now) (kind_at (memory_kinds flat.now))
+        store.old.nodes (length flat.now.memories) tables.now.kept }
     ensures ok { IfOk result (Makes store.old store.new (λ v. is_initial (system_of flat.now) (named flat.now v))) }
     ensures roomy { IsErrOf result StoreFault.Nodes → store.old.limit < 2 ^ (2 ^ store.old.variables) }
 {
@@ -72,8 +73,10 @@ pub fn read_coded(
     tables: &Tables,
     met: Ref,
 ) -> Result<Ref, StoreFault>
-    requires kept { AreAllBits (label_counts flat.now) (map variable_of flat.now.variables) (memory_bit flat.now) (kind_at (memory_kinds flat.now)) store.old.nodes (length flat.now.memories) tables.now.kept }
-    requires given { AreAllBits (label_counts flat.now) (map variable_of flat.now.variables) Input (kind_at (input_kinds flat.now)) store.old.nodes (length flat.now.inputs) tables.now.given }
+    requires kept { AreAllBits (label_counts flat.now) (map variable_of flat.now.variables) (memory_bit flat.now) (kind_at (memory_kinds flat.now))
+        store.old.nodes (length flat.now.memories) tables.now.kept }
+    requires given { AreAllBits (label_counts flat.now) (map variable_of flat.now.variables) Input (kind_at (input_kinds flat.now)) store.old.nodes
+        (length flat.now.inputs) tables.now.given }
     requires met { IsRef store.old.nodes met }
     ensures ok { IfOk result (Makes store.old store.new (λ v. (are_memories (label_counts flat.now) (named flat.now v) (system_of flat.now).memories
         && are_inputs (label_counts flat.now) (named flat.now v) 0 (system_of flat.now).inputs) && value_of store.old.nodes met v)) }

@@ -1,5 +1,6 @@
 -- Cases that are cut out of others.
-use Rattle.std.proofs.Common.{◌≡◌, ◌⊎◌, ℕ, ◌+◌, ◌<◌, ◌≤◌, Bool, true, false, ◌&&◌, List, [], ◌∷◌, ◌++◌, length, Option, Some, slice_get, arith, refl, sym, ap, ◌∙◌, subst, inl, inr}
+use Rattle.std.proofs.Common.{◌≡◌, ◌⊎◌, ℕ, ◌+◌, ◌<◌, ◌≤◌, Bool, true, false, ◌&&◌, List, [], ◌∷◌, ◌++◌, length, Option, Some, slice_get, arith, refl, sym, ap}
+use Rattle.std.proofs.Common.{◌∙◌, subst, inl, inr}
 use Rattle.std.proofs.Common.{None as Nothing}
 use Rattle.std.specs.Prelude.{MatchOption, MatchBool}
 use Rattle.std.proofs.lemmas.Bool.{cases_lt}
@@ -96,107 +97,108 @@ push_kept xs x y k at =
 push_last : {X : Type 0} (xs : List X) (x : X) → slice_get (xs ++ x ∷ []) (length xs) ≡ Some x
 push_last xs x = slice_get-get_or (xs ++ x ∷ []) (length xs) x (omega (arith, length_push xs x)) ∙ ap Some (get_or_push xs x x (length xs) refl)
 
-module _ (s : System) (is : IsSystem s) (from : Frozen) (known : List Case) (are : AreCases s from known) (control : Frozen) (set : IsControlSet s control) where
-  pub cut_start : AreCut s known 0 control []
-  cut_start = record {
-    each = λ j c at. absurd (none c at);
-    covered = λ v i b l at on inside. absurd (omega (arith, l));
-    apart = λ i j b c v at. absurd (none b at);
-    within = λ j c v at. absurd (none c at);
-  }
-    where
-      none : (c : Case) → Nothing ≡ Some c → ⊥
-      none c e = cc
-
-  module _ (n : ℕ) (c : Case) (here : slice_get known n ≡ Some c) where
-    same_there : (i : ℕ) (b : Case) → i ≡ n → slice_get known i ≡ Some b → b ≡ c
-    same_there i b e at = same_Some b c (sym at ∙ ap (slice_get known) e ∙ here)
-
-    cut_none : (old : List Case) → AreCut s known n control old → ((v : Valuation) → both_of c.condition control v ≡ false)
-        → AreCut s known (n + 1) control old
-    cut_none old h none = record {
-      each = h.each;
-      covered = λ v i b l at on inside. go v i b at on inside l (cases_lt i n);
-      apart = h.apart;
-      within = λ j x v at on. let (inside, (i, b, l, there, i_on)) = h.within j x v at on in (inside, (i, b, omega (arith, l), there, i_on));
+module _ (s : System) (is : IsSystem s) (from : Frozen) (known : List Case) (are : AreCases s from known) (control : Frozen) (set : IsControlSet s control)
+  where
+    pub cut_start : AreCut s known 0 control []
+    cut_start = record {
+      each = λ j c at. absurd (none c at);
+      covered = λ v i b l at on inside. absurd (omega (arith, l));
+      apart = λ i j b c v at. absurd (none b at);
+      within = λ j c v at. absurd (none c at);
     }
       where
-        go : (v : Valuation) (i : ℕ) (b : Case) → slice_get known i ≡ Some b → IsIn b.condition v → IsIn control v → i < n + 1 → (i < n) ⊎ (n ≤ i)
-            → (j : ℕ) × (x : Case) × (slice_get old j ≡ Some x) × IsIn x.condition v
-        go v i b at on inside l (inl less) = h.covered v i b less at on inside
-        go v i b at on inside l (inr more) =
-            let e : i ≡ n = omega (arith, l, more) in
-            let on_c : IsIn c.condition v = subst (λ (x : Case). IsIn x.condition v) (same_there i b e at) on in
-            absurd (clash (both_of c.condition control v) (true_both (has c.condition v) (has control v) on_c inside) (none v))
+        none : (c : Case) → Nothing ≡ Some c → ⊥
+        none c e = cc
 
-    module _ (old : List Case) (h : AreCut s known n control old) (cut : Case) (f : Frozen) (meet : IsMeet s.variables c.condition control f)
-        (made : cut ≡ case_with c f) where
-      there : (v : Valuation) → IsIn cut.condition v → IsIn c.condition v × IsIn control v
-      there v i = inside_both s is c (are.each n c here) control set f meet v (subst (λ (x : Case). IsIn x.condition v) made i)
+    module _ (n : ℕ) (c : Case) (here : slice_get known n ≡ Some c) where
+      same_there : (i : ℕ) (b : Case) → i ≡ n → slice_get known i ≡ Some b → b ≡ c
+      same_there i b e at = same_Some b c (sym at ∙ ap (slice_get known) e ∙ here)
 
-      new_case : IsCaseOf s cut
-      new_case = subst (λ (x : Case). IsCaseOf s x) (sym made) (cut_case s is c (are.each n c here) control set f meet)
-
-      -- an older one is not in the last of the known ones
-      older : (j : ℕ) (x : Case) (v : Valuation) → slice_get old j ≡ Some x → IsIn x.condition v → IsIn cut.condition v → ⊥
-      older j x v at on i =
-          let (inside, (k, b, l, k_at, k_on)) = h.within j x v at on in
-          let e : k ≡ n = are.apart k n b c v k_at here k_on (there v i).0 in
-          omega (arith, l, e)
-
-      cut_some : AreCut s known (n + 1) control (old ++ cut ∷ [])
-      cut_some = record {
-        each = λ j x at. each x j (push_before old cut x j at);
+      cut_none : (old : List Case) → AreCut s known n control old → ((v : Valuation) → both_of c.condition control v ≡ false)
+          → AreCut s known (n + 1) control old
+      cut_none old h none = record {
+        each = h.each;
         covered = λ v i b l at on inside. go v i b at on inside l (cases_lt i n);
-        apart = λ i j b x v b_at x_at b_on x_on. apart i j b x v (push_before old cut b i b_at) (push_before old cut x j x_at) b_on x_on;
-        within = λ j x v at on. within x v j (push_before old cut x j at) on;
+        apart = h.apart;
+        within = λ j x v at on. let (inside, (i, b, l, there, i_on)) = h.within j x v at on in (inside, (i, b, omega (arith, l), there, i_on));
       }
         where
-          each : (x : Case) (j : ℕ) → (slice_get old j ≡ Some x) ⊎ ((j ≡ length old) × (cut ≡ x)) → IsCaseOf s x
-          each x j (inl at) = h.each j x at
-          each x j (inr (e, same)) = subst (λ (y : Case). IsCaseOf s y) same new_case
-
           go : (v : Valuation) (i : ℕ) (b : Case) → slice_get known i ≡ Some b → IsIn b.condition v → IsIn control v → i < n + 1 → (i < n) ⊎ (n ≤ i)
-              → (j : ℕ) × (x : Case) × (slice_get (old ++ cut ∷ []) j ≡ Some x) × IsIn x.condition v
-          go v i b at on inside l (inl less) =
-              let (j, x, j_at, j_on) = h.covered v i b less at on inside in (j, x, push_kept old cut x j j_at, j_on)
+              → (j : ℕ) × (x : Case) × (slice_get old j ≡ Some x) × IsIn x.condition v
+          go v i b at on inside l (inl less) = h.covered v i b less at on inside
           go v i b at on inside l (inr more) =
               let e : i ≡ n = omega (arith, l, more) in
               let on_c : IsIn c.condition v = subst (λ (x : Case). IsIn x.condition v) (same_there i b e at) on in
-              let on_f : IsIn f v = meet.exact v ∙ true_both (has c.condition v) (has control v) on_c inside in
-              (length old, cut, push_last old cut, subst (λ (x : Case). IsIn x.condition v) (sym made) on_f)
+              absurd (clash (both_of c.condition control v) (true_both (has c.condition v) (has control v) on_c inside) (none v))
 
-          apart : (i j : ℕ) (b x : Case) (v : Valuation) → (slice_get old i ≡ Some b) ⊎ ((i ≡ length old) × (cut ≡ b))
-              → (slice_get old j ≡ Some x) ⊎ ((j ≡ length old) × (cut ≡ x)) → IsIn b.condition v → IsIn x.condition v → i ≡ j
-          apart i j b x v (inl b_at) (inl x_at) b_on x_on = h.apart i j b x v b_at x_at b_on x_on
-          apart i j b x v (inl b_at) (inr (e, same)) b_on x_on =
-              absurd (older i b v b_at b_on (subst (λ (y : Case). IsIn y.condition v) (sym same) x_on))
-          apart i j b x v (inr (e, same)) (inl x_at) b_on x_on =
-              absurd (older j x v x_at x_on (subst (λ (y : Case). IsIn y.condition v) (sym same) b_on))
-          apart i j b x v (inr (e, _)) (inr (d, _)) b_on x_on = e ∙ sym d
+      module _ (old : List Case) (h : AreCut s known n control old) (cut : Case) (f : Frozen) (meet : IsMeet s.variables c.condition control f)
+          (made : cut ≡ case_with c f) where
+        there : (v : Valuation) → IsIn cut.condition v → IsIn c.condition v × IsIn control v
+        there v i = inside_both s is c (are.each n c here) control set f meet v (subst (λ (x : Case). IsIn x.condition v) made i)
 
-          within : (x : Case) (v : Valuation) (j : ℕ) → (slice_get old j ≡ Some x) ⊎ ((j ≡ length old) × (cut ≡ x)) → IsIn x.condition v
-              → IsIn control v × ((i : ℕ) × (b : Case) × (i < n + 1) × (slice_get known i ≡ Some b) × IsIn b.condition v)
-          within x v j (inl at) on = let (inside, (i, b, l, i_at, i_on)) = h.within j x v at on in (inside, (i, b, omega (arith, l), i_at, i_on))
-          within x v j (inr (e, same)) on =
-              let (on_c, inside) = there v (subst (λ (y : Case). IsIn y.condition v) (sym same) on) in
-              (inside, (n, c, omega arith, here, on_c))
+        new_case : IsCaseOf s cut
+        new_case = subst (λ (x : Case). IsCaseOf s x) (sym made) (cut_case s is c (are.each n c here) control set f meet)
 
-    -- one case more
-    pub cut_more : (m : ℕ) (old new : List Case) → m ≡ s.variables → AreCut s known n control old → HasCut m c control old new
-        → AreCut s known (n + 1) control new
-    cut_more m old new variables h (inl (none, same)) = subst (λ (xs : List Case). AreCut s known (n + 1) control xs) (sym same) (cut_none old h none)
-    cut_more m old new variables h (inr (cut, is_cut, same)) =
-        subst (λ (xs : List Case). AreCut s known (n + 1) control xs) (sym same)
-        (cut_some old h cut is_cut.condition (subst (λ (k : ℕ). IsMeet k c.condition control is_cut.condition) variables is_cut.meet) is_cut.is)
+        -- an older one is not in the last of the known ones
+        older : (j : ℕ) (x : Case) (v : Valuation) → slice_get old j ≡ Some x → IsIn x.condition v → IsIn cut.condition v → ⊥
+        older j x v at on i =
+            let (inside, (k, b, l, k_at, k_on)) = h.within j x v at on in
+            let e : k ≡ n = are.apart k n b c v k_at here k_on (there v i).0 in
+            omega (arith, l, e)
 
-  -- all of them
-  pub cut_all : (n : ℕ) (cases : List Case) → n ≡ length known → AreCut s known n control cases
-      → ((v : Valuation) → has control v ≡ true → has from v ≡ true) → AreCases s control cases
-  cut_all n cases e h within = record {
-    each = h.each;
-    covered = λ v allowed i. let (k, b, at, on) = are.covered v allowed (within v i) in
-        h.covered v k b (let l = slice_get_within known k b at in omega (arith, l, e)) at on i;
-    apart = h.apart;
-    within = λ j c v at on. (h.within j c v at on).0;
-  }
+        cut_some : AreCut s known (n + 1) control (old ++ cut ∷ [])
+        cut_some = record {
+          each = λ j x at. each x j (push_before old cut x j at);
+          covered = λ v i b l at on inside. go v i b at on inside l (cases_lt i n);
+          apart = λ i j b x v b_at x_at b_on x_on. apart i j b x v (push_before old cut b i b_at) (push_before old cut x j x_at) b_on x_on;
+          within = λ j x v at on. within x v j (push_before old cut x j at) on;
+        }
+          where
+            each : (x : Case) (j : ℕ) → (slice_get old j ≡ Some x) ⊎ ((j ≡ length old) × (cut ≡ x)) → IsCaseOf s x
+            each x j (inl at) = h.each j x at
+            each x j (inr (e, same)) = subst (λ (y : Case). IsCaseOf s y) same new_case
+
+            go : (v : Valuation) (i : ℕ) (b : Case) → slice_get known i ≡ Some b → IsIn b.condition v → IsIn control v → i < n + 1 → (i < n) ⊎ (n ≤ i)
+                → (j : ℕ) × (x : Case) × (slice_get (old ++ cut ∷ []) j ≡ Some x) × IsIn x.condition v
+            go v i b at on inside l (inl less) =
+                let (j, x, j_at, j_on) = h.covered v i b less at on inside in (j, x, push_kept old cut x j j_at, j_on)
+            go v i b at on inside l (inr more) =
+                let e : i ≡ n = omega (arith, l, more) in
+                let on_c : IsIn c.condition v = subst (λ (x : Case). IsIn x.condition v) (same_there i b e at) on in
+                let on_f : IsIn f v = meet.exact v ∙ true_both (has c.condition v) (has control v) on_c inside in
+                (length old, cut, push_last old cut, subst (λ (x : Case). IsIn x.condition v) (sym made) on_f)
+
+            apart : (i j : ℕ) (b x : Case) (v : Valuation) → (slice_get old i ≡ Some b) ⊎ ((i ≡ length old) × (cut ≡ b))
+                → (slice_get old j ≡ Some x) ⊎ ((j ≡ length old) × (cut ≡ x)) → IsIn b.condition v → IsIn x.condition v → i ≡ j
+            apart i j b x v (inl b_at) (inl x_at) b_on x_on = h.apart i j b x v b_at x_at b_on x_on
+            apart i j b x v (inl b_at) (inr (e, same)) b_on x_on =
+                absurd (older i b v b_at b_on (subst (λ (y : Case). IsIn y.condition v) (sym same) x_on))
+            apart i j b x v (inr (e, same)) (inl x_at) b_on x_on =
+                absurd (older j x v x_at x_on (subst (λ (y : Case). IsIn y.condition v) (sym same) b_on))
+            apart i j b x v (inr (e, _)) (inr (d, _)) b_on x_on = e ∙ sym d
+
+            within : (x : Case) (v : Valuation) (j : ℕ) → (slice_get old j ≡ Some x) ⊎ ((j ≡ length old) × (cut ≡ x)) → IsIn x.condition v
+                → IsIn control v × ((i : ℕ) × (b : Case) × (i < n + 1) × (slice_get known i ≡ Some b) × IsIn b.condition v)
+            within x v j (inl at) on = let (inside, (i, b, l, i_at, i_on)) = h.within j x v at on in (inside, (i, b, omega (arith, l), i_at, i_on))
+            within x v j (inr (e, same)) on =
+                let (on_c, inside) = there v (subst (λ (y : Case). IsIn y.condition v) (sym same) on) in
+                (inside, (n, c, omega arith, here, on_c))
+
+      -- one case more
+      pub cut_more : (m : ℕ) (old new : List Case) → m ≡ s.variables → AreCut s known n control old → HasCut m c control old new
+          → AreCut s known (n + 1) control new
+      cut_more m old new variables h (inl (none, same)) = subst (λ (xs : List Case). AreCut s known (n + 1) control xs) (sym same) (cut_none old h none)
+      cut_more m old new variables h (inr (cut, is_cut, same)) =
+          subst (λ (xs : List Case). AreCut s known (n + 1) control xs) (sym same)
+          (cut_some old h cut is_cut.condition (subst (λ (k : ℕ). IsMeet k c.condition control is_cut.condition) variables is_cut.meet) is_cut.is)
+
+    -- all of them
+    pub cut_all : (n : ℕ) (cases : List Case) → n ≡ length known → AreCut s known n control cases
+        → ((v : Valuation) → has control v ≡ true → has from v ≡ true) → AreCases s control cases
+    cut_all n cases e h within = record {
+      each = h.each;
+      covered = λ v allowed i. let (k, b, at, on) = are.covered v allowed (within v i) in
+          h.covered v k b (let l = slice_get_within known k b at in omega (arith, l, e)) at on i;
+      apart = h.apart;
+      within = λ j c v at on. (h.within j c v at on).0;
+    }

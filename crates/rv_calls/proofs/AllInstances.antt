@@ -1,12 +1,14 @@
 -- Where no node reaches itself, unrolling gives all instances.
-use Rattle.std.proofs.Common.{◌≡◌, ℕ, zero, suc, ◌-◌, ◌<◌, ◌≤◌, ◌⊎◌, inl, inr, Bool, true, false, List, [], ◌∷◌, ◌++◌, length, get_or, set, replicate, refl, sym, ◌∙◌, ap, subst, arith}
+use Rattle.std.proofs.Common.{◌≡◌, ℕ, zero, suc, ◌-◌, ◌<◌, ◌≤◌, ◌⊎◌, inl, inr, Bool, true, false, List, [], ◌∷◌, ◌++◌, length, get_or, set, replicate, refl}
+use Rattle.std.proofs.Common.{sym, ◌∙◌, ap, subst, arith}
 use Rattle.std.specs.List.{Contains, flat_map}
 use Rattle.std.proofs.lemmas.List.{length-set, length-replicate, get_or-set_other, get_or-replicate}
 use Rattle.std.proofs.lemmas.List.Elements.{Contains-append_left, Contains-append_right, Contains-append_cases, Contains-get_or}
 use Rattle.rv_tree.specs.Tree.{NodeTree, ProgramTree}
 use Rattle.rv_tree.specs.Places.{Identifier, is_among, index_of}
 use Rattle.rv_types.specs.Names.{name_faults}
-use Rattle.rv_types.specs.Instances.{CallTree, calls, Instance, no_node, node_of, callee, unrolled, all_instances, main_instance, IsInstance, is_main, is_callee}
+use Rattle.rv_types.specs.Instances.{CallTree, calls, Instance, no_node, node_of, callee, unrolled, all_instances, main_instance, IsInstance, is_main}
+use Rattle.rv_types.specs.Instances.{is_callee}
 use Rattle.rv_calls.specs.Reach.{Reaches, itself, by_call, HasNoRecursion}
 use Rattle.rv_calls.specs.Graphs.{falses}
 use Rattle.rv_instances.specs.AllInstances.{names_of}
@@ -14,13 +16,15 @@ use Rattle.rv_calls.proofs.Walks.{snoc_at, snoc_front, snoc_length, set_falses}
 use Rattle.rv_instances.proofs.Known.{cons_cases, nothing_in, called, calls_declared, node_of_number}
 
 -- different numbers below a bound are no more than the bound
-pigeons : (xs : List ℕ) (bs : List Bool) → ((i : ℕ) → i < length xs → get_or xs i 0 < length bs) → ((i : ℕ) → i < length xs → get_or bs (get_or xs i 0) false ≡ false)
+pigeons : (xs : List ℕ) (bs : List Bool) → ((i : ℕ) → i < length xs → get_or xs i 0 < length bs)
+    → ((i : ℕ) → i < length xs → get_or bs (get_or xs i 0) false ≡ false)
     → ((i j : ℕ) → i < j → j < length xs → get_or xs i 0 ≡ get_or xs j 0 → ⊥) → length xs ≤ falses bs
 pigeons [] bs within free apart = omega arith
 pigeons (x ∷ xs) bs within free apart =
     let more = pigeons xs (set bs x true)
     (λ i lt. let n = length-set bs x true in let h = within (suc i) (omega (arith, lt)) in omega (arith, n, h))
-    (λ i lt. get_or-set_other bs x (get_or xs i 0) true false (λ e. apart 0 (suc i) (omega arith) (omega (arith, lt)) (sym e)) ∙ free (suc i) (omega (arith, lt)))
+    (λ i lt. get_or-set_other bs x (get_or xs i 0) true false (λ e. apart 0 (suc i) (omega arith) (omega (arith, lt)) (sym e))
+    ∙ free (suc i) (omega (arith, lt)))
     (λ i j less lt. apart (suc i) (suc j) (omega (arith, less)) (omega (arith, lt))) in
     let one = set_falses bs x (within 0 (omega arith)) (free 0 (omega arith)) in
     omega (arith, more, one)
@@ -29,11 +33,13 @@ all_false : (n : ℕ) → falses (replicate n false) ≡ n
 all_false zero = refl
 all_false (suc n) = let h = all_false n in omega (arith, h)
 
-pub pigeonhole : (n : ℕ) (xs : List ℕ) → ((i : ℕ) → i < length xs → get_or xs i 0 < n) → ((i j : ℕ) → i < j → j < length xs → get_or xs i 0 ≡ get_or xs j 0 → ⊥) → length xs ≤ n
+pub pigeonhole : (n : ℕ) (xs : List ℕ) → ((i : ℕ) → i < length xs → get_or xs i 0 < n) → ((i j : ℕ) → i < j → j < length xs → get_or xs i 0 ≡ get_or xs j 0 → ⊥)
+    → length xs ≤ n
 pigeonhole n xs within apart =
     let l = length-replicate {A = Bool} n false in
     let f = all_false n in
-    let h = pigeons xs (replicate n false) (λ i lt. let h = within i lt in omega (arith, l, h)) (λ i lt. get_or-replicate {A = Bool} n (get_or xs i 0) false false (within i lt)) apart in
+    let h = pigeons xs (replicate n false) (λ i lt. let h = within i lt in omega (arith, l, h))
+    (λ i lt. get_or-replicate {A = Bool} n (get_or xs i 0) false false (within i lt)) apart in
     omega (arith, h, f)
 
 -- what reaches a node reaches what that calls
@@ -67,7 +73,8 @@ deep_contains p (suc levels) a left i (inr d) =
     Contains-append_right (a ∷ []) (flat_map (λ (c : CallTree). unrolled p levels (callee p a c)) (calls a.node)) i
     (in_flat_map (λ (c : CallTree). unrolled p levels (callee p a c)) (calls a.node) d.0 i d.1 (deep_contains p levels (callee p a d.0) left i d.2))
 
-deep_step : (p : ProgramTree) (levels : ℕ) (a : Instance) (left : ℕ) (i : Instance) (c : CallTree) → Deep p levels a (suc left) i → Contains (calls i.node) c → Deep p levels a left (callee p i c)
+deep_step : (p : ProgramTree) (levels : ℕ) (a : Instance) (left : ℕ) (i : Instance) (c : CallTree) → Deep p levels a (suc left) i → Contains (calls i.node) c
+    → Deep p levels a left (callee p i c)
 deep_step p zero a left i c d w = absurd d
 deep_step p (suc levels) a left i c (inl d) w =
     inr (
@@ -79,7 +86,8 @@ deep_step p (suc levels) a left i c (inl d) w =
 deep_step p (suc levels) a left i c (inr d) w = inr (d.0, d.1, deep_step p levels (callee p a d.0) left i c d.2 w)
 
 -- what is unrolled from an instance are instances
-pub only_instances : (p : ProgramTree) (main : Identifier) (levels : ℕ) (a i : Instance) → IsInstance p main a → Contains (unrolled p levels a) i → IsInstance p main i
+pub only_instances : (p : ProgramTree) (main : Identifier) (levels : ℕ) (a i : Instance) → IsInstance p main a → Contains (unrolled p levels a) i
+    → IsInstance p main i
 only_instances p main zero a i is w = nothing_in i w
 only_instances p main (suc levels) a i is w = elim (cons_cases a (flat_map (λ (c : CallTree). unrolled p levels (callee p a c)) (calls a.node)) i w) [
   | inl same ↦ subst (IsInstance p main) same is
@@ -110,7 +118,8 @@ module _ (p : ProgramTree) (main : Identifier) (named : name_faults p ≡ []) (n
         node_is = to.1;
         within = λ j lt. subst (λ k. get_or (index_of (names_of p) main ∷ []) k 0 < length p.nodes) (let z : 0 ≡ j = omega (arith, lt) in z) to.0;
         apart = λ j k less lt e. omega (arith, less, lt);
-        reaches = λ j lt. subst (λ k. Reaches p (node_of p main).name.text (get_or p.nodes (get_or (index_of (names_of p) main ∷ []) k 0) no_node).name.text) (let z : 0 ≡ j = omega (arith, lt) in z)
+        reaches = λ j lt. subst (λ k. Reaches p (node_of p main).name.text (get_or p.nodes (get_or (index_of (names_of p) main ∷ []) k 0) no_node).name.text)
+            (let z : 0 ≡ j = omega (arith, lt) in z)
             (subst (λ (n : NodeTree). Reaches p (node_of p main).name.text n.name.text) to.1 itself);
         some = omega arith;
       }
@@ -120,7 +129,8 @@ module _ (p : ProgramTree) (main : Identifier) (named : name_faults p ≡ []) (n
       let at_node : Contains p.nodes i.node = subst (Contains p.nodes) (sym t.node_is) (Contains-get_or p.nodes t.number no_node t.is_node) in
       let to = called p named c.name (calls_declared p named i.node c at_node w) in
       let k = index_of (names_of p) c.name in
-      let itself_node : node_of p i.node.name.text ≡ i.node = ap (λ (n : NodeTree). node_of p n.name.text) t.node_is ∙ node_of_number p named t.number t.is_node ∙ sym t.node_is in
+      let itself_node : node_of p i.node.name.text ≡ i.node = ap (λ (n : NodeTree). node_of p n.name.text) t.node_is ∙ node_of_number p named t.number t.is_node
+      ∙ sym t.node_is in
       let in_node : Contains (calls (node_of p i.node.name.text)) c = subst (λ (n : NodeTree). Contains (calls n) c) (sym itself_node) w in
       let last_name : (node_of p c.name).name.text ≡ c.name = ap (λ (n : NodeTree). n.name.text) to.1 ∙ to.2 in
       record {

@@ -20,12 +20,14 @@ among_append (x ∷ xs) ys z = regroup (is_same x z) (is_among (xs ++ ys) z) (is
     regroup true b c d e = refl
     regroup false b c d e = e
 
-pub with_distinct : (ys : List Identifier) (before xs : List Name) → repeated before xs ≡ [] → ((z : Identifier) → is_among ys z ≡ is_declared before z) → with_names ys (texts xs) ≡ ys ++ texts xs
+pub with_distinct : (ys : List Identifier) (before xs : List Name) → repeated before xs ≡ [] → ((z : Identifier) → is_among ys z ≡ is_declared before z)
+    → with_names ys (texts xs) ≡ ys ++ texts xs
 with_distinct ys before [] e same = sym (append-nil ys)
 with_distinct ys before (x ∷ xs) e same =
     let new : is_among ys x.text ≡ false = same x.text ∙ not_before before (x ∷ xs) e 0 (omega arith) in
     ap (λ b. with_names (cond b ys (ys ++ x.text ∷ [])) (texts xs)) new
-    ∙ with_distinct (ys ++ x.text ∷ []) (x ∷ before) xs (split_nil (cond (is_declared before x.text) (DefinedTwice x.at ∷ []) []) (repeated (x ∷ before) xs) e).1
+    ∙ with_distinct (ys ++ x.text ∷ []) (x ∷ before) xs (split_nil (cond (is_declared before x.text) (DefinedTwice x.at ∷ []) []) (repeated (x ∷ before) xs)
+    e).1
     (λ z. among_append ys (x.text ∷ []) z ∙ turned (is_among ys z) (is_same x.text z) (is_declared before z) (same z))
     ∙ append_assoc ys (x.text ∷ []) (texts xs)
   where
@@ -41,6 +43,7 @@ declared_texts [] = refl
 declared_texts (n ∷ ns) = ap (λ l. n.name.text ∷ l) (declared_texts ns)
 
 -- the names of the nodes of a program, collected
-pub collected : (ns : List declared.Node) (names : List Identifier) → repeated [] (map (λ (n : NodeTree). n.name) (map node_tree ns)) ≡ [] → names ≡ with_names [] (node_texts ns) → names ≡ texts (map (λ (n : NodeTree). n.name) (map node_tree ns))
+pub collected : (ns : List declared.Node) (names : List Identifier) → repeated [] (map (λ (n : NodeTree). n.name) (map node_tree ns)) ≡ []
+    → names ≡ with_names [] (node_texts ns) → names ≡ texts (map (λ (n : NodeTree). n.name) (map node_tree ns))
 collected ns names once is =
     is ∙ ap (with_names []) (sym (declared_texts ns)) ∙ with_distinct [] [] (map (λ (n : NodeTree). n.name) (map node_tree ns)) once (λ z. refl)

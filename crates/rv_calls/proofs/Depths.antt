@@ -1,5 +1,6 @@
 -- How a search in depth goes on, whatever it finds.
-use Rattle.std.proofs.Common.{◌≡◌, ℕ, ◌+◌, ◌-◌, ◌<◌, inl, inr, true, false, List, [], ◌∷◌, ◌++◌, length, get_or, set, take, replicate, sym, ◌∙◌, ap, subst, arith, length-take-le}
+use Rattle.std.proofs.Common.{◌≡◌, ℕ, ◌+◌, ◌-◌, ◌<◌, inl, inr, true, false, List, [], ◌∷◌, ◌++◌, length, get_or, set, take, replicate, sym, ◌∙◌, ap, subst}
+use Rattle.std.proofs.Common.{arith, length-take-le}
 use Rattle.std.proofs.lemmas.List.{length-replicate, length-set}
 use Rattle.rv_calls.specs.Graphs.{Graph, falses}
 use Rattle.rv_calls.specs.declared.graph.Walk.{Walk}
@@ -38,7 +39,8 @@ vertices_rest g vs rest v are is = (
 
 -- the search at its start
 pub depth_start : (g : Graph) (w : Walk)
-    → (w.entered ≡ replicate (length g) false) × (w.finished ≡ replicate (length g) false) × (w.cursor ≡ replicate (length g) 0) × (w.path ≡ []) × (w.order ≡ []) → IsDepth g w
+    → (w.entered ≡ replicate (length g) false) × (w.finished ≡ replicate (length g) false) × (w.cursor ≡ replicate (length g) 0) × (w.path ≡ [])
+    × (w.order ≡ []) → IsDepth g w
 depth_start g w e = record {
   entered = ap length e.0 ∙ length-replicate (length g) false;
   finished = ap length e.1 ∙ length-replicate (length g) false;
@@ -69,7 +71,13 @@ module _ (g : Graph) where
       → new ≡ record w { finished = set w.finished v true; path = take (length w.path - 1) w.path; order = w.order ++ v ∷ [] } → IsDepth g new
   step_left w d v new within is = subst (IsDepth g) (sym is) after
     where
-      after : IsDepth g (record { entered = w.entered; finished = set w.finished v true; cursor = w.cursor; path = take (length w.path - 1) w.path; order = w.order ++ v ∷ [] })
+      after : IsDepth g (record {
+        entered = w.entered;
+        finished = set w.finished v true;
+        cursor = w.cursor;
+        path = take (length w.path - 1) w.path;
+        order = w.order ++ v ∷ [];
+      })
       after = record {
         entered = d.entered;
         finished = length-set w.finished v true ∙ d.finished;
@@ -89,7 +97,8 @@ module _ (g : Graph) (w : Walk) (d : IsDepth g w) where
   -- One step of the search, over what `next_new` leaves.
   module _ (mid : Walk) (is : mid ≡ record w { cursor = mid.cursor }) (size : length mid.cursor ≡ length g) where
     pub left_step : (v : ℕ) (new : Walk) → 0 < length w.path → get_or w.path (length w.path - 1) 0 ≡ v
-        → new ≡ record mid { finished = set mid.finished v true; path = take (length mid.path - 1) mid.path; order = mid.order ++ v ∷ [] } → IsDepth g new × (weight new < weight w)
+        → new ≡ record mid { finished = set mid.finished v true; path = take (length mid.path - 1) mid.path; order = mid.order ++ v ∷ [] }
+        → IsDepth g new × (weight new < weight w)
     left_step v new some last new_is = (
       step_left g mid (turned mid is size) v new (top_within v some last) new_is,
       (let p = ap length (ap (λ (m : Walk). m.path) new_is) in
@@ -101,7 +110,8 @@ module _ (g : Graph) (w : Walk) (d : IsDepth g w) where
     )
 
     pub went_step : (child : ℕ) (new : Walk) → child < length g → get_or w.entered child false ≡ false
-        → new ≡ record mid { entered = set mid.entered child true; cursor = set mid.cursor child 0; path = mid.path ++ child ∷ [] } → IsDepth g new × (weight new < weight w)
+        → new ≡ record mid { entered = set mid.entered child true; cursor = set mid.cursor child 0; path = mid.path ++ child ∷ [] }
+        → IsDepth g new × (weight new < weight w)
     went_step child new within free new_is = (
       step_entered g mid (turned mid is size) child new within new_is,
       (let p = ap (λ (m : Walk). length m.path) new_is ∙ snoc_length mid.path child in

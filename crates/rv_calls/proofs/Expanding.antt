@@ -17,7 +17,12 @@ pub flat_map_same : {X Y : Type 0} (f g : X → List Y) (xs : List X) → ((x : 
 flat_map_same f g [] each = refl
 flat_map_same f g (x ∷ xs) each =
     let here = each x (0, omega arith, refl) in
-    let more = flat_map_same f g xs (λ y w. each y (w.0 + 1, (let lt = w.1 in omega (arith, lt)), ap (λ k. get_or (x ∷ xs) k y) (let e : w.0 + 1 ≡ suc w.0 = omega arith in e) ∙ w.2)) in
+    let more = flat_map_same f g xs (λ y w. each y (
+      w.0 + 1,
+      (let lt = w.1 in omega (arith, lt)),
+      ap (λ k. get_or (x ∷ xs) k y)
+          (let e : w.0 + 1 ≡ suc w.0 = omega arith in e) ∙ w.2,
+    )) in
     λ i. here i ++ more i
 
 module _ (t : List (List Calling)) (order : List ℕ) (ordered : IsOrdered (call_graph t) order) where
@@ -28,7 +33,8 @@ module _ (t : List (List Calling)) (order : List ℕ) (ordered : IsOrdered (call
   enough (suc n) j (suc a) zero path less lt la lb = absurd (omega (arith, lb))
   enough (suc n) j (suc a) (suc b) path less lt la lb =
       ap (λ l. record { path = path; node = get_or order j 0 } ∷ l)
-      (flat_map_same (λ (c : Calling). listed t a (path ++ c.site ∷ []) c.callee) (λ (c : Calling). listed t b (path ++ c.site ∷ []) c.callee) (get_or t (get_or order j 0) [])
+      (flat_map_same (λ (c : Calling). listed t a (path ++ c.site ∷ []) c.callee) (λ (c : Calling). listed t b (path ++ c.site ∷ []) c.callee)
+      (get_or t (get_or order j 0) [])
       (λ c w.
       let e = edge_of t (get_or order j 0) c w in
       let v = ordered.after j e.0 lt e.1 in
@@ -37,18 +43,21 @@ module _ (t : List (List Calling)) (order : List ℕ) (ordered : IsOrdered (call
       (enough n v.0 a b (path ++ c.site ∷ []) (omega (arith, below, less)) (omega (arith, below, lt)) (omega (arith, below, la)) (omega (arith, below, lb)))))
 
   -- all below a node are the node and all below what it calls
-  pub listed_step : (k : ℕ) (path : List ℕ) → k < length t → all_listed t path k ≡ record { path = path; node = k } ∷ flat_map (λ (c : Calling). all_listed t (path ++ c.site ∷ []) c.callee) (get_or t k [])
+  pub listed_step : (k : ℕ) (path : List ℕ) → k < length t → all_listed t path k ≡ record { path = path; node = k }
+      ∷ flat_map (λ (c : Calling). all_listed t (path ++ c.site ∷ []) c.callee) (get_or t k [])
   listed_step k path lt =
       let size = length_map callees t in
       let at = contains_at order k (ordered.all k (omega (arith, size, lt))) in
       let few = ordered.size in
       let less = at.1 in
       subst (λ k. listed t (length t) path k ≡ listed t (suc (length t)) path k) at.2
-      (enough (suc (length order)) at.0 (length t) (suc (length t)) path (omega (arith, less)) less (omega (arith, less, few, size)) (omega (arith, less, few, size)))
+      (enough (suc (length order)) at.0 (length t) (suc (length t)) path (omega (arith, less)) less (omega (arith, less, few, size))
+      (omega (arith, less, few, size)))
 
 ahead_push : (t : List (List Calling)) (ws : List Instance) (w : Instance) → ahead t (ws ++ w ∷ []) ≡ all_listed t w.path w.node ++ ahead t ws
 ahead_push t [] w = sym (append-nil (all_listed t w.path w.node))
-ahead_push t (v ∷ ws) w = ap (λ l. l ++ all_listed t v.path v.node) (ahead_push t ws w) ∙ append_assoc (all_listed t w.path w.node) (ahead t ws) (all_listed t v.path v.node)
+ahead_push t (v ∷ ws) w = ap (λ l. l ++ all_listed t v.path v.node) (ahead_push t ws w)
+    ∙ append_assoc (all_listed t w.path w.node) (ahead t ws) (all_listed t v.path v.node)
 
 ahead_callees : (t : List (List Calling)) (path : List ℕ) (ws : List Instance) (cs : List Calling)
     → ahead t (ws ++ reverse (map (called_instance path) cs)) ≡ flat_map (λ (c : Calling). all_listed t (path ++ c.site ∷ []) c.callee) cs ++ ahead t ws
@@ -77,7 +86,8 @@ expansion_start t root lt = record {
 }
 
 -- the next that waits is a node
-pub expansion_next : (t : List (List Calling)) (root : ℕ) (found waiting rest : List Instance) (i : Instance) → IsExpansion t root found waiting → waiting ≡ rest ++ i ∷ [] → i.node < length t
+pub expansion_next : (t : List (List Calling)) (root : ℕ) (found waiting rest : List Instance) (i : Instance) → IsExpansion t root found waiting
+    → waiting ≡ rest ++ i ∷ [] → i.node < length t
 expansion_next t root found waiting rest i is taken = is.within i (subst (λ l. Contains l i) (sym taken) (Contains-push rest i))
 
 module _ (t : List (List Calling)) (graph : IsGraph (call_graph t)) (order : List ℕ) (ordered : IsOrdered (call_graph t) order) where
@@ -119,12 +129,14 @@ module _ (t : List (List Calling)) (graph : IsGraph (call_graph t)) (order : Lis
   ahead_less waiting rest next i lt taken is = let e = ap length (ahead_next waiting rest next i lt taken is) in omega (arith, e)
 
 -- nothing waits
-pub expansion_end : (t : List (List Calling)) (root : ℕ) (found waiting : List Instance) → IsExpansion t root found waiting → waiting ≡ [] → found ≡ all_listed t [] root
+pub expansion_end : (t : List (List Calling)) (root : ℕ) (found waiting : List Instance) → IsExpansion t root found waiting → waiting ≡ []
+    → found ≡ all_listed t [] root
 expansion_end t root found waiting is none = sym (append-nil found) ∙ ap (λ l. found ++ ahead t l) (sym none) ∙ is.whole
 
 -- a loop over calls from the last to the first
 pub callees_more : (path : List ℕ) (calls : List Calling) (old now : List Instance) (k : ℕ) (c : Calling) → k < length calls → c ≡ get_or calls k c
-    → now ≡ old ++ reverse (map (called_instance path) (drop (k + 1) calls)) → now ++ called_instance path c ∷ [] ≡ old ++ reverse (map (called_instance path) (drop k calls))
+    → now ≡ old ++ reverse (map (called_instance path) (drop (k + 1) calls))
+    → now ++ called_instance path c ∷ [] ≡ old ++ reverse (map (called_instance path) (drop k calls))
 callees_more path calls old now k c lt is inv =
     ap (λ l. l ++ called_instance path c ∷ []) inv
     ∙ append_assoc old (reverse (map (called_instance path) (drop (k + 1) calls))) (called_instance path c ∷ [])

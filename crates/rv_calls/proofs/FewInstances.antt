@@ -37,11 +37,13 @@ place_of [] ys each k d lt = absurd (omega (arith, lt))
 place_of (x ∷ xs) ys each zero d lt = let w = each x (0, omega arith, refl) in (w.1, get_or_default ys w.0 d x w.1 ∙ w.2)
 place_of (x ∷ xs) ys each (suc k) d lt = place_of xs ys (λ y w. each y (Contains-append_right (x ∷ []) xs y w)) k d (omega (arith, lt))
 
-module _ (p : ProgramTree) (main : Identifier) (named : name_faults p ≡ []) (none : HasNoRecursion p) (declared : is_among (names_of p) main ≡ true) (instances : List Numbered) (are : AreInstances p main instances) where
+module _ (p : ProgramTree) (main : Identifier) (named : name_faults p ≡ []) (none : HasNoRecursion p) (declared : is_among (names_of p) main ≡ true)
+    (instances : List Numbered) (are : AreInstances p main instances) where
   among : (x : Numbered) → Contains instances x → Contains (map (numbered p) (all_instances p main)) x
   among x w =
       let v = are.only x w in
-      subst (Contains (map (numbered p) (all_instances p main))) (sym v.2) (in_map (numbered p) (all_instances p main) v.0 (all_found p main named none declared v.0 v.1))
+      subst (Contains (map (numbered p) (all_instances p main))) (sym v.2)
+      (in_map (numbered p) (all_instances p main) v.0 (all_found p main named none declared v.0 v.1))
 
   pub few_instances : length instances ≤ instance_count p main
   few_instances =
@@ -58,7 +60,8 @@ module _ (p : ProgramTree) (main : Identifier) (named : name_faults p ≡ []) (n
       (subst (λ (x : Numbered). IsBefore x.path (get_or instances j d).path) same (are.rising i j d less (omega (arith, lt, size))))) in
       omega (arith, h, size, many)
 
-pub expanded_program : (p : ProgramTree) (main : ℕ) (instances : List Numbered) → IsBounded p → name_faults p ≡ [] → AreSited p → AreWell p → HasNoRecursion p → main < length p.nodes → AreInstances p (name_at p main) instances
+pub expanded_program : (p : ProgramTree) (main : ℕ) (instances : List Numbered) → IsBounded p → name_faults p ≡ [] → AreSited p → AreWell p → HasNoRecursion p
+    → main < length p.nodes → AreInstances p (name_at p main) instances
     → instance_count p (name_at p main) ≤ 4000 → IsExpanded p (name_at p main) instances
 expanded_program p main instances bounded named sited well none lt are few =
     let declared = name_declared p named main lt in

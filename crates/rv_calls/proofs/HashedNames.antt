@@ -1,5 +1,6 @@
 -- What a set of names by their hashes answers, in the words of lists of names.
-use Rattle.std.proofs.Common.{◌≡◌, ℕ, ◌+◌, Bool, true, false, not, cond, ◌||◌, List, [], ◌∷◌, ◌++◌, length, refl, ap, nat_eq, nat_lt, position, Some, IfSome, arith}
+use Rattle.std.proofs.Common.{◌≡◌, ℕ, ◌+◌, Bool, true, false, not, cond, ◌||◌, List, [], ◌∷◌, ◌++◌, length, refl, ap, nat_eq, nat_lt, position, Some, IfSome}
+use Rattle.std.proofs.Common.{arith}
 use Rattle.std.proofs.Common.{None as Nothing}
 use Rattle.std.specs.List.{list_any, position_or_len}
 use Rattle.std.specs.Cmp.{nat_eq_equiv, partial_equiv_from_equiv}

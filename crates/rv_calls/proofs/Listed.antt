@@ -34,7 +34,8 @@ abbrev AreRising : List Numbered → Type 0
 AreRising [] = Unit {0}
 AreRising (x ∷ xs) = ((y : Numbered) → Contains xs y → IsBefore x.path y.path) × AreRising xs
 
-rising_append : (xs ys : List Numbered) → AreRising xs → AreRising ys → ((x y : Numbered) → Contains xs x → Contains ys y → IsBefore x.path y.path) → AreRising (xs ++ ys)
+rising_append : (xs ys : List Numbered) → AreRising xs → AreRising ys → ((x y : Numbered) → Contains xs x → Contains ys y → IsBefore x.path y.path)
+    → AreRising (xs ++ ys)
 rising_append [] ys p q across = q
 rising_append (x ∷ xs) ys p q across = (
   λ y w. elim (Contains-append_cases xs ys y w) [
@@ -56,18 +57,21 @@ HaveRisingSites [] = Unit {0}
 HaveRisingSites (c ∷ cs) = ((d : Calling) → Contains cs d → c.site < d.site) × HaveRisingSites cs
 
 -- what is listed below a path begins with that
-under : (t : List (List Calling)) (levels : ℕ) (path : List ℕ) (k : ℕ) (x : Numbered) → Contains (listed t levels path k) x → (rest : List ℕ) × (x.path ≡ path ++ rest)
+under : (t : List (List Calling)) (levels : ℕ) (path : List ℕ) (k : ℕ) (x : Numbered) → Contains (listed t levels path k) x
+    → (rest : List ℕ) × (x.path ≡ path ++ rest)
 under t zero path k x w = nothing_in x w
-under t (suc levels) path k x w = elim (cons_cases (record { path = path; node = k }) (flat_map (λ (c : Calling). listed t levels (path ++ c.site ∷ []) c.callee) (get_or t k [])) x w) [
-  | inl same ↦ ([], ap (λ (n : Numbered). n.path) (sym same) ∙ sym (append-nil path))
-  | inr rest ↦
-      let c = of_flat_map (λ (c : Calling). listed t levels (path ++ c.site ∷ []) c.callee) (get_or t k []) x rest in
-      let u = under t levels (path ++ c.0.site ∷ []) c.0.callee x c.2 in
-      (c.0.site ∷ u.0, u.1 ∙ append_assoc path (c.0.site ∷ []) u.0)
-]
+under t (suc levels) path k x w = elim (cons_cases (record { path = path; node = k })
+    (flat_map (λ (c : Calling). listed t levels (path ++ c.site ∷ []) c.callee) (get_or t k [])) x w) [
+      | inl same ↦ ([], ap (λ (n : Numbered). n.path) (sym same) ∙ sym (append-nil path))
+      | inr rest ↦
+          let c = of_flat_map (λ (c : Calling). listed t levels (path ++ c.site ∷ []) c.callee) (get_or t k []) x rest in
+          let u = under t levels (path ++ c.0.site ∷ []) c.0.callee x c.2 in
+          (c.0.site ∷ u.0, u.1 ∙ append_assoc path (c.0.site ∷ []) u.0)
+    ]
 
 module _ (t : List (List Calling)) (sites : (k : ℕ) → HaveRisingSites (get_or t k [])) where
-  rising_below : (levels : ℕ) (path : List ℕ) (cs : List Calling) → ((c : Calling) → AreRising (listed t levels (path ++ c.site ∷ []) c.callee)) → HaveRisingSites cs
+  rising_below : (levels : ℕ) (path : List ℕ) (cs : List Calling) → ((c : Calling) → AreRising (listed t levels (path ++ c.site ∷ []) c.callee))
+      → HaveRisingSites cs
       → AreRising (flat_map (λ (c : Calling). listed t levels (path ++ c.site ∷ []) c.callee) cs)
   rising_below levels path [] each s = tt
   rising_below levels path (c ∷ cs) each s =
@@ -121,11 +125,14 @@ count_in s [] k d lt e = absurd (omega (arith, lt))
 count_in s (c ∷ cs) zero d lt e = let h = one_is s c e in let sums = sum_by-cons (one s) c cs in omega (arith, h, sums)
 count_in s (c ∷ cs) (suc k) d lt e = let h = count_in s cs k d (omega (arith, lt)) e in let sums = sum_by-cons (one s) c cs in omega (arith, h, sums)
 
-count_two : (s : ℕ) (cs : List Calling) (i j : ℕ) (d : Calling) → i < j → j < length cs → (get_or cs i d).site ≡ s → (get_or cs j d).site ≡ s → 2 ≤ sum_by (one s) cs
+count_two : (s : ℕ) (cs : List Calling) (i j : ℕ) (d : Calling) → i < j → j < length cs → (get_or cs i d).site ≡ s → (get_or cs j d).site ≡ s
+    → 2 ≤ sum_by (one s) cs
 count_two s [] i j d less lt e f = absurd (omega (arith, lt))
 count_two s (c ∷ cs) i zero d less lt e f = absurd (omega (arith, less))
-count_two s (c ∷ cs) zero (suc j) d less lt e f = let h = one_is s c e in let k = count_in s cs j d (omega (arith, lt)) f in let sums = sum_by-cons (one s) c cs in omega (arith, h, k, sums)
-count_two s (c ∷ cs) (suc i) (suc j) d less lt e f = let h = count_two s cs i j d (omega (arith, less)) (omega (arith, lt)) e f in let sums = sum_by-cons (one s) c cs in omega (arith, h, sums)
+count_two s (c ∷ cs) zero (suc j) d less lt e f = let h = one_is s c e in let k = count_in s cs j d (omega (arith, lt)) f in
+    let sums = sum_by-cons (one s) c cs in omega (arith, h, k, sums)
+count_two s (c ∷ cs) (suc i) (suc j) d less lt e f = let h = count_two s cs i j d (omega (arith, less)) (omega (arith, lt)) e f in
+    let sums = sum_by-cons (one s) c cs in omega (arith, h, sums)
 
 count_none : (s : ℕ) (cs : List Calling) → ((k : ℕ) (d : Calling) → k < length cs → (get_or cs k d).site ≡ s → ⊥) → sum_by (one s) cs ≡ 0
 count_none s [] none = refl
@@ -191,12 +198,14 @@ module _ (p : ProgramTree) (named : name_faults p ≡ []) (sited : AreSited p) (
   ]
 
   -- a call, sorted
-  in_sorted : (k : ℕ) (c : CallTree) → k < length p.nodes → Contains (calls (get_or p.nodes k no_node)) c → Contains (get_or sorted k []) (calling (names_of p) c)
+  in_sorted : (k : ℕ) (c : CallTree) → k < length p.nodes → Contains (calls (get_or p.nodes k no_node)) c
+      → Contains (get_or sorted k []) (calling (names_of p) c)
   in_sorted k c lt w =
       Contains-permutation (get_or (callings_of p) k []) (get_or sorted k []) (calling (names_of p) c)
       (are.each k (let n = table_size p named in omega (arith, n, lt))).same (tabled p named k c lt w)
 
-  of_sorted : (k : ℕ) (c : Calling) → k < length p.nodes → Contains (get_or sorted k []) c → (d : CallTree) × Contains (calls (get_or p.nodes k no_node)) d × (calling (names_of p) d ≡ c)
+  of_sorted : (k : ℕ) (c : Calling) → k < length p.nodes → Contains (get_or sorted k []) c
+      → (d : CallTree) × Contains (calls (get_or p.nodes k no_node)) d × (calling (names_of p) d ≡ c)
   of_sorted k c lt w =
       untabled p named k c lt
       (Contains-permutation (get_or sorted k []) (get_or (callings_of p) k []) c
@@ -205,7 +214,8 @@ module _ (p : ProgramTree) (named : name_faults p ≡ []) (sited : AreSited p) (
   number_is : (k : ℕ) (i : Instance) → k < length p.nodes → i.node ≡ get_or p.nodes k no_node → numbered p i ≡ record { path = i.path; node = k }
   number_is k i lt is = ap (λ n. record { path = i.path; node = n }) (ap (λ (n : NodeTree). index_of (names_of p) n.name.text) is ∙ number_of_node p named k lt)
 
-  listed_all : (levels : ℕ) (a : Instance) (k : ℕ) (i : Instance) → k < length p.nodes → a.node ≡ get_or p.nodes k no_node → Contains (unrolled p levels a) i → Contains (listed sorted levels a.path k) (numbered p i)
+  listed_all : (levels : ℕ) (a : Instance) (k : ℕ) (i : Instance) → k < length p.nodes → a.node ≡ get_or p.nodes k no_node → Contains (unrolled p levels a) i
+      → Contains (listed sorted levels a.path k) (numbered p i)
   listed_all zero a k i lt is w = nothing_in i w
   listed_all (suc levels) a k i lt is w = elim (cons_cases a (flat_map (λ (c : CallTree). unrolled p levels (callee p a c)) (calls a.node)) i w) [
     | inl same ↦ subst (λ (j : Instance). Contains (listed sorted (suc levels) a.path k) (numbered p j)) same
@@ -214,24 +224,29 @@ module _ (p : ProgramTree) (named : name_faults p ≡ []) (sited : AreSited p) (
         let c = of_flat_map (λ (c : CallTree). unrolled p levels (callee p a c)) (calls a.node) i rest in
         let here = subst (λ (n : NodeTree). Contains (calls n) c.0) is c.1 in
         let to = called p named c.0.name (calls_declared p named (get_or p.nodes k no_node) c.0 (Contains-get_or p.nodes k no_node lt) here) in
-        Contains-append_right (record { path = a.path; node = k } ∷ []) (flat_map (λ (c : Calling). listed sorted levels (a.path ++ c.site ∷ []) c.callee) (get_or sorted k [])) (numbered p i)
-        (in_flat_map (λ (c : Calling). listed sorted levels (a.path ++ c.site ∷ []) c.callee) (get_or sorted k []) (calling (names_of p) c.0) (numbered p i) (in_sorted k c.0 lt here)
+        Contains-append_right (record { path = a.path; node = k } ∷ [])
+        (flat_map (λ (c : Calling). listed sorted levels (a.path ++ c.site ∷ []) c.callee) (get_or sorted k [])) (numbered p i)
+        (in_flat_map (λ (c : Calling). listed sorted levels (a.path ++ c.site ∷ []) c.callee) (get_or sorted k []) (calling (names_of p) c.0) (numbered p i)
+        (in_sorted k c.0 lt here)
         (listed_all levels (callee p a c.0) (index_of (names_of p) c.0.name) i to.0 to.1 c.2))
   ]
 
   module _ (main : Identifier) where
-    listed_only : (levels : ℕ) (a : Instance) (k : ℕ) (x : Numbered) → IsInstance p main a → k < length p.nodes → a.node ≡ get_or p.nodes k no_node → Contains (listed sorted levels a.path k) x
+    listed_only : (levels : ℕ) (a : Instance) (k : ℕ) (x : Numbered) → IsInstance p main a → k < length p.nodes → a.node ≡ get_or p.nodes k no_node
+        → Contains (listed sorted levels a.path k) x
         → (i : Instance) × IsInstance p main i × (x ≡ numbered p i)
     listed_only zero a k x inst lt is w = nothing_in x w
-    listed_only (suc levels) a k x inst lt is w = elim (cons_cases (record { path = a.path; node = k }) (flat_map (λ (c : Calling). listed sorted levels (a.path ++ c.site ∷ []) c.callee) (get_or sorted k [])) x w) [
-      | inl same ↦ (a, inst, sym same ∙ sym (number_is k a lt is))
-      | inr rest ↦
-          let c = of_flat_map (λ (c : Calling). listed sorted levels (a.path ++ c.site ∷ []) c.callee) (get_or sorted k []) x rest in
-          let d = of_sorted k c.0 lt c.1 in
-          let to = called p named d.0.name (calls_declared p named (get_or p.nodes k no_node) d.0 (Contains-get_or p.nodes k no_node lt) d.1) in
-          listed_only levels (callee p a d.0) (index_of (names_of p) d.0.name) x (is_callee d.0 inst (subst (λ (n : NodeTree). Contains (calls n) d.0) (sym is) d.1)) to.0 to.1
-          (subst (λ (e : Calling). Contains (listed sorted levels (a.path ++ e.site ∷ []) e.callee) x) (sym d.2) c.2)
-    ]
+    listed_only (suc levels) a k x inst lt is w = elim (cons_cases (record { path = a.path; node = k })
+        (flat_map (λ (c : Calling). listed sorted levels (a.path ++ c.site ∷ []) c.callee) (get_or sorted k [])) x w) [
+          | inl same ↦ (a, inst, sym same ∙ sym (number_is k a lt is))
+          | inr rest ↦
+              let c = of_flat_map (λ (c : Calling). listed sorted levels (a.path ++ c.site ∷ []) c.callee) (get_or sorted k []) x rest in
+              let d = of_sorted k c.0 lt c.1 in
+              let to = called p named d.0.name (calls_declared p named (get_or p.nodes k no_node) d.0 (Contains-get_or p.nodes k no_node lt) d.1) in
+              listed_only levels (callee p a d.0) (index_of (names_of p) d.0.name) x
+              (is_callee d.0 inst (subst (λ (n : NodeTree). Contains (calls n) d.0) (sym is) d.1)) to.0 to.1
+              (subst (λ (e : Calling). Contains (listed sorted levels (a.path ++ e.site ∷ []) e.callee) x) (sym d.2) c.2)
+        ]
 
   pub instances_listed : (main : ℕ) → main < length p.nodes → HasNoRecursion p → AreInstances p (name_at p main) (all_listed sorted [] main)
   instances_listed main lt none =

@@ -1,5 +1,6 @@
 -- Calls that lead back to their node, and the least offset of them.
-use Rattle.std.proofs.Common.{◌≡◌, ℕ, zero, suc, ◌+◌, ◌<◌, ◌≤◌, inl, inr, List, [], ◌∷◌, ◌++◌, length, get_or, refl, sym, ◌∙◌, ap, subst, arith, Option, Some, None as Nothing}
+use Rattle.std.proofs.Common.{◌≡◌, ℕ, zero, suc, ◌+◌, ◌<◌, ◌≤◌, inl, inr, List, [], ◌∷◌, ◌++◌, length, get_or, refl, sym, ◌∙◌, ap, subst, arith, Option, Some}
+use Rattle.std.proofs.Common.{None as Nothing}
 use Rattle.std.specs.List.{Contains}
 use Rattle.std.proofs.lemmas.List.{get_or_default}
 use Rattle.std.proofs.lemmas.List.Elements.{Contains-append_left, Contains-append_right, Contains-append_cases}
@@ -18,7 +19,8 @@ lowered_none parts k old = record {
   least = λ c w same. absurd (let lt = w.1 in omega (arith, lt));
 }
 
-pub lowered_more : (parts : Marks) (k : ℕ) (xs ys : List Calling) (a b c : Option ℕ) → IsLowered parts k xs a b → IsLowered parts k ys b c → IsLowered parts k (xs ++ ys) a c
+pub lowered_more : (parts : Marks) (k : ℕ) (xs ys : List Calling) (a b c : Option ℕ) → IsLowered parts k xs a b → IsLowered parts k ys b c
+    → IsLowered parts k (xs ++ ys) a c
 lowered_more parts k xs ys a b c p q = record {
   lower = λ at h. q.lower at (p.lower at h);
   found = elim q.found [
@@ -34,7 +36,8 @@ lowered_more parts k xs ys a b c p q = record {
   ];
 }
 
-pub lowered_to_more : (parts : Marks) (t : List (List Calling)) (n : ℕ) (old new : Option ℕ) → IsLoweredTo parts t n old → IsLowered parts n (get_or t n []) old new → IsLoweredTo parts t (n + 1) new
+pub lowered_to_more : (parts : Marks) (t : List (List Calling)) (n : ℕ) (old new : Option ℕ) → IsLoweredTo parts t n old
+    → IsLowered parts n (get_or t n []) old new → IsLoweredTo parts t (n + 1) new
 lowered_to_more parts t n old new p q = record {
   found = elim q.found [
     | inl kept ↦ elim p.found [
@@ -61,7 +64,8 @@ callee_at (d ∷ cs) c zero lt = refl
 callee_at (d ∷ cs) c (suc j) lt = callee_at cs c j (omega (arith, lt))
 
 -- a call of a node is an edge of it
-pub edge_of : (t : List (List Calling)) (k : ℕ) (c : Calling) → Contains (get_or t k []) c → (j : ℕ) × (j < length (edges (call_graph t) k)) × (get_or (edges (call_graph t) k) j 0 ≡ c.callee)
+pub edge_of : (t : List (List Calling)) (k : ℕ) (c : Calling) → Contains (get_or t k []) c
+    → (j : ℕ) × (j < length (edges (call_graph t) k)) × (get_or (edges (call_graph t) k) j 0 ≡ c.callee)
 edge_of t k c w =
     let is = edges_at t k in
     let n = ap length is ∙ length_map (λ (d : Calling). d.callee) (get_or t k []) in
@@ -69,7 +73,8 @@ edge_of t k c w =
     (w.0, omega (arith, n, lt), ap (λ es. get_or es w.0 0) is ∙ callee_at (get_or t k []) c w.0 w.1 ∙ ap (λ (d : Calling). d.callee) w.2)
 
 -- and an edge is a call
-pub call_of : (t : List (List Calling)) (k j : ℕ) → j < length (edges (call_graph t) k) → (c : Calling) × Contains (get_or t k []) c × (c.callee ≡ get_or (edges (call_graph t) k) j 0)
+pub call_of : (t : List (List Calling)) (k j : ℕ) → j < length (edges (call_graph t) k)
+    → (c : Calling) × Contains (get_or t k []) c × (c.callee ≡ get_or (edges (call_graph t) k) j 0)
 call_of t k j lt =
     let is = edges_at t k in
     let n = ap length is ∙ length_map (λ (d : Calling). d.callee) (get_or t k []) in
@@ -94,7 +99,8 @@ follows_leads g p [] q w = let at = contains_at (edges g p) q w in over p at.0 a
 follows_leads g p (r ∷ rs) q w = let at = contains_at (edges g p) r w.0 in over p at.0 at.1 (subst (λ u. LeadsTo g q u) (sym at.2) (follows_leads g r rs q w.1))
 
 -- in a loop a call leads back
-pub loop_call : (t : List (List Calling)) (xs : List ℕ) → IsLoop (call_graph t) xs → (k : ℕ) × (c : Calling) × (k < length t) × Contains (get_or t k []) c × LeadsTo (call_graph t) k c.callee
+pub loop_call : (t : List (List Calling)) (xs : List ℕ) → IsLoop (call_graph t) xs
+    → (k : ℕ) × (c : Calling) × (k < length t) × Contains (get_or t k []) c × LeadsTo (call_graph t) k c.callee
 loop_call t [] is = absurd is
 loop_call t (p ∷ []) is =
     let at = contains_at (edges (call_graph t) p) p is.1 in
@@ -129,7 +135,8 @@ ordered_no_loop t order ordered k c lt w lead =
     let next = ordered.after at.0 e.0 at.1 (subst (λ u. e.0 < length (edges (call_graph t) u)) (sym at.2) e.1) in
     let less = next.1 in
     let inside = at.1 in
-    let back = no_later (call_graph t) order ordered k c.callee next.0 lead (omega (arith, less, inside)) (next.2 ∙ ap (λ u. get_or (edges (call_graph t) u) e.0 0) at.2 ∙ e.2) in
+    let back = no_later (call_graph t) order ordered k c.callee next.0 lead (omega (arith, less, inside))
+    (next.2 ∙ ap (λ u. get_or (edges (call_graph t) u) e.0 0) at.2 ∙ e.2) in
     let le = back.1 in
     ordered.once back.0 at.0 (omega (arith, less, le)) inside (back.2 ∙ sym at.2)
 

@@ -1,5 +1,6 @@
 -- How roots get their components.
-use Rattle.std.proofs.Common.{◌≡◌, ℕ, zero, suc, ◌<◌, ◌⊎◌, inl, inr, [], length, get_or, replicate, refl, sym, ◌∙◌, ap, subst, arith, Option, Some, None as Nothing}
+use Rattle.std.proofs.Common.{◌≡◌, ℕ, zero, suc, ◌<◌, ◌⊎◌, inl, inr, [], length, get_or, replicate, refl, sym, ◌∙◌, ap, subst, arith, Option, Some}
+use Rattle.std.proofs.Common.{None as Nothing}
 use Rattle.std.proofs.lemmas.List.{length-replicate, get_or_past}
 use Rattle.std.specs.List.{Contains}
 use Rattle.rv_calls.specs.Graphs.{Graph, edges}
@@ -86,7 +87,8 @@ module _ (g h : Graph) (turned : IsReversed g h) (seen parts : Marks) (root : �
         let w : Contains (edges g a) (get_or (edges g a) j 0) = at_contains (edges g a) (get_or (edges g a) j 0) j lt refl in
         parts_whole x (get_or (edges g a) j 0) rest to
         (q.closed a (get_or (edges g a) j 0) is w
-        (seen_whole (get_or (edges g a) j 0) (lead_trans g x (get_or (edges g a) j 0) root rest to) (lead_on g a root (get_or (edges g a) j 0) (q.sound a is) w)))
+        (seen_whole (get_or (edges g a) j 0) (lead_trans g x (get_or (edges g a) j 0) root rest to)
+        (lead_on g a root (get_or (edges g a) j 0) (q.sound a is) w)))
 
     back : (k : ℕ) → mark_of parts_new k ≡ Some root → LeadsTo g root k
     back k e = turned_leads k root (p.sound k (q.within k e).1)
@@ -111,7 +113,8 @@ module _ (g h : Graph) (turned : IsReversed g h) (seen parts : Marks) (root : �
               | inr new ↦ no_mark (mark_of parts m) r before (p.within m (q.within m new).1).1
             ]
         | inr new ↦
-            parts_whole m root (lead_trans g k root m (q.sound k new) from) (lead_trans g k m root to (back k new)) q.start ∙ ap Some (same_mark root r (sym new ∙ e))
+            parts_whole m root (lead_trans g k root m (q.sound k new) from) (lead_trans g k m root to (back k new)) q.start
+            ∙ ap Some (same_mark root r (sym new ∙ e))
       ];
       fresh = λ k r e. elim (p.kept k) [
         | inl same ↦ still r (parted.fresh k r (sym same ∙ e))

@@ -32,11 +32,14 @@ module _ (p : ProgramTree) (named : name_faults p ≡ []) where
   graph_size = length_map callees (callings_of p) ∙ table_size
 
   -- a call of a node, in the table
-  pub tabled : (k : ℕ) (c : CallTree) → k < length p.nodes → Contains (calls (get_or p.nodes k no_node)) c → Contains (get_or (callings_of p) k []) (calling (names_of p) c)
-  tabled k c lt w = subst (λ (cs : List Calling). Contains cs (calling (names_of p) c)) (sym (table_at k lt)) (in_map (calling (names_of p)) (calls (get_or p.nodes k no_node)) c w)
+  pub tabled : (k : ℕ) (c : CallTree) → k < length p.nodes → Contains (calls (get_or p.nodes k no_node)) c
+      → Contains (get_or (callings_of p) k []) (calling (names_of p) c)
+  tabled k c lt w = subst (λ (cs : List Calling). Contains cs (calling (names_of p) c)) (sym (table_at k lt))
+      (in_map (calling (names_of p)) (calls (get_or p.nodes k no_node)) c w)
 
   -- and back
-  pub untabled : (k : ℕ) (c : Calling) → k < length p.nodes → Contains (get_or (callings_of p) k []) c → (d : CallTree) × Contains (calls (get_or p.nodes k no_node)) d × (calling (names_of p) d ≡ c)
+  pub untabled : (k : ℕ) (c : Calling) → k < length p.nodes → Contains (get_or (callings_of p) k []) c
+      → (d : CallTree) × Contains (calls (get_or p.nodes k no_node)) d × (calling (names_of p) d ≡ c)
   untabled k c lt w = of_map (calling (names_of p)) (calls (get_or p.nodes k no_node)) c (subst (λ (cs : List Calling). Contains cs c) (table_at k lt) w)
 
   node_in : (k : ℕ) → k < length p.nodes → Contains p.nodes (get_or p.nodes k no_node)
@@ -54,7 +57,8 @@ module _ (p : ProgramTree) (named : name_faults p ≡ []) where
       omega (arith, n, there, is)
 
   -- what is led to is reached
-  pub leads_reaches : (b a : ℕ) → a < length p.nodes → LeadsTo (call_graph (callings_of p)) b a → Reaches p (get_or p.nodes b no_node).name.text (get_or p.nodes a no_node).name.text
+  pub leads_reaches : (b a : ℕ) → a < length p.nodes → LeadsTo (call_graph (callings_of p)) b a
+      → Reaches p (get_or p.nodes b no_node).name.text (get_or p.nodes a no_node).name.text
   leads_reaches b _ lt there = itself
   leads_reaches b _ lt (over a j inside rest) =
       let c = call_of (callings_of p) a j inside in
@@ -64,7 +68,8 @@ module _ (p : ProgramTree) (named : name_faults p ≡ []) where
       let within : get_or (edges (call_graph (callings_of p)) a) j 0 < length p.nodes = let l = to.0 in omega (arith, l, is) in
       by_call (get_or p.nodes a no_node).name.text d.0
       (subst (λ (n : NodeTree). Contains (calls n) d.0) (sym (node_of_number p named a lt)) d.1)
-      (subst (λ f. Reaches p (get_or p.nodes b no_node).name.text f) (ap (λ k. (get_or p.nodes k no_node).name.text) (sym is) ∙ to.2) (leads_reaches b (get_or (edges (call_graph (callings_of p)) a) j 0) within rest))
+      (subst (λ f. Reaches p (get_or p.nodes b no_node).name.text f) (ap (λ k. (get_or p.nodes k no_node).name.text) (sym is) ∙ to.2)
+      (leads_reaches b (get_or (edges (call_graph (callings_of p)) a) j 0) within rest))
 
   -- what is reached is led to
   pub reaches_leads : (g f : Identifier) → Reaches p g f → LeadsTo (call_graph (callings_of p)) (index_of (names_of p) g) (index_of (names_of p) f)
@@ -82,13 +87,15 @@ module _ (p : ProgramTree) (named : name_faults p ≡ []) where
 
   -- a recursive call leads back in the table
   pub recursive_loops : (n : NodeTree) (c : CallTree) → IsRecursive p n c
-      → (k : ℕ) × (k < length (callings_of p)) × Contains (get_or (callings_of p) k []) (calling (names_of p) c) × LeadsTo (call_graph (callings_of p)) k (index_of (names_of p) c.name)
+      → (k : ℕ) × (k < length (callings_of p)) × Contains (get_or (callings_of p) k []) (calling (names_of p) c) × LeadsTo (call_graph (callings_of p)) k
+      (index_of (names_of p) c.name)
   recursive_loops n c r =
       let k = r.node.0 in
       let lt = r.node.1 in
       let same : get_or p.nodes k no_node ≡ n = get_or_default p.nodes k no_node n lt ∙ r.node.2 in
       let size = table_size in
-      let number : index_of (names_of p) n.name.text ≡ k = ap (λ (m : NodeTree). index_of (names_of p) m.name.text) (sym same) ∙ number_of_node p named k lt in (
+      let number : index_of (names_of p) n.name.text ≡ k = ap (λ (m : NodeTree). index_of (names_of p) m.name.text) (sym same)
+      ∙ number_of_node p named k lt in (
         k,
         omega (arith, size, lt),
         tabled k c lt (subst (λ (m : NodeTree). Contains (calls m) c) (sym same) r.call),
@@ -96,7 +103,8 @@ module _ (p : ProgramTree) (named : name_faults p ≡ []) where
       )
 
   -- and back
-  pub loops_recursive : (k : ℕ) (c : Calling) → k < length (callings_of p) → Contains (get_or (callings_of p) k []) c → LeadsTo (call_graph (callings_of p)) k c.callee
+  pub loops_recursive : (k : ℕ) (c : Calling) → k < length (callings_of p) → Contains (get_or (callings_of p) k []) c
+      → LeadsTo (call_graph (callings_of p)) k c.callee
       → (n : NodeTree) × (d : CallTree) × IsRecursive p n d × (d.at ≡ c.at)
   loops_recursive k c lt w lead =
       let size = table_size in

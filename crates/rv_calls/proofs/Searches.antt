@@ -1,5 +1,6 @@
 -- How marks spread over the vertices of a graph that are allowed.
-use Rattle.std.proofs.Common.{◌≡◌, ℕ, zero, suc, ◌+◌, ◌<◌, ◌⊎◌, inl, inr, List, [], ◌∷◌, ◌++◌, length, get_or, set, cond, nat_eq, refl, sym, ◌∙◌, ap, subst, arith, rules, true, false, Option, Some, None as Nothing}
+use Rattle.std.proofs.Common.{◌≡◌, ℕ, zero, suc, ◌+◌, ◌<◌, ◌⊎◌, inl, inr, List, [], ◌∷◌, ◌++◌, length, get_or, set, cond, nat_eq, refl, sym, ◌∙◌, ap, subst}
+use Rattle.std.proofs.Common.{arith, rules, true, false, Option, Some, None as Nothing}
 use Rattle.std.proofs.lemmas.List.{length-set, get_or-set_same}
 use Rattle.std.proofs.lemmas.Bool.Decides.{nat_tests}
 use Rattle.std.specs.List.{Contains}
@@ -71,10 +72,15 @@ module _ (allowed : Marks) (wanted : Option ℕ) (from : ℕ) where
       → IsSpread allowed wanted from (v ∷ []) marks waiting (set marks v (Some from)) (waiting ++ v ∷ [])
   spread_one v marks waiting within ok not = record {
     size = length-set marks v (Some from);
-    kept = λ k. elim (put_cases marks v (Some from) k) [ inl same ↦ inr (subst (λ u. mark_of (set marks v (Some from)) u ≡ Some from) same put) | inr old ↦ inl old ];
+    kept = λ k. elim (put_cases marks v (Some from) k) [
+      | inl same ↦ inr (subst (λ u. mark_of (set marks v (Some from)) u ≡ Some from) same put)
+      | inr old ↦ inl
+          old
+    ];
     marked = λ k w e. subst (λ u. mark_of (set marks v (Some from)) u ≡ Some from) (only_one v k w) put;
     only = λ k e. elim (put_cases marks v (Some from) k) [
-      | inl same ↦ inr (subst (λ u. Contains (v ∷ []) u × Contains (waiting ++ v ∷ []) u × (mark_of allowed u ≡ wanted)) same (one v, Contains-append_right waiting (v ∷ []) v (one v), ok))
+      | inl same ↦ inr (subst (λ u. Contains (v ∷ []) u × Contains (waiting ++ v ∷ []) u × (mark_of allowed u ≡ wanted)) same
+          (one v, Contains-append_right waiting (v ∷ []) v (one v), ok))
       | inr old ↦ inl (sym old ∙ e)
     ];
     waits = λ k w. Contains-append_left waiting (v ∷ []) k w;
@@ -130,7 +136,10 @@ module _ (allowed : Marks) (wanted : Option ℕ) (from : ℕ) where
       sound = λ k e. subst (λ u. LeadsTo g u from) (same k e) there;
       within = λ k e. subst (λ u. (u < length g) × (mark_of allowed u ≡ wanted)) (same k e) (within, ok);
       closed = λ a b e w _. inr (subst (Contains (from ∷ [])) (same a e) (one from));
-      kept = λ k. elim (put_cases old from (Some from) k) [ inl is ↦ inr (subst (λ u. mark_of (set old from (Some from)) u ≡ Some from) is put) | inr e ↦ inl e ];
+      kept = λ k. elim (put_cases old from (Some from) k) [
+        | inl is ↦ inr (subst (λ u. mark_of (set old from (Some from)) u ≡ Some from) is put)
+        | inr e ↦ inl e
+      ];
       waits = λ k w. subst (λ u. mark_of (set old from (Some from)) u ≡ Some from) (only_one from k w) put;
     }
       where
@@ -170,7 +179,11 @@ module _ (allowed : Marks) (wanted : Option ℕ) (from : ℕ) where
           | inr new ↦ inr new.1
         ];
         kept = λ k. elim (spread.kept k) [ inl e ↦ elim (s.kept k) [ inl before ↦ inl (e ∙ before) | inr new ↦ inr (e ∙ new) ] | inr new ↦ inr new ];
-        waits = λ k w. elim (spread.waits_only k w) [ inl before ↦ still k (s.waits k (subst (λ l. Contains l k) (sym is) (Contains-append_left rest (v ∷ []) k before))) | inr new ↦ new ];
+        waits = λ k w. elim (spread.waits_only k w) [
+          | inl before ↦ still k
+              (s.waits k (subst (λ l. Contains l k) (sym is) (Contains-append_left rest (v ∷ []) k before)))
+          | inr new ↦ new
+        ];
       },
       (let n = ap length is ∙ snoc_length rest v in let c = spread.count in omega (arith, n, c)),
     )

@@ -18,7 +18,8 @@ module _ (t sorted : List (List Calling)) (are : AreAllSorted t sorted) where
   edge_before k j lt inside =
       let c = call_of sorted k j inside in
       let size = length_map callees t in
-      let w = Contains-permutation (get_or sorted k []) (get_or t k []) c.0 (IsPermutation-sym (get_or t k []) (get_or sorted k []) (are.each k (omega (arith, size, lt))).same) c.1 in
+      let w = Contains-permutation (get_or sorted k []) (get_or t k []) c.0
+      (IsPermutation-sym (get_or t k []) (get_or sorted k []) (are.each k (omega (arith, size, lt))).same) c.1 in
       let e = edge_of t k c.0 w in
       (e.0, e.1, e.2 ∙ c.2)
 

@@ -44,12 +44,14 @@ turned_one u v h within = record {
         (subst (λ es. Contains es a) (sym put) (Contains-append_left (edges h u) (v ∷ []) a (subst (λ b. Contains (edges h b) a) (sym same) w)))
     | inr other ↦ subst (λ es. Contains es a) (sym other) w
   ];
-  added = λ b w. subst (λ b. Contains (edges (set h u (edges h u ++ v ∷ [])) b) v) (only_one u b w) (subst (λ es. Contains es v) (sym put) (Contains-append_right (edges h u) (v ∷ []) v (one v)));
+  added = λ b w. subst (λ b. Contains (edges (set h u (edges h u ++ v ∷ [])) b) v) (only_one u b w)
+      (subst (λ es. Contains es v) (sym put) (Contains-append_right (edges h u) (v ∷ []) v (one v)));
   only = λ a b w. elim (put_edges h u (edges h u ++ v ∷ []) b) [
-    | inl same ↦ elim (Contains-append_cases (edges h u) (v ∷ []) a (subst (λ es. Contains es a) put (subst (λ b. Contains (edges (set h u (edges h u ++ v ∷ [])) b) a) (sym same) w))) [
-      | inl old ↦ inl (subst (λ b. Contains (edges h b) a) same old)
-      | inr new ↦ inr (sym (only_one v a new), subst (Contains (u ∷ [])) same (one u))
-    ]
+    | inl same ↦ elim (Contains-append_cases (edges h u) (v ∷ []) a (subst (λ es. Contains es a) put
+        (subst (λ b. Contains (edges (set h u (edges h u ++ v ∷ [])) b) a) (sym same) w))) [
+          | inl old ↦ inl (subst (λ b. Contains (edges h b) a) same old)
+          | inr new ↦ inr (sym (only_one v a new), subst (Contains (u ∷ [])) same (one u))
+        ]
     | inr other ↦ inl (subst (λ es. Contains es a) other w)
   ];
 }

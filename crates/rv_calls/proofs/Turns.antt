@@ -15,7 +15,8 @@ drop_all (x ∷ xs) zero le = absurd (omega (arith, le))
 drop_all (x ∷ xs) (suc i) le = drop_all xs i (omega (arith, le))
 
 -- what is found grows by what one element gives
-pub grown : {X Y : Type 0} (f : X → Y) (found new start : List Y) (cs ds all : List X) → new ≡ found ++ map f cs → found ++ map f all ≡ start → all ≡ cs ++ ds → new ++ map f ds ≡ start
+pub grown : {X Y : Type 0} (f : X → Y) (found new start : List Y) (cs ds all : List X) → new ≡ found ++ map f cs → found ++ map f all ≡ start → all ≡ cs ++ ds
+    → new ++ map f ds ≡ start
 grown f found new start cs ds all is inv split =
     ap (λ l. l ++ map f ds) is ∙ append_assoc found (map f cs) (map f ds) ∙ ap (λ l. found ++ l) (sym (map-append f cs ds) ∙ ap (map f) (sym split)) ∙ inv
 

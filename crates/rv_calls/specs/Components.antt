@@ -79,7 +79,8 @@ unmarked r (Nothing ∷ ms) = unmarked r ms + 1
 unmarked r (Some s ∷ ms) = cond (nat_eq s r) (unmarked r ms) (unmarked r ms + 1)
 
 -- Some vertices are marked, if they are allowed, and those of them wait that were not marked before.
-pub record IsSpread (allowed : Marks) (wanted : Option ℕ) (from : ℕ) (targets : List ℕ) (marks : Marks) (waiting : List ℕ) (new_marks : Marks) (new_waiting : List ℕ) : Type 0 where
+pub record IsSpread (allowed : Marks) (wanted : Option ℕ) (from : ℕ) (targets : List ℕ) (marks : Marks) (waiting : List ℕ) (new_marks : Marks)
+    (new_waiting : List ℕ) : Type 0 where
   pub size : length new_marks ≡ length marks
   pub kept : (k : ℕ) → (mark_of new_marks k ≡ mark_of marks k) ⊎ (mark_of new_marks k ≡ Some from)
   pub marked : (k : ℕ) → Contains targets k → mark_of allowed k ≡ wanted → mark_of new_marks k ≡ Some from

@@ -78,7 +78,8 @@ Keeps old new = (k : ℕ) → slice_index_or old.entered k false ≡ true → sl
 
 -- The first edge of a vertex, from the cursor on, that leads to an unfinished vertex, and the cursor after it.
 abbrev pub IsNext : Graph → Walk → ℕ → Walk → Option ℕ → Type 0
-IsNext g old v new Nothing = (new ≡ old) × ((j : ℕ) → slice_index_or old.cursor v 0 ≤ j → j < length (edges g v) → slice_index_or old.finished (slice_index_or (edges g v) j 0) false ≡ true)
+IsNext g old v new Nothing = (new ≡ old) × ((j : ℕ) → slice_index_or old.cursor v 0 ≤ j → j < length (edges g v)
+    → slice_index_or old.finished (slice_index_or (edges g v) j 0) false ≡ true)
 IsNext g old v new (Some child) = (next : ℕ) × (next < length (edges g v)) × (slice_index_or (edges g v) next 0 ≡ child)
     × (slice_index_or old.finished child false ≡ false)
     × ((j : ℕ) → slice_index_or old.cursor v 0 ≤ j → j < next → slice_index_or old.finished (slice_index_or (edges g v) j 0) false ≡ true)

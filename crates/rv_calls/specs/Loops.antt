@@ -22,7 +22,8 @@ pub record IsLowered (parts : Marks) (k : ℕ) (calls : List Calling) (old new :
 
 -- the same over the nodes of a table from the first to one of them
 pub record IsLoweredTo (parts : Marks) (table : List (List Calling)) (nodes : ℕ) (new : Option ℕ) : Type 0 where
-  pub found : (new ≡ Nothing) ⊎ ((k : ℕ) × (c : Calling) × (k < nodes) × Contains (slice_index_or table k []) c × (new ≡ Some c.at) × (mark_of parts k ≡ mark_of parts c.callee))
+  pub found : (new ≡ Nothing) ⊎ ((k : ℕ) × (c : Calling) × (k < nodes) × Contains (slice_index_or table k []) c × (new ≡ Some c.at)
+      × (mark_of parts k ≡ mark_of parts c.callee))
   pub least : (k : ℕ) (c : Calling) → k < nodes → Contains (slice_index_or table k []) c → mark_of parts k ≡ mark_of parts c.callee → AtMost new c.at
 
 -- No call leads back to its node.

@@ -1,6 +1,7 @@
 //! Orders of the vertices of a graph, and loops in it.
 
-ghost use Rattle.std.specs.Prelude.{◌≡◌, ◌<◌, ◌≤◌, ◌^◌, [], ◌∷◌, ◌++◌, true, false, length, take, drop, replicate, ℕ, ◌-◌, IfOk, OnOk, IfSome, IfNone, slice_index_or, slice_set};
+ghost use Rattle.std.specs.Prelude.{◌≡◌, ◌<◌, ◌≤◌, ◌^◌, [], ◌∷◌, ◌++◌, true, false, length, take, drop, replicate, ℕ, ◌-◌, IfOk, OnOk, IfSome, IfNone};
+ghost use Rattle.std.specs.Prelude.{slice_index_or, slice_set};
 ghost use Rattle.std.specs.List.{Contains};
 ghost use Rattle.rv_calls.specs.Graphs.{IsGraph, IsSortedOf, IsLoop, IsWalk, IsNext, Keeps, edges};
 
@@ -101,7 +102,8 @@ fn explore(
 impl Walk {
     /// Nothing has been entered.
     pub fn new(alloc: Global, count: usize) -> Result<Walk, Memory>
-        ensures { IfOk result (λ w. (w.entered ≡ replicate count false) × (w.finished ≡ replicate count false) × (w.cursor ≡ replicate count 0) × (w.path ≡ []) × (w.order ≡ [])) }
+        ensures { IfOk result (λ w. (w.entered ≡ replicate count false) × (w.finished ≡ replicate count false) × (w.cursor ≡ replicate count 0) × (w.path ≡ [])
+            × (w.order ≡ [])) }
     {
         Ok(Walk {
             entered: all_equal(alloc, count, false)?,
@@ -129,7 +131,11 @@ impl Walk {
     pub fn enter(&mut self, v: u32) -> Result<(), Memory>
         requires entered { v < length self.old.entered }
         requires cursor { v < length self.old.cursor }
-        ensures { OnOk result (self.new ≡ record self.old { entered = slice_set self.old.entered v true; cursor = slice_set self.old.cursor v 0; path = self.old.path ++ v ∷ [] }) }
+        ensures { OnOk result (self.new ≡ record self.old {
+          entered = slice_set self.old.entered v true;
+          cursor = slice_set self.old.cursor v 0;
+          path = self.old.path ++ v ∷ [];
+        }) }
     {
         self.entered.set(v as usize, true);
         self.cursor.set(v as usize, 0);
@@ -140,7 +146,11 @@ impl Walk {
     /// Finishes the last vertex on the path.
     pub fn leave(&mut self, v: u32) -> Result<(), Memory>
         requires { v < length self.old.finished }
-        ensures { OnOk result (self.new ≡ record self.old { finished = slice_set self.old.finished v true; path = take (length self.old.path - 1) self.old.path; order = self.old.order ++ v ∷ [] }) }
+        ensures { OnOk result (self.new ≡ record self.old {
+          finished = slice_set self.old.finished v true;
+          path = take (length self.old.path - 1) self.old.path;
+          order = self.old.order ++ v ∷ [];
+        }) }
     {
         self.finished.set(v as usize, true);
         let len = self.path.len();
@@ -220,7 +230,8 @@ fn position_of(path: &[u32], v: u32) -> usize
 /// The number of the first target, from a number on, that is not marked.
 fn first_unmarked(targets: &[u32], start: usize, marked: &[bool]) -> Option<usize>
     requires { (j : ℕ) → j < length targets.now → slice_index_or targets.now j 0 < length marked.now }
-    ensures some { IfSome result (λ k. (k < length targets.now) × (slice_index_or marked.now (slice_index_or targets.now k 0) false ≡ false) × ((j : ℕ) → start ≤ j → j < k → slice_index_or marked.now (slice_index_or targets.now j 0) false ≡ true)) }
+    ensures some { IfSome result (λ k. (k < length targets.now) × (slice_index_or marked.now (slice_index_or targets.now k 0) false ≡ false)
+        × ((j : ℕ) → start ≤ j → j < k → slice_index_or marked.now (slice_index_or targets.now j 0) false ≡ true)) }
     ensures none { IfNone result ((j : ℕ) → start ≤ j → j < length targets.now → slice_index_or marked.now (slice_index_or targets.now j 0) false ≡ true) }
 {
     let mut k = start;

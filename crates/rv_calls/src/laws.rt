@@ -13,5 +13,6 @@ ghost use Rattle.rv_calls.specs.Reach.{HasNoRecursion};
 
 /// The instances that a walk over sorted calls comes to are all instances, in the order of their paths.
 pub(crate) fn instance_list()
-    ensures { (p : ProgramTree) (main : ℕ) (sorted : List (List Calling)) → name_faults p ≡ [] → HasNoRecursion p → AreSited p → AreAllSorted (callings_of p) sorted → main < length p.nodes → AreInstances p (name_at p main) (all_listed sorted [] main) }
+    ensures { (p : ProgramTree) (main : ℕ) (sorted : List (List Calling)) → name_faults p ≡ [] → HasNoRecursion p → AreSited p
+        → AreAllSorted (callings_of p) sorted → main < length p.nodes → AreInstances p (name_at p main) (all_listed sorted [] main) }
 {}

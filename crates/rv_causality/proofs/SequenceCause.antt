@@ -33,7 +33,8 @@ pub known : (p : ProgramTree) (t : Typed) (instances : List Numbered) (count : �
 known p t instances count bounded sited settled well none are sized =
     expanded_program p t.main instances bounded (answer_named p t settled) sited well none (main_within p t settled) are sized.small.instances
 
-module _ (p : ProgramTree) (main : Identifier) (instances : List Numbered) (known : IsExpanded p main instances) (none : HasNoRecursion p) (sizes : AreWithin (measures p main)) where
+module _ (p : ProgramTree) (main : Identifier) (instances : List Numbered) (known : IsExpanded p main instances) (none : HasNoRecursion p)
+    (sizes : AreWithin (measures p main)) where
   fed : AreFed p
   fed n c j e there w arg = (known.well.formed n there).no_more c j e w arg
 
@@ -48,7 +49,8 @@ module _ (p : ProgramTree) (main : Identifier) (instances : List Numbered) (know
     weights = s.light;
   }
 
-  pub found : (places : List Place) (count : ℕ) → AreSequenced p main places → IsSized p main count → IsOrder p main (record { instances = instances; sequence = places; expanded = count })
+  pub found : (places : List Place) (count : ℕ) → AreSequenced p main places → IsSized p main count
+      → IsOrder p main (record { instances = instances; sequence = places; expanded = count })
   found places count s sized = record {
     accepted = accepted places s;
     instances = known.all;
@@ -91,5 +93,6 @@ module _ (p : ProgramTree) (main : Identifier) (instances : List Numbered) (know
   sequence_matches (Recursive at) (TooWide b) cause is = absurd (no_first p main at none cause)
   sequence_matches (TooLarge q n) (TooWide b) cause is = absurd (within_not_above (measures p main) q n sizes cause.1)
   sequence_matches (Cycle ps) (TooWide b) cause is = absurd (acyclic is.0.0 is.0.1 (sites_of ps) cause.2.0)
-  sequence_matches (TooWide a) (TooWide b) cause is = inr (ap TooWide (one_first p main instances known (sided p main instances known) is.0.0 is.0.1 a b cause.3 is.1))
+  sequence_matches (TooWide a) (TooWide b) cause is = inr (ap TooWide (one_first p main instances known (sided p main instances known) is.0.0 is.0.1 a b cause.3
+      is.1))
   sequence_matches Memory (TooWide b) cause is = absurd cause

@@ -26,20 +26,25 @@ use rv_types::{sited_programs, well_formed_programs};
 /// Where no node reaches itself, the instances over which sizes are counted are all instances of the program. Each of them
 /// is counted once: no two have one path.
 pub fn counted_instances()
-    ensures all { (p : ProgramTree) (main : Identifier) (i : InstanceTree) → name_faults p ≡ [] → HasNoRecursion p → is_among (names_of p) main ≡ true → IsInstance p main i → Contains (all_instances p main) i }
+    ensures all { (p : ProgramTree) (main : Identifier) (i : InstanceTree) → name_faults p ≡ [] → HasNoRecursion p → is_among (names_of p) main ≡ true
+        → IsInstance p main i → Contains (all_instances p main) i }
     ensures only { (p : ProgramTree) (main : Identifier) (i : InstanceTree) → Contains (all_instances p main) i → IsInstance p main i }
-    ensures once { (p : ProgramTree) (main : Identifier) (j k : ℕ) (i : InstanceTree) → name_faults p ≡ [] → AreSited p → j < k → k < length (all_instances p main) → (slice_index_or (all_instances p main) j i).path ≡ (slice_index_or (all_instances p main) k i).path → ⊥ }
+    ensures once { (p : ProgramTree) (main : Identifier) (j k : ℕ) (i : InstanceTree) → name_faults p ≡ [] → AreSited p → j < k
+        → k < length (all_instances p main) → (slice_index_or (all_instances p main) j i).path ≡ (slice_index_or (all_instances p main) k i).path → ⊥ }
 {}
 
 /// Where there is an order of evaluation, no flow needs itself at one instant.
 pub fn no_cycle()
-    ensures { (p : ProgramTree) (main : Identifier) (sequence cycle : List Sites) → name_faults p ≡ [] → is_among (names_of p) main ≡ true → AreFed p → IsSequence p main sequence → IsCycle p main cycle → ⊥ }
+    ensures { (p : ProgramTree) (main : Identifier) (sequence cycle : List Sites) → name_faults p ≡ [] → is_among (names_of p) main ≡ true → AreFed p
+        → IsSequence p main sequence → IsCycle p main cycle → ⊥ }
 {}
 
 /// A program whose names, types and clocks are right is known with its instances, where these are no more than they may
 /// be.
 pub fn expanded_program()
-    ensures { (p : ProgramTree) (main : ℕ) (instances : List InstanceModel) → IsBounded p → name_faults p ≡ [] → AreSited p → AreWell p → HasNoRecursion p → main < length p.nodes → AreInstances p (name_at p main) instances → instance_count p (name_at p main) ≤ 4000 → IsExpanded p (name_at p main) instances }
+    ensures { (p : ProgramTree) (main : ℕ) (instances : List InstanceModel) → IsBounded p → name_faults p ≡ [] → AreSited p → AreWell p → HasNoRecursion p
+        → main < length p.nodes → AreInstances p (name_at p main) instances → instance_count p (name_at p main) ≤ 4000
+        → IsExpanded p (name_at p main) instances }
 {}
 
 /// What is answered of an accepted program fits it: the instances are known and few, the sequence is one, expressions are light,

@@ -1,5 +1,6 @@
 -- The entry of a case in the certificate of a closed row claim.
-use Rattle.std.proofs.Common.{◌≡◌, ◌↔◌, ℕ, zero, suc, ◌+◌, ◌<◌, ◌≤◌, ◌^◌, pos, negsuc, Bool, true, false, IsTrue, List, [], ◌∷◌, ◌++◌, length, get_or, All, Option, Some, slice_get}
+use Rattle.std.proofs.Common.{◌≡◌, ◌↔◌, ℕ, zero, suc, ◌+◌, ◌<◌, ◌≤◌, ◌^◌, pos, negsuc, Bool, true, false, IsTrue, List, [], ◌∷◌, ◌++◌, length, get_or, All}
+use Rattle.std.proofs.Common.{Option, Some, slice_get}
 use Rattle.std.proofs.Common.{arith, refl, sym, ap, ◌∙◌, subst, ◌⊎◌, inl, inr}
 use Rattle.std.proofs.Common.{None as Nothing}
 use Rattle.std.specs.List.{Contains}
@@ -32,7 +33,8 @@ use Rattle.rv_claims.specs.declared.claim.Claim.{Claim}
 use Rattle.rv_claims.specs.Claiming.{claim_of}
 use Rattle.rv_claims.specs.Certify.{IsClaimKind}
 use Rattle.rv_claimed.specs.Placing.{IsPairOf}
-use Rattle.rv_claimed.specs.Certifying.{CanShow, premises_in, IsReached, IsShut, IsMadeKind, IsJudgeable, IsSetting, IsCaseIn, AreCasesIn, IsRangedKind, IsEntryOf}
+use Rattle.rv_claimed.specs.Certifying.{CanShow, premises_in, IsReached, IsShut, IsMadeKind, IsJudgeable, IsSetting, IsCaseIn, AreCasesIn, IsRangedKind}
+use Rattle.rv_claimed.specs.Certifying.{IsEntryOf}
 use Rattle.rv_claimed.specs.Certifying.{IsGoodCase, IsBadCase, IsMadeEntry}
 use Rattle.rv_claimed.proofs.Pairing.{no_row, pair_to, shows_same, shows_swapped}
 use Rattle.rv_claimed.proofs.Placed.{pair_divisor, pair_record, reached_shown, shut_refuted}

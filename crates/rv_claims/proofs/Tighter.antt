@@ -1,5 +1,6 @@
 -- What tighter premises show at once.
-use Rattle.std.proofs.Common.{◌≡◌, ℕ, ◌+◌, ◌-◌, ◌≤◌, ◌<◌, ℤ, pos, negsuc, ◌+ℤ◌, ◌≤ℤ◌, List, [], ◌∷◌, ◌++◌, length, get_or, slice_get, Some, Bool, true, false, cond, IsTrue, arith, refl, ap, sym, ◌∙◌, ◌⊎◌, inl, inr, subst}
+use Rattle.std.proofs.Common.{◌≡◌, ℕ, ◌+◌, ◌-◌, ◌≤◌, ◌<◌, ℤ, pos, negsuc, ◌+ℤ◌, ◌≤ℤ◌, List, [], ◌∷◌, ◌++◌, length, get_or, slice_get, Some, Bool, true, false}
+use Rattle.std.proofs.Common.{cond, IsTrue, arith, refl, ap, sym, ◌∙◌, ◌⊎◌, inl, inr, subst}
 use Rattle.std.proofs.lemmas.Int.{ints}
 use Rattle.std.proofs.lemmas.Bool.{cases_lt}
 use Rattle.std.proofs.lemmas.Option.{slice_get-get_or}
@@ -25,7 +26,8 @@ pub record AreTighter (as' bs : List Row) : Type 0 where
   pub at : (i : ℕ) → i < length as' → At as' bs i
   pub apart : (i j : ℕ) (l : i < length as') (m : j < length as') → i < j → (at i l).place ≡ (at j m).place → ⊥
 
-by_places : (r : Row) (bs : List Row) (p q : ℕ) → p < length bs → q < length bs → (p ≡ q → ⊥) → ((k : ℕ) → coefficient k r ≡ coefficient k (row_at bs p) +ℤ coefficient k (row_at bs q))
+by_places : (r : Row) (bs : List Row) (p q : ℕ) → p < length bs → q < length bs → (p ≡ q → ⊥)
+    → ((k : ℕ) → coefficient k r ≡ coefficient k (row_at bs p) +ℤ coefficient k (row_at bs q))
     → ((row_at bs p).bound +ℤ (row_at bs q).bound) ≤ℤ r.bound → ShowsAtOnce bs r
 by_places r bs p q hp hq ne two under = go (cases_lt p q) (cases_lt q p)
   where
@@ -44,9 +46,11 @@ shows-tighter as' bs r t (by_one i l sides bound) =
     let a = t.at i l in
     let b = a.bound in
     by_one a.place a.there (λ k. sides k ∙ a.sides k) (omega (arith, ints))
-shows-tighter as' bs r t (by_two i j l m sides bound) = by_places r bs (t.at i (omega arith)).place (t.at j m).place (t.at i (omega arith)).there (t.at j m).there
+shows-tighter as' bs r t (by_two i j l m sides bound) = by_places r bs (t.at i (omega arith)).place (t.at j m).place (t.at i (omega arith)).there
+    (t.at j m).there
     (λ e. t.apart i j (omega arith) m l e)
-    (λ k. sides k ∙ ap (λ z. z +ℤ coefficient k (row_at as' j)) ((t.at i (omega arith)).sides k) ∙ ap (λ z. coefficient k (row_at bs (t.at i (omega arith)).place) +ℤ z) ((t.at j m).sides k))
+    (λ k. sides k ∙ ap (λ z. z +ℤ coefficient k (row_at as' j)) ((t.at i (omega arith)).sides k)
+    ∙ ap (λ z. coefficient k (row_at bs (t.at i (omega arith)).place) +ℤ z) ((t.at j m).sides k))
     (under _ _ _ _ _ (t.at i (omega arith)).bound (t.at j m).bound bound)
   where
     under : (a b c d e : ℤ) → a ≤ℤ b → c ≤ℤ d → (b +ℤ d) ≤ℤ e → (a +ℤ c) ≤ℤ e
@@ -76,12 +80,18 @@ module _ (s : System) (thresholds : List ℤ) (c d : RowClaim) (claim : IsRowCla
   tighter : (i : ℕ) → length rows ≤ i → i < length (rows ++ d.rows) → HasTighter c.rows (row_at d.rows (i - length rows))
   tighter i h l =
       let n = length-append rows d.rows in
-      below.rows (row_at d.rows (i - length rows)) (i - length rows, omega arith, get_or_default d.rows (i - length rows) (row_at d.rows (i - length rows)) zero_row (omega arith))
+      below.rows (row_at d.rows (i - length rows)) (
+        i - length rows,
+        omega arith,
+        get_or_default d.rows (i - length rows) (row_at d.rows (i - length rows))
+            zero_row (omega arith),
+      )
 
   -- how the place of a premise is found
   pub data IsPlaced (i place : ℕ) : Type 0 where
     before_claim : i < length rows → place ≡ i → IsPlaced i place
-    of_claim : length rows ≤ i → length rows ≤ place → (row_at (rows ++ c.rows) place).coefficients ≡ (row_at d.rows (i - length rows)).coefficients → IsPlaced i place
+    of_claim : length rows ≤ i → length rows ≤ place → (row_at (rows ++ c.rows) place).coefficients ≡ (row_at d.rows (i - length rows)).coefficients
+        → IsPlaced i place
 
   in_claim_placed : (i : ℕ) (h : length rows ≤ i) (l : i < length (rows ++ d.rows)) → (a : At (rows ++ d.rows) (rows ++ c.rows) i) × IsPlaced i a.place
   in_claim_placed i h l = go (tighter i h l)
@@ -89,7 +99,8 @@ module _ (s : System) (thresholds : List ℤ) (c d : RowClaim) (claim : IsRowCla
       go : HasTighter c.rows (row_at d.rows (i - length rows)) → (a : At (rows ++ d.rows) (rows ++ c.rows) i) × IsPlaced i a.place
       go (q, (p, m, e), same, le) =
           let here : row_at (rows ++ c.rows) (length rows + p) ≡ q =
-          get_or-append_right rows c.rows (length rows) (length rows + p) zero_row refl (omega arith) ∙ ap (λ n. get_or c.rows n zero_row) (minus (length rows) p) ∙ get_or_default c.rows p zero_row q m ∙ e in
+          get_or-append_right rows c.rows (length rows) (length rows + p) zero_row refl (omega arith)
+          ∙ ap (λ n. get_or c.rows n zero_row) (minus (length rows) p) ∙ get_or_default c.rows p zero_row q m ∙ e in
           let there : row_at (rows ++ d.rows) i ≡ row_at d.rows (i - length rows) = get_or-append_right rows d.rows (length rows) i zero_row refl h in (
             record {
               place = length rows + p;
@@ -111,7 +122,8 @@ module _ (s : System) (thresholds : List ℤ) (c d : RowClaim) (claim : IsRowCla
       go (inr h) = in_claim_placed i h l
 
   -- the rows of the claim at two numbers have two left sides
-  two_sides : (i j : ℕ) → length rows ≤ i → i < j → j < length (rows ++ d.rows) → (row_at d.rows (i - length rows)).coefficients ≡ (row_at d.rows (j - length rows)).coefficients → ⊥
+  two_sides : (i j : ℕ) → length rows ≤ i → i < j → j < length (rows ++ d.rows)
+      → (row_at d.rows (i - length rows)).coefficients ≡ (row_at d.rows (j - length rows)).coefficients → ⊥
   two_sides i j h l m e =
       let n = length-append rows d.rows in
       let same : i - length rows ≡ j - length rows =
@@ -139,7 +151,8 @@ claim-shows s thresholds c d claim below v r = go (v 0)
     go true h = shows-tighter (rows_of s v ++ d.rows) (rows_of s v ++ c.rows) r (premises-tighter s thresholds c d claim below (rows_of s v)) h
     go false h = h
 
-pub claim-taken : (s : System) (thresholds : List ℤ) (c d : RowClaim) → IsRowClaim s thresholds d → IsRowTighter c d → (v : Valuation) → IsRowTaken s c v → IsRowTaken s d v
+pub claim-taken : (s : System) (thresholds : List ℤ) (c d : RowClaim) → IsRowClaim s thresholds d → IsRowTighter c d → (v : Valuation) → IsRowTaken s c v
+    → IsRowTaken s d v
 claim-taken s thresholds c d claim below v t = record {
   allowed = t.allowed;
   reached = below.reached v t.reached;
@@ -160,10 +173,12 @@ raised-below s thresholds c e all raised d claim closed = record {
       (shown.0, shown.1, claim-shows s thresholds c d claim (all d claim closed) v (shown.0) (shown.2)));
 }
   where
-    reached : (v : Valuation) → IsTrue (s.initial v) ⊎ (IsTrue (c.reached v) ⊎ ((w : Valuation) × IsRowTaken s c w × HasSameState s (s.next w) v)) → IsTrue (d.reached v)
+    reached : (v : Valuation) → IsTrue (s.initial v) ⊎ (IsTrue (c.reached v) ⊎ ((w : Valuation) × IsRowTaken s c w × HasSameState s (s.next w) v))
+        → IsTrue (d.reached v)
     reached v (inl h) = closed.initial v h
     reached v (inr (inl h)) = (all d claim closed).reached v h
-    reached v (inr (inr (w, t, same))) = let h = closed.next w (claim-taken s thresholds c d claim (all d claim closed) w t) in sym (claim.reached (s.next w) v same) ∙ h
+    reached v (inr (inr (w, t, same))) = let h = closed.next w (claim-taken s thresholds c d claim (all d claim closed) w t) in
+        sym (claim.reached (s.next w) v same) ∙ h
 
 pub below-good : (s : System) (thresholds : List ℤ) (c : RowClaim) → IsBelowClosed s thresholds c → HasGoodRows s thresholds → IsRowGood s c
 below-good s thresholds c all (d, claim, closed, good) v t = good v (claim-taken s thresholds c d claim (all d claim closed) v t)

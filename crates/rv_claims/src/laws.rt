@@ -17,8 +17,10 @@ ghost use Rattle.rv_claims.specs.Order.{IsBelowClosed, IsBottom, IsRaised};
 /// A tighter claim has fewer open valuations, and its premises show at once what those of the other claim show. So it
 /// is good where the other is.
 pub fn tighter_claims()
-    ensures shows { (s : System) (thresholds : List ℤ) (c d : RowClaim) → IsRowClaim s thresholds d → IsRowTighter c d → (v : Valuation) (r : Row) → ShowsAtOnce (premises_at s d v) r → ShowsAtOnce (premises_at s c v) r }
-    ensures taken { (s : System) (thresholds : List ℤ) (c d : RowClaim) → IsRowClaim s thresholds d → IsRowTighter c d → (v : Valuation) → IsRowTaken s c v → IsRowTaken s d v }
+    ensures shows { (s : System) (thresholds : List ℤ) (c d : RowClaim) → IsRowClaim s thresholds d → IsRowTighter c d → (v : Valuation) (r : Row)
+        → ShowsAtOnce (premises_at s d v) r → ShowsAtOnce (premises_at s c v) r }
+    ensures taken { (s : System) (thresholds : List ℤ) (c d : RowClaim) → IsRowClaim s thresholds d → IsRowTighter c d → (v : Valuation) → IsRowTaken s c v
+        → IsRowTaken s d v }
     ensures good { (s : System) (thresholds : List ℤ) (c d : RowClaim) → IsRowClaim s thresholds d → IsRowTighter c d → IsRowGood s d → IsRowGood s c }
 {}
 
@@ -26,13 +28,15 @@ pub fn tighter_claims()
 /// good where any closed one is.
 pub fn least_claim()
     ensures bottom { (s : System) (thresholds : List ℤ) (c : RowClaim) → IsBottom s thresholds c → IsBelowClosed s thresholds c }
-    ensures raised { (s : System) (thresholds : List ℤ) (c e : RowClaim) → IsBelowClosed s thresholds c → IsRaised s thresholds c e → IsBelowClosed s thresholds e }
+    ensures raised { (s : System) (thresholds : List ℤ) (c e : RowClaim) → IsBelowClosed s thresholds c → IsRaised s thresholds c e
+        → IsBelowClosed s thresholds e }
     ensures good { (s : System) (thresholds : List ℤ) (c : RowClaim) → IsBelowClosed s thresholds c → HasGoodRows s thresholds → IsRowGood s c }
 {}
 
 /// The certificate of two locations that a closed good claim gives is accepted.
 pub fn claim_certificate()
-    ensures { (s : System) (thresholds : List ℤ) (c : RowClaim) (cert : Certificate) (start later : Location) → IsSystem s → IsRowClaim s thresholds c → IsRowClosed s c → IsRowGood s c → IsClaimCertificate s c cert start later → IsAccepted s cert }
+    ensures { (s : System) (thresholds : List ℤ) (c : RowClaim) (cert : Certificate) (start later : Location) → IsSystem s → IsRowClaim s thresholds c
+        → IsRowClosed s c → IsRowGood s c → IsClaimCertificate s c cert start later → IsAccepted s cert }
 {}
 
 /// Multipliers prove, and refute, by the same rows under other numbers: those of the tests that are present, in a list,

@@ -1,5 +1,6 @@
 -- A run of a flat system in whole numbers is an abstract run of its system of valuations.
-use Rattle.std.proofs.Common.{◌≡◌, ◌⊎◌, ◌↔◌, inl, inr, ℕ, zero, suc, ◌+◌, ◌<◌, ◌≤◌, ℤ, pos, Bool, true, false, not, ◌&&◌, cond, List, [], ◌∷◌, length, length-append, map, refl, sym, ◌∙◌, ap, subst, arith, Option, Some}
+use Rattle.std.proofs.Common.{◌≡◌, ◌⊎◌, ◌↔◌, inl, inr, ℕ, zero, suc, ◌+◌, ◌<◌, ◌≤◌, ℤ, pos, Bool, true, false, not, ◌&&◌, cond, List, [], ◌∷◌, length}
+use Rattle.std.proofs.Common.{length-append, map, refl, sym, ◌∙◌, ap, subst, arith, Option, Some}
 use Rattle.std.proofs.Common.{None as Nothing}
 use Rattle.std.specs.Prelude.{slice_index_or, IsTrue}
 use Rattle.std.proofs.lemmas.Bool.{and_parts, ltb-true, lt-ltb, cases_lt, not-true}
@@ -20,8 +21,10 @@ use Rattle.rv_rows.specs.Forms as forms
 use Rattle.rv_rows.specs.Arithmetic.{constant_form}
 use Rattle.rv_agreement.specs.Trees.{Item, nth_item, Kept as KeptMemory, System, memory_kinds, memory_places, kind_at}
 use Rattle.rv_agreement.specs.Evaluation.{nth, is_on, is_met, integers}
-use Rattle.rv_agreement.specs.Valuations.{Valuation, Reading, Truth, Name, Linear, form_of, whole_count, width, wholes, reads_at, found_at, IsSymbolic, all_comparisons, Agrees, updated, next_tick, observed, IsCodedAs, IsCoded, IsAllowed}
-use Rattle.rv_agreement.specs.Agreement.{State, point, IsWholeInstant, IsNext, IsTyped, IsAgreed, IsWell, Gives, value_there, forms_from, updates, bit_count, IsSpelledAs, Leads}
+use Rattle.rv_agreement.specs.Valuations.{Valuation, Reading, Truth, Name, Linear, form_of, whole_count, width, wholes, reads_at, found_at, IsSymbolic}
+use Rattle.rv_agreement.specs.Valuations.{all_comparisons, Agrees, updated, next_tick, observed, IsCodedAs, IsCoded, IsAllowed}
+use Rattle.rv_agreement.specs.Agreement.{State, point, IsWholeInstant, IsNext, IsTyped, IsAgreed, IsWell, Gives, value_there, forms_from, updates, bit_count}
+use Rattle.rv_agreement.specs.Agreement.{IsSpelledAs, Leads}
 use Rattle.rv_agreement.specs.FlatRuns.{IsFlatRun, AreMetIn}
 use Rattle.rv_agreement.proofs.Controls.{no_flag}
 use Rattle.rv_agreement.proofs.Found.{length-wholes}
@@ -32,7 +35,8 @@ use Rattle.rv_proofs.specs.Systems as systems
 use Rattle.rv_proofs.specs.Runs.{IsAbstractRun}
 use Rattle.rv_control.specs.Named.{by_names, by_numbers, truth_of, tick_variable}
 use Rattle.rv_control.specs.Symbolic.{symbolic}
-use Rattle.rv_control.specs.Control.{names_label, memories_named, inputs_named, none_ticked, is_initial, tick_index, bit_of, all_met, is_allowed, row_of, next_truth, control_over}
+use Rattle.rv_control.specs.Control.{names_label, memories_named, inputs_named, none_ticked, is_initial, tick_index, bit_of, all_met, is_allowed, row_of}
+use Rattle.rv_control.specs.Control.{next_truth, control_over}
 use Rattle.rv_control.proofs.Names.{both, tick_itself, kept_itself, input_itself, test_itself, found_truth, tick_found}
 use Rattle.rv_control.proofs.Readings.{is_symbolic}
 use Rattle.rv_control.proofs.Alike.{NoControlForms, IsLike, symbolic_same, agrees_same, spells_as, coded_as}

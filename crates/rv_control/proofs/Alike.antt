@@ -1,5 +1,6 @@
 -- Valuations that say the same of all that a flat system names have the same symbolic instant, rows and next state.
-use Rattle.std.proofs.Common.{◌≡◌, inl, inr, ℕ, zero, suc, ◌+◌, ◌^◌, ◌<◌, ℤ, Bool, true, false, not, ◌&&◌, cond, nat_eq, List, [], ◌∷◌, ◌++◌, length, refl, sym, ◌∙◌, ap, subst, arith, Option, Some}
+use Rattle.std.proofs.Common.{◌≡◌, inl, inr, ℕ, zero, suc, ◌+◌, ◌^◌, ◌<◌, ℤ, Bool, true, false, not, ◌&&◌, cond, nat_eq, List, [], ◌∷◌, ◌++◌, length, refl, sym}
+use Rattle.std.proofs.Common.{◌∙◌, ap, subst, arith, Option, Some}
 use Rattle.std.proofs.Common.{None as Nothing}
 use Rattle.std.specs.Prelude.{slice_index_or, nat_le}
 use Rattle.std.specs.List.{Contains}
@@ -20,9 +21,13 @@ use Rattle.rv_rows.specs.declared.linear.Row.{Row}
 use Rattle.rv_rows.specs.declared.linear.Form.{Form}
 use Rattle.rv_rows.specs.Tight.{IsTightened}
 use Rattle.rv_rows.specs.Arithmetic.{form_sum, form_difference, form_times, test_row, column_form}
-use Rattle.rv_agreement.specs.Trees.{FlatTree, Node, TreeForm, FlatTrees, Constant, Flow, Memory, Ticked, Input, Not, Binary, Scale, If, AtMostOne, When, Current, None, More, Item, nth_item, no_item, System, memory_items, memory_kinds, memory_places, kind_at}
+use Rattle.rv_agreement.specs.Trees.{FlatTree, Node, TreeForm, FlatTrees, Constant, Flow, Memory, Ticked, Input, Not, Binary, Scale, If, AtMostOne, When}
+use Rattle.rv_agreement.specs.Trees.{Current, None, More, Item, nth_item, no_item, System, memory_items, memory_kinds, memory_places, kind_at}
 use Rattle.rv_agreement.specs.Evaluation.{is_on, held, is_there, form_value, trues, item_value}
-use Rattle.rv_agreement.specs.Valuations.{Valuation, Reading, Truth, Name, Linear, holds_true, is_linear, form_of, is_same, operated, constant_reading, spelled, width, rank, whole_count, reads_at, found_at, IsSymbolic, Comparison, is_placed, own, comparisons, form_comparisons, comparisons_of, item_comparisons, all_items, all_comparisons, IsPresent, side_form, tested_form, IsRowOf, read, tested, Agrees, IsCodedAs, IsCoded}
+use Rattle.rv_agreement.specs.Valuations.{Valuation, Reading, Truth, Name, Linear, holds_true, is_linear, form_of, is_same, operated, constant_reading, spelled}
+use Rattle.rv_agreement.specs.Valuations.{width, rank, whole_count, reads_at, found_at, IsSymbolic, Comparison, is_placed, own, comparisons, form_comparisons}
+use Rattle.rv_agreement.specs.Valuations.{comparisons_of, item_comparisons, all_items, all_comparisons, IsPresent, side_form, tested_form, IsRowOf, read}
+use Rattle.rv_agreement.specs.Valuations.{tested, Agrees, IsCodedAs, IsCoded}
 use Rattle.rv_agreement.specs.Agreement.{State, IsSpelled, Spells, IsRule, IsPlaced, Fits, FormFits, AllFit, ItemFits, IsNamed, IsWell, bit_count}
 use Rattle.rv_agreement.proofs.Controls.{no_flag}
 use Rattle.rv_agreement.proofs.Matching.{none_in, read_in, in_flat_map, from_flat_map, wider_item, Inside, inside}

@@ -1,5 +1,6 @@
 -- An abstract run of which each valuation is allowed is a run of the flat system in whole numbers.
-use Rattle.std.proofs.Common.{◌≡◌, ◌⊎◌, ◌↔◌, inl, inr, ℕ, zero, suc, ◌+◌, ◌*◌, ◌<◌, ◌≤◌, ℤ, pos, Bool, true, false, ◌||◌, List, [], ◌++◌, length, map, drop, refl, sym, ◌∙◌, ap, subst, arith, Option, Some}
+use Rattle.std.proofs.Common.{◌≡◌, ◌⊎◌, ◌↔◌, inl, inr, ℕ, zero, suc, ◌+◌, ◌*◌, ◌<◌, ◌≤◌, ℤ, pos, Bool, true, false, ◌||◌, List, [], ◌++◌, length, map, drop}
+use Rattle.std.proofs.Common.{refl, sym, ◌∙◌, ap, subst, arith, Option, Some}
 use Rattle.std.proofs.Common.{None as Nothing}
 use Rattle.std.specs.Prelude.{slice_index_or, IsTrue}
 use Rattle.std.proofs.lemmas.Bool.{and_parts, cases_lt}
@@ -20,7 +21,8 @@ use Rattle.rv_rows.specs.Arithmetic.{constant_form}
 use Rattle.rv_agreement.specs.Trees.{nth_item, System, memory_items, memory_kinds, memory_places, kind_at}
 use Rattle.rv_agreement.specs.Evaluation.{nth, is_there, after, integers}
 use Rattle.rv_agreement.specs.Kinding.{ReadsAs}
-use Rattle.rv_agreement.specs.Valuations.{Valuation, Reading, Truth, Name, Linear, at_point, form_of, whole_count, rank, width, IsSymbolic, Agrees, updated, next_tick, observed, IsCoded, IsAllowed}
+use Rattle.rv_agreement.specs.Valuations.{Valuation, Reading, Truth, Name, Linear, at_point, form_of, whole_count, rank, width, IsSymbolic, Agrees, updated}
+use Rattle.rv_agreement.specs.Valuations.{next_tick, observed, IsCoded, IsAllowed}
 use Rattle.rv_agreement.specs.Agreement.{State, point, found_in, IsWholeInstant, IsNext, IsTyped, IsAgreed, IsWell, Gives, bit_count, Spells}
 use Rattle.rv_agreement.specs.FlatRuns.{IsFlatRun, AreMetIn}
 use Rattle.rv_agreement.proofs.Spelled.{is_spelled}

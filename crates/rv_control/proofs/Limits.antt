@@ -12,7 +12,8 @@ use Rattle.rv_rows.specs.declared.linear.Row.{Row}
 use Rattle.rv_rows.specs.Arithmetic.{constant_form, test_row}
 use Rattle.rv_rows.specs.Tight.{IsTightened}
 use Rattle.rv_agreement.specs.Trees.{Item, nth_item, Kept as KeptMemory, System, memory_items, memory_kinds}
-use Rattle.rv_agreement.specs.Valuations.{Valuation, Reading, IsSymbolic, form_of, width, item_comparisons, all_items, all_comparisons, tested, tested_form, read, updated}
+use Rattle.rv_agreement.specs.Valuations.{Valuation, Reading, IsSymbolic, form_of, width, item_comparisons, all_items, all_comparisons, tested, tested_form}
+use Rattle.rv_agreement.specs.Valuations.{read, updated}
 use Rattle.rv_agreement.specs.Agreement.{IsWell}
 use Rattle.rv_agreement.proofs.Matching.{from_flat_map, read_in}
 use Rattle.rv_diagram.specs.Nodes.{Valuation as Numbered}

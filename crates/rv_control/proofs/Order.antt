@@ -12,7 +12,8 @@ use Rattle.rv_types.specs.declared.typed.Kind.{Kind}
 use Rattle.rv_types.specs.declared.typed.Kind.TheVariants as kind
 use Rattle.rv_types.specs.Kinds.{decl_kinds}
 use Rattle.rv_types.specs.Instances.{node_of}
-use Rattle.rv_types.specs.Lists.{Side, sides_of, Variable, MainTick, Tick, Kept, Input, Test, MemoryAt, ComparisonAt, AreVariables, bits, memory_variables, input_variables, test_variables}
+use Rattle.rv_types.specs.Lists.{Side, sides_of, Variable, MainTick, Tick, Kept, Input, Test, MemoryAt, ComparisonAt, AreVariables, bits, memory_variables}
+use Rattle.rv_types.specs.Lists.{input_variables, test_variables}
 use Rattle.rv_types.specs.Values.{label_count, labels_at}
 use Rattle.rv_types.specs.Variables.{bits_for, kind_bits}
 use Rattle.rv_agreement.specs.Trees.{Kept as KeptMemory, System, memory_kinds, memory_places, kind_at}

@@ -1,5 +1,6 @@
 -- The system of valuations of a flat system is one: its parts go by what they read, and its counts are within their limits.
-use Rattle.std.proofs.Common.{◌≡◌, ℕ, suc, ◌+◌, ◌-◌, ◌*◌, ◌^◌, ◌<◌, ◌≤◌, pos, Bool, true, false, not, ◌&&◌, ◌||◌, cond, List, [], ◌∷◌, length, map, refl, sym, ◌∙◌, ap, arith, Option, Some}
+use Rattle.std.proofs.Common.{◌≡◌, ℕ, suc, ◌+◌, ◌-◌, ◌*◌, ◌^◌, ◌<◌, ◌≤◌, pos, Bool, true, false, not, ◌&&◌, ◌||◌, cond, List, [], ◌∷◌, length, map, refl, sym}
+use Rattle.std.proofs.Common.{◌∙◌, ap, arith, Option, Some}
 use Rattle.std.proofs.Common.{None as Nothing}
 use Rattle.std.specs.Prelude.{slice_index_or, IsTrue}
 use Rattle.std.proofs.lemmas.Bool.{and_parts}
@@ -28,7 +29,8 @@ use Rattle.rv_flat.specs.Lists.{variable_of}
 use Rattle.rv_flat.specs.Systems.{kept_of}
 use Rattle.rv_control.specs.Named.{same_variable, variables_of, by_names, truth_at, tick_variable}
 use Rattle.rv_control.specs.Symbolic.{symbolic}
-use Rattle.rv_control.specs.Control.{names_label, memories_named, none_ticked, is_initial, is_allowed, tick_index, row_of, next_truth, control_over, control_of, order_tests}
+use Rattle.rv_control.specs.Control.{names_label, memories_named, none_ticked, is_initial, is_allowed, tick_index, row_of, next_truth, control_over, control_of}
+use Rattle.rv_control.specs.Control.{order_tests}
 use Rattle.rv_control.proofs.Listed.{IsListed}
 use Rattle.rv_control.proofs.Names.{same_truth, agreed_truth}
 use Rattle.rv_control.proofs.Order.{is_listed}

@@ -1,5 +1,6 @@
 -- The tightened row of a row is one.
-use Rattle.std.proofs.Common.{◌≡◌, ◌⊎◌, inl, inr, ℕ, zero, suc, ◌+◌, ◌*◌, ◌/◌, ◌%◌, ◌<◌, ◌≤◌, ℤ, pos, negsuc, ◌+ℤ◌, ◌*ℤ◌, ◌≤ℤ◌, ◌<ℤ◌, Bool, true, false, cond, nat_eq, List, [], ◌∷◌, map, length, get_or, refl, sym, ◌∙◌, ap, arith}
+use Rattle.std.proofs.Common.{◌≡◌, ◌⊎◌, inl, inr, ℕ, zero, suc, ◌+◌, ◌*◌, ◌/◌, ◌%◌, ◌<◌, ◌≤◌, ℤ, pos, negsuc, ◌+ℤ◌, ◌*ℤ◌, ◌≤ℤ◌, ◌<ℤ◌, Bool, true, false, cond}
+use Rattle.std.proofs.Common.{nat_eq, List, [], ◌∷◌, map, length, get_or, refl, sym, ◌∙◌, ap, arith}
 use Prim.Native.Nat.{◌∣◌}
 use borrow.Author.Differences.{up, down, product_is, at_most_in, sum_is_lem}
 use Rattle.std.specs.Int.{IsGcd}

@@ -1,5 +1,6 @@
 -- The rows and updates of a flat system are within the limits that its weights set.
-use Rattle.std.proofs.Common.{◌≡◌, inl, inr, ℕ, zero, suc, ◌+◌, ◌<◌, ◌≤◌, max, Bool, true, false, ◌&&◌, cond, nat_eq, List, [], ◌∷◌, ◌++◌, length, sym, ◌∙◌, ap, subst, arith, Option, Some}
+use Rattle.std.proofs.Common.{◌≡◌, inl, inr, ℕ, zero, suc, ◌+◌, ◌<◌, ◌≤◌, max, Bool, true, false, ◌&&◌, cond, nat_eq, List, [], ◌∷◌, ◌++◌, length, sym, ◌∙◌, ap}
+use Rattle.std.proofs.Common.{subst, arith, Option, Some}
 use Rattle.std.proofs.Common.{None as Nothing}
 use Rattle.std.specs.Prelude.{slice_index_or, nat_abs, nat_le}
 use Rattle.std.specs.List.{Contains}
@@ -18,10 +19,13 @@ use Rattle.rv_types.specs.Lists.{Side, AtMost, AtLeast, sides_of}
 use Rattle.rv_types.specs.Variables.{is_integer}
 use Rattle.rv_rows.specs.declared.linear.Form.{Form}
 use Rattle.rv_rows.specs.Arithmetic.{column_form}
-use Rattle.rv_agreement.specs.Trees.{FlatTree, Node, TreeForm, FlatTrees, Constant, Flow, Memory, Ticked, Input, Not, Binary, Scale, If, AtMostOne, When, Current, None, More, Item, nth_item, System, memory_items, memory_kinds, memory_places, kind_at}
+use Rattle.rv_agreement.specs.Trees.{FlatTree, Node, TreeForm, FlatTrees, Constant, Flow, Memory, Ticked, Input, Not, Binary, Scale, If, AtMostOne, When}
+use Rattle.rv_agreement.specs.Trees.{Current, None, More, Item, nth_item, System, memory_items, memory_kinds, memory_places, kind_at}
 use Rattle.rv_agreement.specs.Evaluation.{nth, held, is_there, form_value, item_value}
 use Rattle.rv_agreement.specs.Checks.{flows_fit}
-use Rattle.rv_agreement.specs.Valuations.{Valuation, Reading, holds_true, form_of, operated, constant_reading, spelled, width, rank, whole_count, reads_at, found_at, IsSymbolic, Comparison, is_placed, own, comparisons, form_comparisons, comparisons_of, side_form, read, updated}
+use Rattle.rv_agreement.specs.Valuations.{Valuation, Reading, holds_true, form_of, operated, constant_reading, spelled, width, rank, whole_count, reads_at}
+use Rattle.rv_agreement.specs.Valuations.{found_at, IsSymbolic, Comparison, is_placed, own, comparisons, form_comparisons, comparisons_of, side_form, read}
+use Rattle.rv_agreement.specs.Valuations.{updated}
 use Rattle.rv_agreement.specs.Agreement.{IsRule, Fits, FormFits, ItemFits, IsWell, forms_from}
 use Rattle.rv_agreement.proofs.Matching.{none_in, in_own}
 use Rattle.rv_flat.specs.Facts.{constant_weight, weight_under, flat_weight, form_flat_weight, is_light, form_is_light, all_light, flow_weights}

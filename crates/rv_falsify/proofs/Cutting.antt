@@ -11,7 +11,8 @@ use Rattle.rv_probe.proofs.Cuts.{cut_count, cut_falsified, cut_trace}
 use Rattle.rv_falsify.specs.Falsifying.{IsFalsifying}
 
 pub cut_falsifies : (program : ProgramTree) (main : Identifier) (whole : Trace) (last : ℕ) → IsTrace program main whole → IsFalsifiedAt program main whole last
-    → (left : List (List Value)) → left ≡ take (last + 1) whole.instants → (t : Trace) → record { starts = whole.starts; instants = left } ≡ t → IsFalsifying program main t
+    → (left : List (List Value)) → left ≡ take (last + 1) whole.instants → (t : Trace) → record { starts = whole.starts; instants = left } ≡ t
+    → IsFalsifying program main t
 cut_falsifies program main whole last trace is left so t same =
     let first : cut last whole ≡ t = (λ i. record { starts = whole.starts; instants = sym so i }) ∙ same in
     subst (λ (u : Trace). IsFalsifying program main u) first

@@ -1,5 +1,6 @@
 -- Where the bits of memories and inputs stand among the diagram variables of a flat system.
-use Rattle.std.proofs.Common.{◌≡◌, inl, inr, ℕ, zero, suc, ◌+◌, ◌*◌, ◌<◌, ◌≤◌, Bool, true, false, ◌&&◌, cond, nat_eq, List, [], ◌∷◌, ◌++◌, length, length-append, map, refl, sym, ◌∙◌, ap, subst, arith, Option, Some}
+use Rattle.std.proofs.Common.{◌≡◌, inl, inr, ℕ, zero, suc, ◌+◌, ◌*◌, ◌<◌, ◌≤◌, Bool, true, false, ◌&&◌, cond, nat_eq, List, [], ◌∷◌, ◌++◌, length}
+use Rattle.std.proofs.Common.{length-append, map, refl, sym, ◌∙◌, ap, subst, arith, Option, Some}
 use Rattle.std.proofs.Common.{None as Nothing}
 use Rattle.std.specs.Prelude.{slice_index_or}
 use Rattle.std.specs.List.{Contains}
@@ -12,7 +13,8 @@ use Rattle.rv_tree.specs.Places.{Identifier, Sites, index_of}
 use Rattle.rv_types.specs.declared.typed.Kind.{Kind}
 use Rattle.rv_types.specs.Kinds.{decl_kinds}
 use Rattle.rv_types.specs.Instances.{node_of}
-use Rattle.rv_types.specs.Lists.{Variable, MainTick, Tick, Kept, Input, MemoryAt, AreRising, AreVariables, bits, with_copies, memory_variables, input_variables, test_variables, memory_places}
+use Rattle.rv_types.specs.Lists.{Variable, MainTick, Tick, Kept, Input, MemoryAt, AreRising, AreVariables, bits, with_copies, memory_variables, input_variables}
+use Rattle.rv_types.specs.Lists.{test_variables, memory_places}
 use Rattle.rv_types.specs.Needs.{IsBefore}
 use Rattle.rv_types.specs.Variables.{kind_bits}
 use Rattle.rv_agreement.specs.Trees.{System, kind_at}

@@ -1,5 +1,6 @@
 -- The instants of a run: the observer is there with a truth value, and without integers no value leaves the range.
-use Rattle.std.proofs.Common.{◌≡◌, inl, inr, ℕ, ℤ, zero, suc, ◌+◌, ◌^◌, ◌<◌, ◌≤◌, Bool, true, false, cond, List, [], ◌∷◌, length, get_or, refl, sym, ◌∙◌, ap, subst, arith, Option, Some, IsSome, slice_get}
+use Rattle.std.proofs.Common.{◌≡◌, inl, inr, ℕ, ℤ, zero, suc, ◌+◌, ◌^◌, ◌<◌, ◌≤◌, Bool, true, false, cond, List, [], ◌∷◌, length, get_or, refl, sym, ◌∙◌, ap}
+use Rattle.std.proofs.Common.{subst, arith, Option, Some, IsSome, slice_get}
 use Rattle.std.proofs.Common.{None as Nothing}
 use Rattle.std.specs.FinMap.{empty}
 use Rattle.std.specs.FinMap as finite

@@ -1,5 +1,6 @@
 -- Where no memory or input holds an integer, no integer of a flat expression is larger than its weight.
-use Rattle.std.proofs.Common.{◌≡◌, inl, inr, ℕ, zero, suc, ◌+◌, ◌*◌, ◌^◌, ◌<◌, ◌≤◌, max, Bool, true, false, ◌&&◌, cond, ℤ, ◌*ℤ◌, nat_abs, List, [], length, get_or, sym, ◌∙◌, ap, subst, arith, Option, Some}
+use Rattle.std.proofs.Common.{◌≡◌, inl, inr, ℕ, zero, suc, ◌+◌, ◌*◌, ◌^◌, ◌<◌, ◌≤◌, max, Bool, true, false, ◌&&◌, cond, ℤ, ◌*ℤ◌, nat_abs, List, [], length}
+use Rattle.std.proofs.Common.{get_or, sym, ◌∙◌, ap, subst, arith, Option, Some}
 use Rattle.std.proofs.Common.{None as Nothing}
 use Rattle.std.specs.Prelude.{nat_lt, nat_le, slice_get}
 use Rattle.std.proofs.Math.ListN.{length-map}
@@ -19,7 +20,8 @@ use Rattle.rv_meaning.specs.Meaning.{is_true, number, operate}
 use Rattle.rv_agreement.specs.Agreement.{State, found_in, IsWholeInstant}
 use Rattle.rv_agreement.specs.Checks.{same_clock, is_of, gives, clock_fits, fits, form_fits}
 use Rattle.rv_agreement.specs.Evaluation.{Found, value, form_value, integers, item_value}
-use Rattle.rv_agreement.specs.Trees.{FlatTree, Node, TreeForm, Constant, Flow, Memory, Ticked, Input, Not, Binary, Scale, If, AtMostOne, When, Current, System, memory_kinds, nth_item}
+use Rattle.rv_agreement.specs.Trees.{FlatTree, Node, TreeForm, Constant, Flow, Memory, Ticked, Input, Not, Binary, Scale, If, AtMostOne, When, Current, System}
+use Rattle.rv_agreement.specs.Trees.{memory_kinds, nth_item}
 use Rattle.rv_flat.specs.declared.flat.Flat.{Flat}
 use Rattle.rv_flat.specs.FlatInstants.{Row, nth, held, is_on_at, flow_items, system_of}
 use Rattle.rv_flat.specs.Facts.{constant_weight, weight_under, flat_weight, form_flat_weight, flow_weights, is_light, form_is_light}

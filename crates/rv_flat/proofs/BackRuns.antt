@@ -1,5 +1,6 @@
 -- A run of a flat system is one of its program, in whole numbers of any size.
-use Rattle.std.proofs.Common.{◌≡◌, ◌⊎◌, inl, inr, ℕ, zero, suc, ◌+◌, ◌<◌, ◌≤◌, Bool, true, false, ◌||◌, List, [], ◌∷◌, ◌++◌, length, length-append, map, get_or, refl, sym, ◌∙◌, ap, subst, arith, slice_get}
+use Rattle.std.proofs.Common.{◌≡◌, ◌⊎◌, inl, inr, ℕ, zero, suc, ◌+◌, ◌<◌, ◌≤◌, Bool, true, false, ◌||◌, List, [], ◌∷◌, ◌++◌, length, length-append, map, get_or}
+use Rattle.std.proofs.Common.{refl, sym, ◌∙◌, ap, subst, arith, slice_get}
 use Rattle.std.proofs.Common.{Option, None as Nothing, Some}
 use Rattle.std.specs.FinMap.{empty}
 use Rattle.std.specs.List.{Contains}
@@ -45,7 +46,8 @@ StepsAreRun = (program : ProgramTree) (main : Identifier) (starts : Sites → Va
     → IsRun program main starts inputs n rows × ((t : ℕ) → t < n → IsStateAt program main starts (cells rows) t (states t))
 
 -- a value of a type in the system is one of the program
-kind_back : (p : ProgramTree) (counts : List ℕ) → ((i : ℕ) → get_or counts i 0 ≡ labels_at p.types i) → (k : Kind) (v : Value) → HasKindIn counts k v → HasKind p k v
+kind_back : (p : ProgramTree) (counts : List ℕ) → ((i : ℕ) → get_or counts i 0 ≡ labels_at p.types i) → (k : Kind) (v : Value) → HasKindIn counts k v
+    → HasKind p k v
 kind_back p counts same kind.Bool (Flag b) h = tt
 kind_back p counts same kind.Bool (Label l) h = absurd h
 kind_back p counts same kind.Bool (Whole z) h = absurd h
@@ -80,7 +82,8 @@ row_kth g (suc n) k lt = elim (eq-or-lt_of_le {n = k} {m = n} (omega arith)) [
   | inr below ↦ get_or_append_left (first_rows g n) (g n ∷ []) empty k (omega (arith, length-rows g n)) ∙ row_kth g n k below
 ]
 
-module _ (steps_are_run : StepsAreRun) (some_next : SomeNext) (program : ProgramTree) (main : Identifier) (f : Flat) (well : AreWell program) (named : IsNode program main) (flat : IsFlatOf program main f)
+module _ (steps_are_run : StepsAreRun) (some_next : SomeNext) (program : ProgramTree) (main : Identifier) (f : Flat) (well : AreWell program)
+    (named : IsNode program main) (flat : IsFlatOf program main f)
     (n : ℕ) (states : ℕ → State) (inputs : ℕ → List Value) (rows : ℕ → Row) (run : IsFlatRun (system_of f) n states inputs rows) (some : 0 < n) where
   abbrev system : System
   system = system_of f
@@ -107,7 +110,8 @@ module _ (steps_are_run : StepsAreRun) (some_next : SomeNext) (program : Program
   starts_typed i d inst w =
       let at = memory_at program i d in
       let found = memory_found f.memories at (flat.memories.all i d inst tt w) in
-      let number : index_of (memory_places f) at.place ≡ found.0 = ap (index_of (memory_places f)) (sym found.3) ∙ number_at (memory_places f) rising found.0 (omega (arith, count, found.1)) in
+      let number : index_of (memory_places f) at.place ≡ found.0 = ap (index_of (memory_places f)) (sym found.3)
+      ∙ number_at (memory_places f) rising found.0 (omega (arith, count, found.1)) in
       let is = kind_found (trees.memory_kinds system) found.0 at.kind (ap (λ ks. slice_get ks found.0) (kept_kinds f.memories f.memories) ∙ found.2) in
       subst (HasKind program at.kind) (ap (λ j. get_or (states 0).kept j (Flag false)) (sym number))
       (kind_back program (label_counts f) same_counts at.kind (get_or (states 0).kept found.0 (Flag false))
@@ -123,7 +127,8 @@ module _ (steps_are_run : StepsAreRun) (some_next : SomeNext) (program : Program
   inputs_same t lt =
       let long = length-values (given t) (length f.inputs) in
       let many = (run.typed t lt).given.many ∙ length-map f.inputs (λ i. i.kind) in
-      sym (ext_get_or (Flag false) (flat_inputs f (given t)) (inputs t) (omega (arith, long, many)) (λ k less. value_kth (given t) (length f.inputs) k (omega (arith, long, less))))
+      sym (ext_get_or (Flag false) (flat_inputs f (given t)) (inputs t) (omega (arith, long, many))
+      (λ k less. value_kth (given t) (length f.inputs) k (omega (arith, long, less))))
 
   -- the states of the program
   brought : ℕ → Brought
@@ -167,7 +172,8 @@ module _ (steps_are_run : StepsAreRun) (some_next : SomeNext) (program : Program
         let many = (run.typed 0 some).memories.many in
         sym (ext_get_or (Flag false) (flat_state f (brought 0)).kept (states 0).kept (omega (arith, long, count, many, kinds_count))
         (λ m lt. let less : m < length (memory_places f) = omega (arith, long, lt) in
-        get_or-map starts (memory_places f) m [] (Flag false) less ∙ ap (λ j. get_or (states 0).kept j (Flag false)) (number_at (memory_places f) rising m less)));
+        get_or-map starts (memory_places f) m [] (Flag false) less ∙ ap (λ j. get_or (states 0).kept j (Flag false))
+        (number_at (memory_places f) rising m less)));
   }
   same_at (suc t) le =
       let lt : t < n = omega arith in
@@ -179,7 +185,8 @@ module _ (steps_are_run : StepsAreRun) (some_next : SomeNext) (program : Program
       let many = length-map f.memories (kept_of f.memories) in
       let ticks = ext_get_or false (states (suc t)).ticked (flat_state f (brought (suc t))).ticked (mine.ticks ∙ sym other.ticks)
       (λ k less. let below : k < length system.tick_clocks = omega (arith, mine.ticks, less) in
-      mine.ticked k below ∙ ap (λ b. b || evaluation.is_there Value integers (rows t) (get_or system.tick_clocks k Nothing)) (same.ticked k) ∙ sym (other.ticked k below)) in
+      mine.ticked k below ∙ ap (λ b. b || evaluation.is_there Value integers (rows t) (get_or system.tick_clocks k Nothing)) (same.ticked k)
+      ∙ sym (other.ticked k below)) in
       record {
         ticked = λ k. ap (λ l. get_or l k false) ticks;
         kept =

@@ -20,7 +20,8 @@ before_tested [] (y ∷ ys) e = tt
 before_tested (x ∷ xs) [] e = let bad : false ≡ true = e in absurd (grind arith)
 before_tested (x ∷ xs) (y ∷ ys) e = tested (nat_cmp x y) refl e (before_tested xs ys)
   where
-    tested : (o : Ordering) → nat_cmp x y ≡ o → is_lt (ordering_then o (slice_cmp nat_cmp xs ys)) ≡ true → (is_before xs ys ≡ true → IsBefore xs ys) → (x < y) ⊎ ((x ≡ y) × IsBefore xs ys)
+    tested : (o : Ordering) → nat_cmp x y ≡ o → is_lt (ordering_then o (slice_cmp nat_cmp xs ys)) ≡ true → (is_before xs ys ≡ true → IsBefore xs ys)
+        → (x < y) ⊎ ((x ≡ y) × IsBefore xs ys)
     tested Less is e later = inl (grind (arith, nat_tests))
     tested Equal is e later = inr (grind (arith, nat_tests), later e)
     tested Greater is e later = let bad : false ≡ true = e in absurd (grind arith)
@@ -30,7 +31,8 @@ not_before_tested p [] e b = b
 not_before_tested [] (y ∷ ys) e b = let bad : true ≡ false = e in absurd (grind arith)
 not_before_tested (x ∷ xs) (y ∷ ys) e b = tested (nat_cmp x y) refl e b (not_before_tested xs ys)
   where
-    tested : (o : Ordering) → nat_cmp x y ≡ o → is_lt (ordering_then o (slice_cmp nat_cmp xs ys)) ≡ false → (x < y) ⊎ ((x ≡ y) × IsBefore xs ys) → (is_before xs ys ≡ false → IsBefore xs ys → ⊥) → ⊥
+    tested : (o : Ordering) → nat_cmp x y ≡ o → is_lt (ordering_then o (slice_cmp nat_cmp xs ys)) ≡ false → (x < y) ⊎ ((x ≡ y) × IsBefore xs ys)
+        → (is_before xs ys ≡ false → IsBefore xs ys → ⊥) → ⊥
     tested Less is e b later = let bad : true ≡ false = e in absurd (grind arith)
     tested Equal is e (inl lt) later = grind (arith, nat_tests)
     tested Equal is e (inr (same, b)) later = later e b
@@ -58,7 +60,8 @@ as_early [] (y ∷ ys) e = inr tt
 as_early (x ∷ xs) [] e = let bad : true ≡ false = e in absurd (grind arith)
 as_early (x ∷ xs) (y ∷ ys) e = tested (nat_cmp y x) refl e (as_early xs ys)
   where
-    tested : (o : Ordering) → nat_cmp y x ≡ o → is_lt (ordering_then o (slice_cmp nat_cmp ys xs)) ≡ false → (is_before ys xs ≡ false → (xs ≡ ys) ⊎ IsBefore xs ys)
+    tested : (o : Ordering) → nat_cmp y x ≡ o → is_lt (ordering_then o (slice_cmp nat_cmp ys xs)) ≡ false
+        → (is_before ys xs ≡ false → (xs ≡ ys) ⊎ IsBefore xs ys)
         → (x ∷ xs ≡ y ∷ ys) ⊎ ((x < y) ⊎ ((x ≡ y) × IsBefore xs ys))
     tested Less is e later = let bad : true ≡ false = e in absurd (grind arith)
     tested Greater is e later = inr (inl (grind (arith, nat_tests)))
@@ -97,7 +100,8 @@ least_with Is And (Some p) q least here one all = tested (is_before q.sites p.si
 
 -- the least of two kinds of places
 pub least_joined : (A B : Sites → Type 0) (p : Option Place) (q : Place) → IsLeastOf A p → IsLeast B q.sites → IsLeast (λ r. A r ⊎ B r) (sooner p q).sites
-least_joined A B p q a b = least_with A (λ r. A r ⊎ B r) p q a (inr b.0) (λ r is. elim is [ inl of_a ↦ inr of_a | inr of_b ↦ inl (b.1 r of_b) ]) (λ r is. inl is)
+least_joined A B p q a b = least_with A (λ r. A r ⊎ B r) p q a (inr b.0) (λ r is. elim is [ inl of_a ↦ inr of_a | inr of_b ↦ inl (b.1 r of_b) ])
+    (λ r is. inl is)
 
 pub least_alone : (A B : Sites → Type 0) (p : Option Place) → IsLeastOf A p → ((q : Sites) → B q → ⊥) → IsLeastOf (λ r. A r ⊎ B r) p
 least_alone A B Nothing a none = λ q is. elim is [ inl of_a ↦ a q of_a | inr of_b ↦ none q of_b ]

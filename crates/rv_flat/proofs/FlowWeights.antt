@@ -1,8 +1,10 @@
 -- The weight of each flow is that of its expression.
-use Rattle.std.proofs.Common.{◌≡◌, ℕ, zero, suc, ◌+◌, ◌*◌, ◌<◌, max, true, nat_abs, List, [], ◌∷◌, ◌++◌, length, get_or, refl, sym, ◌∙◌, ap, subst, arith, length-append}
+use Rattle.std.proofs.Common.{◌≡◌, ℕ, zero, suc, ◌+◌, ◌*◌, ◌<◌, max, true, nat_abs, List, [], ◌∷◌, ◌++◌, length, get_or, refl, sym, ◌∙◌, ap, subst, arith}
+use Rattle.std.proofs.Common.{length-append}
 use Rattle.std.proofs.lemmas.List.{get_or_append_left, get_or_push}
 use Rattle.rv_agreement.specs.Checks.{clock_fits, fits, item_fits, flows_fit}
-use Rattle.rv_agreement.specs.Trees.{FlatTree, Node, TreeForm, Constant, Flow, Memory, Ticked, Input, Not, Binary, Scale, If, AtMostOne, When, Current, Item, System, kind_at, nth_item}
+use Rattle.rv_agreement.specs.Trees.{FlatTree, Node, TreeForm, Constant, Flow, Memory, Ticked, Input, Not, Binary, Scale, If, AtMostOne, When, Current, Item}
+use Rattle.rv_agreement.specs.Trees.{System, kind_at, nth_item}
 use Rattle.rv_flat.specs.Facts.{weight_under, flat_weight, form_flat_weight, is_light, weights_after, items_light}
 use Rattle.rv_flat.specs.Tame.{IsOver, FormIsOver}
 use Rattle.rv_flat.proofs.NamedTicks.{over}

@@ -14,7 +14,8 @@ use Rattle.rv_flat.specs.declared.parts.FlatFlow.{FlatFlow}
 use Rattle.rv_flat.specs.declared.parts.FlatInput.{FlatInput}
 use Rattle.rv_flat.specs.declared.parts.FlatMemory.{FlatMemory}
 use Rattle.rv_flat.specs.Inlined.{inlined, form_inlined, all_inlined, item_by, table_to, table_of, shown_ends, ends_within, all_end, IsTable}
-use Rattle.rv_flat.specs.RawTree.{RawTree, Node, RawForm, RawTrees, Constant, Flow, Memory, Ticked, Input, Not, Binary, Scale, If, AtMostOne, When, Current, None, More, raw_tree, all_shown, form_all_shown, each_all_shown}
+use Rattle.rv_flat.specs.RawTree.{RawTree, Node, RawForm, RawTrees, Constant, Flow, Memory, Ticked, Input, Not, Binary, Scale, If, AtMostOne, When, Current}
+use Rattle.rv_flat.specs.RawTree.{None, More, raw_tree, all_shown, form_all_shown, each_all_shown}
 use Rattle.rv_flat.specs.Systems.{asserted, assertion_item, flow_item, kept_of, memory_item, system_from}
 
 no_flag : {A : Type 0} → false ≡ true → A
@@ -60,7 +61,11 @@ module _ (ms : List FlatMemory) where
       by : (o : Option FlatMemory) → shown_ends (ends_within ms n) o ≡ true → ((j : ℕ) → ends_within ms n j ≡ true → table_to ms (suc n) j ≡ table_to ms n j)
           → item_by (table_to ms (suc n)) o ≡ item_by (table_to ms n) o
       by Nothing e inner = refl
-      by (Some m) e inner = λ i. record { clock = m.clock; body = same_inlined (ends_within ms n) (table_to ms (suc n)) (table_to ms n) inner (raw_tree m.body) e i }
+      by (Some m) e inner = λ i. record {
+        clock = m.clock;
+        body = same_inlined (ends_within ms n) (table_to ms (suc n)) (table_to ms n) inner
+            (raw_tree m.body) e i;
+      }
 
   ends_kth : (n k : ℕ) → all_end ms n ≡ true → k < n → ends_within ms (length ms) k ≡ true
   ends_kth zero k e lt = absurd (omega arith)
@@ -106,7 +111,8 @@ mutual
   each_any (More e es) = λ i. all_any e i && each_any es i
 
 -- In a system whose memories a table has, where the memories that are shown are shared, each tree by the table is.
-module _ (s : System) (table : ℕ → Item) (has : ℕ → Bool) (at : (m : ℕ) → nth_item (memory_items s) m ≡ table m) (inner : (m : ℕ) → has m ≡ true → IsShared s (table m).body) where
+module _ (s : System) (table : ℕ → Item) (has : ℕ → Bool) (at : (m : ℕ) → nth_item (memory_items s) m ≡ table m)
+    (inner : (m : ℕ) → has m ≡ true → IsShared s (table m).body) where
   mutual
     tree_shared : (e : RawTree) → all_shown has e ≡ true → IsShared s (inlined table e)
     tree_shared (Node place form) e = form_shared form e
@@ -151,13 +157,15 @@ pub item_at : (ms : List FlatMemory) → all_end ms (length ms) ≡ true → (m 
 item_at ms ends m = items_are ms ms (table_of ms) (is_table ms ends) (table_past ms) m
 
 -- items that are all shared, by their numbers
-all_shared : {A : Type 0} (s : System) (item : A → Item) (xs : List A) → ((x : A) → IsShared s (item x).body) → (k : ℕ) → IsShared s (nth_item (map item xs) k).body
+all_shared : {A : Type 0} (s : System) (item : A → Item) (xs : List A) → ((x : A) → IsShared s (item x).body) → (k : ℕ)
+    → IsShared s (nth_item (map item xs) k).body
 all_shared s item [] each k = tt
 all_shared s item (x ∷ xs) each zero = each x
 all_shared s item (x ∷ xs) each (suc k) = all_shared s item xs each k
 
 -- In the system of some parts, where following what the memories show ends.
-module _ (flows : List FlatFlow) (ms : List FlatMemory) (inputs : List FlatInput) (assertions : List FlatExpr) (variables : List Bit) (labels : List (List (List ℕ))) (observer : ℕ)
+module _ (flows : List FlatFlow) (ms : List FlatMemory) (inputs : List FlatInput) (assertions : List FlatExpr) (variables : List Bit)
+    (labels : List (List (List ℕ))) (observer : ℕ)
     (ends : all_end ms (length ms) ≡ true) where
   abbrev system : System
   system = system_from flows ms inputs assertions variables labels observer
@@ -170,9 +178,11 @@ module _ (flows : List FlatFlow) (ms : List FlatMemory) (inputs : List FlatInput
   ends_shared zero m e = no_flag e
   ends_shared (suc n) m e = by (slice_get ms m) refl e (ends_shared n)
     where
-      by : (o : Option FlatMemory) → slice_get ms m ≡ o → shown_ends (ends_within ms n) o ≡ true → ((j : ℕ) → ends_within ms n j ≡ true → IsShared system (table_of ms j).body) → IsShared system (table_of ms m).body
+      by : (o : Option FlatMemory) → slice_get ms m ≡ o → shown_ends (ends_within ms n) o ≡ true
+          → ((j : ℕ) → ends_within ms n j ≡ true → IsShared system (table_of ms j).body) → IsShared system (table_of ms m).body
       by Nothing is e inner = subst (λ x. IsShared system x.body) (sym (table_past ms m is)) tt
-      by (Some x) is e inner = subst (λ y. IsShared system y.body) (sym (is_table ms ends m x is)) (tree_shared system (table_of ms) (ends_within ms n) memory_at inner (raw_tree x.body) e)
+      by (Some x) is e inner = subst (λ y. IsShared system y.body) (sym (is_table ms ends m x is))
+          (tree_shared system (table_of ms) (ends_within ms n) memory_at inner (raw_tree x.body) e)
 
   body_shared : (m : ℕ) → IsShared system (table_of ms m).body
   body_shared m = elim (cases_lt m (length ms)) [

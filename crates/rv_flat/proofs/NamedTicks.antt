@@ -13,7 +13,8 @@ use Rattle.rv_meaning.specs.Meaning.{is_true, number, operate}
 use Rattle.rv_agreement.specs.Agreement.{IsNamed}
 use Rattle.rv_agreement.specs.Checks.{same_clock, is_of, clock_fits, fits, form_fits, all_fit}
 use Rattle.rv_agreement.specs.Evaluation.{Found, value, form_value, trues, integers}
-use Rattle.rv_agreement.specs.Trees.{FlatTree, Node, TreeForm, FlatTrees, Constant, Flow, Memory, Ticked, Input, Not, Binary, Scale, If, AtMostOne, When, Current, None, More, System, memory_kinds, nth_item}
+use Rattle.rv_agreement.specs.Trees.{FlatTree, Node, TreeForm, FlatTrees, Constant, Flow, Memory, Ticked, Input, Not, Binary, Scale, If, AtMostOne, When}
+use Rattle.rv_agreement.specs.Trees.{Current, None, More, System, memory_kinds, nth_item}
 use Rattle.rv_flat.specs.FlatInstants.{Row, nth, held, is_on, is_on_at}
 use Rattle.rv_flat.specs.Tame.{IsOver, FormIsOver, AreOver}
 use Rattle.rv_flat.proofs.Tested.{both, operator_fits}

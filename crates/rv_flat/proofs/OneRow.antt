@@ -31,7 +31,8 @@ item_over s n x fit = (clock_named s n x.clock fit.clock, over s n x.clock fit.k
 pub same_item : (now : State) (inputs : List Value) (row other : Row) (n : ℕ) (x : Item) → IsItemOver n x → ((k : ℕ) → k < n → nth row k ≡ nth other k)
     → item_value now inputs row x ≡ item_value now inputs other x
 same_item now inputs row other n x is agree =
-    λ i. cond (same_there (found_at now inputs) row other n agree x.clock is.0 i) (Some (same_value (found_at now inputs) row other n agree x.body is.1 i)) Nothing
+    λ i. cond (same_there (found_at now inputs) row other n agree x.clock is.0 i) (Some (same_value (found_at now inputs) row other n agree x.body is.1 i))
+    Nothing
 
 module _ (f : Flat) (now : State) (inputs : List Value) where
   pub fits_kth : (k : ℕ) → k < length f.flows → ItemFits (system_of f) k (nth_item (flow_items f) k)
@@ -49,7 +50,8 @@ module _ (f : Flat) (now : State) (inputs : List Value) where
   pub one_filled : (n : ℕ) (row : Row) (value : Option Value) → n < length f.flows → value ≡ item_value now inputs row (nth_item (flow_items f) n)
       → IsFilled f now inputs n row → IsFilled f now inputs (n + 1) (row ++ value ∷ [])
   one_filled n row value lt is filled =
-      let agree : (k : ℕ) → k < n → nth row k ≡ nth (row ++ value ∷ []) k = λ k less. sym (get_or_append_left row (value ∷ []) Nothing k (omega (arith, filled.flows))) in
+      let agree : (k : ℕ) → k < n → nth row k ≡ nth (row ++ value ∷ []) k = λ k less. sym
+      (get_or_append_left row (value ∷ []) Nothing k (omega (arith, filled.flows))) in
       record {
         flows = omega (arith, length-append row (value ∷ []), filled.flows);
         holds = λ k less. elim (eq-or-lt_of_le {n = k} {m = n} (omega arith)) [
@@ -77,13 +79,15 @@ module _ (f : Flat) (now : State) (inputs : List Value) where
   instant_filled row filled = record { flows = filled.flows; holds = filled.holds }
 
   -- two instants agree
-  first_agree : (row other : Row) → IsFlatInstant f now inputs row → IsFlatInstant f now inputs other → (n : ℕ) → n ≤ length f.flows → (k : ℕ) → k < n → nth row k ≡ nth other k
+  first_agree : (row other : Row) → IsFlatInstant f now inputs row → IsFlatInstant f now inputs other → (n : ℕ) → n ≤ length f.flows → (k : ℕ) → k < n
+      → nth row k ≡ nth other k
   first_agree row other a b zero le k less = absurd (omega arith)
   first_agree row other a b (suc n) le k less =
       let before = first_agree row other a b n (omega arith) in
       elim (eq-or-lt_of_le {n = k} {m = n} (omega arith)) [
         | inl same ↦ subst (λ j. nth row j ≡ nth other j) (sym same)
-            (a.holds n (omega arith) ∙ same_item now inputs row other n (nth_item (flow_items f) n) (over_kth n (omega arith)) before ∙ sym (b.holds n (omega arith)))
+            (a.holds n (omega arith) ∙ same_item now inputs row other n (nth_item (flow_items f) n) (over_kth n (omega arith)) before
+            ∙ sym (b.holds n (omega arith)))
         | inr below ↦ before k below
       ]
 

@@ -1,5 +1,6 @@
 -- Places by their numbers, and rows of flows as instants.
-use Rattle.std.proofs.Common.{◌≡◌, inl, inr, ℕ, suc, ◌+◌, ◌<◌, ◌↔◌, Bool, true, false, ◌||◌, cond, List, [], ◌∷◌, map, length, get_or, refl, sym, ◌∙◌, ap, subst, arith, Option, Some, IsSome}
+use Rattle.std.proofs.Common.{◌≡◌, inl, inr, ℕ, suc, ◌+◌, ◌<◌, ◌↔◌, Bool, true, false, ◌||◌, cond, List, [], ◌∷◌, map, length, get_or, refl, sym, ◌∙◌, ap}
+use Rattle.std.proofs.Common.{subst, arith, Option, Some, IsSome}
 use Rattle.std.proofs.Common.{None as Nothing}
 use Rattle.std.proofs.lemmas.List.{length-map, get_or-map, get_or_default, get_or_past, same_lists}
 use Rattle.std.proofs.lemmas.Bool.{cases_order}
@@ -55,7 +56,8 @@ pub index_at : (xs : List Identifier) (x : Identifier) → is_among xs x ≡ tru
 index_at [] x e = no_flag e
 index_at (y ∷ ys) x e = tested (is_same y x) refl e (index_at ys x)
   where
-    tested : (b : Bool) → is_same y x ≡ b → (b || is_among ys x) ≡ true → (is_among ys x ≡ true → (index_of ys x < length ys) × (get_or ys (index_of ys x) [] ≡ x))
+    tested : (b : Bool) → is_same y x ≡ b → (b || is_among ys x) ≡ true
+        → (is_among ys x ≡ true → (index_of ys x < length ys) × (get_or ys (index_of ys x) [] ≡ x))
         → (cond b 0 (index_of ys x + 1) < length (y ∷ ys)) × (get_or (y ∷ ys) (cond b 0 (index_of ys x + 1)) [] ≡ x)
     tested true is e again = (omega arith, same_text y x is)
     tested false is e again =
@@ -79,7 +81,8 @@ pub made_past : {Y : Type 0} (f : Sites → Y) (ps : List Sites) (p : Sites) (d 
 made_past f ps p d e = let long = length-map ps f in let past = index_past ps p e in get_or_past (map f ps) (index_of ps p) d (omega (arith, long, past))
 
 -- A row of an instant that has no other flows has by its numbers what the instant has by places.
-pub row_agrees : (ps : List Sites) (instant : Instant) → ((p : Sites) → is_among ps p ≡ false → cell instant p ≡ Nothing) → (p : Sites) → nth (row_of ps instant) (index_of ps p) ≡ cell instant p
+pub row_agrees : (ps : List Sites) (instant : Instant) → ((p : Sites) → is_among ps p ≡ false → cell instant p ≡ Nothing) → (p : Sites)
+    → nth (row_of ps instant) (index_of ps p) ≡ cell instant p
 row_agrees ps instant none p = by (is_among ps p) refl
   where
     by : (b : Bool) → is_among ps p ≡ b → nth (row_of ps instant) (index_of ps p) ≡ cell instant p
@@ -97,8 +100,10 @@ read_written m p q v = get-insert nat_list_cmp_total m p v q ∙ ap (λ b. cond 
 
     ties : eq_by_cmp (slice_cmp nat_cmp) q p ≡ eq_by_cmp (slice_cmp nat_cmp) p q
     ties = one_way _ _
-        (λ e. ap (λ z. eq_by_cmp (slice_cmp nat_cmp) p z) (slice_cmp-IsAntisymmetric nat_cmp-IsAntisymmetric q p (only_equal (slice_cmp nat_cmp q p) e)) ∙ ap is_eq (tied_itself nat_list_cmp_total p))
-        (λ e. ap (λ z. eq_by_cmp (slice_cmp nat_cmp) q z) (slice_cmp-IsAntisymmetric nat_cmp-IsAntisymmetric p q (only_equal (slice_cmp nat_cmp p q) e)) ∙ ap is_eq (tied_itself nat_list_cmp_total q))
+        (λ e. ap (λ z. eq_by_cmp (slice_cmp nat_cmp) p z) (slice_cmp-IsAntisymmetric nat_cmp-IsAntisymmetric q p (only_equal (slice_cmp nat_cmp q p) e))
+        ∙ ap is_eq (tied_itself nat_list_cmp_total p))
+        (λ e. ap (λ z. eq_by_cmp (slice_cmp nat_cmp) q z) (slice_cmp-IsAntisymmetric nat_cmp-IsAntisymmetric p q (only_equal (slice_cmp nat_cmp p q) e))
+        ∙ ap is_eq (tied_itself nat_list_cmp_total q))
 
 -- The instant of a row has by places what the row has by numbers, and nothing else.
 pub instant_agrees : (ps : List Sites) (row : Row) → length row ≡ length ps → (p : Sites) → nth row (index_of ps p) ≡ cell (instant_of ps row) p
@@ -108,7 +113,8 @@ instant_agrees (q ∷ ps) [] long p = absurd (omega (arith, long))
 instant_agrees (q ∷ ps) (x ∷ row) long p =
     tested (is_same q p) (instant_agrees ps row (omega (arith, long)) p) ∙ sym (ap flat (read_written (instant_of ps row) q p x))
   where
-    tested : (b : Bool) → nth row (index_of ps p) ≡ cell (instant_of ps row) p → nth (x ∷ row) (cond b 0 (index_of ps p + 1)) ≡ flat (cond b (Some x) (finite.get (instant_of ps row) p))
+    tested : (b : Bool) → nth row (index_of ps p) ≡ cell (instant_of ps row) p
+        → nth (x ∷ row) (cond b 0 (index_of ps p + 1)) ≡ flat (cond b (Some x) (finite.get (instant_of ps row) p))
     tested true again = refl
     tested false again = (let next : index_of ps p + 1 ≡ suc (index_of ps p) = omega arith in ap (nth (x ∷ row)) next) ∙ again
 
@@ -116,14 +122,17 @@ pub instant_places : (ps : List Sites) (row : Row) → length row ≡ length ps 
 instant_places [] [] long p = (λ h. no_flag (subst IsSome (get-empty (slice_cmp nat_cmp) p) h), λ h. no_flag h)
 instant_places [] (x ∷ row) long p = absurd (omega (arith, long))
 instant_places (q ∷ ps) [] long p = absurd (omega (arith, long))
-instant_places (q ∷ ps) (x ∷ row) long p = tested (is_same q p) (finite.get (instant_of (q ∷ ps) (x ∷ row)) p) (read_written (instant_of ps row) q p x) (instant_places ps row (omega (arith, long)) p)
+instant_places (q ∷ ps) (x ∷ row) long p = tested (is_same q p) (finite.get (instant_of (q ∷ ps) (x ∷ row)) p) (read_written (instant_of ps row) q p x)
+    (instant_places ps row (omega (arith, long)) p)
   where
-    tested : (b : Bool) (o : Option (Option Value)) → o ≡ cond b (Some x) (finite.get (instant_of ps row) p) → (IsSome (finite.get (instant_of ps row) p) ↔ (is_among ps p ≡ true)) → IsSome o ↔ ((b || is_among ps p) ≡ true)
+    tested : (b : Bool) (o : Option (Option Value)) → o ≡ cond b (Some x) (finite.get (instant_of ps row) p)
+        → (IsSome (finite.get (instant_of ps row) p) ↔ (is_among ps p ≡ true)) → IsSome o ↔ ((b || is_among ps p) ≡ true)
     tested true o is again = (λ h. refl, λ h. subst IsSome (sym is) refl)
     tested false o is again = (λ h. again.0 (subst IsSome is h), λ h. subst IsSome (sym is) (again.1 h))
 
 -- the number of a place that stands once
-pub its_number : (ps : List Sites) → ((j k : ℕ) → j < k → k < length ps → get_or ps j [] ≡ get_or ps k [] → ⊥) → (k : ℕ) → k < length ps → index_of ps (get_or ps k []) ≡ k
+pub its_number : (ps : List Sites) → ((j k : ℕ) → j < k → k < length ps → get_or ps j [] ≡ get_or ps k [] → ⊥) → (k : ℕ) → k < length ps
+    → index_of ps (get_or ps k []) ≡ k
 its_number ps once k lt =
     let p : Sites = get_or ps k [] in
     let r = index_at ps p (is_found ps p (k, lt, get_or_default ps k p [] lt)) in
@@ -136,7 +145,8 @@ its_number ps once k lt =
     ]
 
 -- Where each place stands once, the row of that instant is the row again.
-pub row_again : (ps : List Sites) (row : Row) → ((j k : ℕ) → j < k → k < length ps → get_or ps j [] ≡ get_or ps k [] → ⊥) → length row ≡ length ps → row_of ps (instant_of ps row) ≡ row
+pub row_again : (ps : List Sites) (row : Row) → ((j k : ℕ) → j < k → k < length ps → get_or ps j [] ≡ get_or ps k [] → ⊥) → length row ≡ length ps
+    → row_of ps (instant_of ps row) ≡ row
 row_again ps row once long = same_lists (row_of ps (instant_of ps row)) row (length-map ps (cell (instant_of ps row)) ∙ sym long) each
   where
     each : (k : ℕ) (d : Option Value) → k < length (row_of ps (instant_of ps row)) → get_or (row_of ps (instant_of ps row)) k d ≡ get_or row k d

@@ -1,5 +1,6 @@
 -- Steps of a flat system from the start give the run of its program.
-use Rattle.std.proofs.Common.{◌≡◌, ◌⊎◌, inl, inr, ℕ, zero, suc, ◌+◌, ◌<◌, ◌≤◌, ◌↔◌, Bool, true, false, List, [], ◌∷◌, ◌++◌, length, map, get_or, refl, sym, ◌∙◌, ap, subst, arith}
+use Rattle.std.proofs.Common.{◌≡◌, ◌⊎◌, inl, inr, ℕ, zero, suc, ◌+◌, ◌<◌, ◌≤◌, ◌↔◌, Bool, true, false, List, [], ◌∷◌, ◌++◌, length, map, get_or, refl, sym, ◌∙◌}
+use Rattle.std.proofs.Common.{ap, subst, arith}
 use Rattle.std.proofs.Common.{Option, None as Nothing, Some}
 use Rattle.std.specs.FinMap.{empty}
 use Rattle.std.specs.List.{Contains}
@@ -37,12 +38,14 @@ pub record RunIsInstants : Type 0 where
       → IsRun program main starts inputs n h → t < n → IsStateAt program main starts (cells h) t state
       → IsInstant program main state (inputs t) (get_or h t empty)
       × (AssertionsHold program main starts h t ↔ AllowsAt program main state (get_or h t empty))
-  pub assertions : (program : ProgramTree) (main : Identifier) (starts : Sites → Value) (h : History) (t : ℕ) (state : Brought) (i : Instance) (a : AssertionTree)
+  pub assertions : (program : ProgramTree) (main : Identifier) (starts : Sites → Value) (h : History) (t : ℕ) (state : Brought) (i : Instance)
+      (a : AssertionTree)
       → IsStateAt program main starts (cells h) t state → IsInstance program main i → Contains i.node.assertions a
       → value program starts (cells h) i Base a.body t ≡ value_now program state (get_or h t empty) i Base a.body
 
 pub record StatesOfRun : Type 0 where
-  pub some : (program : ProgramTree) (main : Identifier) (starts : Sites → Value) (h : History) (t : ℕ) → AreWell program → IsNode program main → (state : Brought) × IsStateAt program main starts (cells h) t state
+  pub some : (program : ProgramTree) (main : Identifier) (starts : Sites → Value) (h : History) (t : ℕ) → AreWell program → IsNode program main
+      → (state : Brought) × IsStateAt program main starts (cells h) t state
   pub start : (program : ProgramTree) (main : Identifier) (starts : Sites → Value) (h : History) (state : Brought)
       → IsStateAt program main starts (cells h) 0 state ↔ IsStart program main starts state
   pub next : (program : ProgramTree) (main : Identifier) (starts : Sites → Value) (h : History) (t : ℕ) (state next : Brought)
@@ -101,7 +104,8 @@ within_places (p ∷ ps) zero s e = omega arith
 within_places (p ∷ ps) (suc k) s e = let h = within_places ps k s e in omega (arith, h)
 
 module _ (run_is_instants : RunIsInstants) (states_of_run : StatesOfRun)
-    (program : ProgramTree) (main : Identifier) (f : Flat) (starts : Sites → Value) (inputs : ℕ → ℕ → Value) (n : ℕ) (h : History) (states : ℕ → State) (rows : ℕ → Row)
+    (program : ProgramTree) (main : Identifier) (f : Flat) (starts : Sites → Value) (inputs : ℕ → ℕ → Value) (n : ℕ) (h : History) (states : ℕ → State)
+    (rows : ℕ → Row)
     (are : AreStepsOf program main f starts inputs n h states rows) where
   -- the state that the run brings to an instant
   abbrev brought : ℕ → Brought
@@ -118,20 +122,27 @@ module _ (run_is_instants : RunIsInstants) (states_of_run : StatesOfRun)
       let first = (states_of_run.start program main starts h (brought 0)).0 (brought_at 0) in
       let ks = Nothing ∷ map (λ p. Some p) (tick_places f.variables) in
       let long : length (map (brought 0).ticked ks) ≡ length (tick_clocks f) =
-      length-map ks (brought 0).ticked ∙ omega (arith, length-map (tick_places f.variables) (λ (p : Sites). Some p), length-map (tick_places f.variables) (λ (p : Sites). Some (index_of (places f) p))) in
+      length-map ks (brought 0).ticked ∙ omega (
+        arith,
+        length-map (tick_places f.variables) (λ (p : Sites). Some p),
+        length-map (tick_places f.variables)
+            (λ (p : Sites). Some (index_of (places f) p)),
+      ) in
       let kept : map starts (memory_places f) ≡ map (brought 0).kept (memory_places f) =
       sym (same_kept (brought 0).kept starts f.memories (λ m w.
       let found = are.flat.memories.only m w in
       let at : m.place ≡ kept_place found.0 found.1.site found.1.operand = ap (λ x. x.place) found.5 in
       ap (brought 0).kept at ∙ first.memories found.0 found.1 found.2 found.4 ∙ ap starts (sym at))) in
-      let ticked = ext_get_or false (states 0).ticked (flat_state f (brought 0)).ticked (are.start.ticks ∙ sym long) (λ k lt. are.start.none k ∙ sym (all_false (brought 0).ticked ks first.ticks k)) in
+      let ticked = ext_get_or false (states 0).ticked (flat_state f (brought 0)).ticked (are.start.ticks ∙ sym long)
+      (λ k lt. are.start.none k ∙ sym (all_false (brought 0).ticked ks first.ticks k)) in
       let held = are.start.kept ∙ kept in
       λ i. record { ticked = ticked i; kept = held i }
 
   row_same : (t : ℕ) → t < n → states t ≡ flat_state f (brought t) → rows t ≡ row_of (places f) (get_or h t empty)
   row_same t lt same =
       only_row f (states t) (flat_inputs f (inputs t)) (row_of (places f) (get_or h t empty)) (rows t)
-      (subst (λ s. IsFlatInstant f s (flat_inputs f (inputs t)) (row_of (places f) (get_or h t empty))) (sym same) (are.flat.instants (brought t) (inputs t) (get_or h t empty) (instant_at t lt)))
+      (subst (λ s. IsFlatInstant f s (flat_inputs f (inputs t)) (row_of (places f) (get_or h t empty))) (sym same)
+      (are.flat.instants (brought t) (inputs t) (get_or h t empty) (instant_at t lt)))
       (are.instants t lt)
 
   pub state_same : (t : ℕ) → t ≤ n → states t ≡ flat_state f (brought t)
@@ -147,7 +158,8 @@ module _ (run_is_instants : RunIsInstants) (states_of_run : StatesOfRun)
       subst (λ s. IsFlatNext f s (flat_inputs f (inputs t)) (row_of (places f) (get_or h t empty)) (states (t + 1))) same
       (subst (λ r. IsFlatNext f (states t) (flat_inputs f (inputs t)) r (states (t + 1))) row (are.nexts t before)) in
       subst (λ j. states j ≡ flat_state f (brought j)) one
-      (one_next f (flat_state f (brought t)) (flat_inputs f (inputs t)) (row_of (places f) (get_or h t empty)) (states (t + 1)) (flat_state f (brought (t + 1))) mine after)
+      (one_next f (flat_state f (brought t)) (flat_inputs f (inputs t)) (row_of (places f) (get_or h t empty)) (states (t + 1)) (flat_state f (brought (t + 1)))
+      mine after)
 
   pub rows_of_run : (t : ℕ) → t < n → rows t ≡ row_of (places f) (get_or h t empty)
   rows_of_run t lt = row_same t lt (state_same t (omega arith))
@@ -168,13 +180,16 @@ module _ (run_is_instants : RunIsInstants) (states_of_run : StatesOfRun)
     abbrev IsFalse : Sites → Type 0
     IsFalse = IsFlatBroken f (states t) (flat_inputs f (inputs t)) (rows t)
 
-    alike : (i : Instance) (a : AssertionTree) → IsInstance program main i → Contains i.node.assertions a → value program starts (cells h) i Base a.body t ≡ value_now program (brought t) (get_or h t empty) i Base a.body
+    alike : (i : Instance) (a : AssertionTree) → IsInstance program main i → Contains i.node.assertions a
+        → value program starts (cells h) i Base a.body t ≡ value_now program (brought t) (get_or h t empty) i Base a.body
     alike i a inst w = run_is_instants.assertions program main starts h t (brought t) i a (brought_at t) inst w
 
     both_broken : (q : Sites) → IsBroken program main (brought t) (get_or h t empty) q ↔ IsFalse q
     both_broken q =
-        subst (λ s. IsBroken program main (brought t) (get_or h t empty) q ↔ IsFlatBroken f s (flat_inputs f (inputs t)) (rows t) q) (sym (state_same t (omega arith)))
-        (subst (λ r. IsBroken program main (brought t) (get_or h t empty) q ↔ IsFlatBroken f (flat_state f (brought t)) (flat_inputs f (inputs t)) r q) (sym (rows_of_run t lt))
+        subst (λ s. IsBroken program main (brought t) (get_or h t empty) q ↔ IsFlatBroken f s (flat_inputs f (inputs t)) (rows t) q)
+        (sym (state_same t (omega arith)))
+        (subst (λ r. IsBroken program main (brought t) (get_or h t empty) q ↔ IsFlatBroken f (flat_state f (brought t)) (flat_inputs f (inputs t)) r q)
+        (sym (rows_of_run t lt))
         (are.flat.assertions (brought t) (inputs t) (get_or h t empty) q (instant_at t lt)))
 
     pub broken_of_run : (q : Sites) → IsFalse q ↔ IsBrokenAt program main starts h t q
@@ -189,5 +204,6 @@ module _ (run_is_instants : RunIsInstants) (states_of_run : StatesOfRun)
     pub allowed_of_run : AssertionsHold program main starts h t ↔ ((q : Sites) → IsFalse q → ⊥)
     allowed_of_run = (
       λ holds q w. let b = (broken_of_run q).0 w in not_both (value program starts (cells h) b.0 Base b.1.body t) b.2 (holds b.0 b.1 b.3 b.4) b.6 b.7,
-      λ none i a inst w. not_false (value program starts (cells h) i Base a.body t) (λ v is false_v. none (i.path ++ a.site ∷ []) ((broken_of_run (i.path ++ a.site ∷ [])).1 (i, a, v, inst, w, refl, is, false_v))),
+      λ none i a inst w. not_false (value program starts (cells h) i Base a.body t)
+          (λ v is false_v. none (i.path ++ a.site ∷ []) ((broken_of_run (i.path ++ a.site ∷ [])).1 (i, a, v, inst, w, refl, is, false_v))),
     )

@@ -1,5 +1,6 @@
 -- A run of a program is one of its flat system, in whole numbers of any size.
-use Rattle.std.proofs.Common.{◌≡◌, ◌⊎◌, inl, inr, ℤ, ℕ, zero, suc, ◌+◌, ◌<◌, ◌≤◌, ◌↔◌, Bool, true, false, cond, List, [], ◌∷◌, ◌++◌, length, map, get_or, refl, sym, ◌∙◌, ap, subst, arith, slice_get}
+use Rattle.std.proofs.Common.{◌≡◌, ◌⊎◌, inl, inr, ℤ, ℕ, zero, suc, ◌+◌, ◌<◌, ◌≤◌, ◌↔◌, Bool, true, false, cond, List, [], ◌∷◌, ◌++◌, length, map, get_or, refl}
+use Rattle.std.proofs.Common.{sym, ◌∙◌, ap, subst, arith, slice_get}
 use Rattle.std.proofs.Common.{Option, None as Nothing, Some}
 use Rattle.std.specs.FinMap.{empty}
 use Rattle.std.specs.List.{Contains}
@@ -56,7 +57,8 @@ kept_items all [] = refl
 kept_items all (m ∷ ms) = ap (λ l. memory_item all m ∷ l) (kept_items all ms)
 
 -- a value of a type is one in the system
-kind_there : (p : ProgramTree) (counts : List ℕ) → ((i : ℕ) → get_or counts i 0 ≡ labels_at p.types i) → (k : Kind) (v : Value) → HasKind p k v → HasKindIn counts k v
+kind_there : (p : ProgramTree) (counts : List ℕ) → ((i : ℕ) → get_or counts i 0 ≡ labels_at p.types i) → (k : Kind) (v : Value) → HasKind p k v
+    → HasKindIn counts k v
 kind_there p counts same kind.Bool (Flag b) h = tt
 kind_there p counts same kind.Bool (Label l) h = absurd h
 kind_there p counts same kind.Bool (Whole z) h = absurd h
@@ -91,7 +93,8 @@ met_by table found row e k body (whole x) = refl
 met_by table found row e k body (always at there absent x) = refl
 met_by table found row e k body (on_flow at there absent c x) = by (nth row c)
   where
-    chosen : (b : Bool) → cond b (is_true (value Value integers found row (inlined table x))) true ≡ is_true (cond b (value Value integers found row (inlined table x)) (Flag true))
+    chosen : (b : Bool) → cond b (is_true (value Value integers found row (inlined table x))) true ≡ is_true
+        (cond b (value Value integers found row (inlined table x)) (Flag true))
     chosen true = refl
     chosen false = refl
 
@@ -102,7 +105,8 @@ met_by table found row e k body (on_flow at there absent c x) = by (nth row c)
 
 -- What is taken from agreement: what is inductive makes each flat run safe.
 abbrev pub InductiveIsSafe : Type 0
-InductiveIsSafe = (s : System) (holds : Valuation → List ℤ → Bool) (n : ℕ) (states : ℕ → State) (inputs : ℕ → List Value) (rows : ℕ → List (Option Value)) (t : ℕ)
+InductiveIsSafe = (s : System) (holds : Valuation → List ℤ → Bool) (n : ℕ) (states : ℕ → State) (inputs : ℕ → List Value) (rows : ℕ → List (Option Value))
+    (t : ℕ)
     → IsWell s → IsInductive s holds → IsFlatRun s n states inputs rows → t < n → ((u : ℕ) → u ≤ t → AreMetIn s (states u) (inputs u) (rows u))
     → evaluation.nth Value integers (rows t) s.observer ≡ Some (Flag true)
 
@@ -123,14 +127,16 @@ module _ (program : ProgramTree) (main : Identifier) (f : Flat) (flat : IsFlatOf
         each = λ m lt.
             let j = kind_at (trees.memory_kinds system) m in
             let less : m < length (memory_places f) = omega (arith, lt, long, length-map (memory_places f) kept) in
-            let is : slice_get (map (λ x. x.kind) f.memories) m ≡ Some j = ap (λ ks. slice_get ks m) (sym kinds) ∙ found_kind (trees.memory_kinds system) m lt in
+            let is : slice_get (map (λ x. x.kind) f.memories) m ≡ Some j = ap (λ ks. slice_get ks m) (sym kinds)
+            ∙ found_kind (trees.memory_kinds system) m lt in
             let found = flat.memories.only (record { place = get_or (memory_places f) m []; kind = j }) (memory_kth f.memories m j is) in
             let at : MemoryAt = memory_at program found.0 found.1 in
             let place : get_or (memory_places f) m [] ≡ at.place = ap (λ (a : MemoryAt). a.place) found.5 in
             let kind_is : j ≡ at.kind = ap (λ (a : MemoryAt). a.kind) found.5 in
             subst (HasKindIn system.labels j) (sym (get_or-map kept (memory_places f) m [] (Flag false) less))
             (kind_there program (label_counts f) counts_same j (kept (get_or (memory_places f) m []))
-            (subst (λ q. HasKind program j (kept q)) (sym place) (subst (λ k. HasKind program k (kept at.place)) (sym kind_is) (starts found.0 found.1 found.2 found.4))));
+            (subst (λ q. HasKind program j (kept q)) (sym place) (subst (λ k. HasKind program k (kept at.place)) (sym kind_is)
+            (starts found.0 found.1 found.2 found.4))));
       }
 
   inputs_typed : (given : ℕ → Value) → AreGiven program main given → AreTyped system.labels system.inputs (flat_inputs f given)
@@ -142,15 +148,18 @@ module _ (program : ProgramTree) (main : Identifier) (f : Flat) (flat : IsFlatOf
             let k = kind_at system.inputs j in
             let less : j < length f.inputs = omega (arith, lt, length-map f.inputs (λ i. i.kind)) in
             subst (HasKindIn system.labels k) (sym (value_kth given (length f.inputs) j less))
-            (kind_there program (label_counts f) counts_same k (given j) (are j k (ap (λ ks. slice_get ks j) (sym flat.input_kinds) ∙ found_kind system.inputs j lt)));
+            (kind_there program (label_counts f) counts_same k (given j)
+            (are j k (ap (λ ks. slice_get ks j) (sym flat.input_kinds) ∙ found_kind system.inputs j lt)));
       }
 
-  whole_instant : (state : Brought) (given : ℕ → Value) (row : Row) → IsFlatInstant f (flat_state f state) (flat_inputs f given) row → IsWholeInstant system (system_state f state) (flat_inputs f given) row
+  whole_instant : (state : Brought) (given : ℕ → Value) (row : Row) → IsFlatInstant f (flat_state f state) (flat_inputs f given) row
+      → IsWholeInstant system (system_state f state) (flat_inputs f given) row
   whole_instant state given row instant =
       let many = length-map f.flows (flow_item f.memories) in
       record { flows = instant.flows ∙ sym many; holds = λ k lt. instant.holds k (omega (arith, many, lt)) }
 
-  whole_next : (state next : Brought) (given : ℕ → Value) (row : Row) → IsFlatNext f (flat_state f state) (flat_inputs f given) row (flat_state f next) → agreement.IsNext system (system_state f state) (flat_inputs f given) row (system_state f next)
+  whole_next : (state next : Brought) (given : ℕ → Value) (row : Row) → IsFlatNext f (flat_state f state) (flat_inputs f given) row (flat_state f next)
+      → agreement.IsNext system (system_state f state) (flat_inputs f given) row (system_state f next)
   whole_next state next given row is =
       let many = length-map f.memories (kept_of f.memories) in
       record {
@@ -159,7 +168,8 @@ module _ (program : ProgramTree) (main : Identifier) (f : Flat) (flat : IsFlatOf
         memories = is.memories ∙ sym many;
         kept = λ m lt.
             is.kept m (omega (arith, many, lt))
-            ∙ ap (λ xs. after Value integers (found_at (flat_state f state) (flat_inputs f given)) row (trees.nth_item xs m) m) (sym (kept_items f.memories f.memories));
+            ∙ ap (λ xs. after Value integers (found_at (flat_state f state) (flat_inputs f given)) row (trees.nth_item xs m) m)
+            (sym (kept_items f.memories f.memories));
       }
 
   -- an assertion is met where the whole of it is true
@@ -169,14 +179,16 @@ module _ (program : ProgramTree) (main : Identifier) (f : Flat) (flat : IsFlatOf
     λ none k lt.
         let less : k < length f.assertions = omega (arith, lt, length-map f.assertions (assertion_item f.memories)) in
         let told = met_at k less in
-        told ∙ true_if (is_true (value_at now given row (get_or (assertion_trees f) k no_assertion))) (λ wrong. none (get_or (map (λ e. e.at.sites) f.assertions) k []) (k, less, refl, wrong)),
+        told ∙ true_if (is_true (value_at now given row (get_or (assertion_trees f) k no_assertion)))
+        (λ wrong. none (get_or (map (λ e. e.at.sites) f.assertions) k []) (k, less, refl, wrong)),
     λ met q w.
         let lt : w.0 < length system.assertions = omega (arith, w.1, length-map f.assertions (assertion_item f.memories)) in
         let bad : true ≡ false = sym (met w.0 lt) ∙ met_at w.0 w.1 ∙ w.3 in
         absurd (grind arith),
   )
     where
-      met_at : (k : ℕ) → k < length f.assertions → is_met Value integers (found_at now given) row (trees.nth_item system.assertions k) ≡ is_true (value_at now given row (get_or (assertion_trees f) k no_assertion))
+      met_at : (k : ℕ) → k < length f.assertions → is_met Value integers (found_at now given) row (trees.nth_item system.assertions k) ≡ is_true
+          (value_at now given row (get_or (assertion_trees f) k no_assertion))
       met_at k lt =
           let a = found_in f.assertions k lt in
           ap (is_met Value integers (found_at now given) row) (got f.assertions (assertion_item f.memories) k a.0 trees.no_item a.1)
@@ -206,17 +218,20 @@ module _ (run_is_instants : RunIsInstants) (states_of_run : StatesOfRun) (typed_
   given_at t lt j k e = run.inputs_typed t j k lt e
 
   typed_at : (t : ℕ) → t ≤ n → AreStarts program main (brought t).kept
-  typed_at zero le = λ i d inst w. subst (HasKind program (operand_kind program i.node d.operand)) (sym (first.memories i d inst w)) (run.starts_typed i d inst w)
+  typed_at zero le = λ i d inst w. subst (HasKind program (operand_kind program i.node d.operand)) (sym (first.memories i d inst w))
+      (run.starts_typed i d inst w)
   typed_at (suc t) le =
       let lt : t < n = omega arith in
       let one : t + 1 ≡ suc t = omega arith in
       subst (λ u. AreStarts program main (brought u).kept) one
-      (typed_memories program main (places f) (brought t) (brought (t + 1)) (inputs t) (get_or h t empty) well named flat.sequence (typed_at t (omega arith)) (given_at t lt) (instant_at t lt) (next_at t))
+      (typed_memories program main (places f) (brought t) (brought (t + 1)) (inputs t) (get_or h t empty) well named flat.sequence (typed_at t (omega arith))
+      (given_at t lt) (instant_at t lt) (next_at t))
 
   flat_instant : (t : ℕ) → t < n → IsFlatInstant f (flat_state f (brought t)) (flat_inputs f (inputs t)) (row_of (places f) (get_or h t empty))
   flat_instant t lt = flat.instants (brought t) (inputs t) (get_or h t empty) (instant_at t lt)
 
-  flat_next : (t : ℕ) → t < n → IsFlatNext f (flat_state f (brought t)) (flat_inputs f (inputs t)) (row_of (places f) (get_or h t empty)) (flat_state f (brought (t + 1)))
+  flat_next : (t : ℕ) → t < n → IsFlatNext f (flat_state f (brought t)) (flat_inputs f (inputs t)) (row_of (places f) (get_or h t empty))
+      (flat_state f (brought (t + 1)))
   flat_next t lt = flat.next (brought t) (brought (t + 1)) (inputs t) (get_or h t empty) (instant_at t lt) (next_at t)
 
   -- the same as steps
@@ -229,7 +244,11 @@ module _ (run_is_instants : RunIsInstants) (states_of_run : StatesOfRun) (typed_
         flat = flat;
         run = run;
         start = record {
-          ticks = length-map ks (brought 0).ticked ∙ omega (arith, length-map (tick_places f.variables) (λ (p : Sites). Some p), length-map (tick_places f.variables) (λ (p : Sites). Some (index_of (places f) p)));
+          ticks = length-map ks (brought 0).ticked ∙ omega (
+            arith,
+            length-map (tick_places f.variables) (λ (p : Sites). Some p),
+            length-map (tick_places f.variables) (λ (p : Sites). Some (index_of (places f) p)),
+          );
           none = all_false (brought 0).ticked ks first.ticks;
           kept = kept_first;
         };
@@ -247,27 +266,35 @@ module _ (run_is_instants : RunIsInstants) (states_of_run : StatesOfRun) (typed_
   run_of = record {
     run = record {
       start = are_steps.start.none;
-      typed = λ t lt. record { memories = memories_typed program main f flat (brought t).kept (typed_at t (omega arith)); given = inputs_typed program main f flat (inputs t) (given_at t lt) };
+      typed = λ t lt. record {
+        memories = memories_typed program main f flat (brought t).kept (typed_at t (omega arith));
+        given = inputs_typed program main f flat (inputs t) (given_at t lt);
+      };
       instant = λ t lt. whole_instant program main f flat (brought t) (inputs t) (row_of (places f) (get_or h t empty)) (flat_instant t lt);
       next = λ t lt.
           let one : t + 1 ≡ suc t = omega arith in
-          subst (λ u. agreement.IsNext (system_of f) (system_state f (brought t)) (flat_inputs f (inputs t)) (row_of (places f) (get_or h t empty)) (system_state f (brought u))) one
+          subst (λ u. agreement.IsNext (system_of f) (system_state f (brought t)) (flat_inputs f (inputs t)) (row_of (places f) (get_or h t empty))
+          (system_state f (brought u))) one
           (whole_next program main f flat (brought t) (brought (t + 1)) (inputs t) (row_of (places f) (get_or h t empty)) (flat_next t lt));
     };
     kept_at_first = are_steps.start.kept;
     brought = λ t le. (brought t, brought_at t, refl);
     told = λ t lt. refl;
     assertions = λ t lt.
-        let allowed = allowed_of_run run_is_instants states_of_run program main f starts inputs n h (λ u. flat_state f (brought u)) (λ u. row_of (places f) (get_or h u empty)) are_steps t lt in
+        let allowed = allowed_of_run run_is_instants states_of_run program main f starts inputs n h (λ u. flat_state f (brought u))
+        (λ u. row_of (places f) (get_or h u empty)) are_steps t lt in
         let met = all_met program main f flat (flat_state f (brought t)) (flat_inputs f (inputs t)) (row_of (places f) (get_or h t empty)) in
         (λ holds. met.0 (allowed.0 holds), λ are. allowed.1 (met.1 are));
-    observer = observer_of_run run_is_instants states_of_run program main f starts inputs n h (λ u. flat_state f (brought u)) (λ u. row_of (places f) (get_or h u empty)) are_steps;
+    observer = observer_of_run run_is_instants states_of_run program main f starts inputs n h (λ u. flat_state f (brought u))
+        (λ u. row_of (places f) (get_or h u empty)) are_steps;
   }
 
 -- What is inductive over a flat system makes its program safe.
 pub inductive_safe : (run_is_instants : RunIsInstants) (states_of_run : StatesOfRun) (typed_memories : TypedMemories) (inductive : InductiveIsSafe)
-    (program : ProgramTree) (main : Identifier) (f : Flat) (holds : Valuation → List ℤ → Bool) → AreWell program → IsNode program main → IsFlatOf program main f → IsInductive (system_of f) holds → IsSafe program main
+    (program : ProgramTree) (main : Identifier) (f : Flat) (holds : Valuation → List ℤ → Bool) → AreWell program → IsNode program main → IsFlatOf program main f
+    → IsInductive (system_of f) holds → IsSafe program main
 inductive_safe run_is_instants states_of_run typed_memories inductive program main f holds well named flat is n t starts inputs h run lt allowed =
     let r = run_of run_is_instants states_of_run typed_memories program main f well named flat starts inputs n h run in
     sym (r.observer t lt)
-    ∙ inductive (system_of f) holds n _ (λ u. flat_inputs f (inputs u)) _ t flat.system.well is r.run lt (λ u le. (r.assertions u (omega arith)).0 (allowed u le))
+    ∙ inductive (system_of f) holds n _ (λ u. flat_inputs f (inputs u)) _ t flat.system.well is r.run lt
+    (λ u le. (r.assertions u (omega arith)).0 (allowed u le))

@@ -1,5 +1,6 @@
 -- At an instant each expression of a flat system is within an `i128`, and so are its parts, and it names flows of the row.
-use Rattle.std.proofs.Common.{◌≡◌, ℕ, zero, suc, ◌+◌, ◌*◌, ◌^◌, ◌<◌, ◌≤◌, Bool, true, false, cond, List, [], ◌∷◌, length, map, get_or, sym, ◌∙◌, ap, subst, arith, inl, inr}
+use Rattle.std.proofs.Common.{◌≡◌, ℕ, zero, suc, ◌+◌, ◌*◌, ◌^◌, ◌<◌, ◌≤◌, Bool, true, false, cond, List, [], ◌∷◌, length, map, get_or, sym, ◌∙◌, ap, subst}
+use Rattle.std.proofs.Common.{arith, inl, inr}
 use Rattle.std.proofs.Common.{Option, None as Nothing, Some}
 use Rattle.std.specs.Prelude.{nat_le, nat_lt, slice_get}
 use Rattle.std.proofs.lemmas.List.{get_or_past}
@@ -21,7 +22,8 @@ use Rattle.rv_flat.specs.declared.flat.Flat.{Flat}
 use Rattle.rv_flat.specs.declared.parts.FlatExpr.{FlatExpr}
 use Rattle.rv_flat.specs.declared.parts.FlatMemory.{FlatMemory}
 use Rattle.rv_flat.specs.declared.state.State.{State}
-use Rattle.rv_flat.specs.FlatInstants.{Row, nth, held, is_on_at, found_at, flow_items, memory_items, assertion_trees, nth_item, system_of, value_at, IsFlatInstant}
+use Rattle.rv_flat.specs.FlatInstants.{Row, nth, held, is_on_at, found_at, flow_items, memory_items, assertion_trees, nth_item, system_of, value_at}
+use Rattle.rv_flat.specs.FlatInstants.{IsFlatInstant}
 use Rattle.rv_flat.specs.FlatOf.{no_assertion}
 use Rattle.rv_flat.specs.Facts.{flat_weight, form_flat_weight, flow_weights, is_light, form_is_light}
 use Rattle.rv_flat.specs.Filling.{IsFilled}
@@ -43,7 +45,8 @@ range_small (Label l) r = omega arith
 range_small (Whole z) r = omega (arith, ints, r.0, r.1)
 
 -- values within the range, and what stands past their end
-values_small : (values : List Value) → ((k : ℕ) → k < length values → IsInRange (get_or values k (Flag false))) → (k : ℕ) → size (get_or values k (Flag false)) ≤ 2 ^ 63
+values_small : (values : List Value) → ((k : ℕ) → k < length values → IsInRange (get_or values k (Flag false))) → (k : ℕ)
+    → size (get_or values k (Flag false)) ≤ 2 ^ 63
 values_small values within k = elim (cases_lt k (length values)) [
   | inl lt ↦ range_small (get_or values k (Flag false)) (within k lt)
   | inr le ↦ subst (λ v. size v ≤ 2 ^ 63) (sym (get_or_past values k (Flag false) le)) (omega arith)
@@ -52,8 +55,10 @@ values_small values within k = elim (cases_lt k (length values)) [
 -- How an assertion has its body: as a choice of it where its clock is there, or as a whole.
 pub data IsAsserted : RawTree → Option ℕ → RawTree → Type 0 where
   whole : (e : RawTree) → IsAsserted e Nothing e
-  always : (at there absent : Sites) (body : RawTree) → IsAsserted (raw.Node at (raw.If (raw.Node there (raw.Constant (Flag true))) body (raw.Node absent (raw.Constant (Flag true))))) Nothing body
-  on_flow : (at there absent : Sites) (c : ℕ) (body : RawTree) → IsAsserted (raw.Node at (raw.If (raw.Node there (raw.Flow c)) body (raw.Node absent (raw.Constant (Flag true))))) (Some c) body
+  always : (at there absent : Sites) (body : RawTree) → IsAsserted (raw.Node at
+      (raw.If (raw.Node there (raw.Constant (Flag true))) body (raw.Node absent (raw.Constant (Flag true))))) Nothing body
+  on_flow : (at there absent : Sites) (c : ℕ) (body : RawTree) → IsAsserted
+      (raw.Node at (raw.If (raw.Node there (raw.Flow c)) body (raw.Node absent (raw.Constant (Flag true))))) (Some c) body
 
 pub asserted_is : (e : RawTree) → IsAsserted e (asserted e).0 (asserted e).1
 asserted_is (raw.Node at (raw.If (raw.Node there (raw.Constant (Flag true))) body (raw.Node absent (raw.Constant (Flag true))))) = always at there absent body
@@ -70,7 +75,8 @@ flag_held b = omega arith
 
 -- so what its body is, the whole is
 module _ (table : ℕ → Item) where
-  asserted_over : (n : ℕ) (e : RawTree) (k : Option ℕ) (body : RawTree) → IsAsserted e k body → IsNamed n k → IsOver n (inlined table body) → IsOver n (inlined table e)
+  asserted_over : (n : ℕ) (e : RawTree) (k : Option ℕ) (body : RawTree) → IsAsserted e k body → IsNamed n k → IsOver n (inlined table body)
+      → IsOver n (inlined table e)
   asserted_over n e k body (whole x) named is = is
   asserted_over n e k body (always at there absent x) named is = (tt, (is, tt))
   asserted_over n e k body (on_flow at there absent c x) named is = (named, (is, tt))
@@ -78,7 +84,8 @@ module _ (table : ℕ → Item) where
   asserted_tame : (found : Found Value) (row : Row) (e : RawTree) (k : Option ℕ) (body : RawTree) → IsAsserted e k body → IsClockHeld row k
       → IsTame found row (inlined table body) → IsTame found row (inlined table e)
   asserted_tame found row e k body (whole x) clock is = is
-  asserted_tame found row e k body (always at there absent x) clock is = (tame_held found row (inlined table x) is, ((flag_held true, tt), (is, (flag_held true, tt))))
+  asserted_tame found row e k body (always at there absent x) clock is
+      = (tame_held found row (inlined table x) is, ((flag_held true, tt), (is, (flag_held true, tt))))
   asserted_tame found row e k body (on_flow at there absent c x) clock is = (
     cond_both (is_true (held (nth row c))) (value Value integers found row (inlined table x)) (Flag true) IsHeld
         (λ t. tame_held found row (inlined table x) is) (λ t. flag_held true),
@@ -110,7 +117,8 @@ module _ (f : Flat) (now : State) (inputs : List Value) (state : IsState f now) 
   count = length-map f.flows (flow_item f.memories)
 
   weight_at : (m : ℕ) → m < length f.flows → get_or ws m 0 ≡ flat_weight ws (nth_item (flow_items f) m).body
-  weight_at m lt = ap (λ j. get_or ws j 0) (let e : m ≡ 0 + m = omega arith in e) ∙ weight_kth (system_of f) [] (flow_items f) m f.flows_fit (omega (arith, count))
+  weight_at m lt = ap (λ j. get_or ws j 0) (let e : m ≡ 0 + m = omega arith in e)
+      ∙ weight_kth (system_of f) [] (flow_items f) m f.flows_fit (omega (arith, count))
 
   flow_light : (m : ℕ) → m < length f.flows → is_light ws (nth_item (flow_items f) m).body ≡ true
   flow_light m lt = item_light ws (flow_items f) m f.flows_light (omega (arith, count))
@@ -137,9 +145,11 @@ module _ (f : Flat) (now : State) (inputs : List Value) (state : IsState f now) 
         here m lt before =
             let item = nth_item (flow_items f) m in
             let fit = fits_kth f now inputs m (omega arith) in
-            let small = value_small (system_of f) ws found row m kept_small inputs_small before item.clock fit.kind item.body fit.body (flow_light m (omega arith)) in
+            let small = value_small (system_of f) ws found row m kept_small inputs_small before item.clock fit.kind item.body fit.body
+            (flow_light m (omega arith)) in
             subst (λ o. size (held o) ≤ get_or ws m 0 * 2 ^ 63) (sym (filled.holds m lt))
-            (subst (λ w. size (held (cond (is_on_at row item.clock) (Some (value_at now inputs row item.body)) Nothing)) ≤ w * 2 ^ 63) (sym (weight_at m (omega arith)))
+            (subst (λ w. size (held (cond (is_on_at row item.clock) (Some (value_at now inputs row item.body)) Nothing)) ≤ w * 2 ^ 63)
+            (sym (weight_at m (omega arith)))
             (chosen (is_on_at row item.clock) (value_at now inputs row item.body) (flat_weight ws item.body) small))
           where
             chosen : (b : Bool) (v : Value) (w : ℕ) → size v ≤ w * 2 ^ 63 → size (held (cond b (Some v) Nothing)) ≤ w * 2 ^ 63
@@ -158,7 +168,8 @@ module _ (f : Flat) (now : State) (inputs : List Value) (state : IsState f now) 
   -- at an instant
   module _ (row : Row) (instant : IsFlatInstant f now inputs row) where
     instant_small : (k : ℕ) → k < length (flow_items f) → size (held (nth row k)) ≤ get_or ws k 0 * 2 ^ 63
-    instant_small k lt = row_small (length f.flows) row (omega arith) (record { flows = instant.flows; holds = instant.holds }) (length f.flows) (omega arith) k (omega (arith, count))
+    instant_small k lt = row_small (length f.flows) row (omega arith) (record { flows = instant.flows; holds = instant.holds }) (length f.flows) (omega arith) k
+        (omega (arith, count))
 
     long : length (flow_items f) ≡ length row
     long = count ∙ sym instant.flows
@@ -176,7 +187,8 @@ module _ (f : Flat) (now : State) (inputs : List Value) (state : IsState f now) 
         (item_light ws (memory_items f) m f.memories_light (omega (arith, length-map f.memories (memory_item f.memories))))
 
     pub memory_over : (m : ℕ) → m < length f.memories → IsOver (length row) (nth_item (memory_items f) m).body
-    memory_over m lt = subst (λ n. IsOver n (nth_item (memory_items f) m).body) long (item_over (system_of f) (length (flow_items f)) (nth_item (memory_items f) m) (memory_fit m lt)).1
+    memory_over m lt = subst (λ n. IsOver n (nth_item (memory_items f) m).body) long
+        (item_over (system_of f) (length (flow_items f)) (nth_item (memory_items f) m) (memory_fit m lt)).1
 
     -- an assertion by its body, and then as a whole
     clock_held : (k : Option ℕ) → clock_fits (system_of f) (length (flow_items f)) k ≡ true → IsClockHeld row k
@@ -186,7 +198,8 @@ module _ (f : Flat) (now : State) (inputs : List Value) (state : IsState f now) 
         held_small (held (nth row c)) (get_or ws c 0) (instant_small c lt) (weight_light c (omega (arith, count, lt)))
 
     item_fits : (k : ℕ) → k < length f.assertions → ItemFits (system_of f) (length (flow_items f)) (nth_item (map (assertion_item f.memories) f.assertions) k)
-    item_fits k lt = assertion_fits (system_of f) (map (assertion_item f.memories) f.assertions) k f.assertions_fit (omega (arith, length-map f.assertions (assertion_item f.memories)))
+    item_fits k lt = assertion_fits (system_of f) (map (assertion_item f.memories) f.assertions) k f.assertions_fit
+        (omega (arith, length-map f.assertions (assertion_item f.memories)))
 
     item_tame : (k : ℕ) → k < length f.assertions → IsTame (found_at now inputs) row (nth_item (map (assertion_item f.memories) f.assertions) k).body
     item_tame k lt =
@@ -203,7 +216,9 @@ module _ (f : Flat) (now : State) (inputs : List Value) (state : IsState f now) 
         (subst (λ (x : Item). IsTame found row x.body) is (item_tame k lt)))
 
     pub assertion_over : (k : ℕ) → k < length f.assertions → IsOver (length row) (get_or (assertion_trees f) k no_assertion)
-    assertion_over k lt = subst (λ n. IsOver n (get_or (assertion_trees f) k no_assertion)) long (whole_at f.memories f.assertions k (IsOver (length (flow_items f))) lt (λ e is.
+    assertion_over k lt = subst (λ n. IsOver n (get_or (assertion_trees f) k no_assertion)) long
+        (whole_at f.memories f.assertions k (IsOver (length (flow_items f))) lt (λ e is.
         let t = raw_tree e in
-        let over = subst (λ (x : Item). IsItemOver (length (flow_items f)) x) is (item_over (system_of f) (length (flow_items f)) (nth_item (map (assertion_item f.memories) f.assertions) k) (item_fits k lt)) in
+        let over = subst (λ (x : Item). IsItemOver (length (flow_items f)) x) is
+        (item_over (system_of f) (length (flow_items f)) (nth_item (map (assertion_item f.memories) f.assertions) k) (item_fits k lt)) in
         asserted_over (table_of f.memories) (length (flow_items f)) t (asserted t).0 (asserted t).1 (asserted_is t) over.0 over.1))

@@ -48,10 +48,12 @@ flow_fits s before (x ∷ xs) zero e lt =
     subst (λ n. ItemFits s n x) (let e : before ≡ before + 0 = omega arith in e) (of_test s before (kind_at s.kinds before) x here.0)
 flow_fits s before (x ∷ xs) (suc k) e lt =
     let here = both (item_fits s before (kind_at s.kinds before) x) (flows_fit s (before + 1) xs) e in
-    subst (λ n. ItemFits s n (nth_item xs k)) (let e : (before + 1) + k ≡ before + suc k = omega arith in e) (flow_fits s (before + 1) xs k here.1 (omega arith))
+    subst (λ n. ItemFits s n (nth_item xs k)) (let e : (before + 1) + k ≡ before + suc k = omega arith in e)
+    (flow_fits s (before + 1) xs k here.1 (omega arith))
 
 -- a memory is over all flows, and so is an assertion
-pub memory_fits : (s : System) (ms : List Kept) (m : ℕ) → memories_fit s ms ≡ true → m < length ms → ItemFits s (length s.flows) (nth_item (map (λ x. x.item) ms) m)
+pub memory_fits : (s : System) (ms : List Kept) (m : ℕ) → memories_fit s ms ≡ true → m < length ms
+    → ItemFits s (length s.flows) (nth_item (map (λ x. x.item) ms) m)
 memory_fits s [] m e lt = absurd (omega arith)
 memory_fits s (x ∷ ms) zero e lt = of_test s (length s.flows) x.kind x.item (both (item_fits s (length s.flows) x.kind x.item) (memories_fit s ms) e).0
 memory_fits s (x ∷ ms) (suc m) e lt = memory_fits s ms m (both (item_fits s (length s.flows) x.kind x.item) (memories_fit s ms) e).1 (omega arith)

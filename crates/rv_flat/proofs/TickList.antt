@@ -6,7 +6,8 @@ use Rattle.rv_tree.specs.Tree.{ProgramTree}
 use Rattle.rv_tree.specs.Places.{Identifier, Sites, is_same, index_of}
 use Rattle.rv_types.specs.declared.typed.Kind.{Kind}
 use Rattle.rv_types.specs.Variables.{kind_bits}
-use Rattle.rv_types.specs.Lists.{Side, Variable, MainTick, Tick, Kept, Next, Input, Test, AreRising, MemoryAt, ComparisonAt, sides_of, bits, with_copies, memory_variables, input_variables, test_variables, AreVariables}
+use Rattle.rv_types.specs.Lists.{Side, Variable, MainTick, Tick, Kept, Next, Input, Test, AreRising, MemoryAt, ComparisonAt, sides_of, bits, with_copies}
+use Rattle.rv_types.specs.Lists.{memory_variables, input_variables, test_variables, AreVariables}
 use Rattle.rv_types.specs.Needs.{IsBefore}
 use Rattle.rv_types.specs.Kinds.{decl_kinds}
 use Rattle.rv_types.specs.Instances.{node_of}
@@ -23,7 +24,8 @@ module _ (ps : List Sites) where
 same_itself : (p : Sites) → is_same p p ≡ true
 same_itself p = (bytes_eq-Decides p p).1 refl
 
-number_apart : (ps : List Sites) → ((j k : ℕ) → j < k → k < length ps → get_or ps j [] ≡ get_or ps k [] → ⊥) → (k : ℕ) → k < length ps → index_of ps (get_or ps k []) ≡ k
+number_apart : (ps : List Sites) → ((j k : ℕ) → j < k → k < length ps → get_or ps j [] ≡ get_or ps k [] → ⊥) → (k : ℕ) → k < length ps
+    → index_of ps (get_or ps k []) ≡ k
 number_apart [] one k lt = absurd (omega arith)
 number_apart (p ∷ ps) one zero lt = ap (λ b. cond b 0 (index_of ps p + 1)) (same_itself p)
 number_apart (p ∷ ps) one (suc k) lt =
@@ -118,5 +120,6 @@ ticks_rising program main bs are = subst AreRising (sym (ticks_same bs ∙ ap ti
         ticks-append (with_copies first) later
         ∙ ap (λ ps. ps ++ ticks_in later) (ticks-copies first ∙ ticks-append (MainTick ∷ map Tick are.ticks) (memory_variables program are.memories))
         ∙ (λ i. (ticks-map are.ticks i ++ no_memory program are.memories i)
-        ++ no_more (input_variables program 0 (decl_kinds program (node_of program main).inputs)) (test_variables are.comparisons) (no_input program 0 (decl_kinds program (node_of program main).inputs)) (no_test are.comparisons) i)
+        ++ no_more (input_variables program 0 (decl_kinds program (node_of program main).inputs)) (test_variables are.comparisons)
+        (no_input program 0 (decl_kinds program (node_of program main).inputs)) (no_test are.comparisons) i)
         ∙ append-nil (are.ticks ++ []) ∙ append-nil are.ticks

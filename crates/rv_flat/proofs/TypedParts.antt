@@ -11,7 +11,8 @@ use Rattle.rv_types.specs.declared.typed.Kind.{Kind}
 use Rattle.rv_types.specs.declared.typed.Kind.TheVariants as kind
 use Rattle.rv_types.specs.declared.fault.Verdict.TheVariants.{Has, Silent, Clashes}
 use Rattle.rv_types.specs.Kinds.{flow_kind}
-use Rattle.rv_types.specs.Types.{Scope, Signature, kind_in, same_kind, where_met, one_of, two_of, three_of, all_typed, all_suit, fit, binary_rule, not_rule, minus_rule, memory_rule, when_of, if_rule, at_most_one_of, sole, call_of, is_constant, kind_of, kinds_of_all}
+use Rattle.rv_types.specs.Types.{Scope, Signature, kind_in, same_kind, where_met, one_of, two_of, three_of, all_typed, all_suit, fit, binary_rule, not_rule}
+use Rattle.rv_types.specs.Types.{minus_rule, memory_rule, when_of, if_rule, at_most_one_of, sole, call_of, is_constant, kind_of, kinds_of_all}
 use Rattle.rv_types.specs.Scopes.{value_kind, node_scope, signature_named}
 use Rattle.rv_types.specs.Instances.{IsArgument, head, tail}
 
@@ -89,10 +90,12 @@ if_kinds (Some h) (Some i) (Some j) k e =
     (ap Some (same_kinds h kind.Bool both.0), ap Some m.1, ap Some (sym (same_kinds i j both.1) ∙ m.1))
 
 -- operands that are all Boolean
-most_kind : (ks : List (Option Kind)) (k : Kind) → kind_in (at_most_one_of ks) ≡ Some k → (all_typed ks ≡ true) × (all_suit kind.Bool ks ≡ true) × (kind.Bool ≡ k)
+most_kind : (ks : List (Option Kind)) (k : Kind) → kind_in (at_most_one_of ks) ≡ Some k
+    → (all_typed ks ≡ true) × (all_suit kind.Bool ks ≡ true) × (kind.Bool ≡ k)
 most_kind ks k e = by (all_typed ks) e
   where
-    by : (b : Bool) → kind_in (cond b (where_met (all_suit kind.Bool ks) kind.Bool) Silent) ≡ Some k → (b ≡ true) × (all_suit kind.Bool ks ≡ true) × (kind.Bool ≡ k)
+    by : (b : Bool) → kind_in (cond b (where_met (all_suit kind.Bool ks) kind.Bool) Silent) ≡ Some k
+        → (b ≡ true) × (all_suit kind.Bool ks ≡ true) × (kind.Bool ≡ k)
     by true e = let m = met_kind (all_suit kind.Bool ks) kind.Bool k e in (refl, m.0, m.1)
     by false e = absurd (none-some k e)
 
@@ -145,17 +148,20 @@ module _ (program : ProgramTree) (n : NodeTree) where
   pub current_typed : (at : ℕ) (site : Option ℕ) (e : Tree) (k : Kind) → IsTyped (Node at site (Current e)) k → IsTyped e k
   current_typed at site e k t = memory_kind (kind_of scope e) k t
 
-  pub when_typed : (at : ℕ) (site : Option ℕ) (e : Tree) (c : Name) (k : Kind) → IsTyped (Node at site (When e c)) k → IsTyped e k × (flow_kind program n c.text ≡ Some kind.Bool)
+  pub when_typed : (at : ℕ) (site : Option ℕ) (e : Tree) (c : Name) (k : Kind) → IsTyped (Node at site (When e c)) k
+      → IsTyped e k × (flow_kind program n c.text ≡ Some kind.Bool)
   when_typed at site e c k t = when_kind (kind_of scope e) (flow_kind program n c.text) k t
 
   pub binary_typed : (at : ℕ) (site : Option ℕ) (o : Op) (a b : Tree) (k : Kind) → IsTyped (Node at site (Binary o a b)) k
-      → Operands (is_constant (node_scope program n) a || is_constant (node_scope program n) b) o (kind_of (node_scope program n) a) (kind_of (node_scope program n) b) k
+      → Operands (is_constant (node_scope program n) a || is_constant (node_scope program n) b) o (kind_of (node_scope program n) a)
+      (kind_of (node_scope program n) b) k
   binary_typed at site o a b k t = binary_kinds (is_constant scope a || is_constant scope b) o (kind_of scope a) (kind_of scope b) k t
 
   pub if_typed : (at : ℕ) (site : Option ℕ) (a b c : Tree) (k : Kind) → IsTyped (Node at site (If a b c)) k → IsTyped a kind.Bool × IsTyped b k × IsTyped c k
   if_typed at site a b c k t = if_kinds (kind_of scope a) (kind_of scope b) (kind_of scope c) k t
 
-  suited : (es : Trees) → all_typed (kinds_of_all scope es) ≡ true → all_suit kind.Bool (kinds_of_all scope es) ≡ true → (j : ℕ) (e : Tree) → IsArgument es j e → IsTyped e kind.Bool
+  suited : (es : Trees) → all_typed (kinds_of_all scope es) ≡ true → all_suit kind.Bool (kinds_of_all scope es) ≡ true → (j : ℕ) (e : Tree) → IsArgument es j e
+      → IsTyped e kind.Bool
   suited _ t s _ e (head {es}) = by (kind_of scope e) t s
     where
       by : (o : Option Kind) → all_typed (o ∷ kinds_of_all scope es) ≡ true → all_suit kind.Bool (o ∷ kinds_of_all scope es) ≡ true → o ≡ Some kind.Bool
@@ -168,8 +174,10 @@ module _ (program : ProgramTree) (n : NodeTree) where
       by Nothing t s again = no_flag t
       by (Some i) t s again = again t (both_hold (same_kind i kind.Bool) (all_suit kind.Bool (kinds_of_all scope es)) s).1
 
-  pub most_typed : (at : ℕ) (site : Option ℕ) (es : Trees) (k : Kind) → IsTyped (Node at site (AtMostOne es)) k → ((j : ℕ) (e : Tree) → IsArgument es j e → IsTyped e kind.Bool) × (kind.Bool ≡ k)
+  pub most_typed : (at : ℕ) (site : Option ℕ) (es : Trees) (k : Kind) → IsTyped (Node at site (AtMostOne es)) k
+      → ((j : ℕ) (e : Tree) → IsArgument es j e → IsTyped e kind.Bool) × (kind.Bool ≡ k)
   most_typed at site es k t = let m = most_kind (kinds_of_all scope es) k t in (suited es m.0 m.1, m.2)
 
-  pub call_typed : (at : ℕ) (site : Option ℕ) (f : Identifier) (args : Trees) (k : Kind) → IsTyped (Node at site (Call f args)) k → Called (signature_named program f) (kinds_of_all (node_scope program n) args) k
+  pub call_typed : (at : ℕ) (site : Option ℕ) (f : Identifier) (args : Trees) (k : Kind) → IsTyped (Node at site (Call f args)) k
+      → Called (signature_named program f) (kinds_of_all (node_scope program n) args) k
   call_typed at site f args k t = call_kind (signature_named program f) (kinds_of_all scope args) k t

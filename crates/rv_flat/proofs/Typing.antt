@@ -1,5 +1,6 @@
 -- In the flat system of a well formed program each memory takes values of its type.
-use Rattle.std.proofs.Common.{◌≡◌, ℕ, zero, suc, ◌<◌, Bool, true, false, cond, List, [], ◌∷◌, length, map, get_or, refl, sym, ◌∙◌, ap, subst, arith, length-append, inl, inr}
+use Rattle.std.proofs.Common.{◌≡◌, ℕ, zero, suc, ◌<◌, Bool, true, false, cond, List, [], ◌∷◌, length, map, get_or, refl, sym, ◌∙◌, ap, subst, arith}
+use Rattle.std.proofs.Common.{length-append, inl, inr}
 use Rattle.std.proofs.Common.{Option, None as Nothing, Some}
 use Rattle.std.specs.Prelude.{slice_get}
 use Rattle.std.specs.List.{Contains}
@@ -44,7 +45,8 @@ TypedMemories = (program : ProgramTree) (main : Identifier) (sequence : List Sit
     → IsInstant program main state inputs row → IsNext program main state row next → AreStarts program main next.kept
 
 abbrev pub SomeNext : Type 0
-SomeNext = (program : ProgramTree) (main : Identifier) (state : Brought) (row : Instant) → AreWell program → IsNode program main → (next : Brought) × IsNext program main state row next
+SomeNext = (program : ProgramTree) (main : Identifier) (state : Brought) (row : Instant) → AreWell program → IsNode program main
+    → (next : Brought) × IsNext program main state row next
 
 -- the labels of the enumerations
 pub counted : (ds : List TypeDecl) (i : ℕ) → get_or (map (λ ls. length ls) (map (λ d. texts (labels_of d)) ds)) i 0 ≡ labels_at ds i
@@ -84,7 +86,8 @@ length-values g (suc n) = omega (arith, length-append (first_values g n) (g n �
 pub value_kth : (g : ℕ → Value) (n k : ℕ) → k < n → get_or (first_values g n) k (Flag false) ≡ g k
 value_kth g zero k lt = absurd (omega arith)
 value_kth g (suc n) k lt = elim (eq-or-lt_of_le {n = k} {m = n} (omega arith)) [
-  | inl same ↦ subst (λ j. get_or (first_values g (suc n)) j (Flag false) ≡ g j) (sym same) (get_or_push (first_values g n) (g n) (Flag false) n (length-values g n))
+  | inl same ↦ subst (λ j. get_or (first_values g (suc n)) j (Flag false) ≡ g j) (sym same)
+      (get_or_push (first_values g n) (g n) (Flag false) n (length-values g n))
   | inr below ↦ get_or_append_left (first_values g n) (g n ∷ []) (Flag false) k (omega (arith, length-values g n)) ∙ value_kth g n k below
 ]
 
@@ -156,7 +159,8 @@ module _ (program : ProgramTree) (main : Identifier) (f : Flat) (well : AreWell 
         let ticked = ext_get_or false (flat_state f brought).ticked now.ticked (omega (arith, long_ticks, clocks, state.ticks))
         (λ k lt. tick_value now.ticked ticks (ticks_rising program main f.variables flat.variables) k (omega (arith, long_ticks))) in
         let long : length (flat_state f brought).kept ≡ length kept_places = length-map kept_places brought.kept in
-        let kept = ext_get_or (Flag false) (flat_state f brought).kept now.kept (omega (arith, long, count, state.kept.size, length-map f.memories (λ m. m.kind)))
+        let kept = ext_get_or (Flag false) (flat_state f brought).kept now.kept
+        (omega (arith, long, count, state.kept.size, length-map f.memories (λ m. m.kind)))
         (λ m lt. let less : m < length kept_places = omega (arith, long) in
         get_or-map brought.kept kept_places m [] (Flag false) less ∙ ap (λ j. get_or now.kept j (Flag false)) (number_at kept_places memories_rising m less)) in
         λ i. record { ticked = ticked i; kept = kept i }
@@ -165,7 +169,8 @@ module _ (program : ProgramTree) (main : Identifier) (f : Flat) (well : AreWell 
     starts_typed i d inst w =
         let at = memory_at program i d in
         let found = memory_found f.memories at (flat.memories.all i d inst tt w) in
-        let number : index_of kept_places at.place ≡ found.0 = ap (index_of kept_places) (sym found.3) ∙ number_at kept_places memories_rising found.0 (omega (arith, count, found.1)) in
+        let number : index_of kept_places at.place ≡ found.0 = ap (index_of kept_places) (sym found.3)
+        ∙ number_at kept_places memories_rising found.0 (omega (arith, count, found.1)) in
         let value : get_or now.kept found.0 (Flag false) ≡ brought.kept at.place = ap (λ j. get_or now.kept j (Flag false)) (sym number) in
         subst (HasKind program at.kind) value
         (has_kind program (label_counts f) counts_same at.kind (get_or now.kept found.0 (Flag false))
@@ -193,7 +198,8 @@ module _ (program : ProgramTree) (main : Identifier) (f : Flat) (well : AreWell 
     inputs_of_program = (given_at, inputs_same, given_typed)
 
   -- And back: what a state of the program is to the flat system.
-  pub state_of_flat : (state : Brought) → AreStarts program main state.kept → ((q : Sites) → Contains kept_places q → IsInRange (state.kept q)) → IsState f (flat_state f state)
+  pub state_of_flat : (state : Brought) → AreStarts program main state.kept → ((q : Sites) → Contains kept_places q → IsInRange (state.kept q))
+      → IsState f (flat_state f state)
   state_of_flat state starts small = record {
     ticks =
         let clocks = length-map ticks (λ (p : Sites). Some (index_of (places f) p)) in
@@ -208,17 +214,20 @@ module _ (program : ProgramTree) (main : Identifier) (f : Flat) (well : AreWell 
           let place : get_or kept_places m [] ≡ at.place = ap (λ (a : MemoryAt). a.place) found.5 in
           let kind : j ≡ at.kind = ap (λ (a : MemoryAt). a.kind) found.5 in
           let typed : HasKind program j (state.kept (get_or kept_places m [])) =
-          subst (λ q. HasKind program j (state.kept q)) (sym place) (subst (λ k. HasKind program k (state.kept at.place)) (sym kind) (starts found.0 found.1 found.2 found.4)) in
+          subst (λ q. HasKind program j (state.kept q)) (sym place) (subst (λ k. HasKind program k (state.kept at.place)) (sym kind)
+          (starts found.0 found.1 found.2 found.4)) in
           subst (λ v. constant_fits (label_counts f) j v ≡ true) (sym (get_or-map state.kept kept_places m [] (Flag false) less))
           (fits_kind program (label_counts f) counts_same j (state.kept (get_or kept_places m [])) typed);
       within = λ m lt.
           let less : m < length kept_places = omega (arith, lt, length-map kept_places state.kept) in
-          subst IsInRange (sym (get_or-map state.kept kept_places m [] (Flag false) less)) (small (get_or kept_places m []) (Contains-get_or kept_places m [] less));
+          subst IsInRange (sym (get_or-map state.kept kept_places m [] (Flag false) less))
+          (small (get_or kept_places m []) (Contains-get_or kept_places m [] less));
     };
   }
 
   -- and what its inputs are
-  pub inputs_of_flat : (inputs : ℕ → Value) → AreGiven program main inputs → ((j : ℕ) → j < length f.inputs → IsInRange (inputs j)) → AreValues f (input_kinds f) (flat_inputs f inputs)
+  pub inputs_of_flat : (inputs : ℕ → Value) → AreGiven program main inputs → ((j : ℕ) → j < length f.inputs → IsInRange (inputs j))
+      → AreValues f (input_kinds f) (flat_inputs f inputs)
   inputs_of_flat inputs given small = record {
     size = length-values inputs (length f.inputs) ∙ sym (length-map f.inputs (λ j. j.kind));
     typed = λ k j lt e.
@@ -230,7 +239,8 @@ module _ (program : ProgramTree) (main : Identifier) (f : Flat) (well : AreWell 
         subst IsInRange (sym (value_kth inputs (length f.inputs) k less)) (small k less);
   }
 
-module _ (typed_memories : TypedMemories) (some_next : SomeNext) (program : ProgramTree) (main : Identifier) (f : Flat) (now : State) (inputs : List Value) (row : Row)
+module _ (typed_memories : TypedMemories) (some_next : SomeNext) (program : ProgramTree) (main : Identifier) (f : Flat) (now : State) (inputs : List Value)
+    (row : Row)
     (well : AreWell program) (named : IsNode program main) (flat : IsFlatOf program main f) (state : IsState f now) (given : AreValues f (input_kinds f) inputs)
     (instant : IsFlatInstant f now inputs row) where
   abbrev memory_spots : List Sites
@@ -244,21 +254,26 @@ module _ (typed_memories : TypedMemories) (some_next : SomeNext) (program : Prog
 
   program_instant : IsInstant program main before inputs_at (instant_of (places f) row)
   program_instant =
-      flat.rows before inputs_at row (subst (λ s. IsFlatInstant f s (flat_inputs f inputs_at) row) (sym (state_same program main f well named flat now state)) (subst (λ js. IsFlatInstant f now js row) (sym (inputs_same program main f well named flat inputs given)) instant))
+      flat.rows before inputs_at row (subst (λ s. IsFlatInstant f s (flat_inputs f inputs_at) row) (sym (state_same program main f well named flat now state))
+      (subst (λ js. IsFlatInstant f now js row) (sym (inputs_same program main f well named flat inputs given)) instant))
 
   abbrev next : Brought
   next = (some_next program main before (instant_of (places f) row) well named).0
 
   flat_next : IsFlatNext f now inputs row (flat_state f next)
   flat_next =
-      let is = flat.next before next inputs_at (instant_of (places f) row) program_instant (some_next program main before (instant_of (places f) row) well named).1 in
+      let is = flat.next before next inputs_at (instant_of (places f) row) program_instant
+      (some_next program main before (instant_of (places f) row) well named).1 in
       subst (λ r. IsFlatNext f now inputs r (flat_state f next)) (flat.kept row instant.flows)
-      (subst (λ js. IsFlatNext f now js (row_of (places f) (instant_of (places f) row)) (flat_state f next)) (inputs_same program main f well named flat inputs given)
-      (subst (λ s. IsFlatNext f s (flat_inputs f inputs_at) (row_of (places f) (instant_of (places f) row)) (flat_state f next)) (state_same program main f well named flat now state) is))
+      (subst (λ js. IsFlatNext f now js (row_of (places f) (instant_of (places f) row)) (flat_state f next))
+      (inputs_same program main f well named flat inputs given)
+      (subst (λ s. IsFlatNext f s (flat_inputs f inputs_at) (row_of (places f) (instant_of (places f) row)) (flat_state f next))
+      (state_same program main f well named flat now state) is))
 
   next_typed : AreStarts program main next.kept
   next_typed =
-      typed_memories program main (places f) before next inputs_at (instant_of (places f) row) well named flat.sequence (starts_typed program main f well named flat now state) (given_typed program main f well named flat inputs given) program_instant
+      typed_memories program main (places f) before next inputs_at (instant_of (places f) row) well named flat.sequence
+      (starts_typed program main f well named flat now state) (given_typed program main f well named flat inputs given) program_instant
       (some_next program main before (instant_of (places f) row) well named).1
 
   pub memories_taken : AreTaken f now inputs row
@@ -274,4 +289,5 @@ module _ (typed_memories : TypedMemories) (some_next : SomeNext) (program : Prog
       let typed : HasKind program j (next.kept (get_or memory_spots m [])) =
       subst (λ q. HasKind program j (next.kept q)) (sym place) (subst (λ k. HasKind program k (next.kept (memory_at program found.0 found.1).place)) (sym kind)
       (next_typed found.0 found.1 found.2 found.4)) in
-      fits_kind program (label_counts f) (counts_same program main f well named flat) j (value_at now inputs row item.body) (subst (HasKind program j) value typed)
+      fits_kind program (label_counts f) (counts_same program main f well named flat) j (value_at now inputs row item.body)
+      (subst (HasKind program j) value typed)

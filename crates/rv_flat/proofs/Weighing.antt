@@ -1,5 +1,6 @@
 -- No integer of a flat expression is larger than its weight times 2^63, so an `i128` holds each.
-use Rattle.std.proofs.Common.{◌≡◌, ℕ, ◌+◌, ◌*◌, ◌^◌, ◌<◌, ◌≤◌, max, Bool, true, false, ◌&&◌, cond, ℤ, ◌+ℤ◌, ◌-ℤ◌, ◌*ℤ◌, nat_abs, List, get_or, arith, Option, Some}
+use Rattle.std.proofs.Common.{◌≡◌, ℕ, ◌+◌, ◌*◌, ◌^◌, ◌<◌, ◌≤◌, max, Bool, true, false, ◌&&◌, cond, ℤ, ◌+ℤ◌, ◌-ℤ◌, ◌*ℤ◌, nat_abs, List, get_or, arith, Option}
+use Rattle.std.proofs.Common.{Some}
 use Rattle.std.specs.Prelude.{nat_lt, nat_le, slice_get}
 use Rattle.std.proofs.Math.Nat.{mul-le-mul_left, mul_assoc}
 use Rattle.std.proofs.lemmas.Bool.{ltb-true}
@@ -17,7 +18,8 @@ use Rattle.rv_types.specs.Types.{same_kind}
 use Rattle.rv_meaning.specs.Meaning.{is_true, number, operate}
 use Rattle.rv_agreement.specs.Checks.{same_clock, is_of, gives, clock_fits, fits, form_fits, all_fit}
 use Rattle.rv_agreement.specs.Evaluation.{Found, value, form_value, integers}
-use Rattle.rv_agreement.specs.Trees.{FlatTree, Node, TreeForm, FlatTrees, Constant, Flow, Memory, Ticked, Input, Not, Binary, Scale, If, AtMostOne, When, Current, None, More, System, memory_kinds, nth_item}
+use Rattle.rv_agreement.specs.Trees.{FlatTree, Node, TreeForm, FlatTrees, Constant, Flow, Memory, Ticked, Input, Not, Binary, Scale, If, AtMostOne, When}
+use Rattle.rv_agreement.specs.Trees.{Current, None, More, System, memory_kinds, nth_item}
 use Rattle.rv_flat.specs.FlatInstants.{Row, nth, held, is_on_at}
 use Rattle.rv_flat.specs.Facts.{constant_weight, weight_under, flat_weight, form_flat_weight, is_light, form_is_light, all_light}
 use Rattle.rv_flat.specs.Tame.{IsHeld, IsTame, HasTame, AreTame}
@@ -40,7 +42,8 @@ no_kind : {P : Type 0} → false ≡ true → P
 no_kind e = absurd (grind arith)
 
 -- an operator gives no more than its operands allow
-operated_small : (o : Op) (k : Kind) (x y : Value) (v w : ℕ) → gives o k ≡ true → size x ≤ v * 2 ^ 63 → size y ≤ w * 2 ^ 63 → size (operate o false x y) ≤ weight_under o v w * 2 ^ 63
+operated_small : (o : Op) (k : Kind) (x y : Value) (v w : ℕ) → gives o k ≡ true → size x ≤ v * 2 ^ 63 → size y ≤ w * 2 ^ 63
+    → size (operate o false x y) ≤ weight_under o v w * 2 ^ 63
 operated_small op.Plus k x y v w e g h = sum_small (number x) (number y) v w g h
 operated_small op.Minus k x y v w e g h = difference_small (number x) (number y) v w g h
 operated_small op.Arrow k x y v w e g h = no_kind e
@@ -79,24 +82,28 @@ module _ (s : System) (ws : List ℕ) (found : Found Value) (row : Row) (n : ℕ
   worth e = value Value integers found row e
 
   -- the operand of a `when`, and what a `current` shows
-  when_fits : (k : Option ℕ) (j : Kind) (at : Sites) (c : ℕ) (e : FlatTree) → form_fits s n k j at (When c e) ≡ true → fits s n (nth_item s.flows c).clock j e ≡ true
+  when_fits : (k : Option ℕ) (j : Kind) (at : Sites) (c : ℕ) (e : FlatTree) → form_fits s n k j at (When c e) ≡ true
+      → fits s n (nth_item s.flows c).clock j e ≡ true
   when_fits k j at c e fit =
       let outer = both (same_clock k (Some c)) (clock_fits s n (Some c) && fits s n (nth_item s.flows c).clock j e) fit in
       (both (clock_fits s n (Some c)) (fits s n (nth_item s.flows c).clock j e) outer.1).1
 
-  current_fits : (k : Option ℕ) (j : Kind) (at : Sites) (m : ℕ) (i : Option ℕ) (e : FlatTree) → form_fits s n k j at (Current m i e) ≡ true → fits s n i j e ≡ true
+  current_fits : (k : Option ℕ) (j : Kind) (at : Sites) (m : ℕ) (i : Option ℕ) (e : FlatTree) → form_fits s n k j at (Current m i e) ≡ true
+      → fits s n i j e ≡ true
   current_fits k j at m i e fit =
       let outer = both (is_of j (slice_get (memory_kinds s) m)) (clock_fits s n i && fits s n i j e) fit in
       (both (clock_fits s n i) (fits s n i j e) outer.1).1
 
   mutual
-    pub value_small : (k : Option ℕ) (j : Kind) (e : FlatTree) → fits s n k j e ≡ true → is_light ws e ≡ true → size (value Value integers found row e) ≤ flat_weight ws e * 2 ^ 63
+    pub value_small : (k : Option ℕ) (j : Kind) (e : FlatTree) → fits s n k j e ≡ true → is_light ws e ≡ true
+        → size (value Value integers found row e) ≤ flat_weight ws e * 2 ^ 63
     value_small k j (Node at form) fit light = form_small k j at form fit (both (nat_le (form_flat_weight ws form) heaviest) (form_is_light ws form) light).1
 
     form_small : (k : Option ℕ) (j : Kind) (at : Sites) (form : TreeForm) → form_fits s n k j at form ≡ true → form_is_light ws form ≡ true
         → size (form_value Value integers found row at form) ≤ form_flat_weight ws form * 2 ^ 63
     form_small k j at (Constant c) fit light = constant_small c
-    form_small k j at (Flow c) fit light = row_small c (ltb-true c n (both (nat_lt c n) (is_of j (slice_get s.kinds c) && same_clock k (nth_item s.flows c).clock) fit).0)
+    form_small k j at (Flow c) fit light = row_small c (ltb-true c n (both (nat_lt c n)
+        (is_of j (slice_get s.kinds c) && same_clock k (nth_item s.flows c).clock) fit).0)
     form_small k j at (Memory m) fit light = omega (arith, kept_small m)
     form_small k j at (Ticked t) fit light = omega arith
     form_small k j at (Input i) fit light = omega (arith, inputs_small i)
@@ -125,10 +132,13 @@ module _ (s : System) (ws : List ℕ) (found : Found Value) (row : Row) (n : ℕ
   mutual
     pub tame : (k : Option ℕ) (j : Kind) (e : FlatTree) → fits s n k j e ≡ true → is_light ws e ≡ true → IsTame found row e
     tame k j (Node at form) fit light =
-        let parts = both (nat_le (form_flat_weight ws form) heaviest) (form_is_light ws form) light in
-        (held_small (form_value Value integers found row at form) (form_flat_weight ws form) (form_small k j at form fit parts.1) parts.0, tame_form k j at form fit parts.1)
+        let parts = both (nat_le (form_flat_weight ws form) heaviest) (form_is_light ws form) light in (
+          held_small (form_value Value integers found row at form) (form_flat_weight ws form) (form_small k j at form fit parts.1) parts.0,
+          tame_form k j at form fit parts.1,
+        )
 
-    tame_form : (k : Option ℕ) (j : Kind) (at : Sites) (form : TreeForm) → form_fits s n k j at form ≡ true → form_is_light ws form ≡ true → HasTame found row form
+    tame_form : (k : Option ℕ) (j : Kind) (at : Sites) (form : TreeForm) → form_fits s n k j at form ≡ true → form_is_light ws form ≡ true
+        → HasTame found row form
     tame_form k j at (Constant c) fit light = tt
     tame_form k j at (Flow c) fit light = tt
     tame_form k j at (Memory m) fit light = tt

@@ -25,7 +25,8 @@ pub record IsKept (f : Flat) (now : State) (inputs : List Value) (row : Row) (n 
   pub memories : length kept ≡ n
   pub holds : (m : ℕ) → m < n
       → slice_index_or kept m (Flag false)
-      ≡ cond (is_on_at row (nth_item (memory_items f) m).clock) (value_at now inputs row (nth_item (memory_items f) m).body) (slice_index_or now.kept m (Flag false))
+      ≡ cond (is_on_at row (nth_item (memory_items f) m).clock) (value_at now inputs row (nth_item (memory_items f) m).body)
+      (slice_index_or now.kept m (Flag false))
 
 -- which of these ticks, numbered from a number on, have been there after an instant
 abbrev pub ticks_from : Row → List Bool → ℕ → List (Option ℕ) → List Bool

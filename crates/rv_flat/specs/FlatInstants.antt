@@ -86,4 +86,5 @@ pub record IsFlatNext (f : Flat) (now : State) (inputs : List Value) (row : Row)
   pub memories : length next.kept ≡ length f.memories
   pub kept : (m : ℕ) → m < length f.memories
       → slice_index_or next.kept m (Flag false)
-      ≡ cond (is_on_at row (nth_item (memory_items f) m).clock) (value_at now inputs row (nth_item (memory_items f) m).body) (slice_index_or now.kept m (Flag false))
+      ≡ cond (is_on_at row (nth_item (memory_items f) m).clock) (value_at now inputs row (nth_item (memory_items f) m).body)
+      (slice_index_or now.kept m (Flag false))

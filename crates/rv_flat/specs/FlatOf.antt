@@ -84,7 +84,8 @@ module _ (program : ProgramTree) (main : Identifier) where
     pub counted : length f.variables ≡ variable_count program main
     pub columns : AreColumns program main (map column_of f.columns)
     pub sequence : IsSequence program main (places f)
-    pub kinds : (i : Instance) (x : Identifier) (k : ℕ) → IsInstance program main i → Contains (flows i.node) x → k < length f.flows → slice_index_or (places f) k [] ≡ place i x
+    pub kinds : (i : Instance) (x : Identifier) (k : ℕ) → IsInstance program main i → Contains (flows i.node) x → k < length f.flows
+        → slice_index_or (places f) k [] ≡ place i x
         → slice_get (map (λ g. g.kind) f.flows) k ≡ flow_kind program i.node x
     pub observer : slice_index_or (places f) f.observer [] ≡ observer_place program main
     pub labels : f.labels ≡ map (λ d. texts (labels_of d)) program.types
@@ -110,4 +111,5 @@ module _ (program : ProgramTree) (main : Identifier) where
         → IsSymbolicOf program main (map memory_of f.memories) v (λ q. slice_index_or row (index_of (places f) q) Nothing)
     -- the comparisons, each on its clock
     pub compares : (c : Compared) → IsComparison program main c → Contains (all_comparisons (system_of f)) (flat_compared program (numbers_of f) c)
-    pub compares_only : (d : Comparison) → Contains (all_comparisons (system_of f)) d → (c : Compared) × IsComparison program main c × (d ≡ flat_compared program (numbers_of f) c)
+    pub compares_only : (d : Comparison) → Contains (all_comparisons (system_of f)) d
+        → (c : Compared) × IsComparison program main c × (d ≡ flat_compared program (numbers_of f) c)

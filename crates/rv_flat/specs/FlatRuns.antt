@@ -16,7 +16,8 @@ use Rattle.rv_flat.specs.FlatOf.{IsFlatOf, flat_inputs}
 use Rattle.rv_flat.specs.Steps.{IsFlatStart}
 
 -- A run of a well formed program, and instants of its flat system after one another from the same starts and inputs.
-pub record AreStepsOf (program : ProgramTree) (main : Identifier) (f : Flat) (starts : Sites → Value) (inputs : ℕ → ℕ → Value) (n : ℕ) (h : History) (states : ℕ → State) (rows : ℕ → Row) : Type 0 where
+pub record AreStepsOf (program : ProgramTree) (main : Identifier) (f : Flat) (starts : Sites → Value) (inputs : ℕ → ℕ → Value) (n : ℕ) (h : History)
+    (states : ℕ → State) (rows : ℕ → Row) : Type 0 where
   pub well : AreWell program
   pub named : IsNode program main
   pub flat : IsFlatOf program main f

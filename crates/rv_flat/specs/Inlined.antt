@@ -6,7 +6,8 @@ use Rattle.rv_agreement.specs.Trees.{FlatTree, TreeForm, FlatTrees, Item, no_ite
 use Rattle.rv_agreement.specs.Trees as tree
 use Rattle.rv_flat.specs.declared.parts.FlatExpr.{FlatExpr}
 use Rattle.rv_flat.specs.declared.parts.FlatMemory.{FlatMemory}
-use Rattle.rv_flat.specs.RawTree.{RawTree, Node, RawForm, RawTrees, Constant, Flow, Memory, Ticked, Input, Not, Binary, Scale, If, AtMostOne, When, Current, None, More, raw_tree, all_shown}
+use Rattle.rv_flat.specs.RawTree.{RawTree, Node, RawForm, RawTrees, Constant, Flow, Memory, Ticked, Input, Not, Binary, Scale, If, AtMostOne, When, Current}
+use Rattle.rv_flat.specs.RawTree.{None, More, raw_tree, all_shown}
 
 -- by what a table has of each memory
 module _ (table : ℕ → Item) where

@@ -28,7 +28,8 @@ label_counts f = map (λ ls. length ls) f.labels
 -- One value of each of these types, within the range.
 pub record AreValues (f : Flat) (kinds : List Kind) (values : List Value) : Type 0 where
   pub size : length values ≡ length kinds
-  pub typed : (k : ℕ) (j : Kind) → k < length kinds → slice_get kinds k ≡ Some j → IsTrue (constant_fits (label_counts f) j (slice_index_or values k (Flag false)))
+  pub typed : (k : ℕ) (j : Kind) → k < length kinds → slice_get kinds k ≡ Some j
+      → IsTrue (constant_fits (label_counts f) j (slice_index_or values k (Flag false)))
   pub within : (k : ℕ) → k < length values → IsInRange (slice_index_or values k (Flag false))
 
 abbrev pub memory_kinds : Flat → List Kind
@@ -54,12 +55,14 @@ pub record IsFlatStart (f : Flat) (starts : List Value) (state : State) : Type 0
 -- At a row, the integer of the flow or memory at this place leaves the range.
 pub data IsGrown (f : Flat) (now : State) (inputs : List Value) (row : Row) (q : Sites) : Type 0 where
   flow : (k : ℕ) (z : ℤ) → k < length f.flows → nth row k ≡ Some (Whole z) → (IsWithin z → ⊥) → slice_index_or (places f) k [] ≡ q → IsGrown f now inputs row q
-  memory : (m : ℕ) (z : ℤ) → m < length f.memories → is_on_at row (nth_item (memory_items f) m).clock ≡ true → value_at now inputs row (nth_item (memory_items f) m).body ≡ Whole z
+  memory : (m : ℕ) (z : ℤ) → m < length f.memories → is_on_at row (nth_item (memory_items f) m).clock ≡ true
+      → value_at now inputs row (nth_item (memory_items f) m).body ≡ Whole z
       → (IsWithin z → ⊥) → slice_index_or (memory_places f) m [] ≡ q → IsGrown f now inputs row q
 
 -- Each memory whose clock is there takes a value of its type.
 abbrev pub AreTaken : Flat → State → List Value → Row → Type 0
-AreTaken f now inputs row = (m : ℕ) (j : Kind) → m < length f.memories → slice_get (memory_kinds f) m ≡ Some j → is_on_at row (nth_item (memory_items f) m).clock ≡ true
+AreTaken f now inputs row = (m : ℕ) (j : Kind) → m < length f.memories → slice_get (memory_kinds f) m ≡ Some j
+    → is_on_at row (nth_item (memory_items f) m).clock ≡ true
     → IsTrue (constant_fits (label_counts f) j (value_at now inputs row (nth_item (memory_items f) m).body))
 
 -- the least of some places

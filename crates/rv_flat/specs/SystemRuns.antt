@@ -19,7 +19,8 @@ system_state f state = record { ticked = (flat_state f state).ticked; kept = (fl
 
 -- The run of the flat system that a run of the program is: each state is the one that the run brings there, each row that of the
 -- run, flow by flow; the assertions hold in both or in neither, and the observer has the same.
-pub record IsRunOf (program : ProgramTree) (main : Identifier) (f : Flat) (starts : Sites → Value) (inputs : ℕ → ℕ → Value) (n : ℕ) (h : History) (states : ℕ → State) (rows : ℕ → Row) : Type 0 where
+pub record IsRunOf (program : ProgramTree) (main : Identifier) (f : Flat) (starts : Sites → Value) (inputs : ℕ → ℕ → Value) (n : ℕ) (h : History)
+    (states : ℕ → State) (rows : ℕ → Row) : Type 0 where
   pub run : IsFlatRun (system_of f) n states (λ t. flat_inputs f (inputs t)) rows
   pub kept_at_first : (states 0).kept ≡ map starts (memory_places f)
   pub brought : (t : ℕ) → t ≤ n → (state : Brought) × IsStateAt program main starts (cells h) t state × (states t ≡ system_state f state)

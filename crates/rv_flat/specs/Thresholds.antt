@@ -9,7 +9,8 @@ use Rattle.rv_types.specs.Variables.{parts, node_parts}
 -- an integer literal of a node or of a constant's body, as the tree keeps it, or an integer constant
 pub data IsNumberOf (p : ProgramTree) (z : ℤ) : Type 0 where
   in_node : (n : NodeTree) (at v : ℕ) (site : Option ℕ) → Contains p.nodes n → Contains (node_parts n) (Node at site (Number v)) → pos v ≡ z → IsNumberOf p z
-  in_constant : (c : ConstantTree) (at v : ℕ) (site : Option ℕ) → Contains p.constants c → Contains (parts c.body) (Node at site (Number v)) → pos v ≡ z → IsNumberOf p z
+  in_constant : (c : ConstantTree) (at v : ℕ) (site : Option ℕ) → Contains p.constants c → Contains (parts c.body) (Node at site (Number v)) → pos v ≡ z
+      → IsNumberOf p z
   constant : Contains (constant_values p) (Whole z) → IsNumberOf p z
 
 -- a number, the one before it or the one after it

@@ -8,7 +8,8 @@ ghost use Rattle.rv_agreement.specs.Checks.{are_distinct, assertions_fit, clocks
 ghost use Rattle.rv_flat.specs.Facts.{all_few, flow_weights, integers, items_light, numbers_among, ticks_known};
 ghost use Rattle.rv_flat.specs.Inlined.{all_end};
 ghost use Rattle.rv_flat.specs.Lists.{tick_places};
-ghost use Rattle.rv_flat.specs.Systems.{assertion_item, flow_item, flow_kinds_of, kept_of, memory_item, memory_places_of, places_of, system_from, tick_clocks_of, tick_flows_of};
+ghost use Rattle.rv_flat.specs.Systems.{assertion_item, flow_item, flow_kinds_of, kept_of, memory_item, memory_places_of, places_of, system_from};
+ghost use Rattle.rv_flat.specs.Systems.{tick_clocks_of, tick_flows_of};
 
 use crate::parts::{Bit, Column, FlatExpr, FlatFlow, FlatInput, FlatMemory};
 use rv_base::{Many, Text};
@@ -34,8 +35,10 @@ pub struct Flat {
     pub tick_flows: Many<u32>,
     pub ghost ends: { IsTrue (all_end memories (length memories)) },
     pub ghost flows_fit: { IsTrue (flows_fit (system_from flows memories inputs assertions variables labels observer) 0 (map (flow_item memories) flows)) },
-    pub ghost memories_fit: { IsTrue (memories_fit (system_from flows memories inputs assertions variables labels observer) (map (kept_of memories) memories)) },
-    pub ghost assertions_fit: { IsTrue (assertions_fit (system_from flows memories inputs assertions variables labels observer) (map (assertion_item memories) assertions)) },
+    pub ghost memories_fit: { IsTrue (memories_fit (system_from flows memories inputs assertions variables labels observer)
+        (map (kept_of memories) memories)) },
+    pub ghost assertions_fit: { IsTrue (assertions_fit (system_from flows memories inputs assertions variables labels observer)
+        (map (assertion_item memories) assertions)) },
     pub ghost observed: { IsTrue (is_of kind.Bool (slice_get (flow_kinds_of flows) observer)) },
     pub ghost ticks: { IsTrue (ticks_known (places_of flows) (tick_places variables)) },
     pub ghost tick_numbers: { IsTrue (is_same tick_flows (numbers_among (places_of flows) (tick_places variables))) },

@@ -28,7 +28,8 @@ use rv_meaning::{run_is_instants, some_next, states_of_run, steps_are_run, typed
 
 /// A flat system has exactly one instant at each state and inputs.
 pub fn one_flat_instant()
-    ensures { (f : FlatModel) (now : StateModel) (inputs : List Value) → (row : Row) × IsFlatInstant f now inputs row × ((other : Row) → IsFlatInstant f now inputs other → other ≡ row) }
+    ensures { (f : FlatModel) (now : StateModel) (inputs : List Value)
+        → (row : Row) × IsFlatInstant f now inputs row × ((other : Row) → IsFlatInstant f now inputs other → other ≡ row) }
 {}
 
 /// Steps of a flat system from the start give the run of its program, where that is well formed: the rows are the run's, flow
@@ -36,18 +37,28 @@ pub fn one_flat_instant()
 /// are false are those of the run. So the least place of one is that in the run, and there is none exactly where the assertions
 /// hold.
 pub fn steps_give_run()
-    ensures rows { (program : ProgramTree) (main : Identifier) (f : FlatModel) (starts : Sites → Value) (inputs : ℕ → ℕ → Value) (n : ℕ) (h : History) (states : ℕ → StateModel) (rows : ℕ → Row)
+    ensures rows { (program : ProgramTree) (main : Identifier) (f : FlatModel) (starts : Sites → Value) (inputs : ℕ → ℕ → Value) (n : ℕ) (h : History)
+        (states : ℕ → StateModel) (rows : ℕ → Row)
         → AreStepsOf program main f starts inputs n h states rows → (t : ℕ) → t < n → rows t ≡ row_of (places f) (slice_index_or h t empty) }
-    ensures states { (program : ProgramTree) (main : Identifier) (f : FlatModel) (starts : Sites → Value) (inputs : ℕ → ℕ → Value) (n : ℕ) (h : History) (states : ℕ → StateModel) (rows : ℕ → Row)
-        → AreStepsOf program main f starts inputs n h states rows → (t : ℕ) → t ≤ n → (state : Brought) × IsStateAt program main starts (cells h) t state × (states t ≡ flat_state f state) }
-    ensures observer { (program : ProgramTree) (main : Identifier) (f : FlatModel) (starts : Sites → Value) (inputs : ℕ → ℕ → Value) (n : ℕ) (h : History) (states : ℕ → StateModel) (rows : ℕ → Row)
+    ensures states { (program : ProgramTree) (main : Identifier) (f : FlatModel) (starts : Sites → Value) (inputs : ℕ → ℕ → Value) (n : ℕ) (h : History)
+        (states : ℕ → StateModel) (rows : ℕ → Row)
+        → AreStepsOf program main f starts inputs n h states rows → (t : ℕ) → t ≤ n
+        → (state : Brought) × IsStateAt program main starts (cells h) t state × (states t ≡ flat_state f state) }
+    ensures observer { (program : ProgramTree) (main : Identifier) (f : FlatModel) (starts : Sites → Value) (inputs : ℕ → ℕ → Value) (n : ℕ) (h : History)
+        (states : ℕ → StateModel) (rows : ℕ → Row)
         → AreStepsOf program main f starts inputs n h states rows → (t : ℕ) → t < n → nth (rows t) f.observer ≡ observed program main h t }
-    ensures broken { (program : ProgramTree) (main : Identifier) (f : FlatModel) (starts : Sites → Value) (inputs : ℕ → ℕ → Value) (n : ℕ) (h : History) (states : ℕ → StateModel) (rows : ℕ → Row)
-        → AreStepsOf program main f starts inputs n h states rows → (t : ℕ) → t < n → (q : Sites) → IsFlatBroken f (states t) (flat_inputs f (inputs t)) (rows t) q ↔ IsBrokenAt program main starts h t q }
-    ensures least { (program : ProgramTree) (main : Identifier) (f : FlatModel) (starts : Sites → Value) (inputs : ℕ → ℕ → Value) (n : ℕ) (h : History) (states : ℕ → StateModel) (rows : ℕ → Row)
-        → AreStepsOf program main f starts inputs n h states rows → (t : ℕ) → t < n → (p : Option PlaceModel) → IsLeastOf (IsFlatBroken f (states t) (flat_inputs f (inputs t)) (rows t)) p → IsLeastOf (IsBrokenAt program main starts h t) p }
-    ensures allowed { (program : ProgramTree) (main : Identifier) (f : FlatModel) (starts : Sites → Value) (inputs : ℕ → ℕ → Value) (n : ℕ) (h : History) (states : ℕ → StateModel) (rows : ℕ → Row)
-        → AreStepsOf program main f starts inputs n h states rows → (t : ℕ) → t < n → AssertionsHold program main starts h t ↔ ((q : Sites) → IsFlatBroken f (states t) (flat_inputs f (inputs t)) (rows t) q → ⊥) }
+    ensures broken { (program : ProgramTree) (main : Identifier) (f : FlatModel) (starts : Sites → Value) (inputs : ℕ → ℕ → Value) (n : ℕ) (h : History)
+        (states : ℕ → StateModel) (rows : ℕ → Row)
+        → AreStepsOf program main f starts inputs n h states rows → (t : ℕ) → t < n → (q : Sites)
+        → IsFlatBroken f (states t) (flat_inputs f (inputs t)) (rows t) q ↔ IsBrokenAt program main starts h t q }
+    ensures least { (program : ProgramTree) (main : Identifier) (f : FlatModel) (starts : Sites → Value) (inputs : ℕ → ℕ → Value) (n : ℕ) (h : History)
+        (states : ℕ → StateModel) (rows : ℕ → Row)
+        → AreStepsOf program main f starts inputs n h states rows → (t : ℕ) → t < n → (p : Option PlaceModel)
+        → IsLeastOf (IsFlatBroken f (states t) (flat_inputs f (inputs t)) (rows t)) p → IsLeastOf (IsBrokenAt program main starts h t) p }
+    ensures allowed { (program : ProgramTree) (main : Identifier) (f : FlatModel) (starts : Sites → Value) (inputs : ℕ → ℕ → Value) (n : ℕ) (h : History)
+        (states : ℕ → StateModel) (rows : ℕ → Row)
+        → AreStepsOf program main f starts inputs n h states rows → (t : ℕ) → t < n
+        → AssertionsHold program main starts h t ↔ ((q : Sites) → IsFlatBroken f (states t) (flat_inputs f (inputs t)) (rows t) q → ⊥) }
 {
     run_is_instants();
     states_of_run();

@@ -1,5 +1,6 @@
 -- The comparisons of a system that is read from its program: at one place there is one, with its operands.
-use Rattle.std.proofs.Common.{◌≡◌, ◌⊎◌, inl, inr, ℕ, suc, ◌<◌, ℤ, Bool, true, false, cond, nat_eq, List, [], ◌∷◌, ◌++◌, length, refl, sym, ◌∙◌, subst, arith, Option, Some}
+use Rattle.std.proofs.Common.{◌≡◌, ◌⊎◌, inl, inr, ℕ, suc, ◌<◌, ℤ, Bool, true, false, cond, nat_eq, List, [], ◌∷◌, ◌++◌, length, refl, sym, ◌∙◌, subst, arith}
+use Rattle.std.proofs.Common.{Option, Some}
 use Rattle.std.proofs.Common.{None as Nothing}
 use Rattle.std.proofs.lemmas.List.{length-map, get_or_default}
 use Rattle.std.proofs.lemmas.List.Elements.{Contains-append_cases}
@@ -22,12 +23,14 @@ use Rattle.rv_agreement.specs.Agreement.{AreApart}
 use Rattle.rv_agreement.specs.Programs.{spot, is_test, operator_place, coefficient, operation}
 use Rattle.rv_agreement.specs.Translation.{Numbers, tick_number, unplaced, flat_of, flat_form, flats_of, giver_item, IsTranslated}
 use Rattle.rv_agreement.specs.Trees.{FlatTree, Constant, Flow, Ticked, Scale, If, Binary, Item, Kept, System, no_item, nth_item, memory_items}
-use Rattle.rv_agreement.specs.Valuations.{Comparison, is_placed, own, comparisons, form_comparisons, comparisons_of, item_comparisons, all_items, all_comparisons}
+use Rattle.rv_agreement.specs.Valuations.{Comparison, is_placed, own, comparisons, form_comparisons, comparisons_of, item_comparisons, all_items}
+use Rattle.rv_agreement.specs.Valuations.{all_comparisons}
 use Rattle.rv_flatten.proofs.ComparedParts.{one_tree}
 use Rattle.rv_flatten.proofs.InstanceNumbers.{snoc}
 use Rattle.rv_flatten.proofs.ItemClocks.{same_instance}
 use Rattle.rv_flat.proofs.Members.{none_in, head_or_tail, from_flat_map}
-use Rattle.rv_flatten.proofs.Standing.{Stands, as_child, of_not, of_minus, of_when, of_left, of_right, of_condition, of_first, of_second, of_operand, stands_in, body_stands, argument_stands, operand_stands, as_assertion}
+use Rattle.rv_flatten.proofs.Standing.{Stands, as_child, of_not, of_minus, of_when, of_left, of_right, of_condition, of_first, of_second, of_operand, stands_in}
+use Rattle.rv_flatten.proofs.Standing.{body_stands, argument_stands, operand_stands, as_assertion}
 use Rattle.rv_flat.proofs.TypedParts.{no_flag, both_hold}
 use Rattle.rv_flatten.proofs.WellInstances.{node_in}
 
@@ -41,27 +44,32 @@ own_is o r c w = by (is_placed r.at) (nat_eq (length (sides_of o)) 0) w
     by true false w = (refl, elim (head_or_tail r [] c w) [ inl is ↦ is | inr rest ↦ none_in c rest ])
 
 -- a place of an operator is that of its site
-placed_at : (path : Sites) (site : Option ℕ) (b : Bool) → is_placed (cond b (spot path site) []) ≡ true → (b ≡ true) × ((m : ℕ) × (site ≡ Some m) × (cond b (spot path site) [] ≡ path ++ m ∷ []))
+placed_at : (path : Sites) (site : Option ℕ) (b : Bool) → is_placed (cond b (spot path site) []) ≡ true
+    → (b ≡ true) × ((m : ℕ) × (site ≡ Some m) × (cond b (spot path site) [] ≡ path ++ m ∷ []))
 placed_at path site false e = no_flag e
 placed_at path Nothing true e = no_flag e
 placed_at path (Some m) true e = (refl, (m, refl, refl))
 
 module _ (flows : List Item) (k : Option ℕ) (at : Sites) (t : ℕ) (f g : FlatTree) (left : Bool) (y z : ℤ) (c : Comparison) where
   abbrev OneOf : Op → Type 0
-  OneOf o = Contains (own o (record { at = at; clock = k; operator = o; left = f; right = g })) c ⊎ (Contains (comparisons flows k f) c ⊎ Contains (comparisons flows k g) c)
+  OneOf o = Contains (own o (record { at = at; clock = k; operator = o; left = f; right = g })) c
+      ⊎ (Contains (comparisons flows k f) c ⊎ Contains (comparisons flows k g) c)
 
-  of_plain : (o : Op) → Contains (own o (record { at = at; clock = k; operator = o; left = f; right = g }) ++ (comparisons flows k f ++ comparisons flows k g)) c → OneOf o
-  of_plain o w = elim (Contains-append_cases (own o (record { at = at; clock = k; operator = o; left = f; right = g })) (comparisons flows k f ++ comparisons flows k g) c w) [
-    | inl v ↦ inl v
-    | inr v ↦ inr (Contains-append_cases (comparisons flows k f) (comparisons flows k g) c v)
-  ]
+  of_plain : (o : Op) → Contains (own o (record { at = at; clock = k; operator = o; left = f; right = g }) ++ (comparisons flows k f ++ comparisons flows k g))
+      c → OneOf o
+  of_plain o w = elim (Contains-append_cases (own o (record { at = at; clock = k; operator = o; left = f; right = g }))
+      (comparisons flows k f ++ comparisons flows k g) c w) [
+        | inl v ↦ inl v
+        | inr v ↦ inr (Contains-append_cases (comparisons flows k f) (comparisons flows k g) c v)
+      ]
 
   of_product : (b : Bool) → Contains (form_comparisons flows k at (cond b (Scale y g) (Scale z f))) c → OneOf op.Times
   of_product true w = inr (inr w)
   of_product false w = inr (inl w)
 
   -- the comparisons of what an operator is read as
-  of_operator : (o : Op) → Contains (form_comparisons flows k at (operation o (If (unplaced (Ticked t)) g f) (cond left (Scale y g) (Scale z f)) (Binary o f g))) c → OneOf o
+  of_operator : (o : Op) → Contains (form_comparisons flows k at (operation o (If (unplaced (Ticked t)) g f) (cond left (Scale y g) (Scale z f))
+      (Binary o f g))) c → OneOf o
   of_operator op.Arrow w = elim (Contains-append_cases (comparisons flows k g) (comparisons flows k f) c w) [ inl v ↦ inr (inr v) | inr v ↦ inr (inl v) ]
   of_operator op.Times w = of_product left w
   of_operator op.Implies w = of_plain op.Implies w
@@ -98,9 +106,21 @@ module _ (program : ProgramTree) (main : Identifier) (numbers : Numbers) where
 
   module _ (flows : List Item) (i : Instance) (of : IsInstance program main i) where
     own_read : (at : ℕ) (site : Option ℕ) (o : Op) (a b : Tree) (k : Option ℕ) (c : Comparison) → Stands i.node (tree.Node at site (tree.Binary o a b))
-        → Contains (own o (record { at = operator_place program i site o a; clock = k; operator = o; left = flat_of program numbers i a; right = flat_of program numbers i b })) c → IsReadFrom c
+        → Contains (own o (record {
+          at = operator_place program i site o a;
+          clock = k;
+          operator = o;
+          left = flat_of program numbers i a;
+          right = flat_of program numbers i b;
+        })) c → IsReadFrom c
     own_read at site o a b k c t w =
-        let r : Comparison = record { at = operator_place program i site o a; clock = k; operator = o; left = flat_of program numbers i a; right = flat_of program numbers i b } in
+        let r : Comparison = record {
+          at = operator_place program i site o a;
+          clock = k;
+          operator = o;
+          left = flat_of program numbers i a;
+          right = flat_of program numbers i b;
+        } in
         let u = own_is o r c w in
         let v = placed_at i.path site (is_test (node_scope program i.node) o a) u.0 in
         subst IsReadFrom u.1 (record {
@@ -111,23 +131,27 @@ module _ (program : ProgramTree) (main : Identifier) (numbers : Numbers) where
           operator = o;
           left = a;
           right = b;
-          there = subst (λ (m : Option ℕ). Contains (node_parts i.node) (tree.Node at m (tree.Binary o a b))) v.1.1 (stands_in i.node (tree.Node at site (tree.Binary o a b)) t);
+          there = subst (λ (m : Option ℕ). Contains (node_parts i.node) (tree.Node at m (tree.Binary o a b))) v.1.1
+              (stands_in i.node (tree.Node at site (tree.Binary o a b)) t);
           compares = (both_hold (is_comparison o) _ v.0).0;
           place = v.1.2;
           left_is = refl;
           right_is = refl;
         })
 
-    named_none : (k : Option ℕ) (x : Identifier) (b : Bool) (c : Comparison) → Contains (form_comparisons flows k [] (cond b (Flow (index_of numbers.flows (place i x))) (Constant (constant_value program x)))) c → IsReadFrom c
+    named_none : (k : Option ℕ) (x : Identifier) (b : Bool) (c : Comparison)
+        → Contains (form_comparisons flows k [] (cond b (Flow (index_of numbers.flows (place i x))) (Constant (constant_value program x)))) c → IsReadFrom c
     named_none k x true c w = none_in c w
     named_none k x false c w = none_in c w
 
     mutual
       -- each comparison of what is read of an expression
-      comparison_read : (k : Option ℕ) (e : Tree) (c : Comparison) → Stands i.node e → Contains (comparisons flows k (flat_of program numbers i e)) c → IsReadFrom c
+      comparison_read : (k : Option ℕ) (e : Tree) (c : Comparison) → Stands i.node e → Contains (comparisons flows k (flat_of program numbers i e)) c
+          → IsReadFrom c
       comparison_read k (tree.Node at site form) c t w = form_read k at site form c t w
 
-      form_read : (k : Option ℕ) (at : ℕ) (site : Option ℕ) (form : Form) (c : Comparison) → Stands i.node (tree.Node at site form) → Contains (comparisons flows k (flat_form program numbers i site form)) c → IsReadFrom c
+      form_read : (k : Option ℕ) (at : ℕ) (site : Option ℕ) (form : Form) (c : Comparison) → Stands i.node (tree.Node at site form)
+          → Contains (comparisons flows k (flat_form program numbers i site form)) c → IsReadFrom c
       form_read k at site tree.True c t w = none_in c w
       form_read k at site tree.False c t w = none_in c w
       form_read k at site (tree.Number n) c t w = none_in c w
@@ -139,7 +163,8 @@ module _ (program : ProgramTree) (main : Identifier) (numbers : Numbers) where
       form_read k at site (tree.When e x) c t w =
           comparison_read (nth_item flows (index_of numbers.flows (place i x.text))).clock e c (as_child at site (tree.When e x) e t (of_when x)) w
       form_read k at site (tree.Binary o a b) c t w =
-          elim (of_operator flows k (operator_place program i site o a) (tick_number numbers (clock_in i Base (tree.Node 0 site (tree.Binary o a b)))) (flat_of program numbers i a) (flat_of program numbers i b)
+          elim (of_operator flows k (operator_place program i site o a) (tick_number numbers (clock_in i Base (tree.Node 0 site (tree.Binary o a b))))
+          (flat_of program numbers i a) (flat_of program numbers i b)
           (is_constant (node_scope program i.node) a) (coefficient program a) (coefficient program b) c o w) [
             | inl own ↦ own_read at site o a b k c t own
             | inr parts ↦ elim parts [
@@ -161,15 +186,18 @@ module _ (program : ProgramTree) (main : Identifier) (numbers : Numbers) where
       form_read k at site (tree.AtMostOne es) c t w = all_read k es c (λ j e arg. as_child at site (tree.AtMostOne es) e t (of_operand j arg)) w
       form_read k at site (tree.Call f args) c t w = none_in c w
 
-      all_read : (k : Option ℕ) (es : Trees) (c : Comparison) → ((j : ℕ) (e : Tree) → IsArgument es j e → Stands i.node e) → Contains (comparisons_of flows k (flats_of program numbers i es)) c → IsReadFrom c
+      all_read : (k : Option ℕ) (es : Trees) (c : Comparison) → ((j : ℕ) (e : Tree) → IsArgument es j e → Stands i.node e)
+          → Contains (comparisons_of flows k (flats_of program numbers i es)) c → IsReadFrom c
       all_read k tree.None c t w = none_in c w
-      all_read k (tree.More e es) c t w = elim (Contains-append_cases (comparisons flows k (flat_of program numbers i e)) (comparisons_of flows k (flats_of program numbers i es)) c w) [
-        | inl v ↦ comparison_read k e c (t 0 e head) v
-        | inr v ↦ all_read k es c (λ j a arg. t (suc j) a (tail arg)) v
-      ]
+      all_read k (tree.More e es) c t w = elim (Contains-append_cases (comparisons flows k (flat_of program numbers i e))
+          (comparisons_of flows k (flats_of program numbers i es)) c w) [
+            | inl v ↦ comparison_read k e c (t 0 e head) v
+            | inr v ↦ all_read k es c (λ j a arg. t (suc j) a (tail arg)) v
+          ]
 
   -- each comparison of what gives a flow
-  giver_read : (flows : List Item) (q : Sites) (g : Giver) (c : Comparison) → Gives program main q g → Contains (item_comparisons flows (giver_item program numbers g)) c → IsReadFrom c
+  giver_read : (flows : List Item) (q : Sites) (g : Giver) (c : Comparison) → Gives program main q g
+      → Contains (item_comparisons flows (giver_item program numbers g)) c → IsReadFrom c
   giver_read flows q _ c (given j lt at) w = none_in c w
   giver_read flows q _ c (by_equation i x (Body e) of right at) w = comparison_read flows i of _ e c (body_stands i.node x e right) w
   giver_read flows q _ c (by_equation i x (Output d j) of right at) w = none_in c w
@@ -191,11 +219,13 @@ module _ (program : ProgramTree) (main : Identifier) (numbers : Numbers) where
             let a = at_number (memory_items s) x memory in
             let many = length-map s.memories (λ (m : Kept). m.item) in
             let r = read.memory_only a.0 (let lt = a.1 in omega (arith, lt, many)) in
-            comparison_read s.flows r.0 r.2 _ r.1.operand c (operand_stands r.0.node r.1 r.3) (subst (λ (y : Item). Contains (item_comparisons s.flows y) c) (sym a.2 ∙ r.4) v)
+            comparison_read s.flows r.0 r.2 _ r.1.operand c (operand_stands r.0.node r.1 r.3)
+            (subst (λ (y : Item). Contains (item_comparisons s.flows y) c) (sym a.2 ∙ r.4) v)
         | inr assertion ↦
             let a = at_number s.assertions x assertion in
             let r = read.asserted a.0 a.1 in
-            comparison_read s.flows r.0 r.2 _ r.1.body c (as_assertion r.1 r.3) (subst (λ (y : Item). Contains (item_comparisons s.flows y) c) (sym a.2 ∙ r.4) v)
+            comparison_read s.flows r.0 r.2 _ r.1.body c (as_assertion r.1 r.3)
+            (subst (λ (y : Item). Contains (item_comparisons s.flows y) c) (sym a.2 ∙ r.4) v)
       ]
     ]
 
@@ -214,7 +244,8 @@ module _ (program : ProgramTree) (main : Identifier) (numbers : Numbers) where
           let there : Contains (node_parts y.i.node) (tree.Node x.at (Some y.site) (tree.Binary x.operator x.left x.right)) =
           subst (λ (m : ℕ). Contains (node_parts y.i.node) (tree.Node x.at (Some m) (tree.Binary x.operator x.left x.right))) r.1
           (subst (λ (j : Instance). Contains (node_parts j.node) (tree.Node x.at (Some x.site) (tree.Binary x.operator x.left x.right))) one x.there) in
-          let same = one_tree y.i.node (well.numbered y.i.node (node_in program main well named y.i y.of)) x.at y.at y.site x.operator y.operator x.left x.right y.left y.right there y.there x.compares y.compares in
+          let same = one_tree y.i.node (well.numbered y.i.node (node_in program main well named y.i y.of)) x.at y.at y.site x.operator y.operator x.left x.right
+          y.left y.right there y.there x.compares y.compares in
           let left : x.left ≡ y.left = cc same in
           let right : x.right ≡ y.right = cc same in (
             x.left_is ∙ (λ t. flat_of program numbers (one t) (left t)) ∙ sym y.left_is,

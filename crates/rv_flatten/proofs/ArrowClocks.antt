@@ -1,12 +1,14 @@
 -- The clocks to which a walk over a node comes are those of its `->`, and each is the base clock or that of a flow.
-use Rattle.std.proofs.Common.{◌≡◌, inl, inr, ℕ, suc, true, List, [], ◌∷◌, ◌++◌, length, refl, sym, ◌∙◌, ap, subst, arith, unwrap_or, Option, flat_map, None as Nothing}
+use Rattle.std.proofs.Common.{◌≡◌, inl, inr, ℕ, suc, true, List, [], ◌∷◌, ◌++◌, length, refl, sym, ◌∙◌, ap, subst, arith, unwrap_or, Option, flat_map}
+use Rattle.std.proofs.Common.{None as Nothing}
 use Rattle.std.proofs.lemmas.List.Elements.{Contains-append_left, Contains-append_right, Contains-append_cases}
 use Rattle.std.proofs.lemmas.Option.{slice_get_within}
 use Rattle.std.specs.List.{Contains}
 use Rattle.rv_tree.specs.declared.tree.Name.{Name}
 use Rattle.rv_tree.specs.declared.tree.Op.{Op}
 use Rattle.rv_tree.specs.declared.tree.Op.TheVariants as op
-use Rattle.rv_tree.specs.Tree.{Tree, Node, Form, True, False, Number, Named, Not, Minus, Pre, Current, When, Binary, If, AtMostOne, Call, Trees, None, More, EquationTree, AssertionTree, NodeTree, ProgramTree}
+use Rattle.rv_tree.specs.Tree.{Tree, Node, Form, True, False, Number, Named, Not, Minus, Pre, Current, When, Binary, If, AtMostOne, Call, Trees, None, More}
+use Rattle.rv_tree.specs.Tree.{EquationTree, AssertionTree, NodeTree, ProgramTree}
 use Rattle.rv_types.specs.declared.typed.Kind.{Kind}
 use Rattle.rv_types.specs.declared.typed.Kind.TheVariants as kind
 use Rattle.rv_types.specs.declared.typed.Clock.{Clock}
@@ -23,7 +25,8 @@ use Rattle.rv_flatten.specs.Arrows.{arrows_in, form_arrows, arrows_in_all, node_
 use Rattle.rv_flatten.proofs.ClockKinds.{IsTrueClock, HasTrueClock, clock_taken, pace_is_true, arguments_typed}
 use Rattle.rv_flatten.proofs.FlowKinds.{kinds_many}
 use Rattle.rv_flat.proofs.Members.{none_in, at_head, in_tail, head_or_tail, in_flat_map, from_flat_map}
-use Rattle.rv_flat.proofs.TypedParts.{no_flag, IsTyped, not_typed, minus_typed, pre_typed, current_typed, when_typed, binary_typed, if_typed, most_typed, call_typed}
+use Rattle.rv_flat.proofs.TypedParts.{no_flag, IsTyped, not_typed, minus_typed, pre_typed, current_typed, when_typed, binary_typed, if_typed, most_typed}
+use Rattle.rv_flat.proofs.TypedParts.{call_typed}
 
 module _ (n : NodeTree) where
   -- a `->` among some expressions that stands on a clock
@@ -34,7 +37,8 @@ module _ (n : NodeTree) where
   more_parts es fs k into (e, w, is, at) = (e, into e w, is, at)
 
   -- of an operator itself
-  own_there : (o : Op) (p : Pace) (at : ℕ) (site : Option ℕ) (a b : Tree) → is_arrow (Node at site (Binary o a b)) ≡ true → Contains (arrow_clock o p) (taken Base p)
+  own_there : (o : Op) (p : Pace) (at : ℕ) (site : Option ℕ) (a b : Tree) → is_arrow (Node at site (Binary o a b)) ≡ true
+      → Contains (arrow_clock o p) (taken Base p)
   own_there op.Arrow p at site a b is = at_head (taken Base p) []
   own_there op.Implies p at site a b is = no_flag is
   own_there op.Or p at site a b is = no_flag is
@@ -53,7 +57,8 @@ module _ (n : NodeTree) where
   own_there op.Div p at site a b is = no_flag is
   own_there op.Mod p at site a b is = no_flag is
 
-  own_only : (o : Op) (p : Pace) (at : ℕ) (site : Option ℕ) (a b : Tree) (k : Clock) → Contains (arrow_clock o p) k → (is_arrow (Node at site (Binary o a b)) ≡ true) × (taken Base p ≡ k)
+  own_only : (o : Op) (p : Pace) (at : ℕ) (site : Option ℕ) (a b : Tree) (k : Clock) → Contains (arrow_clock o p) k
+      → (is_arrow (Node at site (Binary o a b)) ≡ true) × (taken Base p ≡ k)
   own_only op.Arrow p at site a b k w = elim (head_or_tail (taken Base p) [] k w) [ inl is ↦ (refl, is) | inr rest ↦ none_in k rest ]
   own_only op.Implies p at site a b k w = none_in k w
   own_only op.Or p at site a b k w = none_in k w
@@ -80,7 +85,8 @@ module _ (n : NodeTree) where
       | inr rest ↦ form_comes form x rest is
     ]
 
-    own_comes : (at : ℕ) (site : Option ℕ) (form : Form) → is_arrow (Node at site form) ≡ true → Contains (form_arrows n form) (taken Base (pace n (Node at site form)))
+    own_comes : (at : ℕ) (site : Option ℕ) (form : Form) → is_arrow (Node at site form) ≡ true
+        → Contains (form_arrows n form) (taken Base (pace n (Node at site form)))
     own_comes at site True is = no_flag is
     own_comes at site False is = no_flag is
     own_comes at site (Number v) is = no_flag is
@@ -113,7 +119,8 @@ module _ (n : NodeTree) where
         let k = taken Base (pace n x) in
         elim (Contains-append_cases (parts a) (parts b) x w) [
           | inl v ↦ Contains-append_left (arrows_in n a) (arrows_in n b ++ arrow_clock o p) k (arrow_comes a x v is)
-          | inr v ↦ Contains-append_right (arrows_in n a) (arrows_in n b ++ arrow_clock o p) k (Contains-append_left (arrows_in n b) (arrow_clock o p) k (arrow_comes b x v is))
+          | inr v ↦ Contains-append_right (arrows_in n a) (arrows_in n b ++ arrow_clock o p) k
+              (Contains-append_left (arrows_in n b) (arrow_clock o p) k (arrow_comes b x v is))
         ]
     form_comes (If a b c) x w is =
         let k = taken Base (pace n x) in
@@ -158,16 +165,25 @@ module _ (n : NodeTree) where
     of_form at site (Binary o a b) k w =
         let p = binary_pace o (seen (pace n a)) (seen (pace n b)) in
         elim (Contains-append_cases (arrows_in n a) (arrows_in n b ++ arrow_clock o p) k w) [
-          | inl v ↦ below_form at site (Binary o a b) k (more_parts (parts a) (parts a ++ parts b) k (λ e u. Contains-append_left (parts a) (parts b) e u) (comes_of_arrow a k v))
+          | inl v ↦ below_form at site (Binary o a b) k (more_parts (parts a) (parts a ++ parts b) k (λ e u. Contains-append_left (parts a) (parts b) e u)
+              (comes_of_arrow a k v))
           | inr v ↦ elim (Contains-append_cases (arrows_in n b) (arrow_clock o p) k v) [
-            | inl u ↦ below_form at site (Binary o a b) k (more_parts (parts b) (parts a ++ parts b) k (λ e t. Contains-append_right (parts a) (parts b) e t) (comes_of_arrow b k u))
-            | inr u ↦ let own = own_only o p at site a b k u in (Node at site (Binary o a b), at_head (Node at site (Binary o a b)) (parts a ++ parts b), own.0, own.1)
+            | inl u ↦ below_form at site (Binary o a b) k (more_parts (parts b) (parts a ++ parts b) k (λ e t. Contains-append_right (parts a) (parts b) e t)
+                (comes_of_arrow b k u))
+            | inr u ↦ let own = own_only o p at site a b k u in (
+              Node at site (Binary o a b),
+              at_head (Node at site (Binary o a b)) (parts a ++ parts b),
+              own.0,
+              own.1,
+            )
           ]
         ]
     of_form at site (If a b c) k w =
         elim (Contains-append_cases (arrows_in n a) (arrows_in n b ++ arrows_in n c) k w) [
-          | inl v ↦ below_form at site (If a b c) k (more_parts (parts a) (parts a ++ (parts b ++ parts c)) k (λ e u. Contains-append_left (parts a) (parts b ++ parts c) e u) (comes_of_arrow a k v))
-          | inr v ↦ below_form at site (If a b c) k (more_parts (parts b ++ parts c) (parts a ++ (parts b ++ parts c)) k (λ e u. Contains-append_right (parts a) (parts b ++ parts c) e u)
+          | inl v ↦ below_form at site (If a b c) k (more_parts (parts a) (parts a ++ (parts b ++ parts c)) k
+              (λ e u. Contains-append_left (parts a) (parts b ++ parts c) e u) (comes_of_arrow a k v))
+          | inr v ↦ below_form at site (If a b c) k (more_parts (parts b ++ parts c) (parts a ++ (parts b ++ parts c)) k
+              (λ e u. Contains-append_right (parts a) (parts b ++ parts c) e u)
               (elim (Contains-append_cases (arrows_in n b) (arrows_in n c) k v) [
                 | inl u ↦ more_parts (parts b) (parts b ++ parts c) k (λ e t. Contains-append_left (parts b) (parts c) e t) (comes_of_arrow b k u)
                 | inr u ↦ more_parts (parts c) (parts b ++ parts c) k (λ e t. Contains-append_right (parts b) (parts c) e t) (comes_of_arrow c k u)
@@ -189,20 +205,24 @@ module _ (n : NodeTree) where
       let k = taken Base (pace n x) in
       let right : EquationTree → List Clock = λ q. arrows_in n q.right in
       let body : AssertionTree → List Clock = λ a. arrows_in n a.body in
-      elim (Contains-append_cases (flat_map (λ (q : EquationTree). parts q.right) n.equations) (flat_map (λ (a : AssertionTree). parts a.body) n.assertions) x w) [
+      elim (Contains-append_cases (flat_map (λ (q : EquationTree). parts q.right) n.equations) (flat_map (λ (a : AssertionTree). parts a.body) n.assertions) x
+      w) [
         | inl v ↦
             let r = from_flat_map (λ (q : EquationTree). parts q.right) n.equations x v in
-            Contains-append_left (flat_map right n.equations) (flat_map body n.assertions) k (in_flat_map right n.equations r.0 k r.1 (arrow_comes r.0.right x r.2 is))
+            Contains-append_left (flat_map right n.equations) (flat_map body n.assertions) k
+            (in_flat_map right n.equations r.0 k r.1 (arrow_comes r.0.right x r.2 is))
         | inr v ↦
             let r = from_flat_map (λ (a : AssertionTree). parts a.body) n.assertions x v in
-            Contains-append_right (flat_map right n.equations) (flat_map body n.assertions) k (in_flat_map body n.assertions r.0 k r.1 (arrow_comes r.0.body x r.2 is))
+            Contains-append_right (flat_map right n.equations) (flat_map body n.assertions) k
+            (in_flat_map body n.assertions r.0 k r.1 (arrow_comes r.0.body x r.2 is))
       ]
 
   pub node_only : (k : Clock) → Contains (node_arrows n) k → HasArrow (node_parts n) k
   node_only k w =
       let rights = flat_map (λ (q : EquationTree). parts q.right) n.equations in
       let bodies = flat_map (λ (a : AssertionTree). parts a.body) n.assertions in
-      elim (Contains-append_cases (flat_map (λ (q : EquationTree). arrows_in n q.right) n.equations) (flat_map (λ (a : AssertionTree). arrows_in n a.body) n.assertions) k w) [
+      elim (Contains-append_cases (flat_map (λ (q : EquationTree). arrows_in n q.right) n.equations)
+      (flat_map (λ (a : AssertionTree). arrows_in n a.body) n.assertions) k w) [
         | inl v ↦
             let r = from_flat_map (λ (q : EquationTree). arrows_in n q.right) n.equations k v in
             more_parts (parts r.0.right) (node_parts n) k
@@ -235,7 +255,8 @@ module _ (program : ProgramTree) (n : NodeTree) (well : IsWellTyped program n) w
     typed_true : (e : Tree) (j : Kind) → IsTyped program n e j → (k : Clock) → Contains (arrows_in n e) k → IsTrueClock program n k
     typed_true (Node at site form) j t k w = form_true at site form j t k w
 
-    form_true : (at : ℕ) (site : Option ℕ) (form : Form) (j : Kind) → IsTyped program n (Node at site form) j → (k : Clock) → Contains (form_arrows n form) k → IsTrueClock program n k
+    form_true : (at : ℕ) (site : Option ℕ) (form : Form) (j : Kind) → IsTyped program n (Node at site form) j → (k : Clock) → Contains (form_arrows n form) k
+        → IsTrueClock program n k
     form_true at site True j t k w = none_in k w
     form_true at site False j t k w = none_in k w
     form_true at site (Number v) j t k w = none_in k w
@@ -267,7 +288,8 @@ module _ (program : ProgramTree) (n : NodeTree) (well : IsWellTyped program n) w
     form_true at site (AtMostOne es) j t k w = let r = (most_typed program n at site es j t).0 in all_true es (λ i e arg. (kind.Bool, r i e arg)) k w
     form_true at site (Call f es) j t k w = all_true es (arguments_typed program n es (call_typed program n at site f es j t).typed) k w
 
-    all_true : (es : Trees) → ((i : ℕ) (e : Tree) → IsArgument es i e → (j : Kind) × IsTyped program n e j) → (k : Clock) → Contains (arrows_in_all n es) k → IsTrueClock program n k
+    all_true : (es : Trees) → ((i : ℕ) (e : Tree) → IsArgument es i e → (j : Kind) × IsTyped program n e j) → (k : Clock) → Contains (arrows_in_all n es) k
+        → IsTrueClock program n k
     all_true None t k w = none_in k w
     all_true (More e es) t k w = elim (Contains-append_cases (arrows_in n e) (arrows_in_all n es) k w) [
       | inl v ↦ let r = t 0 e head in typed_true e r.0 r.1 k v
@@ -295,9 +317,11 @@ module _ (program : ProgramTree) (n : NodeTree) (well : IsWellTyped program n) w
     -- so is each clock of the node on which a `->` stands
     pub node_true : (k : Clock) → Contains (node_arrows n) k → IsTrueClock program n k
     node_true k w =
-        elim (Contains-append_cases (flat_map (λ (q : EquationTree). arrows_in n q.right) n.equations) (flat_map (λ (a : AssertionTree). arrows_in n a.body) n.assertions) k w) [
+        elim (Contains-append_cases (flat_map (λ (q : EquationTree). arrows_in n q.right) n.equations)
+        (flat_map (λ (a : AssertionTree). arrows_in n a.body) n.assertions) k w) [
           | inl v ↦ let r = from_flat_map (λ (q : EquationTree). arrows_in n q.right) n.equations k v in right_true r.0 r.1 k r.2
-          | inr v ↦ let r = from_flat_map (λ (a : AssertionTree). arrows_in n a.body) n.assertions k v in typed_true r.0.body kind.Bool (well.assertion r.0 r.1) k r.2
+          | inr v ↦ let r = from_flat_map (λ (a : AssertionTree). arrows_in n a.body) n.assertions k v in
+              typed_true r.0.body kind.Bool (well.assertion r.0 r.1) k r.2
         ]
 
     -- so it is a clock of the node

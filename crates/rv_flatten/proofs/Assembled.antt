@@ -1,5 +1,6 @@
 -- A flat system that is put together from its parts.
-use Rattle.std.proofs.Common.{◌≡◌, ℕ, zero, suc, ◌+◌, ◌<◌, ◌≤◌, Bool, true, false, ◌&&◌, ◌||◌, cond, List, [], ◌∷◌, ◌++◌, map, length, take, get_or, slice_get, refl, sym, ◌∙◌, ap, subst, arith, unwrap_or, Option, Some, IsSome, length-append, None as Nothing}
+use Rattle.std.proofs.Common.{◌≡◌, ℕ, zero, suc, ◌+◌, ◌<◌, ◌≤◌, Bool, true, false, ◌&&◌, ◌||◌, cond, List, [], ◌∷◌, ◌++◌, map, length, take, get_or, slice_get}
+use Rattle.std.proofs.Common.{refl, sym, ◌∙◌, ap, subst, arith, unwrap_or, Option, Some, IsSome, length-append, None as Nothing}
 use Rattle.std.proofs.Math.Seq.{take-append_seam}
 use Rattle.std.proofs.lemmas.List.{length-map}
 use Rattle.std.proofs.lemmas.Option.{slice_get-map, slice_get-get_or, slice_get_within}
@@ -105,11 +106,13 @@ pub first_kinds : (p : ProgramTree) (n : NodeTree) → take (length n.inputs) (f
 first_kinds p n =
     let f : Decl → Kind = λ d. kind_in_program p d.kind in
     let rest = map f n.outputs ++ map f n.locals in
-    ap (take (length n.inputs)) (map_joined f (n.inputs ++ n.outputs) n.locals ∙ ap (λ l. l ++ map f n.locals) (map_joined f n.inputs n.outputs) ∙ joined_again (map f n.inputs) (map f n.outputs) (map f n.locals))
+    ap (take (length n.inputs)) (map_joined f (n.inputs ++ n.outputs) n.locals ∙ ap (λ l. l ++ map f n.locals) (map_joined f n.inputs n.outputs)
+    ∙ joined_again (map f n.inputs) (map f n.outputs) (map f n.locals))
     ∙ ap (λ k. take k (map f n.inputs ++ rest)) (sym (length-map n.inputs f))
     ∙ take-append_seam (map f n.inputs) rest
 
-pub taken_kinds : (p : ProgramTree) (n : NodeTree) (count : ℕ) (kinds : List Kind) → count ≡ length n.inputs → kinds ≡ flow_kinds p n → take count kinds ≡ decl_kinds p n.inputs
+pub taken_kinds : (p : ProgramTree) (n : NodeTree) (count : ℕ) (kinds : List Kind) → count ≡ length n.inputs → kinds ≡ flow_kinds p n
+    → take count kinds ≡ decl_kinds p n.inputs
 taken_kinds p n count kinds many are = (λ i. take (many i) (are i)) ∙ first_kinds p n
 
 -- and no more than all
@@ -127,16 +130,19 @@ first_is_flag [] e = no_flag e
 first_is_flag (k ∷ []) e = ap Some (same_kinds k kind.Bool e)
 first_is_flag (k ∷ j ∷ ks) e = no_flag e
 
-observed_output : (p : ProgramTree) (o : Option NodeTree) → elim o as (λ _. List NameFault) [ Nothing ↦ [] | Some m ↦ cond (is_observer (decl_kinds p m.outputs)) [] (NotObserver m.name.at ∷ []) ] ≡ [] → IsSome o
+observed_output : (p : ProgramTree) (o : Option NodeTree) → elim o as (λ _. List NameFault)
+    [ Nothing ↦ [] | Some m ↦ cond (is_observer (decl_kinds p m.outputs)) [] (NotObserver m.name.at ∷ []) ] ≡ [] → IsSome o
     → slice_get (decl_kinds p (unwrap_or o no_node).outputs) 0 ≡ Some kind.Bool
 observed_output p Nothing h some = no_flag some
 observed_output p (Some m) h some = by (is_observer (decl_kinds p m.outputs)) refl h
   where
-    by : (b : Bool) → is_observer (decl_kinds p m.outputs) ≡ b → cond b [] (NotObserver m.name.at ∷ []) ≡ [] → slice_get (decl_kinds p m.outputs) 0 ≡ Some kind.Bool
+    by : (b : Bool) → is_observer (decl_kinds p m.outputs) ≡ b → cond b [] (NotObserver m.name.at ∷ []) ≡ []
+        → slice_get (decl_kinds p m.outputs) 0 ≡ Some kind.Bool
     by true e h = first_is_flag (decl_kinds p m.outputs) e
     by false e h = cc
 
-output_first : (p : ProgramTree) (n : NodeTree) (k : Kind) → slice_get (decl_kinds p n.outputs) 0 ≡ Some k → slice_get (flow_kinds p n) (length n.inputs) ≡ Some k
+output_first : (p : ProgramTree) (n : NodeTree) (k : Kind) → slice_get (decl_kinds p n.outputs) 0 ≡ Some k
+    → slice_get (flow_kinds p n) (length n.inputs) ≡ Some k
 output_first p n k e =
     let f : Decl → Kind = λ d. kind_in_program p d.kind in
     ap (λ l. slice_get l (length n.inputs)) (map_joined f (n.inputs ++ n.outputs) n.locals)
@@ -151,7 +157,8 @@ some_named : (ns : List NodeTree) (f : Identifier) → is_among (map (λ (n : No
 some_named [] f h = no_flag h
 some_named (n ∷ ns) f h = tested (is_same n.name.text f) h (some_named ns f)
   where
-    tested : (b : Bool) → (b || is_among (map (λ (n : NodeTree). n.name.text) ns) f) ≡ true → (is_among (map (λ (n : NodeTree). n.name.text) ns) f ≡ true → IsSome (node_among ns f)) → IsSome (cond b (Some n) (node_among ns f))
+    tested : (b : Bool) → (b || is_among (map (λ (n : NodeTree). n.name.text) ns) f) ≡ true
+        → (is_among (map (λ (n : NodeTree). n.name.text) ns) f ≡ true → IsSome (node_among ns f)) → IsSome (cond b (Some n) (node_among ns f))
     tested true h again = refl
     tested false h again = again h
 
@@ -159,17 +166,22 @@ named_so : (ns : List NodeTree) (f : Identifier) → IsSome (node_among ns f) �
 named_so [] f h = no_flag h
 named_so (n ∷ ns) f h = tested (is_same n.name.text f) refl h (named_so ns f)
   where
-    tested : (b : Bool) → is_same n.name.text f ≡ b → IsSome (cond b (Some n) (node_among ns f)) → (IsSome (node_among ns f) → (unwrap_or (node_among ns f) no_node).name.text ≡ f) → (unwrap_or (cond b (Some n) (node_among ns f)) no_node).name.text ≡ f
+    tested : (b : Bool) → is_same n.name.text f ≡ b → IsSome (cond b (Some n) (node_among ns f))
+        → (IsSome (node_among ns f) → (unwrap_or (node_among ns f) no_node).name.text ≡ f)
+        → (unwrap_or (cond b (Some n) (node_among ns f)) no_node).name.text ≡ f
     tested true is h again = same_text n.name.text f is
     tested false is h again = again h
 
 -- a node that is there stands where its number says
-named_at : (ns : List NodeTree) (f : Identifier) → IsSome (node_among ns f) → get_or ns (index_of (texts (map (λ (n : NodeTree). n.name) ns)) f) no_node ≡ unwrap_or (node_among ns f) no_node
+named_at : (ns : List NodeTree) (f : Identifier) → IsSome (node_among ns f)
+    → get_or ns (index_of (texts (map (λ (n : NodeTree). n.name) ns)) f) no_node ≡ unwrap_or (node_among ns f) no_node
 named_at [] f h = no_flag h
 named_at (n ∷ ns) f h = tested (is_same n.name.text f) h (named_at ns f)
   where
-    tested : (b : Bool) → IsSome (cond b (Some n) (node_among ns f)) → (IsSome (node_among ns f) → get_or ns (index_of (texts (map (λ (n : NodeTree). n.name) ns)) f) no_node ≡ unwrap_or (node_among ns f) no_node)
-        → get_or (n ∷ ns) (cond b 0 (index_of (texts (map (λ (n : NodeTree). n.name) ns)) f + 1)) no_node ≡ unwrap_or (cond b (Some n) (node_among ns f)) no_node
+    tested : (b : Bool) → IsSome (cond b (Some n) (node_among ns f)) → (IsSome (node_among ns f)
+        → get_or ns (index_of (texts (map (λ (n : NodeTree). n.name) ns)) f) no_node ≡ unwrap_or (node_among ns f) no_node)
+        → get_or (n ∷ ns) (cond b 0 (index_of (texts (map (λ (n : NodeTree). n.name) ns)) f + 1)) no_node ≡ unwrap_or (cond b (Some n) (node_among ns f))
+        no_node
     tested true h again = refl
     tested false h again =
         let next : index_of (texts (map (λ (n : NodeTree). n.name) ns)) f + 1 ≡ suc (index_of (texts (map (λ (n : NodeTree). n.name) ns)) f) = omega arith in
@@ -178,7 +190,8 @@ named_at (n ∷ ns) f h = tested (is_same n.name.text f) h (named_at ns f)
 -- all of these are among some
 all_known : (places ps : List Sites) → ((q : Sites) → Contains ps q → Contains places q) → ticks_known places ps ≡ true
 all_known places [] all = refl
-all_known places (q ∷ ps) all = both_told (is_among places q) (ticks_known places ps) (is_found places q (all q (at_head q ps))) (all_known places ps (λ r w. all r (in_tail q ps r w)))
+all_known places (q ∷ ps) all = both_told (is_among places q) (ticks_known places ps) (is_found places q (all q (at_head q ps)))
+    (all_known places ps (λ r w. all r (in_tail q ps r w)))
 
 module _ (p : ProgramTree) (main : Identifier) (instances : List Numbered) (known : IsExpanded p main instances) where
   pub is_named : IsNode p main
@@ -209,7 +222,8 @@ module _ (p : ProgramTree) (main : Identifier) (instances : List Numbered) (know
       let lt = number_within in
       omega (arith, a, is, lt)
 
-  pub main_kinds : (kinds : List (List Kind)) (number : ℕ) (own : List Kind) → kinds ≡ map (flow_kinds p) p.nodes → number ≡ node_number p main → slice_get kinds number ≡ Some own → own ≡ flow_kinds p (node_of p main)
+  pub main_kinds : (kinds : List (List Kind)) (number : ℕ) (own : List Kind) → kinds ≡ map (flow_kinds p) p.nodes → number ≡ node_number p main
+      → slice_get kinds number ≡ Some own → own ≡ flow_kinds p (node_of p main)
   main_kinds kinds number own are is e =
       same_some own (flow_kinds p (node_of p main))
       (sym e ∙ ap (λ ks. slice_get ks number) are ∙ ap (slice_get (map (flow_kinds p) p.nodes)) is
@@ -221,9 +235,11 @@ module _ (p : ProgramTree) (main : Identifier) (instances : List Numbered) (know
   pub main_first : get_or instances 0 no_instance ≡ numbered p (main_instance p main)
   main_first = let w = number_at p main instances known (main_instance p main) is_main in by w.0 w.1 w.2
     where
-      by : (m : ℕ) → m < length instances → get_or instances m no_instance ≡ numbered p (main_instance p main) → get_or instances 0 no_instance ≡ numbered p (main_instance p main)
+      by : (m : ℕ) → m < length instances → get_or instances m no_instance ≡ numbered p (main_instance p main)
+          → get_or instances 0 no_instance ≡ numbered p (main_instance p main)
       by zero lt e = e
-      by (suc m) lt e = absurd (subst (IsBefore (path_at instances 0)) (ap (λ (x : Numbered). x.path) e) (known.all.rising 0 (suc m) no_instance (omega arith) lt))
+      by (suc m) lt e = absurd (subst (IsBefore (path_at instances 0)) (ap (λ (x : Numbered). x.path) e)
+          (known.all.rising 0 (suc m) no_instance (omega arith) lt))
 
   pub first_node : node_at p instances 0 ≡ node_of p main
   first_node = node_is p main instances known 0 (main_instance p main) is_main main_first
@@ -233,7 +249,8 @@ module _ (p : ProgramTree) (main : Identifier) (instances : List Numbered) (know
   few_given = few_inputs p known.bounded (node_of p main) (node_in p main instances known (main_instance p main) is_main)
 
   -- the number of one of its flows in the sequence
-  pub main_number : HasNumbers → (l : Layout) → IsLayout p main instances l → (numbers : Numbers) (n : Numbering) → IsNumbering p main instances numbers n → (s : ℕ) → s < length (flows (node_of p main))
+  pub main_number : HasNumbers → (l : Layout) → IsLayout p main instances l → (numbers : Numbers) (n : Numbering) → IsNumbering p main instances numbers n
+      → (s : ℕ) → s < length (flows (node_of p main))
       → get_or n.flows s 0 ≡ index_of numbers.flows (s ∷ [])
   main_number law l laid numbers n are s lt =
       let here = law p main instances l 0 (main_instance p main) known laid is_main (some_instance p main instances known, main_first) in
@@ -252,15 +269,18 @@ module _ (p : ProgramTree) (main : Identifier) (instances : List Numbered) (know
 
   pub observer_within : observer_faults p main ≡ [] → length (node_of p main).inputs < length (flows (node_of p main))
   observer_within none =
-      let lt = slice_get_within (flow_kinds p (node_of p main)) (length (node_of p main).inputs) kind.Bool (output_first p (node_of p main) kind.Bool (observed_output p (node_named p main) none main_known)) in
+      let lt = slice_get_within (flow_kinds p (node_of p main)) (length (node_of p main).inputs) kind.Bool
+      (output_first p (node_of p main) kind.Bool (observed_output p (node_named p main) none main_known)) in
       let many = kinds_many p (node_of p main) in
       omega (arith, lt, many)
 
   -- the clock of a tick is that of a flow
-  tick_flow : (i : Instance) (e : Tree) (q : Sites) → IsInstance p main i → Contains (node_parts i.node) e → is_arrow e ≡ true → clock_in i Base e ≡ Some q → IsFlow p main q
+  tick_flow : (i : Instance) (e : Tree) (q : Sites) → IsInstance p main i → Contains (node_parts i.node) e → is_arrow e ≡ true → clock_in i Base e ≡ Some q
+      → IsFlow p main q
   tick_flow i e q is w arrow at =
       by (taken Base (pace i.node e))
-      (arrow_known p i.node (typed p main known.well is_named i is) (formed p main known.well is_named i is) (taken Base (pace i.node e)) (node_comes i.node e w arrow)) at
+      (arrow_known p i.node (typed p main known.well is_named i is) (formed p main known.well is_named i is) (taken Base (pace i.node e))
+      (node_comes i.node e w arrow)) at
     where
       by : (k : Clock) → IsKnownClock i.node k → absolute i k ≡ Some q → IsFlow p main q
       by Base within at = is_flow (base_flow p main known.well is_named i q is at)
@@ -273,7 +293,8 @@ module _ (p : ProgramTree) (main : Identifier) (instances : List Numbered) (know
   all_ticks_known sequence ticks are list =
       all_known sequence ticks (λ q w. let r = list.only q w in are.flows q (tick_flow r.0 r.1 q r.2 r.3 r.4 r.5))
 
-same_places : (fs : List FlatFlow) (qs : List Sites) → length fs ≡ length qs → ((k : ℕ) (f : FlatFlow) → slice_get fs k ≡ Some f → f.place.sites ≡ get_or qs k []) → places_of fs ≡ qs
+same_places : (fs : List FlatFlow) (qs : List Sites) → length fs ≡ length qs
+    → ((k : ℕ) (f : FlatFlow) → slice_get fs k ≡ Some f → f.place.sites ≡ get_or qs k []) → places_of fs ≡ qs
 same_places [] [] many each = refl
 same_places [] (q ∷ qs) many each = absurd (omega (arith, many))
 same_places (f ∷ fs) [] many each = absurd (omega (arith, many))
@@ -288,7 +309,8 @@ module _ (p : ProgramTree) (t : Typed) (answer : IsAnswer p t) where
   answer_known = some_named p.nodes answer.0 (main_names.is_node p answer.0 answer.1.has_main)
 
   answer_name : name_at p t.main ≡ answer.0
-  answer_name = ap (name_at p) answer.1.main_number ∙ ap (λ (n : NodeTree). n.name.text) (named_at p.nodes answer.0 answer_known) ∙ named_so p.nodes answer.0 answer_known
+  answer_name = ap (name_at p) answer.1.main_number ∙ ap (λ (n : NodeTree). n.name.text) (named_at p.nodes answer.0 answer_known)
+      ∙ named_so p.nodes answer.0 answer_known
 
   pub answer_observer : observer_faults p (name_at p t.main) ≡ []
   answer_observer = subst (λ x. observer_faults p x ≡ []) (sym answer_name) answer.1.observer
@@ -323,7 +345,8 @@ module _ (g : Given) (d : Found) (given : IsGiven g) (found : IsFoundOf g d)
     same_flows = same_places flows (sites_of g.sequence.now) made.many (λ k f at. (made.each k f at).at)
 
     same_memories : memory_places_of memories ≡ map (λ k. k.place.sites) d.kept
-    same_memories = sym (map_twice memory_of (λ (m : MemoryAt). m.place) memories) ∙ ap (map (λ (m : MemoryAt). m.place)) kept.list ∙ map_twice kept_memory (λ (m : MemoryAt). m.place) d.kept
+    same_memories = sym (map_twice memory_of (λ (m : MemoryAt). m.place) memories) ∙ ap (map (λ (m : MemoryAt). m.place)) kept.list
+        ∙ map_twice kept_memory (λ (m : MemoryAt). m.place) d.kept
 
     same_numbers : readings.numbers_of flows memories variables ≡ numbers_of g d
     same_numbers = λ i. record { flows = same_flows i; memories = same_memories i; ticks = ticks i }
@@ -334,7 +357,8 @@ module _ (g : Given) (d : Found) (given : IsGiven g) (found : IsFoundOf g d)
       sequence = subst (IsSequence p main) (sym same_flows) given.sequence;
       list = subst (AreMemories p main IsAny) (sym kept.list) found.kept.list;
       ticks = subst (AreTicks p main) (sym ticks) found.ticks;
-      as_many = sym (length-map inputs (λ (i : FlatInput). i.kind)) ∙ ap length kinds ∙ length-map (node_of p main).inputs (λ (d : Decl). kind_in_program p d.kind);
+      as_many = sym (length-map inputs (λ (i : FlatInput). i.kind)) ∙ ap length kinds
+          ∙ length-map (node_of p main).inputs (λ (d : Decl). kind_in_program p d.kind);
       flow = λ k lt.
           let f = some_at flows k lt in
           let r = made.each k f.0 f.1 in (
@@ -359,7 +383,8 @@ module _ (g : Given) (d : Found) (given : IsGiven g) (found : IsFoundOf g d)
           subst (λ n. Contains (map raw_tree assertions) (assertion_of p n i a)) (sym same_numbers) (asserted.all w.0 i a w.1 is (w.1, w.2) there);
       asserted = λ k lt.
           let many = length-map assertions raw_tree in
-          let r = asserted.only (get_or (map raw_tree assertions) k no_assumption) (Contains-get_or (map raw_tree assertions) k no_assumption (omega (arith, lt, many))) in
+          let r = asserted.only (get_or (map raw_tree assertions) k no_assumption)
+          (Contains-get_or (map raw_tree assertions) k no_assumption (omega (arith, lt, many))) in
           (r.0, r.1, r.2, r.3, r.4 ∙ ap (λ n. assertion_of p n r.0 r.1) (sym same_numbers));
     }
 
@@ -375,22 +400,27 @@ module _ (g : Given) (d : Found) (given : IsGiven g) (found : IsFoundOf g d)
     }
 
     -- The observer is a Boolean flow, at its place.
-    module _ (none : observer_faults p main ≡ []) (observer : ℕ) (number : observer ≡ index_of (sites_of g.sequence.now) (length (node_of p main).inputs ∷ [])) where
-      observer_at : (index_of (sites_of g.sequence.now) (length (node_of p main).inputs ∷ []) < length (sites_of g.sequence.now))
-          × (get_or (sites_of g.sequence.now) (index_of (sites_of g.sequence.now) (length (node_of p main).inputs ∷ [])) [] ≡ length (node_of p main).inputs ∷ [])
-      observer_at =
-          index_at (sites_of g.sequence.now) (length (node_of p main).inputs ∷ [])
-          (is_found (sites_of g.sequence.now) (length (node_of p main).inputs ∷ []) (given.sequence.flows (length (node_of p main).inputs ∷ []) (is_flow (observer_flow p main g.expanded.now.instances.now given.known.expanded none))))
+    module _ (none : observer_faults p main ≡ []) (observer : ℕ) (number : observer ≡ index_of (sites_of g.sequence.now) (length (node_of p main).inputs ∷ []))
+      where
+        observer_at : (index_of (sites_of g.sequence.now) (length (node_of p main).inputs ∷ []) < length (sites_of g.sequence.now))
+            × (get_or (sites_of g.sequence.now) (index_of (sites_of g.sequence.now) (length (node_of p main).inputs ∷ [])) [] ≡ length (node_of p main).inputs
+            ∷ [])
+        observer_at =
+            index_at (sites_of g.sequence.now) (length (node_of p main).inputs ∷ [])
+            (is_found (sites_of g.sequence.now) (length (node_of p main).inputs ∷ [])
+            (given.sequence.flows (length (node_of p main).inputs ∷ [])
+            (is_flow (observer_flow p main g.expanded.now.instances.now given.known.expanded none))))
 
-      pub observer_there : get_or (places_of flows) observer [] ≡ length (node_of p main).inputs ∷ []
-      observer_there = (λ i. get_or (same_flows i) (number i) []) ∙ observer_at.1
+        pub observer_there : get_or (places_of flows) observer [] ≡ length (node_of p main).inputs ∷ []
+        observer_there = (λ i. get_or (same_flows i) (number i) []) ∙ observer_at.1
 
-      pub observer_kind : is_of kind.Bool (slice_get (map (λ f. f.kind) flows) observer) ≡ true
-      observer_kind =
-          let h = observer_flow p main g.expanded.now.instances.now given.known.expanded none in
-          let many = ap length (sym same_flows) in
-          let size = length-map flows (λ (x : FlatFlow). x.place.sites) in
-          let within = observer_at.0 in
-          ap (is_of kind.Bool)
-          ((are_kinds (map (λ d. texts (labels_of d)) p.types) refl).flow h.instance h.name observer h.of h.within (omega (arith, many, size, within, number)) (observer_there ∙ h.at) ∙ h.kind)
-          ∙ kind_itself kind.Bool
+        pub observer_kind : is_of kind.Bool (slice_get (map (λ f. f.kind) flows) observer) ≡ true
+        observer_kind =
+            let h = observer_flow p main g.expanded.now.instances.now given.known.expanded none in
+            let many = ap length (sym same_flows) in
+            let size = length-map flows (λ (x : FlatFlow). x.place.sites) in
+            let within = observer_at.0 in
+            ap (is_of kind.Bool)
+            ((are_kinds (map (λ d. texts (labels_of d)) p.types) refl).flow h.instance h.name observer h.of h.within (omega (arith, many, size, within, number))
+            (observer_there ∙ h.at) ∙ h.kind)
+            ∙ kind_itself kind.Bool

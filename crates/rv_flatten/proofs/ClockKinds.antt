@@ -1,5 +1,6 @@
 -- The clocks of flows and of expressions that have types are Boolean flows.
-use Rattle.std.proofs.Common.{◌≡◌, inl, inr, ℕ, suc, Bool, true, false, cond, List, [], ◌∷◌, ◌++◌, map, length, get_or, slice_get, refl, sym, subst, arith, Option, Some}
+use Rattle.std.proofs.Common.{◌≡◌, inl, inr, ℕ, suc, Bool, true, false, cond, List, [], ◌∷◌, ◌++◌, map, length, get_or, slice_get, refl, sym, subst, arith}
+use Rattle.std.proofs.Common.{Option, Some}
 use Rattle.std.proofs.Common.{None as Nothing}
 use Rattle.std.proofs.lemmas.Bool.{cases_order}
 use Rattle.std.proofs.lemmas.List.{get_or_past}
@@ -9,7 +10,8 @@ use Rattle.rv_tree.specs.declared.tree.Name.{Name}
 use Rattle.rv_tree.specs.declared.tree.Decl.{Decl}
 use Rattle.rv_tree.specs.declared.tree.Op.{Op}
 use Rattle.rv_tree.specs.declared.tree.Op.TheVariants as op
-use Rattle.rv_tree.specs.Tree.{Tree, Node, Form, True, False, Number, Named, Not, Minus, Pre, Current, When, Binary, If, AtMostOne, Call, Trees, None, More, NodeTree, ProgramTree}
+use Rattle.rv_tree.specs.Tree.{Tree, Node, Form, True, False, Number, Named, Not, Minus, Pre, Current, When, Binary, If, AtMostOne, Call, Trees, None, More}
+use Rattle.rv_tree.specs.Tree.{NodeTree, ProgramTree}
 use Rattle.rv_tree.specs.Places.{is_flow, site_of}
 use Rattle.rv_types.specs.declared.typed.Kind.{Kind}
 use Rattle.rv_types.specs.declared.typed.Kind.TheVariants as kind
@@ -20,7 +22,8 @@ use Rattle.rv_types.specs.declared.fault.Pace.TheVariants.{Free, At, Mute, Diffe
 use Rattle.rv_types.specs.Kinds.{flow_kinds}
 use Rattle.rv_types.specs.Types.{all_typed, kind_of, kinds_of_all}
 use Rattle.rv_types.specs.Scopes.{node_scope}
-use Rattle.rv_types.specs.Clocks.{base_clock, declared_clock, flow_clocks, clock_at, same_clock, seen, meet, grounded, binary_pace, when_pace, current_pace, pace, form_pace, pace_of_all}
+use Rattle.rv_types.specs.Clocks.{base_clock, declared_clock, flow_clocks, clock_at, same_clock, seen, meet, grounded, binary_pace, when_pace, current_pace}
+use Rattle.rv_types.specs.Clocks.{pace, form_pace, pace_of_all}
 use Rattle.rv_types.specs.Instances.{taken, IsArgument, head, tail}
 use Rattle.rv_types.specs.WellFormed.{IsWellTyped}
 use Rattle.rv_flat.proofs.Members.{none_in, at_head, in_tail, head_or_tail}
@@ -103,7 +106,8 @@ module _ (program : ProgramTree) (n : NodeTree) where
   clock_taken_on k Differ is h = is
 
   -- each of the arguments of a call has a type
-  pub arguments_typed : (es : Trees) → all_typed (kinds_of_all (node_scope program n) es) ≡ true → (j : ℕ) (e : Tree) → IsArgument es j e → (k : Kind) × IsTyped program n e k
+  pub arguments_typed : (es : Trees) → all_typed (kinds_of_all (node_scope program n) es) ≡ true → (j : ℕ) (e : Tree) → IsArgument es j e
+      → (k : Kind) × IsTyped program n e k
   arguments_typed _ t _ e (head {es}) = by (kind_of (node_scope program n) e) t
     where
       by : (o : Option Kind) → all_typed (o ∷ kinds_of_all (node_scope program n) es) ≡ true → (k : Kind) × (o ≡ Some k)
@@ -133,7 +137,8 @@ module _ (program : ProgramTree) (n : NodeTree) where
     one_declared d w Nothing e = tt
     one_declared d w (Some c) e = well.clock d c w e
 
-    all_declared : (ds : List Decl) → ((d : Decl) → Contains ds d → Contains n.locals d) → (c : Clock) → Contains (map (λ d. declared_clock n d.clock) ds) c → IsTrueClock c
+    all_declared : (ds : List Decl) → ((d : Decl) → Contains ds d → Contains n.locals d) → (c : Clock) → Contains (map (λ d. declared_clock n d.clock) ds) c
+        → IsTrueClock c
     all_declared [] into c w = none_in c w
     all_declared (d ∷ ds) into c w = elim (head_or_tail (declared_clock n d.clock) (map (λ d. declared_clock n d.clock) ds) c w) [
       | inl is ↦ subst IsTrueClock is (one_declared d (into d (at_head d ds)) d.clock refl)
@@ -145,13 +150,14 @@ module _ (program : ProgramTree) (n : NodeTree) where
     clock_is_true i = each_clock (flow_clocks n) each i
       where
         each : (c : Clock) → Contains (flow_clocks n) c → IsTrueClock c
-        each c w = elim (Contains-append_cases (map base_clock n.inputs ++ map base_clock n.outputs) (map (λ (d : Decl). declared_clock n d.clock) n.locals) c w) [
-          | inl front ↦ elim (Contains-append_cases (map base_clock n.inputs) (map base_clock n.outputs) c front) [
-            | inl v ↦ all_base n.inputs c v
-            | inr v ↦ all_base n.outputs c v
-          ]
-          | inr v ↦ all_declared n.locals (λ d u. u) c v
-        ]
+        each c w = elim (Contains-append_cases (map base_clock n.inputs ++ map base_clock n.outputs) (map (λ (d : Decl). declared_clock n d.clock) n.locals) c
+            w) [
+              | inl front ↦ elim (Contains-append_cases (map base_clock n.inputs) (map base_clock n.outputs) c front) [
+                | inl v ↦ all_base n.inputs c v
+                | inr v ↦ all_base n.outputs c v
+              ]
+              | inr v ↦ all_declared n.locals (λ d u. u) c v
+            ]
 
     named_pace : (b : Bool) (i : ℕ) → HasTrueClock (cond b (At (clock_at n i)) Free)
     named_pace true i = clock_is_true i
@@ -174,13 +180,15 @@ module _ (program : ProgramTree) (n : NodeTree) where
       form_pace_is_true at site (When e c) k t = of_when (seen (pace n e)) (site_of n c.text) (when_typed program n at site e c k t).1
       form_pace_is_true at site (Binary o a b) k t =
           let r = binary_typed program n at site o a b k t in
-          of_operator o (seen (pace n a)) (seen (pace n b)) (of_seen (pace n a) (pace_is_true a r.left r.left_is)) (of_seen (pace n b) (pace_is_true b r.right r.right_is))
+          of_operator o (seen (pace n a)) (seen (pace n b)) (of_seen (pace n a) (pace_is_true a r.left r.left_is))
+          (of_seen (pace n b) (pace_is_true b r.right r.right_is))
       form_pace_is_true at site (If a b c) k t =
           let r = if_typed program n at site a b c k t in
           of_meet (seen (pace n a)) (meet (seen (pace n b)) (seen (pace n c))) (of_seen (pace n a) (pace_is_true a kind.Bool r.0))
           (of_meet (seen (pace n b)) (seen (pace n c)) (of_seen (pace n b) (pace_is_true b k r.1)) (of_seen (pace n c) (pace_is_true c k r.2)))
       form_pace_is_true at site (AtMostOne es) k t = let r = (most_typed program n at site es k t).0 in paces_are_true es (λ j e arg. (kind.Bool, r j e arg))
-      form_pace_is_true at site (Call f es) k t = of_ground (pace_of_all n es) (paces_are_true es (arguments_typed es (call_typed program n at site f es k t).typed))
+      form_pace_is_true at site (Call f es) k t = of_ground (pace_of_all n es)
+          (paces_are_true es (arguments_typed es (call_typed program n at site f es k t).typed))
 
       pub paces_are_true : (es : Trees) → ((j : ℕ) (e : Tree) → IsArgument es j e → (k : Kind) × IsTyped program n e k) → HasTrueClock (pace_of_all n es)
       paces_are_true None t = tt

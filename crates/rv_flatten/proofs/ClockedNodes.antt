@@ -20,15 +20,18 @@ module _ (x : Expanded) (known : IsKnown x) where
       flows_once (program_of x) known.expanded.named (node_tree c.node.now) (in_map node_tree x.program.now.nodes c.node.now there)
 
   -- what is made of each of them is made of each node
-  pub each_node : {Y : Type 0} (f : NodeTree → Y) (k : ℕ) → length x.clocks ≤ k → map (λ (c : NodeClocks). f (node_tree c.node.now)) (take k x.clocks) ≡ map f (program_of x).nodes
-  each_node f k le = ap (map (λ (c : NodeClocks). f (node_tree c.node.now))) (take_all k x.clocks le) ∙ by x.clocks ∙ ap (λ (ns : List declared.Node). map f (map node_tree ns)) known.clocks
+  pub each_node : {Y : Type 0} (f : NodeTree → Y) (k : ℕ) → length x.clocks ≤ k
+      → map (λ (c : NodeClocks). f (node_tree c.node.now)) (take k x.clocks) ≡ map f (program_of x).nodes
+  each_node f k le = ap (map (λ (c : NodeClocks). f (node_tree c.node.now))) (take_all k x.clocks le) ∙ by x.clocks
+      ∙ ap (λ (ns : List declared.Node). map f (map node_tree ns)) known.clocks
     where
       by : (cs : List NodeClocks) → map (λ (c : NodeClocks). f (node_tree c.node.now)) cs ≡ map f (map node_tree (map (λ (c : NodeClocks). c.node.now) cs))
       by [] = refl
       by (c ∷ cs) = ap (λ l. f (node_tree c.node.now) ∷ l) (by cs)
 
 -- what is made of one more element of a list
-pub one_more : {X Y : Type 0} (f : X → Y) (xs : List X) (k : ℕ) (x : X) (ys new : List Y) (y : Y) → k < length xs → get_or xs k x ≡ x → new ≡ ys ++ y ∷ [] → ys ≡ map f (take k xs) → y ≡ f x → new ≡ map f (take (k + 1) xs)
+pub one_more : {X Y : Type 0} (f : X → Y) (xs : List X) (k : ℕ) (x : X) (ys new : List Y) (y : Y) → k < length xs → get_or xs k x ≡ x → new ≡ ys ++ y ∷ []
+    → ys ≡ map f (take k xs) → y ≡ f x → new ≡ map f (take (k + 1) xs)
 one_more f xs k x ys new y lt is grown so_far found =
     grown
     ∙ (λ i. so_far i ++ found i ∷ [])

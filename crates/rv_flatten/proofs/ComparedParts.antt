@@ -1,6 +1,7 @@
 -- The comparisons of integers that are found in the expressions of a node are those of its parts, and of one site there
 -- is one.
-use Rattle.std.proofs.Common.{◌≡◌, inl, inr, ℕ, ◌<◌, Bool, true, false, ◌&&◌, cond, List, [], ◌∷◌, ◌++◌, map, flat_map, length, get_or, refl, sym, ◌∙◌, ap, subst, arith, unwrap_or, Option, Some}
+use Rattle.std.proofs.Common.{◌≡◌, inl, inr, ℕ, ◌<◌, Bool, true, false, ◌&&◌, cond, List, [], ◌∷◌, ◌++◌, map, flat_map, length, get_or, refl, sym, ◌∙◌, ap}
+use Rattle.std.proofs.Common.{subst, arith, unwrap_or, Option, Some}
 use Rattle.std.proofs.Common.{None as Nothing}
 use Rattle.std.proofs.lemmas.Bool.{cases_order}
 use Rattle.std.proofs.lemmas.List.{map-append, length-map, get_or-map, get_or_default}
@@ -12,7 +13,8 @@ use Rattle.rv_tree.specs.Delays.{IsNumbered}
 use Rattle.rv_tree.specs.Sites.{is_comparison}
 use Rattle.rv_tree.specs.SitedParts as sited
 use Rattle.rv_tree.specs.SitedParts.{SitedPart, part}
-use Rattle.rv_tree.specs.Tree.{Tree, Node, Form, True, False, Number, Named, Not, Minus, Pre, Current, When, Binary, If, AtMostOne, Call, Trees, None, More, EquationTree, AssertionTree, NodeTree, ProgramTree}
+use Rattle.rv_tree.specs.Tree.{Tree, Node, Form, True, False, Number, Named, Not, Minus, Pre, Current, When, Binary, If, AtMostOne, Call, Trees, None, More}
+use Rattle.rv_tree.specs.Tree.{EquationTree, AssertionTree, NodeTree, ProgramTree}
 use Rattle.rv_types.specs.declared.typed.Kind.TheVariants as kind
 use Rattle.rv_types.specs.Scopes.{node_scope}
 use Rattle.rv_types.specs.Types.{Scope, kind_of}
@@ -65,7 +67,8 @@ module _ (s : Scope) where
       (λ i. tests_are a.body i ++ assertions_are rest i) ∙ sym (flat_map-append own_of (parts a.body) (flat_map (λ (a : AssertionTree). parts a.body) rest))
 
   -- a comparison of integers is what is found of it, and nothing else is found
-  own_found : (at k : ℕ) (o : Op) (a b : Tree) → is_comparison o ≡ true → is_integer (unwrap_or (kind_of s a) kind.Bool) ≡ true → Contains {X = Tested} (own_of (Node at (Some k) (Binary o a b))) (record { site = k; operator = o })
+  own_found : (at k : ℕ) (o : Op) (a b : Tree) → is_comparison o ≡ true → is_integer (unwrap_or (kind_of s a) kind.Bool) ≡ true
+      → Contains {X = Tested} (own_of (Node at (Some k) (Binary o a b))) (record { site = k; operator = o })
   own_found at k o a b c i =
       let t : Tested = record { site = k; operator = o } in
       subst (λ (x : Bool). Contains (cond x (t ∷ []) []) t) (λ j. sym c j && sym i j) (at_head t [])
@@ -92,7 +95,8 @@ module _ (s : Scope) where
   own_is (Node at Nothing (Binary o a b)) t w = none_in t w
   own_is (Node at (Some k) (Binary o a b)) t w = tested (is_comparison o && is_integer (unwrap_or (kind_of s a) kind.Bool)) refl w
     where
-      tested : (x : Bool) → (is_comparison o && is_integer (unwrap_or (kind_of s a) kind.Bool)) ≡ x → Contains {X = Tested} (cond x (record { site = k; operator = o } ∷ []) []) t → IsTest (Node at (Some k) (Binary o a b)) t
+      tested : (x : Bool) → (is_comparison o && is_integer (unwrap_or (kind_of s a) kind.Bool)) ≡ x
+          → Contains {X = Tested} (cond x (record { site = k; operator = o } ∷ []) []) t → IsTest (Node at (Some k) (Binary o a b)) t
       tested true e w = elim (head_or_tail (record { site = k; operator = o }) [] t w) [
         | inl is ↦ subst (λ (t : Tested). IsTest (Node at (Some k) (Binary o a b)) t) is
             (let both = both_hold (is_comparison o) (is_integer (unwrap_or (kind_of s a) kind.Bool)) e in
@@ -108,9 +112,11 @@ module _ (p : ProgramTree) (n : NodeTree) where
   pub node_is : tests_in p n ≡ flat_map (own_of (node_scope p n)) (node_parts n)
   node_is =
       (λ i. equations_are (node_scope p n) n.equations i ++ assertions_are (node_scope p n) n.assertions i)
-      ∙ sym (flat_map-append (own_of (node_scope p n)) (flat_map (λ (q : EquationTree). parts q.right) n.equations) (flat_map (λ (a : AssertionTree). parts a.body) n.assertions))
+      ∙ sym (flat_map-append (own_of (node_scope p n)) (flat_map (λ (q : EquationTree). parts q.right) n.equations)
+      (flat_map (λ (a : AssertionTree). parts a.body) n.assertions))
 
-  pub test_found : (at k : ℕ) (o : Op) (a b : Tree) → Contains (node_parts n) (Node at (Some k) (Binary o a b)) → is_comparison o ≡ true → is_integer (unwrap_or (kind_of (node_scope p n) a) kind.Bool) ≡ true
+  pub test_found : (at k : ℕ) (o : Op) (a b : Tree) → Contains (node_parts n) (Node at (Some k) (Binary o a b)) → is_comparison o ≡ true
+      → is_integer (unwrap_or (kind_of (node_scope p n) a) kind.Bool) ≡ true
       → Contains {X = Tested} (tests_in p n) (record { site = k; operator = o })
   test_found at k o a b w c i =
       let t : Tested = record { site = k; operator = o } in
@@ -230,7 +236,8 @@ module _ (at : ℕ) (site : Option ℕ) (o : Op) (a b : Tree) (compares : is_com
   itself e is =
       subst (λ t. Contains (marks t) its) (sym is)
       (Contains-append_right (marks a) (marked_comparison o at site it ++ marks b) its
-      (Contains-append_left (marked_comparison o at site it) (marks b) its (subst (λ (t : Bool). Contains (cond t (its ∷ []) []) its) (sym compares) (at_head its []))))
+      (Contains-append_left (marked_comparison o at site it) (marks b) its
+      (subst (λ (t : Bool). Contains (cond t (its ∷ []) []) its) (sym compares) (at_head its []))))
 
   mutual
     pub marked : (e : Tree) → Contains (parts e) it → Contains (marks e) its
@@ -251,7 +258,8 @@ module _ (at : ℕ) (site : Option ℕ) (o : Op) (a b : Tree) (compares : is_com
     form_marked k s (When t c) w = marked t w
     form_marked k s (Binary q c d) w = elim (Contains-append_cases (parts c) (parts d) it w) [
       | inl left ↦ Contains-append_left (marks c) (marked_comparison q k s (Node k s (Binary q c d)) ++ marks d) its (marked c left)
-      | inr right ↦ Contains-append_right (marks c) (marked_comparison q k s (Node k s (Binary q c d)) ++ marks d) its (Contains-append_right (marked_comparison q k s (Node k s (Binary q c d))) (marks d) its (marked d right))
+      | inr right ↦ Contains-append_right (marks c) (marked_comparison q k s (Node k s (Binary q c d)) ++ marks d) its
+          (Contains-append_right (marked_comparison q k s (Node k s (Binary q c d))) (marks d) its (marked d right))
     ]
     form_marked k s (If c d e) w = elim (Contains-append_cases (parts c) (parts d ++ parts e) it w) [
       | inl first ↦ Contains-append_left (marks c) (marks d ++ marks e) its (marked c first)
@@ -287,10 +295,11 @@ module _ (at : ℕ) (site : Option ℕ) (o : Op) (a b : Tree) (compares : is_com
       ])
 
   pub node_marked : (n : NodeTree) → Contains (node_parts n) it → Contains (node_marks n) its
-  node_marked n w = elim (Contains-append_cases (flat_map (λ (q : EquationTree). parts q.right) n.equations) (flat_map (λ (x : AssertionTree). parts x.body) n.assertions) it w) [
-    | inl here ↦ Contains-append_left (equation_marks n.equations) (assertion_marks n.assertions) its (equations_marked n.equations here)
-    | inr rest ↦ Contains-append_right (equation_marks n.equations) (assertion_marks n.assertions) its (assertions_marked n.assertions rest)
-  ]
+  node_marked n w = elim (Contains-append_cases (flat_map (λ (q : EquationTree). parts q.right) n.equations)
+      (flat_map (λ (x : AssertionTree). parts x.body) n.assertions) it w) [
+        | inl here ↦ Contains-append_left (equation_marks n.equations) (assertion_marks n.assertions) its (equations_marked n.equations here)
+        | inr rest ↦ Contains-append_right (equation_marks n.equations) (assertion_marks n.assertions) its (assertions_marked n.assertions rest)
+      ]
 
 module _ (n : NodeTree) (numbered : IsNumbered n) where
   -- marks with one site are one
@@ -300,26 +309,32 @@ module _ (n : NodeTree) (numbered : IsNumbered n) where
       let long = length-map ms (λ (m : Marked). m.at_site) in
       let seen = ap length (node_seen n) in
       let site_at : (k : ℕ) (z : Marked) (lt : k < length ms) → get_or ms k z ≡ z → (d : SitedPart) → get_or (sited.node_parts n) k d ≡ z.at_site =
-      λ k z lt is d. ap (λ (l : List SitedPart). get_or l k d) (sym (node_seen n)) ∙ get_or-map (λ (m : Marked). m.at_site) ms k z d lt ∙ ap (λ (m : Marked). m.at_site) is in
+      λ k z lt is d. ap (λ (l : List SitedPart). get_or l k d) (sym (node_seen n)) ∙ get_or-map (λ (m : Marked). m.at_site) ms k z d lt
+      ∙ ap (λ (m : Marked). m.at_site) is in
       elim (cases_order w.0 v.0) [
         | inl is ↦ sym w.2 ∙ get_or_default ms w.0 x y w.1 ∙ ap (λ k. get_or ms k y) is ∙ v.2
         | inr other ↦ elim other [
           | inl before ↦ absurd (numbered.apart w.0 v.0 x.at_site before (let lt = v.1 in omega (arith, lt, long, seen))
-              (ap (λ (q : SitedPart). q.site) (site_at w.0 x w.1 w.2 x.at_site) ∙ same ∙ sym (ap (λ (q : SitedPart). q.site) (site_at v.0 y v.1 v.2 x.at_site))))
+              (ap (λ (q : SitedPart). q.site) (site_at w.0 x w.1 w.2 x.at_site) ∙ same
+              ∙ sym (ap (λ (q : SitedPart). q.site) (site_at v.0 y v.1 v.2 x.at_site))))
           | inr after ↦ absurd (numbered.apart v.0 w.0 x.at_site after (let lt = w.1 in omega (arith, lt, long, seen))
-              (ap (λ (q : SitedPart). q.site) (site_at v.0 y v.1 v.2 x.at_site) ∙ sym same ∙ sym (ap (λ (q : SitedPart). q.site) (site_at w.0 x w.1 w.2 x.at_site))))
+              (ap (λ (q : SitedPart). q.site) (site_at v.0 y v.1 v.2 x.at_site) ∙ sym same
+              ∙ sym (ap (λ (q : SitedPart). q.site) (site_at w.0 x w.1 w.2 x.at_site))))
         ]
       ]
 
   -- comparisons with one site are one
-  pub one_tree : (j k : ℕ) (s : ℕ) (o q : Op) (a b c d : Tree) → Contains (node_parts n) (Node j (Some s) (Binary o a b)) → Contains (node_parts n) (Node k (Some s) (Binary q c d))
+  pub one_tree : (j k : ℕ) (s : ℕ) (o q : Op) (a b c d : Tree) → Contains (node_parts n) (Node j (Some s) (Binary o a b))
+      → Contains (node_parts n) (Node k (Some s) (Binary q c d))
       → is_comparison o ≡ true → is_comparison q ≡ true → Node j (Some s) (Binary o a b) ≡ Node k (Some s) (Binary q c d)
   one_tree j k s o q a b c d w v is are =
       ap (λ (m : Marked). m.whole)
-      (one_mark (record { at_site = part j (Some s); whole = Node j (Some s) (Binary o a b) }) (record { at_site = part k (Some s); whole = Node k (Some s) (Binary q c d) })
+      (one_mark (record { at_site = part j (Some s); whole = Node j (Some s) (Binary o a b) })
+      (record { at_site = part k (Some s); whole = Node k (Some s) (Binary q c d) })
       (node_marked j (Some s) o a b is n w) (node_marked k (Some s) q c d are n v) refl)
 
   -- so they have one operator
-  pub one_operator : (j k : ℕ) (s : ℕ) (o q : Op) (a b c d : Tree) → Contains (node_parts n) (Node j (Some s) (Binary o a b)) → Contains (node_parts n) (Node k (Some s) (Binary q c d))
+  pub one_operator : (j k : ℕ) (s : ℕ) (o q : Op) (a b c d : Tree) → Contains (node_parts n) (Node j (Some s) (Binary o a b))
+      → Contains (node_parts n) (Node k (Some s) (Binary q c d))
       → is_comparison o ≡ true → is_comparison q ≡ true → o ≡ q
   one_operator j k s o q a b c d w v is are = let e = one_tree j k s o q a b c d w v is are in cc

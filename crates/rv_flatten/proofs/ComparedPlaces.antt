@@ -66,8 +66,10 @@ module _ (p : ProgramTree) (main : Identifier) (instances : List Numbered) (know
       let there : Contains (node_parts y.i.node) (Node v.0 (Some w.1) (Binary c.operator v.2 v.3)) =
       subst (λ k. Contains (node_parts y.i.node) (Node v.0 (Some k) (Binary c.operator v.2 v.3))) r.1
       (subst (λ (e : Tree). Contains (node_parts y.i.node) e) v.4 (subst (λ (i : Instance). Contains (node_parts i.node) x.e) one x.there)) in
-      let other : Contains (node_parts y.i.node) (Node w.0 (Some w.1) (Binary d.operator w.2 w.3)) = subst (λ (e : Tree). Contains (node_parts y.i.node) e) w.4 y.there in
-      let operator = one_operator y.i.node (known.well.numbered y.i.node (node_in p main instances known y.i y.is)) v.0 w.0 w.1 c.operator d.operator v.2 v.3 w.2 w.3 there other (of_sides c.operator v.6) (of_sides d.operator w.6) in
+      let other : Contains (node_parts y.i.node) (Node w.0 (Some w.1) (Binary d.operator w.2 w.3)) = subst (λ (e : Tree). Contains (node_parts y.i.node) e) w.4
+      y.there in
+      let operator = one_operator y.i.node (known.well.numbered y.i.node (node_in p main instances known y.i y.is)) v.0 w.0 w.1 c.operator d.operator v.2 v.3
+      w.2 w.3 there other (of_sides c.operator v.6) (of_sides d.operator w.6) in
       λ k. record { place = same k; operator = operator k }
 
   abbrev own : ℕ → List ComparisonAt
@@ -105,7 +107,8 @@ module _ (p : ProgramTree) (main : Identifier) (instances : List Numbered) (know
         let b = instance_at p main instances known a.0 a.1 in
         compared_there b.0 b.1 (found_comparison c) (subst (λ (l : List ComparisonAt). Contains l (found_comparison c)) (own_is a.0 b.0 b.1 b.2) a.2)
 
-    all_compared : (i : Instance) (e : Tree) (c : ComparisonAt) → IsInstance p main i → Contains (node_parts i.node) e → Compares p i e c → (x : Comparison) × Contains found x × (found_comparison x ≡ c)
+    all_compared : (i : Instance) (e : Tree) (c : ComparisonAt) → IsInstance p main i → Contains (node_parts i.node) e → Compares p i e c
+        → (x : Comparison) × Contains found x × (found_comparison x ≡ c)
     all_compared i e c inst w v =
         let n = number_at p main instances known i inst in
         let t : Tested = record { site = v.1; operator = c.operator } in

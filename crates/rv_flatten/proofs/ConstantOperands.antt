@@ -1,5 +1,6 @@
 -- A constant expression whose parts are light has at each instant the value that it counts as.
-use Rattle.std.proofs.Common.{◌≡◌, ℕ, suc, ◌+◌, ◌*◌, ◌^◌, ◌≤◌, max, ℤ, pos, ◌+ℤ◌, ◌-ℤ◌, ◌*ℤ◌, neg_ℤ, nat_abs, Bool, true, false, not, ◌&&◌, ◌||◌, cond, nat_le, int_lt, int_le, List, refl, sym, ◌∙◌, ap, arith, Option, Some}
+use Rattle.std.proofs.Common.{◌≡◌, ℕ, suc, ◌+◌, ◌*◌, ◌^◌, ◌≤◌, max, ℤ, pos, ◌+ℤ◌, ◌-ℤ◌, ◌*ℤ◌, neg_ℤ, nat_abs, Bool, true, false, not, ◌&&◌, ◌||◌, cond, nat_le}
+use Rattle.std.proofs.Common.{int_lt, int_le, List, refl, sym, ◌∙◌, ap, arith, Option, Some}
 use Rattle.std.specs.Ordering.{int_eq}
 use Rattle.std.proofs.lemmas.Int.{ints}
 use Rattle.std.proofs.lemmas.Option.{none-some}
@@ -8,12 +9,14 @@ use Rattle.rv_base.specs.declared.value.Value.{Value}
 use Rattle.rv_base.specs.declared.value.Value.TheVariants.{Flag, Label, Whole}
 use Rattle.rv_tree.specs.declared.tree.Op.{Op}
 use Rattle.rv_tree.specs.declared.tree.Op.TheVariants as op
-use Rattle.rv_tree.specs.Tree.{Tree, Node, Form, True, False, Number, Named, Not, Minus, Pre, Current, When, Binary, If, AtMostOne, Call, Trees, None, More, NodeTree, ProgramTree}
+use Rattle.rv_tree.specs.Tree.{Tree, Node, Form, True, False, Number, Named, Not, Minus, Pre, Current, When, Binary, If, AtMostOne, Call, Trees, None, More}
+use Rattle.rv_tree.specs.Tree.{NodeTree, ProgramTree}
 use Rattle.rv_tree.specs.Places.{Identifier, Sites, is_flow}
 use Rattle.rv_types.specs.declared.typed.Kind.{Kind}
 use Rattle.rv_types.specs.declared.typed.Kind.TheVariants as kind
 use Rattle.rv_types.specs.Types.{kind_in, binary_rule, is_constant, is_constant_form, are_constant}
-use Rattle.rv_types.specs.Constants.{flag_in, whole_in, counted, counted_part, same_bool, same_int, same_value, value_under, none_true, at_most_one, value_of, flags_of_all, weight_of}
+use Rattle.rv_types.specs.Constants.{flag_in, whole_in, counted, counted_part, same_bool, same_int, same_value, value_under, none_true, at_most_one, value_of}
+use Rattle.rv_types.specs.Constants.{flags_of_all, weight_of}
 use Rattle.rv_types.specs.Constants as constants
 use Rattle.rv_types.specs.Scopes.{node_scope, constant_value}
 use Rattle.rv_types.specs.declared.typed.Clock.TheVariants.{Base}
@@ -74,11 +77,13 @@ same_equality (Whole y) (Label m) = refl
 same_equality (Whole y) (Whole z) = same_integers y z
 
 -- an operator between two values that is light, and is no `->`, has the value that it counts as
-operates : (first scaled : Bool) (o : Op) (i j k : Kind) (w : ℕ) (u v : Value) → w ≤ heaviest → (o ≡ op.Arrow → ⊥) → kind_in (binary_rule true scaled o i j) ≡ Some k → operate o first u v ≡ value_under w o u v
+operates : (first scaled : Bool) (o : Op) (i j k : Kind) (w : ℕ) (u v : Value) → w ≤ heaviest → (o ≡ op.Arrow → ⊥)
+    → kind_in (binary_rule true scaled o i j) ≡ Some k → operate o first u v ≡ value_under w o u v
 operates first scaled op.Arrow i j k w u v le n t = absurd (n refl)
 operates first scaled op.Implies i j k w u v le n t = λ e. Flag (not (same_truth u e) || same_truth v e)
 operates first scaled op.Or i j k w u v le n t = λ e. Flag (same_truth u e || same_truth v e)
-operates first scaled op.Xor i j k w u v le n t = (λ e. Flag (cond (same_truth u e) (not (same_truth v e)) (same_truth v e))) ∙ ap Flag (unlike (flag_in u) (flag_in v))
+operates first scaled op.Xor i j k w u v le n t = (λ e. Flag (cond (same_truth u e) (not (same_truth v e)) (same_truth v e)))
+    ∙ ap Flag (unlike (flag_in u) (flag_in v))
 operates first scaled op.And i j k w u v le n t = λ e. Flag (same_truth u e && same_truth v e)
 operates first scaled op.Equal i j k w u v le n t = ap Flag (same_equality u v)
 operates first scaled op.Differs i j k w u v le n t = ap (λ b. Flag (not b)) (same_equality u v)
@@ -101,7 +106,8 @@ no_trues : (b : Bool) (n : ℕ) (bs : List Bool) → nat_le n 0 ≡ none_true bs
 no_trues true n bs e = grind (arith, nat_tests)
 no_trues false n bs e = grind (arith, nat_tests, e)
 
-one_true : (b : Bool) (n : ℕ) (bs : List Bool) → nat_le n 0 ≡ none_true bs → nat_le n 1 ≡ at_most_one bs → nat_le (cond b 1 0 + n) 1 ≡ cond b (none_true bs) (at_most_one bs)
+one_true : (b : Bool) (n : ℕ) (bs : List Bool) → nat_le n 0 ≡ none_true bs → nat_le n 1 ≡ at_most_one bs
+    → nat_le (cond b 1 0 + n) 1 ≡ cond b (none_true bs) (at_most_one bs)
 one_true true n bs none one = (let h : nat_le (1 + n) 1 ≡ nat_le n 0 = grind (arith, nat_tests) in h) ∙ none
 one_true false n bs none one = (let h : nat_le (0 + n) 1 ≡ nat_le n 1 = grind (arith, nat_tests) in h) ∙ one
 
@@ -139,12 +145,14 @@ module _ (program : ProgramTree) (flows : Sites → ℕ) (i : Instance) where
   IsConstant e = is_constant (node_scope program i.node) e ≡ true
 
   -- the weight of an operator between constant operands
-  operator_weight : (site : Option ℕ) (o : Op) (a b : Tree) → (o ≡ op.Arrow → ⊥) → IsConstant a → weight program flows i a ≡ weight_of known a → weight program flows i b ≡ weight_of known b
+  operator_weight : (site : Option ℕ) (o : Op) (a b : Tree) → (o ≡ op.Arrow → ⊥) → IsConstant a → weight program flows i a ≡ weight_of known a
+      → weight program flows i b ≡ weight_of known b
       → form_weight program flows i site (Binary o a b) ≡ constants.form_weight known (Binary o a b)
   operator_weight site op.Arrow a b n c p q = absurd (n refl)
   operator_weight site op.Plus a b n c p q = λ e. p e + q e
   operator_weight site op.Minus a b n c p q = λ e. p e + q e
-  operator_weight site op.Times a b n c p q = ap (λ t. cond t (constant_size program a * weight program flows i b) (constant_size program b * weight program flows i a)) c ∙ ap (λ w. constant_size program a * w) q
+  operator_weight site op.Times a b n c p q = ap (λ t. cond t (constant_size program a * weight program flows i b)
+      (constant_size program b * weight program flows i a)) c ∙ ap (λ w. constant_size program a * w) q
   operator_weight site op.Implies a b n c p q = refl
   operator_weight site op.Or a b n c p q = refl
   operator_weight site op.Xor a b n c p q = refl
@@ -164,7 +172,8 @@ module _ (program : ProgramTree) (flows : Sites → ℕ) (i : Instance) where
     pub weighs : (e : Tree) → IsConstant e → weight program flows i e ≡ weight_of known e
     weighs (Node at site form) c = form_weighs site form c
 
-    form_weighs : (site : Option ℕ) (form : Form) → is_constant_form (node_scope program i.node) form ≡ true → form_weight program flows i site form ≡ constants.form_weight known form
+    form_weighs : (site : Option ℕ) (form : Form) → is_constant_form (node_scope program i.node) form ≡ true
+        → form_weight program flows i site form ≡ constants.form_weight known form
     form_weighs site True c = refl
     form_weighs site False c = refl
     form_weighs site (Number n) c = refl
@@ -176,7 +185,8 @@ module _ (program : ProgramTree) (flows : Sites → ℕ) (i : Instance) where
     form_weighs site (When e x) c = no_flag c
     form_weighs site (Binary o a b) c = let h = no_arrow o a b program i.node c in operator_weight site o a b h.0 h.1 (weighs a h.1) (weighs b h.2)
     form_weighs site (If a b d) c =
-        let h = both_hold (is_constant (node_scope program i.node) a) (is_constant (node_scope program i.node) b && is_constant (node_scope program i.node) d) c in
+        let h = both_hold (is_constant (node_scope program i.node) a) (is_constant (node_scope program i.node) b && is_constant (node_scope program i.node) d)
+        c in
         let g = both_hold (is_constant (node_scope program i.node) b) (is_constant (node_scope program i.node) d) h.1 in
         λ e. max (weighs b g.0 e) (weighs d g.1 e)
     form_weighs site (AtMostOne es) c = refl
@@ -197,7 +207,8 @@ module _ (program : ProgramTree) (flows : Sites → ℕ) (i : Instance) where
       pub constant_now : (e : Tree) (k : Kind) → Stands i.node e → IsTyped program i.node e k → IsConstant e → now program state row i e ≡ value_of known e
       constant_now (Node at site form) k s t c = constant_form_now at site form k s t c
 
-      constant_form_now : (at : ℕ) (site : Option ℕ) (form : Form) (k : Kind) → Stands i.node (Node at site form) → IsTyped program i.node (Node at site form) k → IsConstant (Node at site form)
+      constant_form_now : (at : ℕ) (site : Option ℕ) (form : Form) (k : Kind) → Stands i.node (Node at site form) → IsTyped program i.node (Node at site form) k
+          → IsConstant (Node at site form)
           → form_now program state row i site form ≡ constants.form_value known form
       constant_form_now at site True k s t c = refl
       constant_form_now at site False k s t c = refl
@@ -208,7 +219,8 @@ module _ (program : ProgramTree) (flows : Sites → ℕ) (i : Instance) where
           ap (λ v. Flag (not (is_true v))) h ∙ ap (λ b. Flag (not b)) (same_truth (value_of known e))
       constant_form_now at site (Minus e) k s t c =
           let h = constant_now e kind.Int (as_child at site (Minus e) e s of_minus) (minus_typed program i.node at site e k t).0 c in
-          ap (λ v. Whole (pos 0 -ℤ number v)) h ∙ ap (λ z. Whole (pos 0 -ℤ z)) (same_number (value_of known e)) ∙ ap Whole (negated (whole_in (value_of known e)))
+          ap (λ v. Whole (pos 0 -ℤ number v)) h ∙ ap (λ z. Whole (pos 0 -ℤ z)) (same_number (value_of known e))
+          ∙ ap Whole (negated (whole_in (value_of known e)))
           ∙ counts_as_itself (weight_of known e) (neg_ℤ (whole_in (value_of known e))) (counted_weight (Node at site (Minus e)) s c)
       constant_form_now at site (Pre e) k s t c = no_flag c
       constant_form_now at site (Current e) k s t c = no_flag c
@@ -219,29 +231,36 @@ module _ (program : ProgramTree) (flows : Sites → ℕ) (i : Instance) where
           let p = constant_now a r.left (as_child at site (Binary o a b) a s of_left) r.left_is h.1 in
           let q = constant_now b r.right (as_child at site (Binary o a b) b s of_right) r.right_is h.2 in
           (λ e. operate o (not (state.ticked (clock_in i Base (Node 0 site (Binary o a b))))) (p e) (q e))
-          ∙ operates (not (state.ticked (clock_in i Base (Node 0 site (Binary o a b))))) (is_constant (node_scope program i.node) a || is_constant (node_scope program i.node) b) o r.left r.right k
+          ∙ operates (not (state.ticked (clock_in i Base (Node 0 site (Binary o a b)))))
+          (is_constant (node_scope program i.node) a || is_constant (node_scope program i.node) b) o r.left r.right k
           (weight_of known (Node at site (Binary o a b))) (value_of known a) (value_of known b) (counted_weight (Node at site (Binary o a b)) s c) h.0 r.rule
       constant_form_now at site (If a b d) k s t c =
-          let h = both_hold (is_constant (node_scope program i.node) a) (is_constant (node_scope program i.node) b && is_constant (node_scope program i.node) d) c in
+          let h = both_hold (is_constant (node_scope program i.node) a) (is_constant (node_scope program i.node) b && is_constant (node_scope program i.node) d)
+          c in
           let g = both_hold (is_constant (node_scope program i.node) b) (is_constant (node_scope program i.node) d) h.1 in
           let r = if_typed program i.node at site a b d k t in
           let p = constant_now a kind.Bool (as_child at site (If a b d) a s of_condition) r.0 h.0 in
-          chosen (is_true (now program state row i a)) (flag_in (value_of known a)) (now program state row i b) (now program state row i d) (value_of known b) (value_of known d)
+          chosen (is_true (now program state row i a)) (flag_in (value_of known a)) (now program state row i b) (now program state row i d) (value_of known b)
+          (value_of known d)
           (ap is_true p ∙ same_truth (value_of known a))
           (constant_now b k (as_child at site (If a b d) b s of_first) r.1 g.0) (constant_now d k (as_child at site (If a b d) d s of_second) r.2 g.1)
-          ∙ part_itself (weight_of known (Node at site (If a b d))) (cond (flag_in (value_of known a)) (value_of known b) (value_of known d)) (counted_weight (Node at site (If a b d)) s c)
+          ∙ part_itself (weight_of known (Node at site (If a b d))) (cond (flag_in (value_of known a)) (value_of known b) (value_of known d))
+          (counted_weight (Node at site (If a b d)) s c)
       constant_form_now at site (AtMostOne es) k s t c =
           ap Flag (constants_now es (λ j e arg. as_child at site (AtMostOne es) e s (of_operand j arg)) (most_typed program i.node at site es k t).0 c).1
       constant_form_now at site (Call f es) k s t c = no_flag c
 
       -- so have the operands of a `#`
-      constants_now : (es : Trees) → ((j : ℕ) (e : Tree) → IsArgument es j e → Stands i.node e) → ((j : ℕ) (e : Tree) → IsArgument es j e → IsTyped program i.node e kind.Bool) → are_constant (node_scope program i.node) es ≡ true
-          → (nat_le (trues_now program state row i es) 0 ≡ none_true (flags_of_all known es)) × (nat_le (trues_now program state row i es) 1 ≡ at_most_one (flags_of_all known es))
+      constants_now : (es : Trees) → ((j : ℕ) (e : Tree) → IsArgument es j e → Stands i.node e)
+          → ((j : ℕ) (e : Tree) → IsArgument es j e → IsTyped program i.node e kind.Bool) → are_constant (node_scope program i.node) es ≡ true
+          → (nat_le (trues_now program state row i es) 0 ≡ none_true (flags_of_all known es))
+          × (nat_le (trues_now program state row i es) 1 ≡ at_most_one (flags_of_all known es))
       constants_now None s t c = (refl, refl)
       constants_now (More e es) s t c =
           let h = both_hold (is_constant (node_scope program i.node) e) (are_constant (node_scope program i.node) es) c in
           let rest = constants_now es (λ j a arg. s (suc j) a (tail arg)) (λ j a arg. t (suc j) a (tail arg)) h.1 in
-          let p : is_true (now program state row i e) ≡ flag_in (value_of known e) = ap is_true (constant_now e kind.Bool (s 0 e head) (t 0 e head) h.0) ∙ same_truth (value_of known e) in
+          let p : is_true (now program state row i e) ≡ flag_in (value_of known e) = ap is_true (constant_now e kind.Bool (s 0 e head) (t 0 e head) h.0)
+          ∙ same_truth (value_of known e) in
           let n : ℕ = trues_now program state row i es in (
             ap (λ b. nat_le (cond b 1 0 + n) 0) p ∙ no_trues (flag_in (value_of known e)) n (flags_of_all known es) rest.0,
             ap (λ b. nat_le (cond b 1 0 + n) 1) p ∙ one_true (flag_in (value_of known e)) n (flags_of_all known es) rest.0 rest.1,

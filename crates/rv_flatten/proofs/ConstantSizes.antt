@@ -1,5 +1,6 @@
 -- What a constant expression counts as is no larger than its weight.
-use Rattle.std.proofs.Common.{◌≡◌, ℕ, ◌+◌, ◌*◌, ◌^◌, ◌≤◌, ◌<◌, max, Bool, true, false, cond, nat_le, ℤ, pos, ◌+ℤ◌, ◌-ℤ◌, ◌*ℤ◌, neg_ℤ, nat_abs, refl, arith, List, [], ◌∷◌, reverse, Option, Some}
+use Rattle.std.proofs.Common.{◌≡◌, ℕ, ◌+◌, ◌*◌, ◌^◌, ◌≤◌, ◌<◌, max, Bool, true, false, cond, nat_le, ℤ, pos, ◌+ℤ◌, ◌-ℤ◌, ◌*ℤ◌, neg_ℤ, nat_abs, refl, arith}
+use Rattle.std.proofs.Common.{List, [], ◌∷◌, reverse, Option, Some}
 use Rattle.std.proofs.Common.{None as Nothing}
 use Rattle.std.proofs.lemmas.List.Elements.{All-nil, All-push}
 use Rattle.std.specs.List.{All}
@@ -11,7 +12,8 @@ use Rattle.rv_base.specs.declared.value.Value.TheVariants.{Flag, Whole}
 use Rattle.rv_base.specs.declared.value.Value.TheVariants as value
 use Rattle.rv_tree.specs.declared.tree.Op.{Op}
 use Rattle.rv_tree.specs.declared.tree.Op.TheVariants as op
-use Rattle.rv_tree.specs.Tree.{Tree, Node, Form, True, False, Number, Named, Not, Minus, Pre, Current, When, Binary, If, AtMostOne, Call, ConstantTree, ProgramTree}
+use Rattle.rv_tree.specs.Tree.{Tree, Node, Form, True, False, Number, Named, Not, Minus, Pre, Current, When, Binary, If, AtMostOne, Call, ConstantTree}
+use Rattle.rv_tree.specs.Tree.{ProgramTree}
 use Rattle.rv_base.specs.Limits.{heaviest, too_heavy}
 use Rattle.rv_tree.specs.Places.{Identifier, is_same}
 use Rattle.rv_types.specs.Kinds.{LabelPlace, label_of}
@@ -39,7 +41,8 @@ opposite_size m z h = omega (arith, ints)
 product_size : (y z : ℤ) (w : ℕ) → nat_abs z ≤ w → nat_abs (y *ℤ z) ≤ nat_abs y * w
 product_size y z w h = rw (unsigned_abs-mul y z) (mul-le-mul_left (nat_abs y) h)
 
-operator_size : (o : Op) (x y : Value) (v w : ℕ) → nat_abs (whole_in x) ≤ v → nat_abs (whole_in y) ≤ w → nat_abs (whole_in (value_under (weight_under o (nat_abs (whole_in x)) v w) o x y)) ≤ weight_under o (nat_abs (whole_in x)) v w
+operator_size : (o : Op) (x y : Value) (v w : ℕ) → nat_abs (whole_in x) ≤ v → nat_abs (whole_in y) ≤ w
+    → nat_abs (whole_in (value_under (weight_under o (nat_abs (whole_in x)) v w) o x y)) ≤ weight_under o (nat_abs (whole_in x)) v w
 operator_size op.Plus x y v w g h = counted_size (v + w) (whole_in x +ℤ whole_in y) (sum_size (whole_in x) (whole_in y) v w g h)
 operator_size op.Minus x y v w g h = counted_size (v + w) (whole_in x -ℤ whole_in y) (difference_size (whole_in x) (whole_in y) v w g h)
 operator_size op.Times x y v w g h = counted_size (nat_abs (whole_in x) * w) (whole_in x *ℤ whole_in y) (product_size (whole_in x) (whole_in y) w h)
@@ -78,7 +81,8 @@ module _ (known : Identifier → Value) where
     form_size (Number n) = counted_size n (pos n) (omega (arith, ints))
     form_size (Named x) = omega arith
     form_size (Not e) = omega arith
-    form_size (Minus e) = counted_size (weight_of known e) (neg_ℤ (whole_in (value_of known e))) (opposite_size (weight_of known e) (whole_in (value_of known e)) (value_size e))
+    form_size (Minus e) = counted_size (weight_of known e) (neg_ℤ (whole_in (value_of known e)))
+        (opposite_size (weight_of known e) (whole_in (value_of known e)) (value_size e))
     form_size (Pre e) = omega arith
     form_size (Current e) = omega arith
     form_size (When e c) = omega arith
@@ -98,7 +102,8 @@ counted_cap m z h = tested (nat_le m heaviest) refl
     tested true e = let l : m ≤ heaviest = grind (arith, nat_tests) in omega (arith, h, l)
     tested false e = omega arith
 
-operator_cap : (o : Op) (x y : Value) (v w : ℕ) → nat_abs (whole_in x) ≤ v → nat_abs (whole_in y) ≤ w → nat_abs (whole_in (value_under (weight_under o (nat_abs (whole_in x)) v w) o x y)) ≤ too_heavy
+operator_cap : (o : Op) (x y : Value) (v w : ℕ) → nat_abs (whole_in x) ≤ v → nat_abs (whole_in y) ≤ w
+    → nat_abs (whole_in (value_under (weight_under o (nat_abs (whole_in x)) v w) o x y)) ≤ too_heavy
 operator_cap op.Plus x y v w g h = counted_cap (v + w) (whole_in x +ℤ whole_in y) (sum_size (whole_in x) (whole_in y) v w g h)
 operator_cap op.Minus x y v w g h = counted_cap (v + w) (whole_in x -ℤ whole_in y) (difference_size (whole_in x) (whole_in y) v w g h)
 operator_cap op.Times x y v w g h = counted_cap (nat_abs (whole_in x) * w) (whole_in x *ℤ whole_in y) (product_size (whole_in x) (whole_in y) w h)
@@ -132,14 +137,17 @@ module _ (known : Identifier → Value) (capped : (x : Identifier) → nat_abs (
       form_cap (Number n) = counted_cap n (pos n) (omega (arith, ints))
       form_cap (Named x) = capped x
       form_cap (Not e) = omega arith
-      form_cap (Minus e) = counted_cap (weight_of known e) (neg_ℤ (whole_in (value_of known e))) (opposite_size (weight_of known e) (whole_in (value_of known e)) (value_size known e))
+      form_cap (Minus e) = counted_cap (weight_of known e) (neg_ℤ (whole_in (value_of known e)))
+          (opposite_size (weight_of known e) (whole_in (value_of known e)) (value_size known e))
       form_cap (Pre e) = omega arith
       form_cap (Current e) = omega arith
       form_cap (When e c) = omega arith
-      form_cap (Binary o a b) = operator_cap o (value_of known a) (value_of known b) (weight_of known a) (weight_of known b) (value_size known a) (value_size known b)
+      form_cap (Binary o a b) = operator_cap o (value_of known a) (value_of known b) (weight_of known a) (weight_of known b) (value_size known a)
+          (value_size known b)
       form_cap (If i a b) =
           part_cap (max (weight_of known a) (weight_of known b)) (cond (flag_in (value_of known i)) (value_of known a) (value_of known b))
-          (chosen_size (flag_in (value_of known i)) (value_of known a) (value_of known b) (weight_of known a) (weight_of known b) (value_size known a) (value_size known b))
+          (chosen_size (flag_in (value_of known i)) (value_of known a) (value_of known b) (weight_of known a) (weight_of known b) (value_size known a)
+          (value_size known b))
       form_cap (AtMostOne es) = omega arith
       form_cap (Call f es) = omega arith
 

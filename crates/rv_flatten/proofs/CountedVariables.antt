@@ -1,5 +1,6 @@
 -- A program has no more diagram variables than are counted.
-use Rattle.std.proofs.Common.{◌≡◌, ◌⊎◌, inl, inr, ℕ, zero, suc, ◌+◌, ◌*◌, ◌<◌, ◌≤◌, Bool, true, false, ◌&&◌, ◌||◌, cond, nat_eq, List, [], ◌∷◌, ◌++◌, map, flat_map, length, get_or, refl, sym, ◌∙◌, ap, subst, arith, Option, Some, length-append, None as Nothing}
+use Rattle.std.proofs.Common.{◌≡◌, ◌⊎◌, inl, inr, ℕ, zero, suc, ◌+◌, ◌*◌, ◌<◌, ◌≤◌, Bool, true, false, ◌&&◌, ◌||◌, cond, nat_eq, List, [], ◌∷◌, ◌++◌, map}
+use Rattle.std.proofs.Common.{flat_map, length, get_or, refl, sym, ◌∙◌, ap, subst, arith, Option, Some, length-append, None as Nothing}
 use Rattle.std.specs.Prelude.{nat_le}
 use Rattle.std.proofs.lemmas.Bool.{cases_order, le-leb}
 use Rattle.std.proofs.lemmas.Bool.Decides.{nat_tests}
@@ -18,9 +19,12 @@ use Rattle.rv_types.specs.Kinds.{decl_kinds}
 use Rattle.rv_types.specs.Names.{labels_of, texts}
 use Rattle.rv_types.specs.Values.{label_count, operand_kind}
 use Rattle.rv_types.specs.Instances.{Instance, IsInstance, all_instances, clock_in, node_of}
-use Rattle.rv_types.specs.Lists.{AreRising, AreTicks, AreMemories, AreComparisons, AreVariables, IsAny, MemoryAt, ComparisonAt, Compares, Variable, MainTick, Tick, Kept, Input, Test, bits, with_copies, memory_variables, input_variables, test_variables, sides_of, memory_places, memory_at}
+use Rattle.rv_types.specs.Lists.{AreRising, AreTicks, AreMemories, AreComparisons, AreVariables, IsAny, MemoryAt, ComparisonAt, Compares, Variable, MainTick}
+use Rattle.rv_types.specs.Lists.{Tick, Kept, Input, Test, bits, with_copies, memory_variables, input_variables, test_variables, sides_of, memory_places}
+use Rattle.rv_types.specs.Lists.{memory_at}
 use Rattle.rv_types.specs.Needs.{IsBefore}
-use Rattle.rv_types.specs.Variables.{total, is_integer, is_in, memories, memories_beside, node_parts, kind_bits, memory_bits, tests_of, own_tests, order_tests, is_arrow, arrow_clocks, same_place, is_place_in, different, over_instances, ticks, variable_count}
+use Rattle.rv_types.specs.Variables.{total, is_integer, is_in, memories, memories_beside, node_parts, kind_bits, memory_bits, tests_of, own_tests, order_tests}
+use Rattle.rv_types.specs.Variables.{is_arrow, arrow_clocks, same_place, is_place_in, different, over_instances, ticks, variable_count}
 use Rattle.rv_instances.specs.Counts.{integer_memories}
 use Rattle.rv_flat.specs.declared.parts.Bit.{Bit}
 use Rattle.rv_flat.specs.declared.parts.FlatMemory.{FlatMemory}
@@ -180,7 +184,8 @@ own_clock i e q arrow at =
     subst (λ b. Contains (cond b (elim (clock_in i Base e) as (λ _. List Sites) [ Nothing ↦ [] | Some p ↦ p ∷ [] ]) []) q) (sym arrow)
     (subst (λ o. Contains (elim o as (λ _. List Sites) [ Nothing ↦ [] | Some p ↦ p ∷ [] ]) q) (sym at) (at_head q []))
 
-arrow_there : (i : Instance) (es : List Tree) (e : Tree) (q : Sites) → Contains es e → is_arrow e ≡ true → clock_in i Base e ≡ Some q → Contains (arrow_clocks i es) q
+arrow_there : (i : Instance) (es : List Tree) (e : Tree) (q : Sites) → Contains es e → is_arrow e ≡ true → clock_in i Base e ≡ Some q
+    → Contains (arrow_clocks i es) q
 arrow_there i [] e q w arrow at = none_in e w
 arrow_there i (x ∷ es) e q w arrow at = elim (head_or_tail x es e w) [
   | inl same ↦ Contains-append_left (own_clocks i x) (arrow_clocks i es) q (subst (λ y. Contains (own_clocks i y) q) (sym same) (own_clock i e q arrow at))
@@ -216,7 +221,8 @@ has_one n seen [] d w = none_in d w
 has_one n seen (x ∷ ds) d w = by (is_in seen (site n x)) refl (λ s e v. has_one n s ds e v)
   where
     by : (b : Bool) → is_in seen (site n x) ≡ b → ((s : List ℕ) (e : Delay) → Contains ds e → HasOne n s ds e)
-        → (is_in seen (site n d) ≡ true) ⊎ ((e : Delay) × Contains (cond b (memories_beside n seen ds) (x ∷ memories_beside n (site n x ∷ seen) ds)) e × Contains (x ∷ ds) e × (site n e ≡ site n d))
+        → (is_in seen (site n d) ≡ true) ⊎ ((e : Delay) × Contains (cond b (memories_beside n seen ds) (x ∷ memories_beside n (site n x ∷ seen) ds)) e
+        × Contains (x ∷ ds) e × (site n e ≡ site n d))
     by true e again = elim (head_or_tail x ds d w) [
       | inl same ↦ inl (subst (λ y. is_in seen (site n y) ≡ true) same e)
       | inr rest ↦ elim (again seen d rest) [
@@ -247,10 +253,12 @@ one_memory ms up a b v w e = elim (cases_order v.0 w.0) [
   | inr other ↦ elim other [
     | inl before ↦
         absurd (not_itself b.place (subst (λ q. IsBefore q b.place) (placed ms v.0 a v.1 v.2 ∙ e)
-        (subst (IsBefore (get_or (memory_places ms) v.0 [])) (placed ms w.0 b w.1 w.2) (up v.0 w.0 before (let m = length-map ms (λ (m : MemoryAt). m.place) in let lt = w.1 in omega (arith, m, lt))))))
+        (subst (IsBefore (get_or (memory_places ms) v.0 [])) (placed ms w.0 b w.1 w.2)
+        (up v.0 w.0 before (let m = length-map ms (λ (m : MemoryAt). m.place) in let lt = w.1 in omega (arith, m, lt))))))
     | inr after ↦
         absurd (not_itself a.place (subst (λ q. IsBefore q a.place) (placed ms w.0 b w.1 w.2 ∙ sym e)
-        (subst (IsBefore (get_or (memory_places ms) w.0 [])) (placed ms v.0 a v.1 v.2) (up w.0 v.0 after (let m = length-map ms (λ (m : MemoryAt). m.place) in let lt = v.1 in omega (arith, m, lt))))))
+        (subst (IsBefore (get_or (memory_places ms) w.0 [])) (placed ms v.0 a v.1 v.2)
+        (up w.0 v.0 after (let m = length-map ms (λ (m : MemoryAt). m.place) in let lt = v.1 in omega (arith, m, lt))))))
   ]
 ]
 
@@ -291,7 +299,8 @@ module _ (p : ProgramTree) (main : Identifier) (counted : (i : Instance) → IsI
   ticks_few qs are =
       let clocks : Instance → List Sites = λ i. arrow_clocks i (node_parts i.node) in
       let few = sum_no_more (λ (q : Sites). 1) (λ (q : Sites). q) qs (ticks p main) (subst AreRising (sym (themselves qs)) are.rising)
-      (λ q w. let r = are.only q w in still_different (flat_map clocks (all_instances p main)) q (in_flat_map clocks (all_instances p main) r.0 q (counted r.0 r.2) (arrow_there r.0 (node_parts r.0.node) r.1 q r.3 r.4 r.5))) in
+      (λ q w. let r = are.only q w in still_different (flat_map clocks (all_instances p main)) q
+      (in_flat_map clocks (all_instances p main) r.0 q (counted r.0 r.2) (arrow_there r.0 (node_parts r.0.node) r.1 q r.3 r.4 r.5))) in
       let a = ones qs in
       let b = ones (ticks p main) in
       omega (arith, few, a, b)
@@ -306,9 +315,11 @@ module _ (p : ProgramTree) (main : Identifier) (counted : (i : Instance) → IsI
         | inl old ↦ no_flag old
         | inr new ↦
             let same : memory_at p r.0 new.0 ≡ m =
-            one_memory ms are.rising (memory_at p r.0 new.0) m (are.all r.0 new.0 r.2 tt new.2) w (ap (λ s. r.0.path ++ s ∷ []) new.3 ∙ ap (λ (m : MemoryAt). m.place) (sym r.5)) in
+            one_memory ms are.rising (memory_at p r.0 new.0) m (are.all r.0 new.0 r.2 tt new.2) w
+            (ap (λ s. r.0.path ++ s ∷ []) new.3 ∙ ap (λ (m : MemoryAt). m.place) (sym r.5)) in
             subst (λ m. Contains (flat_map memories_at (all_instances p main)) m) same
-            (in_flat_map memories_at (all_instances p main) r.0 (memory_at p r.0 new.0) (counted r.0 r.2) (in_map (memory_at p r.0) (memories r.0.node) new.0 new.1))
+            (in_flat_map memories_at (all_instances p main) r.0 (memory_at p r.0 new.0) (counted r.0 r.2)
+            (in_map (memory_at p r.0) (memories r.0.node) new.0 new.1))
       ]
 
   -- a sum over the types of memories is no more than that over those of all instances
@@ -319,14 +330,17 @@ module _ (p : ProgramTree) (main : Identifier) (counted : (i : Instance) → IsI
       let own : NodeTree → ℕ = λ n. total (λ d. f (operand_kind p n d.operand)) (memories n) in
       let few = sum_no_more g (λ (m : MemoryAt). m.place) ms (flat_map memories_at (all_instances p main)) are.rising (memory_there ms are) in
       let a = total_flat_map g memories_at (all_instances p main) in
-      let b = total_same (λ (i : Instance). total g (memories_at i)) (λ (i : Instance). own i.node) (all_instances p main) (λ i. total_map g (memory_at p i) (memories i.node)) in
+      let b = total_same (λ (i : Instance). total g (memories_at i)) (λ (i : Instance). own i.node) (all_instances p main)
+      (λ i. total_map g (memory_at p i) (memories i.node)) in
       omega (arith, few, a, b)
 
-  pub memories_few : (ms : List MemoryAt) → AreMemories p main IsAny ms → total (λ (m : MemoryAt). kind_bits p m.kind) ms ≤ over_instances p main (memory_bits p)
+  pub memories_few : (ms : List MemoryAt) → AreMemories p main IsAny ms
+      → total (λ (m : MemoryAt). kind_bits p m.kind) ms ≤ over_instances p main (memory_bits p)
   memories_few ms are = kinds_few (kind_bits p) ms are
 
   -- so there are no more integer memories than are counted
-  pub few_integers : (ms : List FlatMemory) → AreMemories p main IsAny (map memory_of ms) → over_instances p main (integer_memories p) ≤ 64 → integers (map (λ m. m.kind) ms) ≤ 64
+  pub few_integers : (ms : List FlatMemory) → AreMemories p main IsAny (map memory_of ms) → over_instances p main (integer_memories p) ≤ 64
+      → integers (map (λ m. m.kind) ms) ≤ 64
   few_integers ms are few =
       let f : Kind → ℕ = λ k. cond (is_integer k) 1 0 in
       let a = total_map f (λ (m : FlatMemory). m.kind) ms in
@@ -341,7 +355,8 @@ module _ (p : ProgramTree) (main : Identifier) (counted : (i : Instance) → IsI
   tests_few cs are =
       let few = sum_no_more tests (λ (c : ComparisonAt). c.place) cs (flat_map comparisons_at (all_instances p main)) are.rising
       (λ c w. let r = are.only c w in
-      in_flat_map comparisons_at (all_instances p main) r.0 c (counted r.0 r.2) (in_flat_map (own_comparisons p r.0) (node_parts r.0.node) r.1 c r.3 (own_there p r.0 r.1 c r.4))) in
+      in_flat_map comparisons_at (all_instances p main) r.0 c (counted r.0 r.2)
+      (in_flat_map (own_comparisons p r.0) (node_parts r.0.node) r.1 c r.3 (own_there p r.0 r.1 c r.4))) in
       let a = total_flat_map tests comparisons_at (all_instances p main) in
       let b = total_less (λ (i : Instance). total tests (comparisons_at i)) (λ (i : Instance). order_tests p i.node) (all_instances p main)
       (λ i. let c = total_flat_map tests (own_comparisons p i) (node_parts i.node) in

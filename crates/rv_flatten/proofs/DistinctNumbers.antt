@@ -1,5 +1,6 @@
 -- The numbers of a sorted list, each once.
-use Rattle.std.proofs.Common.{◌≡◌, ◌⊎◌, inl, inr, ℕ, zero, suc, ◌+◌, ◌-◌, ◌<◌, ◌≤◌, ℤ, pos, ◌<ℤ◌, ◌≤ℤ◌, Bool, true, false, cond, List, [], ◌∷◌, ◌++◌, length, get_or, take, slice_get, nat_eq, SFits, to_z, of_z, refl, sym, ◌∙◌, ap, subst, arith, Some}
+use Rattle.std.proofs.Common.{◌≡◌, ◌⊎◌, inl, inr, ℕ, zero, suc, ◌+◌, ◌-◌, ◌<◌, ◌≤◌, ℤ, pos, ◌<ℤ◌, ◌≤ℤ◌, Bool, true, false, cond, List, [], ◌∷◌, ◌++◌, length}
+use Rattle.std.proofs.Common.{get_or, take, slice_get, nat_eq, SFits, to_z, of_z, refl, sym, ◌∙◌, ap, subst, arith, Some}
 use Rattle.std.proofs.lemmas.Bool.{cases_order, eqb-true, eq-eqb}
 use Rattle.std.proofs.lemmas.Int.{ints, by_lt_z, to_z-of_z}
 use Rattle.std.proofs.lemmas.List.{take_more, length_push, get_or_push, get_or_append_left, get_or_default, take_all}
@@ -39,7 +40,8 @@ not_last (y ∷ x ∷ xs) z e lt is = not_last (x ∷ xs) z e (omega arith) (sym
 pub last_is : (ys : List ℤ) (v z : ℤ) → slice_get ys (length ys - 1) ≡ Some v → is_last ys z ≡ int_eq v z
 last_is [] v z e = absurd (none-some v e)
 last_is (y ∷ []) v z e = ap (λ u. int_eq u z) (same_Some y v e)
-last_is (y ∷ x ∷ xs) v z e = let k : suc (suc (length xs)) - 1 ≡ suc (suc (length xs) - 1) = omega arith in last_is (x ∷ xs) v z (sym (ap (slice_get (y ∷ x ∷ xs)) k) ∙ e)
+last_is (y ∷ x ∷ xs) v z e = let k : suc (suc (length xs)) - 1 ≡ suc (suc (length xs) - 1) = omega arith in
+    last_is (x ∷ xs) v z (sym (ap (slice_get (y ∷ x ∷ xs)) k) ∙ e)
 
 -- integers that fit are equal where their bits are
 pub bits_equal : (y z : ℤ) → SFits w128 y → SFits w128 z → nat_eq (of_z w128 y) (of_z w128 z) ≡ int_eq y z
@@ -66,11 +68,17 @@ pub record IsDistinctSoFar (xs : List ℤ) (i : ℕ) (ys : List ℤ) : Type 0 wh
 
 pub none_distinct : (xs : List ℤ) → IsDistinctSoFar xs 0 []
 none_distinct xs = record {
-  distinct = record { rising = λ j k lt less. absurd (omega (arith, less)); all = λ y w. absurd (omega (arith, w.1)); only = λ y w. absurd (omega (arith, w.1)) };
+  distinct = record {
+    rising = λ j k lt less. absurd (omega (arith, less));
+    all = λ y w. absurd (omega (arith, w.1));
+    only = λ y w. absurd
+        (omega (arith, w.1));
+  };
   last = λ lt. absurd (omega (arith, lt));
 }
 
-below_last : (ys : List ℤ) → ((j k : ℕ) → j < k → k < length ys → get_or ys j (pos 0) <ℤ get_or ys k (pos 0)) → (j : ℕ) → j < length ys → get_or ys j (pos 0) ≤ℤ last_of ys
+below_last : (ys : List ℤ) → ((j k : ℕ) → j < k → k < length ys → get_or ys j (pos 0) <ℤ get_or ys k (pos 0)) → (j : ℕ) → j < length ys
+    → get_or ys j (pos 0) ≤ℤ last_of ys
 below_last ys rising j lt = elim (cases_order j (length ys - 1)) [
   | inl same ↦ subst (λ k. get_or ys j (pos 0) ≤ℤ get_or ys k (pos 0)) same (omega (arith, ints))
   | inr other ↦ elim other [
@@ -79,7 +87,8 @@ below_last ys rising j lt = elim (cases_order j (length ys - 1)) [
   ]
 ]
 
-pub one_more_distinct : (xs ys : List ℤ) (i : ℕ) (z : ℤ) → IsSorted int_cmp xs → i < length xs → z ≡ get_or xs i (pos 0) → IsDistinctSoFar xs i ys → IsDistinctSoFar xs (i + 1) (with_new ys z)
+pub one_more_distinct : (xs ys : List ℤ) (i : ℕ) (z : ℤ) → IsSorted int_cmp xs → i < length xs → z ≡ get_or xs i (pos 0) → IsDistinctSoFar xs i ys
+    → IsDistinctSoFar xs (i + 1) (with_new ys z)
 one_more_distinct xs ys i z sorted lt is so_far = by (is_last ys z) refl
   where
     longer : take (i + 1) xs ≡ take i xs ++ z ∷ []
@@ -129,11 +138,13 @@ one_more_distinct xs ys i z sorted lt is so_far = by (is_last ys z) refl
       };
       last = λ some. let long = length_push ys z in (
         omega (arith, long),
-        get_or_push ys z (pos 0) (length (ys ++ z ∷ []) - 1) (omega (arith, long)) ∙ is ∙ ap (λ k. get_or xs k (pos 0)) (let k : i ≡ (i + 1) - 1 = omega arith in k),
+        get_or_push ys z (pos 0) (length (ys ++ z ∷ []) - 1) (omega (arith, long)) ∙ is
+            ∙ ap (λ k. get_or xs k (pos 0)) (let k : i ≡ (i + 1) - 1 = omega arith in k),
       );
     }
       where
-        pushed : (j k : ℕ) → j < k → k < length (ys ++ z ∷ []) → (k ≡ length ys) ⊎ ((k < length ys) ⊎ (length ys < k)) → get_or (ys ++ z ∷ []) j (pos 0) <ℤ get_or (ys ++ z ∷ []) k (pos 0)
+        pushed : (j k : ℕ) → j < k → k < length (ys ++ z ∷ []) → (k ≡ length ys) ⊎ ((k < length ys) ⊎ (length ys < k))
+            → get_or (ys ++ z ∷ []) j (pos 0) <ℤ get_or (ys ++ z ∷ []) k (pos 0)
         pushed j k less within (inl at_end) =
             let lt' : j < length ys = omega (arith, less, at_end) in
             let old : get_or (ys ++ z ∷ []) j (pos 0) ≡ get_or ys j (pos 0) = get_or_append_left ys (z ∷ []) (pos 0) j lt' in
@@ -142,7 +153,8 @@ one_more_distinct xs ys i z sorted lt is so_far = by (is_last ys z) refl
             let some : 0 < length ys = omega (arith, lt') in
             let le = above (some_read some) in
             let other : last_of ys ≡ z → ⊥ = not_last ys z e some in
-            subst (λ y. y <ℤ get_or (ys ++ z ∷ []) k (pos 0)) (sym old) (subst (λ y. get_or ys j (pos 0) <ℤ y) (sym new) (strictly (get_or ys j (pos 0)) (last_of ys) z below le other))
+            subst (λ y. y <ℤ get_or (ys ++ z ∷ []) k (pos 0)) (sym old)
+            (subst (λ y. get_or ys j (pos 0) <ℤ y) (sym new) (strictly (get_or ys j (pos 0)) (last_of ys) z below le other))
           where
             strictly : (a b c : ℤ) → a ≤ℤ b → b ≤ℤ c → (b ≡ c → ⊥) → a <ℤ c
             strictly a b c p q n = by_lt_z b c (λ lt. omega (arith, ints, p, lt)) (λ ge. absurd (n (omega (arith, ints, q, ge))))

@@ -57,7 +57,8 @@ rising_apart ps up = apart_told (λ (q : Sites). q) ps (λ i j d lt less same.
 module _ (program : ProgramTree) (main : Identifier) (numbers : Numbers) (s : System) (read : IsTranslated program main numbers s) where
   -- The ticks have different clocks.
   pub distinct_ticks : are_distinct (Option Sites) same_flow s.ticks ≡ true
-  distinct_ticks = ap (are_distinct (Option Sites) same_flow) read.tick_places ∙ distinct_told (Option Sites) same_flow same_flow_told (Nothing ∷ map (λ q. Some q) numbers.ticks) (other, rest)
+  distinct_ticks = ap (are_distinct (Option Sites) same_flow) read.tick_places
+      ∙ distinct_told (Option Sites) same_flow same_flow_told (Nothing ∷ map (λ q. Some q) numbers.ticks) (other, rest)
     where
       other : (k : Option Sites) → Contains (map (λ q. Some q) numbers.ticks) k → Nothing ≡ k → ⊥
       other k w e = let r = of_map (λ (q : Sites). Some q) numbers.ticks k w in none_there r.0 (e ∙ sym r.2)
@@ -76,5 +77,6 @@ module _ (program : ProgramTree) (main : Identifier) (numbers : Numbers) (s : Sy
   pub distinct_memories : are_distinct Sites same_sites (memory_places s) ≡ true
   distinct_memories =
       distinct_told Sites same_sites same_sites_told (memory_places s)
-      (subst (λ (l : List Sites). IsApart (λ (q : Sites). q) l) (map-map (λ (m : MemoryAt). m.place) (λ (m : Kept). record { place = m.place; kind = m.kind }) s.memories)
+      (subst (λ (l : List Sites). IsApart (λ (q : Sites). q) l) (map-map (λ (m : MemoryAt). m.place) (λ (m : Kept). record { place = m.place; kind = m.kind })
+      s.memories)
       (rising_apart (map (λ (m : MemoryAt). m.place) (map (λ (m : Kept). record { place = m.place; kind = m.kind }) s.memories)) read.memories.rising))

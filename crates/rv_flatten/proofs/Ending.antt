@@ -1,5 +1,6 @@
 -- What the memories of a flat system show ends: a memory shows only such as take less of the source.
-use Rattle.std.proofs.Common.{◌≡◌, inl, inr, ℕ, zero, suc, ◌+◌, ◌<◌, ◌≤◌, ℤ, Bool, true, false, ◌&&◌, cond, nat_lt, List, [], ◌∷◌, ◌++◌, map, length, slice_get, slice_index_or, refl, sym, ◌∙◌, ap, subst, arith, Option, Some}
+use Rattle.std.proofs.Common.{◌≡◌, inl, inr, ℕ, zero, suc, ◌+◌, ◌<◌, ◌≤◌, ℤ, Bool, true, false, ◌&&◌, cond, nat_lt, List, [], ◌∷◌, ◌++◌, map, length, slice_get}
+use Rattle.std.proofs.Common.{slice_index_or, refl, sym, ◌∙◌, ap, subst, arith, Option, Some}
 use Rattle.std.proofs.Common.{None as Nothing}
 use Rattle.std.proofs.lemmas.Bool.{cases_order}
 use Rattle.std.proofs.lemmas.Bool.Decides.{nat_tests}
@@ -60,7 +61,8 @@ abbrev mutual
   trees_size tree.None = 0
   trees_size (tree.More e es) = tree_size e + trees_size es
 
-own_smaller : (site : Option ℕ) (e : Tree) (d : Delay) → Contains (record { site = site; operand = e } ∷ delays e) d → (Contains (delays e) d → tree_size d.operand < tree_size e) → tree_size d.operand ≤ tree_size e
+own_smaller : (site : Option ℕ) (e : Tree) (d : Delay) → Contains (record { site = site; operand = e } ∷ delays e) d
+    → (Contains (delays e) d → tree_size d.operand < tree_size e) → tree_size d.operand ≤ tree_size e
 own_smaller site e d w again = elim (head_or_tail (record { site = site; operand = e }) (delays e) d w) [
   | inl is ↦ subst (λ (c : Delay). tree_size c.operand ≤ tree_size e) is (itself (tree_size e))
   | inr rest ↦ let h = again rest in omega (arith, h)
@@ -119,7 +121,8 @@ module _ (has : ℕ → Bool) where
   product_shown true y z f g p q = q
   product_shown false y z f g p q = p
 
-  operator_shown : (o : Op) (choice times : RawForm) (f g : RawTree) → form_all_shown has choice ≡ true → form_all_shown has times ≡ true → all_shown has f ≡ true → all_shown has g ≡ true
+  operator_shown : (o : Op) (choice times : RawForm) (f g : RawTree) → form_all_shown has choice ≡ true → form_all_shown has times ≡ true
+      → all_shown has f ≡ true → all_shown has g ≡ true
       → form_all_shown has (operator o choice times f g) ≡ true
   operator_shown op.Arrow choice times f g c t p q = c
   operator_shown op.Times choice times f g c t p q = t
@@ -148,7 +151,8 @@ module _ (has : ℕ → Bool) where
       shown : (e : Tree) → ((d : Delay) → Contains (delays e) d → HasAt d) → all_shown has (raw_of program numbers i e) ≡ true
       shown (tree.Node at site form) h = form_shown site form h
 
-      form_shown : (site : Option ℕ) (form : Form) → ((d : Delay) → Contains (form_delays site form) d → HasAt d) → all_shown has (raw_form program numbers i site form) ≡ true
+      form_shown : (site : Option ℕ) (form : Form) → ((d : Delay) → Contains (form_delays site form) d → HasAt d)
+          → all_shown has (raw_form program numbers i site form) ≡ true
       form_shown site tree.True h = refl
       form_shown site tree.False h = refl
       form_shown site (tree.Number n) h = refl
@@ -162,7 +166,8 @@ module _ (has : ℕ → Bool) where
           let left = shown a (λ d w. h d (Contains-append_left (delays a) (delays b) d w)) in
           let right = shown b (λ d w. h d (Contains-append_right (delays a) (delays b) d w)) in
           operator_shown o _ _ (raw_of program numbers i a) (raw_of program numbers i b) (both _ _ right left)
-          (product_shown (is_constant (node_scope program i.node) a) (coefficient program a) (coefficient program b) (raw_of program numbers i a) (raw_of program numbers i b) left right) left right
+          (product_shown (is_constant (node_scope program i.node) a) (coefficient program a) (coefficient program b) (raw_of program numbers i a)
+          (raw_of program numbers i b) left right) left right
       form_shown site (tree.If a b c) h =
           let condition = shown a (λ d w. h d (Contains-append_left (delays a) (delays b ++ delays c) d w)) in
           let first = shown b (λ d w. h d (Contains-append_right (delays a) (delays b ++ delays c) d (Contains-append_left (delays b) (delays c) d w))) in
@@ -260,13 +265,15 @@ module _ (sizes : ℕ → ℕ) where
       n j lt (not_less (sizes j)) (less_is (sizes j) (sizes k) less)
 
   module _ (ms : List FlatMemory)
-      (falls : (k : ℕ) (m : FlatMemory) → slice_get ms k ≡ Some m → (has : ℕ → Bool) → ((j : ℕ) → j < length ms → sizes j < sizes k → has j ≡ true) → all_shown has (raw_tree m.body) ≡ true) where
+      (falls : (k : ℕ) (m : FlatMemory) → slice_get ms k ≡ Some m → (has : ℕ → Bool) → ((j : ℕ) → j < length ms → sizes j < sizes k → has j ≡ true)
+      → all_shown has (raw_tree m.body) ≡ true) where
     -- what a memory shows ends within as many times as there are smaller ones, and once more
     ends : (n k : ℕ) → rank (length ms) k < n → ends_within ms n k ≡ true
     ends zero k lt = absurd (omega (arith, lt))
     ends (suc n) k lt = by (slice_get ms k) refl (ends n)
       where
-        by : (o : Option FlatMemory) → slice_get ms k ≡ o → ((j : ℕ) → rank (length ms) j < n → ends_within ms n j ≡ true) → shown_ends (ends_within ms n) o ≡ true
+        by : (o : Option FlatMemory) → slice_get ms k ≡ o → ((j : ℕ) → rank (length ms) j < n → ends_within ms n j ≡ true)
+            → shown_ends (ends_within ms n) o ≡ true
         by Nothing e again = refl
         by (Some m) e again = falls k m e (ends_within ms n) (λ j within less. again j (let h = rank_falls (length ms) j k within less in omega (arith, h, lt)))
 
@@ -275,7 +282,8 @@ module _ (sizes : ℕ → ℕ) where
     all_of_them (suc n) le = both _ _ (ends (length ms) n (rank_below (length ms) n (omega (arith, le)))) (all_of_them n (omega (arith, le)))
 
 -- The memories that are read from a program.
-module _ (program : ProgramTree) (main : Identifier) (well : AreWell program) (named_main : IsNode program main) (flows : List FlatFlow) (memories : List FlatMemory) (inputs : List FlatInput) (variables : List Bit) (assertions : List FlatExpr)
+module _ (program : ProgramTree) (main : Identifier) (well : AreWell program) (named_main : IsNode program main) (flows : List FlatFlow)
+    (memories : List FlatMemory) (inputs : List FlatInput) (variables : List Bit) (assertions : List FlatExpr)
     (read : IsRead program main flows memories inputs variables assertions) where
   below : (k : ℕ) → nat_lt k (length memories) ≡ true → k < length memories
   below k e = grind (arith, nat_tests, e)
@@ -289,7 +297,8 @@ module _ (program : ProgramTree) (main : Identifier) (well : AreWell program) (n
   size_at k = sized k (nat_lt k (length memories)) refl
 
   -- it is that of each `pre` and `current` at its place
-  size_is : (k : ℕ) (i : Instance) (d : Delay) → k < length memories → IsInstance program main i → Contains (node_delays i.node) d → slice_index_or (memory_places_of memories) k [] ≡ delay_place i d
+  size_is : (k : ℕ) (i : Instance) (d : Delay) → k < length memories → IsInstance program main i → Contains (node_delays i.node) d
+      → slice_index_or (memory_places_of memories) k [] ≡ delay_place i d
       → size_at k ≡ tree_size d.operand
   size_is k i d lt is w at = by (nat_lt k (length memories)) refl
     where
@@ -299,24 +308,29 @@ module _ (program : ProgramTree) (main : Identifier) (well : AreWell program) (n
       by : (b : Bool) (e : nat_lt k (length memories) ≡ b) → sized k b e ≡ tree_size d.operand
       by true e =
           let r = read.memory k (below k e) in
-          one_of_place program main well named_main ℕ (λ i d. tree_size d.operand) (λ i x. 1) (λ i d x is. ap tree_size is.2) r.0 i r.1 d r.2 is r.3 w (sym r.4 ∙ at)
+          one_of_place program main well named_main ℕ (λ i d. tree_size d.operand) (λ i x. 1) (λ i d x is. ap tree_size is.2) r.0 i r.1 d r.2 is r.3 w
+          (sym r.4 ∙ at)
       by false e = absurd (there k (length memories) lt e)
 
   -- each has a memory, with the number of its place
   pub number_there : (i : Instance) (d : Delay) → IsInstance program main i → Contains (node_delays i.node) d
-      → (index_of (memory_places_of memories) (delay_place i d) < length memories) × (slice_index_or (memory_places_of memories) (index_of (memory_places_of memories) (delay_place i d)) [] ≡ delay_place i d)
+      → (index_of (memory_places_of memories) (delay_place i d) < length memories)
+      × (slice_index_or (memory_places_of memories) (index_of (memory_places_of memories) (delay_place i d)) [] ≡ delay_place i d)
   number_there i d is w =
       let q : Sites = delay_place i d in
-      let there : Contains (memory_places_of memories) q = subst (λ l. Contains l q) (map-map (λ m. m.place) memory_of memories) (in_map (λ m. m.place) (map memory_of memories) (memory_at program i d) (read.list.all i d is tt w)) in
+      let there : Contains (memory_places_of memories) q = subst (λ l. Contains l q) (map-map (λ m. m.place) memory_of memories)
+      (in_map (λ m. m.place) (map memory_of memories) (memory_at program i d) (read.list.all i d is tt w)) in
       let at = index_at (memory_places_of memories) q (is_found (memory_places_of memories) q there) in
       let many = length-map memories (λ m. m.place.sites) in
       (let less = at.0 in omega (arith, less, many), at.1)
 
-  shows_smaller : (k : ℕ) (m : FlatMemory) → slice_get memories k ≡ Some m → (has : ℕ → Bool) → ((j : ℕ) → j < length memories → size_at j < size_at k → has j ≡ true) → all_shown has (raw_tree m.body) ≡ true
+  shows_smaller : (k : ℕ) (m : FlatMemory) → slice_get memories k ≡ Some m → (has : ℕ → Bool)
+      → ((j : ℕ) → j < length memories → size_at j < size_at k → has j ≡ true) → all_shown has (raw_tree m.body) ≡ true
   shows_smaller k m e has smaller_have =
       let lt = slice_get_within memories k m e in
       let r = read.memory k lt in
-      let at : slice_index_or (map raw_memory memories) k no_raw ≡ raw_memory m = get_or-map raw_memory memories k m no_raw lt ∙ ap raw_memory (get_or_from_slice_get memories k m m e) in
+      let at : slice_index_or (map raw_memory memories) k no_raw ≡ raw_memory m = get_or-map raw_memory memories k m no_raw lt
+      ∙ ap raw_memory (get_or_from_slice_get memories k m m e) in
       let body : raw_tree m.body ≡ raw_of program (numbers_of flows memories variables) r.0 r.1.operand = ap (λ (x : RawItem). x.body) (sym at ∙ r.5) in
       subst (λ t. all_shown has t ≡ true) (sym body)
       (shown has program (numbers_of flows memories variables) r.0 r.1.operand (λ d w.

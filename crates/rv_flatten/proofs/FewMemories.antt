@@ -1,8 +1,10 @@
 -- A program that is accepted has few memories: no more than expressions in all its instances.
-use Rattle.std.proofs.Common.{◌≡◌, inl, inr, ℕ, zero, suc, ◌+◌, ◌<◌, ◌≤◌, List, [], ◌∷◌, ◌++◌, map, flat_map, length, get_or, refl, sym, ◌∙◌, ap, subst, arith, Option, length-append}
+use Rattle.std.proofs.Common.{◌≡◌, inl, inr, ℕ, zero, suc, ◌+◌, ◌<◌, ◌≤◌, List, [], ◌∷◌, ◌++◌, map, flat_map, length, get_or, refl, sym, ◌∙◌, ap, subst, arith}
+use Rattle.std.proofs.Common.{Option, length-append}
 use Rattle.std.proofs.lemmas.List.{length-map}
 use Rattle.std.specs.List.{Contains}
-use Rattle.rv_tree.specs.Tree.{Tree, Node, Form, True, False, Number, Named, Not, Minus, Pre, Current, When, Binary, If, AtMostOne, Call, Trees, None, More, EquationTree, AssertionTree, NodeTree, ProgramTree}
+use Rattle.rv_tree.specs.Tree.{Tree, Node, Form, True, False, Number, Named, Not, Minus, Pre, Current, When, Binary, If, AtMostOne, Call, Trees, None, More}
+use Rattle.rv_tree.specs.Tree.{EquationTree, AssertionTree, NodeTree, ProgramTree}
 use Rattle.rv_tree.specs.Places.{Identifier, Sites}
 use Rattle.rv_tree.specs.Delays.{delays, form_delays, delays_of_all, delays_in_equations, delays_in_assertions, node_delays}
 use Rattle.rv_types.specs.Instances.{Instance, IsInstance, all_instances}
@@ -138,7 +140,8 @@ places_few (i ∷ is) =
     let l = length-append (map (delay_place i) (node_delays i.node)) (flat_map places_in is) in
     omega (arith, h, m, k, l)
 
-pub few_memories : (p : ProgramTree) (main : Identifier) (ms : List MemoryAt) → ((i : Instance) → IsInstance p main i → Contains (all_instances p main) i) → AreMemories p main IsAny ms
+pub few_memories : (p : ProgramTree) (main : Identifier) (ms : List MemoryAt) → ((i : Instance) → IsInstance p main i → Contains (all_instances p main) i)
+    → AreMemories p main IsAny ms
     → expanded p main ≤ 200000 → length ms ≤ 200000
 unfolding places_in
 few_memories p main ms counted are within =

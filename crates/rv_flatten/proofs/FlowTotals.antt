@@ -1,5 +1,6 @@
 -- Where the flows of instances begin, and how many there are.
-use Rattle.std.proofs.Common.{◌≡◌, inl, inr, ℕ, zero, suc, ◌+◌, ◌*◌, ◌<◌, ◌≤◌, ◌^◌, List, [], ◌∷◌, ◌++◌, length, get_or, slice_get, Some, refl, sym, ◌∙◌, ap, subst, arith, length-append}
+use Rattle.std.proofs.Common.{◌≡◌, inl, inr, ℕ, zero, suc, ◌+◌, ◌*◌, ◌<◌, ◌≤◌, ◌^◌, List, [], ◌∷◌, ◌++◌, length, get_or, slice_get, Some, refl, sym, ◌∙◌, ap}
+use Rattle.std.proofs.Common.{subst, arith, length-append}
 use Rattle.std.proofs.Math.ListN.{get_or-append}
 use Rattle.std.proofs.Math.Nat.{suc-mul}
 use Rattle.std.proofs.Math.Seq.{get_or-append_seam}
@@ -87,15 +88,18 @@ module _ (p : ProgramTree) (main : Identifier) (instances : List Numbered) (know
   pub few_flows : length (all_places p instances) < 2 ^ 32
   few_flows =
       let size = places_size p instances in
-      let few = few_before (flow_count p instances) most (length instances) (λ k lt. node_few p known.bounded (get_or instances k (record { path = []; node = 0 })).node) in
+      let few = few_before (flow_count p instances) most (length instances)
+      (λ k lt. node_few p known.bounded (get_or instances k (record { path = []; node = 0 })).node) in
       let several = known.few in
       omega (arith, size, few, several)
 
   -- the flows of the last instance end where all do
-  pub last_end : (laid : List Laid) (m : ℕ) (l : Laid) (count : ℕ) → suc m ≡ length instances → laid ≡ all_laid p instances (length instances) → slice_get laid m ≡ Some l → count ≡ flow_count p instances m
+  pub last_end : (laid : List Laid) (m : ℕ) (l : Laid) (count : ℕ) → suc m ≡ length instances → laid ≡ all_laid p instances (length instances)
+      → slice_get laid m ≡ Some l → count ≡ flow_count p instances m
       → l.first + count ≡ length (all_places p instances)
   last_end laid m l count next are is many =
       let first : l.first ≡ flows_before (flow_count p instances) m =
       ap (λ (x : Laid). x.first)
-      (sym (get_or_from_slice_get laid m l l is) ∙ ap (λ (ls : List Laid). get_or ls m l) are ∙ laid_is p instances (length instances) m l (omega (arith, next))) in
+      (sym (get_or_from_slice_get laid m l l is) ∙ ap (λ (ls : List Laid). get_or ls m l) are
+      ∙ laid_is p instances (length instances) m l (omega (arith, next))) in
       (λ t. first t + many t) ∙ ap (flows_before (flow_count p instances)) next ∙ sym (places_size p instances)

@@ -16,9 +16,11 @@ use Rattle.rv_flat.proofs.Members.{at_head, in_tail}
 
 pub ticks_numbered : (places : List Sites) (count : ℕ) (ts taken made : List ℕ) → taken ≡ ts
     → ((qs : List Sites) → length qs ≡ count → AreRising qs → AreRising (map (place_at qs) taken) → ((k : ℕ) → Contains taken k → k < count)
-    → (k : ℕ) → k < count → Contains (map (place_at qs) taken) (place_at qs k) → slice_index_or made k 0 ≡ index_of (map (place_at qs) taken) (place_at qs k) + 1)
+    → (k : ℕ) → k < count → Contains (map (place_at qs) taken) (place_at qs k)
+    → slice_index_or made k 0 ≡ index_of (map (place_at qs) taken) (place_at qs k) + 1)
     → count ≡ length places → AreRising places → AreRising (map (place_at places) ts) → ((k : ℕ) → Contains ts k → k < length places)
-    → (k : ℕ) → k < length places → Contains (map (place_at places) ts) (place_at places k) → slice_index_or made k 0 ≡ index_of (map (place_at places) ts) (place_at places k) + 1
+    → (k : ℕ) → k < length places → Contains (map (place_at places) ts) (place_at places k)
+    → slice_index_or made k 0 ≡ index_of (map (place_at places) ts) (place_at places k) + 1
 ticks_numbered places count ts taken made same told many rising up within k lt w =
     subst (λ (l : List ℕ). slice_index_or made k 0 ≡ index_of (map (place_at places) l) (place_at places k) + 1) same
     (told places (sym many) rising
@@ -36,7 +38,8 @@ memories_numbered p main instances ks taken table same told m i d is n w =
     told m i d is n w ∙ ap (λ (l : List Kept). Some (index_of (map (λ (k : Kept). k.place.sites) l) (delay_place i d))) same
 
 -- the numbers of the flows of ticks, as they are looked up
-pub tick_flows_numbered : (places sequence : List Sites) (flows ts : List ℕ) → ((k : ℕ) → k < length places → slice_index_or flows k 0 ≡ index_of sequence (place_at places k))
+pub tick_flows_numbered : (places sequence : List Sites) (flows ts : List ℕ)
+    → ((k : ℕ) → k < length places → slice_index_or flows k 0 ≡ index_of sequence (place_at places k))
     → ((k : ℕ) → Contains ts k → k < length places) → map (λ k. slice_index_or flows k 0) ts ≡ numbers_among sequence (map (place_at places) ts)
 tick_flows_numbered places sequence flows [] are within = refl
 tick_flows_numbered places sequence flows (t ∷ ts) are within =

@@ -1,5 +1,6 @@
 -- The instances of an expanded program by their numbers, and what is found of them, one after the other.
-use Rattle.std.proofs.Common.{◌≡◌, inl, inr, ℕ, zero, suc, ◌+◌, ◌<◌, Bool, true, false, ◌||◌, cond, List, [], ◌∷◌, ◌++◌, map, flat_map, length, get_or, refl, sym, ◌∙◌, ap, subst, arith, unwrap_or, Some, IsSome, length-append}
+use Rattle.std.proofs.Common.{◌≡◌, inl, inr, ℕ, zero, suc, ◌+◌, ◌<◌, Bool, true, false, ◌||◌, cond, List, [], ◌∷◌, ◌++◌, map, flat_map, length, get_or, refl}
+use Rattle.std.proofs.Common.{sym, ◌∙◌, ap, subst, arith, unwrap_or, Some, IsSome, length-append}
 use Rattle.std.proofs.lemmas.Bool.{cases_order}
 use Rattle.std.proofs.lemmas.List.{get_or_default, length-map}
 use Rattle.std.proofs.lemmas.List.Elements.{Contains-append_left, Contains-append_right, Contains-append_cases, Contains-get_or}
@@ -8,7 +9,8 @@ use Rattle.rv_tree.specs.Tree.{NodeTree, ProgramTree}
 use Rattle.rv_tree.specs.Places.{Identifier, is_same, is_among, index_of}
 use Rattle.rv_types.specs.Kinds.{node_among}
 use Rattle.rv_types.specs.Instances.{calls, Instance, no_node, callee, IsInstance, is_main, is_callee, IsNode}
-use Rattle.rv_types.specs.Names.{texts, decls, decl_names, lefts, repeated, repeated_values, node_names, type_names, alias_use, constant_uses, names_in_node, name_faults, undefined_unless, flow_use, clock_use, equation_uses, assertion_uses}
+use Rattle.rv_types.specs.Names.{texts, decls, decl_names, lefts, repeated, repeated_values, node_names, type_names, alias_use, constant_uses, names_in_node}
+use Rattle.rv_types.specs.Names.{name_faults, undefined_unless, flow_use, clock_use, equation_uses, assertion_uses}
 use Rattle.rv_types.specs.Needs.{IsBefore}
 use Rattle.rv_types.specs.Settled.{node_number}
 use Rattle.rv_instances.specs.declared.answer.Instance.{Instance as Numbered}
@@ -106,20 +108,24 @@ some_among : (ns : List NodeTree) (f : Identifier) → is_among (texts (map (λ 
 some_among [] f h = no_flag h
 some_among (n ∷ ns) f h = tested (is_same n.name.text f) h (some_among ns f)
   where
-    tested : (b : Bool) → (b || is_among (texts (map (λ (n : NodeTree). n.name) ns)) f) ≡ true → (is_among (texts (map (λ (n : NodeTree). n.name) ns)) f ≡ true → IsSome (node_among ns f)) → IsSome (cond b (Some n) (node_among ns f))
+    tested : (b : Bool) → (b || is_among (texts (map (λ (n : NodeTree). n.name) ns)) f) ≡ true
+        → (is_among (texts (map (λ (n : NodeTree). n.name) ns)) f ≡ true → IsSome (node_among ns f)) → IsSome (cond b (Some n) (node_among ns f))
     tested true h again = refl
     tested false h again = again h
 
 -- the first node of a name has the name, and its number
 first_named : (ns : List NodeTree) (f : Identifier) → IsSome (node_among ns f)
-    → ((unwrap_or (node_among ns f) no_node).name.text ≡ f) × (get_or ns (index_of (texts (map (λ (n : NodeTree). n.name) ns)) f) no_node ≡ unwrap_or (node_among ns f) no_node)
+    → ((unwrap_or (node_among ns f) no_node).name.text ≡ f) × (get_or ns (index_of (texts (map (λ (n : NodeTree). n.name) ns)) f) no_node ≡ unwrap_or
+    (node_among ns f) no_node)
 first_named [] f h = no_flag h
 first_named (n ∷ ns) f h = tested (is_same n.name.text f) refl h (first_named ns f)
   where
     tested : (b : Bool) → is_same n.name.text f ≡ b → IsSome (cond b (Some n) (node_among ns f))
-        → (IsSome (node_among ns f) → ((unwrap_or (node_among ns f) no_node).name.text ≡ f) × (get_or ns (index_of (texts (map (λ (n : NodeTree). n.name) ns)) f) no_node ≡ unwrap_or (node_among ns f) no_node))
+        → (IsSome (node_among ns f) → ((unwrap_or (node_among ns f) no_node).name.text ≡ f)
+        × (get_or ns (index_of (texts (map (λ (n : NodeTree). n.name) ns)) f) no_node ≡ unwrap_or (node_among ns f) no_node))
         → ((unwrap_or (cond b (Some n) (node_among ns f)) no_node).name.text ≡ f)
-        × (get_or (n ∷ ns) (cond b 0 (index_of (texts (map (λ (n : NodeTree). n.name) ns)) f + 1)) no_node ≡ unwrap_or (cond b (Some n) (node_among ns f)) no_node)
+        × (get_or (n ∷ ns) (cond b 0 (index_of (texts (map (λ (n : NodeTree). n.name) ns)) f + 1)) no_node ≡ unwrap_or (cond b (Some n) (node_among ns f))
+        no_node)
     tested true is h again = (same_text n.name.text f is, refl)
     tested false is h again =
         let r = again h in
@@ -151,7 +157,8 @@ module _ (p : ProgramTree) (main : Identifier) (instances : List Numbered) (know
     | inl same ↦ same
     | inr other ↦ elim other [
       | inl before ↦ absurd (not_itself (path_at instances k) (subst (λ q. IsBefore q (path_at instances k)) e (known.all.rising m k no_instance before less)))
-      | inr after ↦ absurd (not_itself (path_at instances m) (subst (λ q. IsBefore q (path_at instances m)) (sym e) (known.all.rising k m no_instance after lt)))
+      | inr after ↦ absurd (not_itself (path_at instances m) (subst (λ q. IsBefore q (path_at instances m)) (sym e)
+          (known.all.rising k m no_instance after lt)))
     ]
   ]
 

@@ -1,5 +1,6 @@
 -- The item of a flow of an instance is on the clock of the flow.
-use Rattle.std.proofs.Common.{◌≡◌, ℕ, zero, suc, ◌+◌, ◌<◌, List, [], ◌∷◌, ◌++◌, map, length, get_or, slice_get, refl, sym, ◌∙◌, ap, subst, arith, append_assoc, length-append, Some}
+use Rattle.std.proofs.Common.{◌≡◌, ℕ, zero, suc, ◌+◌, ◌<◌, List, [], ◌∷◌, ◌++◌, map, length, get_or, slice_get, refl, sym, ◌∙◌, ap, subst, arith, append_assoc}
+use Rattle.std.proofs.Common.{length-append, Some}
 use Rattle.std.proofs.lemmas.List.{length-map, get_or_default, get_or_append_left}
 use Rattle.std.proofs.lemmas.Option.{slice_get_within}
 use Rattle.std.specs.List.{Contains}
@@ -10,7 +11,8 @@ use Rattle.rv_types.specs.declared.typed.Kind.{Kind}
 use Rattle.rv_types.specs.declared.typed.Clock.TheVariants.{Base}
 use Rattle.rv_types.specs.Clocks.{base_clock, declared_clock, clock_at, pace}
 use Rattle.rv_types.specs.Kinds.{kind_in_program, decl_kinds}
-use Rattle.rv_types.specs.Instances.{CallTree, calls, Body, Output, Instance, absolute, clock_of, clock_of_arguments, callee, main_instance, node_of, output_place, IsInstance, is_main, is_callee, IsFlow, IsNode}
+use Rattle.rv_types.specs.Instances.{CallTree, calls, Body, Output, Instance, absolute, clock_of, clock_of_arguments, callee, main_instance, node_of}
+use Rattle.rv_types.specs.Instances.{output_place, IsInstance, is_main, is_callee, IsFlow, IsNode}
 use Rattle.rv_types.specs.Needs.{Giver, Gives, given, by_equation, by_call}
 use Rattle.rv_types.specs.WellFormed.{AreWell}
 use Rattle.rv_agreement.specs.Trees.{System, nth_item}
@@ -33,7 +35,8 @@ base_at n m lt =
     let long = length-append (map base_clock n.inputs) (map base_clock n.outputs) in
     let a = length-map n.inputs base_clock in
     let b = length-map n.outputs base_clock in
-    get_or_append_left (map base_clock n.inputs ++ map base_clock n.outputs) (map (λ (d : Decl). declared_clock n d.clock) n.locals) Base m (omega (arith, lt, long, a, b))
+    get_or_append_left (map base_clock n.inputs ++ map base_clock n.outputs) (map (λ (d : Decl). declared_clock n d.clock) n.locals) Base m
+    (omega (arith, lt, long, a, b))
     ∙ all_base n.inputs n.outputs m
 
 -- they are flows
@@ -78,7 +81,8 @@ module _ (program : ProgramTree) (main : Identifier) (well : AreWell program) (n
     giver_clock q _ i m (by_equation a x (Body e) inst right at) of is =
         let r = snoc a.path i.path (site_of a.node x) m (at ∙ is) in
         let one = same_instance a i inst of r.0 in
-        ap (λ c. clock_number numbers (absolute a c)) (suits_taken (clock_of a.node x) (pace a.node e) ((formed program main well named a inst).body_clock x e right))
+        ap (λ c. clock_number numbers (absolute a c)) (suits_taken (clock_of a.node x) (pace a.node e)
+        ((formed program main well named a inst).body_clock x e right))
         ∙ (λ t. clock_number numbers (absolute (one t) (clock_at (one t).node (r.1 t))))
     giver_clock q _ i m (by_equation a x (Output c j) inst right at) of is =
         let r = snoc a.path i.path (site_of a.node x) m (at ∙ is) in
@@ -89,7 +93,8 @@ module _ (program : ProgramTree) (main : Identifier) (well : AreWell program) (n
         let below = (formed program main well named a inst).no_more c j e called arg in
         let r = snoc (a.path ++ c.site ∷ []) i.path j m (append_assoc a.path (c.site ∷ []) (j ∷ []) ∙ at ∙ is) in
         let one = same_instance (callee program a c) i (is_callee c inst called) of r.0 in
-        ap (λ k. clock_number numbers (absolute a k)) (suits_taken (clock_of_arguments a c.args) (pace a.node e) ((formed program main well named a inst).argument_clock c j e called arg))
+        ap (λ k. clock_number numbers (absolute a k)) (suits_taken (clock_of_arguments a c.args) (pace a.node e)
+        ((formed program main well named a inst).argument_clock c j e called arg))
         ∙ sym (ap (λ k. clock_number numbers (absolute (callee program a c) k)) (base_at (node_of program c.name) j (omega (arith, below))))
         ∙ (λ t. clock_number numbers (absolute (one t) (clock_at (one t).node (r.1 t))))
 
@@ -117,7 +122,8 @@ module _ (program : ProgramTree) (main : Identifier) (well : AreWell program) (n
       clock_is i x of w = item_clock i (site_of i.node x) of (index_at (flows_of i.node) x (is_found (flows_of i.node) x w)).0
 
       -- An output of a call is on the clock of the arguments.
-      pub output_clock : (i : Instance) (c : CallTree) (j : ℕ) (k : Kind) → IsInstance program main i → Contains (calls i.node) c → slice_get (decl_kinds program (node_of program c.name).outputs) j ≡ Some k
+      pub output_clock : (i : Instance) (c : CallTree) (j : ℕ) (k : Kind) → IsInstance program main i → Contains (calls i.node) c
+          → slice_get (decl_kinds program (node_of program c.name).outputs) j ≡ Some k
           → (nth_item s.flows (number (output_place program i c.site c.name j))).clock ≡ clock_number numbers (absolute i (clock_of_arguments i c.args))
       output_clock i c j k of called e =
           let n = node_of program c.name in

@@ -4,7 +4,8 @@ use Rattle.std.specs.Prelude.{slice_index_or}
 use Rattle.std.proofs.lemmas.List.{append_assoc, map-append}
 use Rattle.rv_tree.specs.Delays.{Delay, delays, form_delays, delays_of_all, delays_in_equations, delays_in_assertions, node_delays}
 use Rattle.rv_tree.specs.Places.{memory_site}
-use Rattle.rv_tree.specs.Tree.{Tree, Node, Form, True, False, Number, Named, Not, Minus, Pre, Current, When, Binary, If, AtMostOne, Call, Trees, None, More, EquationTree, AssertionTree, NodeTree}
+use Rattle.rv_tree.specs.Tree.{Tree, Node, Form, True, False, Number, Named, Not, Minus, Pre, Current, When, Binary, If, AtMostOne, Call, Trees, None, More}
+use Rattle.rv_tree.specs.Tree.{EquationTree, AssertionTree, NodeTree}
 use Rattle.rv_types.specs.declared.typed.Clock.{Clock}
 use Rattle.rv_types.specs.declared.typed.Clock.TheVariants.{Base}
 use Rattle.rv_types.specs.declared.typed.Kind.{Kind}
@@ -53,15 +54,18 @@ module _ (n : NodeTree) where
 
   in_equations : (qs : List EquationTree) → flat_map (λ (q : EquationTree). delayed_in n q.right) qs ≡ delayed_clocks n (delays_in_equations qs)
   in_equations [] = refl
-  in_equations (q ∷ qs) = both (delays q.right) (delays_in_equations qs) (delayed_in n q.right) (flat_map (λ (q : EquationTree). delayed_in n q.right) qs) (in_expression q.right) (in_equations qs)
+  in_equations (q ∷ qs) = both (delays q.right) (delays_in_equations qs) (delayed_in n q.right) (flat_map (λ (q : EquationTree). delayed_in n q.right) qs)
+      (in_expression q.right) (in_equations qs)
 
   in_assertions : (qs : List AssertionTree) → flat_map (λ (a : AssertionTree). delayed_in n a.body) qs ≡ delayed_clocks n (delays_in_assertions qs)
   in_assertions [] = refl
-  in_assertions (a ∷ rest) = both (delays a.body) (delays_in_assertions rest) (delayed_in n a.body) (flat_map (λ (a : AssertionTree). delayed_in n a.body) rest) (in_expression a.body) (in_assertions rest)
+  in_assertions (a ∷ rest) = both (delays a.body) (delays_in_assertions rest) (delayed_in n a.body) (flat_map (λ (a : AssertionTree). delayed_in n a.body) rest)
+      (in_expression a.body) (in_assertions rest)
 
   pub in_node : node_delayed n ≡ delayed_clocks n (node_delays n)
   in_node =
-      both (delays_in_equations n.equations) (delays_in_assertions n.assertions) (flat_map (λ (q : EquationTree). delayed_in n q.right) n.equations) (flat_map (λ (a : AssertionTree). delayed_in n a.body) n.assertions)
+      both (delays_in_equations n.equations) (delays_in_assertions n.assertions) (flat_map (λ (q : EquationTree). delayed_in n q.right) n.equations)
+      (flat_map (λ (a : AssertionTree). delayed_in n a.body) n.assertions)
       (in_equations n.equations) (in_assertions n.assertions)
 
 here : {X : Type 0} (xs : List X) (x : X) (ys : List X) (other : X) → slice_index_or (xs ++ x ∷ ys) (length xs) other ≡ x
@@ -80,7 +84,8 @@ joined_from n s ks cs (d ∷ ds) same =
     let longer : length (ks ++ k ∷ []) ≡ length (cs ++ c ∷ []) =
     length-append ks (k ∷ []) ∙ (λ i. same i + 1) ∙ sym (length-append cs (c ∷ [])) in
     let on : joined (ks ++ k ∷ delayed_kinds s ds) (cs ++ c ∷ delayed_clocks n ds) (length ks + 1) (delayed n ds) ≡ reads n s ds =
-    (λ i. joined (sym (append_assoc ks (k ∷ []) (delayed_kinds s ds)) i) (sym (append_assoc cs (c ∷ []) (delayed_clocks n ds)) i) (sym (length-append ks (k ∷ [])) i) (delayed n ds))
+    (λ i. joined (sym (append_assoc ks (k ∷ []) (delayed_kinds s ds)) i) (sym (append_assoc cs (c ∷ []) (delayed_clocks n ds)) i)
+    (sym (length-append ks (k ∷ [])) i) (delayed n ds))
     ∙ joined_from n s (ks ++ k ∷ []) (cs ++ c ∷ []) ds longer in
     λ i. record { site = memory_site n d.site d.operand; kind = kind_here i; clock = clock_here i; operand = d.operand } ∷ on i
 

@@ -41,7 +41,8 @@ module _ (p : ProgramTree) (main : Identifier) (instances : List Numbered) (know
       → delay_place i d ≡ delay_place j e → memory_at p i d ≡ memory_at p j e
   one_memory i j d e a b w v same =
       let kind =
-      one_of_place p main known.well (is_node p main instances known) Kind (λ i d. operand_kind p i.node d.operand) (λ i x. operand_kind p i.node (Node 0 Nothing (Named x))) (λ i d x is. ap (operand_kind p i.node) is.2)
+      one_of_place p main known.well (is_node p main instances known) Kind (λ i d. operand_kind p i.node d.operand)
+      (λ i x. operand_kind p i.node (Node 0 Nothing (Named x))) (λ i d x is. ap (operand_kind p i.node) is.2)
       i j d e a b w v same in
       λ k. record { place = same k; kind = kind k }
 
@@ -75,7 +76,8 @@ module _ (p : ProgramTree) (main : Identifier) (instances : List Numbered) (know
           seen = subst (λ m. kept_at b.0.path m (read_by b.0.node (node_scope p b.0.node) d.0) ≡ kept_seen k) m same;
         }
 
-    all_seen : (i : Instance) (d : Delay) → IsInstance p main i → Contains (node_delays i.node) d → (k : Kept) × Contains found k × (k.place.sites ≡ delay_place i d)
+    all_seen : (i : Instance) (d : Delay) → IsInstance p main i → Contains (node_delays i.node) d
+        → (k : Kept) × Contains found k × (k.place.sites ≡ delay_place i d)
     all_seen i d inst w =
         let n = number_at p main instances known i inst in
         let r = read_by i.node (node_scope p i.node) d in
@@ -103,7 +105,8 @@ module _ (p : ProgramTree) (main : Identifier) (instances : List Numbered) (know
               let y = up.all a.0 a.1 in
               let s = seen_of y.0 y.1 in
               let at : delay_place s.i s.d ≡ delay_place i d = ap (λ (x : KeptAt). x.place) s.seen ∙ y.2 ∙ a.2 in
-              subst (λ (m : MemoryAt). Contains (map kept_memory ks) m) (memory_is y.0 s ∙ one_memory s.i i s.d d s.is inst s.there w at) (in_map kept_memory ks y.0 y.1);
+              subst (λ (m : MemoryAt). Contains (map kept_memory ks) m) (memory_is y.0 s ∙ one_memory s.i i s.d d s.is inst s.there w at)
+              (in_map kept_memory ks y.0 y.1);
           only = λ m w.
               let y = of_map kept_memory ks m w in
               let s = seen_of y.0 y.1 in

@@ -6,7 +6,8 @@ use Rattle.std.specs.List.{Contains}
 use Rattle.rv_flat.proofs.Members.{none_in, head_or_tail}
 
 -- what holds for the elements of a list and for one more holds for all of them
-pub and_one_more : {X : Type 0} (P : X → Type 0) (xs new : List X) (y : X) → new ≡ xs ++ y ∷ [] → ((x : X) → Contains xs x → P x) → P y → (x : X) → Contains new x → P x
+pub and_one_more : {X : Type 0} (P : X → Type 0) (xs new : List X) (y : X) → new ≡ xs ++ y ∷ [] → ((x : X) → Contains xs x → P x) → P y → (x : X)
+    → Contains new x → P x
 and_one_more P xs new y grown so_far found x w = elim (Contains-append_cases xs (y ∷ []) x (subst (λ l. Contains l x) grown w)) [
   | inl before ↦ so_far x before
   | inr last ↦ elim (head_or_tail y [] x last) [

@@ -1,5 +1,6 @@
 -- The enumerations that types name are declared, and values of types fit the labels of a flat system.
-use Rattle.std.proofs.Common.{◌≡◌, ℕ, zero, suc, ◌+◌, ◌<◌, Bool, true, false, ◌||◌, cond, nat_lt, List, [], ◌∷◌, map, length, reverse, get_or, slice_get, refl, sym, ◌∙◌, ap, subst, arith, unwrap_or, Option, Some}
+use Rattle.std.proofs.Common.{◌≡◌, ℕ, zero, suc, ◌+◌, ◌<◌, Bool, true, false, ◌||◌, cond, nat_lt, List, [], ◌∷◌, map, length, reverse, get_or, slice_get, refl}
+use Rattle.std.proofs.Common.{sym, ◌∙◌, ap, subst, arith, unwrap_or, Option, Some}
 use Rattle.std.proofs.Common.{None as Nothing}
 use Rattle.std.proofs.lemmas.Bool.Decides.{nat_tests}
 use Rattle.std.proofs.lemmas.Bool.{eq-eqb}
@@ -28,7 +29,8 @@ use Rattle.rv_types.specs.Scopes.{value_kind, constant_kind, constant_value}
 use Rattle.rv_types.specs.Values.{HasKind, labels_at}
 use Rattle.rv_types.specs.WellFormed.{AreWell}
 use Rattle.rv_agreement.specs.Checks.{enumerations, all_kinds, any_of, constant_fits}
-use Rattle.rv_flat.proofs.TypedParts.{met_kind, IsTyped, minus_typed, not_typed, pre_typed, current_typed, when_typed, binary_typed, if_typed, most_typed, call_typed}
+use Rattle.rv_flat.proofs.TypedParts.{met_kind, IsTyped, minus_typed, not_typed, pre_typed, current_typed, when_typed, binary_typed, if_typed, most_typed}
+use Rattle.rv_flat.proofs.TypedParts.{call_typed}
 use Rattle.rv_flatten.proofs.FlowKinds.{signature_is}
 
 -- a type is one of so many enumerations, or a Boolean or an integer
@@ -43,7 +45,8 @@ more_below n kind.Int h = tt
 more_below n (kind.Labels i) h = omega (arith, h)
 
 -- where every type that is named is below, what is written is
-written_below : (n : ℕ) (named : Identifier → Option Kind) → ((t : Identifier) (k : Kind) → named t ≡ Some k → IsBelow n k) → (t : TypeName) → IsBelow n (written_kind named t)
+written_below : (n : ℕ) (named : Identifier → Option Kind) → ((t : Identifier) (k : Kind) → named t ≡ Some k → IsBelow n k) → (t : TypeName)
+    → IsBelow n (written_kind named t)
 written_below n named each written.Bool = tt
 written_below n named each written.Int = tt
 written_below n named each (written.Named t) = by (named t.text) refl
@@ -52,7 +55,8 @@ written_below n named each (written.Named t) = by (named t.text) refl
     by Nothing e = tt
     by (Some k) e = each t.text k e
 
-declared_below : (n : ℕ) (named : Identifier → Option Kind) → ((t : Identifier) (k : Kind) → named t ≡ Some k → IsBelow n k) → (b : TypeBody) → IsBelow (suc n) (declared_kind named n b)
+declared_below : (n : ℕ) (named : Identifier → Option Kind) → ((t : Identifier) (k : Kind) → named t ≡ Some k → IsBelow n k) → (b : TypeBody)
+    → IsBelow (suc n) (declared_kind named n b)
 declared_below n named each (body.Alias t) = more_below n (written_kind named t) (written_below n named each t)
 declared_below n named each (body.Labels xs) = omega arith
 
@@ -142,7 +146,8 @@ module _ (program : ProgramTree) where
       form_declared at site (Pre e) k t = kind_declared e k (pre_typed program n at site e k t)
       form_declared at site (Current e) k t = kind_declared e k (current_typed program n at site e k t)
       form_declared at site (When e c) k t = kind_declared e k (when_typed program n at site e c k t).0
-      form_declared at site (Binary o a b) k t = let r = binary_typed program n at site o a b k t in of_rule _ o r.left r.right k (kind_declared a r.left r.left_is) r.rule
+      form_declared at site (Binary o a b) k t = let r = binary_typed program n at site o a b k t in
+          of_rule _ o r.left r.right k (kind_declared a r.left r.left_is) r.rule
       form_declared at site (If a b c) k t = kind_declared b k (if_typed program n at site a b c k t).1
       form_declared at site (AtMostOne es) k t = subst IsDeclared (most_typed program n at site es k t).1 tt
       form_declared at site (Call f es) k t =
@@ -163,7 +168,8 @@ among_enumerations test zero (suc n) from lt e =
     ap (λ b. b || any_of test (enumerations (from + 1) n)) (sym (ap (λ m. test (kind.Labels m)) same) ∙ e)
 among_enumerations test (suc i) (suc n) from lt e =
     let same : from + suc i ≡ (from + 1) + i = omega arith in
-    ap (λ b. test (kind.Labels from) || b) (among_enumerations test i n (from + 1) (omega (arith, lt)) (sym (ap (λ m. test (kind.Labels m)) same) ∙ e)) ∙ or_true (test (kind.Labels from))
+    ap (λ b. test (kind.Labels from) || b) (among_enumerations test i n (from + 1) (omega (arith, lt)) (sym (ap (λ m. test (kind.Labels m)) same) ∙ e))
+    ∙ or_true (test (kind.Labels from))
   where
     or_true : (b : Bool) → (b || true) ≡ true
     or_true true = refl
@@ -192,7 +198,8 @@ label_counted [] i = refl
 label_counted (d ∷ ds) zero = sym (length-map (labels_of d) _)
 label_counted (d ∷ ds) (suc i) = label_counted ds i
 
-pub value_fits : (program : ProgramTree) (k : Kind) (v : Value) → HasKind program k v → constant_fits (map (λ ls. length ls) (map (λ d. texts (labels_of d)) program.types)) k v ≡ true
+pub value_fits : (program : ProgramTree) (k : Kind) (v : Value) → HasKind program k v
+    → constant_fits (map (λ ls. length ls) (map (λ d. texts (labels_of d)) program.types)) k v ≡ true
 value_fits program kind.Bool (Flag b) h = refl
 value_fits program kind.Bool (Label l) h = absurd h
 value_fits program kind.Bool (Whole z) h = absurd h

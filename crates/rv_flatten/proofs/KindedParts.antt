@@ -14,12 +14,14 @@ use Rattle.rv_flatten.specs.Kinded.{IsKinded}
 use Rattle.rv_flatten.specs.Readings.{numbers_of, AreKinds}
 use Rattle.rv_flat.specs.Systems.{flow_item, memory_item, kept_of, memory_places_of, system_from}
 
-module _ (flows : List FlatFlow) (memories : List FlatMemory) (inputs : List FlatInput) (assertions : List FlatExpr) (variables : List Bit) (labels : List (List (List ℕ))) (observer : ℕ) where
+module _ (flows : List FlatFlow) (memories : List FlatMemory) (inputs : List FlatInput) (assertions : List FlatExpr) (variables : List Bit)
+    (labels : List (List (List ℕ))) (observer : ℕ) where
   abbrev together : System
   together = system_from flows memories inputs assertions variables labels observer
 
   -- Flows and inputs have the types of the program.
-  pub are_kinded : (program : ProgramTree) (main : Identifier) → AreKinds program main flows inputs labels → IsKinded program main (numbers_of flows memories variables) together
+  pub are_kinded : (program : ProgramTree) (main : Identifier) → AreKinds program main flows inputs labels
+      → IsKinded program main (numbers_of flows memories variables) together
   are_kinded program main types =
       let kinds = length-map flows (λ (g : FlatFlow). g.kind) in
       let items = length-map flows (flow_item memories) in

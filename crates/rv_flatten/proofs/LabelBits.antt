@@ -1,5 +1,6 @@
 -- How many codes some bits tell apart, and the labels of an enumeration.
-use Rattle.std.proofs.Common.{◌≡◌, ℕ, zero, suc, ◌+◌, ◌-◌, ◌*◌, ◌^◌, ◌<◌, ◌≤◌, cond, List, [], ◌∷◌, ◌++◌, length, length-append, get_or, refl, sym, ◌∙◌, ap, arith}
+use Rattle.std.proofs.Common.{◌≡◌, ℕ, zero, suc, ◌+◌, ◌-◌, ◌*◌, ◌^◌, ◌<◌, ◌≤◌, cond, List, [], ◌∷◌, ◌++◌, length, length-append, get_or, refl, sym, ◌∙◌, ap}
+use Rattle.std.proofs.Common.{arith}
 use Rattle.std.proofs.Math.Nat.{pow-suc}
 use Rattle.std.proofs.lemmas.Bool.{le-leb, lt-leb}
 use Rattle.std.proofs.lemmas.List.{length-map}
@@ -48,7 +49,8 @@ labels_of_body d (Labels xs) is each = let few = each xs is in rw is (omega (ari
 labels_few : (ds : List TypeDecl) → ((d : TypeDecl) (xs : List Name) → Contains ds d → d.body ≡ Labels xs → length xs ≤ most) → (k : ℕ) → labels_at ds k ≤ most
 labels_few [] each k = omega arith
 labels_few (d ∷ ds) each zero = labels_of_body d d.body refl (λ xs is. each d xs (0, omega arith, refl) is)
-labels_few (d ∷ ds) each (suc k) = labels_few ds (λ e xs w is. each e xs (w.0 + 1, (let lt = w.1 in omega (arith, lt)), ap (λ j. get_or (d ∷ ds) j e) (let h : w.0 + 1 ≡ suc w.0 = omega arith in h) ∙ w.2) is) k
+labels_few (d ∷ ds) each (suc k) = labels_few ds (λ e xs w is. each e xs
+    (w.0 + 1, (let lt = w.1 in omega (arith, lt)), ap (λ j. get_or (d ∷ ds) j e) (let h : w.0 + 1 ≡ suc w.0 = omega arith in h) ∙ w.2) is) k
 
 -- no type has more labels than a source has bytes
 pub few_labels : (p : ProgramTree) → IsBounded p → (k : ℕ) → labels_at p.types k ≤ most

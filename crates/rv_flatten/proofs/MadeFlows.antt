@@ -1,5 +1,6 @@
 -- The flows of a flat system as they are made.
-use Rattle.std.proofs.Common.{◌≡◌, ◌⊎◌, inl, inr, ℕ, zero, suc, ◌+◌, ◌<◌, List, [], ◌∷◌, ◌++◌, map, length, Some, unwrap_or, slice_get, slice_index_or, refl, sym, ◌∙◌, ap, subst, arith}
+use Rattle.std.proofs.Common.{◌≡◌, ◌⊎◌, inl, inr, ℕ, zero, suc, ◌+◌, ◌<◌, List, [], ◌∷◌, ◌++◌, map, length, Some, unwrap_or, slice_get, slice_index_or, refl}
+use Rattle.std.proofs.Common.{sym, ◌∙◌, ap, subst, arith}
 use Rattle.std.proofs.lemmas.List.{length-append, length-map}
 use Rattle.std.proofs.lemmas.Option.{none-some, slice_get_within, slice_get-map, get_or_from_slice_get, slice_get-get_or}
 use Rattle.std.specs.Option.{option_map}
@@ -46,12 +47,14 @@ module _ (p : ProgramTree) (main : Identifier) (numbers : Numbers) (sequence : L
   pub none_made : (fs : List FlatFlow) → fs ≡ [] → AreMadeTo p main numbers sequence 0 fs
   none_made fs e = subst (AreMadeTo p main numbers sequence 0) (sym e) (record { many = refl; each = λ k f is. absurd (none-some f is) })
 
-  pub one_made : (n : ℕ) (fs more : List FlatFlow) (f : FlatFlow) → AreMadeTo p main numbers sequence n fs → more ≡ fs ++ f ∷ [] → IsMade p main numbers (slice_index_or sequence n []) f → AreMadeTo p main numbers sequence (n + 1) more
+  pub one_made : (n : ℕ) (fs more : List FlatFlow) (f : FlatFlow) → AreMadeTo p main numbers sequence n fs → more ≡ fs ++ f ∷ []
+      → IsMade p main numbers (slice_index_or sequence n []) f → AreMadeTo p main numbers sequence (n + 1) more
   one_made n fs more f are e is = subst (AreMadeTo p main numbers sequence (n + 1)) (sym e) (record {
     many = let had = are.many in let size : length (fs ++ f ∷ []) ≡ length fs + 1 = simp (length-append) in omega (arith, had, size);
     each = λ k g at. elim (snoc_get fs f g k at) [
       | inl there ↦ are.each k g there
-      | inr last ↦ subst (IsMade p main numbers (slice_index_or sequence k [])) last.1 (subst (λ j. IsMade p main numbers (slice_index_or sequence j []) f) (sym (last.0 ∙ are.many)) is)
+      | inr last ↦ subst (IsMade p main numbers (slice_index_or sequence k [])) last.1
+          (subst (λ j. IsMade p main numbers (slice_index_or sequence j []) f) (sym (last.0 ∙ are.many)) is)
     ];
   })
 
@@ -70,7 +73,8 @@ module _ (g : Given) (given : IsGiven g) where
   instances = g.expanded.now.instances.now
 
   -- what gives the flow with a number
-  pub its_giver : (k : ℕ) (told : Told) → slice_get g.givers.now k ≡ Some told → (f : Giver) × Gives p main (place_at (all_places p instances) k) f × StandsFor p instances told f
+  pub its_giver : (k : ℕ) (told : Told) → slice_get g.givers.now k ≡ Some told
+      → (f : Giver) × Gives p main (place_at (all_places p instances) k) f × StandsFor p instances told f
   its_giver k told at =
       let lt = slice_get_within g.givers.now k told at in
       let f = given.givers.each k lt in
@@ -84,7 +88,8 @@ module _ (g : Given) (given : IsGiven g) where
   its_place : (k : ℕ) (f : Flow) → slice_get g.flows.now k ≡ Some f → place_at (all_places p instances) k ≡ flow_sites instances f
   its_place k f at =
       get_or_from_slice_get (all_places p instances) k (flow_sites instances f) []
-      (slice_get-map (flow_sites instances) (all_flows p instances) k ∙ ap (option_map (flow_sites instances)) (ap (λ (l : List Flow). slice_get l k) (sym given.flows) ∙ at))
+      (slice_get-map (flow_sites instances) (all_flows p instances) k ∙ ap (option_map (flow_sites instances))
+      (ap (λ (l : List Flow). slice_get l k) (sym given.flows) ∙ at))
 
   -- the types of the flows of a node by its number
   kinds_of_node : (ns : List NodeTree) (k : ℕ) → slice_index_or (map (flow_kinds p) ns) k [] ≡ flow_kinds p (slice_index_or ns k no_node)
@@ -93,7 +98,8 @@ module _ (g : Given) (given : IsGiven g) where
   kinds_of_node (n ∷ ns) (suc k) = kinds_of_node ns k
 
   -- The type of a flow is that of its name in its node.
-  pub its_kind : (k : ℕ) (f : Flow) (i : Instance) (x : Identifier) → slice_get g.flows.now k ≡ Some f → IsInstance p main i → Contains (flows i.node) x → place_at (all_places p instances) k ≡ place i x
+  pub its_kind : (k : ℕ) (f : Flow) (i : Instance) (x : Identifier) → slice_get g.flows.now k ≡ Some f → IsInstance p main i → Contains (flows i.node) x
+      → place_at (all_places p instances) k ≡ place i x
       → Some (kind_at g f) ≡ flow_kind p i.node x
   its_kind k f i x at is w same =
       let known = given.known.expanded in
@@ -103,10 +109,12 @@ module _ (g : Given) (given : IsGiven g) where
       let one : a.0 ≡ i = same_instance p main instances known a.0 i a.1 is (sym (path_is p main instances known f.instance a.0 a.2) ∙ parts.0) in
       let node = node_is p main instances known f.instance a.0 a.1 a.2 ∙ ap (λ (j : Instance). j.node) one in
       let kinds : slice_index_or g.kinds.now (slice_index_or instances f.instance no_instance).node [] ≡ flow_kinds p i.node =
-      ap (λ (l : List (List Kind)). slice_index_or l (slice_index_or instances f.instance no_instance).node []) given.kinds ∙ kinds_of_node (program_given g).nodes (slice_index_or instances f.instance no_instance).node ∙ ap (flow_kinds p) node in
+      ap (λ (l : List (List Kind)). slice_index_or l (slice_index_or instances f.instance no_instance).node []) given.kinds
+      ∙ kinds_of_node (program_given g).nodes (slice_index_or instances f.instance no_instance).node ∙ ap (flow_kinds p) node in
       let among = index_at (flows i.node) x (is_found (flows i.node) x w) in
       let site : site_of i.node x < length (flow_kinds p i.node) = let less = among.0 in let many = kinds_many p i.node in omega (arith, less, many) in
-      let some : slice_get (flow_kinds p i.node) (site_of i.node x) ≡ Some (slice_index_or (flow_kinds p i.node) (site_of i.node x) kind.Bool) = slice_get-get_or (flow_kinds p i.node) (site_of i.node x) kind.Bool site in
+      let some : slice_get (flow_kinds p i.node) (site_of i.node x) ≡ Some (slice_index_or (flow_kinds p i.node) (site_of i.node x) kind.Bool)
+      = slice_get-get_or (flow_kinds p i.node) (site_of i.node x) kind.Bool site in
       ap (λ (l : List Kind). Some (unwrap_or (slice_get l f.site) kind.Bool)) kinds
       ∙ ap (λ s. Some (unwrap_or (slice_get (flow_kinds p i.node) s) kind.Bool)) parts.1
       ∙ ap (λ o. Some (unwrap_or o kind.Bool)) some

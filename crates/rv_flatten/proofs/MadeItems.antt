@@ -39,13 +39,17 @@ use Rattle.rv_flatten.proofs.WellInstances.{typed}
 
 -- what a layout has of an instance
 abbrev pub HasNumbers : Type 0
-HasNumbers = (p : ProgramTree) (main : Identifier) (instances : List Numbered) (l : Layout) (m : ℕ) (i : Instance) → IsExpanded p main instances → IsLayout p main instances l → IsInstance p main i → IsNumberOf p instances m i → IsHere p (all_places p instances) i (here_of l m)
+HasNumbers = (p : ProgramTree) (main : Identifier) (instances : List Numbered) (l : Layout) (m : ℕ) (i : Instance) → IsExpanded p main instances
+    → IsLayout p main instances l → IsInstance p main i → IsNumberOf p instances m i → IsHere p (all_places p instances) i (here_of l m)
 
-module _ (law : HasNumbers) (numbers : Numbers) (x : Frame) (known : IsKnown x.expanded.now) (light : AreLight (program_of x.expanded.now) (main_of x.expanded.now))
+module _ (law : HasNumbers) (numbers : Numbers) (x : Frame) (known : IsKnown x.expanded.now)
+    (light : AreLight (program_of x.expanded.now) (main_of x.expanded.now))
     (ticks : AreTicks (program_of x.expanded.now) (main_of x.expanded.now) numbers.ticks)
     (reads : IsReader x.reader) (node : node_read x.reader ≡ node_at (program_of x.expanded.now) x.expanded.now.instances.now x.reader.instance)
-    (scope : scope_by x.tables.now x.own.now ≡ node_scope (program_of x.expanded.now) (node_at (program_of x.expanded.now) x.expanded.now.instances.now x.reader.instance))
-    (layout : IsLayout (program_of x.expanded.now) (main_of x.expanded.now) x.expanded.now.instances.now x.reader.layout.now) (values : value_by x.values.now ≡ constant_value (program_of x.expanded.now))
+    (scope : scope_by x.tables.now x.own.now ≡ node_scope (program_of x.expanded.now)
+    (node_at (program_of x.expanded.now) x.expanded.now.instances.now x.reader.instance))
+    (layout : IsLayout (program_of x.expanded.now) (main_of x.expanded.now) x.expanded.now.instances.now x.reader.layout.now)
+    (values : value_by x.values.now ≡ constant_value (program_of x.expanded.now))
     (numbering : IsNumbering (program_of x.expanded.now) (main_of x.expanded.now) x.expanded.now.instances.now numbers x.numbering.now)
   where
     abbrev p : ProgramTree
@@ -65,10 +69,13 @@ module _ (law : HasNumbers) (numbers : Numbers) (x : Frame) (known : IsKnown x.e
 
     -- what is made of an expression
     abbrev pub IsMadeOf : Tree → RawTree → Type 0
-    IsMadeOf e made = (numbers : Numbers) (i : Instance) → IsFrame numbers i x → AreTicks p main numbers.ticks → Contains (node_parts i.node) e → IsSome (kind_of (node_scope p i.node) e) → made ≡ raw_of p numbers i e
+    IsMadeOf e made = (numbers : Numbers) (i : Instance) → IsFrame numbers i x → AreTicks p main numbers.ticks → Contains (node_parts i.node) e
+        → IsSome (kind_of (node_scope p i.node) e) → made ≡ raw_of p numbers i e
 
-    pub body_made : (b : BodyOf) (q : Sites) (g : Giver) (clock : Option ℕ) (body : RawTree) → x.reader.instance ≡ b.instance → Gives p main q g → StandsFor p instances (told.Body b) g
-        → clock ≡ clock_read x (number_of_clock (numbers_of x.reader) b.clock) → IsMadeOf (tree_of b.body.now) body → (record { clock = clock; body = body }) ≡ raw_giver p numbers g
+    pub body_made : (b : BodyOf) (q : Sites) (g : Giver) (clock : Option ℕ) (body : RawTree) → x.reader.instance ≡ b.instance → Gives p main q g
+        → StandsFor p instances (told.Body b) g
+        → clock ≡ clock_read x (number_of_clock (numbers_of x.reader) b.clock) → IsMadeOf (tree_of b.body.now) body
+        → (record { clock = clock; body = body }) ≡ raw_giver p numbers g
     body_made b q (Given j) clock body same gives stands clocked made = absurd stands
     body_made b q (Of i k (Output c j)) clock body same gives stands clocked made = absurd stands
     body_made b q (Of i k (Body e)) clock body same gives stands clocked made =
@@ -76,14 +83,17 @@ module _ (law : HasNumbers) (numbers : Numbers) (x : Frame) (known : IsKnown x.e
         let r = body_given p main instances known.expanded q i k e gives in
         let number : IsNumberOf p instances x.reader.instance i = subst (λ m. IsNumberOf p instances m i) (sym same) stands.0 in
         let f = frame i g.0 number in
-        let clock_is : clock ≡ clock_number numbers (absolute i k) = clocked ∙ ap (λ c. clock_read x (number_of_clock (numbers_of x.reader) c)) stands.1 ∙ clock_read_is numbers i x f (here i g.0 number) k g.1 in
+        let clock_is : clock ≡ clock_number numbers (absolute i k) = clocked ∙ ap (λ c. clock_read x (number_of_clock (numbers_of x.reader) c)) stands.1
+        ∙ clock_read_is numbers i x f (here i g.0 number) k g.1 in
         let own : clock_number numbers (absolute i k) ≡ clock_number numbers (absolute i _) = ap (λ c. clock_number numbers (absolute i c)) (sym r.clock) in
         let t : tree_of b.body.now ≡ e = stands.2 in
         let body_is : body ≡ raw_of p numbers i e =
-        made numbers i f ticks (subst (Contains (node_parts i.node)) (sym t) r.part) (subst (λ u. IsSome (kind_of (node_scope p i.node) u)) (sym t) r.some) ∙ ap (raw_of p numbers i) t in
+        made numbers i f ticks (subst (Contains (node_parts i.node)) (sym t) r.part) (subst (λ u. IsSome (kind_of (node_scope p i.node) u)) (sym t) r.some)
+        ∙ ap (raw_of p numbers i) t in
         λ j. record { clock = (clock_is ∙ own) j; body = body_is j }
 
-    pub output_made : (o : OutputOf) (q : Sites) (g : Giver) (clock : Option ℕ) (body : RawTree) → x.reader.instance ≡ o.instance → Gives p main q g → StandsFor p instances (told.Output o) g
+    pub output_made : (o : OutputOf) (q : Sites) (g : Giver) (clock : Option ℕ) (body : RawTree) → x.reader.instance ≡ o.instance → Gives p main q g
+        → StandsFor p instances (told.Output o) g
         → clock ≡ clock_read x (number_of_clock (numbers_of x.reader) o.clock)
         → body ≡ unplaced (Flow (flow_read x ((numbers_of x.reader).output (site_in (tree_of o.call.now)) + o.output)))
         → (record { clock = clock; body = body }) ≡ raw_giver p numbers g
@@ -95,7 +105,8 @@ module _ (law : HasNumbers) (numbers : Numbers) (x : Frame) (known : IsKnown x.e
         let number : IsNumberOf p instances x.reader.instance i = subst (λ m. IsNumberOf p instances m i) (sym same) stands.0 in
         let f = frame i g.0 number in
         let h = here i g.0 number in
-        let clock_is : clock ≡ clock_number numbers (absolute i k) = clocked ∙ ap (λ c. clock_read x (number_of_clock (numbers_of x.reader) c)) stands.1 ∙ clock_read_is numbers i x f h k g.1 in
+        let clock_is : clock ≡ clock_number numbers (absolute i k) = clocked ∙ ap (λ c. clock_read x (number_of_clock (numbers_of x.reader) c)) stands.1
+        ∙ clock_read_is numbers i x f h k g.1 in
         let own : clock_number numbers (absolute i k) ≡ clock_number numbers (absolute i _) = ap (λ c. clock_number numbers (absolute i c)) (sym r.clock) in
         let flow : flow_read x ((numbers_of x.reader).output (site_in (tree_of o.call.now)) + o.output) ≡ _ =
         (λ t. flow_read x ((numbers_of x.reader).output (site_in (stands.2 t)) + stands.3 t)) ∙ output_is numbers i x f h c j r.there r.within in
@@ -103,18 +114,22 @@ module _ (law : HasNumbers) (numbers : Numbers) (x : Frame) (known : IsKnown x.e
         made ∙ (λ t. unplaced (Flow (flow t))) in
         λ t. record { clock = (clock_is ∙ own) t; body = body_is t }
 
-    pub delay_made : (i : Instance) (d : Delay) (e : Tree) (clock : Option ℕ) (body : RawTree) → IsInstance p main i → IsNumberOf p instances x.reader.instance i → Contains (node_delays i.node) d → e ≡ d.operand
+    pub delay_made : (i : Instance) (d : Delay) (e : Tree) (clock : Option ℕ) (body : RawTree) → IsInstance p main i
+        → IsNumberOf p instances x.reader.instance i → Contains (node_delays i.node) d → e ≡ d.operand
         → clock ≡ clock_read x (clock_of_read x e) → IsMadeOf e body → (record { clock = clock; body = body }) ≡ raw_delay p numbers i d
     delay_made i d e clock body of number w same clocked made =
         let t = some_is ((typed p main known.expanded.well (is_node p main known.expanded.declared) i of).delay d w) in
         let f = frame i of number in
-        let clock_is : clock ≡ clock_number numbers (clock_in i Base d.operand) = clocked ∙ ap (λ u. clock_read x (clock_of_read x u)) same ∙ own_clock_is numbers i x f (here i of number) d.operand t.0 t.1 in
+        let clock_is : clock ≡ clock_number numbers (clock_in i Base d.operand) = clocked ∙ ap (λ u. clock_read x (clock_of_read x u)) same
+        ∙ own_clock_is numbers i x f (here i of number) d.operand t.0 t.1 in
         let body_is : body ≡ raw_of p numbers i d.operand =
-        made numbers i f ticks (subst (Contains (node_parts i.node)) (sym same) (stands_in i.node d.operand (operand_stands i.node d w))) (subst (λ u. IsSome (kind_of (node_scope p i.node) u)) (sym same) (subst IsSome (sym t.1) refl))
+        made numbers i f ticks (subst (Contains (node_parts i.node)) (sym same) (stands_in i.node d.operand (operand_stands i.node d w)))
+        (subst (λ u. IsSome (kind_of (node_scope p i.node) u)) (sym same) (subst IsSome (sym t.1) refl))
         ∙ ap (raw_of p numbers i) same in
         λ j. record { clock = clock_is j; body = body_is j }
 
-    pub assertion_made : (i : Instance) (a : AssertionTree) (clock : Option ℕ) (body made : RawTree) → IsInstance p main i → IsNumberOf p instances x.reader.instance i → Contains i.node.assertions a
+    pub assertion_made : (i : Instance) (a : AssertionTree) (clock : Option ℕ) (body made : RawTree) → IsInstance p main i
+        → IsNumberOf p instances x.reader.instance i → Contains i.node.assertions a
         → clock ≡ clock_read x (clock_of_read x a.body) → IsMadeOf a.body body
         → made ≡ Node (path_read x ++ a.site ∷ []) (If (unplaced (presence clock)) body (unplaced (Constant (Flag true))))
         → made ≡ assertion_of p numbers i a

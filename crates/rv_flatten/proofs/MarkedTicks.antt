@@ -1,5 +1,6 @@
 -- The ticks of a program are the flows that are marked for the clocks of its `->`.
-use Rattle.std.proofs.Common.{◌≡◌, ◌⊎◌, inl, inr, ℕ, zero, suc, ◌+◌, ◌<◌, ◌^◌, Bool, true, false, cond, List, [], ◌∷◌, ◌++◌, map, length, get_or, replicate, set, refl, sym, ◌∙◌, ap, subst, arith, length-set, get_or-set_same, get_or-set_other, Option, Some, None as Nothing}
+use Rattle.std.proofs.Common.{◌≡◌, ◌⊎◌, inl, inr, ℕ, zero, suc, ◌+◌, ◌<◌, ◌^◌, Bool, true, false, cond, List, [], ◌∷◌, ◌++◌, map, length, get_or, replicate}
+use Rattle.std.proofs.Common.{set, refl, sym, ◌∙◌, ap, subst, arith, length-set, get_or-set_same, get_or-set_other, Option, Some, None as Nothing}
 use Rattle.std.proofs.lemmas.Bool.{cases_eq, cases_order}
 use Rattle.std.proofs.lemmas.List.{get_or-map, length-map, length-replicate, set_past}
 use Rattle.std.proofs.lemmas.List.Elements.{Contains-append_left, Contains-append_right, Contains-append_cases, Contains-get_or}
@@ -80,10 +81,12 @@ some_marked j [] k e = let bad : false ≡ true = e in absurd (bad_flag bad)
   where
     bad_flag : false ≡ true → ⊥
     bad_flag e = cc
-some_marked j (b ∷ bs) zero e = subst (λ c. Contains (cond c (j ∷ []) [] ++ marked_from (j + 1) bs) (j + 0)) (sym e) (0, omega arith, (let same : j ≡ j + 0 = omega arith in same))
+some_marked j (b ∷ bs) zero e = subst (λ c. Contains (cond c (j ∷ []) [] ++ marked_from (j + 1) bs) (j + 0)) (sym e)
+    (0, omega arith, (let same : j ≡ j + 0 = omega arith in same))
 some_marked j (b ∷ bs) (suc k) e =
     let same : (j + 1) + k ≡ j + suc k = omega arith in
-    Contains-append_right (cond b (j ∷ []) []) (marked_from (j + 1) bs) (j + suc k) (subst (Contains (marked_from (j + 1) bs)) same (some_marked (j + 1) bs k e))
+    Contains-append_right (cond b (j ∷ []) []) (marked_from (j + 1) bs) (j + suc k)
+    (subst (Contains (marked_from (j + 1) bs)) same (some_marked (j + 1) bs k e))
 
 -- the number is one of the flags, and that is set
 marked_is : (j : ℕ) (bs : List Bool) (n : ℕ) → Contains (marked_from j bs) n → (k : ℕ) × (k < length bs) × (n ≡ j + k) × (get_or bs k false ≡ true)
@@ -115,14 +118,18 @@ marked_rising j (true ∷ bs) (suc a) (suc b) lt less = marked_rising (j + 1) bs
 
 -- The numbers of the clocks of all instances.
 
-numbers_there : (p : ProgramTree) (instances : List Numbered) (l : Layout) (n m k : ℕ) → m < n → Contains (arrow_numbers p instances l m) k → Contains (arrow_numbers_to p instances l n) k
+numbers_there : (p : ProgramTree) (instances : List Numbered) (l : Layout) (n m k : ℕ) → m < n → Contains (arrow_numbers p instances l m) k
+    → Contains (arrow_numbers_to p instances l n) k
 numbers_there p instances l zero m k lt w = absurd (omega (arith, lt))
 numbers_there p instances l (suc n) m k lt w = elim (cases_eq m n) [
-  | inl same ↦ Contains-append_right (arrow_numbers_to p instances l n) (arrow_numbers p instances l n) k (subst (λ i. Contains (arrow_numbers p instances l i) k) same w)
-  | inr other ↦ Contains-append_left (arrow_numbers_to p instances l n) (arrow_numbers p instances l n) k (numbers_there p instances l n m k (omega (arith, lt, other)) w)
+  | inl same ↦ Contains-append_right (arrow_numbers_to p instances l n) (arrow_numbers p instances l n) k
+      (subst (λ i. Contains (arrow_numbers p instances l i) k) same w)
+  | inr other ↦ Contains-append_left (arrow_numbers_to p instances l n) (arrow_numbers p instances l n) k
+      (numbers_there p instances l n m k (omega (arith, lt, other)) w)
 ]
 
-numbers_from : (p : ProgramTree) (instances : List Numbered) (l : Layout) (n k : ℕ) → Contains (arrow_numbers_to p instances l n) k → (m : ℕ) × (m < n) × Contains (arrow_numbers p instances l m) k
+numbers_from : (p : ProgramTree) (instances : List Numbered) (l : Layout) (n k : ℕ) → Contains (arrow_numbers_to p instances l n) k
+    → (m : ℕ) × (m < n) × Contains (arrow_numbers p instances l m) k
 numbers_from p instances l zero k w = none_in k w
 numbers_from p instances l (suc n) k w = elim (Contains-append_cases (arrow_numbers_to p instances l n) (arrow_numbers p instances l n) k w) [
   | inl v ↦ let r = numbers_from p instances l n k v in let lt = r.1 in (r.0, omega (arith, lt), r.2)
@@ -138,11 +145,13 @@ is_listed : (o : Option ℕ) (k : ℕ) → o ≡ Some k → Contains (listed o) 
 is_listed o k e = subst (λ c. Contains (listed c) k) (sym e) (at_head k [])
 
 -- The number of the flow of a clock of an instance is placed there.
-clock_placed : (p : ProgramTree) (places : List Sites) (i : Instance) (h : Here) → IsHere p places i h → (k : Clock) → IsKnownClock i.node k → IsClockPlaced places (clock_number h k) (absolute i k)
+clock_placed : (p : ProgramTree) (places : List Sites) (i : Instance) (h : Here) → IsHere p places i h → (k : Clock) → IsKnownClock i.node k
+    → IsClockPlaced places (clock_number h k) (absolute i k)
 clock_placed p places i h here Base known = here.base
 clock_placed p places i h here (On s) known = here.flow s known
 
-to_number : (places : List Sites) (o : Option ℕ) (q : Option Sites) (r : Sites) → IsClockPlaced places o q → q ≡ Some r → (k : ℕ) × (o ≡ Some k) × (k < length places) × (place_at places k ≡ r)
+to_number : (places : List Sites) (o : Option ℕ) (q : Option Sites) (r : Sites) → IsClockPlaced places o q → q ≡ Some r
+    → (k : ℕ) × (o ≡ Some k) × (k < length places) × (place_at places k ≡ r)
 to_number places Nothing Nothing r h e = absurd (none-some r e)
 to_number places (Some k) (Some q) r h e = (k, refl, h.0, h.1 ∙ same_Some q r e)
 to_number places Nothing (Some q) r h e = absurd h
@@ -164,7 +173,8 @@ pub record AreNumbered (p : ProgramTree) (main : Identifier) (instances : List N
 on_flow : (i : Instance) (e : Tree) (c : Clock) (q : Option Sites) → taken Base (pace i.node e) ≡ c → absolute i c ≡ q → clock_in i Base e ≡ q
 on_flow i e c q takes at = ap (absolute i) takes ∙ at
 
-module _ (p : ProgramTree) (main : Identifier) (instances : List Numbered) (l : Layout) (known : IsExpanded p main instances) (are_numbered : AreNumbered p main instances)
+module _ (p : ProgramTree) (main : Identifier) (instances : List Numbered) (l : Layout) (known : IsExpanded p main instances)
+    (are_numbered : AreNumbered p main instances)
     (here : (m : ℕ) (i : Instance) → IsInstance p main i → IsNumberOf p instances m i → IsHere p (all_places p instances) i (here_of l m)) where
   -- a clock of an instance that comes is known
   known_clock : (i : Instance) → IsInstance p main i → (k : Clock) → Contains (node_arrows i.node) k → IsKnownClock i.node k
@@ -174,25 +184,30 @@ module _ (p : ProgramTree) (main : Identifier) (instances : List Numbered) (l : 
 
   -- the number of a tick comes
   tick_comes : (i : Instance) (e : Tree) (q : Sites) → IsInstance p main i → Contains (node_parts i.node) e → is_arrow e ≡ true → clock_in i Base e ≡ Some q
-      → (k : ℕ) × Contains (arrow_numbers_to p instances l (length instances)) k × (k < length (all_places p instances)) × (place_at (all_places p instances) k ≡ q)
+      → (k : ℕ) × Contains (arrow_numbers_to p instances l (length instances)) k × (k < length (all_places p instances))
+      × (place_at (all_places p instances) k ≡ q)
   tick_comes i e q is w arrow at =
       let number = are_numbered.number i is in
       let m = number.0 in
       let at_m : IsNumberOf p instances m i = number.1 in
       let c = taken Base (pace i.node e) in
       let v = node_comes i.node e w arrow in
-      let r = to_number (all_places p instances) (clock_number (here_of l m) c) (absolute i c) q (clock_placed p (all_places p instances) i (here_of l m) (here m i is at_m) c (known_clock i is c v)) at in
-      let there : Contains (node_arrows (node_at p instances m)) c = subst (λ (n : NodeTree). Contains (node_arrows n) c) (sym (are_numbered.node m i is at_m)) v in (
+      let r = to_number (all_places p instances) (clock_number (here_of l m) c) (absolute i c) q
+      (clock_placed p (all_places p instances) i (here_of l m) (here m i is at_m) c (known_clock i is c v)) at in
+      let there : Contains (node_arrows (node_at p instances m)) c = subst (λ (n : NodeTree). Contains (node_arrows n) c) (sym (are_numbered.node m i is at_m))
+      v in (
         r.0,
         numbers_there p instances l (length instances) m r.0 at_m.0
-            (in_flat_map (λ (d : Clock). listed (clock_number (here_of l m) d)) (node_arrows (node_at p instances m)) c r.0 there (is_listed (clock_number (here_of l m) c) r.0 r.1)),
+            (in_flat_map (λ (d : Clock). listed (clock_number (here_of l m) d)) (node_arrows (node_at p instances m)) c r.0 there
+            (is_listed (clock_number (here_of l m) c) r.0 r.1)),
         r.2,
         r.3,
       )
 
   -- and what comes is that of a tick
   tick_of : (k : ℕ) → Contains (arrow_numbers_to p instances l (length instances)) k
-      → (i : Instance) × (e : Tree) × IsInstance p main i × Contains (node_parts i.node) e × (is_arrow e ≡ true) × (clock_in i Base e ≡ Some (place_at (all_places p instances) k))
+      → (i : Instance) × (e : Tree) × IsInstance p main i × Contains (node_parts i.node) e × (is_arrow e ≡ true)
+      × (clock_in i Base e ≡ Some (place_at (all_places p instances) k))
   tick_of k w =
       let from = numbers_from p instances l (length instances) k w in
       let m = from.0 in
@@ -216,7 +231,8 @@ module _ (p : ProgramTree) (main : Identifier) (instances : List Numbered) (l : 
   module _ (numbers ticks : List ℕ) (marks : List Bool) (are : numbers ≡ arrow_numbers_to p instances l (length instances))
       (marked : marks ≡ with_marks (replicate (length (all_places p instances)) false) numbers) (found : ticks ≡ marked_from 0 marks) where
     marks_long : length marks ≡ length (all_places p instances)
-    marks_long = ap length marked ∙ marks_size (replicate (length (all_places p instances)) false) numbers ∙ length-replicate (length (all_places p instances)) false
+    marks_long = ap length marked ∙ marks_size (replicate (length (all_places p instances)) false) numbers
+        ∙ length-replicate (length (all_places p instances)) false
 
     -- what is found is a flow
     pub ticks_within : (k : ℕ) → Contains ticks k → k < length (all_places p instances)
@@ -232,7 +248,8 @@ module _ (p : ProgramTree) (main : Identifier) (instances : List Numbered) (l : 
     tick_found k w =
         let r = marked_is 0 marks k (subst (λ ks. Contains ks k) found w) in
         let same : r.0 ≡ k = (let at = r.2 in omega (arith, at)) in
-        let is : get_or (with_marks (replicate (length (all_places p instances)) false) numbers) k false ≡ true = ap (λ bs. get_or bs k false) (sym marked) ∙ ap (λ j. get_or marks j false) (sym same) ∙ r.3 in
+        let is : get_or (with_marks (replicate (length (all_places p instances)) false) numbers) k false ≡ true = ap (λ bs. get_or bs k false) (sym marked)
+        ∙ ap (λ j. get_or marks j false) (sym same) ∙ r.3 in
         subst (λ ns. Contains ns k) are (elim (mark_only (replicate (length (all_places p instances)) false) numbers k is) [
           | inl before ↦ absurd (none_marked (length (all_places p instances)) k before)
           | inr v ↦ v
@@ -241,8 +258,10 @@ module _ (p : ProgramTree) (main : Identifier) (instances : List Numbered) (l : 
     -- and each is found
     found_tick : (k : ℕ) → k < length (all_places p instances) → Contains (arrow_numbers_to p instances l (length instances)) k → Contains ticks k
     found_tick k lt w =
-        let long : length (replicate {A = Bool} (length (all_places p instances)) false) ≡ length (all_places p instances) = length-replicate (length (all_places p instances)) false in
-        let made = mark_made (replicate (length (all_places p instances)) false) numbers k (subst (λ ns. Contains ns k) (sym are) w) (omega (arith, lt, long)) in
+        let long : length (replicate {A = Bool} (length (all_places p instances)) false) ≡ length (all_places p instances) = length-replicate
+        (length (all_places p instances)) false in
+        let made = mark_made (replicate (length (all_places p instances)) false) numbers k (subst (λ ns. Contains ns k) (sym are) w)
+        (omega (arith, lt, long)) in
         let there = some_marked 0 marks k (ap (λ bs. get_or bs k false) marked ∙ made) in
         let same : 0 + k ≡ k = omega arith in
         subst (λ ks. Contains ks k) (sym found) (subst (Contains (marked_from 0 marks)) same there)
@@ -253,7 +272,8 @@ module _ (p : ProgramTree) (main : Identifier) (instances : List Numbered) (l : 
         rising = rising;
         all = λ i e q is w arrow at.
             let r = tick_comes i e q is w arrow at in
-            subst (Contains (map (place_at (all_places p instances)) ticks)) r.3 (in_map (place_at (all_places p instances)) ticks r.0 (found_tick r.0 r.2 r.1));
+            subst (Contains (map (place_at (all_places p instances)) ticks)) r.3
+            (in_map (place_at (all_places p instances)) ticks r.0 (found_tick r.0 r.2 r.1));
         only = λ q w.
             let many = length-map ticks (place_at (all_places p instances)) in
             let less : w.0 < length ticks = (let lt = w.1 in omega (arith, lt, many)) in
@@ -271,21 +291,26 @@ module _ (p : ProgramTree) (main : Identifier) (instances : List Numbered) (l : 
               let numbers_rise : get_or ticks j 0 < get_or ticks k 0 =
               subst (λ ks. get_or ks j 0 < get_or ks k 0) (sym found) (marked_rising 0 marks j k lt (subst (λ ks. k < length ks) found within)) in
               let h = placed.rising (get_or ticks j 0) (get_or ticks k 0) numbers_rise (ticks_within (get_or ticks k 0) (Contains-get_or ticks k 0 within)) in
-              subst (λ q. IsBefore q (get_or (map (place_at (all_places p instances)) ticks) k [])) (sym (get_or-map (place_at (all_places p instances)) ticks j 0 [] before))
-              (subst (λ q. IsBefore (place_at (all_places p instances) (get_or ticks j 0)) q) (sym (get_or-map (place_at (all_places p instances)) ticks k 0 [] within)) h)
+              subst (λ q. IsBefore q (get_or (map (place_at (all_places p instances)) ticks) k []))
+              (sym (get_or-map (place_at (all_places p instances)) ticks j 0 [] before))
+              (subst (λ q. IsBefore (place_at (all_places p instances) (get_or ticks j 0)) q)
+              (sym (get_or-map (place_at (all_places p instances)) ticks k 0 [] within)) h)
 
 -- The clocks of the `->` of the instance with a number have numbers of 32 bits, where all its flows have.
-module _ (p : ProgramTree) (main : Identifier) (instances : List Numbered) (known : IsExpanded p main instances) (are_numbered : AreNumbered p main instances) where
-  within_room : (n : NodeTree) (first : ℕ) (k : Clock) → first + length (flows n) < 2 ^ 32 → IsKnownClock n k → IsWithin first k
-  within_room n first Base room h = tt
-  within_room n first (On s) room h = omega (arith, room, h)
+module _ (p : ProgramTree) (main : Identifier) (instances : List Numbered) (known : IsExpanded p main instances) (are_numbered : AreNumbered p main instances)
+  where
+    within_room : (n : NodeTree) (first : ℕ) (k : Clock) → first + length (flows n) < 2 ^ 32 → IsKnownClock n k → IsWithin first k
+    within_room n first Base room h = tt
+    within_room n first (On s) room h = omega (arith, room, h)
 
-  pub arrow_within : (m first : ℕ) (n : NodeTree) (k : Clock) → m < length instances → n ≡ node_at p instances m → first + length (flows n) < 2 ^ 32 → Contains (node_arrows n) k → IsWithin first k
-  arrow_within m first n k lt is room w =
-      let one = are_numbered.at m lt in
-      let i = one.0 in
-      let node : n ≡ i.node = is ∙ are_numbered.node m i one.1 one.2 in
-      let named = is_node p main known.declared in
-      within_room n first k room
-      (subst (λ (o : NodeTree). IsKnownClock o k) (sym node)
-      (arrow_known p i.node (typed p main known.well named i one.1) (formed p main known.well named i one.1) k (subst (λ (o : NodeTree). Contains (node_arrows o) k) node w)))
+    pub arrow_within : (m first : ℕ) (n : NodeTree) (k : Clock) → m < length instances → n ≡ node_at p instances m → first + length (flows n) < 2 ^ 32
+        → Contains (node_arrows n) k → IsWithin first k
+    arrow_within m first n k lt is room w =
+        let one = are_numbered.at m lt in
+        let i = one.0 in
+        let node : n ≡ i.node = is ∙ are_numbered.node m i one.1 one.2 in
+        let named = is_node p main known.declared in
+        within_room n first k room
+        (subst (λ (o : NodeTree). IsKnownClock o k) (sym node)
+        (arrow_known p i.node (typed p main known.well named i one.1) (formed p main known.well named i one.1) k
+        (subst (λ (o : NodeTree). Contains (node_arrows o) k) node w)))

@@ -1,5 +1,6 @@
 -- The memories by their instances and sites have their numbers.
-use Rattle.std.proofs.Common.{◌≡◌, inl, inr, ℕ, zero, suc, ◌-◌, ◌<◌, ◌≤◌, Bool, true, false, ◌&&◌, cond, nat_eq, slice_get, List, [], ◌∷◌, ◌++◌, map, length, get_or, refl, sym, ◌∙◌, ap, subst, arith, Some, Result, Ok, Err, IfOk}
+use Rattle.std.proofs.Common.{◌≡◌, inl, inr, ℕ, zero, suc, ◌-◌, ◌<◌, ◌≤◌, Bool, true, false, ◌&&◌, cond, nat_eq, slice_get, List, [], ◌∷◌, ◌++◌, map, length}
+use Rattle.std.proofs.Common.{get_or, refl, sym, ◌∙◌, ap, subst, arith, Some, Result, Ok, Err, IfOk}
 use Rattle.std.proofs.lemmas.Bool.{cases_order}
 use Rattle.std.proofs.lemmas.Bool.Decides.{nat_tests}
 use Rattle.std.proofs.lemmas.List.{length-map, get_or-map}
@@ -39,7 +40,8 @@ both_same a b m s e = tested (nat_eq a m) (nat_eq b s) refl refl e
 same_both : (a b m s : ℕ) → (nat_eq a m && nat_eq b s) ≡ false → a ≡ m → b ≡ s → ⊥
 same_both a b m s e f g = grind (arith, nat_tests)
 
-module _ (p : ProgramTree) (main : Identifier) (instances : List Numbered) (known : IsExpanded p main instances) (ks : List Kept) (kept : AreKept p main instances ks) where
+module _ (p : ProgramTree) (main : Identifier) (instances : List Numbered) (known : IsExpanded p main instances) (ks : List Kept)
+    (kept : AreKept p main instances ks) where
   abbrev places : List Sites
   places = map (λ (k : Kept). k.place.sites) ks
 
@@ -64,7 +66,8 @@ module _ (p : ProgramTree) (main : Identifier) (instances : List Numbered) (know
   place_told k w =
       let e = kept.each k w in
       let path = path_is p main instances known k.instance e.i e.number.1 in
-      let site : last_site k.place.sites ≡ memory_site e.i.node e.d.site e.d.operand = ap last_site e.place ∙ last_of e.i.path (memory_site e.i.node e.d.site e.d.operand) in
+      let site : last_site k.place.sites ≡ memory_site e.i.node e.d.site e.d.operand = ap last_site e.place
+      ∙ last_of e.i.path (memory_site e.i.node e.d.site e.d.operand) in
       e.place ∙ (λ t. sym path t ++ sym site t ∷ [])
 
   one_of : (n : ℕ) (lt : n < length ks) → (k : Kept) × (get_or ks n k ≡ k)
@@ -83,7 +86,8 @@ module _ (p : ProgramTree) (main : Identifier) (instances : List Numbered) (know
       let i : a.0.instance ≡ b.0.instance = sym (instance_is n a.0 lt a.1) ∙ e ∙ instance_is m b.0 less b.1 in
       let s : last_site a.0.place.sites ≡ last_site b.0.place.sites = sym (site_is n a.0 lt a.1) ∙ f ∙ site_is m b.0 less b.1 in
       let same : get_or places n [] ≡ get_or places m [] =
-      place_at n a.0 lt a.1 ∙ place_told a.0 (n, lt, a.1) ∙ (λ t. path_at instances (i t) ++ s t ∷ []) ∙ sym (place_told b.0 (m, less, b.1)) ∙ sym (place_at m b.0 less b.1) in
+      place_at n a.0 lt a.1 ∙ place_told a.0 (n, lt, a.1) ∙ (λ t. path_at instances (i t) ++ s t ∷ []) ∙ sym (place_told b.0 (m, less, b.1))
+      ∙ sym (place_at m b.0 less b.1) in
       let long = length-map ks (λ (k : Kept). k.place.sites) in
       elim (cases_order n m) [
         | inl is ↦ is
@@ -94,11 +98,14 @@ module _ (p : ProgramTree) (main : Identifier) (instances : List Numbered) (know
       ]
 
   -- so the last one is the only one
-  told : (n : ℕ) → n < length ks → (so_far m s : ℕ) → so_far ≤ length ks → n < so_far → instance_of ks n ≡ m → site_at ks n ≡ s → number_to ks so_far m s ≡ Some n
+  told : (n : ℕ) → n < length ks → (so_far m s : ℕ) → so_far ≤ length ks → n < so_far → instance_of ks n ≡ m → site_at ks n ≡ s
+      → number_to ks so_far m s ≡ Some n
   told n lt zero m s le less e f = absurd (omega (arith, less))
-  told n lt (suc k) m s le less e f = tested (nat_eq (instance_of ks k) m && nat_eq (site_at ks k) s) refl (λ before. told n lt k m s (omega (arith, le)) before e f)
+  told n lt (suc k) m s le less e f = tested (nat_eq (instance_of ks k) m && nat_eq (site_at ks k) s) refl
+      (λ before. told n lt k m s (omega (arith, le)) before e f)
     where
-      tested : (b : Bool) → (nat_eq (instance_of ks k) m && nat_eq (site_at ks k) s) ≡ b → (n < k → number_to ks k m s ≡ Some n) → cond b (Some k) (number_to ks k m s) ≡ Some n
+      tested : (b : Bool) → (nat_eq (instance_of ks k) m && nat_eq (site_at ks k) s) ≡ b → (n < k → number_to ks k m s ≡ Some n)
+          → cond b (Some k) (number_to ks k m s) ≡ Some n
       tested true is again =
           let r = both_same (instance_of ks k) (site_at ks k) m s is in
           ap (λ j. Some j) (one_number k n (omega (arith, le)) lt (r.0 ∙ sym e) (r.1 ∙ sym f))

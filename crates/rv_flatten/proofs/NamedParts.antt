@@ -30,7 +30,8 @@ use Rattle.rv_agreement.specs.Translation.{Names, FormNames, AllNames, AreNamed}
 use Rattle.rv_flatten.proofs.ConstantOperands.{same_number, constant_now}
 use Rattle.rv_flatten.proofs.FlowKinds.{kinds_many}
 use Rattle.rv_flat.proofs.PlaceNumbers.{found, index_past}
-use Rattle.rv_flatten.proofs.Standing.{Stands, as_child, of_not, of_minus, of_current, of_when, of_left, of_right, of_condition, of_first, of_second, of_operand, stands_in, own_delay, own_current, body_stands, argument_stands, as_assertion, operand_stands}
+use Rattle.rv_flatten.proofs.Standing.{Stands, as_child, of_not, of_minus, of_current, of_when, of_left, of_right, of_condition, of_first, of_second}
+use Rattle.rv_flatten.proofs.Standing.{of_operand, stands_in, own_delay, own_current, body_stands, argument_stands, as_assertion, operand_stands}
 use Rattle.rv_flat.proofs.TypedParts.{some_is, no_flag, IsTyped, not_typed, minus_typed, current_typed, when_typed, binary_typed, if_typed, most_typed}
 use Rattle.rv_flatten.proofs.WellInstances.{typed, is_light}
 
@@ -47,7 +48,8 @@ flow_there program n x k e = by (is_among (flows n) x) refl
         absurd (omega (arith, past, lt, many))
 
 -- Names.
-module _ (program : ProgramTree) (main : Identifier) (well : AreWell program) (named : IsNode program main) (IsKept : Sites → Type 0) (IsTick : Option Sites → Type 0) (IsClock : Instance → Identifier → Type 0)
+module _ (program : ProgramTree) (main : Identifier) (well : AreWell program) (named : IsNode program main) (IsKept : Sites → Type 0)
+    (IsTick : Option Sites → Type 0) (IsClock : Instance → Identifier → Type 0)
     (kept : (i : Instance) (d : Delay) → IsInstance program main i → Contains (node_delays i.node) d → IsKept (delay_place i d))
     (ticked : (i : Instance) (e : Tree) → IsInstance program main i → Contains (node_parts i.node) e → is_arrow e ≡ true → IsTick (clock_in i Base e))
     (clocked : (i : Instance) (x : Identifier) → IsInstance program main i → Contains (flows i.node) x → IsClock i x)
@@ -58,22 +60,28 @@ module _ (program : ProgramTree) (main : Identifier) (well : AreWell program) (n
         pub names_in : (e : Tree) (k : Kind) → Stands i.node e → IsTyped program i.node e k → Names i IsKept IsTick (IsClock i) e
         names_in (tree.Node at site form) k s t = form_names at site form k s t
 
-        form_names : (at : ℕ) (site : Option ℕ) (form : Form) (k : Kind) → Stands i.node (tree.Node at site form) → IsTyped program i.node (tree.Node at site form) k → FormNames i IsKept IsTick (IsClock i) site form
+        form_names : (at : ℕ) (site : Option ℕ) (form : Form) (k : Kind) → Stands i.node (tree.Node at site form)
+            → IsTyped program i.node (tree.Node at site form) k → FormNames i IsKept IsTick (IsClock i) site form
         form_names at site tree.True k s t = tt
         form_names at site tree.False k s t = tt
         form_names at site (tree.Number n) k s t = tt
         form_names at site (tree.Named x) k s t = tt
         form_names at site (tree.Not e) k s t = names_in e kind.Bool (as_child at site (tree.Not e) e s of_not) (not_typed program i.node at site e k t).0
-        form_names at site (tree.Minus e) k s t = names_in e kind.Int (as_child at site (tree.Minus e) e s of_minus) (minus_typed program i.node at site e k t).0
+        form_names at site (tree.Minus e) k s t = names_in e kind.Int (as_child at site (tree.Minus e) e s of_minus)
+            (minus_typed program i.node at site e k t).0
         form_names at site (tree.Pre e) k s t = kept i (record { site = site; operand = e }) of (own_delay i.node at site e s)
-        form_names at site (tree.Current e) k s t =
-            (kept i (record { site = site; operand = e }) of (own_current i.node at site e s), names_in e k (as_child at site (tree.Current e) e s of_current) (current_typed program i.node at site e k t))
+        form_names at site (tree.Current e) k s t = (
+          kept i (record { site = site; operand = e }) of (own_current i.node at site e s),
+          names_in e k (as_child at site (tree.Current e) e s of_current)
+              (current_typed program i.node at site e k t),
+        )
         form_names at site (tree.When e c) k s t =
             let r = when_typed program i.node at site e c k t in
             (clocked i c.text of (flow_there program i.node c.text kind.Bool r.1), names_in e k (as_child at site (tree.When e c) e s (of_when c)) r.0)
         form_names at site (tree.Binary o a b) k s t =
             let r = binary_typed program i.node at site o a b k t in (
-              λ arrow. ticked i (tree.Node at site (tree.Binary o a b)) of (stands_in i.node (tree.Node at site (tree.Binary o a b)) s) (ap (λ u. is_arrow (tree.Node at site (tree.Binary u a b))) arrow),
+              λ arrow. ticked i (tree.Node at site (tree.Binary o a b)) of (stands_in i.node (tree.Node at site (tree.Binary o a b)) s)
+                  (ap (λ u. is_arrow (tree.Node at site (tree.Binary u a b))) arrow),
               names_in a r.left (as_child at site (tree.Binary o a b) a s of_left) r.left_is,
               names_in b r.right (as_child at site (tree.Binary o a b) b s of_right) r.right_is,
             )
@@ -83,12 +91,18 @@ module _ (program : ProgramTree) (main : Identifier) (well : AreWell program) (n
               names_in b k (as_child at site (tree.If a b c) b s of_first) r.1,
               names_in c k (as_child at site (tree.If a b c) c s of_second) r.2,
             )
-        form_names at site (tree.AtMostOne es) k s t = all_names es (λ j e arg. as_child at site (tree.AtMostOne es) e s (of_operand j arg)) (most_typed program i.node at site es k t).0
+        form_names at site (tree.AtMostOne es) k s t = all_names es (λ j e arg. as_child at site (tree.AtMostOne es) e s (of_operand j arg))
+            (most_typed program i.node at site es k t).0
         form_names at site (tree.Call f args) k s t = tt
 
-        all_names : (es : Trees) → ((j : ℕ) (e : Tree) → IsArgument es j e → Stands i.node e) → ((j : ℕ) (e : Tree) → IsArgument es j e → IsTyped program i.node e kind.Bool) → AllNames i IsKept IsTick (IsClock i) es
+        all_names : (es : Trees) → ((j : ℕ) (e : Tree) → IsArgument es j e → Stands i.node e)
+            → ((j : ℕ) (e : Tree) → IsArgument es j e → IsTyped program i.node e kind.Bool) → AllNames i IsKept IsTick (IsClock i) es
         all_names tree.None s t = tt
-        all_names (tree.More e es) s t = (names_in e kind.Bool (s 0 e head) (t 0 e head), all_names es (λ j a arg. s (suc j) a (tail arg)) (λ j a arg. t (suc j) a (tail arg)))
+        all_names (tree.More e es) s t = (
+          names_in e kind.Bool (s 0 e head) (t 0 e head),
+          all_names es (λ j a arg. s (suc j) a (tail arg))
+              (λ j a arg. t (suc j) a (tail arg)),
+        )
 
     abbrev GiverNames : Giver → Type 0
     GiverNames (Given j) = Unit {0}
@@ -123,27 +137,34 @@ other_constant : (a b : Bool) → (a || b) ≡ true → a ≡ false → b ≡ tr
 other_constant true b e f = no_flag (sym f)
 other_constant false b e f = e
 
-module _ (program : ProgramTree) (main : Identifier) (weights : Sites → ℕ) (light : (i : Instance) (e : Tree) → IsInstance program main i → Stands i.node e → weight program weights i e ≤ heaviest)
+module _ (program : ProgramTree) (main : Identifier) (weights : Sites → ℕ) (light : (i : Instance) (e : Tree) → IsInstance program main i → Stands i.node e
+    → weight program weights i e ≤ heaviest)
     (state : Brought) (row : Instant) (i : Instance) (of : IsInstance program main i)
   where
     -- the constant operand of a product has its value
-    operand_counts : (e : Tree) (j : Kind) → Stands i.node e → IsTyped program i.node e j → is_constant (node_scope program i.node) e ≡ true → number (now program state row i e) ≡ coefficient program e
-    operand_counts e j s t c = ap number (constant_now program weights i state row (λ x u. light i x of u) e j s t c) ∙ same_number (value_of (constant_value program) e)
+    operand_counts : (e : Tree) (j : Kind) → Stands i.node e → IsTyped program i.node e j → is_constant (node_scope program i.node) e ≡ true
+        → number (now program state row i e) ≡ coefficient program e
+    operand_counts e j s t c = ap number (constant_now program weights i state row (λ x u. light i x of u) e j s t c)
+        ∙ same_number (value_of (constant_value program) e)
 
     mutual
       pub products_in : (e : Tree) (k : Kind) → Stands i.node e → IsTyped program i.node e k → HasProducts program state row i e
       products_in (tree.Node at site form) k s t = form_products at site form k s t
 
-      form_products : (at : ℕ) (site : Option ℕ) (form : Form) (k : Kind) → Stands i.node (tree.Node at site form) → IsTyped program i.node (tree.Node at site form) k → FormHasProducts program state row i site form
+      form_products : (at : ℕ) (site : Option ℕ) (form : Form) (k : Kind) → Stands i.node (tree.Node at site form)
+          → IsTyped program i.node (tree.Node at site form) k → FormHasProducts program state row i site form
       form_products at site tree.True k s t = tt
       form_products at site tree.False k s t = tt
       form_products at site (tree.Number n) k s t = tt
       form_products at site (tree.Named x) k s t = tt
       form_products at site (tree.Not e) k s t = products_in e kind.Bool (as_child at site (tree.Not e) e s of_not) (not_typed program i.node at site e k t).0
-      form_products at site (tree.Minus e) k s t = products_in e kind.Int (as_child at site (tree.Minus e) e s of_minus) (minus_typed program i.node at site e k t).0
+      form_products at site (tree.Minus e) k s t = products_in e kind.Int (as_child at site (tree.Minus e) e s of_minus)
+          (minus_typed program i.node at site e k t).0
       form_products at site (tree.Pre e) k s t = tt
-      form_products at site (tree.Current e) k s t = products_in e k (as_child at site (tree.Current e) e s of_current) (current_typed program i.node at site e k t)
-      form_products at site (tree.When e c) k s t = products_in e k (as_child at site (tree.When e c) e s (of_when c)) (when_typed program i.node at site e c k t).0
+      form_products at site (tree.Current e) k s t = products_in e k (as_child at site (tree.Current e) e s of_current)
+          (current_typed program i.node at site e k t)
+      form_products at site (tree.When e c) k s t = products_in e k (as_child at site (tree.When e c) e s (of_when c))
+          (when_typed program i.node at site e c k t).0
       form_products at site (tree.Binary o a b) k s t =
           let r = binary_typed program i.node at site o a b k t in
           let left = as_child at site (tree.Binary o a b) a s of_left in
@@ -151,9 +172,11 @@ module _ (program : ProgramTree) (main : Identifier) (weights : Sites → ℕ) (
             products_in a r.left left r.left_is,
             products_in b r.right right r.right_is,
             λ times c. operand_counts a r.left left r.left_is c,
-            λ times c. operand_counts b r.right right r.right_is (other_constant (is_constant (node_scope program i.node) a) (is_constant (node_scope program i.node) b)
+            λ times c. operand_counts b r.right right r.right_is (other_constant (is_constant (node_scope program i.node) a)
+                (is_constant (node_scope program i.node) b)
                 (scaled_product (both_are kind.Int r.left r.right) (is_constant (node_scope program i.node) a || is_constant (node_scope program i.node) b) k
-                (sym (ap (λ u. kind_in (binary_rule true (is_constant (node_scope program i.node) a || is_constant (node_scope program i.node) b) u r.left r.right)) times) ∙ r.rule)) c),
+                (sym (ap (λ u. kind_in (binary_rule true (is_constant (node_scope program i.node) a || is_constant (node_scope program i.node) b) u r.left
+                r.right)) times) ∙ r.rule)) c),
           )
       form_products at site (tree.If a b c) k s t =
           let r = if_typed program i.node at site a b c k t in (
@@ -161,22 +184,30 @@ module _ (program : ProgramTree) (main : Identifier) (weights : Sites → ℕ) (
             products_in b k (as_child at site (tree.If a b c) b s of_first) r.1,
             products_in c k (as_child at site (tree.If a b c) c s of_second) r.2,
           )
-      form_products at site (tree.AtMostOne es) k s t = all_products es (λ j e arg. as_child at site (tree.AtMostOne es) e s (of_operand j arg)) (most_typed program i.node at site es k t).0
+      form_products at site (tree.AtMostOne es) k s t = all_products es (λ j e arg. as_child at site (tree.AtMostOne es) e s (of_operand j arg))
+          (most_typed program i.node at site es k t).0
       form_products at site (tree.Call f args) k s t = tt
 
-      all_products : (es : Trees) → ((j : ℕ) (e : Tree) → IsArgument es j e → Stands i.node e) → ((j : ℕ) (e : Tree) → IsArgument es j e → IsTyped program i.node e kind.Bool) → AllHaveProducts program state row i es
+      all_products : (es : Trees) → ((j : ℕ) (e : Tree) → IsArgument es j e → Stands i.node e)
+          → ((j : ℕ) (e : Tree) → IsArgument es j e → IsTyped program i.node e kind.Bool) → AllHaveProducts program state row i es
       all_products tree.None s t = tt
-      all_products (tree.More e es) s t = (products_in e kind.Bool (s 0 e head) (t 0 e head), all_products es (λ j a arg. s (suc j) a (tail arg)) (λ j a arg. t (suc j) a (tail arg)))
+      all_products (tree.More e es) s t = (
+        products_in e kind.Bool (s 0 e head) (t 0 e head),
+        all_products es (λ j a arg. s (suc j) a (tail arg))
+            (λ j a arg. t (suc j) a (tail arg)),
+      )
 
 -- and so it is at each instant of the program
 pub keeps_products : (program : ProgramTree) (main : Identifier) → AreWell program → IsNode program main → AreLight program main → KeepsProducts program main
 keeps_products program main well named weights state inputs row starts typed_inputs instant = record {
   flows = λ q i k e gives. giver_products q (Of i k (Body e)) gives;
-  memories = λ i d is. let t = some_is ((typed program main well named i is.0).delay d is.1) in products i is.0 d.operand t.0 (operand_stands i.node d is.1) t.1;
+  memories = λ i d is. let t = some_is ((typed program main well named i is.0).delay d is.1) in
+      products i is.0 d.operand t.0 (operand_stands i.node d is.1) t.1;
   assertions = λ i a of w. products i of a.body kind.Bool (as_assertion a w) ((typed program main well named i of).assertion a w);
 }
   where
-    products : (i : Instance) → IsInstance program main i → (e : Tree) (k : Kind) → Stands i.node e → IsTyped program i.node e k → HasProducts program state row i e
+    products : (i : Instance) → IsInstance program main i → (e : Tree) (k : Kind) → Stands i.node e → IsTyped program i.node e k
+        → HasProducts program state row i e
     products i of = products_in program main weights.0 (is_light program main weights.0 weights.2) state row i of
 
     GiverProducts : Giver → Type 0

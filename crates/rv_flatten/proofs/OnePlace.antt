@@ -1,5 +1,6 @@
 -- Two `pre` or `current` with one place are alike: both are one of one instance, or both operands name one flow of it.
-use Rattle.std.proofs.Common.{◌≡◌, ◌⊎◌, inl, inr, ℕ, ◌<◌, Bool, true, false, cond, [], ◌∷◌, length, get_or, refl, sym, ◌∙◌, ap, subst, arith, length-append, unwrap_or, Option, Some}
+use Rattle.std.proofs.Common.{◌≡◌, ◌⊎◌, inl, inr, ℕ, ◌<◌, Bool, true, false, cond, [], ◌∷◌, length, get_or, refl, sym, ◌∙◌, ap, subst, arith, length-append}
+use Rattle.std.proofs.Common.{unwrap_or, Option, Some}
 use Rattle.std.proofs.Common.{None as Nothing}
 use Rattle.std.specs.List.{Contains}
 use Rattle.rv_tree.specs.Tree.{Tree, Node, Named, NodeTree, ProgramTree}
@@ -20,10 +21,12 @@ abbrev pub IsName : NodeTree → Tree → Identifier → Type 0
 IsName n e x = (at : ℕ) × (s : Option ℕ) × (e ≡ Node at s (Named x)) × (is_flow n x ≡ true)
 
 -- a memory has the site of its flow or its own
-site_of_either : (n : NodeTree) (site : Option ℕ) (e : Tree) → ((x : Identifier) × IsName n e x × (memory_site n site e ≡ site_of n x)) ⊎ (memory_site n site e ≡ unwrap_or site 0)
+site_of_either : (n : NodeTree) (site : Option ℕ) (e : Tree) → ((x : Identifier) × IsName n e x × (memory_site n site e ≡ site_of n x))
+    ⊎ (memory_site n site e ≡ unwrap_or site 0)
 site_of_either n site (Node at s (Named x)) = tested (is_flow n x) refl
   where
-    tested : (b : Bool) → is_flow n x ≡ b → ((y : Identifier) × IsName n (Node at s (Named x)) y × (cond b (site_of n x) (unwrap_or site 0) ≡ site_of n y)) ⊎ (cond b (site_of n x) (unwrap_or site 0) ≡ unwrap_or site 0)
+    tested : (b : Bool) → is_flow n x ≡ b → ((y : Identifier) × IsName n (Node at s (Named x)) y × (cond b (site_of n x) (unwrap_or site 0) ≡ site_of n y))
+        ⊎ (cond b (site_of n x) (unwrap_or site 0) ≡ unwrap_or site 0)
     tested true is = inl (x, (at, s, refl, is), refl)
     tested false is = inr refl
 site_of_either n site (Node at s _) = inr refl
@@ -80,23 +83,29 @@ module _ (program : ProgramTree) (main : Identifier) (well : AreWell program) (n
       ]
     ]
 
-    pub one_of_place : (i j : Instance) (d e : Delay) → IsInstance program main i → IsInstance program main j → Contains (node_delays i.node) d → Contains (node_delays j.node) e
+    pub one_of_place : (i j : Instance) (d e : Delay) → IsInstance program main i → IsInstance program main j → Contains (node_delays i.node) d
+        → Contains (node_delays j.node) e
         → delay_place i d ≡ delay_place j e → told i d ≡ told j e
     one_of_place i j d e a b w v same =
         let r = snoc i.path j.path (memory_site i.node d.site d.operand) (memory_site j.node e.site e.operand) same in
         let one = one_instance i j a b r.0 in
         let within : Contains (node_delays j.node) d = subst (λ (i : Instance). Contains (node_delays i.node) d) one w in
-        let site : memory_site j.node d.site d.operand ≡ memory_site j.node e.site e.operand = ap (λ (i : Instance). memory_site i.node d.site d.operand) (sym one) ∙ r.1 in
+        let site : memory_site j.node d.site d.operand ≡ memory_site j.node e.site e.operand = ap (λ (i : Instance). memory_site i.node d.site d.operand)
+        (sym one) ∙ r.1 in
         ap (λ (i : Instance). told i d) one ∙ one_told j (well.numbered j.node (node_in program main well named j b)) d e within v site
 
   -- so both take the same, as it is made
-  pub one_raw : (numbers : Numbers) (i j : Instance) (d e : Delay) → IsInstance program main i → IsInstance program main j → Contains (node_delays i.node) d → Contains (node_delays j.node) e
+  pub one_raw : (numbers : Numbers) (i j : Instance) (d e : Delay) → IsInstance program main i → IsInstance program main j → Contains (node_delays i.node) d
+      → Contains (node_delays j.node) e
       → delay_place i d ≡ delay_place j e → raw_delay program numbers i d ≡ raw_delay program numbers j e
-  one_raw numbers = one_of_place RawItem (raw_delay program numbers) (λ i x. raw_delay program numbers i (record { site = Nothing; operand = Node 0 Nothing (Named x) }))
+  one_raw numbers = one_of_place RawItem (raw_delay program numbers) (λ i x. raw_delay program numbers i
+      (record { site = Nothing; operand = Node 0 Nothing (Named x) }))
       (λ i d x is. ap (λ (t : Tree). raw_delay program numbers i (record { site = Nothing; operand = t })) is.2)
 
   -- and as it is in the system
-  pub one_item : (numbers : Numbers) (i j : Instance) (d e : Delay) → IsInstance program main i → IsInstance program main j → Contains (node_delays i.node) d → Contains (node_delays j.node) e
+  pub one_item : (numbers : Numbers) (i j : Instance) (d e : Delay) → IsInstance program main i → IsInstance program main j → Contains (node_delays i.node) d
+      → Contains (node_delays j.node) e
       → delay_place i d ≡ delay_place j e → delay_item program numbers i d ≡ delay_item program numbers j e
-  one_item numbers = one_of_place Item (delay_item program numbers) (λ i x. delay_item program numbers i (record { site = Nothing; operand = Node 0 Nothing (Named x) }))
+  one_item numbers = one_of_place Item (delay_item program numbers) (λ i x. delay_item program numbers i
+      (record { site = Nothing; operand = Node 0 Nothing (Named x) }))
       (λ i d x is. ap (λ (t : Tree). delay_item program numbers i (record { site = Nothing; operand = t })) is.2)

@@ -2,12 +2,14 @@
 use Rattle.std.proofs.Common.{◌≡◌, inl, inr, ℕ, suc, List, [], ◌∷◌, ◌++◌, sym, subst, unwrap_or, Option, flat_map}
 use Rattle.std.specs.List.{Contains}
 use Rattle.std.proofs.lemmas.List.Elements.{Contains-append_left, Contains-append_right, Contains-append_cases}
-use Rattle.rv_tree.specs.Tree.{Tree, Node, Form, True, False, Number, Named, Not, Minus, Pre, Current, When, Binary, If, AtMostOne, Call, Trees, None, More, EquationTree, AssertionTree, NodeTree}
+use Rattle.rv_tree.specs.Tree.{Tree, Node, Form, True, False, Number, Named, Not, Minus, Pre, Current, When, Binary, If, AtMostOne, Call, Trees, None, More}
+use Rattle.rv_tree.specs.Tree.{EquationTree, AssertionTree, NodeTree}
 use Rattle.rv_tree.specs.Places.{Identifier}
 use Rattle.rv_types.specs.Variables.{parts, form_parts, parts_of_all, node_parts}
 use Rattle.rv_types.specs.Instances.{CallTree, calls_in, calls_in_all, calls_in_equations, calls_in_assertions, calls, IsArgument, head, tail}
 use Rattle.rv_flat.proofs.Members.{none_in, at_head, head_or_tail, from_flat_map}
-use Rattle.rv_flatten.proofs.Standing.{Stands, as_argument, as_assertion, as_child, of_not, of_minus, of_pre, of_current, of_when, of_left, of_right, of_condition, of_first, of_second, of_operand, of_argument, whole, called, right_stands}
+use Rattle.rv_flatten.proofs.Standing.{Stands, as_argument, as_assertion, as_child, of_not, of_minus, of_pre, of_current, of_when, of_left, of_right}
+use Rattle.rv_flatten.proofs.Standing.{of_condition, of_first, of_second, of_operand, of_argument, whole, called, right_stands}
 
 call_there : (qs : List EquationTree) (q : EquationTree) (c : CallTree) → Contains qs q → Contains (calls_in q.right) c → Contains (calls_in_equations qs) c
 call_there [] q c w v = none_in q w
@@ -59,7 +61,8 @@ module _ (n : NodeTree) where
   -- an expression of the node stands there, or is a call of the node
   pub data IsPart (x : Tree) : Type 0 where
     standing : Stands n x → IsPart x
-    calling : (at : ℕ) (site : Option ℕ) (f : Identifier) (args : Trees) → x ≡ Node at site (Call f args) → Contains (calls n) (record { at = at; site = unwrap_or site 0; name = f; args = args }) → IsPart x
+    calling : (at : ℕ) (site : Option ℕ) (f : Identifier) (args : Trees) → x ≡ Node at site (Call f args)
+        → Contains (calls n) (record { at = at; site = unwrap_or site 0; name = f; args = args }) → IsPart x
 
   right_part : (q : EquationTree) → Contains n.equations q → (x : Tree) → Contains (parts q.right) x → IsPart x
   right_part q w x v = elim (right_stands n q w) [
@@ -74,7 +77,8 @@ module _ (n : NodeTree) where
   ]
 
   pub part_is : (x : Tree) → Contains (node_parts n) x → IsPart x
-  part_is x w = elim (Contains-append_cases (flat_map (λ (q : EquationTree). parts q.right) n.equations) (flat_map (λ (a : AssertionTree). parts a.body) n.assertions) x w) [
-    | inl v ↦ let r = from_flat_map (λ (q : EquationTree). parts q.right) n.equations x v in right_part r.0 r.1 x r.2
-    | inr v ↦ let r = from_flat_map (λ (a : AssertionTree). parts a.body) n.assertions x v in standing (part_stands r.0.body (as_assertion r.0 r.1) x r.2)
-  ]
+  part_is x w = elim (Contains-append_cases (flat_map (λ (q : EquationTree). parts q.right) n.equations)
+      (flat_map (λ (a : AssertionTree). parts a.body) n.assertions) x w) [
+        | inl v ↦ let r = from_flat_map (λ (q : EquationTree). parts q.right) n.equations x v in right_part r.0 r.1 x r.2
+        | inr v ↦ let r = from_flat_map (λ (a : AssertionTree). parts a.body) n.assertions x v in standing (part_stands r.0.body (as_assertion r.0 r.1) x r.2)
+      ]

@@ -1,5 +1,6 @@
 -- Where the layout of all flows leads along a place.
-use Rattle.std.proofs.Common.{◌≡◌, inl, inr, ℕ, zero, suc, ◌+◌, ◌-◌, ◌<◌, ◌^◌, List, [], ◌∷◌, ◌++◌, map, length, get_or, take, unwrap_or, refl, sym, ◌∙◌, ap, subst, arith}
+use Rattle.std.proofs.Common.{◌≡◌, inl, inr, ℕ, zero, suc, ◌+◌, ◌-◌, ◌<◌, ◌^◌, List, [], ◌∷◌, ◌++◌, map, length, get_or, take, unwrap_or, refl, sym, ◌∙◌, ap}
+use Rattle.std.proofs.Common.{subst, arith}
 use Rattle.std.specs.Prelude.{min}
 use Rattle.std.proofs.lemmas.Bool.{cases_eq}
 use Rattle.std.proofs.lemmas.List.{get_or_default, get_or-map, length-map, take_all}
@@ -48,7 +49,8 @@ way-snoc l m [] s = refl
 way-snoc l m (t ∷ q) s = ap (λ w. m ∷ w) (way-snoc l (callee_or_main l.callees m t) q s)
 
 -- going on along one more call
-pub way_more : (l : Layout) (q : Sites) (s : ℕ) (way new : List ℕ) → way ≡ way_from l 0 q → new ≡ way ++ callee_or_main l.callees (get_or way (length way - 1) 0) s ∷ [] → new ≡ way_from l 0 (q ++ s ∷ [])
+pub way_more : (l : Layout) (q : Sites) (s : ℕ) (way new : List ℕ) → way ≡ way_from l 0 q
+    → new ≡ way ++ callee_or_main l.callees (get_or way (length way - 1) 0) s ∷ [] → new ≡ way_from l 0 (q ++ s ∷ [])
 way_more l q s way new is grown =
     grown ∙ (λ i. is i ++ callee_or_main l.callees (get_or (is i) (length (is i) - 1) 0) s ∷ [])
     ∙ ap (λ k. way_from l 0 q ++ callee_or_main l.callees k s ∷ []) (way_last l 0 q) ∙ sym (way-snoc l 0 q s)
@@ -65,7 +67,8 @@ pub way_back : (l : Layout) (m : ℕ) (q : Sites) (k : ℕ) → take (k + 1) (wa
 way_back l m q k = let one : k + 1 ≡ suc k = omega arith in ap (λ n. take n (way_from l m q)) one ∙ back l m q k
 
 -- the number at the end of the way along a path, and of one site more
-pub number_reached : (l : Layout) (m n : ℕ) (q : Sites) (s : ℕ) (way : List ℕ) → way ≡ way_from l m q → site_number l (get_or way (length way - 1) 0) s ≡ number_from l m n (q ++ s ∷ [])
+pub number_reached : (l : Layout) (m n : ℕ) (q : Sites) (s : ℕ) (way : List ℕ) → way ≡ way_from l m q
+    → site_number l (get_or way (length way - 1) 0) s ≡ number_from l m n (q ++ s ∷ [])
 number_reached l m n q s way is =
     (λ i. site_number l (get_or (is i) (length (is i) - 1) 0) s) ∙ ap (λ k. site_number l k s) (way_last l m q) ∙ sym (number-snoc l m n q s)
 
@@ -81,7 +84,8 @@ module _ (p : ProgramTree) (main : Identifier) (instances : List Numbered) (know
       let lt = root.1 in
       elim (cases_eq root.0 0) [
         | inl here ↦ (omega (arith, lt), ap (λ k. get_or instances k no_instance) (sym here) ∙ root.2)
-        | inr other ↦ absurd (subst (IsBefore (path_at instances 0)) (ap (λ (x : Numbered). x.path) root.2) (known.all.rising 0 root.0 no_instance (omega (arith, other)) lt))
+        | inr other ↦ absurd (subst (IsBefore (path_at instances 0)) (ap (λ (x : Numbered). x.path) root.2)
+            (known.all.rising 0 root.0 no_instance (omega (arith, other)) lt))
       ]
 
   module _ (l : Layout) (laid_out : IsLayout p main instances l) where
@@ -114,7 +118,8 @@ module _ (p : ProgramTree) (main : Identifier) (instances : List Numbered) (know
           no_greater n lt = omega (arith, lt)
 
       -- so those of a sequence have its numbers
-      pub sequence_numbers : (sequence : List Sites) (numbers : List ℕ) → IsSequence p main sequence → numbers ≡ map (number_from l 0 0) sequence → AreNumbersOf (all_places p instances) sequence numbers
+      pub sequence_numbers : (sequence : List Sites) (numbers : List ℕ) → IsSequence p main sequence → numbers ≡ map (number_from l 0 0) sequence
+          → AreNumbersOf (all_places p instances) sequence numbers
       sequence_numbers sequence numbers are is = subst (AreNumbersOf (all_places p instances) sequence) (sym is) (record {
         size = length-map sequence (number_from l 0 0);
         each = λ j lt.

@@ -21,7 +21,8 @@ use Rattle.rv_flatten.specs.Kinded.{IsKinded}
 use Rattle.rv_flatten.proofs.ApartComparisons.{comparisons_apart}
 use Rattle.rv_flatten.proofs.DistinctPlaces.{distinct_ticks, distinct_memories}
 use Rattle.rv_flatten.proofs.ReadFits.{all_flows_fit, all_memories_fit, all_assertions_fit, all_clocks_fit, clock_many}
-use Rattle.rv_flatten.proofs.Standing.{Stands, as_child, of_not, of_minus, of_current, of_when, of_left, of_right, of_condition, of_first, of_second, of_operand, own_current, body_stands, argument_stands, operand_stands, as_assertion}
+use Rattle.rv_flatten.proofs.Standing.{Stands, as_child, of_not, of_minus, of_current, of_when, of_left, of_right, of_condition, of_first, of_second}
+use Rattle.rv_flatten.proofs.Standing.{of_operand, own_current, body_stands, argument_stands, operand_stands, as_assertion}
 
 module _ (s : System) where
   product_shared : (left : Bool) (y z : ℤ) (f g : FlatTree) → IsShared s f → IsShared s g → FormIsShared s (cond left (Scale y g) (Scale z f))
@@ -66,11 +67,15 @@ module _ (program : ProgramTree) (main : Identifier) (numbers : Numbers) (s : Sy
       form_shared at site (tree.Not e) t = expression_shared e (as_child at site (tree.Not e) e t of_not)
       form_shared at site (tree.Minus e) t = expression_shared e (as_child at site (tree.Minus e) e t of_minus)
       form_shared at site (tree.Pre e) t = tt
-      form_shared at site (tree.Current e) t =
-          (read.memory i (record { site = site; operand = e }) of (own_current i.node at site e t), expression_shared e (as_child at site (tree.Current e) e t of_current))
+      form_shared at site (tree.Current e) t = (
+        read.memory i (record { site = site; operand = e }) of (own_current i.node at site e t),
+        expression_shared e
+            (as_child at site (tree.Current e) e t of_current),
+      )
       form_shared at site (tree.When e x) t = expression_shared e (as_child at site (tree.When e x) e t (of_when x))
       form_shared at site (tree.Binary o a b) t =
-          operator_shared s (is_constant (node_scope program i.node) a) o (coefficient program a) (coefficient program b) (tick_number numbers (clock_in i Base (tree.Node 0 site (tree.Binary o a b))))
+          operator_shared s (is_constant (node_scope program i.node) a) o (coefficient program a) (coefficient program b)
+          (tick_number numbers (clock_in i Base (tree.Node 0 site (tree.Binary o a b))))
           (flat_of program numbers i a) (flat_of program numbers i b)
           (expression_shared a (as_child at site (tree.Binary o a b) a t of_left)) (expression_shared b (as_child at site (tree.Binary o a b) b t of_right))
       form_shared at site (tree.If a b d) t = (
@@ -95,12 +100,15 @@ module _ (program : ProgramTree) (main : Identifier) (numbers : Numbers) (s : Sy
   pub is_inlined : IsInlined s
   is_inlined = record {
     flows = λ k lt. let r = read.flow k lt in subst (λ (x : Item). IsShared s x.body) (sym r.2) (giver_shared _ r.0 r.1);
-    memories = λ m lt. let r = read.memory_only m lt in subst (λ (x : Item). IsShared s x.body) (sym r.4) (expression_shared r.0 r.2 r.1.operand (operand_stands r.0.node r.1 r.3));
-    assertions = λ k lt. let r = read.asserted k lt in subst (λ (x : Item). IsShared s x.body) (sym r.4) (expression_shared r.0 r.2 r.1.body (as_assertion r.1 r.3));
+    memories = λ m lt. let r = read.memory_only m lt in subst (λ (x : Item). IsShared s x.body) (sym r.4)
+        (expression_shared r.0 r.2 r.1.operand (operand_stands r.0.node r.1 r.3));
+    assertions = λ k lt. let r = read.asserted k lt in subst (λ (x : Item). IsShared s x.body) (sym r.4)
+        (expression_shared r.0 r.2 r.1.body (as_assertion r.1 r.3));
   }
 
   -- The tests pass, where the observer is Boolean.
-  pub is_checked : AreWell program → IsNode program main → IsKinded program main numbers s → IsTrue (is_of kind.Bool (slice_get s.kinds s.observer)) → IsChecked s
+  pub is_checked : AreWell program → IsNode program main → IsKinded program main numbers s → IsTrue (is_of kind.Bool (slice_get s.kinds s.observer))
+      → IsChecked s
   is_checked well named types observer = record {
     kinds = types.many;
     flows = all_flows_fit program main well named numbers s read types;

@@ -1,5 +1,6 @@
 -- What is read of a program fits: it names earlier flows alone, each on its clock, and its types fit.
-use Rattle.std.proofs.Common.{◌≡◌, ℕ, suc, ◌+◌, ◌<◌, Bool, true, false, not, ◌&&◌, ◌||◌, cond, nat_lt, nat_eq, ℤ, pos, List, [], ◌∷◌, ◌++◌, map, length, get_or, slice_get, refl, sym, ◌∙◌, ap, subst, arith, unwrap_or, Option, Some}
+use Rattle.std.proofs.Common.{◌≡◌, ℕ, suc, ◌+◌, ◌<◌, Bool, true, false, not, ◌&&◌, ◌||◌, cond, nat_lt, nat_eq, ℤ, pos, List, [], ◌∷◌, ◌++◌, map, length, get_or}
+use Rattle.std.proofs.Common.{slice_get, refl, sym, ◌∙◌, ap, subst, arith, unwrap_or, Option, Some}
 use Rattle.std.proofs.Common.{None as Nothing}
 use Rattle.std.proofs.lemmas.Bool.{eq-eqb}
 use Rattle.std.proofs.lemmas.Bool.Decides.{nat_tests}
@@ -34,13 +35,17 @@ use Rattle.rv_types.specs.Scopes.{node_scope, constant_kind, constant_value}
 use Rattle.rv_types.specs.Values.{HasKind}
 use Rattle.rv_types.specs.Variables.{is_arrow, is_integer}
 use Rattle.rv_types.specs.Lists.{MemoryAt, memory_at, delay_place, sides_of}
-use Rattle.rv_types.specs.Instances.{CallTree, Body, Output, clock_of_arguments, Instance, place, absolute, clock_of, clock_taken as taken_clock, clock_in, output_place, node_of, IsInstance, IsFlow, IsNode, IsArgument, head, tail}
+use Rattle.rv_types.specs.Instances.{CallTree, Body, Output, clock_of_arguments, Instance, place, absolute, clock_of, clock_taken as taken_clock, clock_in}
+use Rattle.rv_types.specs.Instances.{output_place, node_of, IsInstance, IsFlow, IsNode, IsArgument, head, tail}
 use Rattle.rv_types.specs.Needs.{IsBefore, flow_of, needs, form_needs, needs_all, needs_of, Giver, Of, Gives, given, by_equation, by_call, IsAmongFirst}
 use Rattle.rv_types.specs.WellFormed.{Suits, AreWell}
-use Rattle.rv_agreement.specs.Checks.{same_clock, is_of, any_of, all_kinds, constant_fits, is_placed_for, clock_fits, fits, form_fits, all_fit, item_fits, flows_fit, memories_fit, assertions_fit, clocks_fit}
+use Rattle.rv_agreement.specs.Checks.{same_clock, is_of, any_of, all_kinds, constant_fits, is_placed_for, clock_fits, fits, form_fits, all_fit, item_fits}
+use Rattle.rv_agreement.specs.Checks.{flows_fit, memories_fit, assertions_fit, clocks_fit}
 use Rattle.rv_agreement.specs.Programs.{spot, operator_place, coefficient, operation}
-use Rattle.rv_agreement.specs.Translation.{Numbers, clock_number, tick_number, unplaced, flat_of, flat_form, flats_of, giver_item, delay_item, assertion_item, IsTranslated}
-use Rattle.rv_agreement.specs.Trees.{FlatTree, Constant, Flow, Ticked, Scale, If, Binary, Item, Kept, System, no_item, nth_item, memory_items, memory_kinds, memory_places, kind_at}
+use Rattle.rv_agreement.specs.Translation.{Numbers, clock_number, tick_number, unplaced, flat_of, flat_form, flats_of, giver_item, delay_item, assertion_item}
+use Rattle.rv_agreement.specs.Translation.{IsTranslated}
+use Rattle.rv_agreement.specs.Trees.{FlatTree, Constant, Flow, Ticked, Scale, If, Binary, Item, Kept, System, no_item, nth_item, memory_items, memory_kinds}
+use Rattle.rv_agreement.specs.Trees.{memory_places, kind_at}
 use Rattle.rv_agreement.specs.Valuations.{is_placed}
 use Rattle.rv_flatten.specs.Kinded.{IsKinded}
 use Rattle.rv_flatten.proofs.ArrowClocks.{node_comes, node_true}
@@ -48,9 +53,12 @@ use Rattle.rv_flatten.proofs.ComparedParts.{node_marked, node_seen}
 use Rattle.rv_flat.proofs.Earliest.{not_itself}
 use Rattle.rv_flatten.proofs.ItemClocks.{number_at, number_within, item_clock, output_clock}
 use Rattle.rv_flat.proofs.Members.{at_head, in_tail, in_map}
-use Rattle.rv_flatten.proofs.Standing.{Stands, as_child, of_not, of_minus, of_current, of_when, of_left, of_right, of_condition, of_first, of_second, of_operand, stands_in, own_delay, own_current, own_call, body_stands, argument_stands, operand_stands, as_assertion, output_call}
+use Rattle.rv_flatten.proofs.Standing.{Stands, as_child, of_not, of_minus, of_current, of_when, of_left, of_right, of_condition, of_first, of_second}
+use Rattle.rv_flatten.proofs.Standing.{of_operand, stands_in, own_delay, own_current, own_call, body_stands, argument_stands, operand_stands, as_assertion}
+use Rattle.rv_flatten.proofs.Standing.{output_call}
 use Rattle.rv_flatten.proofs.SuitedParts.{suits_own, suits_seen, grounded_taken, suits_meet, suits_binary, suits_when}
-use Rattle.rv_flat.proofs.TypedParts.{some_is, no_flag, both_hold, same_kinds, met_kind, IsTyped, named_typed, not_typed, minus_typed, pre_typed, current_typed, when_typed, binary_typed, if_typed, most_typed, call_typed}
+use Rattle.rv_flat.proofs.TypedParts.{some_is, no_flag, both_hold, same_kinds, met_kind, IsTyped, named_typed, not_typed, minus_typed, pre_typed, current_typed}
+use Rattle.rv_flat.proofs.TypedParts.{when_typed, binary_typed, if_typed, most_typed, call_typed}
 use Rattle.rv_flat.proofs.PlaceNumbers.{found, is_found, index_at, its_number}
 use Rattle.rv_flatten.proofs.WellInstances.{node_in, formed, typed}
 use Rattle.rv_flatten.proofs.ClockKinds.{IsTrueClock, clock_taken, clock_taken_on, clock_is_true, pace_is_true, paces_are_true}
@@ -105,7 +113,8 @@ spot_there path site m e = ap (λ (o : Option ℕ). is_placed (spot path o)) e �
     by [] = refl
     by (x ∷ xs) = refl
 
-placed_by : (path : Sites) (site : Option ℕ) (o : Op) (l : Kind) (c d : Bool) → is_comparison o ≡ c → is_integer l ≡ d → (c ≡ true → (m : ℕ) × (site ≡ Some m)) → is_placed_for (cond (c && d) (spot path site) []) o l ≡ true
+placed_by : (path : Sites) (site : Option ℕ) (o : Op) (l : Kind) (c d : Bool) → is_comparison o ≡ c → is_integer l ≡ d → (c ≡ true → (m : ℕ) × (site ≡ Some m))
+    → is_placed_for (cond (c && d) (spot path site) []) o l ≡ true
 placed_by path site o l false d is e sited = ap (λ (b : Bool). b || cond (is_placed []) (is_integer l) (not (is_integer l))) (no_sides o is)
 placed_by path site o l true false is e sited = either (nat_eq (length (sides_of o)) 0) (not (is_integer l)) (ap not e)
 placed_by path site o l true true is e sited =
@@ -125,11 +134,14 @@ module _ (program : ProgramTree) (main : Identifier) (well : AreWell program) (n
 
     kind_there : (q : Sites) (k : Kind) → HasFlow program main q k → slice_get s.kinds (number q) ≡ Some k
     kind_there q k h =
-        types.flow h.instance h.name (number q) h.of h.within (within q (flow_there h)) ((number_at program main well named numbers s read q (flow_there h)).1 ∙ h.at) ∙ h.kind
+        types.flow h.instance h.name (number q) h.of h.within (within q (flow_there h)) ((number_at program main well named numbers s read q (flow_there h)).1
+        ∙ h.at) ∙ h.kind
 
-    flow_fits : (before : ℕ) (c : Option ℕ) (q : Sites) (k : Kind) (at : Sites) → HasFlow program main q k → number q < before → (nth_item s.flows (number q)).clock ≡ c → form_fits s before c k at (Flow (number q)) ≡ true
+    flow_fits : (before : ℕ) (c : Option ℕ) (q : Sites) (k : Kind) (at : Sites) → HasFlow program main q k → number q < before
+        → (nth_item s.flows (number q)).clock ≡ c → form_fits s before c k at (Flow (number q)) ≡ true
     flow_fits before c q k at h lt clock =
-        both (nat_lt (number q) before) (is_of k (slice_get s.kinds (number q)) && same_clock c (nth_item s.flows (number q)).clock) (less_told (number q) before lt)
+        both (nat_lt (number q) before) (is_of k (slice_get s.kinds (number q)) && same_clock c (nth_item s.flows (number q)).clock)
+        (less_told (number q) before lt)
         (both (is_of k (slice_get s.kinds (number q))) (same_clock c (nth_item s.flows (number q)).clock) (ap (is_of k) (kind_there q k h) ∙ kind_itself k)
         (same_told c (nth_item s.flows (number q)).clock clock))
 
@@ -150,7 +162,8 @@ module _ (program : ProgramTree) (main : Identifier) (well : AreWell program) (n
     places_once j k lt less same =
         let ps : List Sites = numbers.memories in
         let rising : IsBefore (get_or ps j []) (get_or ps k []) =
-        subst (λ (l : List Sites). IsBefore (get_or l j []) (get_or l k [])) places_are (read.memories.rising j k lt (let e = ap length places_are in omega (arith, less, e))) in
+        subst (λ (l : List Sites). IsBefore (get_or l j []) (get_or l k [])) places_are
+        (read.memories.rising j k lt (let e = ap length places_are in omega (arith, less, e))) in
         not_itself (get_or ps k []) (subst (λ (q : Sites). IsBefore q (get_or ps k [])) same rising)
 
     -- a memory has the type of what it holds
@@ -162,8 +175,10 @@ module _ (program : ProgramTree) (main : Identifier) (well : AreWell program) (n
         let many : length listed ≡ length s.memories = length-map s.memories as_listed in
         let lt : r.0 < length numbers.memories = omega (arith, r.1, many, memory_count) in
         let at_place : get_or numbers.memories r.0 [] ≡ delay_place i d =
-        ap (λ (l : List Sites). get_or l r.0 []) (sym places_are) ∙ get_or-map (λ (m : MemoryAt). m.place) listed r.0 own [] r.1 ∙ ap (λ (m : MemoryAt). m.place) r.2 in
-        let place : index_of numbers.memories (delay_place i d) ≡ r.0 = ap (index_of numbers.memories) (sym at_place) ∙ its_number numbers.memories places_once r.0 lt in
+        ap (λ (l : List Sites). get_or l r.0 []) (sym places_are) ∙ get_or-map (λ (m : MemoryAt). m.place) listed r.0 own [] r.1
+        ∙ ap (λ (m : MemoryAt). m.place) r.2 in
+        let place : index_of numbers.memories (delay_place i d) ≡ r.0 = ap (index_of numbers.memories) (sym at_place)
+        ∙ its_number numbers.memories places_once r.0 lt in
         let kinds_as_listed : map (λ (m : MemoryAt). m.kind) listed ≡ memory_kinds s = map-map (λ (m : MemoryAt). m.kind) as_listed s.memories in
         ap (slice_get (memory_kinds s)) place
         ∙ ap (λ (l : List Kind). slice_get l r.0) (sym kinds_as_listed)
@@ -175,7 +190,8 @@ module _ (program : ProgramTree) (main : Identifier) (well : AreWell program) (n
     tick_many : length s.ticks ≡ suc (length numbers.ticks)
     tick_many = ap length read.tick_places ∙ ap suc (length-map numbers.ticks (λ (q : Sites). Some q))
 
-    tick_fits : (before : ℕ) (c : Option ℕ) (k : Option Sites) → ((q : Sites) → k ≡ Some q → Contains numbers.ticks q) → fits s before c kind.Bool (unplaced (Ticked (tick_number numbers k))) ≡ true
+    tick_fits : (before : ℕ) (c : Option ℕ) (k : Option Sites) → ((q : Sites) → k ≡ Some q → Contains numbers.ticks q)
+        → fits s before c kind.Bool (unplaced (Ticked (tick_number numbers k))) ≡ true
     tick_fits before c Nothing there = less_told 0 (length s.ticks) (omega (arith, tick_many))
     tick_fits before c (Some q) there =
         let at = index_at numbers.ticks q (is_found numbers.ticks q (there q refl)) in
@@ -185,39 +201,48 @@ module _ (program : ProgramTree) (main : Identifier) (well : AreWell program) (n
     constant_is_of before c k at v h = ap (λ (ls : List ℕ). constant_fits ls k v) types.label ∙ value_fits program k v h
 
     types_declared : length s.labels ≡ length program.types
-    types_declared = ap length types.label ∙ length-map (map (λ d. texts (labels_of d)) program.types) (λ ls. length ls) ∙ length-map program.types (λ d. texts (labels_of d))
+    types_declared = ap length types.label ∙ length-map (map (λ d. texts (labels_of d)) program.types) (λ ls. length ls)
+        ∙ length-map program.types (λ d. texts (labels_of d))
 
     -- An operator between operands of types that suit.
     module _ (before : ℕ) (c : Option ℕ) (at : Sites) where
       abbrev OperandsFit : Op → FlatTree → FlatTree → Kind → Bool
       OperandsFit o f g = λ i. is_placed_for at o i && (fits s before c i f && fits s before c i g)
 
-      operands_fit : (o : Op) (j : Kind) (f g : FlatTree) → is_placed_for at o j ≡ true → fits s before c j f ≡ true → fits s before c j g ≡ true → OperandsFit o f g j ≡ true
-      operands_fit o j f g placed p q = both (is_placed_for at o j) (fits s before c j f && fits s before c j g) placed (both (fits s before c j f) (fits s before c j g) p q)
+      operands_fit : (o : Op) (j : Kind) (f g : FlatTree) → is_placed_for at o j ≡ true → fits s before c j f ≡ true → fits s before c j g ≡ true
+          → OperandsFit o f g j ≡ true
+      operands_fit o j f g placed p q = both (is_placed_for at o j) (fits s before c j f && fits s before c j g) placed
+          (both (fits s before c j f) (fits s before c j g) p q)
 
-      one_kind : (o : Op) (j : Kind) (f g : FlatTree) → is_placed_for at o j ≡ true → fits s before c j f ≡ true → fits s before c j g ≡ true → any_of (OperandsFit o f g) (j ∷ []) ≡ true
+      one_kind : (o : Op) (j : Kind) (f g : FlatTree) → is_placed_for at o j ≡ true → fits s before c j f ≡ true → fits s before c j g ≡ true
+          → any_of (OperandsFit o f g) (j ∷ []) ≡ true
       one_kind o j f g placed p q = ap (λ (b : Bool). b || false) (operands_fit o j f g placed p q)
 
       -- under a rule that is met by two equal types
-      flags_fit : (o : Op) (l r k : Kind) (f g : FlatTree) → kind_in (where_met (both_are kind.Bool l r) kind.Bool) ≡ Some k → is_placed_for at o l ≡ true → fits s before c l f ≡ true → fits s before c r g ≡ true
+      flags_fit : (o : Op) (l r k : Kind) (f g : FlatTree) → kind_in (where_met (both_are kind.Bool l r) kind.Bool) ≡ Some k → is_placed_for at o l ≡ true
+          → fits s before c l f ≡ true → fits s before c r g ≡ true
           → (same_kind k kind.Bool && any_of (OperandsFit o f g) (kind.Bool ∷ [])) ≡ true
       flags_fit o l r k f g e placed p q =
           let m = met_kind (both_are kind.Bool l r) kind.Bool k e in
           let t = both_hold (same_kind l kind.Bool) (same_kind r kind.Bool) m.0 in
           both (same_kind k kind.Bool) (any_of (OperandsFit o f g) (kind.Bool ∷ [])) (ap (λ (j : Kind). same_kind j kind.Bool) (sym m.1))
           (one_kind o kind.Bool f g (subst (λ (j : Kind). is_placed_for at o j ≡ true) (same_kinds l kind.Bool t.0) placed)
-          (subst (λ (j : Kind). fits s before c j f ≡ true) (same_kinds l kind.Bool t.0) p) (subst (λ (j : Kind). fits s before c j g ≡ true) (same_kinds r kind.Bool t.1) q))
+          (subst (λ (j : Kind). fits s before c j f ≡ true) (same_kinds l kind.Bool t.0) p)
+          (subst (λ (j : Kind). fits s before c j g ≡ true) (same_kinds r kind.Bool t.1) q))
 
-      wholes_fit : (o : Op) (l r made k : Kind) (f g : FlatTree) → kind_in (where_met (both_are kind.Int l r) made) ≡ Some k → is_placed_for at o l ≡ true → fits s before c l f ≡ true → fits s before c r g ≡ true
+      wholes_fit : (o : Op) (l r made k : Kind) (f g : FlatTree) → kind_in (where_met (both_are kind.Int l r) made) ≡ Some k → is_placed_for at o l ≡ true
+          → fits s before c l f ≡ true → fits s before c r g ≡ true
           → (same_kind k made && any_of (OperandsFit o f g) (kind.Int ∷ [])) ≡ true
       wholes_fit o l r made k f g e placed p q =
           let m = met_kind (both_are kind.Int l r) made k e in
           let t = both_hold (same_kind l kind.Int) (same_kind r kind.Int) m.0 in
           both (same_kind k made) (any_of (OperandsFit o f g) (kind.Int ∷ [])) (ap (λ (j : Kind). same_kind j made) (sym m.1) ∙ kind_itself made)
           (one_kind o kind.Int f g (subst (λ (j : Kind). is_placed_for at o j ≡ true) (same_kinds l kind.Int t.0) placed)
-          (subst (λ (j : Kind). fits s before c j f ≡ true) (same_kinds l kind.Int t.0) p) (subst (λ (j : Kind). fits s before c j g ≡ true) (same_kinds r kind.Int t.1) q))
+          (subst (λ (j : Kind). fits s before c j f ≡ true) (same_kinds l kind.Int t.0) p)
+          (subst (λ (j : Kind). fits s before c j g ≡ true) (same_kinds r kind.Int t.1) q))
 
-      equals_fit : (o : Op) (l r k : Kind) (f g : FlatTree) → IsBelow (length program.types) l → kind_in (where_met (same_kind l r) kind.Bool) ≡ Some k → is_placed_for at o l ≡ true → fits s before c l f ≡ true → fits s before c r g ≡ true
+      equals_fit : (o : Op) (l r k : Kind) (f g : FlatTree) → IsBelow (length program.types) l → kind_in (where_met (same_kind l r) kind.Bool) ≡ Some k
+          → is_placed_for at o l ≡ true → fits s before c l f ≡ true → fits s before c r g ≡ true
           → (same_kind k kind.Bool && any_of (OperandsFit o f g) (all_kinds s.labels)) ≡ true
       equals_fit o l r k f g h e placed p q =
           let m = met_kind (same_kind l r) kind.Bool k e in
@@ -231,24 +256,29 @@ module _ (program : ProgramTree) (main : Identifier) (well : AreWell program) (n
       product_kinds true false k e = absurd (none-some k e)
       product_kinds false scaled k e = absurd (none-some k e)
 
-      product_fits : (scaled left : Bool) (l r k : Kind) (y z : ℤ) (f g : FlatTree) → kind_in (binary_rule true scaled op.Times l r) ≡ Some k → fits s before c l f ≡ true → fits s before c r g ≡ true
+      product_fits : (scaled left : Bool) (l r k : Kind) (y z : ℤ) (f g : FlatTree) → kind_in (binary_rule true scaled op.Times l r) ≡ Some k
+          → fits s before c l f ≡ true → fits s before c r g ≡ true
           → form_fits s before c k at (cond left (Scale y g) (Scale z f)) ≡ true
       product_fits scaled left l r k y z f g e p q =
           let m = product_kinds (both_are kind.Int l r) scaled k e in
           let t = both_hold (same_kind l kind.Int) (same_kind r kind.Int) m.0 in
-          by left (ap (λ (j : Kind). same_kind j kind.Int) (sym m.1)) (subst (λ (j : Kind). fits s before c j f ≡ true) (same_kinds l kind.Int t.0) p) (subst (λ (j : Kind). fits s before c j g ≡ true) (same_kinds r kind.Int t.1) q)
+          by left (ap (λ (j : Kind). same_kind j kind.Int) (sym m.1)) (subst (λ (j : Kind). fits s before c j f ≡ true) (same_kinds l kind.Int t.0) p)
+          (subst (λ (j : Kind). fits s before c j g ≡ true) (same_kinds r kind.Int t.1) q)
         where
-          by : (left : Bool) → same_kind k kind.Int ≡ true → fits s before c kind.Int f ≡ true → fits s before c kind.Int g ≡ true → form_fits s before c k at (cond left (Scale y g) (Scale z f)) ≡ true
+          by : (left : Bool) → same_kind k kind.Int ≡ true → fits s before c kind.Int f ≡ true → fits s before c kind.Int g ≡ true
+              → form_fits s before c k at (cond left (Scale y g) (Scale z f)) ≡ true
           by true t p q = both (same_kind k kind.Int) (fits s before c kind.Int g) t q
           by false t p q = both (same_kind k kind.Int) (fits s before c kind.Int f) t p
 
-      operator_fits : (scaled left : Bool) (o : Op) (l r k : Kind) (y z : ℤ) (tick f g : FlatTree) → IsBelow (length program.types) l → kind_in (binary_rule true scaled o l r) ≡ Some k → is_placed_for at o l ≡ true
+      operator_fits : (scaled left : Bool) (o : Op) (l r k : Kind) (y z : ℤ) (tick f g : FlatTree) → IsBelow (length program.types) l
+          → kind_in (binary_rule true scaled o l r) ≡ Some k → is_placed_for at o l ≡ true
           → (o ≡ op.Arrow → fits s before c kind.Bool tick ≡ true) → fits s before c l f ≡ true → fits s before c r g ≡ true
           → form_fits s before c k at (operation o (If tick g f) (cond left (Scale y g) (Scale z f)) (Binary o f g)) ≡ true
       operator_fits scaled left op.Arrow l r k y z tick f g h e placed t p q =
           let m = met_kind (same_kind l r) l k e in
           both (fits s before c kind.Bool tick) (fits s before c k g && fits s before c k f) (t refl)
-          (both (fits s before c k g) (fits s before c k f) (subst (λ (j : Kind). fits s before c j g ≡ true) (sym (same_kinds l r m.0) ∙ m.1) q) (subst (λ (j : Kind). fits s before c j f ≡ true) m.1 p))
+          (both (fits s before c k g) (fits s before c k f) (subst (λ (j : Kind). fits s before c j g ≡ true) (sym (same_kinds l r m.0) ∙ m.1) q)
+          (subst (λ (j : Kind). fits s before c j f ≡ true) m.1 p))
       operator_fits scaled left op.Times l r k y z tick f g h e placed t p q = product_fits scaled left l r k y z f g e p q
       operator_fits scaled left op.Implies l r k y z tick f g h e placed t p q = flags_fit op.Implies l r k f g e placed p q
       operator_fits scaled left op.Or l r k y z tick f g h e placed t p q = flags_fit op.Or l r k f g e placed p q
@@ -277,21 +307,26 @@ module _ (program : ProgramTree) (main : Identifier) (well : AreWell program) (n
 
       -- an expression needs the flow of its clock
       clock_needed : (c : Clock) (e : Tree) (q : Sites) → absolute i c ≡ Some q → Contains (needs program i c e) q
-      clock_needed c (tree.Node at site form) q e = Contains-append_left (flow_of (absolute i c)) (form_needs program i c site form) q (subst (λ (o : Option Sites). Contains (flow_of o) q) (sym e) (at_head q []))
+      clock_needed c (tree.Node at site form) q e = Contains-append_left (flow_of (absolute i c)) (form_needs program i c site form) q
+          (subst (λ (o : Option Sites). Contains (flow_of o) q) (sym e) (at_head q []))
 
-      clock_fits_at : (before : ℕ) (k : Option Sites) → ((q : Sites) → k ≡ Some q → HasFlow program main q kind.Bool) → ((q : Sites) → k ≡ Some q → number q < before)
+      clock_fits_at : (before : ℕ) (k : Option Sites) → ((q : Sites) → k ≡ Some q → HasFlow program main q kind.Bool)
+          → ((q : Sites) → k ≡ Some q → number q < before)
           → clock_fits s before (clock_number numbers k) ≡ true
       clock_fits_at before Nothing flow early = refl
       clock_fits_at before (Some q) flow early =
-          both (nat_lt (number q) before) (is_of kind.Bool (slice_get s.kinds (number q))) (less_told (number q) before (early q refl)) (ap (is_of kind.Bool) (kind_there q kind.Bool (flow q refl)) ∙ kind_itself kind.Bool)
+          both (nat_lt (number q) before) (is_of kind.Bool (slice_get s.kinds (number q))) (less_told (number q) before (early q refl))
+          (ap (is_of kind.Bool) (kind_there q kind.Bool (flow q refl)) ∙ kind_itself kind.Bool)
 
       -- the clock of an expression that has a type
       pub own_clock : (e : Tree) (k : Kind) → IsTyped program i.node e k → (q : Sites) → clock_in i Base e ≡ Some q → HasFlow program main q kind.Bool
       own_clock e k t q at =
-          clock_flow program main well named i (taken_clock i Base e) q of (clock_taken program i.node (pace i.node e) (pace_is_true program i.node (typed program main well named i of) e k t)) at
+          clock_flow program main well named i (taken_clock i Base e) q of
+          (clock_taken program i.node (pace i.node e) (pace_is_true program i.node (typed program main well named i of) e k t)) at
 
       -- a name
-      name_fits : (before : ℕ) (c : Clock) (at : ℕ) (site : Option ℕ) (x : Identifier) (k : Kind) (b : Bool) → is_flow i.node x ≡ b → IsTyped program i.node (tree.Node at site (tree.Named x)) k
+      name_fits : (before : ℕ) (c : Clock) (at : ℕ) (site : Option ℕ) (x : Identifier) (k : Kind) (b : Bool) → is_flow i.node x ≡ b
+          → IsTyped program i.node (tree.Node at site (tree.Named x)) k
           → Suits c (cond b (At (clock_of i.node x)) Free) → IsEarly before c (tree.Node at site (tree.Named x))
           → form_fits s before (clock c) k [] (cond b (Flow (number (place i x))) (Constant (constant_value program x))) ≡ true
       name_fits before c at site x k true is t h early =
@@ -304,102 +339,134 @@ module _ (program : ProgramTree) (main : Identifier) (well : AreWell program) (n
             at = refl;
             kind = ap (λ (b : Bool). cond b (flow_kind program i.node x) (constant_kind program x)) (sym is) ∙ named_typed program i.node at site x k t;
           } in
-          let needed = Contains-append_right (flow_of (absolute i c)) (form_needs program i c site (tree.Named x)) q (subst (λ (b : Bool). Contains (cond b (q ∷ []) []) q) (sym is) (at_head q [])) in
+          let needed = Contains-append_right (flow_of (absolute i c)) (form_needs program i c site (tree.Named x)) q
+          (subst (λ (b : Bool). Contains (cond b (q ∷ []) []) q) (sym is) (at_head q [])) in
           flow_fits before (clock c) q k [] f (early q needed (flow_there f))
           (item_clock program main well named numbers s read i (site_of i.node x) of (index_at (flows_of i.node) x is).0 ∙ ap clock h)
       name_fits before c at site x k false is t h early =
           constant_is_of before (clock c) k [] (constant_value program x)
-          (well.values x k (ap (λ (b : Bool). cond b (flow_kind program i.node x) (constant_kind program x)) (sym is) ∙ named_typed program i.node at site x k t))
+          (well.values x k (ap (λ (b : Bool). cond b (flow_kind program i.node x) (constant_kind program x)) (sym is)
+          ∙ named_typed program i.node at site x k t))
 
       memory_fits : (site : Option ℕ) (e : Tree) (k : Kind) → Contains (node_delays i.node) (record { site = site; operand = e }) → IsTyped program i.node e k
           → is_of k (slice_get (memory_kinds s) (index_of numbers.memories (delay_place i (record { site = site; operand = e })))) ≡ true
       memory_fits site e k w t = ap (is_of k) (memory_kind_at i (record { site = site; operand = e }) k of w t) ∙ kind_itself k
 
       -- a comparison that stands in the instance has a site
-      sited_there : (at : ℕ) (site : Option ℕ) (o : Op) (a b : Tree) → Stands i.node (tree.Node at site (tree.Binary o a b)) → is_comparison o ≡ true → (m : ℕ) × (site ≡ Some m)
+      sited_there : (at : ℕ) (site : Option ℕ) (o : Op) (a b : Tree) → Stands i.node (tree.Node at site (tree.Binary o a b)) → is_comparison o ≡ true
+          → (m : ℕ) × (site ≡ Some m)
       sited_there at site o a b t is =
           let marked = in_map (λ m. m.at_site) _ _ (node_marked at site o a b is i.node (stands_in i.node (tree.Node at site (tree.Binary o a b)) t)) in
-          let r = (well.numbered i.node (node_in program main well named i of)).next (part at site) (subst (λ (l : List SitedPart). Contains l (part at site)) (node_seen i.node) marked) in
+          let r = (well.numbered i.node (node_in program main well named i of)).next (part at site)
+          (subst (λ (l : List SitedPart). Contains l (part at site)) (node_seen i.node) marked) in
           (r.0, r.1)
 
-      placed_there : (at : ℕ) (site : Option ℕ) (o : Op) (a b : Tree) (l : Kind) → Stands i.node (tree.Node at site (tree.Binary o a b)) → IsTyped program i.node a l → is_placed_for (operator_place program i site o a) o l ≡ true
+      placed_there : (at : ℕ) (site : Option ℕ) (o : Op) (a b : Tree) (l : Kind) → Stands i.node (tree.Node at site (tree.Binary o a b))
+          → IsTyped program i.node a l → is_placed_for (operator_place program i site o a) o l ≡ true
       placed_there at site o a b l t is =
           subst (λ (k : Option Kind). is_placed_for (cond (is_comparison o && is_integer (unwrap_or k kind.Bool)) (spot i.path site) []) o l ≡ true) (sym is)
           (placed_by i.path site o l (is_comparison o) (is_integer l) refl refl (sited_there at site o a b t))
 
       mutual
         -- an expression that stands in the instance, on a clock, and whose flows have earlier numbers
-        pub expression_fits : (before : ℕ) (c : Clock) (e : Tree) (k : Kind) → Stands i.node e → IsTyped program i.node e k → Suits c (pace i.node e) → IsEarly before c e
+        pub expression_fits : (before : ℕ) (c : Clock) (e : Tree) (k : Kind) → Stands i.node e → IsTyped program i.node e k → Suits c (pace i.node e)
+            → IsEarly before c e
             → fits s before (clock_number numbers (absolute i c)) k (flat_of program numbers i e) ≡ true
         expression_fits before c (tree.Node at site form) k t is h early = form_fits_too before c at site form k t is h early
 
-        form_fits_too : (before : ℕ) (c : Clock) (at : ℕ) (site : Option ℕ) (form : Form) (k : Kind) → Stands i.node (tree.Node at site form) → IsTyped program i.node (tree.Node at site form) k
+        form_fits_too : (before : ℕ) (c : Clock) (at : ℕ) (site : Option ℕ) (form : Form) (k : Kind) → Stands i.node (tree.Node at site form)
+            → IsTyped program i.node (tree.Node at site form) k
             → Suits c (form_pace i.node form) → IsEarly before c (tree.Node at site form)
             → fits s before (clock_number numbers (absolute i c)) k (flat_form program numbers i site form) ≡ true
-        form_fits_too before c at site tree.True k t is h early = subst (λ (j : Kind). constant_fits s.labels j (Flag true) ≡ true) (same_Some kind.Bool k is) refl
-        form_fits_too before c at site tree.False k t is h early = subst (λ (j : Kind). constant_fits s.labels j (Flag false) ≡ true) (same_Some kind.Bool k is) refl
-        form_fits_too before c at site (tree.Number n) k t is h early = subst (λ (j : Kind). constant_fits s.labels j (value.Whole (pos n)) ≡ true) (same_Some kind.Int k is) refl
+        form_fits_too before c at site tree.True k t is h early = subst (λ (j : Kind). constant_fits s.labels j (Flag true) ≡ true) (same_Some kind.Bool k is)
+            refl
+        form_fits_too before c at site tree.False k t is h early = subst (λ (j : Kind). constant_fits s.labels j (Flag false) ≡ true) (same_Some kind.Bool k is)
+            refl
+        form_fits_too before c at site (tree.Number n) k t is h early = subst (λ (j : Kind). constant_fits s.labels j (value.Whole (pos n)) ≡ true)
+            (same_Some kind.Int k is) refl
         form_fits_too before c at site (tree.Named x) k t is h early = name_fits before c at site x k (is_flow i.node x) refl is h early
         form_fits_too before c at site (tree.Not e) k t is h early =
             let r = not_typed program i.node at site e k is in
             both (same_kind k kind.Bool) _ (ap (λ (j : Kind). same_kind j kind.Bool) (sym r.1))
-            (expression_fits before c e kind.Bool (as_child at site (tree.Not e) e t of_not) r.0 (suits_seen c (pace i.node e) h) (λ q w. early q (Contains-append_right (flow_of (absolute i c)) (needs program i c e) q w)))
+            (expression_fits before c e kind.Bool (as_child at site (tree.Not e) e t of_not) r.0 (suits_seen c (pace i.node e) h)
+            (λ q w. early q (Contains-append_right (flow_of (absolute i c)) (needs program i c e) q w)))
         form_fits_too before c at site (tree.Minus e) k t is h early =
             let r = minus_typed program i.node at site e k is in
             both (same_kind k kind.Int) _ (ap (λ (j : Kind). same_kind j kind.Int) (sym r.1))
-            (expression_fits before c e kind.Int (as_child at site (tree.Minus e) e t of_minus) r.0 (suits_seen c (pace i.node e) h) (λ q w. early q (Contains-append_right (flow_of (absolute i c)) (needs program i c e) q w)))
-        form_fits_too before c at site (tree.Pre e) k t is h early = memory_fits site e k (own_delay i.node at site e t) (pre_typed program i.node at site e k is)
+            (expression_fits before c e kind.Int (as_child at site (tree.Minus e) e t of_minus) r.0 (suits_seen c (pace i.node e) h)
+            (λ q w. early q (Contains-append_right (flow_of (absolute i c)) (needs program i c e) q w)))
+        form_fits_too before c at site (tree.Pre e) k t is h early = memory_fits site e k (own_delay i.node at site e t)
+            (pre_typed program i.node at site e k is)
         form_fits_too before c at site (tree.Current e) k t is h early =
             let r = current_typed program i.node at site e k is in
             let own = own_current i.node at site e t in
             let on = taken_clock i Base e in
             let inside = λ (q : Sites) (w : Contains (needs program i on e) q). Contains-append_right (flow_of (absolute i c)) (needs program i on e) q w in
             let flow = own_clock e k r in
-            both (is_of k (slice_get (memory_kinds s) (index_of numbers.memories (delay_place i (record { site = site; operand = e }))))) _ (memory_fits site e k own r)
+            both (is_of k (slice_get (memory_kinds s) (index_of numbers.memories (delay_place i (record { site = site; operand = e }))))) _
+            (memory_fits site e k own r)
             (both (clock_fits s before (clock_number numbers (clock_in i Base e))) _
             (clock_fits_at before (clock_in i Base e) flow (λ q at. early q (inside q (clock_needed on e q at)) (flow_there (flow q at))))
-            (expression_fits before on e k (as_child at site (tree.Current e) e t of_current) r ((formed program main well named i of).delay_clock (record { site = site; operand = e }) own) (λ q w. early q (inside q w))))
+            (expression_fits before on e k (as_child at site (tree.Current e) e t of_current) r
+            ((formed program main well named i of).delay_clock (record { site = site; operand = e }) own) (λ q w. early q (inside q w))))
         form_fits_too before c at site (tree.When e x) k t is h early =
             let r = when_typed program i.node at site e x k is in
             let m : ℕ = site_of i.node x.text in
             let q : Sites = place i x.text in
             let there : HasFlow program main q kind.Bool = flow_of_site program main well named i m kind.Bool of r.1 in
             let suits = suits_when c i.node (seen (pace i.node e)) m h in
-            let lt : m < length (flows_of i.node) = (let less = slice_get_within (flow_kinds program i.node) m kind.Bool r.1 in let many = kinds_many program i.node in omega (arith, less, many)) in
-            let needed : Contains (needs program i c (tree.Node at site (tree.When e x))) q = clock_needed c (tree.Node at site (tree.When e x)) q (ap (absolute i) (sym suits.0)) in
+            let lt : m < length (flows_of i.node) = (let less = slice_get_within (flow_kinds program i.node) m kind.Bool r.1 in
+            let many = kinds_many program i.node in omega (arith, less, many)) in
+            let needed : Contains (needs program i c (tree.Node at site (tree.When e x))) q = clock_needed c (tree.Node at site (tree.When e x)) q
+            (ap (absolute i) (sym suits.0)) in
             both (same_clock (clock c) (Some (number q))) _ (same_told (clock c) (Some (number q)) (ap clock suits.0))
             (both (clock_fits s before (Some (number q))) _
-            (clock_fits_at before (Some q) (λ p e. subst (λ (p : Sites). HasFlow program main p kind.Bool) (same_Some q p e) there) (λ p e. subst (λ (p : Sites). number p < before) (same_Some q p e) (early q needed (flow_there there))))
-            (subst (λ (n : Option ℕ). fits s before n k (flat_of program numbers i e) ≡ true) (sym (item_clock program main well named numbers s read i m of lt))
-            (expression_fits before (clock_of i.node x.text) e k (as_child at site (tree.When e x) e t (of_when x)) r.0 (suits_seen (clock_of i.node x.text) (pace i.node e) suits.1)
+            (clock_fits_at before (Some q) (λ p e. subst (λ (p : Sites). HasFlow program main p kind.Bool) (same_Some q p e) there)
+            (λ p e. subst (λ (p : Sites). number p < before) (same_Some q p e) (early q needed (flow_there there))))
+            (subst (λ (n : Option ℕ). fits s before n k (flat_of program numbers i e) ≡ true)
+            (sym (item_clock program main well named numbers s read i m of lt))
+            (expression_fits before (clock_of i.node x.text) e k (as_child at site (tree.When e x) e t (of_when x)) r.0
+            (suits_seen (clock_of i.node x.text) (pace i.node e) suits.1)
             (λ q w. early q (Contains-append_right (flow_of (absolute i c)) (needs program i (clock_of i.node x.text) e) q w)))))
         form_fits_too before c at site (tree.Binary o a b) k t is h early =
             let r = binary_typed program i.node at site o a b k is in
             let suits = suits_binary c o (seen (pace i.node a)) (seen (pace i.node b)) h in
-            let inside = λ (q : Sites) (w : Contains (needs program i c a ++ needs program i c b) q). Contains-append_right (flow_of (absolute i c)) (needs program i c a ++ needs program i c b) q w in
+            let inside = λ (q : Sites) (w : Contains (needs program i c a ++ needs program i c b) q). Contains-append_right (flow_of (absolute i c))
+            (needs program i c a ++ needs program i c b) q w in
             let on = clock_in i Base (tree.Node 0 site (tree.Binary o a b)) in
-            operator_fits before (clock c) (operator_place program i site o a) _ (is_constant (node_scope program i.node) a) o r.left r.right k (coefficient program a) (coefficient program b)
+            operator_fits before (clock c) (operator_place program i site o a) _ (is_constant (node_scope program i.node) a) o r.left r.right k
+            (coefficient program a) (coefficient program b)
             (unplaced (Ticked (tick_number numbers on))) (flat_of program numbers i a) (flat_of program numbers i b)
             (kind_declared program well i.node a r.left r.left_is) r.rule (placed_there at site o a b r.left t r.left_is)
             (λ arrow. tick_fits before (clock c) on
-            (λ q is. read.ticks.all i (tree.Node at site (tree.Binary o a b)) q of (stands_in i.node (tree.Node at site (tree.Binary o a b)) t) (ap (λ (u : Op). is_arrow (tree.Node at site (tree.Binary u a b))) arrow) is))
-            (expression_fits before c a r.left (as_child at site (tree.Binary o a b) a t of_left) r.left_is (suits_seen c (pace i.node a) suits.0) (λ q w. early q (inside q (Contains-append_left (needs program i c a) (needs program i c b) q w))))
-            (expression_fits before c b r.right (as_child at site (tree.Binary o a b) b t of_right) r.right_is (suits_seen c (pace i.node b) suits.1) (λ q w. early q (inside q (Contains-append_right (needs program i c a) (needs program i c b) q w))))
+            (λ q is. read.ticks.all i (tree.Node at site (tree.Binary o a b)) q of (stands_in i.node (tree.Node at site (tree.Binary o a b)) t)
+            (ap (λ (u : Op). is_arrow (tree.Node at site (tree.Binary u a b))) arrow) is))
+            (expression_fits before c a r.left (as_child at site (tree.Binary o a b) a t of_left) r.left_is (suits_seen c (pace i.node a) suits.0)
+            (λ q w. early q (inside q (Contains-append_left (needs program i c a) (needs program i c b) q w))))
+            (expression_fits before c b r.right (as_child at site (tree.Binary o a b) b t of_right) r.right_is (suits_seen c (pace i.node b) suits.1)
+            (λ q w. early q (inside q (Contains-append_right (needs program i c a) (needs program i c b) q w))))
         form_fits_too before c at site (tree.If a b d) k t is h early =
             let r = if_typed program i.node at site a b d k is in
             let first = suits_meet c (seen (pace i.node a)) (meet (seen (pace i.node b)) (seen (pace i.node d))) h in
             let rest = suits_meet c (seen (pace i.node b)) (seen (pace i.node d)) first.1 in
             let last = needs program i c b ++ needs program i c d in
-            let inside = λ (q : Sites) (w : Contains (needs program i c a ++ last) q). Contains-append_right (flow_of (absolute i c)) (needs program i c a ++ last) q w in
+            let inside = λ (q : Sites) (w : Contains (needs program i c a ++ last) q). Contains-append_right (flow_of (absolute i c))
+            (needs program i c a ++ last) q w in
             both (fits s before (clock c) kind.Bool (flat_of program numbers i a)) _
-            (expression_fits before c a kind.Bool (as_child at site (tree.If a b d) a t of_condition) r.0 (suits_seen c (pace i.node a) first.0) (λ q w. early q (inside q (Contains-append_left (needs program i c a) last q w))))
+            (expression_fits before c a kind.Bool (as_child at site (tree.If a b d) a t of_condition) r.0 (suits_seen c (pace i.node a) first.0)
+            (λ q w. early q (inside q (Contains-append_left (needs program i c a) last q w))))
             (both (fits s before (clock c) k (flat_of program numbers i b)) _
-            (expression_fits before c b k (as_child at site (tree.If a b d) b t of_first) r.1 (suits_seen c (pace i.node b) rest.0) (λ q w. early q (inside q (Contains-append_right (needs program i c a) last q (Contains-append_left (needs program i c b) (needs program i c d) q w)))))
-            (expression_fits before c d k (as_child at site (tree.If a b d) d t of_second) r.2 (suits_seen c (pace i.node d) rest.1) (λ q w. early q (inside q (Contains-append_right (needs program i c a) last q (Contains-append_right (needs program i c b) (needs program i c d) q w))))))
+            (expression_fits before c b k (as_child at site (tree.If a b d) b t of_first) r.1 (suits_seen c (pace i.node b) rest.0)
+            (λ q w. early q (inside q (Contains-append_right (needs program i c a) last q
+            (Contains-append_left (needs program i c b) (needs program i c d) q w)))))
+            (expression_fits before c d k (as_child at site (tree.If a b d) d t of_second) r.2 (suits_seen c (pace i.node d) rest.1)
+            (λ q w. early q (inside q (Contains-append_right (needs program i c a) last q
+            (Contains-append_right (needs program i c b) (needs program i c d) q w))))))
         form_fits_too before c at site (tree.AtMostOne es) k t is h early =
             let r = most_typed program i.node at site es k is in
             both (same_kind k kind.Bool) _ (ap (λ (j : Kind). same_kind j kind.Bool) (sym r.1))
-            (all_fit_too before c es (λ j e arg. as_child at site (tree.AtMostOne es) e t (of_operand j arg)) r.0 h (λ q w. early q (Contains-append_right (flow_of (absolute i c)) (needs_all program i c es) q w)))
+            (all_fit_too before c es (λ j e arg. as_child at site (tree.AtMostOne es) e t (of_operand j arg)) r.0 h
+            (λ q w. early q (Contains-append_right (flow_of (absolute i c)) (needs_all program i c es) q w)))
         form_fits_too before c at site (tree.Call f args) k t is h early =
             let r = call_typed program i.node at site f args k is in
             let own : CallTree = record { at = at; site = unwrap_or site 0; name = f; args = args } in
@@ -410,14 +477,18 @@ module _ (program : ProgramTree) (main : Identifier) (well : AreWell program) (n
             flow_fits before (clock c) q k [] there (early q (Contains-append_right (flow_of (absolute i c)) (q ∷ []) q (at_head q [])) (flow_there there))
             (output_clock program main well named numbers s read i own 0 k of called gives ∙ ap clock (grounded_taken c (pace_of_all i.node args) h))
 
-        all_fit_too : (before : ℕ) (c : Clock) (es : Trees) → ((j : ℕ) (e : Tree) → IsArgument es j e → Stands i.node e) → ((j : ℕ) (e : Tree) → IsArgument es j e → IsTyped program i.node e kind.Bool)
-            → Suits c (pace_of_all i.node es) → ((q : Sites) → Contains (needs_all program i c es) q → IsFlow program main q → number q < before) → all_fit s before (clock_number numbers (absolute i c)) (flats_of program numbers i es) ≡ true
+        all_fit_too : (before : ℕ) (c : Clock) (es : Trees) → ((j : ℕ) (e : Tree) → IsArgument es j e → Stands i.node e)
+            → ((j : ℕ) (e : Tree) → IsArgument es j e → IsTyped program i.node e kind.Bool)
+            → Suits c (pace_of_all i.node es) → ((q : Sites) → Contains (needs_all program i c es) q → IsFlow program main q → number q < before)
+            → all_fit s before (clock_number numbers (absolute i c)) (flats_of program numbers i es) ≡ true
         all_fit_too before c tree.None t is h early = refl
         all_fit_too before c (tree.More e es) t is h early =
             let suits = suits_meet c (seen (pace i.node e)) (pace_of_all i.node es) h in
             both (fits s before (clock c) kind.Bool (flat_of program numbers i e)) _
-            (expression_fits before c e kind.Bool (t 0 e head) (is 0 e head) (suits_seen c (pace i.node e) suits.0) (λ q w. early q (Contains-append_left (needs program i c e) (needs_all program i c es) q w)))
-            (all_fit_too before c es (λ j a arg. t (suc j) a (tail arg)) (λ j a arg. is (suc j) a (tail arg)) suits.1 (λ q w. early q (Contains-append_right (needs program i c e) (needs_all program i c es) q w)))
+            (expression_fits before c e kind.Bool (t 0 e head) (is 0 e head) (suits_seen c (pace i.node e) suits.0)
+            (λ q w. early q (Contains-append_left (needs program i c e) (needs_all program i c es) q w)))
+            (all_fit_too before c es (λ j a arg. t (suc j) a (tail arg)) (λ j a arg. is (suc j) a (tail arg)) suits.1
+            (λ q w. early q (Contains-append_right (needs program i c e) (needs_all program i c es) q w)))
 
     -- What gives a flow fits.
     pub record GiverFits (before : ℕ) (p : Sites) (g : Giver) : Type 0 where
@@ -427,8 +498,10 @@ module _ (program : ProgramTree) (main : Identifier) (well : AreWell program) (n
       pub body : fits s before (giver_item program numbers g).clock kind (giver_item program numbers g).body ≡ true
 
     -- a right side or argument that is an expression on a clock
-    body_fits : (before : ℕ) (i : Instance) (c : Clock) (e : Tree) (k : Kind) → IsInstance program main i → Stands i.node e → IsTyped program i.node e k → IsTrueClock program i.node c → Suits c (pace i.node e)
-        → ((q : Sites) → Contains (needs_of program (Of i c (Body e))) q → IsFlow program main q → number q < before) → (p : Sites) → HasFlow program main p k → GiverFits before p (Of i c (Body e))
+    body_fits : (before : ℕ) (i : Instance) (c : Clock) (e : Tree) (k : Kind) → IsInstance program main i → Stands i.node e → IsTyped program i.node e k
+        → IsTrueClock program i.node c → Suits c (pace i.node e)
+        → ((q : Sites) → Contains (needs_of program (Of i c (Body e))) q → IsFlow program main q → number q < before) → (p : Sites) → HasFlow program main p k
+        → GiverFits before p (Of i c (Body e))
     body_fits before i c e k of t is true_clock suits early p h =
         let own = clock_taken_on program i.node c (pace i.node e) true_clock (pace_is_true program i.node (typed program main well named i of) e k is) in
         let flow = λ (q : Sites) (at : clock_in i c e ≡ Some q). clock_flow program main well named i (taken_clock i c e) q of own at in
@@ -439,11 +512,13 @@ module _ (program : ProgramTree) (main : Identifier) (well : AreWell program) (n
           body = expression_fits i of before (taken_clock i c e) e k t is (suits_own c (pace i.node e) suits) early;
         }
 
-    pub giver_fits : (before : ℕ) (p : Sites) (g : Giver) → Gives program main p g → ((q : Sites) → Contains (needs_of program g) q → IsFlow program main q → number q < before) → GiverFits before p g
+    pub giver_fits : (before : ℕ) (p : Sites) (g : Giver) → Gives program main p g
+        → ((q : Sites) → Contains (needs_of program g) q → IsFlow program main q → number q < before) → GiverFits before p g
     giver_fits before p _ (given j lt at) early =
         let ks : List Kind = decl_kinds program (node_of program main).inputs in
         let k : Kind = get_or ks j kind.Bool in
-        let e : slice_get ks j ≡ Some k = slice_get-get_or ks j kind.Bool (let many = length-map (node_of program main).inputs (λ d. kind_in_program program d.kind) in omega (arith, lt, many)) in
+        let e : slice_get ks j ≡ Some k = slice_get-get_or ks j kind.Bool
+        (let many = length-map (node_of program main).inputs (λ d. kind_in_program program d.kind) in omega (arith, lt, many)) in
         record {
           kind = k;
           flow = subst (λ (q : Sites). HasFlow program main q k) at (main_input program main well named j k e);
@@ -452,7 +527,8 @@ module _ (program : ProgramTree) (main : Identifier) (well : AreWell program) (n
         }
     giver_fits before p _ (by_equation i x (Body e) of right at) early =
         let t = (typed program main well named i of).body x e right in
-        body_fits before i (clock_of i.node x) e t.0 of (body_stands i.node x e right) t.1 (clock_is_true program i.node (typed program main well named i of) (site_of i.node x))
+        body_fits before i (clock_of i.node x) e t.0 of (body_stands i.node x e right) t.1
+        (clock_is_true program i.node (typed program main well named i of) (site_of i.node x))
         ((formed program main well named i of).body_clock x e right) early p
         (record { instance = i; name = x; of = of; within = ((formed program main well named i of).left x (Body e) right).0; at = sym at; kind = t.2 })
     giver_fits before p _ (by_equation i x (Output c j) of right at) early =
@@ -461,20 +537,32 @@ module _ (program : ProgramTree) (main : Identifier) (well : AreWell program) (n
         let q : Sites = output_place program i c.site c.name j in
         let h : HasFlow program main q t.0 = output_flow program main well named i c j t.0 of called t.1 in
         let clock : Clock = clock_of_arguments i c.args in
-        let own = clock_taken program i.node (pace_of_all i.node c.args) (paces_are_true program i.node (typed program main well named i of) c.args (λ n a arg. let u = (typed program main well named i of).argument c n a called arg in (u.0, u.1))) in
+        let own = clock_taken program i.node (pace_of_all i.node c.args)
+        (paces_are_true program i.node (typed program main well named i of) c.args
+        (λ n a arg. let u = (typed program main well named i of).argument c n a called arg in (u.0, u.1))) in
         let flow = λ (r : Sites) (on : absolute i clock ≡ Some r). clock_flow program main well named i clock r of own on in
         record {
           kind = t.0;
-          flow = record { instance = i; name = x; of = of; within = ((formed program main well named i of).left x (Output c j) right).0; at = sym at; kind = t.2 };
+          flow = record {
+            instance = i;
+            name = x;
+            of = of;
+            within = ((formed program main well named i of).left x (Output c j) right).0;
+            at = sym at;
+            kind = t.2;
+          };
           clock = clock_fits_at i of before (absolute i clock) flow
-              (λ r on. early r (Contains-append_left (flow_of (absolute i clock)) (q ∷ []) r (subst (λ (o : Option Sites). Contains (flow_of o) r) (sym on) (at_head r []))) (flow_there (flow r on)));
-          body = flow_fits before (clock_number numbers (absolute i clock)) q t.0 [] h (early q (Contains-append_right (flow_of (absolute i clock)) (q ∷ []) q (at_head q [])) (flow_there h))
+              (λ r on. early r (Contains-append_left (flow_of (absolute i clock)) (q ∷ []) r
+              (subst (λ (o : Option Sites). Contains (flow_of o) r) (sym on) (at_head r []))) (flow_there (flow r on)));
+          body = flow_fits before (clock_number numbers (absolute i clock)) q t.0 [] h
+              (early q (Contains-append_right (flow_of (absolute i clock)) (q ∷ []) q (at_head q [])) (flow_there h))
               (output_clock program main well named numbers s read i c j t.0 of called t.1);
         }
     giver_fits before p _ (by_call i c j e of called arg at) early =
         let t = (typed program main well named i of).argument c j e called arg in
         body_fits before i (clock_of_arguments i c.args) e t.0 of (argument_stands i.node c j e called arg) t.1
-        (clock_taken program i.node (pace_of_all i.node c.args) (paces_are_true program i.node (typed program main well named i of) c.args (λ n a there. let u = (typed program main well named i of).argument c n a called there in (u.0, u.1))))
+        (clock_taken program i.node (pace_of_all i.node c.args) (paces_are_true program i.node (typed program main well named i of) c.args
+        (λ n a there. let u = (typed program main well named i of).argument c n a called there in (u.0, u.1))))
         ((formed program main well named i of).argument_clock c j e called arg) early p
         (subst (λ (q : Sites). HasFlow program main q t.0) at (input_flow program main well named i c j t.0 of called t.2))
 
@@ -483,7 +571,8 @@ module _ (program : ProgramTree) (main : Identifier) (well : AreWell program) (n
     place_number k lt = its_number numbers.flows read.sequence.once k lt
 
     -- what stands among the first has an earlier number
-    among_first : (k : ℕ) (qs : List Sites) → k < length numbers.flows → All (IsAmongFirst program main numbers.flows k) qs → (q : Sites) → Contains qs q → IsFlow program main q → number q < k
+    among_first : (k : ℕ) (qs : List Sites) → k < length numbers.flows → All (IsAmongFirst program main numbers.flows k) qs → (q : Sites) → Contains qs q
+        → IsFlow program main q → number q < k
     among_first k qs lt all q w is =
         let r = All-contains (IsAmongFirst program main numbers.flows k) qs q all w in
         let same : number q ≡ r.0 = ap number (sym r.2) ∙ place_number r.0 (omega (arith, r.1, lt)) in
@@ -504,7 +593,8 @@ module _ (program : ProgramTree) (main : Identifier) (well : AreWell program) (n
         (ap (λ (item : Item). clock_fits s k item.clock) is ∙ h.clock)
         ((λ j. fits s k (is j).clock (kind_is j) (is j).body) ∙ h.body)
 
-    flows_fit_from : (before : ℕ) (xs : List Item) → ((j : ℕ) (x : Item) → slice_get xs j ≡ Some x → slice_get s.flows (before + j) ≡ Some x) → flows_fit s before xs ≡ true
+    flows_fit_from : (before : ℕ) (xs : List Item) → ((j : ℕ) (x : Item) → slice_get xs j ≡ Some x → slice_get s.flows (before + j) ≡ Some x)
+        → flows_fit s before xs ≡ true
     flows_fit_from before [] from = refl
     flows_fit_from before (x ∷ xs) from =
         let here : before + 0 ≡ before = omega arith in
@@ -526,20 +616,26 @@ module _ (program : ProgramTree) (main : Identifier) (well : AreWell program) (n
         let d : Delay = r.1 in
         let at_place : get_or numbers.memories m [] ≡ delay_place i d =
         ap (λ (l : List Sites). get_or l m []) read.memory_numbers
-        ∙ get_or_from_slice_get (memory_places s) m x.place [] (slice_get-map (λ (k : Kept). k.place) s.memories m ∙ ap (option_map (λ (k : Kept). k.place)) at) ∙ ap (λ (k : MemoryAt). k.place) r.5 in
-        let own : index_of numbers.memories (delay_place i d) ≡ m = ap (index_of numbers.memories) (sym at_place) ∙ its_number numbers.memories places_once m less in
+        ∙ get_or_from_slice_get (memory_places s) m x.place [] (slice_get-map (λ (k : Kept). k.place) s.memories m ∙ ap (option_map (λ (k : Kept). k.place)) at)
+        ∙ ap (λ (k : MemoryAt). k.place) r.5 in
+        let own : index_of numbers.memories (delay_place i d) ≡ m = ap (index_of numbers.memories) (sym at_place)
+        ∙ its_number numbers.memories places_once m less in
         let is : x.item ≡ delay_item program numbers i d =
-        sym (get_or_from_slice_get (memory_items s) m x.item no_item (slice_get-map (λ (k : Kept). k.item) s.memories m ∙ ap (option_map (λ (k : Kept). k.item)) at))
+        sym (get_or_from_slice_get (memory_items s) m x.item no_item (slice_get-map (λ (k : Kept). k.item) s.memories m
+        ∙ ap (option_map (λ (k : Kept). k.item)) at))
         ∙ ap (nth_item (memory_items s)) (sym own) ∙ read.memory i d r.2 r.4 in
         let t = some_is ((typed program main well named i r.2).delay d r.4) in
         let kind_is : x.kind ≡ t.0 = ap (λ (k : MemoryAt). k.kind) r.5 ∙ ap (λ (o : Option Kind). unwrap_or o kind.Bool) t.1 in
         let flow = own_clock i r.2 d.operand t.0 t.1 in
         both (clock_fits s (length s.flows) x.item.clock) (fits s (length s.flows) x.item.clock x.kind x.item.body)
-        (ap (λ (item : Item). clock_fits s (length s.flows) item.clock) is ∙ clock_fits_at i r.2 (length s.flows) (clock_in i Base d.operand) flow (λ q e. within q (flow_there (flow q e))))
+        (ap (λ (item : Item). clock_fits s (length s.flows) item.clock) is
+        ∙ clock_fits_at i r.2 (length s.flows) (clock_in i Base d.operand) flow (λ q e. within q (flow_there (flow q e))))
         ((λ j. fits s (length s.flows) (is j).clock (kind_is j) (is j).body)
-        ∙ expression_fits i r.2 (length s.flows) (taken_clock i Base d.operand) d.operand t.0 (operand_stands i.node d r.4) t.1 ((formed program main well named i r.2).delay_clock d r.4) (λ q w e. within q e))
+        ∙ expression_fits i r.2 (length s.flows) (taken_clock i Base d.operand) d.operand t.0 (operand_stands i.node d r.4) t.1
+        ((formed program main well named i r.2).delay_clock d r.4) (λ q w e. within q e))
 
-    memories_fit_from : (done : ℕ) (ms : List Kept) → ((j : ℕ) (x : Kept) → slice_get ms j ≡ Some x → slice_get s.memories (done + j) ≡ Some x) → memories_fit s ms ≡ true
+    memories_fit_from : (done : ℕ) (ms : List Kept) → ((j : ℕ) (x : Kept) → slice_get ms j ≡ Some x → slice_get s.memories (done + j) ≡ Some x)
+        → memories_fit s ms ≡ true
     memories_fit_from done [] from = refl
     memories_fit_from done (x ∷ xs) from =
         let here : done + 0 ≡ done = omega arith in
@@ -560,17 +656,21 @@ module _ (program : ProgramTree) (main : Identifier) (well : AreWell program) (n
         let is : x ≡ assertion_item program numbers i r.1 = sym (get_or_from_slice_get s.assertions k x no_item at) ∙ r.4 in
         let flow = own_clock i r.2 r.1.body kind.Bool t in
         both (clock_fits s (length s.flows) x.clock) (fits s (length s.flows) x.clock kind.Bool x.body)
-        (ap (λ (item : Item). clock_fits s (length s.flows) item.clock) is ∙ clock_fits_at i r.2 (length s.flows) (clock_in i Base r.1.body) flow (λ q e. within q (flow_there (flow q e))))
+        (ap (λ (item : Item). clock_fits s (length s.flows) item.clock) is
+        ∙ clock_fits_at i r.2 (length s.flows) (clock_in i Base r.1.body) flow (λ q e. within q (flow_there (flow q e))))
         ((λ j. fits s (length s.flows) (is j).clock kind.Bool (is j).body)
-        ∙ expression_fits i r.2 (length s.flows) (taken_clock i Base r.1.body) r.1.body kind.Bool (as_assertion r.1 r.3) t ((formed program main well named i r.2).assertion_clock r.1 r.3) (λ q w e. within q e))
+        ∙ expression_fits i r.2 (length s.flows) (taken_clock i Base r.1.body) r.1.body kind.Bool (as_assertion r.1 r.3) t
+        ((formed program main well named i r.2).assertion_clock r.1 r.3) (λ q w e. within q e))
 
-    assertions_fit_from : (done : ℕ) (xs : List Item) → ((j : ℕ) (x : Item) → slice_get xs j ≡ Some x → slice_get s.assertions (done + j) ≡ Some x) → assertions_fit s xs ≡ true
+    assertions_fit_from : (done : ℕ) (xs : List Item) → ((j : ℕ) (x : Item) → slice_get xs j ≡ Some x → slice_get s.assertions (done + j) ≡ Some x)
+        → assertions_fit s xs ≡ true
     assertions_fit_from done [] from = refl
     assertions_fit_from done (x ∷ xs) from =
         let here : done + 0 ≡ done = omega arith in
         both (item_fits s (length s.flows) kind.Bool x) (assertions_fit s xs)
         (assertion_fits done x (ap (slice_get s.assertions) (sym here) ∙ from 0 x refl))
-        (assertions_fit_from (done + 1) xs (λ j g e. let next : (done + 1) + j ≡ done + suc j = omega arith in ap (slice_get s.assertions) next ∙ from (suc j) g e))
+        (assertions_fit_from (done + 1) xs (λ j g e. let next : (done + 1) + j ≡ done + suc j = omega arith in ap (slice_get s.assertions) next
+        ∙ from (suc j) g e))
 
     -- The assertions fit.
     pub all_assertions_fit : assertions_fit s s.assertions ≡ true
@@ -583,14 +683,16 @@ module _ (program : ProgramTree) (main : Identifier) (well : AreWell program) (n
         let i : Instance = r.0 in
         let e : Tree = r.1 in
         clock_flow program main well named i (taken_clock i Base e) q r.2
-        (node_true program i.node (typed program main well named i r.2) (formed program main well named i r.2) (taken_clock i Base e) (node_comes i.node e r.3 r.4)) r.5
+        (node_true program i.node (typed program main well named i r.2) (formed program main well named i r.2) (taken_clock i Base e)
+        (node_comes i.node e r.3 r.4)) r.5
 
     ticks_fit : (qs : List Sites) → ((q : Sites) → Contains qs q → Contains numbers.ticks q) → clocks_fit s (map (λ q. Some (number q)) qs) ≡ true
     ticks_fit [] into = refl
     ticks_fit (q ∷ qs) into =
         let h = tick_flow q (into q (at_head q qs)) in
         both (nat_lt (number q) (length s.flows) && is_of kind.Bool (slice_get s.kinds (number q))) (clocks_fit s (map (λ q. Some (number q)) qs))
-        (both (nat_lt (number q) (length s.flows)) (is_of kind.Bool (slice_get s.kinds (number q))) (less_told (number q) (length s.flows) (within q (flow_there h))) (ap (is_of kind.Bool) (kind_there q kind.Bool h) ∙ kind_itself kind.Bool))
+        (both (nat_lt (number q) (length s.flows)) (is_of kind.Bool (slice_get s.kinds (number q)))
+        (less_told (number q) (length s.flows) (within q (flow_there h))) (ap (is_of kind.Bool) (kind_there q kind.Bool h) ∙ kind_itself kind.Bool))
         (ticks_fit qs (λ p w. into p (in_tail q qs p w)))
 
     -- The clocks of the ticks fit.

@@ -30,7 +30,8 @@ use Rattle.rv_flat.proofs.Running.{within_places}
 use Rattle.rv_flatten.proofs.SymbolicRead.{system_read, symbolic_there, symbolic_back, comparison_there, comparison_only}
 use Rattle.rv_flatten.proofs.Translated.{AreAlike, is_translated}
 
-module _ (laws : Laws) (program : ProgramTree) (main : Identifier) (well : AreWell program) (named : IsNode program main) (weights : AreLight program main) (defined : AreDefined program main) (f : Flat) where
+module _ (laws : Laws) (program : ProgramTree) (main : Identifier) (well : AreWell program) (named : IsNode program main) (weights : AreLight program main)
+    (defined : AreDefined program main) (f : Flat) where
   -- what a flat system has of its program beside the readings of its expressions
   pub record HasParts : Type 0 where
     pub name : f.main ≡ main
@@ -78,11 +79,16 @@ module _ (laws : Laws) (program : ProgramTree) (main : Identifier) (well : AreWe
       assertions = λ state inputs instant q is. assertions_read laws program main well named weights f read table alike state inputs instant is q;
       system =
           system_read laws program main well named defined f.flows f.memories f.inputs f.variables f.assertions f.labels f.observer read types translated
-          (laws.well (system_of f) (is_checked program main (numbers_of f) (system_of f) translated well named kinded f.observed) (is_inlined program main (numbers_of f) (system_of f) translated))
+          (laws.well (system_of f) (is_checked program main (numbers_of f) (system_of f) translated well named kinded f.observed)
+          (is_inlined program main (numbers_of f) (system_of f) translated))
           (subst (IsFlow program main) has.observer (read.sequence.only f.observer (within has))) (within has) has.observer;
       products = keeps_products program main well named weights;
-      symbolic = λ v cells is none. symbolic_there laws program main well named defined f.flows f.memories f.inputs f.variables f.assertions f.labels f.observer read types translated v cells is none;
-      symbolic_rows = λ v row is. symbolic_back laws program main well named defined f.flows f.memories f.inputs f.variables f.assertions f.labels f.observer read types translated v row is;
-      compares = λ c is. comparison_there laws program main well named defined f.flows f.memories f.inputs f.variables f.assertions f.labels f.observer read types translated c is;
-      compares_only = λ d w. comparison_only laws program main well named defined f.flows f.memories f.inputs f.variables f.assertions f.labels f.observer read types translated d w;
+      symbolic = λ v cells is none. symbolic_there laws program main well named defined f.flows f.memories f.inputs f.variables f.assertions f.labels f.observer
+          read types translated v cells is none;
+      symbolic_rows = λ v row is. symbolic_back laws program main well named defined f.flows f.memories f.inputs f.variables f.assertions f.labels f.observer
+          read types translated v row is;
+      compares = λ c is. comparison_there laws program main well named defined f.flows f.memories f.inputs f.variables f.assertions f.labels f.observer read
+          types translated c is;
+      compares_only = λ d w. comparison_only laws program main well named defined f.flows f.memories f.inputs f.variables f.assertions f.labels f.observer read
+          types translated d w;
     }

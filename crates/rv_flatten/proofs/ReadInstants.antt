@@ -1,5 +1,6 @@
 -- A flat system that is read from its program has the instants of the program, and the same states after them.
-use Rattle.std.proofs.Common.{◌≡◌, inl, inr, ℕ, zero, suc, ◌+◌, ◌<◌, ◌≤◌, ◌↔◌, Bool, true, false, ◌||◌, cond, List, [], ◌∷◌, ◌++◌, map, length, get_or, refl, sym, ◌∙◌, ap, subst, arith, Option, Some, IsSome, None as Nothing}
+use Rattle.std.proofs.Common.{◌≡◌, inl, inr, ℕ, zero, suc, ◌+◌, ◌<◌, ◌≤◌, ◌↔◌, Bool, true, false, ◌||◌, cond, List, [], ◌∷◌, ◌++◌, map, length, get_or, refl}
+use Rattle.std.proofs.Common.{sym, ◌∙◌, ap, subst, arith, Option, Some, IsSome, None as Nothing}
 use Rattle.std.proofs.lemmas.Bool.{cases_order}
 use Rattle.std.proofs.lemmas.List.{length-map, get_or-map, get_or_default, get_or_append_left, get_or_push, length_push}
 use Rattle.std.proofs.lemmas.Option.{none-some, same_Some}
@@ -36,7 +37,8 @@ use Rattle.rv_flat.specs.declared.parts.FlatExpr.{FlatExpr}
 use Rattle.rv_flat.specs.declared.parts.FlatForm.TheFolds.{fold_out-FlatExpr}
 use Rattle.rv_flat.specs.declared.state.State.{State}
 use Rattle.rv_flat.specs.Lists.{tick_places}
-use Rattle.rv_flat.specs.FlatInstants.{Row, nth, is_on_at, value_at, found_at, nth_item, flow_items, memory_items, assertion_trees, places, memory_places, tick_clocks, system_of, IsFlatInstant, IsFlatNext}
+use Rattle.rv_flat.specs.FlatInstants.{Row, nth, is_on_at, value_at, found_at, nth_item, flow_items, memory_items, assertion_trees, places, memory_places}
+use Rattle.rv_flat.specs.FlatInstants.{tick_clocks, system_of, IsFlatInstant, IsFlatNext}
 use Rattle.rv_flat.specs.FlatOf.{numbers_of, flat_state, first_values, flat_inputs, row_of, instant_of, IsBroken, IsFlatBroken, no_assertion}
 use Rattle.rv_flat.specs.Inlined.{IsTable, form_inlined, table_of, inlined, tree_among}
 use Rattle.rv_flat.specs.RawTree.{RawTree, RawForm, raw_tree, form_of}
@@ -60,7 +62,8 @@ first_at values zero j lt = absurd (omega (arith, lt))
 first_at values (suc n) j lt = elim (cases_order j n) [
   | inl same ↦ get_or_push (first_values values n) (values n) (Flag false) j (first_length values n ∙ sym same) ∙ ap values (sym same)
   | inr other ↦ elim other [
-    | inl less ↦ get_or_append_left (first_values values n) (values n ∷ []) (Flag false) j (let h = first_length values n in omega (arith, less, h)) ∙ first_at values n j less
+    | inl less ↦ get_or_append_left (first_values values n) (values n ∷ []) (Flag false) j (let h = first_length values n in omega (arith, less, h))
+        ∙ first_at values n j less
     | inr more ↦ absurd (omega (arith, lt, more))
   ]
 ]
@@ -92,8 +95,10 @@ place_at [] k lt = absurd (omega (arith, lt))
 place_at (e ∷ es) zero lt = sym (ap root (fold_out-FlatExpr RawForm RawTree form_of (λ e. raw.Node e.at.sites e.form) e))
 place_at (e ∷ es) (suc k) lt = place_at es k (omega (arith, lt))
 
-module _ (laws : Laws) (program : ProgramTree) (main : Identifier) (well : AreWell program) (named : IsNode program main) (weights : AreLight program main) (f : Flat)
-    (read : IsRead program main f.flows f.memories f.inputs f.variables f.assertions) (table : IsTable f.memories) (alike : AreAlike program main (numbers_of f))
+module _ (laws : Laws) (program : ProgramTree) (main : Identifier) (well : AreWell program) (named : IsNode program main) (weights : AreLight program main)
+    (f : Flat)
+    (read : IsRead program main f.flows f.memories f.inputs f.variables f.assertions) (table : IsTable f.memories)
+    (alike : AreAlike program main (numbers_of f))
   where
     abbrev numbers : Numbers
     numbers = numbers_of f
@@ -115,11 +120,14 @@ module _ (laws : Laws) (program : ProgramTree) (main : Identifier) (well : AreWe
       here = flat_state f state
 
       -- a memory by its number
-      remembers : (i : Instance) (d : Delay) → IsInstance program main i → Contains (node_delays i.node) d → get_or here.kept (index_of (memory_places f) (delay_place i d)) (Flag false) ≡ state.kept (delay_place i d)
-      remembers i d of w = made_at state.kept (memory_places f) (delay_place i d) (Flag false) (is_found (memory_places f) (delay_place i d) (memory_there program main f.memories read.list i d of w))
+      remembers : (i : Instance) (d : Delay) → IsInstance program main i → Contains (node_delays i.node) d
+          → get_or here.kept (index_of (memory_places f) (delay_place i d)) (Flag false) ≡ state.kept (delay_place i d)
+      remembers i d of w = made_at state.kept (memory_places f) (delay_place i d) (Flag false)
+          (is_found (memory_places f) (delay_place i d) (memory_there program main f.memories read.list i d of w))
 
       -- a tick by its number
-      tick_is : (k : Option Sites) → ((q : Sites) → k ≡ Some q → Contains (tick_places f.variables) q) → get_or here.ticked (tick_number numbers k) false ≡ state.ticked k
+      tick_is : (k : Option Sites) → ((q : Sites) → k ≡ Some q → Contains (tick_places f.variables) q)
+          → get_or here.ticked (tick_number numbers k) false ≡ state.ticked k
       tick_is Nothing there = refl
       tick_is (Some q) there =
           let next : index_of (tick_places f.variables) q + 1 ≡ suc (index_of (tick_places f.variables) q) = omega arith in
@@ -127,7 +135,8 @@ module _ (laws : Laws) (program : ProgramTree) (main : Identifier) (well : AreWe
           ∙ ap (λ l. get_or l (index_of (tick_places f.variables) q) false) (map-map state.ticked (λ p. Some p) (tick_places f.variables))
           ∙ made_at (λ p. state.ticked (Some p)) (tick_places f.variables) q false (is_found (tick_places f.variables) q (there q refl))
 
-      ticks : (i : Instance) (e : Tree) → IsInstance program main i → Contains (node_parts i.node) e → is_arrow e ≡ true → get_or here.ticked (tick_number numbers (clock_in i Base e)) false ≡ state.ticked (clock_in i Base e)
+      ticks : (i : Instance) (e : Tree) → IsInstance program main i → Contains (node_parts i.node) e → is_arrow e ≡ true
+          → get_or here.ticked (tick_number numbers (clock_in i Base e)) false ≡ state.ticked (clock_in i Base e)
       ticks i e of w arrow = tick_is (clock_in i Base e) (λ q is. read.ticks.all i e q of w arrow is)
 
       module _ (row : Row) (instant : Instant) (agrees : (p : Sites) → nth row (index_of (places f) p) ≡ cell instant p) where
@@ -142,20 +151,24 @@ module _ (laws : Laws) (program : ProgramTree) (main : Identifier) (well : AreWe
         on Nothing = refl
         on (Some q) = on_same (nth row (index_of (places f) q)) ∙ ap is_on (agrees q)
 
-        present : (k : Option Sites) → is_true (form_value Value integers (found_at here (flat_inputs f inputs)) row [] (form_inlined (table_of f.memories) (presence (clock_number numbers k)))) ≡ is_on_in instant k
+        present : (k : Option Sites) → is_true (form_value Value integers (found_at here (flat_inputs f inputs)) row []
+            (form_inlined (table_of f.memories) (presence (clock_number numbers k)))) ≡ is_on_in instant k
         present Nothing = refl
         present (Some q) = held_on (nth row (index_of (places f) q)) ∙ ap is_on (agrees q)
 
         -- what is read of an expression
-        reads : (i : Instance) (e : Tree) (k : Kind) → IsInstance program main i → Stands i.node e → IsTyped program i.node e k → has (flat_of program numbers i e) ≡ now program state instant i e
+        reads : (i : Instance) (e : Tree) (k : Kind) → IsInstance program main i → Stands i.node e → IsTyped program i.node e k
+            → has (flat_of program numbers i e) ≡ now program state instant i e
         reads i e k of s t =
             laws.whole program numbers (found_at here (flat_inputs f inputs)) row (found_of state inputs) (cell instant) agrees i e
-            (names_in program main well named (λ q. get_or here.kept (index_of numbers.memories q) (Flag false) ≡ state.kept q) (λ u. get_or here.ticked (tick_number numbers u) false ≡ state.ticked u) (λ j x. Unit {0})
+            (names_in program main well named (λ q. get_or here.kept (index_of numbers.memories q) (Flag false) ≡ state.kept q)
+            (λ u. get_or here.ticked (tick_number numbers u) false ≡ state.ticked u) (λ j x. Unit {0})
             remembers ticks (λ j x v w. tt) i of e k s t)
             ∙ laws.meaning program state inputs instant i e (products_in program main weights.0 light state instant i of e k s t)
 
         -- an expression on a clock
-        body_read : (i : Instance) (c : Clock) (e : Tree) (k : Kind) → IsInstance program main i → Stands i.node e → IsTyped program i.node e k → masked (giver_item program numbers (Of i c (Body e))) ≡ value_now program state instant i c e
+        body_read : (i : Instance) (c : Clock) (e : Tree) (k : Kind) → IsInstance program main i → Stands i.node e → IsTyped program i.node e k
+            → masked (giver_item program numbers (Of i c (Body e))) ≡ value_now program state instant i c e
         body_read i c e k of s t = λ j. cond (on (clock_in i c e) j) (Some (reads i e k of s t j)) Nothing
 
         -- what gives a flow
@@ -172,7 +185,8 @@ module _ (laws : Laws) (program : ProgramTree) (main : Identifier) (well : AreWe
             body_read i (clock_of_arguments i c.args) e t.0 of (argument_stands i.node c j e called arg) t.1
 
         -- the flow with a number
-        flow_read : (k : ℕ) → k < length f.flows → (g : Giver) × Gives program main (get_or (places f) k []) g × (masked (nth_item (flow_items f) k) ≡ expected_now program state inputs instant g)
+        flow_read : (k : ℕ) → k < length f.flows → (g : Giver) × Gives program main (get_or (places f) k []) g
+            × (masked (nth_item (flow_items f) k) ≡ expected_now program state inputs instant g)
         flow_read k lt =
             let r = translated.flow k (let a = translated.many in omega (arith, lt, a, flow_count)) in
             (r.0, r.1, ap masked r.2 ∙ giver_read (get_or (places f) k []) r.0 r.1)
@@ -223,11 +237,13 @@ module _ (laws : Laws) (program : ProgramTree) (main : Identifier) (well : AreWe
               let each : (s : Brought) → get_or (map s.ticked (map (λ p. Some p) ps)) k false ≡ s.ticked (Some p) = λ s.
               ap (λ l. get_or l k false) (map-map s.ticked (λ p. Some p) ps) ∙ get_or-map (λ p. s.ticked (Some p)) ps k [] false less in
               each next ∙ is_next.ticks (Some p)
-              ∙ (λ j. sym (each state) j || sym (ap (is_on_at row_here) (get_or-map (λ p. Some (index_of (places f) p)) ps k [] Nothing less) ∙ on_here (Some p)) j)
+              ∙ (λ j. sym (each state) j || sym (ap (is_on_at row_here) (get_or-map (λ p. Some (index_of (places f) p)) ps k [] Nothing less)
+              ∙ on_here (Some p)) j)
 
           memory_next : (m : ℕ) → m < length f.memories
               → get_or (flat_state f next).kept m (Flag false)
-              ≡ cond (is_on_at row_here (nth_item (memory_items f) m).clock) (value_at here (flat_inputs f inputs) row_here (nth_item (memory_items f) m).body) (get_or here.kept m (Flag false))
+              ≡ cond (is_on_at row_here (nth_item (memory_items f) m).clock) (value_at here (flat_inputs f inputs) row_here (nth_item (memory_items f) m).body)
+              (get_or here.kept m (Flag false))
           memory_next m lt =
               let r = read.memory m lt in
               let i : Instance = r.0 in
@@ -237,15 +253,18 @@ module _ (laws : Laws) (program : ProgramTree) (main : Identifier) (well : AreWe
               get_or-map s.kept (memory_places f) m [] (Flag false) less ∙ ap s.kept r.4 in
               let t = some_is ((typed program main well named i r.2).delay d r.3) in
               each next ∙ is_next.memories i d r.2 r.3
-              ∙ sym (ap (λ item. cond (is_on_at row_here item.clock) (value_at here (flat_inputs f inputs) row_here item.body) (get_or here.kept m (Flag false)))
+              ∙ sym (ap (λ item. cond (is_on_at row_here item.clock) (value_at here (flat_inputs f inputs) row_here item.body)
+              (get_or here.kept m (Flag false)))
               (memory_is program main f.flows f.memories f.inputs f.variables f.assertions read table alike m lt)
-              ∙ (λ j. cond (on_here (clock_in i Base d.operand) j) (reads row_here instant agrees_here i d.operand t.0 r.2 (operand_stands i.node d r.3) t.1 j) (each state j)))
+              ∙ (λ j. cond (on_here (clock_in i Base d.operand) j) (reads row_here instant agrees_here i d.operand t.0 r.2 (operand_stands i.node d r.3) t.1 j)
+              (each state j)))
 
           pub next_read : IsFlatNext f here (flat_inputs f inputs) row_here (flat_state f next)
           next_read = record {
             ticks = (let a = length-map (tick_places f.variables) (λ p. Some (index_of (places f) p)) in
                 let b = length-map (map (λ p. Some p) (tick_places f.variables)) next.ticked in
-                let c : length (map (λ (p : Sites). Some p) (tick_places f.variables)) ≡ length (tick_places f.variables) = length-map (tick_places f.variables) (λ p. Some p) in
+                let c : length (map (λ (p : Sites). Some p) (tick_places f.variables)) ≡ length (tick_places f.variables) = length-map (tick_places f.variables)
+                (λ p. Some p) in
                 omega (arith, a, b, c));
             ticked = tick_next;
             memories = length-map (memory_places f) next.kept ∙ memory_count;
@@ -265,12 +284,15 @@ module _ (laws : Laws) (program : ProgramTree) (main : Identifier) (well : AreWe
         shown = inlined (table_of f.memories)
 
         assertion_read : (i : Instance) (a : AssertionTree) → IsInstance program main i → Contains i.node.assertions a
-            → value_at here (flat_inputs f inputs) (row_of (places f) instant) (shown (assertion_of program numbers i a)) ≡ cond (is_on_in instant (clock_in i Base a.body)) (now program state instant i a.body) (Flag true)
+            → value_at here (flat_inputs f inputs) (row_of (places f) instant) (shown (assertion_of program numbers i a)) ≡ cond
+            (is_on_in instant (clock_in i Base a.body)) (now program state instant i a.body) (Flag true)
         assertion_read i a of w =
-            ap (value_at here (flat_inputs f inputs) (row_of (places f) instant)) (whole_shown program main f.flows f.memories f.inputs f.variables f.assertions read table alike i of a w)
+            ap (value_at here (flat_inputs f inputs) (row_of (places f) instant))
+            (whole_shown program main f.flows f.memories f.inputs f.variables f.assertions read table alike i of a w)
             ∙ (λ j. cond
             (present (row_of (places f) instant) instant agrees_here (clock_in i Base a.body) j)
-            (reads (row_of (places f) instant) instant agrees_here i a.body kind.Bool of (as_assertion a w) ((typed program main well named i of).assertion a w) j)
+            (reads (row_of (places f) instant) instant agrees_here i a.body kind.Bool of (as_assertion a w) ((typed program main well named i of).assertion a w)
+            j)
             (Flag true))
 
         -- the whole expression of the assertion with a number
@@ -285,7 +307,8 @@ module _ (laws : Laws) (program : ProgramTree) (main : Identifier) (well : AreWe
             there : IsBroken program main state instant q → IsFlatBroken f here (flat_inputs f inputs) (row_of (places f) instant) q
             there (i, a, v, of, w, at, value, broken) =
                 let r = read.asserts i a of w in
-                let here_is : get_or (map raw_tree f.assertions) r.0 no_assumption ≡ assertion_of program numbers i a = get_or_default (map raw_tree f.assertions) r.0 no_assumption (assertion_of program numbers i a) r.1 ∙ r.2 in
+                let here_is : get_or (map raw_tree f.assertions) r.0 no_assumption ≡ assertion_of program numbers i a = get_or_default
+                (map raw_tree f.assertions) r.0 no_assumption (assertion_of program numbers i a) r.1 ∙ r.2 in
                 let lt : r.0 < length f.assertions = let many = length-map f.assertions raw_tree in omega (arith, r.1, many) in (
                   r.0,
                   lt,
@@ -301,7 +324,8 @@ module _ (laws : Laws) (program : ProgramTree) (main : Identifier) (well : AreWe
                 let i : Instance = r.0 in
                 let a : AssertionTree = r.1 in
                 let b = broken_both (is_on_in instant (clock_in i Base a.body)) (now program state instant i a.body)
-                (sym (ap (λ e. is_true (value_at here (flat_inputs f inputs) (row_of (places f) instant) e)) (tree_is k lt ∙ ap shown r.4) ∙ ap is_true (assertion_read i a r.2 r.3)) ∙ broken) in
+                (sym (ap (λ e. is_true (value_at here (flat_inputs f inputs) (row_of (places f) instant) e)) (tree_is k lt ∙ ap shown r.4)
+                ∙ ap is_true (assertion_read i a r.2 r.3)) ∙ broken) in
                 (i, a, now program state instant i a.body, r.2, r.3, at ∙ place_at f.assertions k lt ∙ ap root r.4, b.0, b.1)
 
       -- Each instant of the flat system is one of the program.
@@ -351,9 +375,14 @@ module _ (laws : Laws) (program : ProgramTree) (main : Identifier) (well : AreWe
         gives_alike : (g : Giver) → IsSome (expected_now program state inputs instant g) ↔ IsSome (expected program (λ p. Flag false) (λ t. inputs) g always 0)
         gives_alike (Given j) = (λ h. refl, λ h. refl)
         gives_alike (Of i k (Body e)) = (masked_alike _ _ _ _ (sym (on_always (clock_in i k e))), masked_alike _ _ _ _ (on_always (clock_in i k e)))
-        gives_alike (Of i k (Output c j)) = (masked_alike _ _ _ _ (sym (on_always (absolute i (clock_of_arguments i c.args)))), masked_alike _ _ _ _ (on_always (absolute i (clock_of_arguments i c.args))))
+        gives_alike (Of i k (Output c j)) = (
+          masked_alike _ _ _ _ (sym (on_always (absolute i (clock_of_arguments i c.args)))),
+          masked_alike _ _ _ _
+              (on_always (absolute i (clock_of_arguments i c.args))),
+        )
 
-        clocked_there : (i : Instance) (x : Identifier) → IsInstance program main i → Contains (flows i.node) x → IsSome (cell instant (place i x)) ↔ (is_on_in instant (absolute i (clock_of i.node x)) ≡ true)
+        clocked_there : (i : Instance) (x : Identifier) → IsInstance program main i → Contains (flows i.node) x
+            → IsSome (cell instant (place i x)) ↔ (is_on_in instant (absolute i (clock_of i.node x)) ≡ true)
         clocked_there i x of w =
             let g = defined.complete (place i x) (i, x, of, w, refl) in
             let c = defined.clocked i x g.0 (λ p. Flag false) (λ t. inputs) always 0 of w g.1 in
@@ -367,6 +396,7 @@ module _ (laws : Laws) (program : ProgramTree) (main : Identifier) (well : AreWe
           places = λ p. let places = instant_places (places f) row as_many p in (λ h. told_flow p (places.0 h), λ h. places.1 (is_flow_there p h));
           given = λ j lt. given_there (j ∷ []) (Given j) (given j lt refl);
           equations = λ i x r of right. given_there (place i x) (Of i (clock_of i.node x) r) (by_equation i x r of right refl);
-          arguments = λ i c j e of called arg. given_there (i.path ++ c.site ∷ j ∷ []) (Of i (clock_of_arguments i c.args) (Body e)) (by_call i c j e of called arg refl);
+          arguments = λ i c j e of called arg. given_there (i.path ++ c.site ∷ j ∷ []) (Of i (clock_of_arguments i c.args) (Body e))
+              (by_call i c j e of called arg refl);
           clocks = clocked_there;
         }

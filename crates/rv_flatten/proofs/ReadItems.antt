@@ -1,5 +1,6 @@
 -- What is told of givers, memories and assertions of instances, as far as flat items need it.
-use Rattle.std.proofs.Common.{◌≡◌, ℕ, suc, ◌+◌, ◌<◌, ◌≤◌, Bool, true, false, ◌||◌, cond, List, [], ◌∷◌, map, length, get_or, refl, sym, ◌∙◌, ap, subst, arith, length-append, unwrap_or, Some, IsSome}
+use Rattle.std.proofs.Common.{◌≡◌, ℕ, suc, ◌+◌, ◌<◌, ◌≤◌, Bool, true, false, ◌||◌, cond, List, [], ◌∷◌, map, length, get_or, refl, sym, ◌∙◌, ap, subst, arith}
+use Rattle.std.proofs.Common.{length-append, unwrap_or, Some, IsSome}
 use Rattle.std.proofs.lemmas.List.{length-map}
 use Rattle.std.proofs.lemmas.Option.{slice_get_within}
 use Rattle.std.specs.List.{Contains}
@@ -17,7 +18,8 @@ use Rattle.rv_types.specs.Settled.{node_number}
 use Rattle.rv_types.specs.Types.{kind_of}
 use Rattle.rv_types.specs.Scopes.{node_scope, constant_value}
 use Rattle.rv_types.specs.ValueTables.{value_by}
-use Rattle.rv_types.specs.Instances.{CallTree, calls, Right, Body, Output, Instance, clock_taken as taken_clock, clock_of, clock_of_args, taken, node_of, no_node, callee, IsInstance, is_main, is_callee, IsNode}
+use Rattle.rv_types.specs.Instances.{CallTree, calls, Right, Body, Output, Instance, clock_taken as taken_clock, clock_of, clock_of_args, taken, node_of}
+use Rattle.rv_types.specs.Instances.{no_node, callee, IsInstance, is_main, is_callee, IsNode}
 use Rattle.rv_types.specs.Needs.{Given, Of, Gives, by_equation, by_call}
 use Rattle.rv_types.specs.Variables.{node_parts}
 use Rattle.rv_types.specs.WellFormed.{AreWell, Suits}
@@ -46,16 +48,19 @@ known_name : (ns : List NodeTree) (f : Identifier) → IsSome (node_among ns f) 
 known_name [] f some = no_flag some
 known_name (n ∷ ns) f some = by (is_same n.name.text f) refl some (known_name ns f)
   where
-    by : (b : Bool) → is_same n.name.text f ≡ b → IsSome (cond b (Some n) (node_among ns f)) → (IsSome (node_among ns f) → (unwrap_or (node_among ns f) no_node).name.text ≡ f)
+    by : (b : Bool) → is_same n.name.text f ≡ b → IsSome (cond b (Some n) (node_among ns f))
+        → (IsSome (node_among ns f) → (unwrap_or (node_among ns f) no_node).name.text ≡ f)
         → (unwrap_or (cond b (Some n) (node_among ns f)) no_node).name.text ≡ f
     by true e some again = same_text n.name.text f e
     by false e some again = again some
 
-number_known : (ns : List NodeTree) (f : Identifier) → IsSome (node_among ns f) → get_or ns (index_of (texts (map (λ n. n.name) ns)) f) no_node ≡ unwrap_or (node_among ns f) no_node
+number_known : (ns : List NodeTree) (f : Identifier) → IsSome (node_among ns f)
+    → get_or ns (index_of (texts (map (λ n. n.name) ns)) f) no_node ≡ unwrap_or (node_among ns f) no_node
 number_known [] f some = no_flag some
 number_known (n ∷ ns) f some = by (is_same n.name.text f) (index_of (texts (map (λ n. n.name) ns)) f) some (number_known ns f)
   where
-    by : (b : Bool) (at : ℕ) → IsSome (cond b (Some n) (node_among ns f)) → (IsSome (node_among ns f) → get_or ns at no_node ≡ unwrap_or (node_among ns f) no_node)
+    by : (b : Bool) (at : ℕ) → IsSome (cond b (Some n) (node_among ns f))
+        → (IsSome (node_among ns f) → get_or ns at no_node ≡ unwrap_or (node_among ns f) no_node)
         → get_or (n ∷ ns) (cond b 0 (at + 1)) no_node ≡ unwrap_or (cond b (Some n) (node_among ns f)) no_node
     by true at some again = refl
     by false at some again = let next : at + 1 ≡ suc at = omega arith in ap (λ k. get_or (n ∷ ns) k no_node) next ∙ again some
@@ -64,7 +69,8 @@ some_named : (ns : List NodeTree) (f : Identifier) → is_among (texts (map (λ 
 some_named [] f e = no_flag e
 some_named (n ∷ ns) f e = by (is_same n.name.text f) e (some_named ns f)
   where
-    by : (b : Bool) → (b || is_among (texts (map (λ n. n.name) ns)) f) ≡ true → (is_among (texts (map (λ n. n.name) ns)) f ≡ true → IsSome (node_among ns f)) → IsSome (cond b (Some n) (node_among ns f))
+    by : (b : Bool) → (b || is_among (texts (map (λ n. n.name) ns)) f) ≡ true → (is_among (texts (map (λ n. n.name) ns)) f ≡ true → IsSome (node_among ns f))
+        → IsSome (cond b (Some n) (node_among ns f))
     by true e again = refl
     by false e again = again e
 
@@ -149,7 +155,8 @@ module _ (p : ProgramTree) (main : Identifier) (instances : List Numbered) (know
       omega (arith, few, many, lt, same)
     where
       outputs_few : (n : NodeTree) → length n.outputs ≤ length (flows_of n)
-      outputs_few n = let many : length (flows_of n) ≡ length n.inputs + length n.outputs + length n.locals = simp (length-append, length-map) in omega (arith, many)
+      outputs_few n = let many : length (flows_of n) ≡ length n.inputs + length n.outputs + length n.locals = simp (length-append, length-map) in
+          omega (arith, many)
 
   -- the number of an instance that is told is one
   pub body_instance : (b : BodyOf) → IsGiver p main instances (told.Body b) → b.instance < length instances
@@ -171,14 +178,16 @@ module _ (p : ProgramTree) (main : Identifier) (instances : List Numbered) (know
       let same = ap (λ m. length (flows_of m)) is in
       omega (arith, lt, room, same)
 
-  pub body_within : (r : Reader) (b : BodyOf) → IsReader r → node_read r ≡ node_at p instances b.instance → IsGiver p main instances (told.Body b) → IsWithin (numbers_of r).offset b.clock
+  pub body_within : (r : Reader) (b : BodyOf) → IsReader r → node_read r ≡ node_at p instances b.instance → IsGiver p main instances (told.Body b)
+      → IsWithin (numbers_of r).offset b.clock
   body_within r b reads is (q, Given j, gives, stands) = absurd stands
   body_within r b reads is (q, Of i k (Output c j), gives, stands) = absurd stands
   body_within r b reads is (q, Of i k (Body e), gives, stands) =
       let g = giver_clock q i k (Body e) gives in
       subst (IsWithin (numbers_of r).offset) (sym stands.1) (clock_within r i.node k reads (is ∙ node_is b.instance i g.0 stands.0) g.1)
 
-  pub output_within : (r : Reader) (o : OutputOf) → IsReader r → node_read r ≡ node_at p instances o.instance → IsGiver p main instances (told.Output o) → IsWithin (numbers_of r).offset o.clock
+  pub output_within : (r : Reader) (o : OutputOf) → IsReader r → node_read r ≡ node_at p instances o.instance → IsGiver p main instances (told.Output o)
+      → IsWithin (numbers_of r).offset o.clock
   output_within r o reads is (q, Given j, gives, stands) = absurd stands
   output_within r o reads is (q, Of i k (Body e), gives, stands) = absurd stands
   output_within r o reads is (q, Of i k (Output c j), gives, stands) =
@@ -186,10 +195,14 @@ module _ (p : ProgramTree) (main : Identifier) (instances : List Numbered) (know
       subst (IsWithin (numbers_of r).offset) (sym stands.1) (clock_within r i.node k reads (is ∙ node_is o.instance i g.0 stands.0) g.1)
 
 -- A frame that is made of what is known.
-pub is_frame : (numbers : Numbers) (i : Instance) (x : Frame) → IsKnown x.expanded.now → AreLight (program_of x.expanded.now) (main_of x.expanded.now) → IsInstance (program_of x.expanded.now) (main_of x.expanded.now) i
-    → IsNumberOf (program_of x.expanded.now) x.expanded.now.instances.now x.reader.instance i → IsReader x.reader → node_read x.reader ≡ node_at (program_of x.expanded.now) x.expanded.now.instances.now x.reader.instance
-    → scope_by x.tables.now x.own.now ≡ node_scope (program_of x.expanded.now) (node_at (program_of x.expanded.now) x.expanded.now.instances.now x.reader.instance)
-    → IsLayout (program_of x.expanded.now) (main_of x.expanded.now) x.expanded.now.instances.now x.reader.layout.now → value_by x.values.now ≡ constant_value (program_of x.expanded.now)
+pub is_frame : (numbers : Numbers) (i : Instance) (x : Frame) → IsKnown x.expanded.now → AreLight (program_of x.expanded.now) (main_of x.expanded.now)
+    → IsInstance (program_of x.expanded.now) (main_of x.expanded.now) i
+    → IsNumberOf (program_of x.expanded.now) x.expanded.now.instances.now x.reader.instance i → IsReader x.reader
+    → node_read x.reader ≡ node_at (program_of x.expanded.now) x.expanded.now.instances.now x.reader.instance
+    → scope_by x.tables.now x.own.now ≡ node_scope (program_of x.expanded.now)
+    (node_at (program_of x.expanded.now) x.expanded.now.instances.now x.reader.instance)
+    → IsLayout (program_of x.expanded.now) (main_of x.expanded.now) x.expanded.now.instances.now x.reader.layout.now
+    → value_by x.values.now ≡ constant_value (program_of x.expanded.now)
     → IsNumbering (program_of x.expanded.now) (main_of x.expanded.now) x.expanded.now.instances.now numbers x.numbering.now → IsFrame numbers i x
 is_frame numbers i x known light of number reads node scope layout values numbering = record {
   known = known;
@@ -198,7 +211,8 @@ is_frame numbers i x known light of number reads node scope layout values number
   number = number;
   reader = reads;
   node = node ∙ node_is (program_of x.expanded.now) (main_of x.expanded.now) x.expanded.now.instances.now known.expanded x.reader.instance i of number;
-  scope = scope ∙ ap (node_scope (program_of x.expanded.now)) (node_is (program_of x.expanded.now) (main_of x.expanded.now) x.expanded.now.instances.now known.expanded x.reader.instance i of number);
+  scope = scope ∙ ap (node_scope (program_of x.expanded.now)) (node_is (program_of x.expanded.now) (main_of x.expanded.now) x.expanded.now.instances.now
+      known.expanded x.reader.instance i of number);
   layout = layout;
   values = values;
   numbering = numbering;

@@ -30,7 +30,8 @@ use Rattle.rv_flatten.proofs.ReadWeights.{all_flows_light, all_memories_light, a
 use Rattle.rv_flatten.proofs.Translated.{is_translated}
 
 module _ (program : ProgramTree) (main : Identifier) (well : AreWell program) (named : IsNode program main) (light : AreLight program main)
-    (flows : List FlatFlow) (memories : List FlatMemory) (inputs : List FlatInput) (variables : List Bit) (assertions : List FlatExpr) (labels : List (List (List ℕ))) (observer : ℕ)
+    (flows : List FlatFlow) (memories : List FlatMemory) (inputs : List FlatInput) (variables : List Bit) (assertions : List FlatExpr)
+    (labels : List (List (List ℕ))) (observer : ℕ)
     (read : IsRead program main flows memories inputs variables assertions) (types : AreKinds program main flows inputs labels)
   where
     abbrev numbers : Numbers
@@ -44,7 +45,8 @@ module _ (program : ProgramTree) (main : Identifier) (well : AreWell program) (n
     ends = memories_end program main well named flows memories inputs variables assertions read
 
     translated : IsTranslated program main numbers s
-    translated = is_translated program main flows memories inputs variables assertions read (is_table memories ends) (one_raw program main well named numbers) labels observer
+    translated = is_translated program main flows memories inputs variables assertions read (is_table memories ends) (one_raw program main well named numbers)
+        labels observer
 
     kinded : IsKinded program main numbers s
     kinded = are_kinded flows memories inputs assertions variables labels observer program main types
@@ -67,7 +69,8 @@ module _ (program : ProgramTree) (main : Identifier) (well : AreWell program) (n
     ticks_are_apart = distinct_ticks program main numbers s translated
 
     pub memories_are_apart : are_distinct Sites same_sites (memory_places_of memories) ≡ true
-    memories_are_apart = subst (λ l. are_distinct Sites same_sites l ≡ true) (places_are flows memories inputs assertions variables labels observer) (distinct_memories program main numbers s translated)
+    memories_are_apart = subst (λ l. are_distinct Sites same_sites l ≡ true) (places_are flows memories inputs assertions variables labels observer)
+        (distinct_memories program main numbers s translated)
 
     pub comparisons_are_apart : AreApart s
     comparisons_are_apart = comparisons_apart program main numbers s translated well named
@@ -77,7 +80,8 @@ module _ (program : ProgramTree) (main : Identifier) (well : AreWell program) (n
     flows_are_light = all_flows_light program main well named numbers s translated light.0 light.1 light.2
 
     pub memories_are_light : items_light (flow_weights (map (flow_item memories) flows)) (map (memory_item memories) memories) ≡ true
-    memories_are_light = subst (λ l. items_light (flow_weights (map (flow_item memories) flows)) l ≡ true) (items_are flows memories inputs assertions variables labels observer)
+    memories_are_light = subst (λ l. items_light (flow_weights (map (flow_item memories) flows)) l ≡ true)
+        (items_are flows memories inputs assertions variables labels observer)
         (all_memories_light program main well named numbers s translated light.0 light.1 light.2)
 
     pub assertions_are_light : items_light (flow_weights (map (flow_item memories) flows)) (map (assertion_item memories) assertions) ≡ true

@@ -15,13 +15,15 @@ use Rattle.rv_instances.specs.Layouts.{node_at}
 use Rattle.rv_flatten.specs.NodeReaders.{AreOwnTables, scope_by}
 use Rattle.rv_flatten.proofs.InstanceNumbers.{made_of, node_within}
 
-module _ (x : Expanded) (known : IsKnown x) (tables : ProgramTables) (owns : List NodeTables) (are : AreOwnTables (program_of x) tables owns) (m : ℕ) (v : Numbered) (lt : m < length x.instances.now) (is : slice_get x.instances.now m ≡ Some v) where
+module _ (x : Expanded) (known : IsKnown x) (tables : ProgramTables) (owns : List NodeTables) (are : AreOwnTables (program_of x) tables owns) (m : ℕ)
+    (v : Numbered) (lt : m < length x.instances.now) (is : slice_get x.instances.now m ≡ Some v) where
   abbrev p : ProgramTree
   p = program_of x
 
   node_in : v.node < length p.nodes
   node_in =
-      subst (λ (i : Numbered). i.node < length p.nodes) (get_or_from_slice_get x.instances.now m v no_instance is) (node_within p (main_of x) x.instances.now known.expanded m lt)
+      subst (λ (i : Numbered). i.node < length p.nodes) (get_or_from_slice_get x.instances.now m v no_instance is)
+      (node_within p (main_of x) x.instances.now known.expanded m lt)
 
   -- the node of an instance is one of those
   pub own_within : v.node < length owns

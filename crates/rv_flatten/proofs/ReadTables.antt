@@ -1,5 +1,6 @@
 -- What is made of an expression by the tables of a frame is the flat expression of the program.
-use Rattle.std.proofs.Common.{◌≡◌, ℕ, suc, ◌+◌, ◌<◌, min, Bool, true, false, ◌||◌, cond, negsuc, List, [], ◌∷◌, map, length, refl, sym, ◌∙◌, ap, subst, arith, length-append, unwrap_or, Option, Some, IsSome, None as Nothing}
+use Rattle.std.proofs.Common.{◌≡◌, ℕ, suc, ◌+◌, ◌<◌, min, Bool, true, false, ◌||◌, cond, negsuc, List, [], ◌∷◌, map, length, refl, sym, ◌∙◌, ap, subst, arith}
+use Rattle.std.proofs.Common.{length-append, unwrap_or, Option, Some, IsSome, None as Nothing}
 use Rattle.std.proofs.lemmas.List.{length-map}
 use Rattle.std.proofs.lemmas.Option.{none-some, slice_get_within}
 use Rattle.std.specs.List.{Contains}
@@ -44,8 +45,10 @@ use Rattle.rv_flatten.specs.Compared.{is_told_test}
 use Rattle.rv_flatten.specs.Frames.{IsFrame}
 use Rattle.rv_flatten.specs.Readings.{unplaced, product, operator, flow_at, kept_number, named, raw_of, raw_form, raws_of}
 use Rattle.rv_agreement.specs.Translation.{Numbers, clock_number, tick_number}
-use Rattle.rv_flatten.specs.Tables.{product_read, path_read, operator_place_read, flow_read, clock_read, tick_read, clock_of_read, told_clock_read, kept_read, flow_named, named_read, constant_read, output_read, tree_read, form_read, trees_read}
-use Rattle.rv_flatten.proofs.Standing.{Stands, as_child, of_not, of_minus, of_when, of_left, of_right, of_condition, of_first, of_second, of_operand, own_delay, own_current, own_call, stands_in}
+use Rattle.rv_flatten.specs.Tables.{product_read, path_read, operator_place_read, flow_read, clock_read, tick_read, clock_of_read, told_clock_read, kept_read}
+use Rattle.rv_flatten.specs.Tables.{flow_named, named_read, constant_read, output_read, tree_read, form_read, trees_read}
+use Rattle.rv_flatten.proofs.Standing.{Stands, as_child, of_not, of_minus, of_when, of_left, of_right, of_condition, of_first, of_second, of_operand, own_delay}
+use Rattle.rv_flatten.proofs.Standing.{own_current, own_call, stands_in}
 use Rattle.rv_flatten.proofs.PartsStand.{standing, calling, part_is}
 use Rattle.rv_flat.proofs.TypedParts.{some_is, no_flag, IsTyped, not_typed, minus_typed, when_typed, binary_typed, if_typed, most_typed, call_typed}
 use Rattle.rv_flat.proofs.PlaceNumbers.{index_at, index_past}
@@ -74,12 +77,14 @@ scaled_product true true k e = refl
 scaled_product true false k e = absurd (none-some k e)
 scaled_product false scaled k e = absurd (none-some k e)
 
-product_is : (b c : Bool) (v w : Weighed) (f g : RawTree) → (b || c) ≡ true → product_read (cond b (Some v) Nothing) (cond c (Some w) Nothing) f g ≡ product b (whole_in v.value) (whole_in w.value) f g
+product_is : (b c : Bool) (v w : Weighed) (f g : RawTree) → (b || c) ≡ true
+    → product_read (cond b (Some v) Nothing) (cond c (Some w) Nothing) f g ≡ product b (whole_in v.value) (whole_in w.value) f g
 product_is true c v w f g e = refl
 product_is false true v w f g e = refl
 product_is false false v w f g e = no_flag e
 
-operator_is : (o : Op) (c d m n : RawForm) (f g u v : RawTree) → (o ≡ op.Arrow → c ≡ d) → (o ≡ op.Times → m ≡ n) → f ≡ u → g ≡ v → operator o c m f g ≡ operator o d n u v
+operator_is : (o : Op) (c d m n : RawForm) (f g u v : RawTree) → (o ≡ op.Arrow → c ≡ d) → (o ≡ op.Times → m ≡ n) → f ≡ u → g ≡ v
+    → operator o c m f g ≡ operator o d n u v
 operator_is op.Arrow c d m n f g u v choice times p q = choice refl
 operator_is op.Times c d m n f g u v choice times p q = times refl
 operator_is op.Implies c d m n f g u v choice times p q = λ j. Binary op.Implies (p j) (q j)
@@ -141,7 +146,8 @@ module _ (numbers : Numbers) (i : Instance) (x : Frame) (is : IsFrame numbers i 
     path_is = ap (λ (m : Numbered). m.path) is.number.1
 
     -- the place of an operator, whose left operand has a type
-    place_is : (site : Option ℕ) (o : Op) (a : Tree) (k : Kind) → IsTyped program i.node a k → operator_place_read x site o a ≡ operator_place program i site o a
+    place_is : (site : Option ℕ) (o : Op) (a : Tree) (k : Kind) → IsTyped program i.node a k
+        → operator_place_read x site o a ≡ operator_place program i site o a
     place_is site o a k t =
         (λ j. cond (is_told_test (is.scope j) o a) (spot (path_is j) site) [])
         ∙ ap (λ (b : Bool). cond b (spot i.path site) []) (told_is (node_scope program i.node) o a k t)
@@ -155,9 +161,11 @@ module _ (numbers : Numbers) (i : Instance) (x : Frame) (is : IsFrame numbers i 
     clock_is Nothing (Some q) w = absurd w
     clock_is (Some k) Nothing w = absurd w
 
-    tick_is : (m : Option ℕ) (o : Option Sites) → IsClockPlaced places m o → ((q : Sites) → o ≡ Some q → Contains numbers.ticks q) → tick_read x m ≡ tick_number numbers o
+    tick_is : (m : Option ℕ) (o : Option Sites) → IsClockPlaced places m o → ((q : Sites) → o ≡ Some q → Contains numbers.ticks q)
+        → tick_read x m ≡ tick_number numbers o
     tick_is Nothing Nothing w ticks = refl
-    tick_is (Some k) (Some q) w ticks = is.numbering.ticks k w.0 (subst (Contains numbers.ticks) (sym w.1) (ticks q refl)) ∙ ap (λ r. index_of numbers.ticks r + 1) w.1
+    tick_is (Some k) (Some q) w ticks = is.numbering.ticks k w.0 (subst (Contains numbers.ticks) (sym w.1) (ticks q refl))
+        ∙ ap (λ r. index_of numbers.ticks r + 1) w.1
     tick_is Nothing (Some q) w ticks = absurd w
     tick_is (Some k) Nothing w ticks = absurd w
 
@@ -173,7 +181,8 @@ module _ (numbers : Numbers) (i : Instance) (x : Frame) (is : IsFrame numbers i 
     own_placed : (e : Tree) (k : Kind) → IsTyped program i.node e k → IsClockPlaced places (clock_of_read x e) (clock_in i Base e)
     own_placed e k t =
         subst (λ n. IsClockPlaced places (number_of_clock h (clock_of_expression n e)) (clock_in i Base e)) (sym is.node)
-        (clock_placed (taken Base (pace i.node e)) (clock_taken program i.node (pace i.node e) (pace_is_true program i.node (typed program (main_of x.expanded.now) well is_main i is.instance) e k t)))
+        (clock_placed (taken Base (pace i.node e)) (clock_taken program i.node (pace i.node e)
+        (pace_is_true program i.node (typed program (main_of x.expanded.now) well is_main i is.instance) e k t)))
 
     -- the same of the clock that is told of an expression that is free or on a clock
     told_placed : (e : Tree) (k : Kind) → IsTyped program i.node e k → IsTimed (pace i.node e) → IsClockPlaced places (told_clock_read x e) (clock_in i Base e)
@@ -185,7 +194,8 @@ module _ (numbers : Numbers) (i : Instance) (x : Frame) (is : IsFrame numbers i 
     own_clock_is e k t = clock_is (clock_of_read x e) (clock_in i Base e) (own_placed e k t)
 
     -- an output of a call
-    pub output_is : (c : CallTree) (j : ℕ) → Contains (calls i.node) c → j < length (node_of program c.name).outputs → flow_read x (h.output c.site + j) ≡ index_of numbers.flows (output_place program i c.site c.name j)
+    pub output_is : (c : CallTree) (j : ℕ) → Contains (calls i.node) c → j < length (node_of program c.name).outputs
+        → flow_read x (h.output c.site + j) ≡ index_of numbers.flows (output_place program i c.site c.name j)
     output_is c j w lt =
         let first = here.output c w in
         let same : h.callee c.site + (length (node_of program c.name).inputs + j) ≡ h.output c.site + j = omega (arith, first) in
@@ -193,8 +203,10 @@ module _ (numbers : Numbers) (i : Instance) (x : Frame) (is : IsFrame numbers i 
         ∙ flow_is (h.callee c.site + (length (node_of program c.name).inputs + j)) (output_place program i c.site c.name j)
         (here.callee c (length (node_of program c.name).inputs + j) w (output_within (node_of program c.name) j lt))
 
-    call_is : (at : ℕ) (site : Option ℕ) (f : Identifier) (args : Trees) (k : Kind) → Contains (calls i.node) (record { at = at; site = unwrap_or site 0; name = f; args = args })
-        → IsTyped program i.node (tree.Node at site (tree.Call f args)) k → Flow (output_read x site) ≡ flow_at program numbers i (output_place program i (unwrap_or site 0) f 0)
+    call_is : (at : ℕ) (site : Option ℕ) (f : Identifier) (args : Trees) (k : Kind)
+        → Contains (calls i.node) (record { at = at; site = unwrap_or site 0; name = f; args = args })
+        → IsTyped program i.node (tree.Node at site (tree.Call f args)) k
+        → Flow (output_read x site) ≡ flow_at program numbers i (output_place program i (unwrap_or site 0) f 0)
     call_is at site f args k w t =
         let r = call_typed program i.node at site f args k t in
         let one : decl_kinds program (node_of program f).outputs ≡ k ∷ [] = signature_is program f r.signature r.known ∙ r.gives in
@@ -209,11 +221,13 @@ module _ (numbers : Numbers) (i : Instance) (x : Frame) (is : IsFrame numbers i 
         (λ j. cond (is_flow (is.node j) y) (Flow (flow_read x (h.offset + site_of (is.node j) y))) (Constant (is.values j y)))
         ∙ by (is_flow i.node y) refl
       where
-        by : (b : Bool) → is_flow i.node y ≡ b → cond b (Flow (flow_read x (h.offset + site_of i.node y))) (Constant (constant_value program y)) ≡ cond b (flow_at program numbers i (place i y)) (Constant (constant_value program y))
+        by : (b : Bool) → is_flow i.node y ≡ b → cond b (Flow (flow_read x (h.offset + site_of i.node y))) (Constant (constant_value program y)) ≡ cond b
+            (flow_at program numbers i (place i y)) (Constant (constant_value program y))
         by true e = ap Flow (flow_is (h.offset + site_of i.node y) (place i y) (here.flow (site_of i.node y) (index_at (flows_of i.node) y e).0))
         by false e = refl
 
-    kept_is : (site : Option ℕ) (e : Tree) → Contains (node_delays i.node) (record { site = site; operand = e }) → kept_read x site e ≡ kept_number program numbers i site e
+    kept_is : (site : Option ℕ) (e : Tree) → Contains (node_delays i.node) (record { site = site; operand = e })
+        → kept_read x site e ≡ kept_number program numbers i site e
     kept_is site e w =
         (λ j. unwrap_or (callee_in x.numbering.now.memories x.reader.instance (memory_site (is.node j) site e)) 0)
         ∙ ap (λ o. unwrap_or o 0) (is.numbering.memories x.reader.instance i (record { site = site; operand = e }) is.instance is.number w)
@@ -232,18 +246,23 @@ module _ (numbers : Numbers) (i : Instance) (x : Frame) (is : IsFrame numbers i 
     constant_is : (e : Tree) → constant_read x e ≡ cond (is_constant (node_scope program i.node) e) (Some (weighed e)) Nothing
     constant_is (tree.Node at site form) = λ j. constant_part (node_scope program (is.node j)) (is.values j) (tree.Node at site form)
 
-    product_read_is : (a b : Tree) (f g u v : RawTree) → (is_constant (node_scope program i.node) a || is_constant (node_scope program i.node) b) ≡ true → f ≡ u → g ≡ v
-        → product_read (constant_read x a) (constant_read x b) f g ≡ product (is_constant (node_scope program i.node) a) (coefficient program a) (coefficient program b) u v
+    product_read_is : (a b : Tree) (f g u v : RawTree) → (is_constant (node_scope program i.node) a || is_constant (node_scope program i.node) b) ≡ true → f ≡ u
+        → g ≡ v
+        → product_read (constant_read x a) (constant_read x b) f g ≡ product (is_constant (node_scope program i.node) a) (coefficient program a)
+        (coefficient program b) u v
     product_read_is a b f g u v e p q =
         (λ j. product_read (constant_is a j) (constant_is b j) (p j) (q j))
         ∙ product_is (is_constant (node_scope program i.node) a) (is_constant (node_scope program i.node) b) (weighed a) (weighed b) u v e
 
     module _ (ticks : AreTicks (program_of x.expanded.now) (main_of x.expanded.now) numbers.ticks) where
-      arrow_is : (at : ℕ) (site : Option ℕ) (o : Op) (a b : Tree) (k : Kind) → Stands i.node (tree.Node at site (tree.Binary o a b)) → IsTyped program i.node (tree.Node at site (tree.Binary o a b)) k → o ≡ op.Arrow
-          → tick_read x (told_clock_read x (tree.Node 0 site (tree.Binary o a b))) ≡ tick_number numbers (clock_in i Base (tree.Node 0 site (tree.Binary o a b)))
+      arrow_is : (at : ℕ) (site : Option ℕ) (o : Op) (a b : Tree) (k : Kind) → Stands i.node (tree.Node at site (tree.Binary o a b))
+          → IsTyped program i.node (tree.Node at site (tree.Binary o a b)) k → o ≡ op.Arrow
+          → tick_read x (told_clock_read x (tree.Node 0 site (tree.Binary o a b))) ≡ tick_number numbers
+          (clock_in i Base (tree.Node 0 site (tree.Binary o a b)))
       arrow_is at site o a b k s t arrow =
           let e : Tree = tree.Node at site (tree.Binary o a b) in
-          tick_is (told_clock_read x e) (clock_in i Base e) (told_placed e k t (stands_timed program i.node (formed program (main_of x.expanded.now) well is_main i is.instance) e s))
+          tick_is (told_clock_read x e) (clock_in i Base e) (told_placed e k t
+          (stands_timed program i.node (formed program (main_of x.expanded.now) well is_main i is.instance) e s))
           (λ q there. ticks.all i e q is.instance (stands_in i.node e s) (ap (λ p. is_arrow (tree.Node at site (tree.Binary p a b))) arrow) there)
 
       mutual
@@ -251,7 +270,8 @@ module _ (numbers : Numbers) (i : Instance) (x : Frame) (is : IsFrame numbers i 
         pub expression_is : (e : Tree) (k : Kind) → Stands i.node e → IsTyped program i.node e k → tree_read x e ≡ raw_of program numbers i e
         expression_is (tree.Node at site form) k s t = form_is at site form k s t
 
-        form_is : (at : ℕ) (site : Option ℕ) (form : Form) (k : Kind) → Stands i.node (tree.Node at site form) → IsTyped program i.node (tree.Node at site form) k → form_read x site form ≡ raw_form program numbers i site form
+        form_is : (at : ℕ) (site : Option ℕ) (form : Form) (k : Kind) → Stands i.node (tree.Node at site form)
+            → IsTyped program i.node (tree.Node at site form) k → form_read x site form ≡ raw_form program numbers i site form
         form_is at site tree.True k s t = refl
         form_is at site tree.False k s t = refl
         form_is at site (tree.Number n) k s t = refl
@@ -259,7 +279,8 @@ module _ (numbers : Numbers) (i : Instance) (x : Frame) (is : IsFrame numbers i 
         form_is at site (tree.Not e) k s t =
             ap (λ f. unplaced (Not f)) (expression_is e kind.Bool (as_child at site (tree.Not e) e s of_not) (not_typed program i.node at site e k t).0)
         form_is at site (tree.Minus e) k s t =
-            ap (λ f. unplaced (Scale (negsuc 0) f)) (expression_is e kind.Int (as_child at site (tree.Minus e) e s of_minus) (minus_typed program i.node at site e k t).0)
+            ap (λ f. unplaced (Scale (negsuc 0) f)) (expression_is e kind.Int (as_child at site (tree.Minus e) e s of_minus)
+            (minus_typed program i.node at site e k t).0)
         form_is at site (tree.Pre e) k s t = ap (λ m. unplaced (Memory m)) (kept_is site e (own_delay i.node at site e s))
         form_is at site (tree.Current e) k s t = ap (λ m. unplaced (Current m)) (kept_is site e (own_current i.node at site e s))
         form_is at site (tree.When e y) k s t =
@@ -271,11 +292,13 @@ module _ (numbers : Numbers) (i : Instance) (x : Frame) (is : IsFrame numbers i 
             let r = binary_typed program i.node at site o a b k t in
             let left = expression_is a r.left (as_child at site (tree.Binary o a b) a s of_left) r.left_is in
             let right = expression_is b r.right (as_child at site (tree.Binary o a b) b s of_right) r.right_is in
-            at_place _ _ _ _ (place_is site o a r.left r.left_is) (operator_is o _ _ _ _ (tree_read x a) (tree_read x b) (raw_of program numbers i a) (raw_of program numbers i b)
+            at_place _ _ _ _ (place_is site o a r.left r.left_is) (operator_is o _ _ _ _ (tree_read x a) (tree_read x b) (raw_of program numbers i a)
+            (raw_of program numbers i b)
             (λ arrow. let tick = arrow_is at site o a b k s t arrow in λ j. If (unplaced (Ticked (tick j))) (right j) (left j))
             (λ times. product_read_is a b (tree_read x a) (tree_read x b) (raw_of program numbers i a) (raw_of program numbers i b)
             (scaled_product (both_are kind.Int r.left r.right) (is_constant (node_scope program i.node) a || is_constant (node_scope program i.node) b) k
-            (sym (ap (λ u. kind_in (binary_rule true (is_constant (node_scope program i.node) a || is_constant (node_scope program i.node) b) u r.left r.right)) times) ∙ r.rule))
+            (sym (ap (λ u. kind_in (binary_rule true (is_constant (node_scope program i.node) a || is_constant (node_scope program i.node) b) u r.left r.right))
+            times) ∙ r.rule))
             left right)
             left right)
         form_is at site (tree.If a b c) k s t =
@@ -285,10 +308,12 @@ module _ (numbers : Numbers) (i : Instance) (x : Frame) (is : IsFrame numbers i 
             let second = expression_is c k (as_child at site (tree.If a b c) c s of_second) r.2 in
             λ j. unplaced (If (condition j) (first j) (second j))
         form_is at site (tree.AtMostOne es) k s t =
-            ap (λ fs. unplaced (AtMostOne fs)) (all_are es (λ j e arg. as_child at site (tree.AtMostOne es) e s (of_operand j arg)) (most_typed program i.node at site es k t).0)
+            ap (λ fs. unplaced (AtMostOne fs)) (all_are es (λ j e arg. as_child at site (tree.AtMostOne es) e s (of_operand j arg))
+            (most_typed program i.node at site es k t).0)
         form_is at site (tree.Call f args) k s t = ap unplaced (call_is at site f args k (own_call i.node at site f args s) t)
 
-        all_are : (es : Trees) → ((j : ℕ) (e : Tree) → IsArgument es j e → Stands i.node e) → ((j : ℕ) (e : Tree) → IsArgument es j e → IsTyped program i.node e kind.Bool) → trees_read x es ≡ raws_of program numbers i es
+        all_are : (es : Trees) → ((j : ℕ) (e : Tree) → IsArgument es j e → Stands i.node e)
+            → ((j : ℕ) (e : Tree) → IsArgument es j e → IsTyped program i.node e kind.Bool) → trees_read x es ≡ raws_of program numbers i es
         all_are tree.None s t = refl
         all_are (tree.More e es) s t =
             let first = expression_is e kind.Bool (s 0 e head) (t 0 e head) in
@@ -296,7 +321,8 @@ module _ (numbers : Numbers) (i : Instance) (x : Frame) (is : IsFrame numbers i 
             λ j. More (first j) (rest j)
 
       -- So is each expression of the instance that has a type.
-      pub part_read_is : (e : Tree) → Contains (node_parts i.node) e → IsSome (kind_of (node_scope program i.node) e) → tree_read x e ≡ raw_of program numbers i e
+      pub part_read_is : (e : Tree) → Contains (node_parts i.node) e → IsSome (kind_of (node_scope program i.node) e)
+          → tree_read x e ≡ raw_of program numbers i e
       part_read_is e w some =
           let t = some_is some in
           elim (part_is i.node e w) [

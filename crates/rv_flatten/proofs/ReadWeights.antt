@@ -1,5 +1,6 @@
 -- What is read of a program has the weights of the program, so no part of it is above the limit.
-use Rattle.std.proofs.Common.{◌≡◌, ℕ, zero, suc, ◌+◌, ◌*◌, ◌<◌, ◌≤◌, max, Bool, true, false, ◌&&◌, ◌||◌, cond, nat_lt, nat_le, pos, negsuc, nat_abs, List, [], ◌∷◌, ◌++◌, length, get_or, slice_get, refl, sym, ◌∙◌, ap, subst, arith, unwrap_or, Option, Some}
+use Rattle.std.proofs.Common.{◌≡◌, ℕ, zero, suc, ◌+◌, ◌*◌, ◌<◌, ◌≤◌, max, Bool, true, false, ◌&&◌, ◌||◌, cond, nat_lt, nat_le, pos, negsuc, nat_abs, List, []}
+use Rattle.std.proofs.Common.{◌∷◌, ◌++◌, length, get_or, slice_get, refl, sym, ◌∙◌, ap, subst, arith, unwrap_or, Option, Some}
 use Rattle.std.proofs.lemmas.Bool.Decides.{nat_tests}
 use Rattle.std.proofs.lemmas.Int.{ints}
 use Rattle.std.proofs.lemmas.List.{length-map, get_or_default, get_or_append_left, get_or_push, length_push}
@@ -21,7 +22,8 @@ use Rattle.rv_types.specs.declared.fault.Verdict.TheVariants.{Has, Clashes, Mult
 use Rattle.rv_types.specs.Types.{kind_in, both_are, binary_rule, is_constant}
 use Rattle.rv_types.specs.Constants.{whole_in}
 use Rattle.rv_types.specs.Scopes.{node_scope, constant_value}
-use Rattle.rv_types.specs.Instances.{CallTree, Body, Output, Instance, place, absolute, clock_of, clock_taken as taken_clock, clock_in, clock_of_arguments, output_place, IsInstance, IsFlow, IsNode, IsArgument, head, tail}
+use Rattle.rv_types.specs.Instances.{CallTree, Body, Output, Instance, place, absolute, clock_of, clock_taken as taken_clock, clock_in, clock_of_arguments}
+use Rattle.rv_types.specs.Instances.{output_place, IsInstance, IsFlow, IsNode, IsArgument, head, tail}
 use Rattle.rv_types.specs.Needs.{flow_of, needs, form_needs, needs_of, Giver, Gives, given, by_equation, by_call, IsAmongFirst}
 use Rattle.rv_types.specs.WellFormed.{AreWell}
 use Rattle.rv_base.specs.Limits.{heaviest}
@@ -32,8 +34,10 @@ use Rattle.rv_agreement.specs.Trees.{FlatTree, TreeForm, Constant, Flow, Ticked,
 use Rattle.rv_flat.specs.Facts.{constant_weight, flat_weight, form_flat_weight, is_light, form_is_light, all_light, weights_after, flow_weights, items_light}
 use Rattle.rv_flatten.proofs.ItemClocks.{number_at, number_within}
 use Rattle.rv_flat.proofs.Members.{at_head, in_tail}
-use Rattle.rv_flatten.proofs.Standing.{Stands, as_child, of_not, of_minus, of_current, of_when, of_left, of_right, of_condition, of_first, of_second, of_operand, own_call, body_stands, argument_stands, operand_stands, as_assertion, output_call}
-use Rattle.rv_flat.proofs.TypedParts.{some_is, no_flag, IsTyped, not_typed, minus_typed, current_typed, when_typed, binary_typed, if_typed, most_typed, call_typed}
+use Rattle.rv_flatten.proofs.Standing.{Stands, as_child, of_not, of_minus, of_current, of_when, of_left, of_right, of_condition, of_first, of_second}
+use Rattle.rv_flatten.proofs.Standing.{of_operand, own_call, body_stands, argument_stands, operand_stands, as_assertion, output_call}
+use Rattle.rv_flat.proofs.TypedParts.{some_is, no_flag, IsTyped, not_typed, minus_typed, current_typed, when_typed, binary_typed, if_typed, most_typed}
+use Rattle.rv_flat.proofs.TypedParts.{call_typed}
 use Rattle.rv_flat.proofs.PlaceNumbers.{found, its_number}
 use Rattle.rv_flatten.proofs.WellInstances.{typed, is_light as stands_light}
 use Rattle.rv_flatten.proofs.ConstantOperands.{weighs}
@@ -75,7 +79,8 @@ module _ (program : ProgramTree) (main : Identifier) (well : AreWell program) (n
     place_number : (k : ℕ) → k < length numbers.flows → number (get_or numbers.flows k []) ≡ k
     place_number k lt = its_number numbers.flows read.sequence.once k lt
 
-    among_first : (k : ℕ) (qs : List Sites) → k < length numbers.flows → All (IsAmongFirst program main numbers.flows k) qs → (q : Sites) → Contains qs q → IsFlow program main q → number q < k
+    among_first : (k : ℕ) (qs : List Sites) → k < length numbers.flows → All (IsAmongFirst program main numbers.flows k) qs → (q : Sites) → Contains qs q
+        → IsFlow program main q → number q < k
     among_first k qs lt all q w is =
         let r = All-contains (IsAmongFirst program main numbers.flows k) qs q all w in
         let same : number q ≡ r.0 = ap number (sym r.2) ∙ place_number r.0 (omega (arith, r.1, lt)) in
@@ -85,28 +90,34 @@ module _ (program : ProgramTree) (main : Identifier) (well : AreWell program) (n
     light = stands_light program main wf none_wide
 
     -- where the first flows have their weights
-    module _ (before : ℕ) (ws : List ℕ) (weighed : (q : Sites) → IsFlow program main q → number q < before → get_or ws (number q) 0 ≡ wf q) (i : Instance) (of : IsInstance program main i) where
+    module _ (before : ℕ) (ws : List ℕ) (weighed : (q : Sites) → IsFlow program main q → number q < before → get_or ws (number q) 0 ≡ wf q) (i : Instance)
+        (of : IsInstance program main i) where
       abbrev IsEarly : Clock → Tree → Type 0
       IsEarly c e = (q : Sites) → Contains (needs program i c e) q → IsFlow program main q → number q < before
 
       name_weighs : (c : Clock) (at : ℕ) (site : Option ℕ) (x : Identifier) (b : Bool) → is_flow i.node x ≡ b → IsEarly c (tree.Node at site (tree.Named x))
-          → form_flat_weight ws (cond b (Flow (number (place i x))) (Constant (constant_value program x))) ≡ cond b (wf (place i x)) (nat_abs (whole_in (constant_value program x)))
+          → form_flat_weight ws (cond b (Flow (number (place i x))) (Constant (constant_value program x))) ≡ cond b (wf (place i x))
+          (nat_abs (whole_in (constant_value program x)))
       name_weighs c at site x true is early =
           let q : Sites = place i x in
           let flow : IsFlow program main q = (i, x, of, found (flows_of i.node) x is, refl) in
-          weighed q flow (early q (Contains-append_right (flow_of (absolute i c)) (form_needs program i c site (tree.Named x)) q (subst (λ b. Contains (cond b (q ∷ []) []) q) (sym is) (at_head q []))) flow)
+          weighed q flow (early q (Contains-append_right (flow_of (absolute i c)) (form_needs program i c site (tree.Named x)) q
+          (subst (λ b. Contains (cond b (q ∷ []) []) q) (sym is) (at_head q []))) flow)
       name_weighs c at site x false is early = constant_weighs (constant_value program x)
 
       product_weighs : (left : Bool) (a b : Tree) (f g : FlatTree) → flat_weight ws f ≡ weight program wf i a → flat_weight ws g ≡ weight program wf i b
-          → form_flat_weight ws (cond left (Scale (coefficient program a) g) (Scale (coefficient program b) f)) ≡ cond left (constant_size program a * weight program wf i b) (constant_size program b * weight program wf i a)
+          → form_flat_weight ws (cond left (Scale (coefficient program a) g) (Scale (coefficient program b) f)) ≡ cond left
+          (constant_size program a * weight program wf i b) (constant_size program b * weight program wf i a)
       product_weighs true a b f g p q = ap (λ w. constant_size program a * w) q
       product_weighs false a b f g p q = ap (λ w. constant_size program b * w) p
 
       turned : (m n : ℕ) → max n m ≡ max m n
       turned m n = omega arith
 
-      operator_weighs : (site : Option ℕ) (o : Op) (a b : Tree) (tick : TreeForm) (f g : FlatTree) → flat_weight ws f ≡ weight program wf i a → flat_weight ws g ≡ weight program wf i b
-          → form_flat_weight ws (operation o (If (unplaced tick) g f) (cond (is_constant (node_scope program i.node) a) (Scale (coefficient program a) g) (Scale (coefficient program b) f)) (Binary o f g)) ≡ form_weight program wf i site (tree.Binary o a b)
+      operator_weighs : (site : Option ℕ) (o : Op) (a b : Tree) (tick : TreeForm) (f g : FlatTree) → flat_weight ws f ≡ weight program wf i a
+          → flat_weight ws g ≡ weight program wf i b
+          → form_flat_weight ws (operation o (If (unplaced tick) g f) (cond (is_constant (node_scope program i.node) a) (Scale (coefficient program a) g)
+          (Scale (coefficient program b) f)) (Binary o f g)) ≡ form_weight program wf i site (tree.Binary o a b)
       operator_weighs site op.Arrow a b tick f g p q = (λ j. max (q j) (p j)) ∙ turned (weight program wf i a) (weight program wf i b)
       operator_weighs site op.Times a b tick f g p q = product_weighs (is_constant (node_scope program i.node) a) a b f g p q
       operator_weighs site op.Plus a b tick f g p q = λ j. p j + q j
@@ -127,10 +138,12 @@ module _ (program : ProgramTree) (main : Identifier) (well : AreWell program) (n
 
       mutual
         -- what is read of an expression weighs the same
-        pub expression_weighs : (c : Clock) (e : Tree) (k : Kind) → Stands i.node e → IsTyped program i.node e k → IsEarly c e → flat_weight ws (flat_of program numbers i e) ≡ weight program wf i e
+        pub expression_weighs : (c : Clock) (e : Tree) (k : Kind) → Stands i.node e → IsTyped program i.node e k → IsEarly c e
+            → flat_weight ws (flat_of program numbers i e) ≡ weight program wf i e
         expression_weighs c (tree.Node at site form) k s t early = form_weighs_too c at site form k s t early
 
-        form_weighs_too : (c : Clock) (at : ℕ) (site : Option ℕ) (form : Form) (k : Kind) → Stands i.node (tree.Node at site form) → IsTyped program i.node (tree.Node at site form) k → IsEarly c (tree.Node at site form)
+        form_weighs_too : (c : Clock) (at : ℕ) (site : Option ℕ) (form : Form) (k : Kind) → Stands i.node (tree.Node at site form)
+            → IsTyped program i.node (tree.Node at site form) k → IsEarly c (tree.Node at site form)
             → flat_weight ws (flat_form program numbers i site form) ≡ form_weight program wf i site form
         form_weighs_too c at site tree.True k s t early = refl
         form_weighs_too c at site tree.False k s t early = refl
@@ -138,35 +151,48 @@ module _ (program : ProgramTree) (main : Identifier) (well : AreWell program) (n
         form_weighs_too c at site (tree.Named x) k s t early = name_weighs c at site x (is_flow i.node x) refl early
         form_weighs_too c at site (tree.Not e) k s t early = refl
         form_weighs_too c at site (tree.Minus e) k s t early =
-            (let one : nat_abs (negsuc 0) * flat_weight ws (flat_of program numbers i e) ≡ flat_weight ws (flat_of program numbers i e) = omega (arith, ints) in one)
-            ∙ expression_weighs c e kind.Int (as_child at site (tree.Minus e) e s of_minus) (minus_typed program i.node at site e k t).0 (λ q w. early q (Contains-append_right (flow_of (absolute i c)) (needs program i c e) q w))
+            (let one : nat_abs (negsuc 0) * flat_weight ws (flat_of program numbers i e) ≡ flat_weight ws (flat_of program numbers i e) = omega (arith, ints) in
+            one)
+            ∙ expression_weighs c e kind.Int (as_child at site (tree.Minus e) e s of_minus) (minus_typed program i.node at site e k t).0
+            (λ q w. early q (Contains-append_right (flow_of (absolute i c)) (needs program i c e) q w))
         form_weighs_too c at site (tree.Pre e) k s t early = refl
         form_weighs_too c at site (tree.Current e) k s t early =
             turned 1 (flat_weight ws (flat_of program numbers i e))
-            ∙ ap (max 1) (expression_weighs (taken_clock i Base e) e k (as_child at site (tree.Current e) e s of_current) (current_typed program i.node at site e k t)
+            ∙ ap (max 1) (expression_weighs (taken_clock i Base e) e k (as_child at site (tree.Current e) e s of_current)
+            (current_typed program i.node at site e k t)
             (λ q w. early q (Contains-append_right (flow_of (absolute i c)) (needs program i (taken_clock i Base e) e) q w)))
         form_weighs_too c at site (tree.When e x) k s t early =
             expression_weighs (clock_of i.node x.text) e k (as_child at site (tree.When e x) e s (of_when x)) (when_typed program i.node at site e x k t).0
             (λ q w. early q (Contains-append_right (flow_of (absolute i c)) (needs program i (clock_of i.node x.text) e) q w))
         form_weighs_too c at site (tree.Binary o a b) k s t early =
             let r = binary_typed program i.node at site o a b k t in
-            let inside = λ (q : Sites) (w : Contains (needs program i c a ++ needs program i c b) q). Contains-append_right (flow_of (absolute i c)) (needs program i c a ++ needs program i c b) q w in
-            operator_weighs site o a b (Ticked (tick_number numbers (clock_in i Base (tree.Node 0 site (tree.Binary o a b))))) (flat_of program numbers i a) (flat_of program numbers i b)
-            (expression_weighs c a r.left (as_child at site (tree.Binary o a b) a s of_left) r.left_is (λ q w. early q (inside q (Contains-append_left (needs program i c a) (needs program i c b) q w))))
-            (expression_weighs c b r.right (as_child at site (tree.Binary o a b) b s of_right) r.right_is (λ q w. early q (inside q (Contains-append_right (needs program i c a) (needs program i c b) q w))))
+            let inside = λ (q : Sites) (w : Contains (needs program i c a ++ needs program i c b) q). Contains-append_right (flow_of (absolute i c))
+            (needs program i c a ++ needs program i c b) q w in
+            operator_weighs site o a b (Ticked (tick_number numbers (clock_in i Base (tree.Node 0 site (tree.Binary o a b))))) (flat_of program numbers i a)
+            (flat_of program numbers i b)
+            (expression_weighs c a r.left (as_child at site (tree.Binary o a b) a s of_left) r.left_is
+            (λ q w. early q (inside q (Contains-append_left (needs program i c a) (needs program i c b) q w))))
+            (expression_weighs c b r.right (as_child at site (tree.Binary o a b) b s of_right) r.right_is
+            (λ q w. early q (inside q (Contains-append_right (needs program i c a) (needs program i c b) q w))))
         form_weighs_too c at site (tree.If a b d) k s t early =
             let r = if_typed program i.node at site a b d k t in
             let last = needs program i c b ++ needs program i c d in
-            let inside = λ (q : Sites) (w : Contains (needs program i c a ++ last) q). Contains-append_right (flow_of (absolute i c)) (needs program i c a ++ last) q w in
-            let p = expression_weighs c b k (as_child at site (tree.If a b d) b s of_first) r.1 (λ q w. early q (inside q (Contains-append_right (needs program i c a) last q (Contains-append_left (needs program i c b) (needs program i c d) q w)))) in
-            let u = expression_weighs c d k (as_child at site (tree.If a b d) d s of_second) r.2 (λ q w. early q (inside q (Contains-append_right (needs program i c a) last q (Contains-append_right (needs program i c b) (needs program i c d) q w)))) in
+            let inside = λ (q : Sites) (w : Contains (needs program i c a ++ last) q). Contains-append_right (flow_of (absolute i c))
+            (needs program i c a ++ last) q w in
+            let p = expression_weighs c b k (as_child at site (tree.If a b d) b s of_first) r.1
+            (λ q w. early q (inside q (Contains-append_right (needs program i c a) last q
+            (Contains-append_left (needs program i c b) (needs program i c d) q w)))) in
+            let u = expression_weighs c d k (as_child at site (tree.If a b d) d s of_second) r.2
+            (λ q w. early q (inside q (Contains-append_right (needs program i c a) last q
+            (Contains-append_right (needs program i c b) (needs program i c d) q w)))) in
             λ j. max (p j) (u j)
         form_weighs_too c at site (tree.AtMostOne es) k s t early = refl
         form_weighs_too c at site (tree.Call f args) k s t early =
             let r = call_typed program i.node at site f args k t in
             let own : CallTree = record { at = at; site = unwrap_or site 0; name = f; args = args } in
             let q : Sites = output_place program i (unwrap_or site 0) f 0 in
-            let h : HasFlow program main q k = output_flow program main well named i own 0 k of (own_call i.node at site f args s) (ap (λ l. slice_get l 0) (signature_is program f r.signature r.known ∙ r.gives)) in
+            let h : HasFlow program main q k = output_flow program main well named i own 0 k of (own_call i.node at site f args s)
+            (ap (λ l. slice_get l 0) (signature_is program f r.signature r.known ∙ r.gives)) in
             weighed q (flow_there h) (early q (Contains-append_right (flow_of (absolute i c)) (q ∷ []) q (at_head q [])) (flow_there h))
 
     -- what gives a flow weighs what the flow does
@@ -187,7 +213,8 @@ module _ (program : ProgramTree) (main : Identifier) (well : AreWell program) (n
         expression_weighs before ws weighed i of (taken_clock i (clock_of_arguments i c.args) e) e t.0 (argument_stands i.node c j e called arg) t.1 early
 
     -- what gives the flow with a number
-    giver_at : (k : ℕ) (x : Item) → slice_get s.flows k ≡ Some x → (g : Giver) × Gives program main (get_or numbers.flows k []) g × (x ≡ giver_item program numbers g)
+    giver_at : (k : ℕ) (x : Item) → slice_get s.flows k ≡ Some x → (g : Giver) × Gives program main (get_or numbers.flows k []) g
+        × (x ≡ giver_item program numbers g)
         × ((q : Sites) → Contains (needs_of program g) q → IsFlow program main q → number q < k)
     giver_at k x at =
         let lt : k < length s.flows = slice_get_within s.flows k x at in
@@ -200,7 +227,8 @@ module _ (program : ProgramTree) (main : Identifier) (well : AreWell program) (n
         )
 
     -- one flow more has its weight
-    one_weighed : (k : ℕ) (ws : List ℕ) (f : Item) → length ws ≡ k → ((q : Sites) → IsFlow program main q → number q < k → get_or ws (number q) 0 ≡ wf q) → slice_get s.flows k ≡ Some f
+    one_weighed : (k : ℕ) (ws : List ℕ) (f : Item) → length ws ≡ k → ((q : Sites) → IsFlow program main q → number q < k → get_or ws (number q) 0 ≡ wf q)
+        → slice_get s.flows k ≡ Some f
         → (q : Sites) → IsFlow program main q → number q < k + 1 → get_or (ws ++ flat_weight ws f.body ∷ []) (number q) 0 ≡ wf q
     one_weighed k ws f long weighed at q is lt = by (nat_lt (number q) k) refl
       where
@@ -213,7 +241,8 @@ module _ (program : ProgramTree) (main : Identifier) (well : AreWell program) (n
             lesser m n e = grind (arith, nat_tests, e)
         by false e =
             let same : number q ≡ k = equal (number q) k e lt in
-            let at_place : get_or numbers.flows k [] ≡ q = ap (λ n. get_or numbers.flows n []) (sym same) ∙ (number_at program main well named numbers s read q is).1 in
+            let at_place : get_or numbers.flows k [] ≡ q = ap (λ n. get_or numbers.flows n []) (sym same)
+            ∙ (number_at program main well named numbers s read q is).1 in
             let r = giver_at k f at in
             get_or_push ws (flat_weight ws f.body) 0 (number q) (long ∙ sym same)
             ∙ ap (λ item. flat_weight ws item.body) r.2
@@ -224,7 +253,8 @@ module _ (program : ProgramTree) (main : Identifier) (well : AreWell program) (n
             equal : (m n : ℕ) → nat_lt m n ≡ false → m < n + 1 → m ≡ n
             equal m n e lt = grind (arith, nat_tests, e, lt)
 
-    weighed_from : (before : ℕ) (ws : List ℕ) (fs : List Item) → length ws ≡ before → ((q : Sites) → IsFlow program main q → number q < before → get_or ws (number q) 0 ≡ wf q)
+    weighed_from : (before : ℕ) (ws : List ℕ) (fs : List Item) → length ws ≡ before
+        → ((q : Sites) → IsFlow program main q → number q < before → get_or ws (number q) 0 ≡ wf q)
         → ((j : ℕ) (f : Item) → slice_get fs j ≡ Some f → slice_get s.flows (before + j) ≡ Some f)
         → (q : Sites) → IsFlow program main q → number q < before + length fs → get_or (weights_after ws fs) (number q) 0 ≡ wf q
     weighed_from before ws [] long weighed from q is lt = weighed q is (omega (arith, lt))
@@ -242,7 +272,8 @@ module _ (program : ProgramTree) (main : Identifier) (well : AreWell program) (n
     -- The flows have the weights of the program.
     pub flow_weighs : (q : Sites) → IsFlow program main q → get_or all_weights (number q) 0 ≡ wf q
     flow_weighs q is =
-        weighed_from 0 [] s.flows refl (λ p w lt. absurd (omega (arith, lt))) (λ j f e. let same : 0 + j ≡ j = omega arith in ap (slice_get s.flows) same ∙ e) q is
+        weighed_from 0 [] s.flows refl (λ p w lt. absurd (omega (arith, lt))) (λ j f e. let same : 0 + j ≡ j = omega arith in ap (slice_get s.flows) same ∙ e) q
+        is
         (let lt = within q is in omega (arith, lt))
 
     -- No flow is above the limit.
@@ -256,7 +287,8 @@ module _ (program : ProgramTree) (main : Identifier) (well : AreWell program) (n
         subst (λ w. w ≤ heaviest) (sym (are_weights q r.0 gives))
         (by r.0 gives (λ p w there. flow_light_below n p there (let less = early p w there in omega (arith, less, lt))))
       where
-        by : (g : Giver) → Gives program main q g → ((p : Sites) → Contains (needs_of program g) p → IsFlow program main p → wf p ≤ heaviest) → weight_of_giver program wf g ≤ heaviest
+        by : (g : Giver) → Gives program main q g → ((p : Sites) → Contains (needs_of program g) p → IsFlow program main p → wf p ≤ heaviest)
+            → weight_of_giver program wf g ≤ heaviest
         by _ (given j less at) below = omega arith
         by _ (by_equation i x (Body e) of right at) below = light i e of (body_stands i.node x e right)
         by _ (by_equation i x (Output c j) of right at) below =
@@ -273,26 +305,30 @@ module _ (program : ProgramTree) (main : Identifier) (well : AreWell program) (n
       abbrev IsLightHere : FlatTree → Type 0
       IsLightHere f = is_light all_weights f ≡ true
 
-      root_light : (e : Tree) (k : Kind) → Stands i.node e → IsTyped program i.node e k → nat_le (flat_weight all_weights (flat_of program numbers i e)) heaviest ≡ true
+      root_light : (e : Tree) (k : Kind) → Stands i.node e → IsTyped program i.node e k
+          → nat_le (flat_weight all_weights (flat_of program numbers i e)) heaviest ≡ true
       root_light e k there t =
           within_told _ heaviest (subst (λ w. w ≤ heaviest)
           (sym (expression_weighs (length s.flows) all_weights (λ q is lt. flow_weighs q is) i of Base e k there t (λ q w is. within q is)))
           (light i e of there))
 
       -- the constant operand of a product
-      coefficient_light : (e : Tree) → Stands i.node e → is_constant (node_scope program i.node) e ≡ true → nat_le (nat_abs (coefficient program e)) heaviest ≡ true
+      coefficient_light : (e : Tree) → Stands i.node e → is_constant (node_scope program i.node) e ≡ true
+          → nat_le (nat_abs (coefficient program e)) heaviest ≡ true
       coefficient_light e s c =
           let size = value_size (constant_value program) e in
           let weight_is = weighs program wf i e c in
           let le = light i e of s in
           within_told (nat_abs (coefficient program e)) heaviest (omega (arith, size, weight_is, le))
 
-      product_light : (left : Bool) (a b : Tree) (f g : FlatTree) → (left ≡ true → nat_le (nat_abs (coefficient program a)) heaviest ≡ true) → (left ≡ false → nat_le (nat_abs (coefficient program b)) heaviest ≡ true)
+      product_light : (left : Bool) (a b : Tree) (f g : FlatTree) → (left ≡ true → nat_le (nat_abs (coefficient program a)) heaviest ≡ true)
+          → (left ≡ false → nat_le (nat_abs (coefficient program b)) heaviest ≡ true)
           → IsLightHere f → IsLightHere g → form_is_light all_weights (cond left (Scale (coefficient program a) g) (Scale (coefficient program b) f)) ≡ true
       product_light true a b f g l r p q = both (nat_le (nat_abs (coefficient program a)) heaviest) (is_light all_weights g) (l refl) q
       product_light false a b f g l r p q = both (nat_le (nat_abs (coefficient program b)) heaviest) (is_light all_weights f) (r refl) p
 
-      operator_light : (o : Op) (t : ℕ) (times : TreeForm) (f g : FlatTree) → (o ≡ op.Times → form_is_light all_weights times ≡ true) → IsLightHere f → IsLightHere g
+      operator_light : (o : Op) (t : ℕ) (times : TreeForm) (f g : FlatTree) → (o ≡ op.Times → form_is_light all_weights times ≡ true) → IsLightHere f
+          → IsLightHere g
           → form_is_light all_weights (operation o (If (unplaced (Ticked t)) g f) times (Binary o f g)) ≡ true
       operator_light op.Arrow t times f g h p q = both (is_light all_weights g) (is_light all_weights f) q p
       operator_light op.Times t times f g h p q = h refl
@@ -321,20 +357,26 @@ module _ (program : ProgramTree) (main : Identifier) (well : AreWell program) (n
         pub expression_light : (e : Tree) (k : Kind) → Stands i.node e → IsTyped program i.node e k → IsLightHere (flat_of program numbers i e)
         expression_light (tree.Node at site form) k s t = form_light at site form k s t (root_light (tree.Node at site form) k s t)
 
-        form_light : (at : ℕ) (site : Option ℕ) (form : Form) (k : Kind) → Stands i.node (tree.Node at site form) → IsTyped program i.node (tree.Node at site form) k
+        form_light : (at : ℕ) (site : Option ℕ) (form : Form) (k : Kind) → Stands i.node (tree.Node at site form)
+            → IsTyped program i.node (tree.Node at site form) k
             → nat_le (flat_weight all_weights (flat_form program numbers i site form)) heaviest ≡ true → IsLightHere (flat_form program numbers i site form)
         form_light at site tree.True k s t root = refl
         form_light at site tree.False k s t root = refl
         form_light at site (tree.Number n) k s t root = both (nat_le (nat_abs (pos n)) heaviest) true root refl
-        form_light at site (tree.Named x) k s t root = both _ (form_is_light all_weights (cond (is_flow i.node x) (Flow (number (place i x))) (Constant (constant_value program x)))) root (name_light x (is_flow i.node x))
-        form_light at site (tree.Not e) k s t root = expression_light e kind.Bool (as_child at site (tree.Not e) e s of_not) (not_typed program i.node at site e k t).0
+        form_light at site (tree.Named x) k s t root = both _ (form_is_light all_weights
+            (cond (is_flow i.node x) (Flow (number (place i x))) (Constant (constant_value program x)))) root (name_light x (is_flow i.node x))
+        form_light at site (tree.Not e) k s t root = expression_light e kind.Bool (as_child at site (tree.Not e) e s of_not)
+            (not_typed program i.node at site e k t).0
         form_light at site (tree.Minus e) k s t root =
-            both _ (is_light all_weights (flat_of program numbers i e)) root (expression_light e kind.Int (as_child at site (tree.Minus e) e s of_minus) (minus_typed program i.node at site e k t).0)
+            both _ (is_light all_weights (flat_of program numbers i e)) root
+            (expression_light e kind.Int (as_child at site (tree.Minus e) e s of_minus) (minus_typed program i.node at site e k t).0)
         form_light at site (tree.Pre e) k s t root = refl
         form_light at site (tree.Current e) k s t root =
-            both _ (is_light all_weights (flat_of program numbers i e)) root (expression_light e k (as_child at site (tree.Current e) e s of_current) (current_typed program i.node at site e k t))
+            both _ (is_light all_weights (flat_of program numbers i e)) root
+            (expression_light e k (as_child at site (tree.Current e) e s of_current) (current_typed program i.node at site e k t))
         form_light at site (tree.When e x) k s t root =
-            both _ (is_light all_weights (flat_of program numbers i e)) root (expression_light e k (as_child at site (tree.When e x) e s (of_when x)) (when_typed program i.node at site e x k t).0)
+            both _ (is_light all_weights (flat_of program numbers i e)) root
+            (expression_light e k (as_child at site (tree.When e x) e s (of_when x)) (when_typed program i.node at site e x k t).0)
         form_light at site (tree.Binary o a b) k s t root =
             let r = binary_typed program i.node at site o a b k t in
             let left = as_child at site (tree.Binary o a b) a s of_left in
@@ -342,13 +384,15 @@ module _ (program : ProgramTree) (main : Identifier) (well : AreWell program) (n
             let p = expression_light a r.left left r.left_is in
             let q = expression_light b r.right right r.right_is in
             both _ _ root (operator_light o (tick_number numbers (clock_in i Base (tree.Node 0 site (tree.Binary o a b))))
-            (cond (is_constant (node_scope program i.node) a) (Scale (coefficient program a) (flat_of program numbers i b)) (Scale (coefficient program b) (flat_of program numbers i a)))
+            (cond (is_constant (node_scope program i.node) a) (Scale (coefficient program a) (flat_of program numbers i b))
+            (Scale (coefficient program b) (flat_of program numbers i a)))
             (flat_of program numbers i a) (flat_of program numbers i b)
             (λ times. product_light (is_constant (node_scope program i.node) a) a b (flat_of program numbers i a) (flat_of program numbers i b)
             (λ c. coefficient_light a left c)
             (λ c. coefficient_light b right (other_constant (is_constant (node_scope program i.node) a) (is_constant (node_scope program i.node) b)
             (scaled_product (both_are kind.Int r.left r.right) (is_constant (node_scope program i.node) a || is_constant (node_scope program i.node) b) k
-            (sym (ap (λ u. kind_in (binary_rule true (is_constant (node_scope program i.node) a || is_constant (node_scope program i.node) b) u r.left r.right)) times) ∙ r.rule)) c))
+            (sym (ap (λ u. kind_in (binary_rule true (is_constant (node_scope program i.node) a || is_constant (node_scope program i.node) b) u r.left r.right))
+            times) ∙ r.rule)) c))
             p q) p q)
         form_light at site (tree.If a b d) k s t root =
             let r = if_typed program i.node at site a b d k t in
@@ -356,10 +400,12 @@ module _ (program : ProgramTree) (main : Identifier) (well : AreWell program) (n
             (both (is_light all_weights (flat_of program numbers i a)) _ (expression_light a kind.Bool (as_child at site (tree.If a b d) a s of_condition) r.0)
             (both (is_light all_weights (flat_of program numbers i b)) _ (expression_light b k (as_child at site (tree.If a b d) b s of_first) r.1)
             (expression_light d k (as_child at site (tree.If a b d) d s of_second) r.2)))
-        form_light at site (tree.AtMostOne es) k s t root = all_are_light es (λ j e arg. as_child at site (tree.AtMostOne es) e s (of_operand j arg)) (most_typed program i.node at site es k t).0
+        form_light at site (tree.AtMostOne es) k s t root = all_are_light es (λ j e arg. as_child at site (tree.AtMostOne es) e s (of_operand j arg))
+            (most_typed program i.node at site es k t).0
         form_light at site (tree.Call f args) k s t root = both _ true root refl
 
-        all_are_light : (es : Trees) → ((j : ℕ) (e : Tree) → IsArgument es j e → Stands i.node e) → ((j : ℕ) (e : Tree) → IsArgument es j e → IsTyped program i.node e kind.Bool) → all_light all_weights (flats_of program numbers i es) ≡ true
+        all_are_light : (es : Trees) → ((j : ℕ) (e : Tree) → IsArgument es j e → Stands i.node e)
+            → ((j : ℕ) (e : Tree) → IsArgument es j e → IsTyped program i.node e kind.Bool) → all_light all_weights (flats_of program numbers i es) ≡ true
         all_are_light tree.None s t = refl
         all_are_light (tree.More e es) s t =
             both (is_light all_weights (flat_of program numbers i e)) _ (expression_light e kind.Bool (s 0 e head) (t 0 e head))
@@ -368,17 +414,21 @@ module _ (program : ProgramTree) (main : Identifier) (well : AreWell program) (n
     -- what gives a flow
     giver_light : (p : Sites) (g : Giver) → Gives program main p g → is_light all_weights (giver_item program numbers g).body ≡ true
     giver_light p _ (given j lt at) = refl
-    giver_light p _ (by_equation i x (Body e) of right at) = let t = (typed program main well named i of).body x e right in expression_light i of e t.0 (body_stands i.node x e right) t.1
+    giver_light p _ (by_equation i x (Body e) of right at) = let t = (typed program main well named i of).body x e right in
+        expression_light i of e t.0 (body_stands i.node x e right) t.1
     giver_light p _ (by_equation i x (Output c j) of right at) =
         let t = (typed program main well named i of).output x c j right in
         let q : Sites = output_place program i c.site c.name j in
         let is = flow_there (output_flow program main well named i c j t.0 of (output_call i.node x c j right) t.1) in
-        both (nat_le (get_or all_weights (number q) 0) heaviest) true (within_told _ heaviest (subst (λ w. w ≤ heaviest) (sym (flow_weighs q is)) (flow_light q is))) refl
-    giver_light p _ (by_call i c j e of called arg at) = let t = (typed program main well named i of).argument c j e called arg in expression_light i of e t.0 (argument_stands i.node c j e called arg) t.1
+        both (nat_le (get_or all_weights (number q) 0) heaviest) true (within_told _ heaviest
+        (subst (λ w. w ≤ heaviest) (sym (flow_weighs q is)) (flow_light q is))) refl
+    giver_light p _ (by_call i c j e of called arg at) = let t = (typed program main well named i of).argument c j e called arg in
+        expression_light i of e t.0 (argument_stands i.node c j e called arg) t.1
 
     items_light_from : (xs : List Item) → ((x : Item) → Contains xs x → is_light all_weights x.body ≡ true) → items_light all_weights xs ≡ true
     items_light_from [] each = refl
-    items_light_from (x ∷ xs) each = both (is_light all_weights x.body) (items_light all_weights xs) (each x (at_head x xs)) (items_light_from xs (λ y w. each y (in_tail x xs y w)))
+    items_light_from (x ∷ xs) each = both (is_light all_weights x.body) (items_light all_weights xs) (each x (at_head x xs))
+        (items_light_from xs (λ y w. each y (in_tail x xs y w)))
 
     -- what is in a list stands at a number
     at_number : (xs : List Item) (x : Item) → Contains xs x → (k : ℕ) × (k < length xs) × (nth_item xs k ≡ x)

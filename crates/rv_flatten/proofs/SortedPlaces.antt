@@ -40,7 +40,8 @@ module _ {X : Type 0} (place : X → Sites) where
   before_less x y e = before_tested (place x) (place y) (ap is_lt e)
 
   -- the first of some in order stands before all others
-  before_rest : (x : X) (ys : List X) → AllByRecursion (λ y. order_by x y ≡ Less) ys → (k : ℕ) → k < length (map place ys) → IsBefore (place x) (get_or (map place ys) k [])
+  before_rest : (x : X) (ys : List X) → AllByRecursion (λ y. order_by x y ≡ Less) ys → (k : ℕ) → k < length (map place ys)
+      → IsBefore (place x) (get_or (map place ys) k [])
   before_rest x [] a k lt = absurd (omega (arith, lt))
   before_rest x (y ∷ ys) a zero lt = before_less x y a.0
   before_rest x (y ∷ ys) a (suc k) lt = before_rest x ys a.1 k (omega (arith, lt))
@@ -53,7 +54,8 @@ module _ {X : Type 0} (place : X → Sites) where
   rising (x ∷ xs) s zero (suc k) lt within = before_rest x xs s.0 k (omega (arith, within))
   rising (x ∷ xs) s (suc j) (suc k) lt within = rising xs s.1 j k (omega (arith, lt)) (omega (arith, within))
 
-  pub are_sorted : (found given up kept : List X) → given ≡ found → IsPermutation given up → IsSorted order_by up → kept ≡ dedup same_by up → AreSortedBy place found kept
+  pub are_sorted : (found given up kept : List X) → given ≡ found → IsPermutation given up → IsSorted order_by up → kept ≡ dedup same_by up
+      → AreSortedBy place found kept
   are_sorted found given up kept is moved rises once = record {
     rising = subst (λ (l : List X). AreRising (map place l)) (sym once) (rising (dedup same_by up) (IsStrictlySortedBy-dedup order_total same_ties up rises));
     all = λ x w.

@@ -4,12 +4,14 @@ use Rattle.std.specs.List.{Contains}
 use Rattle.std.proofs.lemmas.List.Elements.{Contains-append_left, Contains-append_right, Contains-append_cases}
 use Rattle.rv_tree.specs.declared.tree.Name.{Name}
 use Rattle.rv_tree.specs.declared.tree.Op.{Op}
-use Rattle.rv_tree.specs.Tree.{Tree, Node, Form, True, False, Number, Named, Not, Minus, Pre, Current, When, Binary, If, AtMostOne, Call, Trees, None, More, EquationTree, AssertionTree, NodeTree}
+use Rattle.rv_tree.specs.Tree.{Tree, Node, Form, True, False, Number, Named, Not, Minus, Pre, Current, When, Binary, If, AtMostOne, Call, Trees, None, More}
+use Rattle.rv_tree.specs.Tree.{EquationTree, AssertionTree, NodeTree}
 use Rattle.rv_tree.specs.Places.{Identifier}
 use Rattle.rv_tree.specs.Delays.{Delay, delays, form_delays, delays_of_all, delays_in_equations, delays_in_assertions, node_delays}
 use Rattle.rv_types.specs.Names.{texts}
 use Rattle.rv_types.specs.Variables.{parts, form_parts, parts_of_all, node_parts}
-use Rattle.rv_types.specs.Instances.{CallTree, calls_in, form_calls, calls_in_all, calls_in_equations, calls_in_assertions, calls, Body, Output, IsRight, alone, in_order, IsArgument, head, tail}
+use Rattle.rv_types.specs.Instances.{CallTree, calls_in, form_calls, calls_in_all, calls_in_equations, calls_in_assertions, calls, Body, Output, IsRight, alone}
+use Rattle.rv_types.specs.Instances.{in_order, IsArgument, head, tail}
 use Rattle.rv_instances.specs.Weights.{weighed_of_several, weighed_under, weighed}
 use Rattle.rv_flat.proofs.Members.{none_in, at_head, in_tail, head_or_tail, in_flat_map}
 
@@ -32,7 +34,8 @@ pub data IsChild : Tree → Form → Type 0 where
 -- their parts.
 pub data Stands (n : NodeTree) : Tree → Type 0 where
   as_right : (q : EquationTree) → Contains n.equations q → weighed_under q.lefts q.right ≡ parts q.right → Stands n q.right
-  as_argument : (q : EquationTree) (at j : ℕ) (site : Option ℕ) (f : Identifier) (args : Trees) (e : Tree) → Contains n.equations q → q.right ≡ Node at site (Call f args) → IsArgument args j e → Stands n e
+  as_argument : (q : EquationTree) (at j : ℕ) (site : Option ℕ) (f : Identifier) (args : Trees) (e : Tree) → Contains n.equations q
+      → q.right ≡ Node at site (Call f args) → IsArgument args j e → Stands n e
   as_assertion : (a : AssertionTree) → Contains n.assertions a → Stands n a.body
   as_child : (at : ℕ) (site : Option ℕ) (form : Form) (e : Tree) → Stands n (Node at site form) → IsChild e form → Stands n e
 
@@ -96,8 +99,10 @@ delay_of_child site _ e d (of_when c) w = w
 delay_of_child site _ e d (of_left {b = b}) w = Contains-append_left (delays e) (delays b) d w
 delay_of_child site _ e d (of_right {a = a}) w = Contains-append_right (delays a) (delays e) d w
 delay_of_child site _ e d (of_condition {b = b} {c = c}) w = Contains-append_left (delays e) (delays b ++ delays c) d w
-delay_of_child site _ e d (of_first {a = a} {c = c}) w = Contains-append_right (delays a) (delays e ++ delays c) d (Contains-append_left (delays e) (delays c) d w)
-delay_of_child site _ e d (of_second {a = a} {b = b}) w = Contains-append_right (delays a) (delays b ++ delays e) d (Contains-append_right (delays b) (delays e) d w)
+delay_of_child site _ e d (of_first {a = a} {c = c}) w = Contains-append_right (delays a) (delays e ++ delays c) d
+    (Contains-append_left (delays e) (delays c) d w)
+delay_of_child site _ e d (of_second {a = a} {b = b}) w = Contains-append_right (delays a) (delays b ++ delays e) d
+    (Contains-append_right (delays b) (delays e) d w)
 delay_of_child site _ e d (of_operand {es = es} j arg) w = delay_of_argument es j e d arg w
 delay_of_child site _ e d (of_argument {es = es} j arg) w = delay_of_argument es j e d arg w
 
@@ -105,7 +110,8 @@ call_of_argument : (es : Trees) (j : ℕ) (e : Tree) (c : CallTree) → IsArgume
 call_of_argument _ _ e c (head {es = es}) w = Contains-append_left (calls_in e) (calls_in_all es) c w
 call_of_argument _ _ e c (tail {e = b} {es = es} arg) w = Contains-append_right (calls_in b) (calls_in_all es) c (call_of_argument es _ e c arg w)
 
-call_of_child : (at : ℕ) (site : Option ℕ) (form : Form) (e : Tree) (c : CallTree) → IsChild e form → Contains (calls_in e) c → Contains (form_calls at site form) c
+call_of_child : (at : ℕ) (site : Option ℕ) (form : Form) (e : Tree) (c : CallTree) → IsChild e form → Contains (calls_in e) c
+    → Contains (form_calls at site form) c
 call_of_child at site _ e c of_not w = w
 call_of_child at site _ e c of_minus w = w
 call_of_child at site _ e c of_pre w = w
@@ -114,10 +120,13 @@ call_of_child at site _ e c (of_when n) w = w
 call_of_child at site _ e c (of_left {b = b}) w = Contains-append_left (calls_in e) (calls_in b) c w
 call_of_child at site _ e c (of_right {a = a}) w = Contains-append_right (calls_in a) (calls_in e) c w
 call_of_child at site _ e d (of_condition {b = b} {c = c}) w = Contains-append_left (calls_in e) (calls_in b ++ calls_in c) d w
-call_of_child at site _ e d (of_first {a = a} {c = c}) w = Contains-append_right (calls_in a) (calls_in e ++ calls_in c) d (Contains-append_left (calls_in e) (calls_in c) d w)
-call_of_child at site _ e d (of_second {a = a} {b = b}) w = Contains-append_right (calls_in a) (calls_in b ++ calls_in e) d (Contains-append_right (calls_in b) (calls_in e) d w)
+call_of_child at site _ e d (of_first {a = a} {c = c}) w = Contains-append_right (calls_in a) (calls_in e ++ calls_in c) d
+    (Contains-append_left (calls_in e) (calls_in c) d w)
+call_of_child at site _ e d (of_second {a = a} {b = b}) w = Contains-append_right (calls_in a) (calls_in b ++ calls_in e) d
+    (Contains-append_right (calls_in b) (calls_in e) d w)
 call_of_child at site _ e c (of_operand {es = es} j arg) w = call_of_argument es j e c arg w
-call_of_child at site _ e c (of_argument {f = f} {es = es} j arg) w = in_tail (record { at = at; site = unwrap_or site 0; name = f; args = es }) (calls_in_all es) c (call_of_argument es j e c arg w)
+call_of_child at site _ e c (of_argument {f = f} {es = es} j arg) w = in_tail (record { at = at; site = unwrap_or site 0; name = f; args = es })
+    (calls_in_all es) c (call_of_argument es j e c arg w)
 
 -- What stands in equations and assertions.
 delay_of_equation : (qs : List EquationTree) (q : EquationTree) (d : Delay) → Contains qs q → Contains (delays q.right) d → Contains (delays_in_equations qs) d
@@ -127,21 +136,24 @@ delay_of_equation (r ∷ rs) q d w v = elim (head_or_tail r rs q w) [
   | inr rest ↦ Contains-append_right (delays r.right) (delays_in_equations rs) d (delay_of_equation rs q d rest v)
 ]
 
-delay_of_assertion : (qs : List AssertionTree) (q : AssertionTree) (d : Delay) → Contains qs q → Contains (delays q.body) d → Contains (delays_in_assertions qs) d
+delay_of_assertion : (qs : List AssertionTree) (q : AssertionTree) (d : Delay) → Contains qs q → Contains (delays q.body) d
+    → Contains (delays_in_assertions qs) d
 delay_of_assertion [] q d w v = none_in q w
 delay_of_assertion (r ∷ rs) q d w v = elim (head_or_tail r rs q w) [
   | inl is ↦ Contains-append_left (delays r.body) (delays_in_assertions rs) d (subst (λ u. Contains (delays u.body) d) (sym is) v)
   | inr rest ↦ Contains-append_right (delays r.body) (delays_in_assertions rs) d (delay_of_assertion rs q d rest v)
 ]
 
-pub call_of_equation : (qs : List EquationTree) (q : EquationTree) (c : CallTree) → Contains qs q → Contains (calls_in q.right) c → Contains (calls_in_equations qs) c
+pub call_of_equation : (qs : List EquationTree) (q : EquationTree) (c : CallTree) → Contains qs q → Contains (calls_in q.right) c
+    → Contains (calls_in_equations qs) c
 call_of_equation [] q c w v = none_in q w
 call_of_equation (r ∷ rs) q c w v = elim (head_or_tail r rs q w) [
   | inl is ↦ Contains-append_left (calls_in r.right) (calls_in_equations rs) c (subst (λ u. Contains (calls_in u.right) c) (sym is) v)
   | inr rest ↦ Contains-append_right (calls_in r.right) (calls_in_equations rs) c (call_of_equation rs q c rest v)
 ]
 
-call_of_assertion : (qs : List AssertionTree) (q : AssertionTree) (c : CallTree) → Contains qs q → Contains (calls_in q.body) c → Contains (calls_in_assertions qs) c
+call_of_assertion : (qs : List AssertionTree) (q : AssertionTree) (c : CallTree) → Contains qs q → Contains (calls_in q.body) c
+    → Contains (calls_in_assertions qs) c
 call_of_assertion [] q c w v = none_in q w
 call_of_assertion (r ∷ rs) q c w v = elim (head_or_tail r rs q w) [
   | inl is ↦ Contains-append_left (calls_in r.body) (calls_in_assertions rs) c (subst (λ u. Contains (calls_in u.body) c) (sym is) v)
@@ -162,7 +174,8 @@ module _ (n : NodeTree) where
   weighed_right q = weighed_under q.lefts q.right
 
   in_right : (q : EquationTree) (x : Tree) → Contains n.equations q → Contains (weighed_right q) x → Contains (weighed n) x
-  in_right q x w v = Contains-append_left (flat_map weighed_right n.equations) (flat_map (λ a. parts a.body) n.assertions) x (in_flat_map weighed_right n.equations q x w v)
+  in_right q x w v = Contains-append_left (flat_map weighed_right n.equations) (flat_map (λ a. parts a.body) n.assertions) x
+      (in_flat_map weighed_right n.equations q x w v)
 
   -- the parts of what stands in a node have a weight
   pub parts_weighed : (e : Tree) → Stands n e → (x : Tree) → Contains (parts e) x → Contains (weighed n) x
@@ -173,7 +186,8 @@ module _ (n : NodeTree) where
   parts_weighed _ (as_assertion a w) x v =
       Contains-append_right (flat_map weighed_right n.equations) (flat_map (λ b. parts b.body) n.assertions) x
       (in_flat_map (λ (b : AssertionTree). parts b.body) n.assertions a x w (subst (λ l. Contains l x) (sym (same_parts a.body)) v))
-  parts_weighed _ (as_child at site form e s c) x v = parts_weighed (Node at site form) s x (in_tail (Node at site form) (form_parts form) x (part_of_child form e x c v))
+  parts_weighed _ (as_child at site form e s c) x v = parts_weighed (Node at site form) s x
+      (in_tail (Node at site form) (form_parts form) x (part_of_child form e x c v))
 
   -- so has the expression itself
   pub stands_weighed : (e : Tree) → Stands n e → Contains (weighed n) e
@@ -183,7 +197,8 @@ module _ (n : NodeTree) where
   pub parts_in : (e : Tree) → Stands n e → (x : Tree) → Contains (parts e) x → Contains (node_parts n) x
   parts_in _ (as_right q w is) x v = Contains-append_left (flat_map (λ r. parts r.right) n.equations) (flat_map (λ b. parts b.body) n.assertions) x
       (in_flat_map (λ (r : EquationTree). parts r.right) n.equations q x w v)
-  parts_in _ (as_argument q at j site f args e w is arg) x v = Contains-append_left (flat_map (λ r. parts r.right) n.equations) (flat_map (λ b. parts b.body) n.assertions) x
+  parts_in _ (as_argument q at j site f args e w is arg) x v = Contains-append_left (flat_map (λ r. parts r.right) n.equations)
+      (flat_map (λ b. parts b.body) n.assertions) x
       (in_flat_map (λ (r : EquationTree). parts r.right) n.equations q x w
       (subst (λ t. Contains (parts t) x) (sym is) (in_tail (Node at site (Call f args)) (parts_of_all args) x (part_of_argument args j e x arg v))))
   parts_in _ (as_assertion a w) x v = Contains-append_right (flat_map (λ r. parts r.right) n.equations) (flat_map (λ b. parts b.body) n.assertions) x
@@ -195,18 +210,22 @@ module _ (n : NodeTree) where
 
   -- its delays and calls are those of the node
   pub delays_in : (e : Tree) → Stands n e → (d : Delay) → Contains (delays e) d → Contains (node_delays n) d
-  delays_in _ (as_right q w is) d v = Contains-append_left (delays_in_equations n.equations) (delays_in_assertions n.assertions) d (delay_of_equation n.equations q d w v)
+  delays_in _ (as_right q w is) d v = Contains-append_left (delays_in_equations n.equations) (delays_in_assertions n.assertions) d
+      (delay_of_equation n.equations q d w v)
   delays_in _ (as_argument q at j site f args e w is arg) d v = Contains-append_left (delays_in_equations n.equations) (delays_in_assertions n.assertions) d
       (delay_of_equation n.equations q d w (subst (λ t. Contains (delays t) d) (sym is) (delay_of_argument args j e d arg v)))
-  delays_in _ (as_assertion a w) d v = Contains-append_right (delays_in_equations n.equations) (delays_in_assertions n.assertions) d (delay_of_assertion n.assertions a d w v)
+  delays_in _ (as_assertion a w) d v = Contains-append_right (delays_in_equations n.equations) (delays_in_assertions n.assertions) d
+      (delay_of_assertion n.assertions a d w v)
   delays_in _ (as_child at site form e s c) d v = delays_in (Node at site form) s d (delay_of_child site form e d c v)
 
   pub calls_are_in : (e : Tree) → Stands n e → (c : CallTree) → Contains (calls_in e) c → Contains (calls n) c
-  calls_are_in _ (as_right q w is) c v = Contains-append_left (calls_in_equations n.equations) (calls_in_assertions n.assertions) c (call_of_equation n.equations q c w v)
+  calls_are_in _ (as_right q w is) c v = Contains-append_left (calls_in_equations n.equations) (calls_in_assertions n.assertions) c
+      (call_of_equation n.equations q c w v)
   calls_are_in _ (as_argument q at j site f args e w is arg) c v = Contains-append_left (calls_in_equations n.equations) (calls_in_assertions n.assertions) c
       (call_of_equation n.equations q c w (subst (λ t. Contains (calls_in t) c) (sym is)
       (in_tail (record { at = at; site = unwrap_or site 0; name = f; args = args }) (calls_in_all args) c (call_of_argument args j e c arg v))))
-  calls_are_in _ (as_assertion a w) c v = Contains-append_right (calls_in_equations n.equations) (calls_in_assertions n.assertions) c (call_of_assertion n.assertions a c w v)
+  calls_are_in _ (as_assertion a w) c v = Contains-append_right (calls_in_equations n.equations) (calls_in_assertions n.assertions) c
+      (call_of_assertion n.assertions a c w v)
   calls_are_in _ (as_child at site form e s k) c v = calls_are_in (Node at site form) s c (call_of_child at site form e c k v)
 
   -- What a delay remembers stands in the node where the delay does.
@@ -214,7 +233,8 @@ module _ (n : NodeTree) where
     delay_stands : (e : Tree) → Stands n e → (d : Delay) → Contains (delays e) d → Stands n d.operand
     delay_stands (Node at site form) s d w = form_delay_stands at site form s d w
 
-    form_delay_stands : (at : ℕ) (site : Option ℕ) (form : Form) → Stands n (Node at site form) → (d : Delay) → Contains (form_delays site form) d → Stands n d.operand
+    form_delay_stands : (at : ℕ) (site : Option ℕ) (form : Form) → Stands n (Node at site form) → (d : Delay) → Contains (form_delays site form) d
+        → Stands n d.operand
     form_delay_stands at site True s d w = none_in d w
     form_delay_stands at site False s d w = none_in d w
     form_delay_stands at site (Number k) s d w = none_in d w
@@ -256,7 +276,8 @@ module _ (n : NodeTree) where
     arguments_stand : (e : Tree) → Stands n e → (c : CallTree) → Contains (calls_in e) c → (j : ℕ) (a : Tree) → IsArgument c.args j a → Stands n a
     arguments_stand (Node at site form) s c w = form_arguments_stand at site form s c w
 
-    form_arguments_stand : (at : ℕ) (site : Option ℕ) (form : Form) → Stands n (Node at site form) → (c : CallTree) → Contains (form_calls at site form) c → (j : ℕ) (a : Tree) → IsArgument c.args j a → Stands n a
+    form_arguments_stand : (at : ℕ) (site : Option ℕ) (form : Form) → Stands n (Node at site form) → (c : CallTree) → Contains (form_calls at site form) c
+        → (j : ℕ) (a : Tree) → IsArgument c.args j a → Stands n a
     form_arguments_stand at site True s d w j x arg = none_in d w
     form_arguments_stand at site False s d w j x arg = none_in d w
     form_arguments_stand at site (Number k) s d w j x arg = none_in d w
@@ -277,7 +298,8 @@ module _ (n : NodeTree) where
         | inr u ↦ arguments_stand c (as_child at site (If a b c) c s of_second) d u j x arg
       ]
     ]
-    form_arguments_stand at site (AtMostOne es) s d w j x arg = all_arguments_stand es (λ j e arg. as_child at site (AtMostOne es) e s (of_operand j arg)) d w j x arg
+    form_arguments_stand at site (AtMostOne es) s d w j x arg = all_arguments_stand es (λ j e arg. as_child at site (AtMostOne es) e s (of_operand j arg)) d w j
+        x arg
     form_arguments_stand at site (Call f es) s d w j x arg =
         let own : CallTree = record { at = at; site = unwrap_or site 0; name = f; args = es } in
         elim (head_or_tail own (calls_in_all es) d w) [
@@ -285,7 +307,8 @@ module _ (n : NodeTree) where
           | inr v ↦ all_arguments_stand es (λ k e there. as_child at site (Call f es) e s (of_argument k there)) d v j x arg
         ]
 
-    all_arguments_stand : (es : Trees) → ((j : ℕ) (e : Tree) → IsArgument es j e → Stands n e) → (c : CallTree) → Contains (calls_in_all es) c → (j : ℕ) (a : Tree) → IsArgument c.args j a → Stands n a
+    all_arguments_stand : (es : Trees) → ((j : ℕ) (e : Tree) → IsArgument es j e → Stands n e) → (c : CallTree) → Contains (calls_in_all es) c
+        → (j : ℕ) (a : Tree) → IsArgument c.args j a → Stands n a
     all_arguments_stand None s d w j x arg = none_in d w
     all_arguments_stand (More e es) s d w j x arg = elim (Contains-append_cases (calls_in e) (calls_in_all es) d w) [
       | inl v ↦ arguments_stand e (s 0 e head) d v j x arg
@@ -330,7 +353,8 @@ module _ (n : NodeTree) where
     | called at site f args is ↦ all_delays_stand args (λ j e arg. as_argument q at j site f args e w is arg) d (subst (λ t. Contains (delays t) d) is v)
   ]
 
-  call_of_right : (q : EquationTree) → Contains n.equations q → (c : CallTree) → Contains (calls_in q.right) c → (j : ℕ) (a : Tree) → IsArgument c.args j a → Stands n a
+  call_of_right : (q : EquationTree) → Contains n.equations q → (c : CallTree) → Contains (calls_in q.right) c → (j : ℕ) (a : Tree) → IsArgument c.args j a
+      → Stands n a
   call_of_right q w c v j a arg = elim (right_stands q w) [
     | whole s ↦ arguments_stand q.right s c v j a arg
     | called at site f args is ↦
@@ -342,28 +366,32 @@ module _ (n : NodeTree) where
         ]
   ]
 
-  delay_of_equations : (qs : List EquationTree) → ((q : EquationTree) → Contains qs q → Contains n.equations q) → (d : Delay) → Contains (delays_in_equations qs) d → Stands n d.operand
+  delay_of_equations : (qs : List EquationTree) → ((q : EquationTree) → Contains qs q → Contains n.equations q) → (d : Delay)
+      → Contains (delays_in_equations qs) d → Stands n d.operand
   delay_of_equations [] into d v = none_in d v
   delay_of_equations (q ∷ qs) into d v = elim (Contains-append_cases (delays q.right) (delays_in_equations qs) d v) [
     | inl u ↦ delay_of_right q (into q (at_head q qs)) d u
     | inr u ↦ delay_of_equations qs (λ r w. into r (in_tail q qs r w)) d u
   ]
 
-  delay_of_assertions : (qs : List AssertionTree) → ((q : AssertionTree) → Contains qs q → Contains n.assertions q) → (d : Delay) → Contains (delays_in_assertions qs) d → Stands n d.operand
+  delay_of_assertions : (qs : List AssertionTree) → ((q : AssertionTree) → Contains qs q → Contains n.assertions q) → (d : Delay)
+      → Contains (delays_in_assertions qs) d → Stands n d.operand
   delay_of_assertions [] into d v = none_in d v
   delay_of_assertions (q ∷ qs) into d v = elim (Contains-append_cases (delays q.body) (delays_in_assertions qs) d v) [
     | inl u ↦ delay_stands q.body (as_assertion q (into q (at_head q qs))) d u
     | inr u ↦ delay_of_assertions qs (λ r w. into r (in_tail q qs r w)) d u
   ]
 
-  call_of_equations : (qs : List EquationTree) → ((q : EquationTree) → Contains qs q → Contains n.equations q) → (c : CallTree) → Contains (calls_in_equations qs) c → (j : ℕ) (a : Tree) → IsArgument c.args j a → Stands n a
+  call_of_equations : (qs : List EquationTree) → ((q : EquationTree) → Contains qs q → Contains n.equations q) → (c : CallTree)
+      → Contains (calls_in_equations qs) c → (j : ℕ) (a : Tree) → IsArgument c.args j a → Stands n a
   call_of_equations [] into c v j a arg = none_in c v
   call_of_equations (q ∷ qs) into c v j a arg = elim (Contains-append_cases (calls_in q.right) (calls_in_equations qs) c v) [
     | inl u ↦ call_of_right q (into q (at_head q qs)) c u j a arg
     | inr u ↦ call_of_equations qs (λ r w. into r (in_tail q qs r w)) c u j a arg
   ]
 
-  call_of_assertions : (qs : List AssertionTree) → ((q : AssertionTree) → Contains qs q → Contains n.assertions q) → (c : CallTree) → Contains (calls_in_assertions qs) c → (j : ℕ) (a : Tree) → IsArgument c.args j a → Stands n a
+  call_of_assertions : (qs : List AssertionTree) → ((q : AssertionTree) → Contains qs q → Contains n.assertions q) → (c : CallTree)
+      → Contains (calls_in_assertions qs) c → (j : ℕ) (a : Tree) → IsArgument c.args j a → Stands n a
   call_of_assertions [] into c v j a arg = none_in c v
   call_of_assertions (q ∷ qs) into c v j a arg = elim (Contains-append_cases (calls_in q.body) (calls_in_assertions qs) c v) [
     | inl u ↦ arguments_stand q.body (as_assertion q (into q (at_head q qs))) c u j a arg
@@ -400,8 +428,10 @@ module _ (n : NodeTree) where
   pub own_current : (at : ℕ) (site : Option ℕ) (e : Tree) → Stands n (Node at site (Current e)) → Contains (node_delays n) (record { site = site; operand = e })
   own_current at site e s = delays_in (Node at site (Current e)) s _ (at_head (record { site = site; operand = e }) (delays e))
 
-  pub own_call : (at : ℕ) (site : Option ℕ) (f : Identifier) (args : Trees) → Stands n (Node at site (Call f args)) → Contains (calls n) (record { at = at; site = unwrap_or site 0; name = f; args = args })
-  own_call at site f args s = calls_are_in (Node at site (Call f args)) s _ (at_head (record { at = at; site = unwrap_or site 0; name = f; args = args }) (calls_in_all args))
+  pub own_call : (at : ℕ) (site : Option ℕ) (f : Identifier) (args : Trees) → Stands n (Node at site (Call f args))
+      → Contains (calls n) (record { at = at; site = unwrap_or site 0; name = f; args = args })
+  own_call at site f args s = calls_are_in (Node at site (Call f args)) s _
+      (at_head (record { at = at; site = unwrap_or site 0; name = f; args = args }) (calls_in_all args))
 
   -- a call with several outputs is one of the node
   pub output_call : (x : Identifier) (c : CallTree) (j : ℕ) → IsRight n x (Output c j) → Contains (calls n) c

@@ -1,5 +1,6 @@
 -- Where numbers stand among some.
-use Rattle.std.proofs.Common.{◌≡◌, ◌⊎◌, inl, inr, ℕ, zero, suc, ◌+◌, ◌-◌, ◌<◌, ◌≤◌, ◌^◌, List, [], ◌∷◌, map, length, get_or, replicate, set, refl, sym, ◌∙◌, ap, subst, arith, length-set, get_or-set_same, get_or-set_other}
+use Rattle.std.proofs.Common.{◌≡◌, ◌⊎◌, inl, inr, ℕ, zero, suc, ◌+◌, ◌-◌, ◌<◌, ◌≤◌, ◌^◌, List, [], ◌∷◌, map, length, get_or, replicate, set, refl, sym, ◌∙◌, ap}
+use Rattle.std.proofs.Common.{subst, arith, length-set, get_or-set_same, get_or-set_other}
 use Rattle.std.specs.Prelude.{min}
 use Rattle.std.proofs.lemmas.Bool.{cases_order}
 use Rattle.std.proofs.lemmas.List.{get_or_default, get_or-map, length-map, length-replicate}
@@ -26,7 +27,8 @@ apart_of (x ∷ xs) d once = (
 )
 
 -- a list without one of its elements
-rest_of : {X : Type 0} (ys : List X) (x : X) → Contains ys x → (zs : List X) × (length ys ≡ suc (length zs)) × ((z : X) → Contains ys z → (z ≡ x → ⊥) → Contains zs z)
+rest_of : {X : Type 0} (ys : List X) (x : X) → Contains ys x → (zs : List X) × (length ys ≡ suc (length zs))
+    × ((z : X) → Contains ys z → (z ≡ x → ⊥) → Contains zs z)
 rest_of [] x w = none_in x w
 rest_of {X = X} (y ∷ ys) x w = elim (head_or_tail y ys x w) [
   | inl same ↦ (ys, refl, λ z v other. after ys z x same other (head_or_tail y ys z v))
@@ -37,7 +39,8 @@ rest_of {X = X} (y ∷ ys) x w = elim (head_or_tail y ys x w) [
     after ys z x same other (inl e) = absurd (other (sym e ∙ same))
     after ys z x same other (inr v) = v
 
-    before : (zs ys : List X) (x : X) → ((z : X) → Contains ys z → (z ≡ x → ⊥) → Contains zs z) → (z : X) → (z ≡ x → ⊥) → (y ≡ z) ⊎ Contains ys z → Contains (y ∷ zs) z
+    before : (zs ys : List X) (x : X) → ((z : X) → Contains ys z → (z ≡ x → ⊥) → Contains zs z) → (z : X) → (z ≡ x → ⊥) → (y ≡ z) ⊎ Contains ys z
+        → Contains (y ∷ zs) z
     before zs ys x keeps z other (inl e) = subst (λ u. Contains (u ∷ zs) z) (sym e) (at_head z zs)
     before zs ys x keeps z other (inr v) = in_tail y zs z (keeps z v other)
 
@@ -83,7 +86,8 @@ told_other at j (n ∷ ns) k none =
     ∙ get_or-set_other at n k j 0 (λ e. none (subst (λ m. Contains (m ∷ ns) k) e (at_head k ns)))
 
 -- Each of different numbers has where it stands.
-told_at : (at : List ℕ) (j : ℕ) (ns : List ℕ) → Apart ns → (i : ℕ) → i < length ns → get_or ns i 0 < length at → j + length ns ≤ 2 ^ 32 → get_or (told at j ns) (get_or ns i 0) 0 ≡ j + i
+told_at : (at : List ℕ) (j : ℕ) (ns : List ℕ) → Apart ns → (i : ℕ) → i < length ns → get_or ns i 0 < length at → j + length ns ≤ 2 ^ 32
+    → get_or (told at j ns) (get_or ns i 0) 0 ≡ j + i
 told_at at j [] apart i lt within few = absurd (omega (arith, lt))
 told_at at j (n ∷ ns) apart zero lt within few =
     told_other (set at n j) (min (j + 1) (2 ^ 32 - 1)) ns n apart.0 ∙ get_or-set_same at n j 0 within ∙ (let e : j ≡ j + 0 = omega arith in e)
@@ -138,7 +142,8 @@ module _ (places sequence : List Sites) (numbers : List ℕ) (rising : AreRising
       ∙ ap (λ n. first + n) (sym (its_number sequence distinct j w.1) ∙ ap (index_of sequence) there)
 
 -- The ticks among places that rise.
-pub ticks_stand : (places : List Sites) (ticks made : List ℕ) → AreRising places → length places < 2 ^ 32 → AreRising (map (place_at places) ticks) → ((k : ℕ) → Contains ticks k → k < length places)
+pub ticks_stand : (places : List Sites) (ticks made : List ℕ) → AreRising places → length places < 2 ^ 32 → AreRising (map (place_at places) ticks)
+    → ((k : ℕ) → Contains ticks k → k < length places)
     → made ≡ told (replicate (length places) 0) 1 ticks → (k : ℕ) → k < length places → Contains (map (place_at places) ticks) (place_at places k)
     → get_or made k 0 ≡ index_of (map (place_at places) ticks) (place_at places k) + 1
 ticks_stand places ticks made rising few ordered within is k lt w =

@@ -1,5 +1,6 @@
 -- A flat system that is read from its program has the program's symbolic instants, and its comparisons on their clocks.
-use Rattle.std.proofs.Common.{◌≡◌, inl, inr, ◌⊎◌, ℕ, suc, ◌+◌, ◌<◌, ◌↔◌, Bool, true, false, cond, List, [], ◌∷◌, map, length, get_or, refl, sym, ◌∙◌, ap, subst, arith, Option, Some, IsSome}
+use Rattle.std.proofs.Common.{◌≡◌, inl, inr, ◌⊎◌, ℕ, suc, ◌+◌, ◌<◌, ◌↔◌, Bool, true, false, cond, List, [], ◌∷◌, map, length, get_or, refl, sym, ◌∙◌, ap, subst}
+use Rattle.std.proofs.Common.{arith, Option, Some, IsSome}
 use Rattle.std.proofs.Common.{None as Nothing}
 use Rattle.std.proofs.lemmas.List.{length-map}
 use Rattle.std.proofs.lemmas.Simd.{map-map}
@@ -66,7 +67,8 @@ none_there p q e = by (is_same p q) refl e
     by true is e = same_text p q is
     by false is e = no_flag e
 
-one_clock : (a b : Option Sites) → ((h : Cells) → is_there h a 0 ≡ true → is_there h b 0 ≡ true) → ((h : Cells) → is_there h b 0 ≡ true → is_there h a 0 ≡ true) → a ≡ b
+one_clock : (a b : Option Sites) → ((h : Cells) → is_there h a 0 ≡ true → is_there h b 0 ≡ true) → ((h : Cells) → is_there h b 0 ≡ true → is_there h a 0 ≡ true)
+    → a ≡ b
 one_clock Nothing Nothing f g = refl
 one_clock Nothing (Some q) f g = no_flag (f (there_alone Nothing) refl)
 one_clock (Some p) Nothing f g = no_flag (g (there_alone Nothing) refl)
@@ -87,7 +89,8 @@ masked : (b : Bool) (v : Value) → IsSome (cond b (Some v) Nothing) ↔ (b ≡ 
 masked true v = (λ h. refl, λ h. refl)
 masked false v = (λ h. h, λ h. h)
 
-gives_there : (program : ProgramTree) (starts : Sites → Value) (inputs : ℕ → ℕ → Value) (g : Giver) (h : Cells) → IsSome (expected program starts inputs g h 0) ↔ (is_there h (giver_clock g) 0 ≡ true)
+gives_there : (program : ProgramTree) (starts : Sites → Value) (inputs : ℕ → ℕ → Value) (g : Giver) (h : Cells)
+    → IsSome (expected program starts inputs g h 0) ↔ (is_there h (giver_clock g) 0 ≡ true)
 gives_there program starts inputs (Given j) h = (λ x. refl, λ x. refl)
 gives_there program starts inputs (Of i k (Body e)) h = masked (is_there h (clock_in i k e) 0) _
 gives_there program starts inputs (Of i k (Output c j)) h = masked (is_there h (absolute i (clock_of_arguments i c.args)) 0) _
@@ -101,7 +104,8 @@ labels_counted [] = refl
 labels_counted (d ∷ ds) = λ j. length-map (labels_of d) (λ x. x.text) j ∷ labels_counted ds j
 
 module _ (laws : Laws) (program : ProgramTree) (main : Identifier) (well : AreWell program) (named : IsNode program main) (defined : AreDefined program main)
-    (flows : List FlatFlow) (memories : List FlatMemory) (inputs : List FlatInput) (variables : List Bit) (assertions : List FlatExpr) (labels : List (List (List ℕ))) (observer : ℕ)
+    (flows : List FlatFlow) (memories : List FlatMemory) (inputs : List FlatInput) (variables : List Bit) (assertions : List FlatExpr)
+    (labels : List (List (List ℕ))) (observer : ℕ)
     (read : IsRead program main flows memories inputs variables assertions) (types : AreKinds program main flows inputs labels)
   where
     abbrev numbers : Numbers
@@ -115,7 +119,8 @@ module _ (laws : Laws) (program : ProgramTree) (main : Identifier) (well : AreWe
 
     module _ (translated : IsTranslated program main numbers s) where
       -- the flow of each clock is on its own
-      clock_agrees : (i : Instance) (x : Identifier) (g : Giver) → IsInstance program main i → Contains (flows_of i.node) x → Gives program main (place i x) g → giver_clock g ≡ absolute i (clock_of i.node x)
+      clock_agrees : (i : Instance) (x : Identifier) (g : Giver) → IsInstance program main i → Contains (flows_of i.node) x → Gives program main (place i x) g
+          → giver_clock g ≡ absolute i (clock_of i.node x)
       clock_agrees i x g of w gives =
           let own = λ (h : Cells). defined.clocked i x g (λ p. Flag false) (λ t j. Flag false) h 0 of w gives in
           let there = λ (h : Cells). gives_there program (λ p. Flag false) (λ t j. Flag false) g h in
@@ -125,7 +130,8 @@ module _ (laws : Laws) (program : ProgramTree) (main : Identifier) (well : AreWe
       is_clock i x of w =
           let at = indexed (places_of flows) (place i x) (read.sequence.flows (place i x) (i, x, of, w, refl)) in
           let r = translated.flow (index_of (places_of flows) (place i x)) (let many = translated.many in omega (arith, at.0, many)) in
-          ap (λ (y : Item). y.clock) r.2 ∙ clock_is program numbers r.0 ∙ ap (clock_number numbers) (clock_agrees i x r.0 of w (subst (λ q. Gives program main q r.0) at.1 r.1))
+          ap (λ (y : Item). y.clock) r.2 ∙ clock_is program numbers r.0
+          ∙ ap (clock_number numbers) (clock_agrees i x r.0 of w (subst (λ q. Gives program main q r.0) at.1 r.1))
 
       are_clocked : AreClocked program main numbers s
       are_clocked = are_named program main well named (λ q. Unit {0}) (λ t. Unit {0}) (IsClockOf numbers s) (λ i d of w. tt) (λ i e of w arrow. tt) is_clock
@@ -134,7 +140,8 @@ module _ (laws : Laws) (program : ProgramTree) (main : Identifier) (well : AreWe
       pub comparison_there : (c : Compared) → IsComparison program main c → Contains (all_comparisons s) (flat_compared program numbers c)
       comparison_there c is = laws.comparisons program main numbers s c translated defined (indexed (places_of flows)) are_clocked is
 
-      pub comparison_only : (d : Comparison) → Contains (all_comparisons s) d → (c : Compared) × IsComparison program main c × (d ≡ flat_compared program numbers c)
+      pub comparison_only : (d : Comparison) → Contains (all_comparisons s) d
+          → (c : Compared) × IsComparison program main c × (d ≡ flat_compared program numbers c)
       comparison_only d w = laws.only program main numbers s d translated defined (indexed (places_of flows)) are_clocked w
 
       -- What an instant finds at a valuation is found in the program.
@@ -150,8 +157,10 @@ module _ (laws : Laws) (program : ProgramTree) (main : Identifier) (well : AreWe
       width_same : width s ≡ columns_of program main kept
       width_same = λ j. whole_count (kinds_same j) + whole_count (types.input j)
 
-      memory_there : (i : Instance) (d : Delay) → IsInstance program main i → Contains (node_delays i.node) d → Contains (memory_places_of memories) (delay_place i d)
-      memory_there i d of w = subst (λ l. Contains l (delay_place i d)) (sym places_same) (in_map (λ m. m.place) kept (memory_at program i d) (read.list.all i d of tt w))
+      memory_there : (i : Instance) (d : Delay) → IsInstance program main i → Contains (node_delays i.node) d
+          → Contains (memory_places_of memories) (delay_place i d)
+      memory_there i d of w = subst (λ l. Contains l (delay_place i d)) (sym places_same)
+          (in_map (λ m. m.place) kept (memory_at program i d) (read.list.all i d of tt w))
 
       module _ (v : Valuation) where
         given_same : (j : ℕ) → (found_at s v).given j ≡ (found_by program main kept v).given j
@@ -167,7 +176,8 @@ module _ (laws : Laws) (program : ProgramTree) (main : Identifier) (well : AreWe
             let same : n ≡ index_of (map (λ (m : MemoryAt). m.place) kept) q = ap (λ l. index_of l q) places_same in
             rw (own, same, labels_same, types.input, kinds_same)
 
-        tick_same : (k : Option Sites) → ((q : Sites) → k ≡ Some q → Contains (tick_places variables) q) → (found_at s v).ticked (tick_number numbers k) ≡ v.ticked k
+        tick_same : (k : Option Sites) → ((q : Sites) → k ≡ Some q → Contains (tick_places variables) q)
+            → (found_at s v).ticked (tick_number numbers k) ≡ v.ticked k
         tick_same Nothing there = refl
         tick_same (Some q) there =
             let next : index_of (tick_places variables) q + 1 ≡ suc (index_of (tick_places variables) q) = omega arith in
@@ -180,7 +190,8 @@ module _ (laws : Laws) (program : ProgramTree) (main : Identifier) (well : AreWe
             (λ k. (found_at s v).ticked (tick_number numbers k) ≡ (found_by program main kept v).ticked k) (λ i x. Unit {0})
             kept_same (λ i e of w arrow. tick_same (clock_in i Base e) (λ q is. read.ticks.all i e q of w arrow is)) (λ i x of w. tt)
 
-        row_same : (cells : Sites → Option Reading) → ((q : Sites) → IsFlow program main q ⊎ (cells q ≡ Nothing)) → (q : Sites) → get_or (map cells (places_of flows)) (index_of (places_of flows) q) Nothing ≡ cells q
+        row_same : (cells : Sites → Option Reading) → ((q : Sites) → IsFlow program main q ⊎ (cells q ≡ Nothing)) → (q : Sites)
+            → get_or (map cells (places_of flows)) (index_of (places_of flows) q) Nothing ≡ cells q
         row_same cells none q = by (is_among (places_of flows) q) refl
           where
             by : (b : Bool) → is_among (places_of flows) q ≡ b → get_or (map cells (places_of flows)) (index_of (places_of flows) q) Nothing ≡ cells q
@@ -191,25 +202,32 @@ module _ (laws : Laws) (program : ProgramTree) (main : Identifier) (well : AreWe
             ])
 
         -- Each symbolic instant of the program is one of the flat system, and the other way round.
-        pub symbolic_there : (cells : Sites → Option Reading) → IsSymbolicOf program main kept v cells → ((q : Sites) → IsFlow program main q ⊎ (cells q ≡ Nothing)) → IsSymbolic s v (map cells (places_of flows))
+        pub symbolic_there : (cells : Sites → Option Reading) → IsSymbolicOf program main kept v cells
+            → ((q : Sites) → IsFlow program main q ⊎ (cells q ≡ Nothing)) → IsSymbolic s v (map cells (places_of flows))
         symbolic_there cells is none =
             subst (λ n. IsInstant Reading (readings n v.test) s (found_at s v) (map cells (places_of flows))) (sym width_same)
-            (laws.instants program main numbers s (columns_of program main kept) v.test (found_at s v) (found_by program main kept v) cells translated given_same all_found (row_same cells none) is)
+            (laws.instants program main numbers s (columns_of program main kept) v.test (found_at s v) (found_by program main kept v) cells translated
+            given_same all_found (row_same cells none) is)
 
-        pub symbolic_back : (row : List (Option Reading)) → IsSymbolic s v row → IsSymbolicOf program main kept v (λ q. get_or row (index_of (places_of flows) q) Nothing)
+        pub symbolic_back : (row : List (Option Reading)) → IsSymbolic s v row
+            → IsSymbolicOf program main kept v (λ q. get_or row (index_of (places_of flows) q) Nothing)
         symbolic_back row is =
-            laws.rows program main numbers s (columns_of program main kept) v.test (found_at s v) (found_by program main kept v) row translated given_same all_found defined (indexed (places_of flows))
+            laws.rows program main numbers s (columns_of program main kept) v.test (found_at s v) (found_by program main kept v) row translated given_same
+            all_found defined (indexed (places_of flows))
             (subst (λ n. IsInstant Reading (readings n v.test) s (found_at s v) row) width_same is)
 
       -- The ticks, and the observer, by their numbers.
-      tick_there : (i : Instance) (e : Tree) → IsInstance program main i → Contains (node_parts i.node) e → is_arrow e ≡ true → Contains s.ticks (clock_in i Base e)
+      tick_there : (i : Instance) (e : Tree) → IsInstance program main i → Contains (node_parts i.node) e → is_arrow e ≡ true
+          → Contains s.ticks (clock_in i Base e)
       tick_there i e of w arrow = by (clock_in i Base e) refl
         where
           by : (k : Option Sites) → clock_in i Base e ≡ k → Contains s.ticks k
           by Nothing is = at_head Nothing (map (λ p. Some p) (tick_places variables))
-          by (Some q) is = in_tail Nothing (map (λ p. Some p) (tick_places variables)) (Some q) (in_map (λ p. Some p) (tick_places variables) q (read.ticks.all i e q of w arrow is))
+          by (Some q) is = in_tail Nothing (map (λ p. Some p) (tick_places variables)) (Some q)
+              (in_map (λ p. Some p) (tick_places variables) q (read.ticks.all i e q of w arrow is))
 
-      number_is : (q : Sites) → IsFlow program main q → (k : ℕ) → k < length (places_of flows) → get_or (places_of flows) k [] ≡ q → k ≡ index_of (places_of flows) q
+      number_is : (q : Sites) → IsFlow program main q → (k : ℕ) → k < length (places_of flows) → get_or (places_of flows) k [] ≡ q
+          → k ≡ index_of (places_of flows) q
       number_is q flow k lt is =
           let at = indexed (places_of flows) q (read.sequence.flows q flow) in
           one k (index_of (places_of flows) q) lt at.0 (is ∙ sym at.1)
@@ -224,7 +242,8 @@ module _ (laws : Laws) (program : ProgramTree) (main : Identifier) (well : AreWe
           ]
 
       -- The system is read from the program, with all that it names.
-      pub system_read : IsWell s → IsFlow program main (observer_place program main) → observer < length (places_of flows) → get_or (places_of flows) observer [] ≡ observer_place program main
+      pub system_read : IsWell s → IsFlow program main (observer_place program main) → observer < length (places_of flows)
+          → get_or (places_of flows) observer [] ≡ observer_place program main
           → IsSystemOf program main numbers s
       system_read is_well flow within at = record {
         translated = translated;

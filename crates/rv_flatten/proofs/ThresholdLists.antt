@@ -7,11 +7,13 @@ use Rattle.std.specs.List.{Contains}
 use Rattle.std.specs.List.Sorted.{IsPermutation}
 use Rattle.rv_base.specs.declared.value.Value.{Value}
 use Rattle.rv_base.specs.declared.value.Value.TheVariants.{Flag, Label, Whole}
-use Rattle.rv_tree.specs.Tree.{Tree, Node, Form, True, False, Number, Named, Not, Minus, Pre, Current, When, Binary, If, AtMostOne, Call, Trees, None, More, EquationTree, AssertionTree, ConstantTree, NodeTree, ProgramTree}
+use Rattle.rv_tree.specs.Tree.{Tree, Node, Form, True, False, Number, Named, Not, Minus, Pre, Current, When, Binary, If, AtMostOne, Call, Trees, None, More}
+use Rattle.rv_tree.specs.Tree.{EquationTree, AssertionTree, ConstantTree, NodeTree, ProgramTree}
 use Rattle.rv_types.specs.Scopes.{constant_values}
 use Rattle.rv_types.specs.Variables.{parts, form_parts, parts_of_all, node_parts}
 use Rattle.rv_flat.specs.Thresholds.{IsNumberOf, in_node, in_constant, constant, beside, IsThreshold, AreThresholds}
-use Rattle.rv_flatten.specs.Literals.{literals, form_literals, literals_of_all, equation_literals, assertion_literals, node_literals, constant_literals, program_literals, around, around_literal, around_value, program_numbers, IsDistinctOf}
+use Rattle.rv_flatten.specs.Literals.{literals, form_literals, literals_of_all, equation_literals, assertion_literals, node_literals, constant_literals}
+use Rattle.rv_flatten.specs.Literals.{program_literals, around, around_literal, around_value, program_numbers, IsDistinctOf}
 use Rattle.rv_flat.proofs.Members.{none_in, at_head, in_tail, head_or_tail, in_map, in_flat_map, from_flat_map}
 
 -- A literal of an expression is one of its parts.
@@ -40,17 +42,19 @@ mutual
   form_literal_part at site (Pre e) v w = wider (in_tail (Node at site (Pre e)) (parts e)) (literal_part e v w)
   form_literal_part at site (Current e) v w = wider (in_tail (Node at site (Current e)) (parts e)) (literal_part e v w)
   form_literal_part at site (When e c) v w = wider (in_tail (Node at site (When e c)) (parts e)) (literal_part e v w)
-  form_literal_part at site (Binary o a b) v w = wider (in_tail (Node at site (Binary o a b)) (parts a ++ parts b)) (elim (Contains-append_cases (literals a) (literals b) v w) [
-    | inl u ↦ wider (Contains-append_left (parts a) (parts b)) (literal_part a v u)
-    | inr u ↦ wider (Contains-append_right (parts a) (parts b)) (literal_part b v u)
-  ])
-  form_literal_part at site (If a b c) v w = wider (in_tail (Node at site (If a b c)) (parts a ++ (parts b ++ parts c))) (elim (Contains-append_cases (literals a) (literals b ++ literals c) v w) [
-    | inl u ↦ wider (Contains-append_left (parts a) (parts b ++ parts c)) (literal_part a v u)
-    | inr u ↦ wider (Contains-append_right (parts a) (parts b ++ parts c)) (elim (Contains-append_cases (literals b) (literals c) v u) [
-      | inl t ↦ wider (Contains-append_left (parts b) (parts c)) (literal_part b v t)
-      | inr t ↦ wider (Contains-append_right (parts b) (parts c)) (literal_part c v t)
-    ])
-  ])
+  form_literal_part at site (Binary o a b) v w = wider (in_tail (Node at site (Binary o a b)) (parts a ++ parts b))
+      (elim (Contains-append_cases (literals a) (literals b) v w) [
+        | inl u ↦ wider (Contains-append_left (parts a) (parts b)) (literal_part a v u)
+        | inr u ↦ wider (Contains-append_right (parts a) (parts b)) (literal_part b v u)
+      ])
+  form_literal_part at site (If a b c) v w = wider (in_tail (Node at site (If a b c)) (parts a ++ (parts b ++ parts c)))
+      (elim (Contains-append_cases (literals a) (literals b ++ literals c) v w) [
+        | inl u ↦ wider (Contains-append_left (parts a) (parts b ++ parts c)) (literal_part a v u)
+        | inr u ↦ wider (Contains-append_right (parts a) (parts b ++ parts c)) (elim (Contains-append_cases (literals b) (literals c) v u) [
+          | inl t ↦ wider (Contains-append_left (parts b) (parts c)) (literal_part b v t)
+          | inr t ↦ wider (Contains-append_right (parts b) (parts c)) (literal_part c v t)
+        ])
+      ])
   form_literal_part at site (AtMostOne es) v w = wider (in_tail (Node at site (AtMostOne es)) (parts_of_all es)) (literal_part_of_all es v w)
   form_literal_part at site (Call f es) v w = wider (in_tail (Node at site (Call f es)) (parts_of_all es)) (literal_part_of_all es v w)
 
@@ -108,23 +112,28 @@ node_literal : (n : NodeTree) (v : ℕ) → Contains (node_literals n) v → Has
 node_literal n v w = elim (Contains-append_cases (equation_literals n.equations) (assertion_literals n.assertions) v w) [
   | inl u ↦
       let r = from_flat_map (λ (q : EquationTree). literals q.right) n.equations v u in
-      wider (λ x t. Contains-append_left (flat_map (λ q. parts q.right) n.equations) (flat_map (λ a. parts a.body) n.assertions) x (in_flat_map (λ (q : EquationTree). parts q.right) n.equations r.0 x r.1 t))
+      wider (λ x t. Contains-append_left (flat_map (λ q. parts q.right) n.equations) (flat_map (λ a. parts a.body) n.assertions) x
+      (in_flat_map (λ (q : EquationTree). parts q.right) n.equations r.0 x r.1 t))
       (literal_part r.0.right v r.2)
   | inr u ↦
       let r = from_flat_map (λ (a : AssertionTree). literals a.body) n.assertions v u in
-      wider (λ x t. Contains-append_right (flat_map (λ q. parts q.right) n.equations) (flat_map (λ a. parts a.body) n.assertions) x (in_flat_map (λ (a : AssertionTree). parts a.body) n.assertions r.0 x r.1 t))
+      wider (λ x t. Contains-append_right (flat_map (λ q. parts q.right) n.equations) (flat_map (λ a. parts a.body) n.assertions) x
+      (in_flat_map (λ (a : AssertionTree). parts a.body) n.assertions r.0 x r.1 t))
       (literal_part r.0.body v r.2)
 ]
 
 literal_of_node : (n : NodeTree) (a v : ℕ) (s : Option ℕ) → Contains (node_parts n) (Node a s (Number v)) → Contains (node_literals n) v
-literal_of_node n a v s w = elim (Contains-append_cases (flat_map (λ (q : EquationTree). parts q.right) n.equations) (flat_map (λ (a : AssertionTree). parts a.body) n.assertions) (Node a s (Number v)) w) [
-  | inl u ↦
-      let r = from_flat_map (λ (q : EquationTree). parts q.right) n.equations (Node a s (Number v)) u in
-      Contains-append_left (equation_literals n.equations) (assertion_literals n.assertions) v (in_flat_map (λ (q : EquationTree). literals q.right) n.equations r.0 v r.1 (part_literal r.0.right a v s r.2))
-  | inr u ↦
-      let r = from_flat_map (λ (a : AssertionTree). parts a.body) n.assertions (Node a s (Number v)) u in
-      Contains-append_right (equation_literals n.equations) (assertion_literals n.assertions) v (in_flat_map (λ (a : AssertionTree). literals a.body) n.assertions r.0 v r.1 (part_literal r.0.body a v s r.2))
-]
+literal_of_node n a v s w = elim (Contains-append_cases (flat_map (λ (q : EquationTree). parts q.right) n.equations)
+    (flat_map (λ (a : AssertionTree). parts a.body) n.assertions) (Node a s (Number v)) w) [
+      | inl u ↦
+          let r = from_flat_map (λ (q : EquationTree). parts q.right) n.equations (Node a s (Number v)) u in
+          Contains-append_left (equation_literals n.equations) (assertion_literals n.assertions) v
+          (in_flat_map (λ (q : EquationTree). literals q.right) n.equations r.0 v r.1 (part_literal r.0.right a v s r.2))
+      | inr u ↦
+          let r = from_flat_map (λ (a : AssertionTree). parts a.body) n.assertions (Node a s (Number v)) u in
+          Contains-append_right (equation_literals n.equations) (assertion_literals n.assertions) v
+          (in_flat_map (λ (a : AssertionTree). literals a.body) n.assertions r.0 v r.1 (part_literal r.0.body a v s r.2))
+    ]
 
 -- what stands beside a number, and the negatives of that
 negatives : ℤ → List ℤ
@@ -136,13 +145,15 @@ twice_negative z = omega (arith, ints)
 around_here : (y z : ℤ) → (Contains (beside z) y) ⊎ (Contains (beside z) (neg_ℤ y)) → Contains (around z) y
 unfolding negatives
 around_here y z (inl w) = Contains-append_left (beside z) (negatives z) y w
-around_here y z (inr w) = Contains-append_right (beside z) (negatives z) y (subst (Contains (negatives z)) (twice_negative y) (in_map neg_ℤ (beside z) (neg_ℤ y) w))
+around_here y z (inr w) = Contains-append_right (beside z) (negatives z) y
+    (subst (Contains (negatives z)) (twice_negative y) (in_map neg_ℤ (beside z) (neg_ℤ y) w))
 
 back_around : (y z : ℤ) → Contains (around z) y → (Contains (beside z) y) ⊎ (Contains (beside z) (neg_ℤ y))
 unfolding negatives
 back_around y z w = elim (Contains-append_cases (beside z) (negatives z) y w) [
   | inl u ↦ inl u
-  | inr u ↦ inr (subst (λ l. Contains l (neg_ℤ y)) (λ i. twice_negative (z -ℤ pos 1) i ∷ twice_negative z i ∷ twice_negative (z +ℤ pos 1) i ∷ []) (in_map neg_ℤ (negatives z) y u))
+  | inr u ↦ inr (subst (λ l. Contains l (neg_ℤ y)) (λ i. twice_negative (z -ℤ pos 1) i ∷ twice_negative z i ∷ twice_negative (z +ℤ pos 1) i ∷ [])
+      (in_map neg_ℤ (negatives z) y u))
 ]
 
 module _ (p : ProgramTree) where
@@ -150,15 +161,18 @@ module _ (p : ProgramTree) where
   number_gathered y z (in_node n at v site is_node there is) w =
       Contains-append_left (flat_map around_literal (program_literals p)) (flat_map around_value (constant_values p)) y
       (in_flat_map around_literal (program_literals p) v y
-      (Contains-append_right (constant_literals p.constants) (flat_map node_literals p.nodes) v (in_flat_map node_literals p.nodes n v is_node (literal_of_node n at v site there)))
+      (Contains-append_right (constant_literals p.constants) (flat_map node_literals p.nodes) v
+      (in_flat_map node_literals p.nodes n v is_node (literal_of_node n at v site there)))
       (subst (λ u. Contains (around u) y) (sym is) w))
   number_gathered y z (in_constant c at v site is_constant there is) w =
       Contains-append_left (flat_map around_literal (program_literals p)) (flat_map around_value (constant_values p)) y
       (in_flat_map around_literal (program_literals p) v y
-      (Contains-append_left (constant_literals p.constants) (flat_map node_literals p.nodes) v (in_flat_map (λ (c : ConstantTree). literals c.body) p.constants c v is_constant (part_literal c.body at v site there)))
+      (Contains-append_left (constant_literals p.constants) (flat_map node_literals p.nodes) v
+      (in_flat_map (λ (c : ConstantTree). literals c.body) p.constants c v is_constant (part_literal c.body at v site there)))
       (subst (λ u. Contains (around u) y) (sym is) w))
   number_gathered y z (constant there) w =
-      Contains-append_right (flat_map around_literal (program_literals p)) (flat_map around_value (constant_values p)) y (in_flat_map around_value (constant_values p) (Whole z) y there w)
+      Contains-append_right (flat_map around_literal (program_literals p)) (flat_map around_value (constant_values p)) y
+      (in_flat_map around_value (constant_values p) (Whole z) y there w)
 
   of_literal : (v : ℕ) → Contains (program_literals p) v → IsNumberOf p (pos v)
   of_literal v w = elim (Contains-append_cases (constant_literals p.constants) (flat_map node_literals p.nodes) v w) [
@@ -187,6 +201,8 @@ module _ (p : ProgramTree) where
   pub distinct_thresholds : (xs sorted ys : List ℤ) → xs ≡ program_numbers p → IsPermutation xs sorted → IsDistinctOf sorted ys → AreThresholds p ys
   distinct_thresholds xs sorted ys gathered moved distinct = record {
     rising = distinct.rising;
-    all = λ y t. distinct.all y (Contains-permutation xs sorted y moved (subst (λ l. Contains l y) (sym gathered) (number_gathered y t.0 t.1 (around_here y t.0 t.2))));
-    only = λ y w. gathered_number y (subst (λ l. Contains l y) gathered (Contains-permutation sorted xs y (IsPermutation-sym xs sorted moved) (distinct.only y w)));
+    all = λ y t. distinct.all y (Contains-permutation xs sorted y moved
+        (subst (λ l. Contains l y) (sym gathered) (number_gathered y t.0 t.1 (around_here y t.0 t.2))));
+    only = λ y w. gathered_number y (subst (λ l. Contains l y) gathered
+        (Contains-permutation sorted xs y (IsPermutation-sym xs sorted moved) (distinct.only y w)));
   }

@@ -11,14 +11,16 @@ use Rattle.rv_types.specs.declared.fault.Pace.{Pace}
 use Rattle.rv_types.specs.declared.fault.Pace.TheVariants.{Free, At, Mute, Differ}
 use Rattle.rv_types.specs.Clocks.{seen, meet, pace, pace_of_all}
 use Rattle.rv_types.specs.Names.{texts}
-use Rattle.rv_types.specs.Instances.{CallTree, calls, calls_in, calls_in_all, calls_in_equations, calls_in_assertions, alone, IsArgument, head, tail, clock_of, clock_of_args, taken}
+use Rattle.rv_types.specs.Instances.{CallTree, calls, calls_in, calls_in_all, calls_in_equations, calls_in_assertions, alone, IsArgument, head, tail, clock_of}
+use Rattle.rv_types.specs.Instances.{clock_of_args, taken}
 use Rattle.rv_types.specs.ToldPaces.{IsTimed}
 use Rattle.rv_types.specs.Variables.{parts, parts_of_all}
 use Rattle.rv_types.specs.WellFormed.{Suits, IsWellFormed}
 use Rattle.rv_types.proofs.ToldPaces.{seen_is, grounded_is, current_is, joined, operands, when_is}
 use Rattle.rv_instances.specs.Weights.{weighed_of_several, weighed_under}
 use Rattle.rv_flat.proofs.Members.{at_head}
-use Rattle.rv_flatten.proofs.Standing.{Stands, as_right, as_argument, as_assertion, as_child, IsChild, of_not, of_minus, of_pre, of_current, of_when, of_left, of_right, of_condition, of_first, of_second, of_operand, of_argument, call_of_equation}
+use Rattle.rv_flatten.proofs.Standing.{Stands, as_right, as_argument, as_assertion, as_child, IsChild, of_not, of_minus, of_pre, of_current, of_when, of_left}
+use Rattle.rv_flatten.proofs.Standing.{of_right, of_condition, of_first, of_second, of_operand, of_argument, call_of_equation}
 
 suits_timed : (k : Clock) (p : Pace) → Suits k p → IsTimed p
 suits_timed k Free h = tt
@@ -55,7 +57,8 @@ module _ (program : ProgramTree) (n : NodeTree) (formed : IsWellFormed program n
       several : (length q.lefts ≡ 1 → ⊥) → weighed_of_several q.right ≡ parts q.right → ⊥
       several other whole =
           let call = formed.sides q w other in
-          let same : parts_of_all call.3 ≡ Node call.0 call.1 (Call call.2 call.3) ∷ parts_of_all call.3 = subst (λ (e : Tree). weighed_of_several e ≡ parts e) call.4 whole in
+          let same : parts_of_all call.3 ≡ Node call.0 call.1 (Call call.2 call.3) ∷ parts_of_all call.3 = subst (λ (e : Tree). weighed_of_several e ≡ parts e)
+          call.4 whole in
           let long = ap length same in
           omega (arith, long)
 
@@ -69,7 +72,8 @@ module _ (program : ProgramTree) (n : NodeTree) (formed : IsWellFormed program n
   stands_timed _ (as_argument q at j site f args e w is arg) =
       let c : CallTree = record { at = at; site = unwrap_or site 0; name = f; args = args } in
       let of_right_side : Contains (calls_in q.right) c = subst (λ (t : Tree). Contains (calls_in t) c) (sym is) (at_head c (calls_in_all args)) in
-      let there : Contains (calls n) c = Contains-append_left (calls_in_equations n.equations) (calls_in_assertions n.assertions) c (call_of_equation n.equations q c w of_right_side) in
+      let there : Contains (calls n) c = Contains-append_left (calls_in_equations n.equations) (calls_in_assertions n.assertions) c
+      (call_of_equation n.equations q c w of_right_side) in
       suits_timed (clock_of_args n args) (pace n e) (formed.argument_clock c j e there arg)
   stands_timed _ (as_assertion a w) = suits_timed (taken Base (pace n a.body)) (pace n a.body) (formed.assertion_clock a w)
   stands_timed _ (as_child at site form e s child) = child_timed at site form e child (stands_timed (Node at site form) s)

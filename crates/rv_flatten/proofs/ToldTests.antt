@@ -5,7 +5,8 @@ use Rattle.std.proofs.lemmas.List.Elements.{Contains-append_left, Contains-appen
 use Rattle.std.specs.List.{Contains}
 use Rattle.rv_tree.specs.declared.tree.Op.{Op}
 use Rattle.rv_tree.specs.Sites.{is_comparison}
-use Rattle.rv_tree.specs.Tree.{Tree, Node, Form, True, False, Number, Named, Not, Minus, Pre, Current, When, Binary, If, AtMostOne, Call, Trees, None, More, EquationTree, AssertionTree, NodeTree, ProgramTree}
+use Rattle.rv_tree.specs.Tree.{Tree, Node, Form, True, False, Number, Named, Not, Minus, Pre, Current, When, Binary, If, AtMostOne, Call, Trees, None, More}
+use Rattle.rv_tree.specs.Tree.{EquationTree, AssertionTree, NodeTree, ProgramTree}
 use Rattle.rv_types.specs.declared.typed.Kind.{Kind}
 use Rattle.rv_types.specs.declared.typed.Kind.TheVariants as kind
 use Rattle.rv_types.specs.Heads.{head_kind}
@@ -17,7 +18,8 @@ use Rattle.rv_types.proofs.HeadKinds.{head_is}
 use Rattle.rv_types.proofs.TypedParts.{left_typed}
 use Rattle.rv_agreement.specs.Programs.{is_test}
 use Rattle.rv_flatten.specs.declared.comparisons.Tested.{Tested}
-use Rattle.rv_flatten.specs.Compared.{is_told_test, own_tests_by, tests_by, form_tests_by, tests_of_all_by, tests_in_equations_by, tests_in_assertions_by, tests_in, told_tests_in}
+use Rattle.rv_flatten.specs.Compared.{is_told_test, own_tests_by, tests_by, form_tests_by, tests_of_all_by, tests_in_equations_by, tests_in_assertions_by}
+use Rattle.rv_flatten.specs.Compared.{tests_in, told_tests_in}
 use Rattle.rv_flat.proofs.Members.{at_head, in_tail}
 
 -- the head of a left operand that has a type tells whether integers are compared
@@ -48,7 +50,8 @@ module _ (f g : Op → Tree → Bool) where
     tests_same : (e : Tree) → AgreeIn (parts e) → tests_by f e ≡ tests_by g e
     tests_same (Node at site form) h = form_same at site form (h at site) (in_rest (Node at site form) (form_parts form) h)
 
-    form_same : (at : ℕ) (site : Option ℕ) (form : Form) → ((o : Op) (a b : Tree) → Contains (Node at site form ∷ form_parts form) (Node at site (Binary o a b)) → f o a ≡ g o a) → AgreeIn (form_parts form)
+    form_same : (at : ℕ) (site : Option ℕ) (form : Form) → ((o : Op) (a b : Tree) → Contains (Node at site form ∷ form_parts form) (Node at site (Binary o a b))
+        → f o a ≡ g o a) → AgreeIn (form_parts form)
         → form_tests_by f site form ≡ form_tests_by g site form
     form_same at site True own h = refl
     form_same at site False own h = refl
@@ -80,14 +83,16 @@ module _ (f g : Op → Tree → Bool) where
         let rest = all_same es (in_right (parts e) (parts_of_all es) h) in
         λ i. one i ++ rest i
 
-  equations_same : (qs : List EquationTree) → AgreeIn (flat_map (λ (q : EquationTree). parts q.right) qs) → tests_in_equations_by f qs ≡ tests_in_equations_by g qs
+  equations_same : (qs : List EquationTree) → AgreeIn (flat_map (λ (q : EquationTree). parts q.right) qs)
+      → tests_in_equations_by f qs ≡ tests_in_equations_by g qs
   equations_same [] h = refl
   equations_same (q ∷ qs) h =
       let one = tests_same q.right (in_left (parts q.right) (flat_map (λ (q : EquationTree). parts q.right) qs) h) in
       let rest = equations_same qs (in_right (parts q.right) (flat_map (λ (q : EquationTree). parts q.right) qs) h) in
       λ i. one i ++ rest i
 
-  assertions_same : (rs : List AssertionTree) → AgreeIn (flat_map (λ (r : AssertionTree). parts r.body) rs) → tests_in_assertions_by f rs ≡ tests_in_assertions_by g rs
+  assertions_same : (rs : List AssertionTree) → AgreeIn (flat_map (λ (r : AssertionTree). parts r.body) rs)
+      → tests_in_assertions_by f rs ≡ tests_in_assertions_by g rs
   assertions_same [] h = refl
   assertions_same (r ∷ rs) h =
       let one = tests_same r.body (in_left (parts r.body) (flat_map (λ (r : AssertionTree). parts r.body) rs) h) in
@@ -100,8 +105,10 @@ module _ (p : ProgramTree) where
       let f = is_told_test (node_scope p n) in
       let g = is_test (node_scope p n) in
       let agree : AgreeIn f g (node_parts n) = λ at site o a b w. let t = left_typed p n formed typed at site o a b w in told_is (node_scope p n) o a t.0 t.1 in
-      let equations = equations_same f g n.equations (in_left f g (flat_map (λ (q : EquationTree). parts q.right) n.equations) (flat_map (λ (r : AssertionTree). parts r.body) n.assertions) agree) in
-      let assertions = assertions_same f g n.assertions (in_right f g (flat_map (λ (q : EquationTree). parts q.right) n.equations) (flat_map (λ (r : AssertionTree). parts r.body) n.assertions) agree) in
+      let equations = equations_same f g n.equations (in_left f g (flat_map (λ (q : EquationTree). parts q.right) n.equations)
+      (flat_map (λ (r : AssertionTree). parts r.body) n.assertions) agree) in
+      let assertions = assertions_same f g n.assertions (in_right f g (flat_map (λ (q : EquationTree). parts q.right) n.equations)
+      (flat_map (λ (r : AssertionTree). parts r.body) n.assertions) agree) in
       λ i. equations i ++ assertions i
 
   each_told : (ns : List NodeTree) → ((n : NodeTree) → Contains ns n → told_tests_in p n ≡ tests_in p n) → map (told_tests_in p) ns ≡ map (tests_in p) ns

@@ -1,5 +1,6 @@
 -- What is made of a program is its flat system, where each `current` shows its memory.
-use Rattle.std.proofs.Common.{◌≡◌, ℕ, zero, suc, ◌<◌, ℤ, negsuc, Bool, true, false, cond, List, [], ◌∷◌, ◌++◌, map, length, get_or, slice_get, refl, sym, ◌∙◌, ap, subst, arith, Option, Some}
+use Rattle.std.proofs.Common.{◌≡◌, ℕ, zero, suc, ◌<◌, ℤ, negsuc, Bool, true, false, cond, List, [], ◌∷◌, ◌++◌, map, length, get_or, slice_get, refl, sym, ◌∙◌}
+use Rattle.std.proofs.Common.{ap, subst, arith, Option, Some}
 use Rattle.std.proofs.Common.{None as Nothing}
 use Rattle.std.proofs.lemmas.List.{length-map}
 use Rattle.std.proofs.lemmas.Option.{slice_get-map, get_or_from_slice_get}
@@ -32,11 +33,13 @@ use Rattle.rv_flat.specs.declared.parts.FlatInput.{FlatInput}
 use Rattle.rv_flat.specs.declared.parts.FlatMemory.{FlatMemory}
 use Rattle.rv_flat.specs.Inlined.{inlined, form_inlined, all_inlined, table_of, IsTable}
 use Rattle.rv_flat.specs.RawTree.{RawTree, Node, RawForm, Constant, Flow, Ticked, If, raw_tree}
-use Rattle.rv_flatten.specs.Readings.{numbers_of, unplaced, presence, product, operator, raw_of, raw_form, raws_of, RawItem, raw_flow, raw_memory, no_raw, raw_giver, raw_delay, assertion_of, no_assumption, IsRead}
+use Rattle.rv_flatten.specs.Readings.{numbers_of, unplaced, presence, product, operator, raw_of, raw_form, raws_of, RawItem, raw_flow, raw_memory, no_raw}
+use Rattle.rv_flatten.specs.Readings.{raw_giver, raw_delay, assertion_of, no_assumption, IsRead}
 use Rattle.rv_flat.specs.Systems.{memory_places_of, memory_of, flow_item, memory_item, asserted, assertion_item, kept_of, system_from}
 use Rattle.rv_flat.proofs.Members.{in_map}
 use Rattle.rv_flat.proofs.PlaceNumbers.{is_found, index_at}
-use Rattle.rv_flatten.proofs.Standing.{Stands, as_child, of_not, of_minus, of_current, of_when, of_left, of_right, of_condition, of_first, of_second, of_operand, own_current, body_stands, argument_stands, as_assertion, operand_stands}
+use Rattle.rv_flatten.proofs.Standing.{Stands, as_child, of_not, of_minus, of_current, of_when, of_left, of_right, of_condition, of_first, of_second}
+use Rattle.rv_flatten.proofs.Standing.{of_operand, own_current, body_stands, argument_stands, as_assertion, operand_stands}
 
 pub some_at : {X : Type 0} (xs : List X) (k : ℕ) → k < length xs → (x : X) × (slice_get xs k ≡ Some x)
 some_at [] k lt = absurd (omega (arith, lt))
@@ -53,17 +56,21 @@ wrapped (Some n) at body = refl
 
 -- Two delays at one place take the same.
 abbrev pub AreAlike : ProgramTree → Identifier → Numbers → Type 0
-AreAlike program main numbers = (i j : Instance) (d e : Delay) → IsInstance program main i → IsInstance program main j → Contains (node_delays i.node) d → Contains (node_delays j.node) e
+AreAlike program main numbers = (i j : Instance) (d e : Delay) → IsInstance program main i → IsInstance program main j → Contains (node_delays i.node) d
+    → Contains (node_delays j.node) e
     → delay_place i d ≡ delay_place j e → raw_delay program numbers i d ≡ raw_delay program numbers j e
 
 -- Each delay has a memory.
 pub memory_there : (program : ProgramTree) (main : Identifier) (memories : List FlatMemory) → AreMemories program main IsAny (map memory_of memories)
     → (i : Instance) (d : Delay) → IsInstance program main i → Contains (node_delays i.node) d → Contains (memory_places_of memories) (delay_place i d)
 memory_there program main memories list i d of w =
-    subst (λ l. Contains l (delay_place i d)) (map-map (λ m. m.place) memory_of memories) (in_map (λ m. m.place) (map memory_of memories) (memory_at program i d) (list.all i d of tt w))
+    subst (λ l. Contains l (delay_place i d)) (map-map (λ m. m.place) memory_of memories)
+    (in_map (λ m. m.place) (map memory_of memories) (memory_at program i d) (list.all i d of tt w))
 
-module _ (program : ProgramTree) (main : Identifier) (flows : List FlatFlow) (memories : List FlatMemory) (inputs : List FlatInput) (variables : List Bit) (assertions : List FlatExpr)
-    (read : IsRead program main flows memories inputs variables assertions) (table : IsTable memories) (alike : AreAlike program main (numbers_of flows memories variables))
+module _ (program : ProgramTree) (main : Identifier) (flows : List FlatFlow) (memories : List FlatMemory) (inputs : List FlatInput) (variables : List Bit)
+    (assertions : List FlatExpr)
+    (read : IsRead program main flows memories inputs variables assertions) (table : IsTable memories)
+    (alike : AreAlike program main (numbers_of flows memories variables))
   where
     abbrev numbers : Numbers
     numbers = numbers_of flows memories variables
@@ -85,12 +92,14 @@ module _ (program : ProgramTree) (main : Identifier) (flows : List FlatFlow) (me
 
     -- the number of the memory of a delay
     memory_number : (i : Instance) (d : Delay) → IsInstance program main i → Contains (node_delays i.node) d
-        → (index_of (memory_places_of memories) (delay_place i d) < length (memory_places_of memories)) × (get_or (memory_places_of memories) (index_of (memory_places_of memories) (delay_place i d)) [] ≡ delay_place i d)
+        → (index_of (memory_places_of memories) (delay_place i d) < length (memory_places_of memories))
+        × (get_or (memory_places_of memories) (index_of (memory_places_of memories) (delay_place i d)) [] ≡ delay_place i d)
     memory_number i d of w =
         let there = memory_there program main memories read.list i d of w in
         index_at (memory_places_of memories) (delay_place i d) (is_found (memory_places_of memories) (delay_place i d) there)
 
-    pub number_within : (i : Instance) (d : Delay) → IsInstance program main i → Contains (node_delays i.node) d → index_of (memory_places_of memories) (delay_place i d) < length memories
+    pub number_within : (i : Instance) (d : Delay) → IsInstance program main i → Contains (node_delays i.node) d
+        → index_of (memory_places_of memories) (delay_place i d) < length memories
     number_within i d of w = let at = memory_number i d of w in omega (arith, at.0, memory_count)
 
     -- what that memory takes
@@ -104,7 +113,8 @@ module _ (program : ProgramTree) (main : Identifier) (flows : List FlatFlow) (me
     table_at : (m : ℕ) → m < length memories → table_of memories m ≡ item_shown (get_or (map raw_memory memories) m no_raw)
     table_at m lt = let x = some_at memories m lt in table m x.0 x.1 ∙ ap item_shown (sym (mapped_at raw_memory memories m x.0 no_raw x.1))
 
-    operator_shown : (o : Op) (choice times : RawForm) (f g : RawTree) → form_shown (operator o choice times f g) ≡ operation o (form_shown choice) (form_shown times) (flat.Binary o (shown f) (shown g))
+    operator_shown : (o : Op) (choice times : RawForm) (f g : RawTree)
+        → form_shown (operator o choice times f g) ≡ operation o (form_shown choice) (form_shown times) (flat.Binary o (shown f) (shown g))
     operator_shown op.Arrow choice times f g = refl
     operator_shown op.Implies choice times f g = refl
     operator_shown op.Or choice times f g = refl
@@ -128,7 +138,8 @@ module _ (program : ProgramTree) (main : Identifier) (flows : List FlatFlow) (me
     product_shown false y z f g = refl
 
     module _ (i : Instance) (of : IsInstance program main i) where
-      name_shown : (x : Identifier) (b : Bool) → form_shown (cond b (Flow (index_of numbers.flows (place i x))) (Constant (constant_value program x))) ≡ cond b (flat.Flow (index_of numbers.flows (place i x))) (flat.Constant (constant_value program x))
+      name_shown : (x : Identifier) (b : Bool) → form_shown (cond b (Flow (index_of numbers.flows (place i x))) (Constant (constant_value program x))) ≡ cond b
+          (flat.Flow (index_of numbers.flows (place i x))) (flat.Constant (constant_value program x))
       name_shown x true = refl
       name_shown x false = refl
 
@@ -137,13 +148,15 @@ module _ (program : ProgramTree) (main : Identifier) (flows : List FlatFlow) (me
         pub expression_shown : (e : Tree) → Stands i.node e → shown (raw_of program numbers i e) ≡ flat_of program numbers i e
         expression_shown (tree.Node at site form) s = each_shown at site form s
 
-        each_shown : (at : ℕ) (site : Option ℕ) (form : Form) → Stands i.node (tree.Node at site form) → shown (raw_form program numbers i site form) ≡ flat_form program numbers i site form
+        each_shown : (at : ℕ) (site : Option ℕ) (form : Form) → Stands i.node (tree.Node at site form)
+            → shown (raw_form program numbers i site form) ≡ flat_form program numbers i site form
         each_shown at site tree.True s = refl
         each_shown at site tree.False s = refl
         each_shown at site (tree.Number n) s = refl
         each_shown at site (tree.Named x) s = ap (flat.Node []) (name_shown x (is_flow i.node x))
         each_shown at site (tree.Not e) s = ap (λ t. flat.Node [] (flat.Not t)) (expression_shown e (as_child at site (tree.Not e) e s of_not))
-        each_shown at site (tree.Minus e) s = ap (λ t. flat.Node [] (flat.Scale (negsuc 0) t)) (expression_shown e (as_child at site (tree.Minus e) e s of_minus))
+        each_shown at site (tree.Minus e) s = ap (λ t. flat.Node [] (flat.Scale (negsuc 0) t))
+            (expression_shown e (as_child at site (tree.Minus e) e s of_minus))
         each_shown at site (tree.Pre e) s = refl
         each_shown at site (tree.Current e) s =
             let d : Delay = record { site = site; operand = e } in
@@ -151,9 +164,11 @@ module _ (program : ProgramTree) (main : Identifier) (flows : List FlatFlow) (me
             let m : ℕ = index_of (memory_places_of memories) (delay_place i d) in
             let operand = expression_shown e (as_child at site (tree.Current e) e s of_current) in
             let own : table_of memories m ≡ record { clock = clock_number numbers (clock_in i Base e); body = flat_of program numbers i e } =
-            table_at m (number_within i d of w) ∙ ap item_shown (memory_raw i d of w) ∙ (λ j. record { clock = clock_number numbers (clock_in i Base e); body = operand j }) in
+            table_at m (number_within i d of w) ∙ ap item_shown (memory_raw i d of w)
+            ∙ (λ j. record { clock = clock_number numbers (clock_in i Base e); body = operand j }) in
             ap (λ (x : Item). flat.Node [] (flat.Current m x.clock x.body)) own
-        each_shown at site (tree.When e c) s = ap (λ t. flat.Node [] (flat.When (index_of numbers.flows (place i c.text)) t)) (expression_shown e (as_child at site (tree.When e c) e s (of_when c)))
+        each_shown at site (tree.When e c) s = ap (λ t. flat.Node [] (flat.When (index_of numbers.flows (place i c.text)) t))
+            (expression_shown e (as_child at site (tree.When e c) e s (of_when c)))
         each_shown at site (tree.Binary o a b) s =
             let p = expression_shown a (as_child at site (tree.Binary o a b) a s of_left) in
             let q = expression_shown b (as_child at site (tree.Binary o a b) b s of_right) in
@@ -165,16 +180,19 @@ module _ (program : ProgramTree) (main : Identifier) (flows : List FlatFlow) (me
             let n : ℕ = tick_number numbers (clock_in i Base (tree.Node 0 site (tree.Binary o a b))) in
             ap (flat.Node (operator_place program i site o a))
             (operator_shown o (If (unplaced (Ticked n)) g f) (product left y z f g) f g
-            ∙ (λ j. operation o (flat.If (flat.Node [] (flat.Ticked n)) (q j) (p j)) ((product_shown left y z f g ∙ (λ k. cond left (flat.Scale y (q k)) (flat.Scale z (p k)))) j) (flat.Binary o (p j) (q j))))
+            ∙ (λ j. operation o (flat.If (flat.Node [] (flat.Ticked n)) (q j) (p j))
+            ((product_shown left y z f g ∙ (λ k. cond left (flat.Scale y (q k)) (flat.Scale z (p k)))) j) (flat.Binary o (p j) (q j))))
         each_shown at site (tree.If a b c) s =
             let p = expression_shown a (as_child at site (tree.If a b c) a s of_condition) in
             let q = expression_shown b (as_child at site (tree.If a b c) b s of_first) in
             let r = expression_shown c (as_child at site (tree.If a b c) c s of_second) in
             λ j. flat.Node [] (flat.If (p j) (q j) (r j))
-        each_shown at site (tree.AtMostOne es) s = ap (λ t. flat.Node [] (flat.AtMostOne t)) (all_shown es (λ j e arg. as_child at site (tree.AtMostOne es) e s (of_operand j arg)))
+        each_shown at site (tree.AtMostOne es) s = ap (λ t. flat.Node [] (flat.AtMostOne t))
+            (all_shown es (λ j e arg. as_child at site (tree.AtMostOne es) e s (of_operand j arg)))
         each_shown at site (tree.Call f args) s = refl
 
-        all_shown : (es : Trees) → ((j : ℕ) (e : Tree) → IsArgument es j e → Stands i.node e) → all_inlined (table_of memories) (raws_of program numbers i es) ≡ flats_of program numbers i es
+        all_shown : (es : Trees) → ((j : ℕ) (e : Tree) → IsArgument es j e → Stands i.node e)
+            → all_inlined (table_of memories) (raws_of program numbers i es) ≡ flats_of program numbers i es
         all_shown tree.None s = refl
         all_shown (tree.More e es) s =
             let p = expression_shown e (s 0 e head) in
@@ -182,14 +200,17 @@ module _ (program : ProgramTree) (main : Identifier) (flows : List FlatFlow) (me
             λ j. flat.More (p j) (rest j)
 
       -- an expression on a clock
-      body_shown : (k : Clock) (e : Tree) → Stands i.node e → item_shown (raw_giver program numbers (Of i k (Body e))) ≡ giver_item program numbers (Of i k (Body e))
+      body_shown : (k : Clock) (e : Tree) → Stands i.node e → item_shown (raw_giver program numbers (Of i k (Body e))) ≡ giver_item program numbers
+          (Of i k (Body e))
       body_shown k e s = let p = expression_shown e s in λ j. record { clock = clock_number numbers (clock_in i k e); body = p j }
 
       delay_shown : (d : Delay) → Contains (node_delays i.node) d → item_shown (raw_delay program numbers i d) ≡ delay_item program numbers i d
-      delay_shown d w = let p = expression_shown d.operand (operand_stands i.node d w) in λ j. record { clock = clock_number numbers (clock_in i Base d.operand); body = p j }
+      delay_shown d w = let p = expression_shown d.operand (operand_stands i.node d w) in
+          λ j. record { clock = clock_number numbers (clock_in i Base d.operand); body = p j }
 
       -- an assertion, as it is asked of and as a whole
-      assertion_shown : (a : AssertionTree) → Contains i.node.assertions a → asserted_shown (assertion_of program numbers i a) ≡ translation.assertion_item program numbers i a
+      assertion_shown : (a : AssertionTree) → Contains i.node.assertions a
+          → asserted_shown (assertion_of program numbers i a) ≡ translation.assertion_item program numbers i a
       assertion_shown a w =
           let k : Option ℕ = clock_number numbers (clock_in i Base a.body) in
           let p = expression_shown a.body (as_assertion a w) in
@@ -198,7 +219,8 @@ module _ (program : ProgramTree) (main : Identifier) (flows : List FlatFlow) (me
 
       pub whole_shown : (a : AssertionTree) → Contains i.node.assertions a
           → shown (assertion_of program numbers i a)
-          ≡ flat.Node (i.path ++ a.site ∷ []) (flat.If (flat.Node [] (form_shown (presence (clock_number numbers (clock_in i Base a.body))))) (flat_of program numbers i a.body) (flat.Node [] (flat.Constant (Flag true))))
+          ≡ flat.Node (i.path ++ a.site ∷ []) (flat.If (flat.Node [] (form_shown (presence (clock_number numbers (clock_in i Base a.body)))))
+          (flat_of program numbers i a.body) (flat.Node [] (flat.Constant (Flag true))))
       whole_shown a w =
           let k : Option ℕ = clock_number numbers (clock_in i Base a.body) in
           let p = expression_shown a.body (as_assertion a w) in
@@ -212,14 +234,16 @@ module _ (program : ProgramTree) (main : Identifier) (flows : List FlatFlow) (me
     giver_shown q _ (by_call i c j e of called arg at) = body_shown i of (clock_of_arguments i c.args) e (argument_stands i.node c j e called arg)
 
     -- the memory with a number
-    memory_shown : (m : ℕ) → m < length memories → get_or (map (λ k. k.item) (map (kept_of memories) memories)) m no_item ≡ item_shown (get_or (map raw_memory memories) m no_raw)
+    memory_shown : (m : ℕ) → m < length memories → get_or (map (λ k. k.item) (map (kept_of memories) memories)) m no_item ≡ item_shown
+        (get_or (map raw_memory memories) m no_raw)
     memory_shown m lt =
         let x = some_at memories m lt in
         ap (λ l. get_or l m no_item) (map-map (λ k. k.item) (kept_of memories) memories)
         ∙ mapped_at (memory_item memories) memories m x.0 no_item x.1
         ∙ ap item_shown (sym (mapped_at raw_memory memories m x.0 no_raw x.1))
 
-    pub memory_is : (m : ℕ) (lt : m < length memories) → get_or (map (memory_item memories) memories) m no_item ≡ delay_item program numbers (read.memory m lt).0 (read.memory m lt).1
+    pub memory_is : (m : ℕ) (lt : m < length memories) → get_or (map (memory_item memories) memories) m no_item ≡ delay_item program numbers
+        (read.memory m lt).0 (read.memory m lt).1
     memory_is m lt =
         let x = some_at memories m lt in
         let r = read.memory m lt in
@@ -236,7 +260,8 @@ module _ (program : ProgramTree) (main : Identifier) (flows : List FlatFlow) (me
       is_translated = record {
         sequence = read.sequence;
         ticks = read.ticks;
-        memories = subst (AreMemories program main IsAny) (sym (map-map (λ m. record { place = m.place; kind = m.kind }) (kept_of memories) memories)) read.list;
+        memories = subst (AreMemories program main IsAny) (sym (map-map (λ m. record { place = m.place; kind = m.kind }) (kept_of memories) memories))
+            read.list;
         memory_numbers = sym (map-map (λ m. m.place) (kept_of memories) memories);
         tick_places = refl;
         tick_clocks = refl;
@@ -251,7 +276,8 @@ module _ (program : ProgramTree) (main : Identifier) (flows : List FlatFlow) (me
                   ∙ ap item_shown (sym (mapped_at raw_flow flows k x.0 no_raw x.1) ∙ r.2)
                   ∙ giver_shown _ r.0 r.1,
             );
-        memory = λ i d of w. memory_shown (index_of (memory_places_of memories) (delay_place i d)) (number_within i d of w) ∙ ap item_shown (memory_raw i d of w) ∙ delay_shown i of d w;
+        memory = λ i d of w. memory_shown (index_of (memory_places_of memories) (delay_place i d)) (number_within i d of w)
+            ∙ ap item_shown (memory_raw i d of w) ∙ delay_shown i of d w;
         memory_there = λ i d of w. let many = length-map memories (kept_of memories) in let lt = number_within i d of w in omega (arith, lt, many);
         memory_only = λ m lt.
             let less : m < length memories = let many = length-map memories (kept_of memories) in omega (arith, lt, many) in
@@ -259,7 +285,8 @@ module _ (program : ProgramTree) (main : Identifier) (flows : List FlatFlow) (me
             (r.0, r.1, r.2, r.3, memory_shown m less ∙ ap item_shown r.5 ∙ delay_shown r.0 r.2 r.1 r.3);
         asserts = λ i a of w.
             subst (λ l. Contains l (translation.assertion_item program numbers i a)) (map-map asserted_shown raw_tree assertions)
-            (subst (Contains (map asserted_shown (map raw_tree assertions))) (assertion_shown i of a w) (in_map asserted_shown (map raw_tree assertions) (assertion_of program numbers i a) (read.asserts i a of w)));
+            (subst (Contains (map asserted_shown (map raw_tree assertions))) (assertion_shown i of a w)
+            (in_map asserted_shown (map raw_tree assertions) (assertion_of program numbers i a) (read.asserts i a of w)));
         asserted = λ k lt.
             let less : k < length assertions = let many = length-map assertions (assertion_item memories) in omega (arith, lt, many) in
             let x = some_at assertions k less in

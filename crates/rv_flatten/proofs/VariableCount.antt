@@ -1,5 +1,6 @@
 -- A program has as many diagram variables as are counted, and no fewer.
-use Rattle.std.proofs.Common.{◌≡◌, inl, inr, ℕ, zero, suc, ◌≤◌, Bool, true, false, ◌&&◌, ◌||◌, cond, nat_eq, List, [], ◌∷◌, ◌++◌, map, flat_map, length, get_or, refl, sym, ◌∙◌, ap, subst, arith, unwrap_or, append_assoc, length-append, Option, Some}
+use Rattle.std.proofs.Common.{◌≡◌, inl, inr, ℕ, zero, suc, ◌≤◌, Bool, true, false, ◌&&◌, ◌||◌, cond, nat_eq, List, [], ◌∷◌, ◌++◌, map, flat_map, length, get_or}
+use Rattle.std.proofs.Common.{refl, sym, ◌∙◌, ap, subst, arith, unwrap_or, append_assoc, length-append, Option, Some}
 use Rattle.std.proofs.Common.{None as Nothing}
 use Rattle.std.proofs.lemmas.Bool.Decides.{nat_tests}
 use Rattle.std.proofs.lemmas.List.{length-map}
@@ -12,16 +13,20 @@ use Rattle.rv_tree.specs.Places.{Identifier, Sites}
 use Rattle.rv_tree.specs.Sites.{is_comparison}
 use Rattle.rv_tree.specs.SitedParts as sited
 use Rattle.rv_tree.specs.SitedParts.{SitedPart, part}
-use Rattle.rv_tree.specs.Tree.{Tree, Node, True, False, Number, Named, Not, Minus, Pre, Current, When, Binary, If, AtMostOne, Call, Trees, None, More, EquationTree, AssertionTree, NodeTree, ProgramTree}
+use Rattle.rv_tree.specs.Tree.{Tree, Node, True, False, Number, Named, Not, Minus, Pre, Current, When, Binary, If, AtMostOne, Call, Trees, None, More}
+use Rattle.rv_tree.specs.Tree.{EquationTree, AssertionTree, NodeTree, ProgramTree}
 use Rattle.rv_types.specs.declared.typed.Kind.TheVariants as kind
 use Rattle.rv_types.specs.declared.typed.Clock.TheVariants.{Base}
 use Rattle.rv_types.specs.Kinds.{decl_kinds}
 use Rattle.rv_types.specs.Scopes.{node_scope}
 use Rattle.rv_types.specs.Types.{Scope, kind_of}
 use Rattle.rv_types.specs.Values.{operand_kind}
-use Rattle.rv_types.specs.Instances.{CallTree, calls, Instance, callee, unrolled, main_instance, IsInstance, is_main, is_callee, all_instances, clock_in, node_of}
-use Rattle.rv_types.specs.Lists.{AreTicks, AreMemories, AreComparisons, AreVariables, IsAny, MemoryAt, ComparisonAt, MainTick, Tick, with_copies, memory_variables, input_variables, test_variables, sides_of, memory_at}
-use Rattle.rv_types.specs.Variables.{total, is_integer, is_in, memories, memories_beside, node_parts, parts, parts_of_all, kind_bits, memory_bits, tests_of, own_tests, order_tests, is_arrow, arrow_clocks, same_place, is_place_in, different, over_instances, ticks, variable_count}
+use Rattle.rv_types.specs.Instances.{CallTree, calls, Instance, callee, unrolled, main_instance, IsInstance, is_main, is_callee, all_instances, clock_in}
+use Rattle.rv_types.specs.Instances.{node_of}
+use Rattle.rv_types.specs.Lists.{AreTicks, AreMemories, AreComparisons, AreVariables, IsAny, MemoryAt, ComparisonAt, MainTick, Tick, with_copies}
+use Rattle.rv_types.specs.Lists.{memory_variables, input_variables, test_variables, sides_of, memory_at}
+use Rattle.rv_types.specs.Variables.{total, is_integer, is_in, memories, memories_beside, node_parts, parts, parts_of_all, kind_bits, memory_bits, tests_of}
+use Rattle.rv_types.specs.Variables.{own_tests, order_tests, is_arrow, arrow_clocks, same_place, is_place_in, different, over_instances, ticks, variable_count}
 use Rattle.rv_types.specs.WellFormed.{AreSited}
 use Rattle.rv_agreement.specs.Programs.{is_test}
 use Rattle.rv_flatten.specs.Compared as compared
@@ -30,9 +35,11 @@ use Rattle.rv_flat.specs.declared.parts.Bit.{Bit}
 use Rattle.rv_flatten.specs.Compared.{tests, tests_of_all, tests_in_equations, tests_in_assertions, tests_in}
 use Rattle.rv_flat.specs.Lists.{variable_of}
 use Rattle.rv_flatten.proofs.Apart.{IsApart, apart_told, apart_by, apart_map, apart_both, apart_left, apart_right, apart_across, apart_flat}
-use Rattle.rv_flatten.proofs.ComparedParts.{found_test, own_of, own_is, tests_are, all_are, node_is, Marked, marks, marks_of_all, marked_comparison, equation_marks, assertion_marks, node_marks, node_seen, marked, all_marked, node_marked}
+use Rattle.rv_flatten.proofs.ComparedParts.{found_test, own_of, own_is, tests_are, all_are, node_is, Marked, marks, marks_of_all, marked_comparison}
+use Rattle.rv_flatten.proofs.ComparedParts.{equation_marks, assertion_marks, node_marks, node_seen, marked, all_marked, node_marked}
 use Rattle.rv_flatten.proofs.ComparedPlaces.{has_sides}
-use Rattle.rv_flatten.proofs.CountedVariables.{total_joined, total_flat_map, total_map, total_same, around, still_there, length_copies, length_memories, length_inputs, length_tests, ones, own_clocks, site, ticks_few, memories_few, tests_few}
+use Rattle.rv_flatten.proofs.CountedVariables.{total_joined, total_flat_map, total_map, total_same, around, still_there, length_copies, length_memories}
+use Rattle.rv_flatten.proofs.CountedVariables.{length_inputs, length_tests, ones, own_clocks, site, ticks_few, memories_few, tests_few}
 use Rattle.rv_flatten.proofs.InstanceNumbers.{of_map, snoc}
 use Rattle.rv_flat.proofs.Members.{none_in, at_head, in_tail, head_or_tail, in_map, from_flat_map}
 use Rattle.rv_flat.proofs.TypedParts.{no_flag}
@@ -89,7 +96,8 @@ module _ (p : ProgramTree) (main : Identifier) (sited_calls : AreSited p) (node_
         (λ c w. unrolled_apart levels (callee p i c) (is_callee c is w)) beside,
   )
     where
-      beside : (c d : CallTree) (a b : Instance) → Contains (calls i.node) c → Contains (calls i.node) d → Contains (unrolled p levels (callee p i c)) a → Contains (unrolled p levels (callee p i d)) b
+      beside : (c d : CallTree) (a b : Instance) → Contains (calls i.node) c → Contains (calls i.node) d → Contains (unrolled p levels (callee p i c)) a
+          → Contains (unrolled p levels (callee p i d)) b
           → a.path ≡ b.path → c.site ≡ d.site
       beside c d a b v w in_a in_b e =
           let s = below_path levels (callee p i c) a in_a in
@@ -123,7 +131,8 @@ among : (n : NodeTree) (seen : List ℕ) (ds : List Delay) (d : Delay) → Conta
 among n seen [] d w = none_in d w
 among n seen (x ∷ ds) d w = by (is_in seen (site n x)) (λ s v. among n s ds d v) w
   where
-    by : (b : Bool) → ((s : List ℕ) → Contains (memories_beside n s ds) d → Contains ds d) → Contains (cond b (memories_beside n seen ds) (x ∷ memories_beside n (site n x ∷ seen) ds)) d → Contains (x ∷ ds) d
+    by : (b : Bool) → ((s : List ℕ) → Contains (memories_beside n s ds) d → Contains ds d)
+        → Contains (cond b (memories_beside n seen ds) (x ∷ memories_beside n (site n x ∷ seen) ds)) d → Contains (x ∷ ds) d
     by true again w = in_tail x ds d (again seen w)
     by false again w = elim (head_or_tail x (memories_beside n (site n x ∷ seen) ds) d w) [
       | inl same ↦ subst (λ (y : Delay). Contains (y ∷ ds) d) (sym same) (at_head d ds)
@@ -136,10 +145,12 @@ memories_apart n seen (x ∷ ds) = by (is_in seen (site n x)) (λ s. memories_ap
   where
     other : (y : Delay) → Contains (memories_beside n (site n x ∷ seen) ds) y → site n x ≡ site n y → ⊥
     other y w e =
-        let not : nat_eq (site n x) (site n y) ≡ false = (either_false (nat_eq (site n x) (site n y)) (is_in seen (site n y)) (fresh n (site n x ∷ seen) ds y w)).0 in
+        let not : nat_eq (site n x) (site n y) ≡ false = (either_false (nat_eq (site n x) (site n y)) (is_in seen (site n y))
+        (fresh n (site n x ∷ seen) ds y w)).0 in
         absurd (grind (arith, nat_tests, not, e))
 
-    by : (b : Bool) → ((s : List ℕ) → IsApart (site n) (memories_beside n s ds)) → IsApart (site n) (cond b (memories_beside n seen ds) (x ∷ memories_beside n (site n x ∷ seen) ds))
+    by : (b : Bool) → ((s : List ℕ) → IsApart (site n) (memories_beside n s ds))
+        → IsApart (site n) (cond b (memories_beside n seen ds) (x ∷ memories_beside n (site n x ∷ seen) ds))
     by true again = again seen
     by false again = (other, again (site n x ∷ seen))
 
@@ -177,14 +188,16 @@ different_apart (r ∷ qs) = by (is_place_in qs r) refl (different_apart qs)
     by false e again = (λ y w same. out_of_places qs r e (subst (λ (x : Sites). Contains qs x) (sym same) (of_different qs y w)), again)
 
 -- what is among the clocks of arrows
-from_arrow : (i : Instance) (es : List Tree) (q : Sites) → Contains (arrow_clocks i es) q → (e : Tree) × Contains es e × (is_arrow e ≡ true) × (clock_in i Base e ≡ Some q)
+from_arrow : (i : Instance) (es : List Tree) (q : Sites) → Contains (arrow_clocks i es) q
+    → (e : Tree) × Contains es e × (is_arrow e ≡ true) × (clock_in i Base e ≡ Some q)
 from_arrow i [] q w = none_in q w
 from_arrow i (e ∷ es) q w = elim (Contains-append_cases (own_clocks i e) (arrow_clocks i es) q w) [
   | inl here ↦ let r = own (is_arrow e) refl (clock_in i Base e) refl here in (e, at_head e es, r.0, r.1)
   | inr rest ↦ let r = from_arrow i es q rest in (r.0, in_tail e es r.0 r.1, r.2, r.3)
 ]
   where
-    own : (b : Bool) → is_arrow e ≡ b → (o : Option Sites) → clock_in i Base e ≡ o → Contains (cond b (elim o as (λ _. List Sites) [ Nothing ↦ [] | Some p ↦ p ∷ [] ]) []) q
+    own : (b : Bool) → is_arrow e ≡ b → (o : Option Sites) → clock_in i Base e ≡ o
+        → Contains (cond b (elim o as (λ _. List Sites) [ Nothing ↦ [] | Some p ↦ p ∷ [] ]) []) q
         → (is_arrow e ≡ true) × (clock_in i Base e ≡ Some q)
     own true arrow Nothing at w = none_in q w
     own true arrow (Some p) at w = elim (head_or_tail p [] q w) [
@@ -222,20 +235,26 @@ module _ (s : Scope) where
 
   -- two lists of comparisons that are marked in lists whose sites are apart
   tests_both : (xs ys : List Tested) (ms ns : List Marked) → IsApart site_of_mark (ms ++ ns)
-      → ((t : Tested) → Contains xs t → (m : Marked) × Contains ms m × (m.at_site.site ≡ Some t.site)) → ((t : Tested) → Contains ys t → (m : Marked) × Contains ns m × (m.at_site.site ≡ Some t.site))
+      → ((t : Tested) → Contains xs t → (m : Marked) × Contains ms m × (m.at_site.site ≡ Some t.site))
+      → ((t : Tested) → Contains ys t → (m : Marked) × Contains ns m × (m.at_site.site ≡ Some t.site))
       → IsApart site_of_test xs → IsApart site_of_test ys → IsApart site_of_test (xs ++ ys)
   tests_both xs ys ms ns apart in_ms in_ns p q =
       apart_both site_of_test xs ys p q
       (λ t u v w e. let a = in_ms t v in let b = in_ns u w in apart_across site_of_mark ms ns apart a.0 b.0 a.1 b.1 (a.2 ∙ ap Some e ∙ sym b.2))
 
-  own_marked : (at : ℕ) (k : Option ℕ) (o : Op) (a e : Tree) (t : Tested) → Contains (compared.own_tests s k o a) t → (m : Marked) × Contains (marked_comparison o at k e) m × (m.at_site.site ≡ Some t.site)
+  own_marked : (at : ℕ) (k : Option ℕ) (o : Op) (a e : Tree) (t : Tested) → Contains (compared.own_tests s k o a) t
+      → (m : Marked) × Contains (marked_comparison o at k e) m × (m.at_site.site ≡ Some t.site)
   own_marked at Nothing o a e t w = none_in t w
   own_marked at (Some k) o a e t w = by (is_comparison o) (is_integer (unwrap_or (kind_of s a) kind.Bool)) w
     where
       by : (b c : Bool) → Contains {X = Tested} (cond (b && c) (record { site = k; operator = o } ∷ []) []) t
           → (m : Marked) × Contains (cond b (record { at_site = part at (Some k); whole = e } ∷ []) []) m × (m.at_site.site ≡ Some t.site)
       by true true w = elim (head_or_tail (record { site = k; operator = o }) [] t w) [
-        | inl same ↦ (record { at_site = part at (Some k); whole = e }, at_head (record { at_site = part at (Some k); whole = e }) [], ap (λ (t : Tested). Some t.site) same)
+        | inl same ↦ (
+          record { at_site = part at (Some k); whole = e },
+          at_head (record { at_site = part at (Some k); whole = e }) [],
+          ap (λ (t : Tested). Some t.site) same,
+        )
         | inr none ↦ none_in t none
       ]
       by true false w = none_in t w
@@ -250,7 +269,8 @@ module _ (s : Scope) where
       by false = tt
 
   -- both sides of an operator, and the operator itself
-  own_first : (at : ℕ) (k : Option ℕ) (o : Op) (a b : Tree) → IsApart site_of_mark (marks a ++ (marked_comparison o at k (Node at k (Binary o a b)) ++ marks b)) → IsApart site_of_test (tests s a) → IsApart site_of_test (tests s b)
+  own_first : (at : ℕ) (k : Option ℕ) (o : Op) (a b : Tree) → IsApart site_of_mark (marks a ++ (marked_comparison o at k (Node at k (Binary o a b)) ++ marks b))
+      → IsApart site_of_test (tests s a) → IsApart site_of_test (tests s b)
       → IsApart site_of_test (compared.own_tests s k o a ++ (tests s a ++ tests s b))
   own_first at k o a b apart p q =
       let right = apart_right site_of_mark (marks a) (marked_comparison o at k (Node at k (Binary o a b)) ++ marks b) apart in
@@ -261,8 +281,10 @@ module _ (s : Scope) where
       apart_both site_of_test (compared.own_tests s k o a) (tests s a ++ tests s b) (own_apart k o a) both
       (λ t u v w e. let m = own_marked at k o a (Node at k (Binary o a b)) t v in
       elim (Contains-append_cases (tests s a) (tests s b) u w) [
-        | inl left ↦ let n = test_marked a u left in across n.0 m.0 n.1 (Contains-append_left (marked_comparison o at k (Node at k (Binary o a b))) (marks b) m.0 m.1) (n.2 ∙ sym (m.2 ∙ ap Some e))
-        | inr below ↦ let n = test_marked b u below in apart_across site_of_mark (marked_comparison o at k (Node at k (Binary o a b))) (marks b) right m.0 n.0 m.1 n.1 (m.2 ∙ ap Some e ∙ sym n.2)
+        | inl left ↦ let n = test_marked a u left in across n.0 m.0 n.1
+            (Contains-append_left (marked_comparison o at k (Node at k (Binary o a b))) (marks b) m.0 m.1) (n.2 ∙ sym (m.2 ∙ ap Some e))
+        | inr below ↦ let n = test_marked b u below in apart_across site_of_mark (marked_comparison o at k (Node at k (Binary o a b)))
+            (marks b) right m.0 n.0 m.1 n.1 (m.2 ∙ ap Some e ∙ sym n.2)
       ])
 
   mutual
@@ -278,7 +300,8 @@ module _ (s : Scope) where
     tests_apart (Node at k (When e c)) h = tests_apart e h
     tests_apart (Node at k (Binary o a b)) h =
         own_first at k o a b h (tests_apart a (apart_left site_of_mark (marks a) (marked_comparison o at k (Node at k (Binary o a b)) ++ marks b) h))
-        (tests_apart b (apart_right site_of_mark (marked_comparison o at k (Node at k (Binary o a b))) (marks b) (apart_right site_of_mark (marks a) (marked_comparison o at k (Node at k (Binary o a b)) ++ marks b) h)))
+        (tests_apart b (apart_right site_of_mark (marked_comparison o at k (Node at k (Binary o a b))) (marks b)
+        (apart_right site_of_mark (marks a) (marked_comparison o at k (Node at k (Binary o a b)) ++ marks b) h)))
     tests_apart (Node at k (If a b c)) h =
         let right = apart_right site_of_mark (marks a) (marks b ++ marks c) h in
         tests_both (tests s a) (tests s b ++ tests s c) (marks a) (marks b ++ marks c) h (test_marked a)
@@ -298,7 +321,8 @@ module _ (s : Scope) where
         tests_both (tests s e) (tests_of_all s es) (marks e) (marks_of_all es) h (test_marked e) (tests_marked es)
         (tests_apart e (apart_left site_of_mark (marks e) (marks_of_all es) h)) (all_apart es (apart_right site_of_mark (marks e) (marks_of_all es) h))
 
-  equation_marked : (qs : List EquationTree) (t : Tested) → Contains (tests_in_equations s qs) t → (m : Marked) × Contains (equation_marks qs) m × (m.at_site.site ≡ Some t.site)
+  equation_marked : (qs : List EquationTree) (t : Tested) → Contains (tests_in_equations s qs) t
+      → (m : Marked) × Contains (equation_marks qs) m × (m.at_site.site ≡ Some t.site)
   equation_marked [] t w = none_in t w
   equation_marked (q ∷ qs) t w = elim (Contains-append_cases (tests s q.right) (tests_in_equations s qs) t w) [
     | inl v ↦ let m = test_marked q.right t v in (m.0, Contains-append_left (marks q.right) (equation_marks qs) m.0 m.1, m.2)
@@ -309,20 +333,33 @@ module _ (s : Scope) where
   equations_apart [] h = tt
   equations_apart (q ∷ qs) h =
       tests_both (tests s q.right) (tests_in_equations s qs) (marks q.right) (equation_marks qs) h (test_marked q.right) (equation_marked qs)
-      (tests_apart q.right (apart_left site_of_mark (marks q.right) (equation_marks qs) h)) (equations_apart qs (apart_right site_of_mark (marks q.right) (equation_marks qs) h))
+      (tests_apart q.right (apart_left site_of_mark (marks q.right) (equation_marks qs) h))
+      (equations_apart qs (apart_right site_of_mark (marks q.right) (equation_marks qs) h))
 
-  assertion_marked : (xs : List AssertionTree) (t : Tested) → Contains (tests_in_assertions s xs) t → (m : Marked) × Contains (assertion_marks xs) m × (m.at_site.site ≡ Some t.site)
+  assertion_marked : (xs : List AssertionTree) (t : Tested) → Contains (tests_in_assertions s xs) t
+      → (m : Marked) × Contains (assertion_marks xs) m × (m.at_site.site ≡ Some t.site)
   assertion_marked [] t w = none_in t w
   assertion_marked (x ∷ xs) t w = elim (Contains-append_cases (tests s x.body) (tests_in_assertions s xs) t w) [
-    | inl v ↦ let m = test_marked x.body t v in (m.0, in_tail (record { at_site = part x.at (Some x.site); whole = x.body }) (marks x.body ++ assertion_marks xs) m.0 (Contains-append_left (marks x.body) (assertion_marks xs) m.0 m.1), m.2)
-    | inr v ↦ let m = assertion_marked xs t v in (m.0, in_tail (record { at_site = part x.at (Some x.site); whole = x.body }) (marks x.body ++ assertion_marks xs) m.0 (Contains-append_right (marks x.body) (assertion_marks xs) m.0 m.1), m.2)
+    | inl v ↦ let m = test_marked x.body t v in (
+      m.0,
+      in_tail (record { at_site = part x.at (Some x.site); whole = x.body })
+          (marks x.body ++ assertion_marks xs) m.0 (Contains-append_left (marks x.body) (assertion_marks xs) m.0 m.1),
+      m.2,
+    )
+    | inr v ↦ let m = assertion_marked xs t v in (
+      m.0,
+      in_tail (record { at_site = part x.at (Some x.site); whole = x.body })
+          (marks x.body ++ assertion_marks xs) m.0 (Contains-append_right (marks x.body) (assertion_marks xs) m.0 m.1),
+      m.2,
+    )
   ]
 
   assertions_apart : (xs : List AssertionTree) → IsApart site_of_mark (assertion_marks xs) → IsApart site_of_test (tests_in_assertions s xs)
   assertions_apart [] h = tt
   assertions_apart (x ∷ xs) h =
       tests_both (tests s x.body) (tests_in_assertions s xs) (marks x.body) (assertion_marks xs) h.1 (test_marked x.body) (assertion_marked xs)
-      (tests_apart x.body (apart_left site_of_mark (marks x.body) (assertion_marks xs) h.1)) (assertions_apart xs (apart_right site_of_mark (marks x.body) (assertion_marks xs) h.1))
+      (tests_apart x.body (apart_left site_of_mark (marks x.body) (assertion_marks xs) h.1))
+      (assertions_apart xs (apart_right site_of_mark (marks x.body) (assertion_marks xs) h.1))
 
 abbrev key_of_part : SitedPart → Option ℕ
 key_of_part q = q.site
@@ -343,11 +380,13 @@ module _ (p : ProgramTree) (n : NodeTree) (numbered : IsNumbered n) where
   marks_apart : IsApart site_of_mark (node_marks n)
   marks_apart =
       apart_unmap (node_marks n)
-      (subst (λ (l : List SitedPart). IsApart key_of_part l) (sym (node_seen n)) (apart_told key_of_part (sited.node_parts n) (λ i j d lt less same. numbered.apart i j d lt less same)))
+      (subst (λ (l : List SitedPart). IsApart key_of_part l) (sym (node_seen n))
+      (apart_told key_of_part (sited.node_parts n) (λ i j d lt less same. numbered.apart i j d lt less same)))
 
   node_tests_apart : IsApart (λ (t : Tested). t.site) (tests_in p n)
   node_tests_apart =
-      tests_both (node_scope p n) (tests_in_equations (node_scope p n) n.equations) (tests_in_assertions (node_scope p n) n.assertions) (equation_marks n.equations) (assertion_marks n.assertions) marks_apart
+      tests_both (node_scope p n) (tests_in_equations (node_scope p n) n.equations) (tests_in_assertions (node_scope p n) n.assertions)
+      (equation_marks n.equations) (assertion_marks n.assertions) marks_apart
       (equation_marked (node_scope p n) n.equations) (assertion_marked (node_scope p n) n.assertions)
       (equations_apart (node_scope p n) n.equations (apart_left site_of_mark (equation_marks n.equations) (assertion_marks n.assertions) marks_apart))
       (assertions_apart (node_scope p n) n.assertions (apart_right site_of_mark (equation_marks n.equations) (assertion_marks n.assertions) marks_apart))
@@ -368,7 +407,8 @@ module _ (p : ProgramTree) (n : NodeTree) (numbered : IsNumbered n) where
   has_site : (at : ℕ) (o : Op) (a b : Tree) → Contains (node_parts n) (Node at Nothing (Binary o a b)) → is_comparison o ≡ true → ⊥
   has_site at o a b w e =
       let mark = node_marked at Nothing o a b e n w in
-      let there = subst (λ (l : List SitedPart). Contains l (part at Nothing)) (node_seen n) (in_map (λ (m : Marked). m.at_site) (node_marks n) (record { at_site = part at Nothing; whole = Node at Nothing (Binary o a b) }) mark) in
+      let there = subst (λ (l : List SitedPart). Contains l (part at Nothing)) (node_seen n)
+      (in_map (λ (m : Marked). m.at_site) (node_marks n) (record { at_site = part at Nothing; whole = Node at Nothing (Binary o a b) }) mark) in
       let next = numbered.next (part at Nothing) there in
       let no : Nothing ≡ Some next.0 = next.1 in
       cc
@@ -409,7 +449,8 @@ module _ (p : ProgramTree) (n : NodeTree) (numbered : IsNumbered n) where
 -- All together.
 module _ (p : ProgramTree) (main : Identifier) (sited_calls : AreSited p) (numbered : (n : NodeTree) → Contains p.nodes n → IsNumbered n)
     (node_in : (i : Instance) → IsInstance p main i → Contains p.nodes i.node)
-    (all : (i : Instance) → IsInstance p main i → Contains (all_instances p main) i) (only : (i : Instance) → Contains (all_instances p main) i → IsInstance p main i)
+    (all : (i : Instance) → IsInstance p main i → Contains (all_instances p main) i)
+    (only : (i : Instance) → Contains (all_instances p main) i → IsInstance p main i)
   where
     abbrev instances : List Instance
     instances = all_instances p main
@@ -437,7 +478,8 @@ module _ (p : ProgramTree) (main : Identifier) (sited_calls : AreSited p) (numbe
         let each : IsApart (λ (m : MemoryAt). m.place) (flat_map memories_of instances) =
         apart_flat (λ (x : Instance). x.path) (λ (m : MemoryAt). m.place) memories_of instances apart
         (λ i w. apart_map (λ (m : MemoryAt). m.place) (memory_at p i) (memories i.node)
-        (apart_by (site i.node) (λ (d : Delay). (memory_at p i d).place) (memories i.node) (λ d e v u same. (snoc i.path i.path (site i.node d) (site i.node e) same).1) (memories_apart i.node [] (node_delays i.node))))
+        (apart_by (site i.node) (λ (d : Delay). (memory_at p i d).place) (memories i.node)
+        (λ d e v u same. (snoc i.path i.path (site i.node d) (site i.node e) same).1) (memories_apart i.node [] (node_delays i.node))))
         (λ i j a b v w in_a in_b same.
         let x = of_map (memory_at p i) (memories i.node) a in_a in
         let y = of_map (memory_at p j) (memories j.node) b in_b in
@@ -447,7 +489,8 @@ module _ (p : ProgramTree) (main : Identifier) (sited_calls : AreSited p) (numbe
         let x = of_map (memory_at p r.0) (memories r.0.node) m r.2 in
         subst (λ (m : MemoryAt). Contains ms m) x.2 (are.all r.0 x.0 (only r.0 r.1) tt (among r.0.node [] (node_delays r.0.node) x.0 x.1))) in
         let a = total_flat_map f memories_of instances in
-        let b = total_same (λ (i : Instance). total f (memories_of i)) (λ (i : Instance). memory_bits p i.node) instances (λ i. total_map f (memory_at p i) (memories i.node)) in
+        let b = total_same (λ (i : Instance). total f (memories_of i)) (λ (i : Instance). memory_bits p i.node) instances
+        (λ i. total_map f (memory_at p i) (memories i.node)) in
         omega (arith, few, a, b)
 
     abbrev tests_at : Instance → List ComparisonAt
@@ -477,7 +520,8 @@ module _ (p : ProgramTree) (main : Identifier) (sited_calls : AreSited p) (numbe
         let each : IsApart (λ (c : ComparisonAt). c.place) (flat_map tests_at instances) =
         apart_flat (λ (x : Instance). x.path) (λ (c : ComparisonAt). c.place) tests_at instances apart
         (λ i w. apart_map (λ (c : ComparisonAt). c.place) (compared.compared_at i.path) (tests_in p i.node)
-        (apart_by (λ (t : Tested). t.site) (λ (t : Tested). i.path ++ t.site ∷ []) (tests_in p i.node) (λ t u v w same. (snoc i.path i.path t.site u.site same).1)
+        (apart_by (λ (t : Tested). t.site) (λ (t : Tested). i.path ++ t.site ∷ []) (tests_in p i.node)
+        (λ t u v w same. (snoc i.path i.path t.site u.site same).1)
         (node_tests_apart p i.node (numbered i.node (node_in i (only i w))))))
         (λ i j a b v w in_a in_b same.
         let x = of_map (compared.compared_at i.path) (tests_in p i.node) a in_a in
@@ -489,12 +533,14 @@ module _ (p : ProgramTree) (main : Identifier) (sited_calls : AreSited p) (numbe
         let t = found_test p r.0.node x.0 x.1 in
         let v = t.2 in
         subst (λ (c : ComparisonAt). Contains cs c) x.2
-        (are.all r.0 t.0 (compared.compared_at r.0.path x.0) (only r.0 r.1) t.1 (v.at, x.0.site, v.left, v.right, v.is, v.integer, has_sides x.0.operator v.compares, refl {a = r.0.path ++ x.0.site ∷ []}))) in
+        (are.all r.0 t.0 (compared.compared_at r.0.path x.0) (only r.0 r.1) t.1
+        (v.at, x.0.site, v.left, v.right, v.is, v.integer, has_sides x.0.operator v.compares, refl {a = r.0.path ++ x.0.site ∷ []}))) in
         let a = total_flat_map sides tests_at instances in
         let b = total_less_in (λ (i : Instance). order_tests p i.node) (λ (i : Instance). total sides (tests_at i)) instances
         (λ i w. let c = order_tests_are p i.node (numbered i.node (node_in i (only i w))) in
         let d = total_map sides (compared.compared_at i.path) (tests_in p i.node) in
-        let e = total_less_in (λ (t : Tested). tests_of t.operator) (λ (t : Tested). length (sides_of t.operator)) (tests_in p i.node) (λ t v. sides_many t.operator) in
+        let e = total_less_in (λ (t : Tested). tests_of t.operator) (λ (t : Tested). length (sides_of t.operator)) (tests_in p i.node)
+        (λ t v. sides_many t.operator) in
         omega (arith, c, d, e)) in
         omega (arith, few, a, b)
 

@@ -8,7 +8,8 @@ use Rattle.rv_tree.specs.declared.tree.TypeDecl.{TypeDecl}
 use Rattle.rv_types.specs.declared.typed.Kind.{Kind}
 use Rattle.rv_types.specs.declared.typed.Kind.TheVariants as kind
 use Rattle.rv_types.specs.Variables.{kind_bits}
-use Rattle.rv_types.specs.Lists.{Side, Variable, MainTick, Tick, Kept, Next, Input, Test, MemoryAt, ComparisonAt, sides_of, bits, with_copies, memory_variables, input_variables, test_variables}
+use Rattle.rv_types.specs.Lists.{Side, Variable, MainTick, Tick, Kept, Next, Input, Test, MemoryAt, ComparisonAt, sides_of, bits, with_copies, memory_variables}
+use Rattle.rv_types.specs.Lists.{input_variables, test_variables}
 use Rattle.rv_instances.specs.Bits.{bits_of}
 use Rattle.rv_flat.specs.declared.parts.Bit.{Bit}
 use Rattle.rv_flat.specs.declared.parts.Bit.TheVariants as bit
@@ -44,9 +45,11 @@ given_same p j (k ∷ ks) = λ i. bits (Input j) (bits_same p k i) ++ given_same
 
 -- the whole list
 abbrev pub listed_by : List TypeDecl → List Sites → List MemoryAt → List Kind → List ComparisonAt → List Variable
-listed_by types ticks ms ks cs = with_copies (MainTick ∷ []) ++ (with_copies (map Tick ticks) ++ (with_copies (kept_variables types ms) ++ (given_variables types 0 ks ++ test_variables cs)))
+listed_by types ticks ms ks cs = with_copies (MainTick ∷ []) ++ (with_copies (map Tick ticks)
+    ++ (with_copies (kept_variables types ms) ++ (given_variables types 0 ks ++ test_variables cs)))
 
-pub list_same : (p : ProgramTree) (types : List TypeDecl) → p.types ≡ types → (ticks : List Sites) (ms : List MemoryAt) (ks : List Kind) (cs : List ComparisonAt)
+pub list_same : (p : ProgramTree) (types : List TypeDecl) → p.types ≡ types
+    → (ticks : List Sites) (ms : List MemoryAt) (ks : List Kind) (cs : List ComparisonAt)
     → listed_by types ticks ms ks cs ≡ with_copies (MainTick ∷ map Tick ticks ++ memory_variables p ms) ++ (input_variables p 0 ks ++ test_variables cs)
 list_same p types e ticks ms ks cs =
     ap (λ ts. listed_by ts ticks ms ks cs) (sym e)
@@ -110,11 +113,13 @@ input_bits j (suc n) = no_more (bits (Input j) n) (Input j n ∷ []) (input_bits
 
 no_memory : (types : List TypeDecl) (ms : List MemoryAt) → ticks_in (kept_variables types ms) ≡ []
 no_memory types [] = refl
-no_memory types (m ∷ ms) = no_more (bits (Kept m.place) (bits_of types m.kind)) (kept_variables types ms) (kept_bits m.place (bits_of types m.kind)) (no_memory types ms)
+no_memory types (m ∷ ms) = no_more (bits (Kept m.place) (bits_of types m.kind)) (kept_variables types ms) (kept_bits m.place (bits_of types m.kind))
+    (no_memory types ms)
 
 no_input : (types : List TypeDecl) (j : ℕ) (ks : List Kind) → ticks_in (given_variables types j ks) ≡ []
 no_input types j [] = refl
-no_input types j (k ∷ ks) = no_more (bits (Input j) (bits_of types k)) (given_variables types (j + 1) ks) (input_bits j (bits_of types k)) (no_input types (j + 1) ks)
+no_input types j (k ∷ ks) = no_more (bits (Input j) (bits_of types k)) (given_variables types (j + 1) ks) (input_bits j (bits_of types k))
+    (no_input types (j + 1) ks)
 
 no_side : (p : Sites) (ss : List Side) → ticks_in (map (Test p) ss) ≡ []
 no_side p [] = refl
@@ -132,5 +137,6 @@ ticks_listed bs types ticks ms ks cs e =
     ticks_same bs ∙ ap ticks_in e
     ∙ ticks-append (with_copies (map Tick ticks)) (kept ++ later)
     ∙ (λ i. (ticks-copies (map Tick ticks) ∙ ticks-map ticks) i
-    ++ no_more kept later (ticks-copies (kept_variables types ms) ∙ no_memory types ms) (no_more (given_variables types 0 ks) (test_variables cs) (no_input types 0 ks) (no_test cs)) i)
+    ++ no_more kept later (ticks-copies (kept_variables types ms) ∙ no_memory types ms)
+    (no_more (given_variables types 0 ks) (test_variables cs) (no_input types 0 ks) (no_test cs)) i)
     ∙ append-nil ticks

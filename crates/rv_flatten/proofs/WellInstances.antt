@@ -1,5 +1,6 @@
 -- The instances of a program that keeps the rules: their nodes are well formed and well typed, and what stands there is light.
-use Rattle.std.proofs.Common.{◌≡◌, inl, inr, ℕ, ◌≤◌, Bool, true, false, ◌||◌, cond, nat_lt, List, [], ◌∷◌, map, refl, ◌∙◌, ap, subst, arith, unwrap_or, Option, Some, IsSome, IsTrue}
+use Rattle.std.proofs.Common.{◌≡◌, inl, inr, ℕ, ◌≤◌, Bool, true, false, ◌||◌, cond, nat_lt, List, [], ◌∷◌, map, refl, ◌∙◌, ap, subst, arith, unwrap_or, Option}
+use Rattle.std.proofs.Common.{Some, IsSome, IsTrue}
 use Rattle.std.proofs.lemmas.Bool.Decides.{nat_tests}
 use Rattle.std.proofs.lemmas.List.Elements.{Contains-append_left, Contains-append_right}
 use Rattle.std.specs.List.{Contains}
@@ -19,7 +20,8 @@ named_among : (ns : List NodeTree) (f : Identifier) → IsSome (node_among ns f)
 named_among [] f h = no_flag h
 named_among (n ∷ ns) f h = tested (is_same n.name.text f) h (named_among ns f)
   where
-    tested : (b : Bool) → IsSome (cond b (Some n) (node_among ns f)) → (IsSome (node_among ns f) → Contains ns (unwrap_or (node_among ns f) no_node)) → Contains (n ∷ ns) (unwrap_or (cond b (Some n) (node_among ns f)) no_node)
+    tested : (b : Bool) → IsSome (cond b (Some n) (node_among ns f)) → (IsSome (node_among ns f) → Contains ns (unwrap_or (node_among ns f) no_node))
+        → Contains (n ∷ ns) (unwrap_or (cond b (Some n) (node_among ns f)) no_node)
     tested true h again = at_head n ns
     tested false h again = in_tail n ns (unwrap_or (node_among ns f) no_node) (again h)
 
@@ -28,7 +30,8 @@ some_among : (ns : List NodeTree) (f : Identifier) → IsTrue (is_among (map (λ
 some_among [] f h = no_flag h
 some_among (n ∷ ns) f h = tested (is_same n.name.text f) h (some_among ns f)
   where
-    tested : (b : Bool) → IsTrue (b || is_among (map (λ n. n.name.text) ns) f) → (IsTrue (is_among (map (λ n. n.name.text) ns) f) → IsSome (node_among ns f)) → IsSome (cond b (Some n) (node_among ns f))
+    tested : (b : Bool) → IsTrue (b || is_among (map (λ n. n.name.text) ns) f) → (IsTrue (is_among (map (λ n. n.name.text) ns) f) → IsSome (node_among ns f))
+        → IsSome (cond b (Some n) (node_among ns f))
     tested true h again = refl
     tested false h again = again h
 
@@ -45,10 +48,12 @@ module _ (program : ProgramTree) (main : Identifier) (well : AreWell program) (n
   typed i p = well.typed i.node (node_in i p)
 
 -- an expression above the limit is told
-too_wide_told : (w : Tree → ℕ) (es : List Tree) (at : ℕ) (site : Option ℕ) (form : Form) → Contains es (Node at site form) → nat_lt heaviest (w (Node at site form)) ≡ true → Contains (too_wide w es) at
+too_wide_told : (w : Tree → ℕ) (es : List Tree) (at : ℕ) (site : Option ℕ) (form : Form) → Contains es (Node at site form)
+    → nat_lt heaviest (w (Node at site form)) ≡ true → Contains (too_wide w es) at
 too_wide_told w [] at site form v e = none_in (Node at site form) v
 too_wide_told w (Node a s f ∷ es) at site form v e = elim (head_or_tail (Node a s f) es (Node at site form) v) [
-  | inl is ↦ Contains-append_left (cond (nat_lt heaviest (w (Node a s f))) (a ∷ []) []) (too_wide w es) at (here (nat_lt heaviest (w (Node a s f))) is (ap (λ t. nat_lt heaviest (w t)) is ∙ e))
+  | inl is ↦ Contains-append_left (cond (nat_lt heaviest (w (Node a s f))) (a ∷ []) []) (too_wide w es) at
+      (here (nat_lt heaviest (w (Node a s f))) is (ap (λ t. nat_lt heaviest (w t)) is ∙ e))
   | inr rest ↦ Contains-append_right (cond (nat_lt heaviest (w (Node a s f))) (a ∷ []) []) (too_wide w es) at (too_wide_told w es at site form rest e)
 ]
   where
@@ -57,11 +62,17 @@ too_wide_told w (Node a s f ∷ es) at site form v e = elim (head_or_tail (Node 
     here false is e = no_flag e
 
 -- what stands in an instance is light where nothing is too wide
-pub is_light : (program : ProgramTree) (main : Identifier) (flows : Sites → ℕ) → ((at : ℕ) → IsTooWide program main flows at → ⊥) → (i : Instance) (e : Tree) → IsInstance program main i → Stands i.node e → weight program flows i e ≤ heaviest
+pub is_light : (program : ProgramTree) (main : Identifier) (flows : Sites → ℕ) → ((at : ℕ) → IsTooWide program main flows at → ⊥) → (i : Instance) (e : Tree)
+    → IsInstance program main i → Stands i.node e → weight program flows i e ≤ heaviest
 is_light program main flows none i (Node at site form) of s = by (nat_lt heaviest (weight program flows i (Node at site form))) refl
   where
     by : (b : Bool) → nat_lt heaviest (weight program flows i (Node at site form)) ≡ b → weight program flows i (Node at site form) ≤ heaviest
-    by true e = absurd (none at (inr (i, of, too_wide_told (weight program flows i) (weighed i.node) at site form (stands_weighed i.node (Node at site form) s) e)))
+    by true e = absurd (none at (inr (
+      i,
+      of,
+      too_wide_told (weight program flows i) (weighed i.node) at site form (stands_weighed i.node (Node at site form) s)
+          e,
+    )))
     by false e = light (weight program flows i (Node at site form)) e
       where
         light : (n : ℕ) → nat_lt heaviest n ≡ false → n ≤ heaviest

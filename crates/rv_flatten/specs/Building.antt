@@ -112,6 +112,7 @@ IsAsserted p main numbers e = (i : Instance) × (a : AssertionTree) × IsInstanc
 
 -- The assertions of the first instances are made so, and no others.
 pub record AreAsserted (x : Expanded) (numbers : Numbers) (first : ℕ) (es : List FlatExpr) : Type 0 where
-  pub all : (m : ℕ) (i : Instance) (a : AssertionTree) → m < first → IsInstance (program_of x) (main_of x) i → IsNumberOf (program_of x) x.instances.now m i → Contains i.node.assertions a
+  pub all : (m : ℕ) (i : Instance) (a : AssertionTree) → m < first → IsInstance (program_of x) (main_of x) i → IsNumberOf (program_of x) x.instances.now m i
+      → Contains i.node.assertions a
       → Contains (map raw_tree es) (assertion_of (program_of x) numbers i a)
   pub only : (e : RawTree) → Contains (map raw_tree es) e → IsAsserted (program_of x) (main_of x) numbers e

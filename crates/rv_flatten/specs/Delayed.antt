@@ -1,6 +1,7 @@
 -- The clocks of the operands of `pre` and `current`, in the order in which a walk over the expressions of a node comes to them.
 use Rattle.std.specs.Prelude.{List, [], ◌∷◌, ◌++◌, flat_map}
-use Rattle.rv_tree.specs.Tree.{Tree, Node, Form, True, False, Number, Named, Not, Minus, Pre, Current, When, Binary, If, AtMostOne, Call, Trees, None, More, NodeTree}
+use Rattle.rv_tree.specs.Tree.{Tree, Node, Form, True, False, Number, Named, Not, Minus, Pre, Current, When, Binary, If, AtMostOne, Call, Trees, None, More}
+use Rattle.rv_tree.specs.Tree.{NodeTree}
 use Rattle.rv_types.specs.declared.typed.Clock.{Clock}
 use Rattle.rv_instances.specs.NumberedNeeds.{clock_of_expression}
 

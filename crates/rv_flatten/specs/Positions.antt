@@ -8,7 +8,8 @@ use Rattle.rv_instances.specs.Layouts.{callee_or_main, here_of}
 -- These are the numbers of the places of a sequence, one by one.
 pub record AreNumbersOf (places sequence : List Sites) (numbers : List ℕ) : Type 0 where
   pub size : length numbers ≡ length sequence
-  pub each : (j : ℕ) → j < length numbers → (slice_index_or numbers j 0 < length places) × (place_at places (slice_index_or numbers j 0) ≡ slice_index_or sequence j [])
+  pub each : (j : ℕ) → j < length numbers → (slice_index_or numbers j 0 < length places)
+      × (place_at places (slice_index_or numbers j 0) ≡ slice_index_or sequence j [])
 
 -- the number of the flow of an instance with a site, up to the greatest of 32 bits
 abbrev pub site_number : Layout → ℕ → ℕ → ℕ

@@ -1,5 +1,6 @@
 -- How a flat system is read from its program: flows, memories and ticks by their numbers.
-use Rattle.std.specs.Prelude.{◌≡◌, ℕ, ◌+◌, ◌<◌, ℤ, pos, negsuc, Bool, true, false, cond, unwrap_or, List, [], ◌∷◌, ◌++◌, map, length, Option, Some, slice_get, slice_index_or}
+use Rattle.std.specs.Prelude.{◌≡◌, ℕ, ◌+◌, ◌<◌, ℤ, pos, negsuc, Bool, true, false, cond, unwrap_or, List, [], ◌∷◌, ◌++◌, map, length, Option, Some, slice_get}
+use Rattle.std.specs.Prelude.{slice_index_or}
 use Rattle.std.specs.Prelude.{None as Nothing}
 use Rattle.std.specs.List.{Contains}
 use Rattle.rv_base.specs.declared.value.Value.TheVariants.{Flag}
@@ -24,7 +25,8 @@ use Rattle.rv_flat.specs.declared.parts.FlatExpr.{FlatExpr}
 use Rattle.rv_flat.specs.declared.parts.FlatFlow.{FlatFlow}
 use Rattle.rv_flat.specs.declared.parts.FlatInput.{FlatInput}
 use Rattle.rv_flat.specs.declared.parts.FlatMemory.{FlatMemory}
-use Rattle.rv_flat.specs.RawTree.{RawTree, Node, RawForm, RawTrees, Constant, Flow, Memory, Ticked, Input, Not, Binary, Scale, If, AtMostOne, When, Current, None, More, raw_tree}
+use Rattle.rv_flat.specs.RawTree.{RawTree, Node, RawForm, RawTrees, Constant, Flow, Memory, Ticked, Input, Not, Binary, Scale, If, AtMostOne, When, Current}
+use Rattle.rv_flat.specs.RawTree.{None, More, raw_tree}
 use Rattle.rv_flat.specs.Lists.{tick_places}
 use Rattle.rv_agreement.specs.Programs.{coefficient, operator_place}
 use Rattle.rv_agreement.specs.Translation.{Numbers, clock_number, tick_number}
@@ -133,21 +135,26 @@ abbrev pub no_assumption : RawTree
 no_assumption = unplaced (Constant (Flag true))
 
 -- The flows, memories, inputs, variables and assertions of a flat system are read from its program.
-pub record IsRead (program : ProgramTree) (main : Identifier) (flows : List FlatFlow) (memories : List FlatMemory) (inputs : List FlatInput) (variables : List Bit) (assertions : List FlatExpr) : Type 0 where
+pub record IsRead (program : ProgramTree) (main : Identifier) (flows : List FlatFlow) (memories : List FlatMemory) (inputs : List FlatInput)
+    (variables : List Bit) (assertions : List FlatExpr) : Type 0 where
   pub sequence : IsSequence program main (places_of flows)
   pub list : AreMemories program main IsAny (map memory_of memories)
   pub ticks : AreTicks program main (tick_places variables)
   pub as_many : length inputs ≡ length (node_of program main).inputs
-  pub flow : (k : ℕ) → k < length flows → (g : Giver) × Gives program main (slice_index_or (places_of flows) k []) g × (slice_index_or (map raw_flow flows) k no_raw ≡ raw_giver program (numbers_of flows memories variables) g)
+  pub flow : (k : ℕ) → k < length flows → (g : Giver) × Gives program main (slice_index_or (places_of flows) k []) g
+      × (slice_index_or (map raw_flow flows) k no_raw ≡ raw_giver program (numbers_of flows memories variables) g)
   pub memory : (m : ℕ) → m < length memories → (i : Instance) × (d : Delay) × IsInstance program main i × Contains (node_delays i.node) d
-      × (slice_index_or (memory_places_of memories) m [] ≡ delay_place i d) × (slice_index_or (map raw_memory memories) m no_raw ≡ raw_delay program (numbers_of flows memories variables) i d)
-  pub asserts : (i : Instance) (a : AssertionTree) → IsInstance program main i → Contains i.node.assertions a → Contains (map raw_tree assertions) (assertion_of program (numbers_of flows memories variables) i a)
+      × (slice_index_or (memory_places_of memories) m [] ≡ delay_place i d)
+      × (slice_index_or (map raw_memory memories) m no_raw ≡ raw_delay program (numbers_of flows memories variables) i d)
+  pub asserts : (i : Instance) (a : AssertionTree) → IsInstance program main i → Contains i.node.assertions a
+      → Contains (map raw_tree assertions) (assertion_of program (numbers_of flows memories variables) i a)
   pub asserted : (k : ℕ) → k < length assertions → (i : Instance) × (a : AssertionTree) × IsInstance program main i × Contains i.node.assertions a
       × (slice_index_or (map raw_tree assertions) k no_assumption ≡ assertion_of program (numbers_of flows memories variables) i a)
 
 -- Flows and inputs have the types of their program, and enumerations as many labels.
 pub record AreKinds (program : ProgramTree) (main : Identifier) (flows : List FlatFlow) (inputs : List FlatInput) (labels : List (List (List ℕ))) : Type 0 where
-  pub flow : (i : Instance) (x : Identifier) (k : ℕ) → IsInstance program main i → Contains (flows_of i.node) x → k < length flows → slice_index_or (places_of flows) k [] ≡ place i x
+  pub flow : (i : Instance) (x : Identifier) (k : ℕ) → IsInstance program main i → Contains (flows_of i.node) x → k < length flows
+      → slice_index_or (places_of flows) k [] ≡ place i x
       → slice_get (map (λ g. g.kind) flows) k ≡ flow_kind program i.node x
   pub input : map (λ i. i.kind) inputs ≡ decl_kinds program (node_of program main).inputs
   pub label : labels ≡ map (λ d. texts (labels_of d)) program.types

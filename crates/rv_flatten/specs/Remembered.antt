@@ -47,11 +47,17 @@ read_seen r = record { site = r.site; kind = r.kind; clock = r.clock; operand = 
 -- what is read, with the types and clocks that stand at the numbers from j on
 abbrev pub joined : List Kind → List Clock → ℕ → List DelayedAt → List ReadAt
 joined ks cs j [] = []
-joined ks cs j (r ∷ rs) = record { site = r.site; kind = slice_index_or ks j kind.Bool; clock = slice_index_or cs j Base; operand = r.operand } ∷ joined ks cs (j + 1) rs
+joined ks cs j (r ∷ rs) = record { site = r.site; kind = slice_index_or ks j kind.Bool; clock = slice_index_or cs j Base; operand = r.operand }
+    ∷ joined ks cs (j + 1) rs
 
 -- what a `pre` or `current` of a node reads, where names stand for this
 abbrev pub read_by : NodeTree → Scope → Delay → ReadAt
-read_by n s d = record { site = memory_site n d.site d.operand; kind = unwrap_or (kind_of s d.operand) kind.Bool; clock = clock_of_expression n d.operand; operand = d.operand }
+read_by n s d = record {
+  site = memory_site n d.site d.operand;
+  kind = unwrap_or (kind_of s d.operand) kind.Bool;
+  clock = clock_of_expression n d.operand;
+  operand = d.operand;
+}
 
 abbrev pub reads : NodeTree → Scope → List Delay → List ReadAt
 reads n s ds = map (read_by n s) ds

@@ -97,7 +97,8 @@ fn gather_right(
     found: &mut Many<Clock>,
 ) -> Result<Pace, Memory>
     ensures pace { IfOk result (λ p. p ≡ binary_pace op (seen left) (seen (pace (node_tree clocks.now.node.now) (tree_of right.now)))) }
-    ensures found { OnOk result (found.new ≡ found.old ++ (arrows_in (node_tree clocks.now.node.now) (tree_of right.now) ++ arrow_clock op (binary_pace op (seen left) (seen (pace (node_tree clocks.now.node.now) (tree_of right.now)))))) }
+    ensures found { OnOk result (found.new ≡ found.old ++ (arrows_in (node_tree clocks.now.node.now) (tree_of right.now)
+        ++ arrow_clock op (binary_pace op (seen left) (seen (pace (node_tree clocks.now.node.now) (tree_of right.now)))))) }
 {
     let right = gather(clocks, right, found)?;
     add_operator(op, operator_pace(op, left, right), found)

@@ -45,7 +45,8 @@ fn push_assertions(
     requires given { IsGiven given.now }
     requires found { IsFoundOf given.now found.now }
     requires within { instance < length given.now.expanded.now.instances.now }
-    ensures { OnOk result ((i : Instance) → IsInstance (program_given given.now) (main_given given.now) i → IsNumberOf (program_given given.now) given.now.expanded.now.instances.now instance i
+    ensures { OnOk result ((i : Instance) → IsInstance (program_given given.now) (main_given given.now) i
+        → IsNumberOf (program_given given.now) given.now.expanded.now.instances.now instance i
         → map raw_tree made.new ≡ map raw_tree made.old ++ map (assertion_of (program_given given.now) (numbers_of given.now found.now) i) i.node.assertions) }
 {
     let node = given.expanded.node(instance);
@@ -67,8 +68,10 @@ fn push_assertion(
     requires given { IsGiven given.now }
     requires found { IsFoundOf given.now found.now }
     requires within { instance < length given.now.expanded.now.instances.now }
-    ensures { OnOk result ((i : Instance) → IsInstance (program_given given.now) (main_given given.now) i → IsNumberOf (program_given given.now) given.now.expanded.now.instances.now instance i → Contains i.node.assertions (assertion_tree assertion.now)
-        → map raw_tree made.new ≡ map raw_tree made.old ++ assertion_of (program_given given.now) (numbers_of given.now found.now) i (assertion_tree assertion.now) ∷ []) }
+    ensures { OnOk result ((i : Instance) → IsInstance (program_given given.now) (main_given given.now) i
+        → IsNumberOf (program_given given.now) given.now.expanded.now.instances.now instance i → Contains i.node.assertions (assertion_tree assertion.now)
+        → map raw_tree made.new ≡ map raw_tree made.old ++ assertion_of (program_given given.now) (numbers_of given.now found.now) i
+        (assertion_tree assertion.now) ∷ []) }
 {
     let flat = flat_assertion(
         alloc,

@@ -36,7 +36,8 @@ pub fn flatten(alloc: Global, source: &Source) -> Result<Flat, Memory>
     // A source keeps this in its type, as a truth only; the call takes the proof that `read_source` gives.
     requires fits { Fits (program_tree source.now.program) source.now.typed source.now.order }
     ensures flat { IfOk result (IsFlatOf (program_tree source.now.program) (name_at (program_tree source.now.program) source.now.typed.main)) }
-    ensures expanded { IfOk result (λ f. f.expanded ≡ expanded (program_tree source.now.program) (name_at (program_tree source.now.program) source.now.typed.main)) }
+    ensures expanded { IfOk result (λ f. f.expanded ≡ expanded (program_tree source.now.program)
+        (name_at (program_tree source.now.program) source.now.typed.main)) }
 {
     flat_of(alloc, &source.program, &source.typed, &source.order)
 }

@@ -13,7 +13,8 @@ ghost use Rattle.rv_types.specs.Readings.{AreTables, view_of};
 ghost use Rattle.rv_types.specs.Tables.{scope_of};
 ghost use Rattle.rv_types.specs.Variables.{is_integer};
 ghost use Rattle.rv_instances.specs.Expanded.{IsKnown, program_of, main_of};
-ghost use Rattle.rv_flatten.specs.Compared.{is_told_test, own_tests_by, tests_by, tests_of_all_by, tests_in_equations_by, tests_in_assertions_by, tests_in, told_tests_in, compared_at, compared_in};
+ghost use Rattle.rv_flatten.specs.Compared.{is_told_test, own_tests_by, tests_by, tests_of_all_by, tests_in_equations_by, tests_in_assertions_by, tests_in};
+ghost use Rattle.rv_flatten.specs.Compared.{told_tests_in, compared_at, compared_in};
 ghost use Rattle.rv_flatten.specs.Kept.{found_comparison};
 ghost use Rattle.rv_flatten.specs.NodeReaders.{scope_read, lists_to, AreSortedBy};
 
@@ -138,7 +139,8 @@ fn tests_of_node(
     tables: &ProgramTables,
     clocks: &NodeClocks,
 ) -> Result<Many<Tested>, Memory>
-    ensures { (p : ProgramTree) → AreTables p tables.now → repeated [] (flow_names (node_tree clocks.now.node.now)) ≡ [] → IfOk result (λ tested. tested ≡ told_tests_in p (node_tree clocks.now.node.now)) }
+    ensures { (p : ProgramTree) → AreTables p tables.now → repeated [] (flow_names (node_tree clocks.now.node.now)) ≡ []
+        → IfOk result (λ tested. tested ≡ told_tests_in p (node_tree clocks.now.node.now)) }
 {
     let reader = NodeReader::new(alloc, tables, clocks)?;
     let node = clocks.node;

@@ -123,7 +123,8 @@ fn gather_delayed(
     found: &mut Many<Clock>,
 ) -> Result<Pace, Memory>
     ensures pace { IfOk result (λ p. p ≡ grounded (seen (pace (node_tree clocks.now.node.now) (tree_of operand.now)))) }
-    ensures found { OnOk result (found.new ≡ found.old ++ clock_of_expression (node_tree clocks.now.node.now) (tree_of operand.now) ∷ delayed_in (node_tree clocks.now.node.now) (tree_of operand.now)) }
+    ensures found { OnOk result (found.new ≡ found.old ++ clock_of_expression (node_tree clocks.now.node.now) (tree_of operand.now)
+        ∷ delayed_in (node_tree clocks.now.node.now) (tree_of operand.now)) }
 {
     let number = found.len();
     found.push(Clock::Base)?;
@@ -141,7 +142,8 @@ fn gather_current(
     found: &mut Many<Clock>,
 ) -> Result<Pace, Memory>
     ensures pace { IfOk result (λ p. p ≡ current_pace (node_tree clocks.now.node.now) (seen (pace (node_tree clocks.now.node.now) (tree_of operand.now)))) }
-    ensures found { OnOk result (found.new ≡ found.old ++ clock_of_expression (node_tree clocks.now.node.now) (tree_of operand.now) ∷ delayed_in (node_tree clocks.now.node.now) (tree_of operand.now)) }
+    ensures found { OnOk result (found.new ≡ found.old ++ clock_of_expression (node_tree clocks.now.node.now) (tree_of operand.now)
+        ∷ delayed_in (node_tree clocks.now.node.now) (tree_of operand.now)) }
 {
     let number = found.len();
     found.push(Clock::Base)?;

@@ -24,7 +24,8 @@ ghost use Rattle.rv_agreement.specs.Programs.{spot};
 ghost use Rattle.rv_agreement.specs.Translation.{Numbers};
 ghost use Rattle.rv_flatten.specs.Readings.{presence, unplaced};
 ghost use Rattle.rv_flatten.specs.Tables as tables;
-ghost use Rattle.rv_flatten.specs.Tables.{constant_read, form_read, is_chained, kept_read, named_read, operator_place_read, path_read, place_read, product_read, scope_read, tick_read, tree_read};
+ghost use Rattle.rv_flatten.specs.Tables.{constant_read, form_read, is_chained, kept_read, named_read, operator_place_read, path_read, place_read};
+ghost use Rattle.rv_flatten.specs.Tables.{product_read, scope_read, tick_read, tree_read};
 
 use crate::comparisons::is_test;
 use crate::frame::Frame;
@@ -42,7 +43,10 @@ use std::alloc::Global;
 /// a `->` the first operand that has a clock tells the clock.
 pub fn flat_of(alloc: Global, frame: &Frame, e: &Expr) -> Result<FlatExpr, Memory>
     requires { IsReader frame.now.reader }
-    ensures { (numbers : Numbers) (i : Instance) → IsFrame numbers i frame.now → AreTicks (program_of frame.now.expanded.now) (main_of frame.now.expanded.now) numbers.ticks → Contains (node_parts i.node) (tree_of e.now) → IsSome (kind_of (node_scope (program_of frame.now.expanded.now) i.node) (tree_of e.now)) → IfOk result (λ f. raw_tree f ≡ readings.raw_of (program_of frame.now.expanded.now) numbers i (tree_of e.now)) }
+    ensures { (numbers : Numbers) (i : Instance) → IsFrame numbers i frame.now
+        → AreTicks (program_of frame.now.expanded.now) (main_of frame.now.expanded.now) numbers.ticks → Contains (node_parts i.node) (tree_of e.now)
+        → IsSome (kind_of (node_scope (program_of frame.now.expanded.now) i.node) (tree_of e.now))
+        → IfOk result (λ f. raw_tree f ≡ readings.raw_of (program_of frame.now.expanded.now) numbers i (tree_of e.now)) }
 {
     instance_numbers();
     let mut constant = None;
@@ -146,8 +150,10 @@ fn flat_right(
 ) -> Result<Box<FlatExpr>, Memory>
     requires reader { IsReader frame.now.reader }
     requires bound { IsKnownBound constant.old }
-    ensures flat { (x : Tree) → tree_of e.now ≡ tree.Node e.now.at e.now.site (tree.Binary op x (tree_of right.now)) → raw_tree left ≡ tree_read frame.now x → constant.old ≡ constant_read frame.now x → IfOk result (λ f. raw_tree f ≡ form_read frame.now e.now.site (tree.Binary op x (tree_of right.now))) }
-    ensures constant { (x : Tree) → constant.old ≡ constant_read frame.now x → OnOk result (constant.new ≡ constant_form (scope_read frame.now) (value_by frame.now.values.now) (tree.Binary op x (tree_of right.now))) }
+    ensures flat { (x : Tree) → tree_of e.now ≡ tree.Node e.now.at e.now.site (tree.Binary op x (tree_of right.now)) → raw_tree left ≡ tree_read frame.now x
+        → constant.old ≡ constant_read frame.now x → IfOk result (λ f. raw_tree f ≡ form_read frame.now e.now.site (tree.Binary op x (tree_of right.now))) }
+    ensures constant { (x : Tree) → constant.old ≡ constant_read frame.now x
+        → OnOk result (constant.new ≡ constant_form (scope_read frame.now) (value_by frame.now.values.now) (tree.Binary op x (tree_of right.now))) }
     ensures bound { OnOk result (IsKnownBound constant.new) }
 {
     let first = *constant;
@@ -305,8 +311,10 @@ fn flat_if(
     constant: &mut Option<Weighed>,
 ) -> Result<Box<FlatExpr>, Memory>
     requires { IsReader frame.now.reader }
-    ensures flat { IfOk result (λ f. raw_tree f ≡ unplaced (raw.If (tree_read frame.now (tree_of condition.now)) (tree_read frame.now (tree_of first.now)) (tree_read frame.now (tree_of second.now)))) }
-    ensures constant { OnOk result (constant.new ≡ constant_form (scope_read frame.now) (value_by frame.now.values.now) (tree.If (tree_of condition.now) (tree_of first.now) (tree_of second.now))) }
+    ensures flat { IfOk result (λ f. raw_tree f ≡ unplaced (raw.If (tree_read frame.now (tree_of condition.now)) (tree_read frame.now (tree_of first.now))
+        (tree_read frame.now (tree_of second.now)))) }
+    ensures constant { OnOk result (constant.new ≡ constant_form (scope_read frame.now) (value_by frame.now.values.now)
+        (tree.If (tree_of condition.now) (tree_of first.now) (tree_of second.now))) }
     ensures bound { OnOk result (IsKnownBound constant.new) }
 {
     let condition = flat_part(alloc, frame, condition, constant)?;
@@ -330,7 +338,8 @@ fn flat_at_most_one(
 ) -> Result<Box<FlatExpr>, Memory>
     requires { IsReader frame.now.reader }
     ensures flat { IfOk result (λ f. raw_tree f ≡ unplaced (raw.AtMostOne (tables.trees_read frame.now (trees (map tree_of operands.now))))) }
-    ensures constant { OnOk result (constant.new ≡ constant_form (scope_read frame.now) (value_by frame.now.values.now) (tree.AtMostOne (trees (map tree_of operands.now)))) }
+    ensures constant { OnOk result (constant.new ≡ constant_form (scope_read frame.now) (value_by frame.now.values.now)
+        (tree.AtMostOne (trees (map tree_of operands.now)))) }
     ensures bound { OnOk result (IsKnownBound constant.new) }
 {
     let mut trues = Trues::none();
@@ -403,7 +412,8 @@ fn made_arrow(
     right: Box<FlatExpr>,
 ) -> Result<Box<FlatExpr>, Memory>
     requires { IsReader frame.now.reader }
-    ensures { IfOk result (λ f. raw_tree f ≡ unplaced (raw.If (unplaced (raw.Ticked (tick_read frame.now (tables.told_clock_read frame.now (tree_of e.now))))) (raw_tree right) (raw_tree left))) }
+    ensures { IfOk result (λ f. raw_tree f ≡ unplaced (raw.If (unplaced (raw.Ticked (tick_read frame.now (tables.told_clock_read frame.now (tree_of e.now)))))
+        (raw_tree right) (raw_tree left))) }
 {
     let clock = frame.reader.told_clock_of(e);
     let ticked = made_ticked(alloc, tick_number(frame, clock))?;

@@ -32,7 +32,8 @@ fn flat_flow(alloc: Global, given: &Given, found: &Found, number: usize) -> Resu
     requires given { IsGiven given.now }
     requires found { IsFoundOf given.now found.now }
     requires within { number < length given.now.sequence.now }
-    ensures { IfOk result (IsMade (program_given given.now) (main_given given.now) (numbers_of given.now found.now) (slice_index_or (sites_of given.now.sequence.now) number [])) }
+    ensures { IfOk result (IsMade (program_given given.now) (main_given given.now) (numbers_of given.now found.now)
+        (slice_index_or (sites_of given.now.sequence.now) number [])) }
 {
     let at = *found.order.at(number) as usize;
     let item = giver_item(

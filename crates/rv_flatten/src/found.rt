@@ -116,7 +116,8 @@ fn numbered(
     requires sequence { IsSequence (program_of expanded.now) (main_of expanded.now) (sites_of sequence.now) }
     requires order { AreNumbersOf (all_places (program_of expanded.now) expanded.now.instances.now) (sites_of sequence.now) order.now }
     requires within { (k : ℕ) → Contains ticking.now k → k < length (all_places (program_of expanded.now) expanded.now.instances.now) }
-    requires ticks { AreTicks (program_of expanded.now) (main_of expanded.now) (map (place_at (all_places (program_of expanded.now) expanded.now.instances.now)) ticking.now) }
+    requires ticks { AreTicks (program_of expanded.now) (main_of expanded.now)
+        (map (place_at (all_places (program_of expanded.now) expanded.now.instances.now)) ticking.now) }
     requires kept { AreKept (program_of expanded.now) (main_of expanded.now) expanded.now.instances.now kept.now }
     ensures { IfOk result (IsNumbering (program_of expanded.now) (main_of expanded.now) expanded.now.instances.now (record {
       flows = sites_of sequence.now;

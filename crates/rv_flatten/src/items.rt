@@ -61,7 +61,11 @@ pub fn giver_item(
     requires owns { AreOwnTables (program_of expanded.now) tables.now owns.now }
     requires values { value_by values.now ≡ constant_value (program_of expanded.now) }
     requires giver { IsGiver (program_of expanded.now) (main_of expanded.now) expanded.now.instances.now giver.now }
-    ensures { (numbers : Numbers) (q : Sites) (g : GiverTree) → AreLight (program_of expanded.now) (main_of expanded.now) → AreTicks (program_of expanded.now) (main_of expanded.now) numbers.ticks → IsNumbering (program_of expanded.now) (main_of expanded.now) expanded.now.instances.now numbers numbering.now → Gives (program_of expanded.now) (main_of expanded.now) q g → StandsFor (program_of expanded.now) expanded.now.instances.now giver.now g → IfOk result (λ x. made_item x ≡ readings.raw_giver (program_of expanded.now) numbers g) }
+    ensures { (numbers : Numbers) (q : Sites) (g : GiverTree) → AreLight (program_of expanded.now) (main_of expanded.now)
+        → AreTicks (program_of expanded.now) (main_of expanded.now) numbers.ticks
+        → IsNumbering (program_of expanded.now) (main_of expanded.now) expanded.now.instances.now numbers numbering.now
+        → Gives (program_of expanded.now) (main_of expanded.now) q g → StandsFor (program_of expanded.now) expanded.now.instances.now giver.now g
+        → IfOk result (λ x. made_item x ≡ readings.raw_giver (program_of expanded.now) numbers g) }
 {
     match giver {
         Giver::Input(number) => Ok(input_item(*number)),
@@ -76,7 +80,8 @@ pub fn giver_item(
 
 /// An input of the main node.
 fn input_item(number: u32) -> FlatItem
-    ensures { (p : ProgramTree) (instances : List Numbered) (numbers : Numbers) (g : GiverTree) → StandsFor p instances (giver.Input number) g → made_item result ≡ readings.raw_giver p numbers g }
+    ensures { (p : ProgramTree) (instances : List Numbered) (numbers : Numbers) (g : GiverTree) → StandsFor p instances (giver.Input number) g
+        → made_item result ≡ readings.raw_giver p numbers g }
 {
     FlatItem {
         clock: None,
@@ -105,7 +110,11 @@ fn body_item(
     requires owns { AreOwnTables (program_of expanded.now) tables.now owns.now }
     requires values { value_by values.now ≡ constant_value (program_of expanded.now) }
     requires giver { IsGiver (program_of expanded.now) (main_of expanded.now) expanded.now.instances.now (giver.Body body.now) }
-    ensures { (numbers : Numbers) (q : Sites) (g : GiverTree) → AreLight (program_of expanded.now) (main_of expanded.now) → AreTicks (program_of expanded.now) (main_of expanded.now) numbers.ticks → IsNumbering (program_of expanded.now) (main_of expanded.now) expanded.now.instances.now numbers numbering.now → Gives (program_of expanded.now) (main_of expanded.now) q g → StandsFor (program_of expanded.now) expanded.now.instances.now (giver.Body body.now) g → IfOk result (λ x. made_item x ≡ readings.raw_giver (program_of expanded.now) numbers g) }
+    ensures { (numbers : Numbers) (q : Sites) (g : GiverTree) → AreLight (program_of expanded.now) (main_of expanded.now)
+        → AreTicks (program_of expanded.now) (main_of expanded.now) numbers.ticks
+        → IsNumbering (program_of expanded.now) (main_of expanded.now) expanded.now.instances.now numbers numbering.now
+        → Gives (program_of expanded.now) (main_of expanded.now) q g → StandsFor (program_of expanded.now) expanded.now.instances.now (giver.Body body.now) g
+        → IfOk result (λ x. made_item x ≡ readings.raw_giver (program_of expanded.now) numbers g) }
 {
     instance_numbers();
     let reader = Reader::new(expanded, layout, body.instance);
@@ -142,7 +151,11 @@ fn output_item(
     requires owns { AreOwnTables (program_of expanded.now) tables.now owns.now }
     requires values { value_by values.now ≡ constant_value (program_of expanded.now) }
     requires giver { IsGiver (program_of expanded.now) (main_of expanded.now) expanded.now.instances.now (giver.Output output.now) }
-    ensures { (numbers : Numbers) (q : Sites) (g : GiverTree) → AreLight (program_of expanded.now) (main_of expanded.now) → AreTicks (program_of expanded.now) (main_of expanded.now) numbers.ticks → IsNumbering (program_of expanded.now) (main_of expanded.now) expanded.now.instances.now numbers numbering.now → Gives (program_of expanded.now) (main_of expanded.now) q g → StandsFor (program_of expanded.now) expanded.now.instances.now (giver.Output output.now) g → IfOk result (λ x. made_item x ≡ readings.raw_giver (program_of expanded.now) numbers g) }
+    ensures { (numbers : Numbers) (q : Sites) (g : GiverTree) → AreLight (program_of expanded.now) (main_of expanded.now)
+        → AreTicks (program_of expanded.now) (main_of expanded.now) numbers.ticks
+        → IsNumbering (program_of expanded.now) (main_of expanded.now) expanded.now.instances.now numbers numbering.now
+        → Gives (program_of expanded.now) (main_of expanded.now) q g → StandsFor (program_of expanded.now) expanded.now.instances.now (giver.Output output.now)
+        g → IfOk result (λ x. made_item x ≡ readings.raw_giver (program_of expanded.now) numbers g) }
 {
     instance_numbers();
     let reader = Reader::new(expanded, layout, output.instance);
@@ -192,7 +205,12 @@ pub fn delay_item(
     requires values { value_by values.now ≡ constant_value (program_of expanded.now) }
     requires within { instance < length expanded.now.instances.now }
     requires clock { clock ≡ clock_of_expression (node_at (program_of expanded.now) expanded.now.instances.now instance) (tree_of operand.now) }
-    ensures { (numbers : Numbers) (i : Instance) (d : Delay) → AreLight (program_of expanded.now) (main_of expanded.now) → AreTicks (program_of expanded.now) (main_of expanded.now) numbers.ticks → IsNumbering (program_of expanded.now) (main_of expanded.now) expanded.now.instances.now numbers numbering.now → IsInstance (program_of expanded.now) (main_of expanded.now) i → IsNumberOf (program_of expanded.now) expanded.now.instances.now instance i → Contains (node_delays i.node) d → tree_of operand.now ≡ d.operand → IfOk result (λ x. made_item x ≡ readings.raw_delay (program_of expanded.now) numbers i d) }
+    ensures { (numbers : Numbers) (i : Instance) (d : Delay) → AreLight (program_of expanded.now) (main_of expanded.now)
+        → AreTicks (program_of expanded.now) (main_of expanded.now) numbers.ticks
+        → IsNumbering (program_of expanded.now) (main_of expanded.now) expanded.now.instances.now numbers numbering.now
+        → IsInstance (program_of expanded.now) (main_of expanded.now) i → IsNumberOf (program_of expanded.now) expanded.now.instances.now instance i
+        → Contains (node_delays i.node) d → tree_of operand.now ≡ d.operand
+        → IfOk result (λ x. made_item x ≡ readings.raw_delay (program_of expanded.now) numbers i d) }
 {
     instance_numbers();
     let reader = Reader::new(expanded, layout, instance);
@@ -230,7 +248,12 @@ pub fn flat_assertion(
     requires owns { AreOwnTables (program_of expanded.now) tables.now owns.now }
     requires values { value_by values.now ≡ constant_value (program_of expanded.now) }
     requires within { instance < length expanded.now.instances.now }
-    ensures { (numbers : Numbers) (i : Instance) → AreLight (program_of expanded.now) (main_of expanded.now) → AreTicks (program_of expanded.now) (main_of expanded.now) numbers.ticks → IsNumbering (program_of expanded.now) (main_of expanded.now) expanded.now.instances.now numbers numbering.now → IsInstance (program_of expanded.now) (main_of expanded.now) i → IsNumberOf (program_of expanded.now) expanded.now.instances.now instance i → Contains i.node.assertions (assertion_tree assertion.now) → IfOk result (λ f. raw_tree f ≡ readings.assertion_of (program_of expanded.now) numbers i (assertion_tree assertion.now)) }
+    ensures { (numbers : Numbers) (i : Instance) → AreLight (program_of expanded.now) (main_of expanded.now)
+        → AreTicks (program_of expanded.now) (main_of expanded.now) numbers.ticks
+        → IsNumbering (program_of expanded.now) (main_of expanded.now) expanded.now.instances.now numbers numbering.now
+        → IsInstance (program_of expanded.now) (main_of expanded.now) i → IsNumberOf (program_of expanded.now) expanded.now.instances.now instance i
+        → Contains i.node.assertions (assertion_tree assertion.now) → IfOk result
+        (λ f. raw_tree f ≡ readings.assertion_of (program_of expanded.now) numbers i (assertion_tree assertion.now)) }
 {
     instance_numbers();
     let reader = Reader::new(expanded, layout, instance);

@@ -82,7 +82,8 @@ pub fn memory_numbers(alloc: Global, kept: &[Kept]) -> Result<Callees, Memory>
 
 /// The memories of a program with few expressions are few.
 pub fn few_memories()
-    ensures { (p : ProgramTree) (main : Identifier) (instances : List InstanceModel) (ks : List KeptModel) → IsExpanded p main instances → AreCounted p main → AreFew p main → AreKept p main instances ks → length ks ≤ 200000 }
+    ensures { (p : ProgramTree) (main : Identifier) (instances : List InstanceModel) (ks : List KeptModel) → IsExpanded p main instances → AreCounted p main
+        → AreFew p main → AreKept p main instances ks → length ks ≤ 200000 }
 {}
 
 /// By the numbers of instances and the sites there the numbers of memories, the last one where several are alike.
@@ -155,7 +156,8 @@ fn push_of_node<'a>(
     read: &[Many<MemoryRead<'a>>],
     found: &mut Many<Kept<'a>>,
 ) -> Result<(), Memory>
-    ensures { OnOk result (map kept_seen found.new ≡ map kept_seen found.old ++ map (kept_at instance.now.path number) (map read_seen (slice_index_or read.now instance.now.node []))) }
+    ensures { OnOk result (map kept_seen found.new ≡ map kept_seen found.old ++ map (kept_at instance.now.path number)
+        (map read_seen (slice_index_or read.now instance.now.node []))) }
 {
     if let Some(own) = read.get(instance.node as usize) {
         push_found(number, &instance.path, own.as_slice(), found)?;
@@ -216,7 +218,8 @@ fn reads_of_node<'a>(
     tables: &ProgramTables,
     clocks: &NodeClocks<'a>,
 ) -> Result<Many<MemoryRead<'a>>, Memory>
-    ensures { (p : ProgramTree) → AreTables p tables.now → repeated [] (flow_names (node_tree clocks.now.node.now)) ≡ [] → IfOk result (λ read. map read_seen read ≡ reads_in p (node_tree clocks.now.node.now)) }
+    ensures { (p : ProgramTree) → AreTables p tables.now → repeated [] (flow_names (node_tree clocks.now.node.now)) ≡ []
+        → IfOk result (λ read. map read_seen read ≡ reads_in p (node_tree clocks.now.node.now)) }
 {
     let reader = NodeReader::new(alloc, tables, clocks)?;
     let kinds = delay_kinds(alloc, reader.tables, &reader.own, reader.clocks.node)?;
@@ -275,7 +278,8 @@ fn gather_equations<'a>(
     equations: &'a [Equation],
     found: &mut Many<Delayed<'a>>,
 ) -> Result<(), Memory>
-    ensures { OnOk result (map delayed_seen found.new ≡ map delayed_seen found.old ++ delayed (node_read reader.now) (delays_in_equations (map equation_tree equations.now))) }
+    ensures { OnOk result (map delayed_seen found.new ≡ map delayed_seen found.old ++ delayed (node_read reader.now)
+        (delays_in_equations (map equation_tree equations.now))) }
 {
     for equation in equations {
         gather(reader, &equation.right, found)?;
@@ -289,7 +293,8 @@ fn gather_assertions<'a>(
     assertions: &'a [Assertion],
     found: &mut Many<Delayed<'a>>,
 ) -> Result<(), Memory>
-    ensures { OnOk result (map delayed_seen found.new ≡ map delayed_seen found.old ++ delayed (node_read reader.now) (delays_in_assertions (map assertion_tree assertions.now))) }
+    ensures { OnOk result (map delayed_seen found.new ≡ map delayed_seen found.old ++ delayed (node_read reader.now)
+        (delays_in_assertions (map assertion_tree assertions.now))) }
 {
     for assertion in assertions {
         gather(reader, &assertion.body, found)?;
@@ -336,7 +341,8 @@ fn gather_all<'a>(
     expressions: &'a [Expr],
     found: &mut Many<Delayed<'a>>,
 ) -> Result<(), Memory>
-    ensures { OnOk result (map delayed_seen found.new ≡ map delayed_seen found.old ++ delayed (node_read reader.now) (delays_of_all (trees (map tree_of expressions.now)))) }
+    ensures { OnOk result (map delayed_seen found.new ≡ map delayed_seen found.old ++ delayed (node_read reader.now)
+        (delays_of_all (trees (map tree_of expressions.now)))) }
 {
     for e in expressions {
         gather(reader, e, found)?;
@@ -352,7 +358,8 @@ fn add_read<'a>(
     operand: &'a Expr,
     found: &mut Many<Delayed<'a>>,
 ) -> Result<(), Memory>
-    ensures { OnOk result (map delayed_seen found.new ≡ map delayed_seen found.old ++ delayed (node_read reader.now) (record { site = site; operand = tree_of operand.now } ∷ [])) }
+    ensures { OnOk result (map delayed_seen found.new ≡ map delayed_seen found.old ++ delayed (node_read reader.now)
+        (record { site = site; operand = tree_of operand.now } ∷ [])) }
 {
     let site = reader.memory_site(site, operand);
     found.push(Delayed { site, operand })?;

@@ -67,7 +67,8 @@ impl<'a, 'b> NodeReader<'a, 'b> {
         clocks: &'b NodeClocks<'a>,
     ) -> Result<NodeReader<'a, 'b>, Memory>
         ensures node { IfOk result (λ r. node_read r ≡ node_tree clocks.now.node.now) }
-        ensures scope { (p : ProgramTree) → AreTables p tables.now → repeated [] (flow_names (node_tree clocks.now.node.now)) ≡ [] → IfOk result (λ r. scope_read r ≡ node_scope p (node_tree clocks.now.node.now)) }
+        ensures scope { (p : ProgramTree) → AreTables p tables.now → repeated [] (flow_names (node_tree clocks.now.node.now)) ≡ []
+            → IfOk result (λ r. scope_read r ≡ node_scope p (node_tree clocks.now.node.now)) }
     {
         let own = node_tables(alloc, tables, clocks.node)?;
         Ok(NodeReader {

@@ -30,7 +30,8 @@ pub fn flow_count(expanded: &Expanded, layout: &Layout) -> usize
 /// and followed from where the two part; so time grows with the length of the places, and look-ups come only where the
 /// sequence goes on to an instance within another one.
 pub fn flow_numbers(alloc: Global, layout: &Layout, sequence: &[Place]) -> Result<Many<u32>, Memory>
-    ensures { (p : ProgramTree) (main : Identifier) (instances : List InstanceModel) → IsExpanded p main instances → IsLayout p main instances layout.now → IsSequence p main (sites_of sequence.now) → IfOk result (AreNumbersOf (all_places p instances) (sites_of sequence.now)) }
+    ensures { (p : ProgramTree) (main : Identifier) (instances : List InstanceModel) → IsExpanded p main instances → IsLayout p main instances layout.now
+        → IsSequence p main (sites_of sequence.now) → IfOk result (AreNumbersOf (all_places p instances) (sites_of sequence.now)) }
 {
     instance_numbers();
     numbers_of(alloc, layout, sequence)
@@ -139,7 +140,9 @@ fn first_of(layout: &Layout, instance: u32) -> u32
 
 /// For each flow, by its number, where it stands in a sequence of all flows, which have these numbers there.
 pub fn positions(alloc: Global, count: usize, numbers: &[u32]) -> Result<Many<u32>, Memory>
-    ensures { (p : ProgramTree) (main : Identifier) (instances : List InstanceModel) (sequence : List SitesModel) → IsExpanded p main instances → IsSequence p main sequence → count ≡ length (all_places p instances) → AreNumbersOf (all_places p instances) sequence numbers.now → IfOk result (λ at. (k : ℕ) → k < length (all_places p instances) → slice_index_or at k 0 ≡ index_of sequence (place_at (all_places p instances) k)) }
+    ensures { (p : ProgramTree) (main : Identifier) (instances : List InstanceModel) (sequence : List SitesModel) → IsExpanded p main instances
+        → IsSequence p main sequence → count ≡ length (all_places p instances) → AreNumbersOf (all_places p instances) sequence numbers.now
+        → IfOk result (λ at. (k : ℕ) → k < length (all_places p instances) → slice_index_or at k 0 ≡ index_of sequence (place_at (all_places p instances) k)) }
 {
     flow_places();
     standing(alloc, count, 0, numbers)

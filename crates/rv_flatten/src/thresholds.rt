@@ -6,7 +6,9 @@ ghost use Rattle.std.specs.List.Sorted.{IsSorted};
 ghost use Rattle.std.specs.Ordering.{int_cmp};
 ghost use Rattle.rv_tree.specs.Tree.{tree_of, trees, equation_tree, assertion_tree, node_tree, constant_tree, program_tree};
 ghost use Rattle.rv_types.specs.Scopes.{constant_values};
-ghost use Rattle.rv_flatten.specs.Literals.{literals, literals_of_all, equation_literals, assertion_literals, node_literals, constant_literals, program_literals, program_numbers, IsSmall, IsSmallValue, around, around_literal, around_value, is_last, with_new, IsDistinctOf};
+ghost use Rattle.rv_flatten.specs.Literals.{literals, literals_of_all, equation_literals, assertion_literals, node_literals, constant_literals};
+ghost use Rattle.rv_flatten.specs.Literals.{program_literals, program_numbers, IsSmall, IsSmallValue, around, around_literal, around_value, is_last, with_new};
+ghost use Rattle.rv_flatten.specs.Literals.{IsDistinctOf};
 ghost use Rattle.rv_flat.specs.Thresholds.{AreThresholds};
 
 use rv_base::{Many, Memory, Value};

@@ -1,6 +1,7 @@
 //! The ticks of a program, by the numbers of the flows of their clocks.
 
-ghost use Rattle.std.specs.Prelude.{◌≡◌, ◌+◌, ◌<◌, ◌^◌, ◌++◌, [], ◌∷◌, false, true, ℕ, List, cond, length, map, replicate, slice_index_or, slice_set, IfOk, OnOk};
+ghost use Rattle.std.specs.Prelude.{◌≡◌, ◌+◌, ◌<◌, ◌^◌, ◌++◌, [], ◌∷◌, false, true, ℕ, List, cond, length, map, replicate, slice_index_or, slice_set, IfOk};
+ghost use Rattle.std.specs.Prelude.{OnOk};
 ghost use Rattle.std.specs.List.{Contains};
 ghost use Rattle.rv_tree.specs.Places.{Sites, index_of};
 ghost use Rattle.rv_types.specs.declared.typed.Clock.{Clock as ClockModel};
@@ -23,7 +24,8 @@ pub fn ticks_of(alloc: Global, expanded: &Expanded, layout: &Layout) -> Result<M
     requires known { IsKnown expanded.now }
     requires layout { IsLayout (program_of expanded.now) (main_of expanded.now) expanded.now.instances.now layout.now }
     ensures within { IfOk result (λ ks. (k : ℕ) → Contains ks k → k < length (all_places (program_of expanded.now) expanded.now.instances.now)) }
-    ensures list { IfOk result (λ ks. AreTicks (program_of expanded.now) (main_of expanded.now) (map (place_at (all_places (program_of expanded.now) expanded.now.instances.now)) ks)) }
+    ensures list { IfOk result (λ ks. AreTicks (program_of expanded.now) (main_of expanded.now)
+        (map (place_at (all_places (program_of expanded.now) expanded.now.instances.now)) ks)) }
 {
     flow_places();
     instance_numbers();
@@ -38,7 +40,8 @@ pub fn ticks_of(alloc: Global, expanded: &Expanded, layout: &Layout) -> Result<M
 fn clock_numbers(alloc: Global, expanded: &Expanded, layout: &Layout) -> Result<Many<u32>, Memory>
     requires known { IsKnown expanded.now }
     requires layout { IsLayout (program_of expanded.now) (main_of expanded.now) expanded.now.instances.now layout.now }
-    ensures { IfOk result (λ found. found ≡ arrow_numbers_to (program_of expanded.now) expanded.now.instances.now layout.now (length expanded.now.instances.now)) }
+    ensures { IfOk result (λ found. found ≡ arrow_numbers_to (program_of expanded.now) expanded.now.instances.now layout.now
+        (length expanded.now.instances.now)) }
 {
     let mut found = Many::new(alloc);
     for instance in 0..expanded.instances.len() {
@@ -142,7 +145,10 @@ fn add_marked(number: u32, mark: bool, found: &mut Many<u32>) -> Result<(), Allo
 /// For each flow, by its number, the number of its tick, from 1; 0 where it has none.
 pub fn tick_numbers(alloc: Global, count: usize, ticks: &[u32]) -> Result<Many<u32>, Memory>
     requires { count < 2 ^ 32 }
-    ensures { (places : List Sites) → length places ≡ count → AreRising places → AreRising (map (place_at places) ticks.now) → ((k : ℕ) → Contains ticks.now k → k < count) → IfOk result (λ made. (k : ℕ) → k < count → Contains (map (place_at places) ticks.now) (place_at places k) → slice_index_or made k 0 ≡ index_of (map (place_at places) ticks.now) (place_at places k) + 1) }
+    ensures { (places : List Sites) → length places ≡ count → AreRising places → AreRising (map (place_at places) ticks.now)
+        → ((k : ℕ) → Contains ticks.now k → k < count) → IfOk result (λ made. (k : ℕ) → k < count
+        → Contains (map (place_at places) ticks.now) (place_at places k)
+        → slice_index_or made k 0 ≡ index_of (map (place_at places) ticks.now) (place_at places k) + 1) }
 {
     standing(alloc, count, 1, ticks)
 }

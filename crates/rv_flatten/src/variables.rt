@@ -32,7 +32,9 @@ pub fn variables_of(
 ) -> Result<Many<Bit>, Memory>
     requires few { (k : ℕ) → labels_of_type types.now k ≤ most }
     requires few_inputs { length inputs.now ≤ most }
-    ensures list { (p : ProgramTree) → p.types ≡ types.now → IfOk result (λ made. map variable_of made ≡ with_copies (lists.MainTick ∷ map lists.Tick (sites_of ticks.now) ++ memory_variables p (map kept_memory kept.now)) ++ (input_variables p 0 inputs.now ++ test_variables (map found_comparison comparisons.now))) }
+    ensures list { (p : ProgramTree) → p.types ≡ types.now → IfOk result
+        (λ made. map variable_of made ≡ with_copies (lists.MainTick ∷ map lists.Tick (sites_of ticks.now) ++ memory_variables p (map kept_memory kept.now))
+        ++ (input_variables p 0 inputs.now ++ test_variables (map found_comparison comparisons.now))) }
     ensures ticks { IfOk result (λ made. tick_places made ≡ sites_of ticks.now) }
 {
     listed_variables(alloc, types, ticks, kept, inputs, comparisons)
@@ -49,7 +51,9 @@ fn listed_variables(
 ) -> Result<Many<Bit>, Memory>
     requires few { (k : ℕ) → labels_of_type types.now k ≤ most }
     requires few_inputs { length inputs.now ≤ most }
-    ensures { IfOk result (λ made. map variable_of made ≡ with_copies (lists.MainTick ∷ []) ++ (with_copies (map lists.Tick (sites_of ticks.now)) ++ (with_copies (kept_variables types.now (map kept_memory kept.now)) ++ (given_variables types.now 0 inputs.now ++ test_variables (map found_comparison comparisons.now))))) }
+    ensures { IfOk result (λ made. map variable_of made ≡ with_copies (lists.MainTick ∷ [])
+        ++ (with_copies (map lists.Tick (sites_of ticks.now)) ++ (with_copies (kept_variables types.now (map kept_memory kept.now))
+        ++ (given_variables types.now 0 inputs.now ++ test_variables (map found_comparison comparisons.now))))) }
 {
     let mut bits = Many::new(alloc);
     add_pair(Bit::MainTick, &mut bits)?;

@@ -1,5 +1,6 @@
 -- The terms of the flows in their order, and of the updates.
-use Rattle.std.proofs.Common.{◌≡◌, inl, inr, ℕ, zero, suc, ◌+◌, ◌<◌, ◌≤◌, pos, max, Bool, true, false, cond, List, [], ◌∷◌, ◌++◌, length, map, refl, sym, ◌∙◌, ap, subst, arith, length-append, Option, Some}
+use Rattle.std.proofs.Common.{◌≡◌, inl, inr, ℕ, zero, suc, ◌+◌, ◌<◌, ◌≤◌, pos, max, Bool, true, false, cond, List, [], ◌∷◌, ◌++◌, length, map, refl, sym, ◌∙◌}
+use Rattle.std.proofs.Common.{ap, subst, arith, length-append, Option, Some}
 use Rattle.std.proofs.Common.{None as Nothing}
 use Rattle.std.specs.Prelude.{slice_get, slice_index_or}
 use Rattle.std.proofs.lemmas.Bool.{cases_lt}
@@ -43,7 +44,8 @@ use Rattle.rv_bits.proofs.Listing.{element_before, element_last}
 use Rattle.rv_forms.specs.declared.over.Wholes.{Wholes}
 use Rattle.rv_agreement.specs.Trees as trees
 use Rattle.rv_forms.specs.Columns.{kind_form, AreColumnTerms, IsAdded, AreUpdatesTo}
-use Rattle.rv_forms.specs.Terms.{columns_of, weights_of, weight_in, form_read, flow_read, parts_at, IsWithin, GivesTerm, ReadsAs, AreWholes, IsAfterAs, IsFlowAs, AreUpdatesRead}
+use Rattle.rv_forms.specs.Terms.{columns_of, weights_of, weight_in, form_read, flow_read, parts_at, IsWithin, GivesTerm, ReadsAs, AreWholes, IsAfterAs}
+use Rattle.rv_forms.specs.Terms.{IsFlowAs, AreUpdatesRead}
 use Rattle.rv_forms.proofs.Bounds.{form_bounded, term_within, within_more}
 use Rattle.rv_forms.proofs.Kept.{one_kept, wholes_kept}
 use Rattle.rv_forms.proofs.Ranks.{rank_next, forms_kth, spelled_form, kind_bounded}
@@ -77,7 +79,8 @@ some_at (y ∷ ys) zero d lt = refl
 some_at (y ∷ ys) (suc i) d lt = some_at ys i d (omega arith)
 
 -- the item of a loop over a list, by its place
-pub item_at : {A : Type 0} (xs items : List A) (i n : ℕ) (x : A) → items ≡ xs → i < length items → x ≡ slice_index_or items i x → n ≡ i → slice_get xs n ≡ Some x
+pub item_at : {A : Type 0} (xs items : List A) (i n : ℕ) (x : A) → items ≡ xs → i < length items → x ≡ slice_index_or items i x → n ≡ i
+    → slice_get xs n ≡ Some x
 item_at xs items i n x same lt is at =
     ap (λ k. slice_get xs k) at ∙ ap (λ l. slice_get l i) (sym same) ∙ some_at items i x lt ∙ ap (λ y. Some y) (sym is)
 
@@ -95,7 +98,8 @@ first_wholes f nodes columns first kept given flows wide begin are_kept are_give
     record {
       columns = wide;
       many_kept = kept_count ∙ many;
-      kept = λ m lt. term_within nodes (columns_of f) 1 (λ v. kind_form (columns_of f) (kind_at (memory_kinds s) m) (0 + rank (memory_kinds s) m)) (parts_at kept m)
+      kept = λ m lt. term_within nodes (columns_of f) 1 (λ v. kind_form (columns_of f) (kind_at (memory_kinds s) m) (0 + rank (memory_kinds s) m))
+          (parts_at kept m)
           (subst (λ n. IsTermOf nodes n (λ v. kind_form n (kind_at (memory_kinds s) m) (0 + rank (memory_kinds s) m)) (parts_at kept m)) wide
           (are_kept.each m (omega (arith, kept_count)) nodes)) (λ v. kind_bounded (columns_of f) (kind_at (memory_kinds s) m) (0 + rank (memory_kinds s) m));
       kept_shows = λ m v lt.
@@ -192,7 +196,8 @@ whole_flow f a b c r n flow body nothing parts well at whole refs low reads none
     let t : FlatTree = tree_among f.memories flow.body in
     let weight : ℕ = weight_in f t in
     let small : IsWithin c.nodes (columns_of f) weight parts =
-    term_within c.nodes (columns_of f) weight (λ v. cond (clock_bit b.nodes r.on flow.clock v) (form_at b.nodes body v) (form_at b.nodes nothing v)) parts made.is
+    term_within c.nodes (columns_of f) weight (λ v. cond (clock_bit b.nodes r.on flow.clock v) (form_at b.nodes body v) (form_at b.nodes nothing v)) parts
+    made.is
     (λ v. either_bounded (columns_of f) weight (clock_bit b.nodes r.on flow.clock v) (form_at b.nodes body v) (form_at b.nodes nothing v)
     (form_bounded b.nodes (columns_of f) weight body reads.within v)
     (subst (IsBounded (columns_of f) weight) (sym (none.exact v)) (zero_bounded (columns_of f) weight))) in
@@ -224,7 +229,8 @@ whole_flow f a b c r n flow body nothing parts well at whole refs low reads none
     by v false x shown off = off
 
 -- one flow more
-pub wholes_pushed : (f : Flat) (a b : Diagrams) (w : Wholes) (t : Term) → length w.flows < length f.flows → AreWholes f a.nodes w → IsFlowAs f a b (length w.flows) t.parts
+pub wholes_pushed : (f : Flat) (a b : Diagrams) (w : Wholes) (t : Term) → length w.flows < length f.flows → AreWholes f a.nodes w
+    → IsFlowAs f a b (length w.flows) t.parts
     → AreWholes f b.nodes (record w { flows = w.flows ++ t ∷ [] })
 wholes_pushed f a b w t low are flow =
     let kept : AreWholes f b.nodes w = wholes_kept f a b w flow.extends are in
@@ -244,7 +250,8 @@ wholes_pushed f a b w t low are flow =
       given_shows = kept.given_shows;
       few_flows = omega (arith, long);
       flows = λ k lt. elim (cases_lt k n) [
-        | inl below ↦ subst (λ (u : Term). IsWithin b.nodes (columns_of f) (slice_index_or (weights_of f) k 0) u.parts) (sym (before k below)) (kept.flows k below)
+        | inl below ↦ subst (λ (u : Term). IsWithin b.nodes (columns_of f) (slice_index_or (weights_of f) k 0) u.parts) (sym (before k below))
+            (kept.flows k below)
         | inr le ↦
             let same : n ≡ k = omega (arith, long) in
             subst (λ i. IsWithin b.nodes (columns_of f) (slice_index_or (weights_of f) i 0) (parts_at more i)) same
@@ -291,12 +298,14 @@ module _ (f : Flat) (m : ℕ) (low : m < length (system_of f).memories) where
   pub table_fits : IsWell (system_of f)
       → Fits (system_of f) (length (system_of f).flows) (table_of f.memories m).clock (kind_at (memory_kinds (system_of f)) m) (table_of f.memories m).body
   table_fits well =
-      subst (λ (x : Item). Fits (system_of f) (length (system_of f).flows) x.clock (kind_at (memory_kinds (system_of f)) m) x.body) table_item (well.memories m low).1
+      subst (λ (x : Item). Fits (system_of f) (length (system_of f).flows) x.clock (kind_at (memory_kinds (system_of f)) m) x.body) table_item
+      (well.memories m low).1
 
   pub table_named : IsWell (system_of f) → IsNamed (length (system_of f).flows) (table_of f.memories m).clock
   table_named well = subst (λ (x : Item). IsNamed (length (system_of f).flows) x.clock) table_item (well.memories m low).0
 
-pub updates_none : (f : Flat) (a : Diagrams) (m : ℕ) (terms : List Term) → m ≡ 0 → rank (memory_kinds (system_of f)) 0 ≡ 0 → terms ≡ [] → AreUpdatesTo f a a m terms
+pub updates_none : (f : Flat) (a : Diagrams) (m : ℕ) (terms : List Term) → m ≡ 0 → rank (memory_kinds (system_of f)) 0 ≡ 0 → terms ≡ []
+    → AreUpdatesTo f a a m terms
 updates_none f a m terms e first is = record {
   extends = extends_refl a;
   many = ap (λ (l : List Term). length l) is ∙ sym first ∙ ap (rank (memory_kinds (system_of f))) (sym e);
@@ -370,14 +379,16 @@ updates_all f a b m terms well full last are = record {
       let one = are.each k lt in
       let low : one.0 < length (system_of f).memories = omega (arith, one.1) in
       let weight = light_weight (weights_of f) (table_of f.memories one.0).body (table_light f one.0 low) in
-      within_more b.nodes (columns_of f) (max (weight_in f (table_of f.memories one.0).body) 1) heaviest (parts_at terms k) (omega (arith, weight)) one.4.within;
+      within_more b.nodes (columns_of f) (max (weight_in f (table_of f.memories one.0).body) 1) heaviest (parts_at terms k)
+      (omega (arith, weight)) one.4.within;
   becomes = λ k v lt.
       let one = are.each k lt in
       let low : one.0 < length (system_of f).memories = omega (arith, one.1) in
       let many = length-map (system_of f).memories (λ x. x.kind) in
       let w = named f v in
       let row = symbolic (system_of f) w in
-      let shown : updated (system_of f) w row one.0 ≡ Linear (form_at b.nodes (parts_at terms k) v) = one.4.shows v row low one.2 (is_symbolic (system_of f) w well) in
+      let shown : updated (system_of f) w row one.0 ≡ Linear (form_at b.nodes (parts_at terms k) v) = one.4.shows v row low one.2
+      (is_symbolic (system_of f) w well) in
       let form : Form = form_of (width (system_of f)) w.test (updated (system_of f) w row one.0) in
       let is : slice_index_or (updates (system_of f) w row) (rank (memory_kinds (system_of f)) one.0) (constant_form (width (system_of f)) (pos 0)) ≡ form =
       forms_kth (memory_kinds (system_of f)) (λ i. form_of (width (system_of f)) w.test (updated (system_of f) w row i)) one.0

@@ -3,7 +3,8 @@ use Rattle.std.proofs.Common.{◌≡◌, ℕ, ◌≤◌, ℤ, sym, ◌∙◌, ap
 use Rattle.std.proofs.Common.{None as Nothing}
 use Rattle.rv_tree.specs.declared.tree.Op.{Op}
 use Rattle.rv_agreement.specs.Agreement.{IsNamed}
-use Rattle.rv_agreement.specs.Trees.{FlatTree, Node, TreeForm, FlatTrees, Constant, Flow, Memory, Ticked, Input, Not, Binary, Scale, If, AtMostOne, When, Current, None, More}
+use Rattle.rv_agreement.specs.Trees.{FlatTree, Node, TreeForm, FlatTrees, Constant, Flow, Memory, Ticked, Input, Not, Binary, Scale, If, AtMostOne, When}
+use Rattle.rv_agreement.specs.Trees.{Current, None, More}
 use Rattle.rv_flat.specs.declared.parts.FlatExpr.{FlatExpr}
 use Rattle.rv_flat.specs.declared.parts.FlatForm.{FlatForm}
 use Rattle.rv_flat.specs.declared.parts.FlatForm.TheOpen as step
@@ -23,7 +24,8 @@ raw_form = fold-FlatForm RawForm RawTree form_of (λ e. raw.Node e.at.sites e.fo
 raw_out : (e : FlatExpr) → raw_tree e ≡ raw.Node e.at.sites (raw_form e.form)
 raw_out e = fold_out-FlatExpr RawForm RawTree form_of (λ e. raw.Node e.at.sites e.form) e
 
-whole : (x : Around) (e : FlatExpr) (shape : RawForm) → raw_form e.form ≡ shape → tree_in x e ≡ inlined (table_of x.flat.now.memories) (raw.Node e.at.sites shape)
+whole : (x : Around) (e : FlatExpr) (shape : RawForm) → raw_form e.form ≡ shape
+    → tree_in x e ≡ inlined (table_of x.flat.now.memories) (raw.Node e.at.sites shape)
 whole x e shape is = ap (inlined (table_of x.flat.now.memories)) (raw_out e ∙ ap (raw.Node e.at.sites) is)
 
 pub tree_flow : (x : Around) (e : FlatExpr) (n : ℕ) → e.form ≡ form.Flow n → tree_in x e ≡ Node e.at.sites (Flow n)

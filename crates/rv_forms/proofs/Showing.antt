@@ -20,7 +20,8 @@ use Rattle.rv_terms.specs.declared.parted.Part.{Part}
 use Rattle.rv_terms.specs.Parts.{form_at, IsTermOf}
 use Rattle.rv_agreement.specs.Agreement.{Fits, HasKind, IsRule, IsNamed, IsWell}
 use Rattle.rv_agreement.specs.Evaluation.{held, is_on, nth}
-use Rattle.rv_agreement.specs.Trees.{FlatTree, Node, FlatTrees, Constant, Flow, Memory, Ticked, Input, Not, Binary, Scale, If, AtMostOne, When, Current, Item, nth_item, memory_items, memory_kinds, kind_at}
+use Rattle.rv_agreement.specs.Trees.{FlatTree, Node, FlatTrees, Constant, Flow, Memory, Ticked, Input, Not, Binary, Scale, If, AtMostOne, When, Current, Item}
+use Rattle.rv_agreement.specs.Trees.{nth_item, memory_items, memory_kinds, kind_at}
 use Rattle.rv_agreement.specs.Valuations.{Reading, Truth, Name, Linear, holds_true, is_linear, form_of, operated, reads_at, read, updated, IsSymbolic}
 use Rattle.rv_flat.specs.declared.flat.Flat.{Flat}
 use Rattle.rv_flat.specs.Facts.{weight_under, flat_weight}
@@ -45,7 +46,8 @@ no_flag e = absurd (grind arith)
 
 -- CONSTANTS
 
-constant_weighs : (columns : ℕ) (ws : List ℕ) (at : Sites) (c : Value) → IsBounded columns (flat_weight ws (Node at (Constant c))) (constant_form columns (whole_number c))
+constant_weighs : (columns : ℕ) (ws : List ℕ) (at : Sites) (c : Value)
+    → IsBounded columns (flat_weight ws (Node at (Constant c))) (constant_form columns (whole_number c))
 constant_weighs columns ws at (Flag b) = zero_bounded columns 0
 constant_weighs columns ws at (Label l) = zero_bounded columns 0
 constant_weighs columns ws at (Whole z) = constant_bounded columns z
@@ -66,7 +68,8 @@ reads_constant f d at c parts is = record {
     by (Whole z) has exact v row = ap Linear (sym (exact v))
 
 -- what is no integer
-pub reads_none : (f : Flat) (d : Diagrams) (t : FlatTree) (parts : List Part) → IsTermOf d.nodes (columns_of f) (λ v. constant_form (columns_of f) (pos 0)) parts
+pub reads_none : (f : Flat) (d : Diagrams) (t : FlatTree) (parts : List Part)
+    → IsTermOf d.nodes (columns_of f) (λ v. constant_form (columns_of f) (pos 0)) parts
     → ((k : Option ℕ) → Fits (system_of f) (length (system_of f).flows) k kind.Int t → ⊥) → ReadsAs f d d t parts
 reads_none f d t parts is none = record {
   extends = extends_refl d;
@@ -192,7 +195,8 @@ reads_input f d at j t w parts tables are here past = elim (cases_lt j (length w
   | inr le ↦ reads_none f d (Node at (Input j)) parts (past le) (λ k fits. let e = are.many_given in let h = fits.0 in omega (arith, e, h, le))
 ]
 
-pub reads_when : (f : Flat) (a b : Diagrams) (at : Sites) (c : ℕ) (e : FlatTree) (parts : List Part) → ReadsAs f a b e parts → ReadsAs f a b (Node at (When c e)) parts
+pub reads_when : (f : Flat) (a b : Diagrams) (at : Sites) (c : ℕ) (e : FlatTree) (parts : List Part) → ReadsAs f a b e parts
+    → ReadsAs f a b (Node at (When c e)) parts
 reads_when f a b at c e parts r = record {
   extends = r.extends;
   within = r.within;
@@ -293,7 +297,8 @@ module _ (f : Flat) (a b c d : Diagrams) (at : Sites) (o : Op) (e g : FlatTree) 
   pub reads_binary : ReadsAs f a d (Node at (Binary o e g)) parts
   reads_binary = record {
     extends = extends_trans a c d (extends_trans a b c first.extends second.extends) made.extends;
-    within = term_within d.nodes (columns_of f) (weight_in f (Node at (Binary o e g))) (λ v. combined_form o (form_at c.nodes left v) (form_at c.nodes right v)) parts
+    within = term_within d.nodes (columns_of f) (weight_in f (Node at (Binary o e g))) (λ v. combined_form o (form_at c.nodes left v) (form_at c.nodes right v))
+        parts
         made.is (combined_bounded o is_whole);
     shows = λ v row k instant fits there.
         let whole : fits.0 ≡ kind.Int = operand_kind o fits.0 is_whole fits.1 in
@@ -339,7 +344,8 @@ reads_if f a b c d h at e g i test one other parts r first second made same =
       extends = extends_trans a d h (extends_trans a c d (extends_trans a b c r.extends bc) cd) made.extends;
       within = term_within h.nodes (columns_of f) (weight_in f (Node at (If e g i)))
           (λ v. cond (value_of d.nodes (ref_at test 0) v) (form_at d.nodes one v) (form_at d.nodes other v)) parts made.is
-          (λ v. chosen_bounded (columns_of f) (weight_in f g) (weight_in f i) (value_of d.nodes (ref_at test 0) v) (form_at d.nodes one v) (form_at d.nodes other v)
+          (λ v. chosen_bounded (columns_of f) (weight_in f g) (weight_in f i) (value_of d.nodes (ref_at test 0) v) (form_at d.nodes one v)
+          (form_at d.nodes other v)
           (form_bounded d.nodes (columns_of f) (weight_in f g) one one_in v) (form_bounded d.nodes (columns_of f) (weight_in f i) other second.within v));
       shows = λ v row k instant fits there.
           let truth : read (system_of f) (named f v) row e ≡ Truth (bit b.nodes test v 0) =

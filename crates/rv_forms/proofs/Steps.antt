@@ -96,7 +96,8 @@ module _ (x : Around) (w : Wholes) (d : Diagrams) (shown : List (Option (List �
 
   pub not_step : (a : FlatExpr) → e.form ≡ form.Not a → Zero → Done
   not_step a is made = as_tree _ (tree_not x e a is)
-      (reads_none x.flat.now d (Node e.at.sites (Not (tree_in x a))) parts (zero_here x w d parts ready.wholes made) (no_not x.flat.now e.at.sites (tree_in x a)))
+      (reads_none x.flat.now d (Node e.at.sites (Not (tree_in x a))) parts (zero_here x w d parts ready.wholes made)
+      (no_not x.flat.now e.at.sites (tree_in x a)))
 
   pub most_step : (es : List FlatExpr) → e.form ≡ form.AtMostOne es → Zero → Done
   most_step es is made = as_tree _ (tree_most x e es is)
@@ -104,7 +105,8 @@ module _ (x : Around) (w : Wholes) (d : Diagrams) (shown : List (Option (List �
       (no_most x.flat.now e.at.sites (trees_in x es)))
 
 -- what an operator that gives no integer is read into
-pub operator_step : (x : Around) (w : Wholes) (d : Diagrams) (shown : List (Option (List ℕ))) (known : List (Option Term)) (o : Op) (a b : FlatExpr) (parts : List Part)
+pub operator_step : (x : Around) (w : Wholes) (d : Diagrams) (shown : List (Option (List ℕ))) (known : List (Option Term)) (o : Op) (a b : FlatExpr)
+    (parts : List Part)
     → IsReady d x w shown known → gives_whole o ≡ false → ((nodes : List Triple) → IsTermOf nodes w.columns (λ v. constant_form w.columns (pos 0)) parts)
     → (at : Sites) → ReadsAs x.flat.now d d (Node at (Binary o (tree_in x a) (tree_in x b))) parts
 operator_step x w d shown known o a b parts ready none made at =

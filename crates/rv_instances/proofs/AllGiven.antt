@@ -29,19 +29,23 @@ module _ (p : ProgramTree) (main : Identifier) (instances : List Numbered) (know
   flow_places = are_flow_places p main known.named known.declared known.sited instances known.all
 
   -- two numbers of one place are one
-  pub one_place : (j k : ℕ) → j < length (all_places p instances) → k < length (all_places p instances) → place_at (all_places p instances) j ≡ place_at (all_places p instances) k → j ≡ k
+  pub one_place : (j k : ℕ) → j < length (all_places p instances) → k < length (all_places p instances)
+      → place_at (all_places p instances) j ≡ place_at (all_places p instances) k → j ≡ k
   one_place j k lt less e = elim (cases_eq j k) [
     | inl same ↦ same
     | inr other ↦ elim (nat_split j k) [
-      | inl before ↦ absurd (not_itself (place_at (all_places p instances) k) (subst (λ q. IsBefore q (place_at (all_places p instances) k)) e (flow_places.rising j k before less)))
-      | inr ge ↦ absurd (not_itself (place_at (all_places p instances) j) (subst (λ q. IsBefore q (place_at (all_places p instances) j)) (sym e) (flow_places.rising k j (omega (arith, ge, other)) lt)))
+      | inl before ↦ absurd (not_itself (place_at (all_places p instances) k)
+          (subst (λ q. IsBefore q (place_at (all_places p instances) k)) e (flow_places.rising j k before less)))
+      | inr ge ↦ absurd (not_itself (place_at (all_places p instances) j)
+          (subst (λ q. IsBefore q (place_at (all_places p instances) j)) (sym e) (flow_places.rising k j (omega (arith, ge, other)) lt)))
     ]
   ]
 
   module _ (table : List ((ℕ × ℕ) × ℕ)) (callees : AreCallees instances table) (found : List (Option Told))
       (inputs : (j : ℕ) → j < length (node_of p main).inputs → IsGiven found j)
       (rights : (m : ℕ) (x : Identifier) (r : Right) → m < length instances → IsRight (node_at p instances m) x r → IsGiven found (number_at p instances m x))
-      (arguments : (m : ℕ) (c : CallTree) (j : ℕ) (e : Tree) → m < length instances → Contains (calls (node_at p instances m)) c → IsArgument c.args j e → IsGiven found (first_of p instances (callee_or_main table m c.site) + j)) where
+      (arguments : (m : ℕ) (c : CallTree) (j : ℕ) (e : Tree) → m < length instances → Contains (calls (node_at p instances m)) c → IsArgument c.args j e
+      → IsGiven found (first_of p instances (callee_or_main table m c.site) + j)) where
     -- what has a giver, by its number
     given_at : (k : ℕ) (f : Giver) → k < length (all_places p instances) → Gives p main (place_at (all_places p instances) k) f → IsGiven found k
     given_at k _ lt (by_input j within e) =
@@ -54,7 +58,8 @@ module _ (p : ProgramTree) (main : Identifier) (instances : List Numbered) (know
         let flow = ((known.well.formed i.node (node_in p main instances known i is)).left x r right).0 in
         let site = flow_site p main instances known i.node x (node_in p main instances known i is) flow in
         let at = site_placed p main instances known m.0 i (site_of i.node x) m.1 is m.2 site in
-        let number : number_at p instances m.0 x ≡ first_of p instances m.0 + site_of i.node x = ap (λ (n : NodeTree). first_of p instances m.0 + site_of n x) node in
+        let number : number_at p instances m.0 x ≡ first_of p instances m.0 + site_of i.node x = ap (λ (n : NodeTree). first_of p instances m.0 + site_of n x)
+        node in
         subst (IsGiven found) (number ∙ one_place (first_of p instances m.0 + site_of i.node x) k at.0 lt (at.1 ∙ e))
         (rights m.0 x r m.1 (subst (λ (n : NodeTree). IsRight n x r) (sym node) right))
     given_at k _ lt (by_call i c j e is w arg at_place) =
@@ -63,15 +68,18 @@ module _ (p : ProgramTree) (main : Identifier) (instances : List Numbered) (know
         let to = callee_number p main instances known table callees m.0 i c m.1 is m.2 w in
         let input = (known.well.formed i.node (node_in p main instances known i is)).no_more c j e w arg in
         let among = inputs_among (node_of p c.name) in
-        let at = site_placed p main instances known (callee_or_main table m.0 c.site) (callee p i c) j to.0 (is_callee c is w) to.1 (omega (arith, input, among)) in
-        subst (IsGiven found) (one_place (first_of p instances (callee_or_main table m.0 c.site) + j) k at.0 lt (at.1 ∙ append_assoc i.path (c.site ∷ []) (j ∷ []) ∙ at_place))
+        let at = site_placed p main instances known (callee_or_main table m.0 c.site) (callee p i c) j to.0 (is_callee c is w) to.1
+        (omega (arith, input, among)) in
+        subst (IsGiven found) (one_place (first_of p instances (callee_or_main table m.0 c.site) + j) k at.0 lt
+        (at.1 ∙ append_assoc i.path (c.site ∷ []) (j ∷ []) ∙ at_place))
         (arguments m.0 c j e m.1 (subst (λ (n : NodeTree). Contains (calls n) c) (sym node) w) arg)
 
     pub all_given : (k : ℕ) → k < length (all_places p instances) → IsGiven found k
     all_given k lt = let f = flow_giver p main instances known (place_at (all_places p instances) k) (flow_places.only k lt) in given_at k f.0 lt f.1
 
   -- and nothing else gives them
-  pub are_givers : (found : List (Option Told)) (givers : List Told) → AreGiven p main instances found → map Some givers ≡ found → AreGivers p main instances givers
+  pub are_givers : (found : List (Option Told)) (givers : List Told) → AreGiven p main instances found → map Some givers ≡ found
+      → AreGivers p main instances givers
   are_givers found givers so_far is = record {
     size = size;
     each = λ k lt. flow_giver p main instances known (place_at (all_places p instances) k) (flow_places.only k (within k lt));

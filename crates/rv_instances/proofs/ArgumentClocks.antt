@@ -7,7 +7,8 @@ use Rattle.rv_types.specs.declared.typed.Clock.TheVariants.{Base}
 use Rattle.rv_types.specs.declared.fault.Pace.{Pace}
 use Rattle.rv_types.specs.declared.fault.Pace.TheVariants.{Free, At, Mute, Differ}
 use Rattle.rv_types.specs.Clocks.{clock_at, pace, pace_of_all}
-use Rattle.rv_types.specs.Names.{is_declared, node_names, is_value, names_in_node, name_faults, repeated, decl_names, decls, lefts, undefined_unless, flow_use, clock_use, equation_uses, assertion_uses, node_uses}
+use Rattle.rv_types.specs.Names.{is_declared, node_names, is_value, names_in_node, name_faults, repeated, decl_names, decls, lefts, undefined_unless, flow_use}
+use Rattle.rv_types.specs.Names.{clock_use, equation_uses, assertion_uses, node_uses}
 use Rattle.rv_types.specs.Instances.{CallTree, calls, taken, clock_of_args}
 use Rattle.rv_instances.specs.Flowing.{IsKnownClock, IsKnownPace}
 use Rattle.rv_instances.proofs.Known.{split_nil, each_nil, parts_named}
@@ -48,4 +49,5 @@ module _ (p : ProgramTree) (named : name_faults p ≡ []) (n : NodeTree) (there 
   -- and of the arguments of a call
   pub arguments_clock_known : (c : CallTree) → Contains (calls n) c → IsKnownClock n (clock_of_args n c.args)
   arguments_clock_known c w =
-      taken_known n Base (pace_of_all n c.args) tt (all_known n (is_value p n) (is_declared (node_names p)) flow_clock_known c.args (call_known p named n there c w))
+      taken_known n Base (pace_of_all n c.args) tt (all_known n (is_value p n) (is_declared (node_names p)) flow_clock_known c.args
+      (call_known p named n there c w))

@@ -1,5 +1,6 @@
 -- The numbers of the flows of base clocks.
-use Rattle.std.proofs.Common.{◌≡◌, ℕ, ◌+◌, ◌<◌, ◌≤◌, ◌^◌, ◌⊎◌, inl, inr, List, [], ◌∷◌, ◌++◌, length, get_or, replicate, set, zero, suc, Option, refl, sym, ◌∙◌, ap, subst, arith, None as Nothing, unwrap_or}
+use Rattle.std.proofs.Common.{◌≡◌, ℕ, ◌+◌, ◌<◌, ◌≤◌, ◌^◌, ◌⊎◌, inl, inr, List, [], ◌∷◌, ◌++◌, length, get_or, replicate, set, zero, suc, Option, refl, sym, ◌∙◌}
+use Rattle.std.proofs.Common.{ap, subst, arith, None as Nothing, unwrap_or}
 use Rattle.std.specs.List.{Contains}
 use Rattle.std.proofs.lemmas.List.{get_or-set_other, get_or-set_same}
 use Rattle.std.proofs.lemmas.Bool.{cases_eq}
@@ -32,7 +33,8 @@ module _ (p : ProgramTree) (main : Identifier) (instances : List Numbered) (know
       let few = known.few in
       omega (arith, h, few, lt)
 
-  pub clock_within : (m : ℕ) (i : Instance) (k : Clock) → m < length instances → IsInstance p main i → get_or instances m no_instance ≡ numbered p i → IsKnownClock i.node k → IsWithin (flows_before (flow_count p instances) m) k
+  pub clock_within : (m : ℕ) (i : Instance) (k : Clock) → m < length instances → IsInstance p main i → get_or instances m no_instance ≡ numbered p i
+      → IsKnownClock i.node k → IsWithin (flows_before (flow_count p instances) m) k
   clock_within m i Base lt is e within = tt
   clock_within m i (On s) lt is e within =
       let h = first_few m lt in
@@ -41,8 +43,10 @@ module _ (p : ProgramTree) (main : Identifier) (instances : List Numbered) (know
       omega (arith, h, few, size, within)
 
   -- the flow of a clock of an instance
-  pub clock_placed : (m : ℕ) (i : Instance) (b : Option ℕ) (k : Clock) → m < length instances → IsInstance p main i → get_or instances m no_instance ≡ numbered p i → IsKnownClock i.node k
-      → IsClockPlaced (all_places p instances) b i.base → IsClockPlaced (all_places p instances) (number_of (flows_before (flow_count p instances) m) b k) (absolute i k)
+  pub clock_placed : (m : ℕ) (i : Instance) (b : Option ℕ) (k : Clock) → m < length instances → IsInstance p main i
+      → get_or instances m no_instance ≡ numbered p i → IsKnownClock i.node k
+      → IsClockPlaced (all_places p instances) b i.base → IsClockPlaced (all_places p instances) (number_of (flows_before (flow_count p instances) m) b k)
+      (absolute i k)
   clock_placed m i b Base lt is e within placed = placed
   clock_placed m i b (On s) lt is e within placed =
       let size = count_is m i is e in
@@ -51,16 +55,19 @@ module _ (p : ProgramTree) (main : Identifier) (instances : List Numbered) (know
 
   module _ (table : List ((ℕ × ℕ) × ℕ)) (callees : AreCallees instances table) where
     -- the number of what a call gives
-    pub callee_number : (m : ℕ) (i : Instance) (c : CallTree) → m < length instances → IsInstance p main i → get_or instances m no_instance ≡ numbered p i → Contains (calls i.node) c
+    pub callee_number : (m : ℕ) (i : Instance) (c : CallTree) → m < length instances → IsInstance p main i → get_or instances m no_instance ≡ numbered p i
+        → Contains (calls i.node) c
         → (callee_or_main table m c.site < length instances) × (get_or instances (callee_or_main table m c.site) no_instance ≡ numbered p (callee p i c))
     callee_number m i c lt is e w =
         let k = number_at p main instances known (callee p i c) (is_callee c is w) in
-        let told = callees.found m c.site k.0 lt k.1 (path_is p main instances known k.0 (callee p i c) k.2 ∙ ap (λ q. q ++ c.site ∷ []) (sym (path_is p main instances known m i e))) in
+        let told = callees.found m c.site k.0 lt k.1 (path_is p main instances known k.0 (callee p i c) k.2
+        ∙ ap (λ q. q ++ c.site ∷ []) (sym (path_is p main instances known m i e))) in
         let is_k : callee_or_main table m c.site ≡ k.0 = ap (λ o. unwrap_or o 0) told in
         let less = k.1 in
         (omega (arith, is_k, less), ap (λ j. get_or instances j no_instance) is_k ∙ k.2)
 
-    module _ (m : ℕ) (i : Instance) (b : Option ℕ) (lt : m < length instances) (is : IsInstance p main i) (e : get_or instances m no_instance ≡ numbered p i) (own : IsClockPlaced (all_places p instances) b i.base) where
+    module _ (m : ℕ) (i : Instance) (b : Option ℕ) (lt : m < length instances) (is : IsInstance p main i) (e : get_or instances m no_instance ≡ numbered p i)
+        (own : IsClockPlaced (all_places p instances) b i.base) where
       -- one base clock more
       pub base_set : (bases new : List (Option ℕ)) (c : CallTree) (k : ℕ) → length bases ≡ length instances → Contains (calls i.node) c
           → new ≡ set bases (callee_or_main table m c.site) (number_of (flows_before (flow_count p instances) m) b (clock_of_args i.node c.args))
@@ -70,26 +77,33 @@ module _ (p : ProgramTree) (main : Identifier) (instances : List Numbered) (know
             let to = callee_number m i c lt is e w in
             let less = to.0 in
             let at : k < length bases = omega (arith, less, here, size) in
-            let same_one : callee p i c ≡ a = same_at p main instances known k (callee p i c) a (is_callee c is w) js (ap (λ j. get_or instances j no_instance) here ∙ to.1) f in
+            let same_one : callee p i c ≡ a = same_at p main instances known k (callee p i c) a (is_callee c is w) js
+            (ap (λ j. get_or instances j no_instance) here ∙ to.1) f in
             let value : get_or new k Nothing ≡ number_of (flows_before (flow_count p instances) m) b (clock_of_args i.node c.args) =
-            ap (λ l. get_or l k Nothing) (is_new ∙ ap (λ j. set bases j (number_of (flows_before (flow_count p instances) m) b (clock_of_args i.node c.args))) (sym here))
+            ap (λ l. get_or l k Nothing) (is_new ∙ ap (λ j. set bases j (number_of (flows_before (flow_count p instances) m) b (clock_of_args i.node c.args)))
+            (sym here))
             ∙ get_or-set_same bases k (number_of (flows_before (flow_count p instances) m) b (clock_of_args i.node c.args)) Nothing at in
             subst (λ o. IsClockPlaced (all_places p instances) o a.base) (sym value)
-            (subst (λ (j : Instance). IsClockPlaced (all_places p instances) (number_of (flows_before (flow_count p instances) m) b (clock_of_args i.node c.args)) j.base) same_one
-            (clock_placed m i b (clock_of_args i.node c.args) lt is e (arguments_clock_known p known.named i.node (node_in p main instances known i is) c w) own))
+            (subst (λ (j : Instance). IsClockPlaced (all_places p instances)
+            (number_of (flows_before (flow_count p instances) m) b (clock_of_args i.node c.args)) j.base) same_one
+            (clock_placed m i b (clock_of_args i.node c.args) lt is e (arguments_clock_known p known.named i.node (node_in p main instances known i is) c w)
+            own))
         | inr other ↦ elim which [
           | inl here ↦ absurd (other here)
           | inr before ↦
               let value : get_or new k Nothing ≡ get_or bases k Nothing =
-              ap (λ l. get_or l k Nothing) is_new ∙ get_or-set_other bases (callee_or_main table m c.site) k (number_of (flows_before (flow_count p instances) m) b (clock_of_args i.node c.args)) Nothing other in
+              ap (λ l. get_or l k Nothing) is_new ∙ get_or-set_other bases (callee_or_main table m c.site) k
+              (number_of (flows_before (flow_count p instances) m) b (clock_of_args i.node c.args)) Nothing other in
               subst (λ o. IsClockPlaced (all_places p instances) o a.base) (sym value) (before a js f)
         ]
       ]
 
   module _ (m : ℕ) (i : Instance) (is : IsInstance p main i) (e : get_or instances m no_instance ≡ numbered p i) where
     -- what has the path of the instance and one site more is called by it
-    pub call_at : (k s : ℕ) → k < length instances → path_at instances k ≡ path_at instances m ++ s ∷ [] → (c : CallTree) × Contains (calls i.node) c × (c.site ≡ s)
-    call_at k s less f = let a = instance_at p main instances known k less in found a.0 a.1 (sym (path_is p main instances known k a.0 a.2) ∙ f ∙ ap (λ q. q ++ s ∷ []) (path_is p main instances known m i e))
+    pub call_at : (k s : ℕ) → k < length instances → path_at instances k ≡ path_at instances m ++ s ∷ []
+        → (c : CallTree) × Contains (calls i.node) c × (c.site ≡ s)
+    call_at k s less f = let a = instance_at p main instances known k less in
+        found a.0 a.1 (sym (path_is p main instances known k a.0 a.2) ∙ f ∙ ap (λ q. q ++ s ∷ []) (path_is p main instances known m i e))
       where
         found : (a : Instance) → IsInstance p main a → a.path ≡ i.path ++ s ∷ [] → (c : CallTree) × Contains (calls i.node) c × (c.site ≡ s)
         found _ is_main g = absurd (not_empty i.path s [] g)
@@ -99,15 +113,18 @@ module _ (p : ProgramTree) (main : Identifier) (instances : List Numbered) (know
 
   -- the base clock of main has no flow
   pub main_base : (k : ℕ) (bases : List (Option ℕ)) → path_at instances k ≡ [] → get_or bases k Nothing ≡ Nothing → IsBaseOf p main instances bases k
-  main_base k bases none value i is e = subst (λ o. IsClockPlaced (all_places p instances) o i.base) (sym value) (at i is (sym (path_is p main instances known k i e) ∙ none))
+  main_base k bases none value i is e = subst (λ o. IsClockPlaced (all_places p instances) o i.base) (sym value)
+      (at i is (sym (path_is p main instances known k i e) ∙ none))
     where
       at : (i : Instance) → IsInstance p main i → i.path ≡ [] → IsClockPlaced (all_places p instances) Nothing i.base
       at _ is_main g = tt
       at _ (is_callee {i = j} c js w) g = absurd (not_empty j.path c.site [] (sym g))
 
   -- each instance but main has been called before
-  pub base_by_then : (bases : List (Option ℕ)) (m t : ℕ) → t < length instances → t ≤ m → ((k : ℕ) → path_at instances k ≡ [] → IsBaseOf p main instances bases k)
-      → ((j s k : ℕ) → j < m → k < length instances → path_at instances k ≡ path_at instances j ++ s ∷ [] → IsBaseOf p main instances bases k) → IsBaseOf p main instances bases t
+  pub base_by_then : (bases : List (Option ℕ)) (m t : ℕ) → t < length instances → t ≤ m
+      → ((k : ℕ) → path_at instances k ≡ [] → IsBaseOf p main instances bases k)
+      → ((j s k : ℕ) → j < m → k < length instances → path_at instances k ≡ path_at instances j ++ s ∷ [] → IsBaseOf p main instances bases k)
+      → IsBaseOf p main instances bases t
   base_by_then bases m t lt le none done = elim (snoc_view (path_at instances t)) [
     | inl empty ↦ none t empty
     | inr v ↦

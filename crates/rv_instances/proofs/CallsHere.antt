@@ -15,7 +15,8 @@ use Rattle.rv_instances.proofs.LaidFlows.{laid_is}
 use Rattle.rv_instances.proofs.ToldCalls.{call_listed, listed_call}
 use Rattle.rv_instances.proofs.Lists.{got}
 
-module _ (p : ProgramTree) (main : Identifier) (instances : List Numbered) (known : IsExpanded p main instances) (m : ℕ) (lt : m < length instances) (listed : List ClockedCall) (are : map told listed ≡ calls_told (node_at p instances m)) where
+module _ (p : ProgramTree) (main : Identifier) (instances : List Numbered) (known : IsExpanded p main instances) (m : ℕ) (lt : m < length instances)
+    (listed : List ClockedCall) (are : map told listed ≡ calls_told (node_at p instances m)) where
   pub call_of : (j : ℕ) (x : ClockedCall) → j < length listed → x ≡ get_or listed j x → IsCallOf p main instances m x
   call_of j x within is =
       let v = instance_at p main instances known m lt in
@@ -41,6 +42,7 @@ module _ (p : ProgramTree) (main : Identifier) (instances : List Numbered) (know
       (v.0, v.1, λ x. ap (λ (t : ToldCall). t.site) (v.2 x))
 
 -- what the layout has of an instance
-pub laid_read : (p : ProgramTree) (instances : List Numbered) (laid : List Laid) (m : ℕ) (l : Laid) → m < length instances → laid ≡ all_laid p instances (length instances) → slice_get laid m ≡ Some l → l ≡ laid_at p instances m
+pub laid_read : (p : ProgramTree) (instances : List Numbered) (laid : List Laid) (m : ℕ) (l : Laid) → m < length instances
+    → laid ≡ all_laid p instances (length instances) → slice_get laid m ≡ Some l → l ≡ laid_at p instances m
 laid_read p instances laid m l lt are is =
     sym (got laid m l l is) ∙ ap (λ (ls : List Laid). get_or ls m l) are ∙ laid_is p instances (length instances) m l lt

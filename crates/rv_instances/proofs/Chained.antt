@@ -1,5 +1,6 @@
 -- The chain of instances from main to the one that a walk over all has come to, and which call gives each.
-use Rattle.std.proofs.Common.{◌≡◌, ℕ, zero, suc, ◌+◌, ◌<◌, ◌≤◌, ◌⊎◌, inl, inr, true, false, ◌&&◌, cond, nat_eq, List, [], ◌∷◌, ◌++◌, length, get_or, take, Some, refl, sym, ◌∙◌, ap, subst, arith, length-append}
+use Rattle.std.proofs.Common.{◌≡◌, ℕ, zero, suc, ◌+◌, ◌<◌, ◌≤◌, ◌⊎◌, inl, inr, true, false, ◌&&◌, cond, nat_eq, List, [], ◌∷◌, ◌++◌, length, get_or, take, Some}
+use Rattle.std.proofs.Common.{refl, sym, ◌∙◌, ap, subst, arith, length-append}
 use Rattle.std.proofs.Math.ListN.{get_or-append}
 use Rattle.std.proofs.Math.Seq.{get_or-append_seam, take-append_seam, take-length}
 use Rattle.std.proofs.lemmas.List.{append-nil, take-append-le, length-take-le, get_or-take}
@@ -62,7 +63,8 @@ module _ (instances : List Numbered) (paths : ArePaths instances) where
     | inl same ↦ same
     | inr other ↦ elim (nat_split m k) [
       | inl before ↦ absurd (not_itself (path_at instances k) (subst (λ q. IsBefore q (path_at instances k)) e (paths.rising m k before less)))
-      | inr ge ↦ absurd (not_itself (path_at instances m) (subst (λ q. IsBefore q (path_at instances m)) (sym e) (paths.rising k m (omega (arith, ge, other)) lt)))
+      | inr ge ↦ absurd (not_itself (path_at instances m) (subst (λ q. IsBefore q (path_at instances m)) (sym e)
+          (paths.rising k m (omega (arith, ge, other)) lt)))
     ]
   ]
 
@@ -80,7 +82,8 @@ module _ (instances : List Numbered) (paths : ArePaths instances) where
       ]
 
   -- the instance before one begins with the path of what calls that one
-  before_begins : (t s : ℕ) (q : Sites) → t < length instances → path_at instances t ≡ q ++ s ∷ [] → (rest : Sites) × (path_before instances t ≡ q ++ rest) × (chain_size instances t ≡ length q + length rest + 1)
+  before_begins : (t s : ℕ) (q : Sites) → t < length instances → path_at instances t ≡ q ++ s ∷ []
+      → (rest : Sites) × (path_before instances t ≡ q ++ rest) × (chain_size instances t ≡ length q + length rest + 1)
   before_begins zero s q lt e = let w = caller_before 0 s q lt e in let less = w.1 in absurd (omega (arith, less))
   before_begins (suc t) s q lt e =
       let w = caller_before (suc t) s q lt e in
@@ -98,7 +101,8 @@ module _ (instances : List Numbered) (paths : ArePaths instances) where
 
   module _ (t : ℕ) (chain : List ℕ) (lt : t < length instances) (chained : IsChained instances t chain) where
     -- what calls the next instance is on the chain
-    pub on_chain : (q : Sites) (s : ℕ) → path_at instances t ≡ q ++ s ∷ [] → (length q < length chain) × (get_or chain (length q) 0 < t) × (path_at instances (get_or chain (length q) 0) ≡ q)
+    pub on_chain : (q : Sites) (s : ℕ) → path_at instances t ≡ q ++ s ∷ []
+        → (length q < length chain) × (get_or chain (length q) 0 < t) × (path_at instances (get_or chain (length q) 0) ≡ q)
     on_chain q s e =
         let b = before_begins t s q lt e in
         let size = chained.sized in
@@ -122,12 +126,14 @@ module _ (instances : List Numbered) (paths : ArePaths instances) where
     next_chain new is =
         let depth = length (path_at instances t) in
         let front : length (take depth chain) ≡ depth = length-take-le depth chain deep_enough in
-        let size : length new ≡ depth + 1 = ap length is ∙ length-append (take depth chain) (t ∷ []) ∙ (let e : length (take depth chain) + 1 ≡ depth + 1 = omega (arith, front) in e) in
+        let size : length new ≡ depth + 1 = ap length is ∙ length-append (take depth chain) (t ∷ [])
+        ∙ (let e : length (take depth chain) + 1 ≡ depth + 1 = omega (arith, front) in e) in
         subst (λ n. IsChained instances n new) (let e : suc t ≡ t + 1 = omega arith in e) (record {
           sized = size;
           on = λ d less. elim (cases_eq d depth) [
             | inl same ↦
-                let last : get_or new d 0 ≡ t = ap (λ l. get_or l d 0) is ∙ ap (λ k. get_or (take depth chain ++ t ∷ []) k 0) (same ∙ sym front) ∙ get_or-append_seam (take depth chain) t [] 0 in (
+                let last : get_or new d 0 ≡ t = ap (λ l. get_or l d 0) is ∙ ap (λ k. get_or (take depth chain ++ t ∷ []) k 0) (same ∙ sym front)
+                ∙ get_or-append_seam (take depth chain) t [] 0 in (
                   omega (arith, last),
                   ap (path_at instances) last ∙ sym (take-length (path_at instances t)) ∙ ap (λ k. take k (path_at instances t)) (sym same),
                 )
@@ -158,7 +164,8 @@ module _ (instances : List Numbered) (paths : ArePaths instances) where
 
     -- one more is told of
     pub next_told : (old new : List ((ℕ × ℕ) × ℕ)) → AreToldTo instances t old → (path_at instances t ≡ [] → new ≡ old)
-        → ((q : Sites) (s m u : ℕ) → path_at instances t ≡ q ++ s ∷ [] → callee_in new m u ≡ cond (nat_eq (get_or chain (length q) 0) m && nat_eq s u) (Some t) (callee_in old m u))
+        → ((q : Sites) (s m u : ℕ) → path_at instances t ≡ q ++ s ∷ []
+        → callee_in new m u ≡ cond (nat_eq (get_or chain (length q) 0) m && nat_eq s u) (Some t) (callee_in old m u))
         → AreToldTo instances (t + 1) new
     next_told old new told main called = elim (snoc_view (path_at instances t)) [
       | inl none ↦
@@ -180,7 +187,9 @@ module _ (instances : List Numbered) (paths : ArePaths instances) where
           record {
             found = λ m s k less below e. elim (both_tell caller m site s) [
               | inl both ↦
-                  let same : k ≡ t = one_number k t (omega (arith, below, lt)) lt (e ∙ ap (λ j. path_at instances j ++ s ∷ []) (sym both.1) ∙ ap (λ r. r ++ s ∷ []) caller_path ∙ ap (λ u. q ++ u ∷ []) (sym both.2) ∙ sym v.2) in
+                  let same : k ≡ t = one_number k t (omega (arith, below, lt)) lt
+                  (e ∙ ap (λ j. path_at instances j ++ s ∷ []) (sym both.1) ∙ ap (λ r. r ++ s ∷ []) caller_path ∙ ap (λ u. q ++ u ∷ []) (sym both.2)
+                  ∙ sym v.2) in
                   called q site m s v.2 ∙ ap (λ b. cond b (Some t) (callee_in old m s)) both.0 ∙ ap (λ j. Some j) (sym same)
               | inr apart ↦
                   called q site m s v.2 ∙ ap (λ b. cond b (Some t) (callee_in old m s)) apart.0
@@ -193,8 +202,10 @@ module _ (instances : List Numbered) (paths : ArePaths instances) where
                   ]) e
             ];
             within = λ m s k e. elim (both_tell caller m site s) [
-              | inl both ↦ let same : Some t ≡ Some k = sym (called q site m s v.2 ∙ ap (λ b. cond b (Some t) (callee_in old m s)) both.0) ∙ e in some_same k same
-              | inr apart ↦ let h = told.within m s k (sym (called q site m s v.2 ∙ ap (λ b. cond b (Some t) (callee_in old m s)) apart.0) ∙ e) in omega (arith, h)
+              | inl both ↦ let same : Some t ≡ Some k = sym (called q site m s v.2 ∙ ap (λ b. cond b (Some t) (callee_in old m s)) both.0)
+                  ∙ e in some_same k same
+              | inr apart ↦ let h = told.within m s k (sym (called q site m s v.2 ∙ ap (λ b. cond b (Some t) (callee_in old m s)) apart.0) ∙ e) in
+                  omega (arith, h)
             ];
           }
     ]

@@ -1,5 +1,6 @@
 -- The clocks of flows and expressions stand for no more than the flows of their node.
-use Rattle.std.proofs.Common.{ℕ, ◌+◌, ◌<◌, ◌≤◌, ◌^◌, inl, inr, Bool, true, false, cond, List, [], ◌∷◌, ◌++◌, map, length, get_or, sym, subst, arith, Option, Some, None as Nothing}
+use Rattle.std.proofs.Common.{ℕ, ◌+◌, ◌<◌, ◌≤◌, ◌^◌, inl, inr, Bool, true, false, cond, List, [], ◌∷◌, ◌++◌, map, length, get_or, sym, subst, arith, Option}
+use Rattle.std.proofs.Common.{Some, None as Nothing}
 use Rattle.std.specs.List.{Contains}
 use Rattle.std.proofs.lemmas.List.{get_or_past}
 use Rattle.std.proofs.lemmas.List.Elements.{Contains-get_or, Contains-append_cases}
@@ -7,13 +8,15 @@ use Rattle.rv_tree.specs.declared.tree.Name.{Name}
 use Rattle.rv_tree.specs.declared.tree.Decl.{Decl}
 use Rattle.rv_tree.specs.declared.tree.Op.{Op}
 use Rattle.rv_tree.specs.declared.tree.Op.TheVariants as op
-use Rattle.rv_tree.specs.Tree.{Tree, Node, Form, True, False, Number, Named, Not, Minus, Pre, Current, When, Binary, If, AtMostOne, Call, Trees, None, More, NodeTree}
+use Rattle.rv_tree.specs.Tree.{Tree, Node, Form, True, False, Number, Named, Not, Minus, Pre, Current, When, Binary, If, AtMostOne, Call, Trees, None, More}
+use Rattle.rv_tree.specs.Tree.{NodeTree}
 use Rattle.rv_tree.specs.Places.{Identifier, flows, site_of, is_flow, is_same, index_of}
 use Rattle.rv_types.specs.declared.typed.Clock.{Clock}
 use Rattle.rv_types.specs.declared.typed.Clock.TheVariants.{Base, On}
 use Rattle.rv_types.specs.declared.fault.Pace.{Pace}
 use Rattle.rv_types.specs.declared.fault.Pace.TheVariants.{Free, At, Mute, Differ}
-use Rattle.rv_types.specs.Clocks.{base_clock, declared_clock, flow_clocks, seen, meet, grounded, same_clock, clock_at, binary_pace, when_pace, current_pace, pace, form_pace, pace_of_all}
+use Rattle.rv_types.specs.Clocks.{base_clock, declared_clock, flow_clocks, seen, meet, grounded, same_clock, clock_at, binary_pace, when_pace, current_pace}
+use Rattle.rv_types.specs.Clocks.{pace, form_pace, pace_of_all}
 use Rattle.rv_types.specs.Instances.{taken}
 use Rattle.rv_types.specs.ToldPaces.{first_pace, operator_told, told_pace, form_told, told_pace_of_all}
 use Rattle.rv_instances.specs.Layouts.{IsWithin}
@@ -164,9 +167,11 @@ mutual
   form_told_low n (Pre t) = grounded_low n (told_pace n t) (told_low n t)
   form_told_low n (Current t) = current_low n (seen (told_pace n t))
   form_told_low n (When t x) = index_low (flows n) x.text
-  form_told_low n (Binary o a b) = operator_low n o (first_pace (told_pace n a) (told_pace n b)) (first_low n (told_pace n a) (told_pace n b) (told_low n a) (told_low n b))
+  form_told_low n (Binary o a b) = operator_low n o (first_pace (told_pace n a) (told_pace n b))
+      (first_low n (told_pace n a) (told_pace n b) (told_low n a) (told_low n b))
   form_told_low n (If i a b) =
-      first_low n (first_pace (told_pace n i) (told_pace n a)) (told_pace n b) (first_low n (told_pace n i) (told_pace n a) (told_low n i) (told_low n a)) (told_low n b)
+      first_low n (first_pace (told_pace n i) (told_pace n a)) (told_pace n b) (first_low n (told_pace n i) (told_pace n a) (told_low n i) (told_low n a))
+      (told_low n b)
   form_told_low n (AtMostOne es) = all_told_low n es
   form_told_low n (Call f es) = grounded_low n (told_pace_of_all n es) (all_told_low n es)
 

@@ -1,5 +1,6 @@
 -- The clocks of flows and expressions are flows of their node.
-use Rattle.std.proofs.Common.{◌≡◌, ℕ, ◌<◌, inl, inr, Bool, true, false, cond, List, [], ◌++◌, map, length, get_or, refl, sym, subst, Option, Some, None as Nothing}
+use Rattle.std.proofs.Common.{◌≡◌, ℕ, ◌<◌, inl, inr, Bool, true, false, cond, List, [], ◌++◌, map, length, get_or, refl, sym, subst, Option, Some}
+use Rattle.std.proofs.Common.{None as Nothing}
 use Rattle.std.specs.List.{Contains, flat_map}
 use Rattle.std.proofs.lemmas.List.{get_or_past}
 use Rattle.std.proofs.lemmas.List.Elements.{Contains-get_or, Contains-append_cases}
@@ -8,13 +9,15 @@ use Rattle.rv_tree.specs.declared.tree.Decl.{Decl}
 use Rattle.rv_types.specs.declared.fault.NameFault.{NameFault}
 use Rattle.rv_tree.specs.declared.tree.Op.{Op}
 use Rattle.rv_tree.specs.declared.tree.Op.TheVariants as op
-use Rattle.rv_tree.specs.Tree.{Tree, Node, Form, True, False, Number, Named, Not, Minus, Pre, Current, When, Binary, If, AtMostOne, Call, Trees, None, More, NodeTree}
+use Rattle.rv_tree.specs.Tree.{Tree, Node, Form, True, False, Number, Named, Not, Minus, Pre, Current, When, Binary, If, AtMostOne, Call, Trees, None, More}
+use Rattle.rv_tree.specs.Tree.{NodeTree}
 use Rattle.rv_tree.specs.Places.{Identifier, flows, site_of, is_flow}
 use Rattle.rv_types.specs.declared.typed.Clock.{Clock}
 use Rattle.rv_types.specs.declared.typed.Clock.TheVariants.{Base, On}
 use Rattle.rv_types.specs.declared.fault.Pace.{Pace}
 use Rattle.rv_types.specs.declared.fault.Pace.TheVariants.{Free, At, Mute, Differ}
-use Rattle.rv_types.specs.Clocks.{base_clock, declared_clock, flow_clocks, seen, meet, grounded, same_clock, clock_at, binary_pace, when_pace, current_pace, pace, form_pace, pace_of_all}
+use Rattle.rv_types.specs.Clocks.{base_clock, declared_clock, flow_clocks, seen, meet, grounded, same_clock, clock_at, binary_pace, when_pace, current_pace}
+use Rattle.rv_types.specs.Clocks.{pace, form_pace, pace_of_all}
 use Rattle.rv_types.specs.Names.{clock_use, uses, own_uses, use_of, use_at}
 use Rattle.rv_types.specs.Parts.{faults_of_all}
 use Rattle.rv_instances.specs.Flowing.{IsKnownClock, IsKnownPace}
@@ -111,7 +114,8 @@ module _ (n : NodeTree) (values nodes : Identifier → Bool) (declared : (i : �
         (meet_known n (seen (pace n a)) (seen (pace n b)) (seen_known n (pace n a) (pace_known a t.0)) (seen_known n (pace n b) (pace_known b t.1)))
     form_known at site (AtMostOne es) e = all_known es e
     form_known at site (Call f es) e =
-        grounded_known n (pace_of_all n es) (all_known es (split_nil (own_uses values (is_flow n) nodes (Node at site (Call f es))) (faults_of_all (own_uses values (is_flow n) nodes) es) e).1)
+        grounded_known n (pace_of_all n es) (all_known es (split_nil (own_uses values (is_flow n) nodes (Node at site (Call f es)))
+        (faults_of_all (own_uses values (is_flow n) nodes) es) e).1)
 
     pub all_known : (es : Trees) → faults_of_all (own_uses values (is_flow n) nodes) es ≡ [] → IsKnownPace n (pace_of_all n es)
     all_known None e = tt
@@ -134,7 +138,8 @@ module _ (n : NodeTree) where
       told true is e = (index_there (flows n) x.text is).0
       told false is e = cc
 
-  declared_known : (o : Option Name) → elim o as (λ _. List NameFault) [ Nothing ↦ [] | Some c ↦ use_of (is_flow n) c ] ≡ [] → IsKnownClock n (declared_clock n o)
+  declared_known : (o : Option Name) → elim o as (λ _. List NameFault) [ Nothing ↦ [] | Some c ↦ use_of (is_flow n) c ] ≡ []
+      → IsKnownClock n (declared_clock n o)
   declared_known Nothing e = tt
   declared_known (Some c) e = site_known c e
 
@@ -142,12 +147,13 @@ module _ (n : NodeTree) where
   clocks_known uses i = known_at (flow_clocks n) each i
     where
       each : (c : Clock) → Contains (flow_clocks n) c → IsKnownClock n c
-      each c w = elim (Contains-append_cases (map base_clock n.inputs ++ map base_clock n.outputs) (map (λ (d : Decl). declared_clock n d.clock) n.locals) c w) [
-        | inl front ↦ elim (Contains-append_cases (map base_clock n.inputs) (map base_clock n.outputs) c front) [
-          | inl v ↦ subst (IsKnownClock n) (of_map base_clock n.inputs c v).2 tt
-          | inr v ↦ subst (IsKnownClock n) (of_map base_clock n.outputs c v).2 tt
-        ]
-        | inr v ↦
-            let d = of_map (λ (d : Decl). declared_clock n d.clock) n.locals c v in
-            subst (IsKnownClock n) d.2 (declared_known d.0.clock (each_nil (clock_use n) n.locals uses d.0 d.1))
-      ]
+      each c w = elim (Contains-append_cases (map base_clock n.inputs ++ map base_clock n.outputs)
+          (map (λ (d : Decl). declared_clock n d.clock) n.locals) c w) [
+            | inl front ↦ elim (Contains-append_cases (map base_clock n.inputs) (map base_clock n.outputs) c front) [
+              | inl v ↦ subst (IsKnownClock n) (of_map base_clock n.inputs c v).2 tt
+              | inr v ↦ subst (IsKnownClock n) (of_map base_clock n.outputs c v).2 tt
+            ]
+            | inr v ↦
+                let d = of_map (λ (d : Decl). declared_clock n d.clock) n.locals c v in
+                subst (IsKnownClock n) d.2 (declared_known d.0.clock (each_nil (clock_use n) n.locals uses d.0 d.1))
+          ]

@@ -50,7 +50,8 @@ module _ (p : ProgramTree) (main : Identifier) (named : name_faults p ≡ []) (d
   same_instance _ _ (is_callee {i = j} d is w) (is_callee {i = b} c js v) e =
       let s = snoc_parts j.path b.path d.site c.site e in
       let caller = same_instance j b is js s.0 in
-      let call : d ≡ c = same_call b.node (sited b.node (instance_node p named main declared b js)) d c (subst (λ (i : Instance). Contains (calls i.node) d) caller w) v s.1 in
+      let call : d ≡ c = same_call b.node (sited b.node (instance_node p named main declared b js)) d c
+      (subst (λ (i : Instance). Contains (calls i.node) d) caller w) v s.1 in
       λ t. callee p (caller t) (call t)
 
 module _ (p : ProgramTree) (main : Identifier) (instances : List Numbered) (known : IsExpanded p main instances) where
@@ -79,7 +80,8 @@ module _ (p : ProgramTree) (main : Identifier) (instances : List Numbered) (know
     | inl same ↦ same
     | inr other ↦ elim (nat_split m k) [
       | inl before ↦ absurd (not_itself (path_at instances k) (subst (λ q. IsBefore q (path_at instances k)) e (known.all.rising m k no_instance before less)))
-      | inr ge ↦ absurd (not_itself (path_at instances m) (subst (λ q. IsBefore q (path_at instances m)) (sym e) (known.all.rising k m no_instance (omega (arith, ge, other)) lt)))
+      | inr ge ↦ absurd (not_itself (path_at instances m) (subst (λ q. IsBefore q (path_at instances m)) (sym e)
+          (known.all.rising k m no_instance (omega (arith, ge, other)) lt)))
     ]
   ]
 
@@ -87,7 +89,8 @@ module _ (p : ProgramTree) (main : Identifier) (instances : List Numbered) (know
   same = same_instance p main known.named known.declared known.sited
 
   -- two instances of one number are one
-  pub same_at : (m : ℕ) (i a : Instance) → IsInstance p main i → IsInstance p main a → get_or instances m no_instance ≡ numbered p i → get_or instances m no_instance ≡ numbered p a → i ≡ a
+  pub same_at : (m : ℕ) (i a : Instance) → IsInstance p main i → IsInstance p main a → get_or instances m no_instance ≡ numbered p i
+      → get_or instances m no_instance ≡ numbered p a → i ≡ a
   same_at m i a is js e f = same i a is js (sym (path_is m i e) ∙ path_is m a f)
 
   pub of_nodes : AreOfNodes p instances
@@ -95,13 +98,15 @@ module _ (p : ProgramTree) (main : Identifier) (instances : List Numbered) (know
       let v = known.all.only x w in
       let n = node_in v.0 v.1 in
       let there : get_or p.nodes n.0 no_node ≡ v.0.node = get_or_default p.nodes n.0 no_node v.0.node n.1 ∙ n.2 in
-      let is : x.node ≡ n.0 = ap (λ (y : Numbered). y.node) v.2 ∙ ap (λ (m : NodeTree). index_of (names_of p) m.name.text) (sym there) ∙ number_of_node p known.named n.0 n.1 in
+      let is : x.node ≡ n.0 = ap (λ (y : Numbered). y.node) v.2 ∙ ap (λ (m : NodeTree). index_of (names_of p) m.name.text) (sym there)
+      ∙ number_of_node p known.named n.0 n.1 in
       let lt = n.1 in
       omega (arith, is, lt)
 
   -- the node of the instance with a number is one of the program
   pub node_there : (m : ℕ) → m < length instances → Contains p.nodes (node_at p instances m)
-  node_there m lt = Contains-get_or p.nodes (get_or instances m no_instance).node no_node (of_nodes (get_or instances m no_instance) (Contains-get_or instances m no_instance lt))
+  node_there m lt = Contains-get_or p.nodes (get_or instances m no_instance).node no_node
+      (of_nodes (get_or instances m no_instance) (Contains-get_or instances m no_instance lt))
 
   -- and its flows are few
   pub node_few : (m : ℕ) → m < length instances → length (flows (node_at p instances m)) ≤ most
@@ -128,5 +133,6 @@ module _ (p : ProgramTree) (main : Identifier) (instances : List Numbered) (know
       let lt = root.1 in
       elim (cases_eq root.0 0) [
         | inl here ↦ (omega (arith, lt), ap (λ k. get_or instances k no_instance) (sym here) ∙ root.2)
-        | inr other ↦ absurd (subst (IsBefore (path_at instances 0)) (path_is root.0 (main_instance p main) root.2) (known.all.rising 0 root.0 no_instance (omega (arith, other)) lt))
+        | inr other ↦ absurd (subst (IsBefore (path_at instances 0)) (path_is root.0 (main_instance p main) root.2)
+            (known.all.rising 0 root.0 no_instance (omega (arith, other)) lt))
       ]

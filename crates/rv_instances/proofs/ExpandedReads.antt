@@ -15,7 +15,8 @@ use Rattle.rv_instances.proofs.ExpandedLaws.{of_nodes}
 
 module _ (x : Expanded) (known : IsKnown x) (m : ℕ) (v : Numbered) (lt : m < length x.instances.now) (is : slice_get x.instances.now m ≡ Some v) where
   in_tree : v.node < length (program_tree x.program.now).nodes
-  in_tree = of_nodes (program_tree x.program.now) (name_at (program_tree x.program.now) x.main) x.instances.now known.expanded v (m, lt, got x.instances.now m v v is)
+  in_tree = of_nodes (program_tree x.program.now) (name_at (program_tree x.program.now) x.main) x.instances.now known.expanded v
+      (m, lt, got x.instances.now m v v is)
 
   pub node_within : v.node < length x.program.now.nodes
   node_within = let size = length_map node_tree x.program.now.nodes in let h = in_tree in omega (arith, size, h)
@@ -51,9 +52,11 @@ module _ (x : Expanded) (known : IsKnown x) (m : ℕ) (v : Numbered) (lt : m < l
       let h = in_tree in
       omega (arith, size, other, same, h)
 
-  pub calls_read : (cs : List ClockedCall) → slice_get x.calls v.node ≡ Some cs → map told cs ≡ calls_told (node_at (program_tree x.program.now) x.instances.now m)
+  pub calls_read : (cs : List ClockedCall) → slice_get x.calls v.node ≡ Some cs
+      → map told cs ≡ calls_told (node_at (program_tree x.program.now) x.instances.now m)
   calls_read cs at =
-      sym (map_at (λ (ds : List ClockedCall). map told ds) x.calls v.node [] cs calls_within ∙ ap (λ (ds : List ClockedCall). map told ds) (got x.calls v.node cs cs at))
+      sym (map_at (λ (ds : List ClockedCall). map told ds) x.calls v.node [] cs calls_within
+      ∙ ap (λ (ds : List ClockedCall). map told ds) (got x.calls v.node cs cs at))
       ∙ ap (λ (l : List (List ToldCall)). get_or l v.node []) known.calls
       ∙ map_at calls_told (program_tree x.program.now).nodes v.node [] no_node in_tree
       ∙ ap calls_told at_node

@@ -48,7 +48,8 @@ same_call n has d e w v same =
     let k = w.0 in
     let m = v.0 in
     let at_m : get_or (calls n) m d ≡ e = get_or_default (calls n) m d e v.1 ∙ v.2 in
-    let sites : (get_or (calls n) k d).site ≡ (get_or (calls n) m d).site = ap (λ (c : CallTree). c.site) w.2 ∙ same ∙ sym (ap (λ (c : CallTree). c.site) at_m) in
+    let sites : (get_or (calls n) k d).site ≡ (get_or (calls n) m d).site = ap (λ (c : CallTree). c.site) w.2 ∙ same
+    ∙ sym (ap (λ (c : CallTree). c.site) at_m) in
     elim (cases_eq k m) [
       | inl here ↦ sym w.2 ∙ ap (λ i. get_or (calls n) i d) here ∙ at_m
       | inr other ↦ elim (nat_split k m) [
@@ -105,7 +106,8 @@ module _ (p : ProgramTree) (main : Identifier) (named : name_faults p ≡ []) (d
     no_flow = record { instance = 0; site = 0 }
 
     -- the instance of a number
-    known : (j : ℕ) → j < length instances → (i : Instance) × IsInstance p main i × ((get_or instances j (record { path = []; node = 0 })).path ≡ i.path) × (flow_count p instances j ≡ length (flows i.node))
+    known : (j : ℕ) → j < length instances → (i : Instance) × IsInstance p main i × ((get_or instances j (record { path = []; node = 0 })).path ≡ i.path)
+        × (flow_count p instances j ≡ length (flows i.node))
     known j lt =
         let w = are.only (get_or instances j (record { path = []; node = 0 })) (Contains-get_or instances j (record { path = []; node = 0 }) lt) in (
           w.0,
@@ -123,14 +125,17 @@ module _ (p : ProgramTree) (main : Identifier) (named : name_faults p ≡ []) (d
           get_or (flows w.0.node) f.site [],
           w.1,
           Contains-get_or (flows w.0.node) f.site [] inside,
-          ap (λ path. path ++ f.site ∷ []) w.2 ∙ ap (λ k. w.0.path ++ k ∷ []) (sym (site_itself p named w.0.node (instance_node p named main declared w.0 w.1) f.site inside)),
+          ap (λ path. path ++ f.site ∷ []) w.2 ∙ ap (λ k. w.0.path ++ k ∷ [])
+              (sym (site_itself p named w.0.node (instance_node p named main declared w.0 w.1) f.site inside)),
         )
 
     flow_there : (q : Sites) → IsFlow p main q → Contains (flow_places instances (all_flows p instances)) q
     flow_there q (i, x, inst, w, is) =
         let v = are.all i inst in
-        let at : get_or instances v.0 (record { path = []; node = 0 }) ≡ numbered p i = get_or_default instances v.0 (record { path = []; node = 0 }) (numbered p i) v.1 ∙ v.2 in
-        let many : flow_count p instances v.0 ≡ length (flows i.node) = ap (λ (x : Numbered). length (flows (get_or p.nodes x.node no_node))) at ∙ ap (λ (n : NodeTree). length (flows n)) (numbered_node i inst) in
+        let at : get_or instances v.0 (record { path = []; node = 0 }) ≡ numbered p i = get_or_default instances v.0 (record { path = []; node = 0 })
+        (numbered p i) v.1 ∙ v.2 in
+        let many : flow_count p instances v.0 ≡ length (flows i.node) = ap (λ (x : Numbered). length (flows (get_or p.nodes x.node no_node))) at
+        ∙ ap (λ (n : NodeTree). length (flows n)) (numbered_node i inst) in
         let there : get_or (flows i.node) w.0 [] ≡ x = get_or_default (flows i.node) w.0 [] x w.1 ∙ w.2 in
         let site : site_of i.node x ≡ w.0 = ap (site_of i.node) (sym there) ∙ site_itself p named i.node (instance_node p named main declared i inst) w.0 w.1 in
         let lt = w.1 in
@@ -139,7 +144,8 @@ module _ (p : ProgramTree) (main : Identifier) (named : name_faults p ≡ []) (d
         (ap (λ (x : Numbered). x.path ++ w.0 ∷ []) at ∙ ap (λ k. i.path ++ k ∷ []) (sym site) ∙ sym is)
         (in_map (flow_sites instances) (all_flows p instances) f (in_flows (flow_count p instances) (length instances) v.0 w.0 v.1 (omega (arith, lt, many))))
 
-    earlier_before : (f g : Flow) → f.instance < length instances → f.site < flow_count p instances f.instance → g.instance < length instances → IsEarlier f g → IsBefore (flow_sites instances f) (flow_sites instances g)
+    earlier_before : (f g : Flow) → f.instance < length instances → f.site < flow_count p instances f.instance → g.instance < length instances → IsEarlier f g
+        → IsBefore (flow_sites instances f) (flow_sites instances g)
     earlier_before f g lt less within (inr w) =
         subst (λ k. IsBefore (flow_sites instances f) ((get_or instances k (record { path = []; node = 0 })).path ++ g.site ∷ [])) w.0
         (beside (get_or instances f.instance (record { path = []; node = 0 })).path f.site g.site [] [] w.1)
@@ -147,7 +153,8 @@ module _ (p : ProgramTree) (main : Identifier) (named : name_faults p ≡ []) (d
         let a = known f.instance lt in
         let b = known g.instance within in
         let many = a.3 in
-        before_places (get_or instances f.instance (record { path = []; node = 0 })).path (get_or instances g.instance (record { path = []; node = 0 })).path f.site g.site
+        before_places (get_or instances f.instance (record { path = []; node = 0 })).path (get_or instances g.instance (record { path = []; node = 0 })).path
+        f.site g.site
         (are.rising f.instance g.instance (record { path = []; node = 0 }) before within)
         (λ c rest e. let h = below_path b.0 a.0 c rest b.1 a.1 (sym b.2 ∙ e ∙ ap (λ path. path ++ c ∷ rest) a.2) in omega (arith, h, less, many))
 
@@ -159,15 +166,21 @@ module _ (p : ProgramTree) (main : Identifier) (named : name_faults p ≡ []) (d
           rising = λ j k less lt.
               let within : k < length fs = omega (arith, size, lt) in
               let first : j < length fs = omega (arith, within, less) in
-              let a = of_flows (flow_count p instances) (length instances) (get_or fs j (record { instance = 0; site = 0 })) (Contains-get_or fs j (record { instance = 0; site = 0 }) first) in
-              let b = of_flows (flow_count p instances) (length instances) (get_or fs k (record { instance = 0; site = 0 })) (Contains-get_or fs k (record { instance = 0; site = 0 }) within) in
-              subst (λ q. IsBefore q (place_at (flow_places instances fs) k)) (sym (map_at (flow_sites instances) fs j [] (record { instance = 0; site = 0 }) first))
-              (subst (IsBefore (flow_sites instances (get_or fs j (record { instance = 0; site = 0 })))) (sym (map_at (flow_sites instances) fs k [] (record { instance = 0; site = 0 }) within))
+              let a = of_flows (flow_count p instances) (length instances) (get_or fs j (record { instance = 0; site = 0 }))
+              (Contains-get_or fs j (record { instance = 0; site = 0 }) first) in
+              let b = of_flows (flow_count p instances) (length instances) (get_or fs k (record { instance = 0; site = 0 }))
+              (Contains-get_or fs k (record { instance = 0; site = 0 }) within) in
+              subst (λ q. IsBefore q (place_at (flow_places instances fs) k))
+              (sym (map_at (flow_sites instances) fs j [] (record { instance = 0; site = 0 }) first))
+              (subst (IsBefore (flow_sites instances (get_or fs j (record { instance = 0; site = 0 }))))
+              (sym (map_at (flow_sites instances) fs k [] (record { instance = 0; site = 0 }) within))
               (earlier_before (get_or fs j (record { instance = 0; site = 0 })) (get_or fs k (record { instance = 0; site = 0 })) a.0 a.1 b.0
               (flows_rise (flow_count p instances) (length instances) j k (record { instance = 0; site = 0 }) less within)));
           flows = flow_there;
           only = λ k lt.
               let within : k < length fs = omega (arith, size, lt) in
-              let a = of_flows (flow_count p instances) (length instances) (get_or fs k (record { instance = 0; site = 0 })) (Contains-get_or fs k (record { instance = 0; site = 0 }) within) in
-              subst (IsFlow p main) (sym (map_at (flow_sites instances) fs k [] (record { instance = 0; site = 0 }) within)) (flow_is (get_or fs k (record { instance = 0; site = 0 })) a.0 a.1);
+              let a = of_flows (flow_count p instances) (length instances) (get_or fs k (record { instance = 0; site = 0 }))
+              (Contains-get_or fs k (record { instance = 0; site = 0 }) within) in
+              subst (IsFlow p main) (sym (map_at (flow_sites instances) fs k [] (record { instance = 0; site = 0 }) within))
+              (flow_is (get_or fs k (record { instance = 0; site = 0 })) a.0 a.1);
         }

@@ -1,5 +1,6 @@
 -- The flows of all instances, by numbers.
-use Rattle.std.proofs.Common.{◌≡◌, ℕ, zero, suc, ◌+◌, ◌<◌, ◌≤◌, ◌⊎◌, inl, inr, List, [], ◌∷◌, ◌++◌, length, get_or, refl, sym, ◌∙◌, ap, subst, arith, slice_get, Some}
+use Rattle.std.proofs.Common.{◌≡◌, ℕ, zero, suc, ◌+◌, ◌<◌, ◌≤◌, ◌⊎◌, inl, inr, List, [], ◌∷◌, ◌++◌, length, get_or, refl, sym, ◌∙◌, ap, subst, arith, slice_get}
+use Rattle.std.proofs.Common.{Some}
 use Rattle.std.specs.List.{Contains}
 use Rattle.std.proofs.lemmas.List.Elements.{Contains-get_or, Contains-append_left, Contains-append_right, Contains-append_cases}
 use Rattle.std.proofs.lemmas.Bool.{cases_eq}
@@ -15,15 +16,19 @@ use Rattle.rv_instances.specs.Flowing.{flows_below, flows_to, flow_count, AreOfN
 use Rattle.rv_instances.proofs.Lists.{got, length_map}
 use Rattle.rv_instances.proofs.Known.{cons_cases, nothing_in, map_at, in_map}
 
-pub to_more : (count : ℕ → ℕ) (now new : List Flow) (k c : ℕ) → now ≡ flows_to count k → new ≡ now ++ flows_below k c → c ≡ count k → new ≡ flows_to count (k + 1)
+pub to_more : (count : ℕ → ℕ) (now new : List Flow) (k c : ℕ) → now ≡ flows_to count k → new ≡ now ++ flows_below k c → c ≡ count k
+    → new ≡ flows_to count (k + 1)
 to_more count now new k c inv is many =
-    is ∙ ap (λ l. l ++ flows_below k c) inv ∙ ap (λ n. flows_to count k ++ flows_below k n) many ∙ ap (flows_to count) (let e : suc k ≡ k + 1 = omega arith in e)
+    is ∙ ap (λ l. l ++ flows_below k c) inv ∙ ap (λ n. flows_to count k ++ flows_below k n) many
+    ∙ ap (flows_to count) (let e : suc k ≡ k + 1 = omega arith in e)
 
 in_below : (i n s : ℕ) → s < n → Contains (flows_below i n) (record { instance = i; site = s })
 in_below i zero s lt = absurd (omega (arith, lt))
 in_below i (suc n) s lt = elim (cases_eq s n) [
-  | inl same ↦ Contains-append_right (flows_below i n) (record { instance = i; site = n } ∷ []) (record { instance = i; site = s }) (0, omega arith, ap (λ k. record { instance = i; site = k }) (sym same))
-  | inr other ↦ Contains-append_left (flows_below i n) (record { instance = i; site = n } ∷ []) (record { instance = i; site = s }) (in_below i n s (omega (arith, lt, other)))
+  | inl same ↦ Contains-append_right (flows_below i n) (record { instance = i; site = n } ∷ []) (record { instance = i; site = s })
+      (0, omega arith, ap (λ k. record { instance = i; site = k }) (sym same))
+  | inr other ↦ Contains-append_left (flows_below i n) (record { instance = i; site = n } ∷ []) (record { instance = i; site = s })
+      (in_below i n s (omega (arith, lt, other)))
 ]
 
 of_below : (i n : ℕ) (f : Flow) → Contains (flows_below i n) f → (f.instance ≡ i) × (f.site < n)
@@ -41,7 +46,8 @@ in_flows count zero i s lt less = absurd (omega (arith, lt))
 in_flows count (suc n) i s lt less = elim (cases_eq i n) [
   | inl same ↦ Contains-append_right (flows_to count n) (flows_below n (count n)) (record { instance = i; site = s })
       (subst (λ k. Contains (flows_below k (count k)) (record { instance = i; site = s })) same (in_below i (count i) s less))
-  | inr other ↦ Contains-append_left (flows_to count n) (flows_below n (count n)) (record { instance = i; site = s }) (in_flows count n i s (omega (arith, lt, other)) less)
+  | inr other ↦ Contains-append_left (flows_to count n) (flows_below n (count n)) (record { instance = i; site = s })
+      (in_flows count n i s (omega (arith, lt, other)) less)
 ]
 
 pub of_flows : (count : ℕ → ℕ) (n : ℕ) (f : Flow) → Contains (flows_to count n) f → (f.instance < n) × (f.site < count f.instance)
@@ -94,11 +100,13 @@ flows_in_order count (suc n) =
     in_order_append (flows_to count n) (flows_below n (count n)) (flows_in_order count n) (below_in_order n (count n))
     (λ x y w v. let a = (of_flows count n x w).0 in let b = (of_below n (count n) y v).0 in inl (omega (arith, a, b)))
 
-pub flows_rise : (count : ℕ → ℕ) (n j k : ℕ) (x : Flow) → j < k → k < length (flows_to count n) → IsEarlier (get_or (flows_to count n) j x) (get_or (flows_to count n) k x)
+pub flows_rise : (count : ℕ → ℕ) (n j k : ℕ) (x : Flow) → j < k → k < length (flows_to count n)
+    → IsEarlier (get_or (flows_to count n) j x) (get_or (flows_to count n) k x)
 flows_rise count n j k x less lt = in_order_at (flows_to count n) (flows_in_order count n) j k x less lt
 
 -- the node of an instance in the tree of a program
-module _ (p : Program) (instances : List Numbered) (of : AreOfNodes (program_tree p) instances) (k : ℕ) (x : Numbered) (lt : k < length instances) (is : slice_get instances k ≡ Some x) where
+module _ (p : Program) (instances : List Numbered) (of : AreOfNodes (program_tree p) instances) (k : ℕ) (x : Numbered) (lt : k < length instances)
+    (is : slice_get instances k ≡ Some x) where
   pub node_within : x.node < length p.nodes
   node_within = let size = length_map node_tree p.nodes in let h = of x (k, lt, got instances k x x is) in omega (arith, size, h)
 

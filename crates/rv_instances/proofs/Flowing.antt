@@ -40,9 +40,11 @@ module _ (p : ProgramTree) (named : name_faults p ≡ []) where
   pub site_itself : (n : NodeTree) → Contains p.nodes n → (k : ℕ) → k < length (flows n) → site_of n (get_or (flows n) k []) ≡ k
   site_itself n w k lt =
       subst (λ (l : List Identifier). k < length l → index_of l (get_or l k []) ≡ k) (flows_texts n)
-      (λ less. index_itself [] (decl_names (decls n)) (flows_once p named n w) k (let s = length_map (λ (x : Name). x.text) (decl_names (decls n)) in omega (arith, s, less))) lt
+      (λ less. index_itself [] (decl_names (decls n)) (flows_once p named n w) k
+      (let s = length_map (λ (x : Name). x.text) (decl_names (decls n)) in omega (arith, s, less))) lt
 
-  pub known_left : (n : NodeTree) (q : EquationTree) (x : Identifier) → Contains p.nodes n → Contains n.equations q → Contains (texts q.lefts) x → is_flow n x ≡ true
+  pub known_left : (n : NodeTree) (q : EquationTree) (x : Identifier) → Contains p.nodes n → Contains n.equations q → Contains (texts q.lefts) x
+      → is_flow n x ≡ true
   known_left n q x w v u =
       let uses = each_nil (equation_uses p n) n.equations (uses_of p named n w).0 q v in
       let lefts = (split_nil (flat_map (use_of (is_flow n)) q.lefts) (node_uses p n q.right) uses).0 in
@@ -55,7 +57,8 @@ module _ (p : ProgramTree) (named : name_faults p ≡ []) where
 
   -- a left side is a flow
   pub left_flow : (n : NodeTree) (x : Identifier) (r : Right) → Contains p.nodes n → IsRight n x r → Contains (flows n) x
-  left_flow n x _ w (alone q v e) = among_contains (flows n) x (known_left n q x w v (subst (λ (l : List Identifier). Contains l x) (sym e) (0, omega arith, refl)))
+  left_flow n x _ w (alone q v e) = among_contains (flows n) x (known_left n q x w v
+      (subst (λ (l : List Identifier). Contains l x) (sym e) (0, omega arith, refl)))
   left_flow n x _ w (in_order q at site f args j v right more lt e) =
       among_contains (flows n) x
       (known_left n q x w v
@@ -92,5 +95,6 @@ module _ (p : ProgramTree) (named : name_faults p ≡ []) where
           get_or (flows n) j [],
           inst,
           Contains-get_or (flows n) j [] less,
-          sym same ∙ sym (append_assoc i.path (c.site ∷ []) (j ∷ [])) ∙ ap (λ k. (i.path ++ c.site ∷ []) ++ k ∷ []) (sym (site_itself n (instance_node (callee p i c) inst) j less)),
+          sym same ∙ sym (append_assoc i.path (c.site ∷ []) (j ∷ [])) ∙ ap (λ k. (i.path ++ c.site ∷ []) ++ k ∷ [])
+              (sym (site_itself n (instance_node (callee p i c) inst) j less)),
         )

@@ -1,5 +1,6 @@
 -- What is told of the flows of instances.
-use Rattle.std.proofs.Common.{◌≡◌, ℕ, zero, suc, ◌+◌, ◌<◌, inl, inr, true, List, [], ◌∷◌, ◌++◌, map, length, get_or, set, replicate, Option, Some, slice_get, refl, sym, ◌∙◌, ap, subst, arith, zero-add, None as Nothing}
+use Rattle.std.proofs.Common.{◌≡◌, ℕ, zero, suc, ◌+◌, ◌<◌, inl, inr, true, List, [], ◌∷◌, ◌++◌, map, length, get_or, set, replicate, Option, Some, slice_get}
+use Rattle.std.proofs.Common.{refl, sym, ◌∙◌, ap, subst, arith, zero-add, None as Nothing}
 use Rattle.std.specs.List.{Contains}
 use Rattle.std.proofs.lemmas.List.{get_or-set_other, get_or-set_same, length-set, append_assoc}
 use Rattle.std.proofs.lemmas.List.Elements.{Contains-get_or}
@@ -11,7 +12,8 @@ use Rattle.rv_tree.specs.declared.tree.Name.{Name}
 use Rattle.rv_tree.specs.Tree.{Tree, EquationTree, NodeTree, ProgramTree, equation_tree, tree_of, trees}
 use Rattle.rv_tree.specs.Places.{Identifier, flows, site_of, is_flow}
 use Rattle.rv_types.specs.Names.{texts}
-use Rattle.rv_types.specs.Instances.{Right, IsRight, alone, in_order, IsArgument, head, tail, Instance, place, clock_of, clock_of_arguments, callee, main_instance, node_of, IsInstance, is_main, is_callee}
+use Rattle.rv_types.specs.Instances.{Right, IsRight, alone, in_order, IsArgument, head, tail, Instance, place, clock_of, clock_of_arguments, callee}
+use Rattle.rv_types.specs.Instances.{main_instance, node_of, IsInstance, is_main, is_callee}
 use Rattle.rv_types.specs.Instances as right
 use Rattle.rv_types.specs.Needs.{Giver, Given, Of, Gives, given as by_input, by_equation, by_call}
 use Rattle.rv_instances.specs.declared.answer.Instance.{Instance as Numbered}
@@ -48,7 +50,8 @@ one_text (x ∷ y ∷ ys) j lt e = absurd (omega (arith, e))
 
 module _ (p : ProgramTree) (main : Identifier) (instances : List Numbered) where
   -- at first nothing is told
-  pub nothing_given : (found : List (Option Told)) (n : ℕ) → found ≡ replicate {A = Option Told} n Nothing → length found ≡ length (all_places p instances) → AreGiven p main instances found
+  pub nothing_given : (found : List (Option Told)) (n : ℕ) → found ≡ replicate {A = Option Told} n Nothing → length found ≡ length (all_places p instances)
+      → AreGiven p main instances found
   nothing_given found n is size = record {
     size = size;
     sound = λ k g e. absurd (none_given n k g (sym (ap (λ (l : List (Option Told)). get_or l k Nothing) is) ∙ e));
@@ -60,21 +63,28 @@ module _ (p : ProgramTree) (main : Identifier) (instances : List Numbered) where
     pub kept : KeepsGiven found new
     pub told : IsGiven new k
 
-  pub set_given : (found new : List (Option Told)) (k : ℕ) (g : Told) (f : Giver) → AreGiven p main instances found → new ≡ set found k (Some g) → k < length (all_places p instances)
+  pub set_given : (found new : List (Option Told)) (k : ℕ) (g : Told) (f : Giver) → AreGiven p main instances found → new ≡ set found k (Some g)
+      → k < length (all_places p instances)
       → Gives p main (place_at (all_places p instances) k) f → StandsFor p instances g f → IsMore found new k
   set_given found new k g f given is lt gives stands = record {
     given = record {
       size = ap length is ∙ length-set found k (Some g) ∙ given.size;
       sound = λ j h e. elim (cases_eq j k) [
         | inl here ↦
-            let value : get_or new k Nothing ≡ Some g = ap (λ (l : List (Option Told)). get_or l k Nothing) is ∙ get_or-set_same found k (Some g) Nothing within in
+            let value : get_or new k Nothing ≡ Some g = ap (λ (l : List (Option Told)). get_or l k Nothing) is
+            ∙ get_or-set_same found k (Some g) Nothing within in
             let same : g ≡ h = some_injects g h (sym value ∙ ap (λ n. get_or new n Nothing) (sym here) ∙ e) in
             (f, subst (λ n. Gives p main (place_at (all_places p instances) n) f) (sym here) gives, subst (λ (t : Told). StandsFor p instances t f) same stands)
-        | inr other ↦ given.sound j h (sym (get_or-set_other found k j (Some g) Nothing other) ∙ sym (ap (λ (l : List (Option Told)). get_or l j Nothing) is) ∙ e)
+        | inr other ↦ given.sound j h (sym (get_or-set_other found k j (Some g) Nothing other) ∙ sym (ap (λ (l : List (Option Told)). get_or l j Nothing) is)
+            ∙ e)
       ];
     };
     kept = λ j v. elim (cases_eq j k) [
-      | inl here ↦ (g, ap (λ (l : List (Option Told)). get_or l j Nothing) is ∙ ap (λ n. get_or (set found k (Some g)) n Nothing) here ∙ get_or-set_same found k (Some g) Nothing within)
+      | inl here ↦ (
+        g,
+        ap (λ (l : List (Option Told)). get_or l j Nothing) is ∙ ap (λ n. get_or (set found k (Some g)) n Nothing) here
+            ∙ get_or-set_same found k (Some g) Nothing within,
+      )
       | inr other ↦ (v.0, ap (λ (l : List (Option Told)). get_or l j Nothing) is ∙ get_or-set_other found k j (Some g) Nothing other ∙ v.1)
     ];
     told = (g, ap (λ (l : List (Option Told)). get_or l k Nothing) is ∙ get_or-set_same found k (Some g) Nothing within);
@@ -85,14 +95,16 @@ module _ (p : ProgramTree) (main : Identifier) (instances : List Numbered) where
 
 module _ (p : ProgramTree) (main : Identifier) (instances : List Numbered) (known : IsExpanded p main instances) where
   -- a flow with a site, by its number
-  pub site_placed : (m : ℕ) (i : Instance) (s : ℕ) → m < length instances → IsInstance p main i → get_or instances m no_instance ≡ numbered p i → s < length (flows i.node)
+  pub site_placed : (m : ℕ) (i : Instance) (s : ℕ) → m < length instances → IsInstance p main i → get_or instances m no_instance ≡ numbered p i
+      → s < length (flows i.node)
       → IsPlaced (all_places p instances) (first_of p instances m + s) (i.path ++ s ∷ [])
   site_placed m i s lt is e less =
       let many = count_is p main instances known m i is e in
       let at = flow_placed p instances m s lt (omega (arith, less, many)) in
       (at.0, at.1 ∙ ap (λ q. q ++ s ∷ []) (path_is p main instances known m i e))
 
-  module _ (m : ℕ) (lt : m < length instances) (q : Equation) (there : Contains (node_at p instances m).equations (equation_tree q)) (j : ℕ) (within : j < length q.lefts) where
+  module _ (m : ℕ) (lt : m < length instances) (q : Equation) (there : Contains (node_at p instances m).equations (equation_tree q)) (j : ℕ)
+      (within : j < length q.lefts) where
     in_texts : Contains (texts q.lefts) (get_or (texts q.lefts) j [])
     in_texts = Contains-get_or (texts q.lefts) j [] (let s = length_map (λ (x : Name). x.text) q.lefts in omega (arith, s, within))
 
@@ -117,7 +129,8 @@ module _ (p : ProgramTree) (main : Identifier) (instances : List Numbered) (know
     pub left_is_flow : is_flow (node_at p instances m) (get_or (texts q.lefts) j []) ≡ true
     left_is_flow =
         subst (λ (n : NodeTree). is_flow n (get_or (texts q.lefts) j []) ≡ true) (sym node)
-        (known_left p known.named instance.node (equation_tree q) (get_or (texts q.lefts) j []) (node_in p main instances known instance is_instance) there_in in_texts)
+        (known_left p known.named instance.node (equation_tree q) (get_or (texts q.lefts) j []) (node_in p main instances known instance is_instance) there_in
+        in_texts)
 
     -- its number is that of its place
     pub left_placed : IsPlaced (all_places p instances) (number_at p instances m (get_or (texts q.lefts) j [])) (place instance (get_or (texts q.lefts) j []))
@@ -149,7 +162,8 @@ module _ (p : ProgramTree) (main : Identifier) (instances : List Numbered) (know
           let many = told.0 in
           let body = right.Output (record { at = call.0; site = call.1; name = call.2; args = call.3 }) j in (
             Of instance (clock_of instance.node x) body,
-            by_equation instance x body is_instance (in_order (equation_tree q) call.0 call.1 call.2 call.3 j there_in call.4 (omega (arith, within, many)) within refl) (sym left_placed.1),
+            by_equation instance x body is_instance (in_order (equation_tree q) call.0 call.1 call.2 call.3 j there_in call.4 (omega (arith, within, many))
+                within refl) (sym left_placed.1),
             (
               subst (λ n. IsNumberOf p instances n instance) (sym told.1) (lt, number_is),
               told.2 ∙ ap (λ (n : NodeTree). clock_of n x) node,
@@ -164,13 +178,15 @@ pub name_there : (xs : List Name) (j : ℕ) (x : Name) → j < length xs → sli
 name_there xs j x lt is = map_at (λ (y : Name). y.text) xs j [] x lt ∙ ap (λ (y : Name). y.text) (got xs j x x is)
 
 -- the number of a flow, as it is reckoned
-pub number_found : (p : ProgramTree) (instances : List Numbered) (m first site : ℕ) (n : NodeTree) (x y : Identifier) → first ≡ first_of p instances m → n ≡ node_at p instances m → x ≡ y → site ≡ site_of n y
+pub number_found : (p : ProgramTree) (instances : List Numbered) (m first site : ℕ) (n : NodeTree) (x y : Identifier) → first ≡ first_of p instances m
+    → n ≡ node_at p instances m → x ≡ y → site ≡ site_of n y
     → first + site ≡ number_at p instances m x
 number_found p instances m first site n x y first_is node name site_is =
     let same : site ≡ site_of (node_at p instances m) x = site_is ∙ ap (site_of n) (sym name) ∙ ap (λ (k : NodeTree). site_of k x) node in
     λ t. first_is t + same t
 
-listed_at : (items : List Equation) (qs : List EquationTree) → map equation_tree items ≡ qs → (q : EquationTree) → Contains qs q → (k : ℕ) × (d : Equation) × (k < length items) × (equation_tree (get_or items k d) ≡ q)
+listed_at : (items : List Equation) (qs : List EquationTree) → map equation_tree items ≡ qs → (q : EquationTree) → Contains qs q
+    → (k : ℕ) × (d : Equation) × (k < length items) × (equation_tree (get_or items k d) ≡ q)
 listed_at items qs are q w =
     let size = length_map equation_tree items in
     let same = ap length are in
@@ -181,7 +197,8 @@ listed_at items qs are q w =
 
 -- what gives a flow its value stands in one of the equations
 pub right_listed : (n : NodeTree) (items : List Equation) → map equation_tree items ≡ n.equations → (x : Identifier) (r : Right) → IsRight n x r
-    → (k j : ℕ) × (q : Equation) × (k < length items) × (j < length (get_or items k q).lefts) × IsGiving (equation_tree (get_or items k q)) × (get_or (texts (get_or items k q).lefts) j [] ≡ x)
+    → (k j : ℕ) × (q : Equation) × (k < length items) × (j < length (get_or items k q).lefts) × IsGiving (equation_tree (get_or items k q))
+    × (get_or (texts (get_or items k q).lefts) j [] ≡ x)
 right_listed n items are x _ (alone q w e) =
     let v = listed_at items n.equations are q w in
     let texts_are : texts (get_or items v.0 v.1).lefts ≡ x ∷ [] = ap (λ (t : EquationTree). texts t.lefts) v.3 ∙ e in
@@ -210,7 +227,8 @@ argument_there [] j e a = elim a [ ]
 argument_there (x ∷ xs) _ e head = omega arith
 argument_there (x ∷ xs) _ e (tail {j = j} rest) = let h = argument_there xs j e rest in omega (arith, h)
 
-module _ (p : ProgramTree) (main : Identifier) (instances : List Numbered) (known : IsExpanded p main instances) (table : List ((ℕ × ℕ) × ℕ)) (callees : AreCallees instances table)
+module _ (p : ProgramTree) (main : Identifier) (instances : List Numbered) (known : IsExpanded p main instances) (table : List ((ℕ × ℕ) × ℕ))
+    (callees : AreCallees instances table)
     (m : ℕ) (lt : m < length instances) (x : ClockedCall) (here : IsCallOf p main instances m x) where
   pub callee_there : callee_or_main table m x.site < length instances
   callee_there =
@@ -229,13 +247,16 @@ module _ (p : ProgramTree) (main : Identifier) (instances : List Numbered) (know
         let k = callee_number p main instances known table callees m here.i here.call lt here.is here.at here.there in
         let input = (known.well.formed here.i.node (node_in p main instances known here.i here.is)).no_more here.call j (tree_of body) here.there argument in
         let among = inputs_among (node_of p here.call.name) in
-        let at = site_placed p main instances known (callee_or_main table m here.call.site) (callee p here.i here.call) j k.0 (is_callee here.call here.is here.there) k.1 (omega (arith, input, among)) in
-        subst (λ s. IsPlaced (all_places p instances) (first_of p instances (callee_or_main table m s) + j) (here.i.path ++ here.call.site ∷ j ∷ [])) (sym here.site)
+        let at = site_placed p main instances known (callee_or_main table m here.call.site) (callee p here.i here.call) j k.0
+        (is_callee here.call here.is here.there) k.1 (omega (arith, input, among)) in
+        subst (λ s. IsPlaced (all_places p instances) (first_of p instances (callee_or_main table m s) + j) (here.i.path ++ here.call.site ∷ j ∷ []))
+        (sym here.site)
         (at.0, at.1 ∙ append_assoc here.i.path (here.call.site ∷ []) (j ∷ []))
 
     -- and gives it its value
     pub argument_stands : (g : Told) → IsBodyOf m x.clock body g
-        → (f : Giver) × Gives p main (place_at (all_places p instances) (first_of p instances (callee_or_main table m x.site) + j)) f × StandsFor p instances g f
+        → (f : Giver) × Gives p main (place_at (all_places p instances) (first_of p instances (callee_or_main table m x.site) + j)) f
+        × StandsFor p instances g f
     argument_stands (Input n) told = absurd told
     argument_stands (Output o) told = absurd told
     argument_stands (Body b) told = (
@@ -244,7 +265,8 @@ module _ (p : ProgramTree) (main : Identifier) (instances : List Numbered) (know
       (subst (λ n. IsNumberOf p instances n here.i) (sym told.0) (lt, here.at), told.1 ∙ here.clock, ap tree_of told.2),
     )
 
-module _ (p : ProgramTree) (main : Identifier) (instances : List Numbered) (known : IsExpanded p main instances) (j : ℕ) (lt : j < length (node_at p instances 0).inputs) where
+module _ (p : ProgramTree) (main : Identifier) (instances : List Numbered) (known : IsExpanded p main instances) (j : ℕ)
+    (lt : j < length (node_at p instances 0).inputs) where
   root : node_at p instances 0 ≡ node_of p main
   root = node_is p main instances known 0 (main_instance p main) is_main (main_at p main instances known).1
 
@@ -257,7 +279,8 @@ module _ (p : ProgramTree) (main : Identifier) (instances : List Numbered) (know
       let at = main_at p main instances known in
       let front = inputs_among (node_of p main) in
       let less = within_main in
-      subst (λ k. IsPlaced (all_places p instances) k (j ∷ [])) (zero-add j) (site_placed p main instances known 0 (main_instance p main) j at.0 is_main at.1 (omega (arith, front, less)))
+      subst (λ k. IsPlaced (all_places p instances) k (j ∷ [])) (zero-add j)
+      (site_placed p main instances known 0 (main_instance p main) j at.0 is_main at.1 (omega (arith, front, less)))
 
   pub input_few : j < source_limit
   input_few =

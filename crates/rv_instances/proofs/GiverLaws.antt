@@ -7,7 +7,8 @@ use Rattle.rv_tree.specs.declared.tree.Decl.{Decl}
 use Rattle.rv_tree.specs.Tree.{Tree, Trees, NodeTree, ProgramTree}
 use Rattle.rv_tree.specs.Places.{Identifier, Sites, flows, names, site_of}
 use Rattle.rv_types.specs.WellFormed.{IsWellFormed}
-use Rattle.rv_types.specs.Instances.{CallTree, calls, Right, Body, IsRight, IsArgument, head, tail, Instance, place, clock_of, clock_of_arguments, callee, main_instance, node_of, IsInstance, is_main, is_callee, IsFlow}
+use Rattle.rv_types.specs.Instances.{CallTree, calls, Right, Body, IsRight, IsArgument, head, tail, Instance, place, clock_of, clock_of_arguments, callee}
+use Rattle.rv_types.specs.Instances.{main_instance, node_of, IsInstance, is_main, is_callee, IsFlow}
 use Rattle.rv_types.specs.Needs.{Giver, Given, Of, Gives, given, by_equation, by_call}
 use Rattle.rv_instances.specs.declared.answer.Instance.{Instance as Numbered}
 use Rattle.rv_instances.specs.Expanded.{IsExpanded}
@@ -101,7 +102,8 @@ module _ (p : ProgramTree) (main : Identifier) (instances : List Numbered) (know
           (Of j (clock_of_arguments j c.args) (Body arg.0), by_call j c k arg.0 is v arg.1 (split_site j.path c.site k ∙ sym e))
 
   -- an input of main is given by nothing else
-  not_defined : (j : ℕ) (i : Instance) (x : Identifier) (r : Right) → j < length (node_of p main).inputs → IsInstance p main i → IsRight i.node x r → j ∷ [] ≡ place i x → ⊥
+  not_defined : (j : ℕ) (i : Instance) (x : Identifier) (r : Right) → j < length (node_of p main).inputs → IsInstance p main i → IsRight i.node x r
+      → j ∷ [] ≡ place i x → ⊥
   not_defined j i x r lt is right e =
       let parts = snoc_parts [] i.path j (site_of i.node x) e in
       let root : main_instance p main ≡ i = same p main instances known (main_instance p main) i is_main is parts.0 in
@@ -113,7 +115,8 @@ module _ (p : ProgramTree) (main : Identifier) (instances : List Numbered) (know
   not_called j path c k e = not_empty path c [] (snoc_parts [] (path ++ c ∷ []) j k (e ∙ split_site path c k)).0
 
   -- an argument is no right side
-  not_both : (i a : Instance) (x : Identifier) (r : Right) (c : CallTree) (j : ℕ) (d : Tree) → IsInstance p main i → IsRight i.node x r → IsInstance p main a → Contains (calls a.node) c → IsArgument c.args j d
+  not_both : (i a : Instance) (x : Identifier) (r : Right) (c : CallTree) (j : ℕ) (d : Tree) → IsInstance p main i → IsRight i.node x r → IsInstance p main a
+      → Contains (calls a.node) c → IsArgument c.args j d
       → place i x ≡ a.path ++ c.site ∷ j ∷ [] → ⊥
   not_both i a x r c j d is right js w arg e =
       let parts = snoc_parts i.path (a.path ++ c.site ∷ []) (site_of i.node x) j (e ∙ split_site a.path c.site j) in
@@ -124,7 +127,8 @@ module _ (p : ProgramTree) (main : Identifier) (instances : List Numbered) (know
       no_right i x r is right (omega (arith, lt, size, site))
 
   -- two equations of one place are one
-  same_right : (i a : Instance) (x y : Identifier) (r s : Right) → IsInstance p main i → IsRight i.node x r → IsInstance p main a → IsRight a.node y s → place i x ≡ place a y → Of i (clock_of i.node x) r ≡ Of a (clock_of a.node y) s
+  same_right : (i a : Instance) (x y : Identifier) (r s : Right) → IsInstance p main i → IsRight i.node x r → IsInstance p main a → IsRight a.node y s
+      → place i x ≡ place a y → Of i (clock_of i.node x) r ≡ Of a (clock_of a.node y) s
   same_right i a x y r s is right js other e =
       let parts = snoc_parts i.path a.path (site_of i.node x) (site_of a.node y) e in
       let one : i ≡ a = same p main instances known i a is js parts.0 in
@@ -138,14 +142,16 @@ module _ (p : ProgramTree) (main : Identifier) (instances : List Numbered) (know
       λ t. Of (one t) (clock_of (one t).node (names_one t)) (rights t)
 
   -- and so are two arguments
-  same_argument : (i a : Instance) (c d : CallTree) (j k : ℕ) (e f : Tree) → IsInstance p main i → Contains (calls i.node) c → IsArgument c.args j e → IsInstance p main a → Contains (calls a.node) d → IsArgument d.args k f
+  same_argument : (i a : Instance) (c d : CallTree) (j k : ℕ) (e f : Tree) → IsInstance p main i → Contains (calls i.node) c → IsArgument c.args j e
+      → IsInstance p main a → Contains (calls a.node) d → IsArgument d.args k f
       → i.path ++ c.site ∷ j ∷ [] ≡ a.path ++ d.site ∷ k ∷ [] → Of i (clock_of_arguments i c.args) (Body e) ≡ Of a (clock_of_arguments a d.args) (Body f)
   same_argument i a c d j k e f is w arg js v other g =
       let last = snoc_parts (i.path ++ c.site ∷ []) (a.path ++ d.site ∷ []) j k (sym (split_site i.path c.site j) ∙ g ∙ split_site a.path d.site k) in
       let parts = snoc_parts i.path a.path c.site d.site last.0 in
       let one : i ≡ a = same p main instances known i a is js parts.0 in
       let call : c ≡ d = (formed i is).sites c d w (subst (λ (b : Instance). Contains (calls b.node) d) (sym one) v) parts.1 in
-      let body : e ≡ f = one_argument c.args j e f arg (subst (λ (b : CallTree). IsArgument b.args j f) (sym call) (subst (λ n. IsArgument d.args n f) (sym last.1) other)) in
+      let body : e ≡ f = one_argument c.args j e f arg (subst (λ (b : CallTree). IsArgument b.args j f) (sym call)
+      (subst (λ n. IsArgument d.args n f) (sym last.1) other)) in
       λ t. Of (one t) (clock_of_arguments (one t) (call t).args) (Body (body t))
 
   -- no flow has two givers

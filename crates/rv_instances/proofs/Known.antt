@@ -1,15 +1,19 @@
 -- What the rules of names give for the nodes of a program.
-use Rattle.std.proofs.Common.{◌≡◌, ℕ, zero, suc, ◌+◌, ◌<◌, ◌⊎◌, inl, inr, Bool, true, false, cond, ◌||◌, List, [], ◌∷◌, ◌++◌, map, length, get_or, refl, sym, ◌∙◌, ap, subst, arith, Option, Some, None as Nothing, unwrap_or}
+use Rattle.std.proofs.Common.{◌≡◌, ℕ, zero, suc, ◌+◌, ◌<◌, ◌⊎◌, inl, inr, Bool, true, false, cond, ◌||◌, List, [], ◌∷◌, ◌++◌, map, length, get_or, refl, sym}
+use Rattle.std.proofs.Common.{◌∙◌, ap, subst, arith, Option, Some, None as Nothing, unwrap_or}
 use Rattle.std.specs.List.{Contains, flat_map}
 use Rattle.std.specs.Cmp.Lexicographic.{same_text}
 use Rattle.std.proofs.lemmas.Cmp.{nat_list_eq_equiv}
 use Rattle.std.proofs.lemmas.List.Elements.{Contains-append_cases}
 use Rattle.rv_tree.specs.declared.tree.Name.{Name}
-use Rattle.rv_tree.specs.Tree.{Tree, Node, Form, True, False, Number, Named, Not, Minus, Pre, Current, When, Binary, If, AtMostOne, Call, Trees, None, More, EquationTree, AssertionTree, NodeTree, ProgramTree}
+use Rattle.rv_tree.specs.Tree.{Tree, Node, Form, True, False, Number, Named, Not, Minus, Pre, Current, When, Binary, If, AtMostOne, Call, Trees, None, More}
+use Rattle.rv_tree.specs.Tree.{EquationTree, AssertionTree, NodeTree, ProgramTree}
 use Rattle.rv_tree.specs.Places.{Identifier, is_same, is_among, is_flow, index_of}
 use Rattle.rv_types.specs.declared.fault.NameFault.TheVariants.{DefinedTwice}
 use Rattle.rv_types.specs.Parts.{faults_of_all}
-use Rattle.rv_types.specs.Names.{texts, is_declared, node_names, type_names, repeated, repeated_values, alias_use, constant_uses, names_in_node, name_faults, decl_names, decls, lefts, undefined_unless, flow_use, clock_use, equation_uses, assertion_uses, node_uses, is_value, use_of, use_at, uses, own_uses}
+use Rattle.rv_types.specs.Names.{texts, is_declared, node_names, type_names, repeated, repeated_values, alias_use, constant_uses, names_in_node, name_faults}
+use Rattle.rv_types.specs.Names.{decl_names, decls, lefts, undefined_unless, flow_use, clock_use, equation_uses, assertion_uses, node_uses, is_value, use_of}
+use Rattle.rv_types.specs.Names.{use_at, uses, own_uses}
 use Rattle.rv_types.specs.Kinds.{node_among}
 use Rattle.rv_types.specs.Instances.{CallTree, calls, calls_in, form_calls, calls_in_all, calls_in_equations, calls_in_assertions, no_node, node_of}
 use Rattle.rv_instances.specs.AllInstances.{names_of}
@@ -58,7 +62,15 @@ pub of_map : {X Y : Type 0} (f : X → Y) (xs : List X) (y : Y) → Contains (ma
 of_map f [] y w = nothing_in y w
 of_map f (x ∷ xs) y w = elim (cons_cases (f x) (map f xs) y w) [
   | inl same ↦ (x, (0, omega arith, refl), same)
-  | inr rest ↦ let v = of_map f xs y rest in (v.0, (v.1.0 + 1, (let lt = v.1.1 in omega (arith, lt)), (let z : v.1.0 + 1 ≡ suc v.1.0 = omega arith in ap (λ k. get_or (x ∷ xs) k v.0) z ∙ v.1.2)), v.2)
+  | inr rest ↦ let v = of_map f xs y rest in (
+    v.0,
+    (
+      v.1.0 + 1,
+      (let lt = v.1.1 in omega (arith, lt)),
+      (let z : v.1.0 + 1 ≡ suc v.1.0 = omega arith in ap (λ k. get_or (x ∷ xs) k v.0) z ∙ v.1.2),
+    ),
+    v.2,
+  )
 ]
 
 -- Names.
@@ -69,7 +81,8 @@ text_itself x = nat_list_eq_equiv.refl x
 -- a name that stands where none stands twice is not among those before
 pub not_before : (before xs : List Name) → repeated before xs ≡ [] → (k : ℕ) → k < length xs → is_declared before (get_or (texts xs) k []) ≡ false
 not_before before [] e k lt = absurd (omega (arith, lt))
-not_before before (x ∷ xs) e zero lt = decided (is_declared before x.text) (split_nil (cond (is_declared before x.text) (DefinedTwice x.at ∷ []) []) (repeated (x ∷ before) xs) e).0
+not_before before (x ∷ xs) e zero lt = decided (is_declared before x.text)
+    (split_nil (cond (is_declared before x.text) (DefinedTwice x.at ∷ []) []) (repeated (x ∷ before) xs) e).0
   where
     decided : (b : Bool) → cond b (DefinedTwice x.at ∷ []) [] ≡ [] → b ≡ false
     decided true e = cc
@@ -88,9 +101,11 @@ index_itself before (x ∷ xs) e zero lt = ap (λ b. cond b 0 (index_of (texts x
 index_itself before (x ∷ xs) e (suc k) lt =
     tested (is_same x.text (get_or (texts xs) k [])) (is_declared before (get_or (texts xs) k []))
     (not_before (x ∷ before) xs (split_nil (cond (is_declared before x.text) (DefinedTwice x.at ∷ []) []) (repeated (x ∷ before) xs) e).1 k (omega (arith, lt)))
-    (index_itself (x ∷ before) xs (split_nil (cond (is_declared before x.text) (DefinedTwice x.at ∷ []) []) (repeated (x ∷ before) xs) e).1 k (omega (arith, lt)))
+    (index_itself (x ∷ before) xs (split_nil (cond (is_declared before x.text) (DefinedTwice x.at ∷ []) []) (repeated (x ∷ before) xs) e).1 k
+    (omega (arith, lt)))
   where
-    tested : (a b : Bool) → (a || b) ≡ false → index_of (texts xs) (get_or (texts xs) k []) ≡ k → cond a 0 (index_of (texts xs) (get_or (texts xs) k []) + 1) ≡ suc k
+    tested : (a b : Bool) → (a || b) ≡ false → index_of (texts xs) (get_or (texts xs) k []) ≡ k
+        → cond a 0 (index_of (texts xs) (get_or (texts xs) k []) + 1) ≡ suc k
     tested true b e again = cc
     tested false b e again = omega (arith, again)
 
@@ -98,7 +113,8 @@ pub index_there : (xs : List Identifier) (x : Identifier) → is_among xs x ≡ 
 index_there [] x e = cc
 index_there (y ∷ ys) x e = tested (is_same y x) refl e (index_there ys x)
   where
-    tested : (b : Bool) → is_same y x ≡ b → (b || is_among ys x) ≡ true → (is_among ys x ≡ true → (index_of ys x < length ys) × (get_or ys (index_of ys x) [] ≡ x))
+    tested : (b : Bool) → is_same y x ≡ b → (b || is_among ys x) ≡ true
+        → (is_among ys x ≡ true → (index_of ys x < length ys) × (get_or ys (index_of ys x) [] ≡ x))
         → (cond b 0 (index_of ys x + 1) < suc (length ys)) × (get_or (y ∷ ys) (cond b 0 (index_of ys x + 1)) [] ≡ x)
     tested true same e again = (omega arith, same_text y x (sym same))
     tested false other e again =
@@ -109,12 +125,14 @@ index_there (y ∷ ys) x e = tested (is_same y x) refl e (index_there ys x)
 
 -- Nodes by their names.
 
-pub node_there : (ns : List NodeTree) (f : Identifier) → is_among (texts (map (λ (n : NodeTree). n.name) ns)) f ≡ true → node_among ns f ≡ Some (get_or ns (index_of (texts (map (λ (n : NodeTree). n.name) ns)) f) no_node)
+pub node_there : (ns : List NodeTree) (f : Identifier) → is_among (texts (map (λ (n : NodeTree). n.name) ns)) f ≡ true
+    → node_among ns f ≡ Some (get_or ns (index_of (texts (map (λ (n : NodeTree). n.name) ns)) f) no_node)
 node_there [] f e = cc
 node_there (n ∷ ns) f e = tested (is_same n.name.text f) e (node_there ns f)
   where
     tested : (b : Bool) → (b || is_among (texts (map (λ (n : NodeTree). n.name) ns)) f) ≡ true
-        → (is_among (texts (map (λ (n : NodeTree). n.name) ns)) f ≡ true → node_among ns f ≡ Some (get_or ns (index_of (texts (map (λ (n : NodeTree). n.name) ns)) f) no_node))
+        → (is_among (texts (map (λ (n : NodeTree). n.name) ns)) f ≡ true
+        → node_among ns f ≡ Some (get_or ns (index_of (texts (map (λ (n : NodeTree). n.name) ns)) f) no_node))
         → cond b (Some n) (node_among ns f) ≡ Some (get_or (n ∷ ns) (cond b 0 (index_of (texts (map (λ (n : NodeTree). n.name) ns)) f + 1)) no_node)
     tested true e again = refl
     tested false e again =
@@ -142,7 +160,8 @@ module _ (values clocks nodes : Identifier → Bool) where
     calls_known : (e : Tree) → uses values clocks nodes e ≡ [] → (c : CallTree) → Contains (calls_in e) c → nodes c.name ≡ true
     calls_known (Node at site form) e c w = form_known at site form e c w
 
-    form_known : (at : ℕ) (site : Option ℕ) (form : Form) → uses values clocks nodes (Node at site form) ≡ [] → (c : CallTree) → Contains (form_calls at site form) c → nodes c.name ≡ true
+    form_known : (at : ℕ) (site : Option ℕ) (form : Form) → uses values clocks nodes (Node at site form) ≡ [] → (c : CallTree)
+        → Contains (form_calls at site form) c → nodes c.name ≡ true
     form_known at site True e c w = nothing_in c w
     form_known at site False e c w = nothing_in c w
     form_known at site (Number v) e c w = nothing_in c w
@@ -151,7 +170,8 @@ module _ (values clocks nodes : Identifier → Bool) where
     form_known at site (Minus t) e c w = calls_known t e c w
     form_known at site (Pre t) e c w = calls_known t e c w
     form_known at site (Current t) e c w = calls_known t e c w
-    form_known at site (When t x) e c w = calls_known t (split_nil (own_uses values clocks nodes (Node at site (When t x))) (uses values clocks nodes t) e).1 c w
+    form_known at site (When t x) e c w = calls_known t (split_nil (own_uses values clocks nodes (Node at site (When t x))) (uses values clocks nodes t) e).1 c
+        w
     form_known at site (Binary o a b) e c w =
         let s = split_nil (uses values clocks nodes a) (uses values clocks nodes b) e in
         elim (Contains-append_cases (calls_in a) (calls_in b) c w) [ inl v ↦ calls_known a s.0 c v | inr v ↦ calls_known b s.1 c v ]
@@ -217,16 +237,19 @@ module _ (p : ProgramTree) (named : name_faults p ≡ []) where
       (flat_map (equation_uses p n) n.equations ++ flat_map (assertion_uses p n) n.assertions) b.1 in
       split_nil (flat_map (equation_uses p n) n.equations) (flat_map (assertion_uses p n) n.assertions) c.1
 
-  in_equations : (n : NodeTree) (qs : List EquationTree) → flat_map (equation_uses p n) qs ≡ [] → (c : CallTree) → Contains (calls_in_equations qs) c → is_declared (node_names p) c.name ≡ true
+  in_equations : (n : NodeTree) (qs : List EquationTree) → flat_map (equation_uses p n) qs ≡ [] → (c : CallTree) → Contains (calls_in_equations qs) c
+      → is_declared (node_names p) c.name ≡ true
   in_equations n [] e c w = nothing_in c w
   in_equations n (q ∷ qs) e c w =
       let s = split_nil (equation_uses p n q) (flat_map (equation_uses p n) qs) e in
       elim (Contains-append_cases (calls_in q.right) (calls_in_equations qs) c w) [
-        | inl v ↦ calls_known (is_value p n) (is_flow n) (is_declared (node_names p)) q.right (split_nil (flat_map (use_of (is_flow n)) q.lefts) (node_uses p n q.right) s.0).1 c v
+        | inl v ↦ calls_known (is_value p n) (is_flow n) (is_declared (node_names p)) q.right
+            (split_nil (flat_map (use_of (is_flow n)) q.lefts) (node_uses p n q.right) s.0).1 c v
         | inr v ↦ in_equations n qs s.1 c v
       ]
 
-  in_assertions : (n : NodeTree) (qs : List AssertionTree) → flat_map (assertion_uses p n) qs ≡ [] → (c : CallTree) → Contains (calls_in_assertions qs) c → is_declared (node_names p) c.name ≡ true
+  in_assertions : (n : NodeTree) (qs : List AssertionTree) → flat_map (assertion_uses p n) qs ≡ [] → (c : CallTree) → Contains (calls_in_assertions qs) c
+      → is_declared (node_names p) c.name ≡ true
   in_assertions n [] e c w = nothing_in c w
   in_assertions n (q ∷ qs) e c w =
       let s = split_nil (assertion_uses p n q) (flat_map (assertion_uses p n) qs) e in
@@ -259,7 +282,8 @@ module _ (p : ProgramTree) (named : name_faults p ≡ []) where
     where
       decided : (b : Bool) → is_among (names_of p) (get_or p.nodes k no_node).name.text ≡ b → is_among (names_of p) (get_or p.nodes k no_node).name.text ≡ true
       decided true e = e
-      decided false e = absurd (let past = index_past (names_of p) (get_or p.nodes k no_node).name.text e in let is = number_of_node k lt in let n = nodes_named in omega (arith, past, is, n, lt))
+      decided false e = absurd (let past = index_past (names_of p) (get_or p.nodes k no_node).name.text e in let is = number_of_node k lt in
+          let n = nodes_named in omega (arith, past, is, n, lt))
 
   -- and the node of that name is that node
   pub node_of_number : (k : ℕ) → k < length p.nodes → node_of p (get_or p.nodes k no_node).name.text ≡ get_or p.nodes k no_node
@@ -269,7 +293,8 @@ module _ (p : ProgramTree) (named : name_faults p ≡ []) where
       node_named_at f k is in_names = ap (λ o. unwrap_or o no_node) (node_there p.nodes f in_names) ∙ ap (λ i. get_or p.nodes i no_node) is
 
   -- the node that a call names
-  pub called : (f : Identifier) → is_among (names_of p) f ≡ true → (index_of (names_of p) f < length p.nodes) × (node_of p f ≡ get_or p.nodes (index_of (names_of p) f) no_node) × ((get_or p.nodes (index_of (names_of p) f) no_node).name.text ≡ f)
+  pub called : (f : Identifier) → is_among (names_of p) f ≡ true → (index_of (names_of p) f < length p.nodes)
+      × (node_of p f ≡ get_or p.nodes (index_of (names_of p) f) no_node) × ((get_or p.nodes (index_of (names_of p) f) no_node).name.text ≡ f)
   called f e =
       let there = index_there (names_of p) f e in
       let n = nodes_named in

@@ -1,5 +1,6 @@
 -- Where the flows of instances begin.
-use Rattle.std.proofs.Common.{◌≡◌, ℕ, zero, suc, ◌+◌, ◌*◌, ◌<◌, ◌≤◌, inl, inr, List, [], ◌∷◌, ◌++◌, length, get_or, refl, sym, ◌∙◌, ap, subst, arith, length-append}
+use Rattle.std.proofs.Common.{◌≡◌, ℕ, zero, suc, ◌+◌, ◌*◌, ◌<◌, ◌≤◌, inl, inr, List, [], ◌∷◌, ◌++◌, length, get_or, refl, sym, ◌∙◌, ap, subst, arith}
+use Rattle.std.proofs.Common.{length-append}
 use Rattle.std.proofs.Math.ListN.{get_or-append}
 use Rattle.std.proofs.Math.Nat.{suc-mul}
 use Rattle.std.proofs.Math.Seq.{get_or-append_seam}
@@ -89,7 +90,8 @@ to_size count (suc n) =
     let b = below_size n (count n) in
     omega (arith, h, a, b)
 
-to_is : (count : ℕ → ℕ) (n m s : ℕ) (d : Flow) → m < n → s < count m → get_or (flows_to count n) (flows_before count m + s) d ≡ record { instance = m; site = s }
+to_is : (count : ℕ → ℕ) (n m s : ℕ) (d : Flow) → m < n → s < count m → get_or (flows_to count n) (flows_before count m + s) d ≡ record
+    { instance = m; site = s }
 to_is count zero m s d lt less = absurd (omega (arith, lt))
 to_is count (suc n) m s d lt less = elim (cases_eq m n) [
   | inl same ↦
@@ -109,13 +111,15 @@ module _ (p : ProgramTree) (instances : List Numbered) where
   places_size = length_map (flow_sites instances) (flows_to (flow_count p instances) (length instances)) ∙ to_size (flow_count p instances) (length instances)
 
   -- the flow with a site of the instance with a number
-  pub flow_placed : (m s : ℕ) → m < length instances → s < flow_count p instances m → IsPlaced (all_places p instances) (flows_before (flow_count p instances) m + s) (path_at instances m ++ s ∷ [])
+  pub flow_placed : (m s : ℕ) → m < length instances → s < flow_count p instances m
+      → IsPlaced (all_places p instances) (flows_before (flow_count p instances) m + s) (path_at instances m ++ s ∷ [])
   flow_placed m s lt less =
       let size = places_size in
       let rises = before_rises (flow_count p instances) (length instances) m lt in
       let other = to_size (flow_count p instances) (length instances) in (
         omega (arith, less, size, rises),
-        map_at (flow_sites instances) (flows_to (flow_count p instances) (length instances)) (flows_before (flow_count p instances) m + s) [] (record { instance = m; site = s })
+        map_at (flow_sites instances) (flows_to (flow_count p instances) (length instances)) (flows_before (flow_count p instances) m + s) []
+            (record { instance = m; site = s })
             (omega (arith, less, other, rises))
             ∙ ap (flow_sites instances) (to_is (flow_count p instances) (length instances) m s (record { instance = m; site = s }) lt less),
       )

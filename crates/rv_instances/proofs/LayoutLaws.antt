@@ -15,12 +15,15 @@ use Rattle.rv_instances.proofs.BaseClocks.{count_is, callee_number}
 use Rattle.rv_instances.proofs.ExpandedLaws.{node_is, path_is}
 use Rattle.rv_instances.proofs.LaidFlows.{laid_is, flow_placed}
 
-module _ (p : ProgramTree) (main : Identifier) (instances : List Numbered) (known : IsExpanded p main instances) (l : Layout) (laid_out : IsLayout p main instances l) where
+module _ (p : ProgramTree) (main : Identifier) (instances : List Numbered) (known : IsExpanded p main instances) (l : Layout)
+    (laid_out : IsLayout p main instances l) where
   pub laid_there : (m : ℕ) → m < length instances → get_or l.laid m (record { first = 0; output = 0 }) ≡ laid_at p instances m
-  laid_there m lt = ap (λ (ls : List Laid). get_or ls m (record { first = 0; output = 0 })) laid_out.laid ∙ laid_is p instances (length instances) m (record { first = 0; output = 0 }) lt
+  laid_there m lt = ap (λ (ls : List Laid). get_or ls m (record { first = 0; output = 0 })) laid_out.laid
+      ∙ laid_is p instances (length instances) m (record { first = 0; output = 0 }) lt
 
   -- a flow of the instance with a number
-  placed : (m : ℕ) (i : Instance) (s : ℕ) → m < length instances → IsInstance p main i → get_or instances m no_instance ≡ numbered p i → s < length (flows i.node)
+  placed : (m : ℕ) (i : Instance) (s : ℕ) → m < length instances → IsInstance p main i → get_or instances m no_instance ≡ numbered p i
+      → s < length (flows i.node)
       → IsPlaced (all_places p instances) ((get_or l.laid m (record { first = 0; output = 0 })).first + s) (i.path ++ s ∷ [])
   placed m i s lt is e less =
       let many = count_is p main instances known m i is e in
@@ -29,7 +32,8 @@ module _ (p : ProgramTree) (main : Identifier) (instances : List Numbered) (know
       subst (λ k. IsPlaced (all_places p instances) (k + s) (i.path ++ s ∷ [])) (sym first)
       (at.0, at.1 ∙ ap (λ q. q ++ s ∷ []) (path_is p main instances known m i e))
 
-  pub is_here : (m : ℕ) (i : Instance) → m < length instances → IsInstance p main i → get_or instances m no_instance ≡ numbered p i → IsHere p (all_places p instances) i (here_of l m)
+  pub is_here : (m : ℕ) (i : Instance) → m < length instances → IsInstance p main i → get_or instances m no_instance ≡ numbered p i
+      → IsHere p (all_places p instances) i (here_of l m)
   is_here m i lt is e = record {
     flow = λ s less. placed m i s lt is e less;
     base = laid_out.base m lt i is e;
@@ -42,6 +46,7 @@ module _ (p : ProgramTree) (main : Identifier) (instances : List Numbered) (know
         let k = callee_or_main l.callees m c.site in
         let there = laid_there k to.0 in
         ap (λ (x : Laid). x.output) there
-        ∙ ap (λ (n : NodeTree). flows_before (flow_count p instances) k + length n.inputs) (node_is p main instances known k (callee p i c) (is_callee c is w) to.1)
+        ∙ ap (λ (n : NodeTree). flows_before (flow_count p instances) k + length n.inputs)
+        (node_is p main instances known k (callee p i c) (is_callee c is w) to.1)
         ∙ ap (λ j. j + length (node_of p c.name).inputs) (sym (ap (λ (x : Laid). x.first) there));
   }

@@ -11,7 +11,8 @@ use Rattle.rv_instances.proofs.Lists.{got}
 use Rattle.rv_instances.proofs.Known.{map_at}
 
 -- one more place
-pub placed_more : (f : ℕ → Sites) (numbers : List ℕ) (old new : List Place) (i : ℕ) (place : Place) → i < length numbers → sites_of old ≡ map f (take i numbers) → new ≡ old ++ place ∷ [] → place.sites ≡ f (get_or numbers i 0)
+pub placed_more : (f : ℕ → Sites) (numbers : List ℕ) (old new : List Place) (i : ℕ) (place : Place) → i < length numbers → sites_of old ≡ map f (take i numbers)
+    → new ≡ old ++ place ∷ [] → place.sites ≡ f (get_or numbers i 0)
     → sites_of new ≡ map f (take (i + 1) numbers)
 placed_more f numbers old new i place lt inv is at =
     ap sites_of is
@@ -21,5 +22,6 @@ placed_more f numbers old new i place lt inv is at =
     ∙ sym (map-append f (take i numbers) (get_or numbers i 0 ∷ []))
     ∙ ap (map f) (sym (take_more numbers i 0 lt))
 
-pub placed_at : (instances : List Numbered) (flows : List Flow) (k : ℕ) (flow : Flow) → slice_get flows k ≡ Some flow → k < length flows → flow_sites instances flow ≡ place_at (flow_places instances flows) k
+pub placed_at : (instances : List Numbered) (flows : List Flow) (k : ℕ) (flow : Flow) → slice_get flows k ≡ Some flow → k < length flows
+    → flow_sites instances flow ≡ place_at (flow_places instances flows) k
 placed_at instances flows k flow is lt = ap (flow_sites instances) (sym (got flows k flow flow is)) ∙ sym (map_at (flow_sites instances) flows k [] flow lt)

@@ -32,7 +32,8 @@ module _ (n : NodeTree) (listed : List ClockedCall) (are : map told listed ≡ c
       let within : j < length (calls n) = omega (arith, lt, size) in (
         get_or (calls n) j no_call,
         Contains-get_or (calls n) j no_call within,
-        ap told is ∙ sym (map_at told listed j (told x) x lt) ∙ ap (λ (l : List ToldCall). get_or l j (told x)) are ∙ map_at (call_told n) (calls n) j (told x) no_call within,
+        ap told is ∙ sym (map_at told listed j (told x) x lt) ∙ ap (λ (l : List ToldCall). get_or l j (told x)) are
+            ∙ map_at (call_told n) (calls n) j (told x) no_call within,
       )
 
   -- and each call is listed
@@ -44,6 +45,7 @@ module _ (n : NodeTree) (listed : List ClockedCall) (are : map told listed ≡ c
         w.0,
         within,
         λ x.
-            sym (map_at told listed w.0 (told x) x within) ∙ ap (λ (l : List ToldCall). get_or l w.0 (told x)) are ∙ map_at (call_told n) (calls n) w.0 (told x) c w.1
+            sym (map_at told listed w.0 (told x) x within) ∙ ap (λ (l : List ToldCall). get_or l w.0 (told x)) are
+            ∙ map_at (call_told n) (calls n) w.0 (told x) c w.1
             ∙ ap (call_told n) w.2,
       )

@@ -15,7 +15,8 @@ names_of p = texts (node_names p)
 
 -- No call has more arguments than its node has inputs.
 abbrev pub AreFed : ProgramTree → Type 0
-AreFed p = (n : NodeTree) (c : CallTree) (j : ℕ) (e : Tree) → Contains p.nodes n → Contains (calls n) c → IsArgument c.args j e → j < length (node_of p c.name).inputs
+AreFed p = (n : NodeTree) (c : CallTree) (j : ℕ) (e : Tree) → Contains p.nodes n → Contains (calls n) c → IsArgument c.args j e
+    → j < length (node_of p c.name).inputs
 
 -- an instance by the number of its node
 abbrev pub numbered : ProgramTree → Instance → Numbered

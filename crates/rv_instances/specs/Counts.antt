@@ -1,7 +1,8 @@
 -- How many expressions stand in a node, and how many integer memories and inputs it has; the instances of a program and the
 -- expressions of all of them.
 use Rattle.std.specs.Prelude.{ℕ, ◌+◌, cond, length}
-use Rattle.rv_tree.specs.Tree.{Tree, Node, Form, True, False, Number, Named, Not, Minus, Pre, Current, When, Binary, If, AtMostOne, Call, Trees, None, More, NodeTree, ProgramTree}
+use Rattle.rv_tree.specs.Tree.{Tree, Node, Form, True, False, Number, Named, Not, Minus, Pre, Current, When, Binary, If, AtMostOne, Call, Trees, None, More}
+use Rattle.rv_tree.specs.Tree.{NodeTree, ProgramTree}
 use Rattle.rv_tree.specs.Places.{Identifier}
 use Rattle.rv_types.specs.Kinds.{decl_kinds}
 use Rattle.rv_types.specs.Values.{operand_kind}

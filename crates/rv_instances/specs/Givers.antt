@@ -17,7 +17,8 @@ StandsFor p instances (Input j) (Of i k r) = ⊥
 StandsFor p instances (Body b) (Of i k (right.Body e)) = IsNumberOf p instances b.instance i × (b.clock ≡ k) × (tree_of b.body.now ≡ e)
 StandsFor p instances (Body b) (Of i k (right.Output c j)) = ⊥
 StandsFor p instances (Body b) (Given k) = ⊥
-StandsFor p instances (Output o) (Of i k (right.Output c j)) = IsNumberOf p instances o.instance i × (o.clock ≡ k) × (tree_of o.call.now ≡ Node c.at (Some c.site) (Call c.name c.args)) × (o.output ≡ j)
+StandsFor p instances (Output o) (Of i k (right.Output c j)) = IsNumberOf p instances o.instance i × (o.clock ≡ k)
+    × (tree_of o.call.now ≡ Node c.at (Some c.site) (Call c.name c.args)) × (o.output ≡ j)
 StandsFor p instances (Output o) (Of i k (right.Body e)) = ⊥
 StandsFor p instances (Output o) (Given k) = ⊥
 
@@ -25,4 +26,5 @@ StandsFor p instances (Output o) (Given k) = ⊥
 pub record AreGivers (p : ProgramTree) (main : Identifier) (instances : List Numbered) (givers : List Told) : Type 0 where
   pub size : length givers ≡ length (all_places p instances)
   pub each : (k : ℕ) → k < length givers → (f : Giver) × Gives p main (place_at (all_places p instances) k) f
-  pub one : (k : ℕ) (f : Giver) → k < length givers → Gives p main (place_at (all_places p instances) k) f → StandsFor p instances (slice_index_or givers k (Input 0)) f
+  pub one : (k : ℕ) (f : Giver) → k < length givers → Gives p main (place_at (all_places p instances) k) f
+      → StandsFor p instances (slice_index_or givers k (Input 0)) f

@@ -16,7 +16,8 @@ use Rattle.rv_instances.specs.Givers.{StandsFor}
 -- Of some flows it is told what gives them their value.
 pub record AreGiven (p : ProgramTree) (main : Identifier) (instances : List Numbered) (found : List (Option Told)) : Type 0 where
   pub size : length found ≡ length (all_places p instances)
-  pub sound : (k : ℕ) (g : Told) → slice_index_or found k Nothing ≡ Some g → (f : Giver) × Gives p main (place_at (all_places p instances) k) f × StandsFor p instances g f
+  pub sound : (k : ℕ) (g : Told) → slice_index_or found k Nothing ≡ Some g
+      → (f : Giver) × Gives p main (place_at (all_places p instances) k) f × StandsFor p instances g f
 
 -- it is told of the flow with a number
 abbrev pub IsGiven : List (Option Told) → ℕ → Type 0

@@ -38,7 +38,8 @@ IsClockPlaced places (Some k) Nothing = ⊥
 pub record IsHere (p : ProgramTree) (places : List Sites) (i : Instance) (h : Here) : Type 0 where
   pub flow : (s : ℕ) → s < length (flows i.node) → IsPlaced places (h.offset + s) (i.path ++ s ∷ [])
   pub base : IsClockPlaced places h.base i.base
-  pub callee : (c : CallTree) (j : ℕ) → Contains (calls i.node) c → j < length (flows (node_of p c.name)) → IsPlaced places (h.callee c.site + j) (i.path ++ c.site ∷ j ∷ [])
+  pub callee : (c : CallTree) (j : ℕ) → Contains (calls i.node) c → j < length (flows (node_of p c.name))
+      → IsPlaced places (h.callee c.site + j) (i.path ++ c.site ∷ j ∷ [])
   pub output : (c : CallTree) → Contains (calls i.node) c → h.output c.site ≡ h.callee c.site + length (node_of p c.name).inputs
 
 -- the number m is that of the instance
@@ -109,7 +110,8 @@ all_places p instances = flow_places instances (all_flows p instances)
 
 -- The base clock of the instance with a number has this number.
 abbrev pub IsBaseOf : ProgramTree → Identifier → List Numbered → List (Option ℕ) → ℕ → Type 0
-IsBaseOf p main instances bases m = (i : Instance) → IsInstance p main i → slice_index_or instances m no_instance ≡ numbered p i → IsClockPlaced (all_places p instances) (slice_index_or bases m Nothing) i.base
+IsBaseOf p main instances bases m = (i : Instance) → IsInstance p main i → slice_index_or instances m no_instance ≡ numbered p i
+    → IsClockPlaced (all_places p instances) (slice_index_or bases m Nothing) i.base
 
 -- The layout of all instances: for each the numbers of its flows, of its base clock and of its callees.
 pub record IsLayout (p : ProgramTree) (main : Identifier) (instances : List Numbered) (l : Layout) : Type 0 where

@@ -5,7 +5,8 @@ use Rattle.rv_tree.specs.declared.tree.Name.{Name}
 use Rattle.rv_tree.specs.declared.tree.Op.{Op}
 use Rattle.rv_tree.specs.declared.tree.Op.TheVariants as op
 use Rattle.rv_base.specs.Limits.{heaviest}
-use Rattle.rv_tree.specs.Tree.{Tree, Node, Form, True, False, Number, Named, Not, Minus, Pre, Current, When, Binary, If, AtMostOne, Call, ConstantTree, NodeTree, ProgramTree}
+use Rattle.rv_tree.specs.Tree.{Tree, Node, Form, True, False, Number, Named, Not, Minus, Pre, Current, When, Binary, If, AtMostOne, Call, ConstantTree}
+use Rattle.rv_tree.specs.Tree.{NodeTree, ProgramTree}
 use Rattle.rv_tree.specs.Places.{Identifier, Sites, is_flow}
 use Rattle.rv_types.specs.Types.{is_constant}
 use Rattle.rv_types.specs.Constants.{whole_in, value_of, weight_of}

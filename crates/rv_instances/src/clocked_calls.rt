@@ -57,7 +57,8 @@ fn gather_equations<'a>(
     equations: &'a [Equation],
     found: &mut Many<ClockedCall<'a>>,
 ) -> Result<(), Memory>
-    ensures { OnOk result (map told found.new ≡ map told found.old ++ map (call_told (node_tree clocks.now.node.now)) (calls_in_equations (map equation_tree equations.now))) }
+    ensures { OnOk result (map told found.new ≡ map told found.old ++ map (call_told (node_tree clocks.now.node.now))
+        (calls_in_equations (map equation_tree equations.now))) }
 {
     for equation in equations {
         gather(clocks, &equation.right, found)?;
@@ -71,7 +72,8 @@ fn gather_assertions<'a>(
     assertions: &'a [Assertion],
     found: &mut Many<ClockedCall<'a>>,
 ) -> Result<(), Memory>
-    ensures { OnOk result (map told found.new ≡ map told found.old ++ map (call_told (node_tree clocks.now.node.now)) (calls_in_assertions (map assertion_tree assertions.now))) }
+    ensures { OnOk result (map told found.new ≡ map told found.old ++ map (call_told (node_tree clocks.now.node.now))
+        (calls_in_assertions (map assertion_tree assertions.now))) }
 {
     for assertion in assertions {
         gather(clocks, &assertion.body, found)?;
@@ -202,7 +204,13 @@ fn gather_call<'a>(
     found: &mut Many<ClockedCall<'a>>,
 ) -> Result<Pace, Memory>
     ensures pace { IfOk result (λ p. p ≡ grounded (pace_of_all (node_tree clocks.now.node.now) (trees (map tree_of arguments.now)))) }
-    ensures found { OnOk result (map told found.new ≡ map told found.old ++ record { site = unwrap_or site 0; arguments = trees (map tree_of arguments.now); clock = clock_of_args (node_tree clocks.now.node.now) (trees (map tree_of arguments.now)) } ∷ map (call_told (node_tree clocks.now.node.now)) (calls_in_all (trees (map tree_of arguments.now)))) }
+    ensures found { OnOk result (map told found.new ≡ map told found.old
+        ++ record {
+          site = unwrap_or site 0;
+          arguments = trees (map tree_of arguments.now);
+          clock = clock_of_args (node_tree clocks.now.node.now)
+              (trees (map tree_of arguments.now));
+        } ∷ map (call_told (node_tree clocks.now.node.now)) (calls_in_all (trees (map tree_of arguments.now)))) }
 {
     let number = add_call(site, arguments, found)?;
     let together = gather_all(clocks, arguments, found)?;
@@ -219,7 +227,8 @@ fn gather_all<'a>(
     found: &mut Many<ClockedCall<'a>>,
 ) -> Result<Pace, Memory>
     ensures pace { IfOk result (λ p. p ≡ pace_of_all (node_tree clocks.now.node.now) (trees (map tree_of expressions.now))) }
-    ensures found { OnOk result (map told found.new ≡ map told found.old ++ map (call_told (node_tree clocks.now.node.now)) (calls_in_all (trees (map tree_of expressions.now)))) }
+    ensures found { OnOk result (map told found.new ≡ map told found.old ++ map (call_told (node_tree clocks.now.node.now))
+        (calls_in_all (trees (map tree_of expressions.now)))) }
 {
     let mut together = Pace::Free;
     for e in expressions {
@@ -248,7 +257,8 @@ fn add_call<'a>(
     found: &mut Many<ClockedCall<'a>>,
 ) -> Result<usize, Memory>
     ensures number { IfOk result (λ number. number ≡ length (map told found.old)) }
-    ensures found { OnOk result (map told found.new ≡ map told found.old ++ record { site = unwrap_or site 0; arguments = trees (map tree_of arguments.now); clock = OnBase } ∷ []) }
+    ensures found { OnOk result (map told found.new ≡ map told found.old
+        ++ record { site = unwrap_or site 0; arguments = trees (map tree_of arguments.now); clock = OnBase } ∷ []) }
 {
     let number = found.len();
     found.push(made_call(site, arguments, Pace::Free))?;
@@ -258,7 +268,8 @@ fn add_call<'a>(
 /// Puts a call in the place of the one with a number.
 #[tactic(auto, using(crate::proofs::PutCalls::put_told, crate::proofs::PutCalls::within))]
 fn put<'a>(number: usize, call: ClockedCall<'a>, found: &mut Many<ClockedCall<'a>>)
-    ensures { (before after : List ToldCall) (c : ToldCall) → number ≡ length before → map told found.old ≡ before ++ c ∷ after → map told found.new ≡ before ++ told call.entry ∷ after }
+    ensures { (before after : List ToldCall) (c : ToldCall) → number ≡ length before → map told found.old ≡ before ++ c ∷ after
+        → map told found.new ≡ before ++ told call.entry ∷ after }
 {
     if number < found.len() {
         found.set(number, call);

@@ -99,7 +99,8 @@ fn give_rights<'a>(
     requires given { AreGiven (program_of expanded.now) (main_of expanded.now) expanded.now.instances.now found.old }
     ensures given { AreGiven (program_of expanded.now) (main_of expanded.now) expanded.now.instances.now found.new }
     ensures kept { KeepsGiven found.old found.new }
-    ensures rights { (x : Identifier) (r : Right) → IsRight (node_at (program_of expanded.now) expanded.now.instances.now instance) x r → IsGiven found.new (number_at (program_of expanded.now) expanded.now.instances.now instance x) }
+    ensures rights { (x : Identifier) (r : Right) → IsRight (node_at (program_of expanded.now) expanded.now.instances.now instance) x r
+        → IsGiven found.new (number_at (program_of expanded.now) expanded.now.instances.now instance x) }
 {
     for equation in expanded.clocks(instance).node.equations.as_slice() {
         give_equation(expanded, layout, instance, equation, found);
@@ -121,7 +122,8 @@ fn give_equation<'a>(
     requires given { AreGiven (program_of expanded.now) (main_of expanded.now) expanded.now.instances.now found.old }
     ensures given { AreGiven (program_of expanded.now) (main_of expanded.now) expanded.now.instances.now found.new }
     ensures kept { KeepsGiven found.old found.new }
-    ensures lefts { (j : ℕ) → j < length equation.now.lefts → IsGiving (equation_tree equation.now) → IsGiven found.new (number_at (program_of expanded.now) expanded.now.instances.now instance (slice_index_or (texts equation.now.lefts) j [])) }
+    ensures lefts { (j : ℕ) → j < length equation.now.lefts → IsGiving (equation_tree equation.now)
+        → IsGiven found.new (number_at (program_of expanded.now) expanded.now.instances.now instance (slice_index_or (texts equation.now.lefts) j [])) }
 {
     if equation.lefts.len() == 1 || is_sited_call(&equation.right) {
         for number in 0..equation.lefts.len() {
@@ -155,7 +157,8 @@ fn give_left<'a>(
     requires given { AreGiven (program_of expanded.now) (main_of expanded.now) expanded.now.instances.now found.old }
     ensures given { AreGiven (program_of expanded.now) (main_of expanded.now) expanded.now.instances.now found.new }
     ensures kept { KeepsGiven found.old found.new }
-    ensures left { IsGiven found.new (number_at (program_of expanded.now) expanded.now.instances.now instance (slice_index_or (texts equation.now.lefts) number [])) }
+    ensures left { IsGiven found.new (number_at (program_of expanded.now) expanded.now.instances.now instance
+        (slice_index_or (texts equation.now.lefts) number [])) }
 {
     let clocks = expanded.clocks(instance);
     let first = layout.laid.at(instance as usize).first;
@@ -205,7 +208,9 @@ fn give_arguments<'a>(
     requires given { AreGiven (program_of expanded.now) (main_of expanded.now) expanded.now.instances.now found.old }
     ensures given { AreGiven (program_of expanded.now) (main_of expanded.now) expanded.now.instances.now found.new }
     ensures kept { KeepsGiven found.old found.new }
-    ensures arguments { (c : CallTree) (j : ℕ) (e : Tree) → Contains (calls (node_at (program_of expanded.now) expanded.now.instances.now instance)) c → IsArgument c.args j e → IsGiven found.new (first_of (program_of expanded.now) expanded.now.instances.now (callee_or_main layout.now.callees instance c.site) + j) }
+    ensures arguments { (c : CallTree) (j : ℕ) (e : Tree) → Contains (calls (node_at (program_of expanded.now) expanded.now.instances.now instance)) c
+        → IsArgument c.args j e → IsGiven found.new (first_of (program_of expanded.now) expanded.now.instances.now
+        (callee_or_main layout.now.callees instance c.site) + j) }
 {
     for call in expanded.calls(instance) {
         give_call(expanded, layout, instance, call, found);
@@ -227,7 +232,8 @@ fn give_call<'a>(
     requires given { AreGiven (program_of expanded.now) (main_of expanded.now) expanded.now.instances.now found.old }
     ensures given { AreGiven (program_of expanded.now) (main_of expanded.now) expanded.now.instances.now found.new }
     ensures kept { KeepsGiven found.old found.new }
-    ensures arguments { (j : ℕ) → j < length call.now.arguments.now → IsGiven found.new (first_of (program_of expanded.now) expanded.now.instances.now (callee_or_main layout.now.callees instance call.now.site) + j) }
+    ensures arguments { (j : ℕ) → j < length call.now.arguments.now → IsGiven found.new
+        (first_of (program_of expanded.now) expanded.now.instances.now (callee_or_main layout.now.callees instance call.now.site) + j) }
 {
     let callee = layout.callees.callee(instance, call.site).unwrap_or(0);
     let first = layout.laid.at(callee as usize).first;

@@ -87,7 +87,8 @@ fn tell_caller(
 ) -> Result<(), Memory>
     requires { length path.now ≤ length chain.now }
     ensures main { OnOk result (path.now ≡ [] → callees.new ≡ callees.old) }
-    ensures called { OnOk result ((q : List ℕ) (s m t : ℕ) → path.now ≡ q ++ s ∷ [] → callee_in callees.new m t ≡ cond (nat_eq (slice_index_or chain.now (length q) 0) m && nat_eq s t) (Some instance) (callee_in callees.old m t)) }
+    ensures called { OnOk result ((q : List ℕ) (s m t : ℕ) → path.now ≡ q ++ s ∷ []
+        → callee_in callees.new m t ≡ cond (nat_eq (slice_index_or chain.now (length q) 0) m && nat_eq s t) (Some instance) (callee_in callees.old m t)) }
 {
     let depth = path.len();
     if depth == 0 {
@@ -107,7 +108,8 @@ fn bases_of(
     requires laid { laid.now ≡ all_laid (program_of expanded.now) expanded.now.instances.now (length expanded.now.instances.now) }
     requires callees { AreCallees expanded.now.instances.now callees.now }
     ensures size { IfOk result (λ bases. length bases ≡ length expanded.now.instances.now) }
-    ensures base { IfOk result (λ bases. (m : ℕ) → m < length expanded.now.instances.now → IsBaseOf (program_of expanded.now) (main_of expanded.now) expanded.now.instances.now bases m) }
+    ensures base { IfOk result (λ bases. (m : ℕ) → m < length expanded.now.instances.now
+        → IsBaseOf (program_of expanded.now) (main_of expanded.now) expanded.now.instances.now bases m) }
 {
     let mut bases = all_equal(alloc, expanded.instances.len(), None)?;
     for instance in 0..expanded.instances.len() {
@@ -131,8 +133,10 @@ fn set_bases(
     requires instance { instance < length expanded.now.instances.now }
     requires base { IsBaseOf (program_of expanded.now) (main_of expanded.now) expanded.now.instances.now bases.old instance }
     ensures size { length bases.new ≡ length bases.old }
-    ensures kept { (k : ℕ) → IsBaseOf (program_of expanded.now) (main_of expanded.now) expanded.now.instances.now bases.old k → IsBaseOf (program_of expanded.now) (main_of expanded.now) expanded.now.instances.now bases.new k }
-    ensures set { (k s : ℕ) → k < length expanded.now.instances.now → path_at expanded.now.instances.now k ≡ path_at expanded.now.instances.now instance ++ s ∷ [] → IsBaseOf (program_of expanded.now) (main_of expanded.now) expanded.now.instances.now bases.new k }
+    ensures kept { (k : ℕ) → IsBaseOf (program_of expanded.now) (main_of expanded.now) expanded.now.instances.now bases.old k
+        → IsBaseOf (program_of expanded.now) (main_of expanded.now) expanded.now.instances.now bases.new k }
+    ensures set { (k s : ℕ) → k < length expanded.now.instances.now → path_at expanded.now.instances.now k ≡ path_at expanded.now.instances.now instance ++ s
+        ∷ [] → IsBaseOf (program_of expanded.now) (main_of expanded.now) expanded.now.instances.now bases.new k }
 {
     let base = *bases.at(instance as usize);
     let first = laid.at(instance as usize).first;

@@ -1,5 +1,6 @@
 -- Fields and records that are written one after the other.
-use Rattle.std.proofs.Common.{◌≡◌, ◌+◌, ◌^◌, ◌<◌, ◌≤◌, ℕ, Bool, true, false, eqb, List, [], ◌∷◌, ◌++◌, length, map, take, get_or, refl, sym, ap, ◌∙◌, subst, arith, append_assoc}
+use Rattle.std.proofs.Common.{◌≡◌, ◌+◌, ◌^◌, ◌<◌, ◌≤◌, ℕ, Bool, true, false, eqb, List, [], ◌∷◌, ◌++◌, length, map, take, get_or, refl, sym, ap, ◌∙◌, subst}
+use Rattle.std.proofs.Common.{arith, append_assoc}
 use Rattle.std.specs.Prelude.{Option, Some, Result, Ok, Err, ⊤, OnOk, flat_map, slice_get}
 use Rattle.std.proofs.lemmas.Bool.{eqb-true, eqb-false}
 use Rattle.std.proofs.lemmas.List.{append-nil, take_more, take_all}
@@ -21,7 +22,8 @@ use Rattle.rv_invariant.specs.Writes.{AllHeld, HasFields, Extends}
 module _ {A B : Type 0} (one : A → List B) (all : List A → List B) (nil : all [] ≡ []) (cons : (x : A) (xs : List A) → all (x ∷ xs) ≡ one x ++ all xs) where
   all-joined : (a b : List A) → all (a ++ b) ≡ all a ++ all b
   all-joined [] b = ap (λ l. l ++ all b) (sym nil)
-  all-joined (x ∷ a) b = cons x (a ++ b) ∙ ap (λ l. one x ++ l) (all-joined a b) ∙ sym (append_assoc (one x) (all a) (all b)) ∙ ap (λ l. l ++ all b) (sym (cons x a))
+  all-joined (x ∷ a) b = cons x (a ++ b) ∙ ap (λ l. one x ++ l) (all-joined a b) ∙ sym (append_assoc (one x) (all a) (all b))
+      ∙ ap (λ l. l ++ all b) (sym (cons x a))
 
   -- one element more
   pub all-more : (xs : List A) (i : ℕ) (x : A) → slice_get xs i ≡ Some x → all (take i xs) ++ one x ≡ all (take (i + 1) xs)
@@ -36,7 +38,8 @@ module _ {A B : Type 0} (one : A → List B) (all : List A → List B) (nil : al
 pub map-more : {A B : Type 0} (f : A → B) (xs : List A) (i : ℕ) (x : A) → slice_get xs i ≡ Some x → map f (take i xs) ++ f x ∷ [] ≡ map f (take (i + 1) xs)
 map-more f = all-more (λ x. f x ∷ []) (map f) refl (λ x xs. refl)
 
-pub flat-more : {A B : Type 0} (f : A → List B) (xs : List A) (i : ℕ) (x : A) → slice_get xs i ≡ Some x → flat_map f (take i xs) ++ f x ≡ flat_map f (take (i + 1) xs)
+pub flat-more : {A B : Type 0} (f : A → List B) (xs : List A) (i : ℕ) (x : A) → slice_get xs i ≡ Some x
+    → flat_map f (take i xs) ++ f x ≡ flat_map f (take (i + 1) xs)
 flat-more f = all-more f (flat_map f) refl (λ x xs. refl)
 
 pub map-taken : {A B : Type 0} (f : A → B) (xs : List A) (i : ℕ) → length xs ≤ i → map f (take i xs) ≡ map f xs
@@ -56,7 +59,8 @@ pub extends-last : {E : Type 0} (a b c : Row) (x y : Fields) (r : Result ⊤ E) 
 extends-last a b c x y (Ok u) f g = extends-then a b c x y f g
 extends-last a b c x y (Err e) f g = tt
 
-pub pushed : (old new : Row) (text : List ℕ) → fields_of new ≡ fields_of old ++ (partial_of old ++ text) ∷ [] → partial_of new ≡ [] → Extends old new (text ∷ [])
+pub pushed : (old new : Row) (text : List ℕ) → fields_of new ≡ fields_of old ++ (partial_of old ++ text) ∷ [] → partial_of new ≡ []
+    → Extends old new (text ∷ [])
 pushed old new text e p fields h = (e ∙ ap (λ q. fields_of old ++ (q ++ text) ∷ []) h.1 ∙ ap (λ l. l ++ text ∷ []) h.0, p)
 
 -- ---- Records.

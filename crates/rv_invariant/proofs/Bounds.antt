@@ -30,13 +30,16 @@ module _ (limit : ℕ) (text : List ℕ) (n : ℕ) (is : text ≡ decimal n) (sm
 -- ---- Children.
 module _ (r : Fields) (triples : List Triple) (before : triples ≡ upto triple_at r (length triples)) where
   variable-is : (k : ℕ) → k < length triples → (node_at triples k).var ≡ variable_at r k
-  variable-is k l = ap (λ (ts : List Triple). (node_at ts k).var) before ∙ ap (λ (t : Triple). t.var) (upto-at triple_at r (length triples) k (record { var = 0; lo = 0; hi = 0 }) l)
+  variable-is k l = ap (λ (ts : List Triple). (node_at ts k).var) before
+      ∙ ap (λ (t : Triple). t.var) (upto-at triple_at r (length triples) k (record { var = 0; lo = 0; hi = 0 }) l)
 
-  later-is : (child v : ℕ) (b : Bool) → nat_lt child 2 ≡ b → child < length triples + 2 → (b || nat_lt v (node_at triples (child - 2)).var) ≡ (b || nat_lt v (variable_at r (child - 2)))
+  later-is : (child v : ℕ) (b : Bool) → nat_lt child 2 ≡ b → child < length triples + 2
+      → (b || nat_lt v (node_at triples (child - 2)).var) ≡ (b || nat_lt v (variable_at r (child - 2)))
   later-is child v true e l = refl
   later-is child v false e l = let ge = ltb-false child 2 e in ap (nat_lt v) (variable-is (child - 2) (omega (arith, ge, l)))
 
-  pub child-is : (index limit child v : ℕ) (text : List ℕ) (b : Bool) → v ≡ variable_at r (length triples) → text ≡ field r index → limit ≡ length triples + 2 → is_below limit text ≡ true → child ≡ natural text
+  pub child-is : (index limit child v : ℕ) (text : List ℕ) (b : Bool) → v ≡ variable_at r (length triples) → text ≡ field r index → limit ≡ length triples + 2
+      → is_below limit text ≡ true → child ≡ natural text
       → b ≡ (nat_lt child 2 || nat_lt v (node_at triples (child - 2)).var) → is_child r (length triples) (field r index) ≡ b
   child-is index limit child v text b hv ht hl below hc hb =
       let told = below-told limit text below in

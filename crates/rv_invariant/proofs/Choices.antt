@@ -18,7 +18,8 @@ pub form-left : (fs gs : List Form) (r : Fields) (f : Form) → form_of fs r ≡
 form-left [] gs r f h = cc
 form-left (x ∷ fs) gs r f h = left-by (x.is_kind r) x fs gs r f h (λ e. form-left fs gs r f e)
   where
-    left-by : (b : Bool) (x : Form) (fs gs : List Form) (r : Fields) (f : Form) → cond b (Some x) (form_of fs r) ≡ Some f → (form_of fs r ≡ Some f → form_of (fs ++ gs) r ≡ Some f) → cond b (Some x) (form_of (fs ++ gs) r) ≡ Some f
+    left-by : (b : Bool) (x : Form) (fs gs : List Form) (r : Fields) (f : Form) → cond b (Some x) (form_of fs r) ≡ Some f
+        → (form_of fs r ≡ Some f → form_of (fs ++ gs) r ≡ Some f) → cond b (Some x) (form_of (fs ++ gs) r) ≡ Some f
     left-by true x fs gs r f h k = h
     left-by false x fs gs r f h k = k h
 
@@ -26,12 +27,14 @@ pub form-right : (fs gs : List Form) (r : Fields) → form_of fs r ≡ None → 
 form-right [] gs r h = refl
 form-right (x ∷ fs) gs r h = right-by (x.is_kind r) x fs gs r h (λ e. form-right fs gs r e)
   where
-    right-by : (b : Bool) (x : Form) (fs gs : List Form) (r : Fields) → cond b (Some x) (form_of fs r) ≡ None → (form_of fs r ≡ None → form_of (fs ++ gs) r ≡ form_of gs r) → cond b (Some x) (form_of (fs ++ gs) r) ≡ form_of gs r
+    right-by : (b : Bool) (x : Form) (fs gs : List Form) (r : Fields) → cond b (Some x) (form_of fs r) ≡ None
+        → (form_of fs r ≡ None → form_of (fs ++ gs) r ≡ form_of gs r) → cond b (Some x) (form_of (fs ++ gs) r) ≡ form_of gs r
     right-by true x fs gs r h k = cc
     right-by false x fs gs r h k = k h
 
 -- the record that was read decides what comes after it
-pub then-here : {A : Type 0} (o : Option Why) (n : ℕ) (r : Fields) (rs : List Fields) (f g : Fields → Rule A) → f r ≡ g r → (judged o n r rs >>= λ x. run (f x.0) x.1) ≡ (judged o n r rs >>= λ x. run (g x.0) x.1)
+pub then-here : {A : Type 0} (o : Option Why) (n : ℕ) (r : Fields) (rs : List Fields) (f g : Fields → Rule A) → f r ≡ g r
+    → (judged o n r rs >>= λ x. run (f x.0) x.1) ≡ (judged o n r rs >>= λ x. run (g x.0) x.1)
 then-here None n r rs f g h = ap (λ p. run p (record { taken = n + 1; rest = rs })) h
 then-here (Some y) n r rs f g h = refl
 
@@ -57,8 +60,10 @@ module _ {A : Type 0} (fs gs : List Form) (next then : Fields → Rule A) where
   run_either s = either-in s.taken s.rest
 
 -- One turn, where what follows the turns awaits a record.
-pub run_turns : {A B : Type 0} (n : ℕ) (fs gs : List Form) (next : Fields → Rule A) (rest : List A → Rule B) (then : Fields → Rule B) (s : Ahead) → rest [] ≡ await gs then
-    → run (turns (suc n) (await fs next) rest) s ≡ cond (sees fs s) (run (await fs next) s >>= λ x. run (turns n (await fs next) (λ more. rest (x.0 ∷ more))) x.1) (run (rest []) s)
+pub run_turns : {A B : Type 0} (n : ℕ) (fs gs : List Form) (next : Fields → Rule A) (rest : List A → Rule B) (then : Fields → Rule B) (s : Ahead)
+    → rest [] ≡ await gs then
+    → run (turns (suc n) (await fs next) rest) s ≡ cond (sees fs s) (run (await fs next) s >>= λ x. run (turns n (await fs next) (λ more. rest (x.0 ∷ more)))
+    x.1) (run (rest []) s)
 unfolding turns
 run_turns n fs gs next rest then s h =
     ap (λ q. run (either (bind (await fs next) (λ a. turns n (await fs next) (λ more. rest (a ∷ more)))) q) s) h
@@ -90,15 +95,18 @@ module _ {A : Type 0} (f : Form) (next : Fields → Rule A) (rest : List A → R
       run_turns n (f ∷ []) waits.0 next rest waits.1 s waits.2
       ∙ ap (λ b. cond b (run (await (f ∷ []) next) s >>= λ x. run (turns n (await (f ∷ []) next) (λ more. rest (x.0 ∷ more))) x.1) (run (rest []) s)) h
 
-  turn_goes : (n : ℕ) → sees (f ∷ []) s ≡ true → run (turns (suc n) (await (f ∷ []) next) rest) s ≡ run (await (f ∷ []) next) s >>= λ x. run (turns n (await (f ∷ []) next) (λ more. rest (x.0 ∷ more))) x.1
+  turn_goes : (n : ℕ) → sees (f ∷ []) s ≡ true → run (turns (suc n) (await (f ∷ []) next) rest) s ≡ run (await (f ∷ []) next) s >>= λ x. run
+      (turns n (await (f ∷ []) next) (λ more. rest (x.0 ∷ more))) x.1
   turn_goes n h =
       run_turns n (f ∷ []) waits.0 next rest waits.1 s waits.2
       ∙ ap (λ b. cond b (run (await (f ∷ []) next) s >>= λ x. run (turns n (await (f ∷ []) next) (λ more. rest (x.0 ∷ more))) x.1) (run (rest []) s)) h
 
-  pub turn_more : (n : ℕ) (a : A) (s2 : Ahead) → sees (f ∷ []) s ≡ true → run (await (f ∷ []) next) s ≡ Ok (a, s2) → run (turns (suc n) (await (f ∷ []) next) rest) s ≡ run (turns n (await (f ∷ []) next) (λ more. rest (a ∷ more))) s2
+  pub turn_more : (n : ℕ) (a : A) (s2 : Ahead) → sees (f ∷ []) s ≡ true → run (await (f ∷ []) next) s ≡ Ok (a, s2)
+      → run (turns (suc n) (await (f ∷ []) next) rest) s ≡ run (turns n (await (f ∷ []) next) (λ more. rest (a ∷ more))) s2
   turn_more n a s2 h e = turn_goes n h ∙ ap (λ r. r >>= λ x. run (turns n (await (f ∷ []) next) (λ more. rest (x.0 ∷ more))) x.1) e
 
-  pub turn_stops : (n : ℕ) (e : FileFault) → sees (f ∷ []) s ≡ true → run (await (f ∷ []) next) s ≡ Err e → run (turns (suc n) (await (f ∷ []) next) rest) s ≡ Err e
+  pub turn_stops : (n : ℕ) (e : FileFault) → sees (f ∷ []) s ≡ true → run (await (f ∷ []) next) s ≡ Err e
+      → run (turns (suc n) (await (f ∷ []) next) rest) s ≡ Err e
   turn_stops n e h k = turn_goes n h ∙ ap (λ r. r >>= λ x. run (turns n (await (f ∷ []) next) (λ more. rest (x.0 ∷ more))) x.1) k
 
 -- ---- What a call that stops tells.
@@ -111,7 +119,8 @@ stops-or view r (fault.Ends n) new h = inr h
 stops-or view r fault.Memory new h = inl refl
 
 -- a part before, that stops, stops the whole
-pub part-or : {X A B : Type 0} (view : X → A) (p : Rule A) (k : A → Rule B) (s : Ahead) (e : FileFault) (new : Ahead) → Reads view (run p s) (Err e) new → (e ≡ fault.Memory) ⊎ (run (bind p k) s ≡ Err e)
+pub part-or : {X A B : Type 0} (view : X → A) (p : Rule A) (k : A → Rule B) (s : Ahead) (e : FileFault) (new : Ahead) → Reads view (run p s) (Err e) new
+    → (e ≡ fault.Memory) ⊎ (run (bind p k) s ≡ Err e)
 part-or view p k s e new h = by (stops-or view (run p s) e new h)
   where
     by : (e ≡ fault.Memory) ⊎ (run p s ≡ Err e) → (e ≡ fault.Memory) ⊎ (run (bind p k) s ≡ Err e)
@@ -124,16 +133,20 @@ pub continues-after : {X : Type 0} (before after : Then X → Reading Certificat
 continues-after before after (Ok x) known new same h = λ next w. same next w ∙ h next w
 continues-after {X = X} before after (Err e) known new same h = by h
   where
-    by : (e ≡ fault.Memory) ⊎ ((next : Then X) → AllWait next → after next ≡ Err e) → (e ≡ fault.Memory) ⊎ ((next : Then X) → AllWait next → before next ≡ Err e)
+    by : (e ≡ fault.Memory) ⊎ ((next : Then X) → AllWait next → after next ≡ Err e)
+        → (e ≡ fault.Memory) ⊎ ((next : Then X) → AllWait next → before next ≡ Err e)
     by (inl m) = inl m
     by (inr g) = inr (λ next w. same next w ∙ g next w)
 
 -- the same where it stops
-pub continues-stop : {X Y : Type 0} (before : Then X → Reading Certificate) (after : Then Y → Reading Certificate) (e : FileFault) (known later : Known) (new last : Ahead)
-    → ((next : Then X) → AllWait next → (more : Then Y) × AllWait more × (before next ≡ after more)) → Continues after (Err e) known new → Continues before (Err e) later last
+pub continues-stop : {X Y : Type 0} (before : Then X → Reading Certificate) (after : Then Y → Reading Certificate) (e : FileFault) (known later : Known)
+    (new last : Ahead)
+    → ((next : Then X) → AllWait next → (more : Then Y) × AllWait more × (before next ≡ after more)) → Continues after (Err e) known new
+    → Continues before (Err e) later last
 continues-stop {X = X} {Y = Y} before after e known later new last same h = by h
   where
-    by : (e ≡ fault.Memory) ⊎ ((next : Then Y) → AllWait next → after next ≡ Err e) → (e ≡ fault.Memory) ⊎ ((next : Then X) → AllWait next → before next ≡ Err e)
+    by : (e ≡ fault.Memory) ⊎ ((next : Then Y) → AllWait next → after next ≡ Err e)
+        → (e ≡ fault.Memory) ⊎ ((next : Then X) → AllWait next → before next ≡ Err e)
     by (inl m) = inl m
     by (inr g) = inr (λ next w. let t = same next w in t.2 ∙ g t.0 t.1)
 
@@ -146,11 +159,13 @@ continues-part {X = X} view r before e known old new h k = by (stops-or view r e
     by (inl m) = inl m
     by (inr x) = inr (λ next w. k next w e x)
 
-pub continues-memory : {X : Type 0} (before : Then X → Reading Certificate) (e : FileFault) (known : Known) (new : Ahead) → e ≡ fault.Memory → Continues before (Err e) known new
+pub continues-memory : {X : Type 0} (before : Then X → Reading Certificate) (e : FileFault) (known : Known) (new : Ahead) → e ≡ fault.Memory
+    → Continues before (Err e) known new
 continues-memory before e known new h = inl h
 
 -- a part of open end that stops stops the whole
-pub stops-with-next : {X A : Type 0} (view : A → Certificate) (before : Then X → Reading Certificate) (r : Reading Certificate) (e : FileFault) (known : Known) (old new : Ahead)
+pub stops-with-next : {X A : Type 0} (view : A → Certificate) (before : Then X → Reading Certificate) (r : Reading Certificate) (e : FileFault) (known : Known)
+    (old new : Ahead)
     → (next : Then X) → AllWait next → r ≡ before next → Continues before (Err e) known old → Reads view r (Err e) new
 stops-with-next {X = X} view before r e known old new next w same h = by h
   where
@@ -159,18 +174,23 @@ stops-with-next {X = X} view before r e known old new next w same h = by h
     by (inr g) = stops view r e new (same ∙ g next w)
 
 -- a part that is read to its end, and then what comes after it
-pub continues-read : {X : Type 0} (p : Rule X) (s : Ahead) (r : Result X FileFault) (known : Known) (new : Ahead) → Reads (λ x. x) (run p s) r new → Continues (λ (next : Then X). run (bind p (λ x. next x known)) s) r known new
+pub continues-read : {X : Type 0} (p : Rule X) (s : Ahead) (r : Result X FileFault) (known : Known) (new : Ahead) → Reads (λ x. x) (run p s) r new
+    → Continues (λ (next : Then X). run (bind p (λ x. next x known)) s) r known new
 continues-read p s (Ok x) known new h = λ next w. bind_ok p (λ y. next y known) s new x h
-continues-read {X = X} p s (Err e) known new h = continues-part (λ (x : X). x) (run p s) (λ (next : Then X). run (bind p (λ x. next x known)) s) e known new new h (λ next w x k. bind_err p (λ y. next y known) s x k)
+continues-read {X = X} p s (Err e) known new h = continues-part (λ (x : X). x) (run p s) (λ (next : Then X). run (bind p (λ x. next x known)) s) e known new new
+    h (λ next w x k. bind_err p (λ y. next y known) s x k)
 
 -- ---- One part after the other, in a reading of several.
-pub chain-ok : {A B : Type 0} (p : Rule A) (k : A → Rule B) (whole : Reading B) (s s2 : Ahead) (a : A) → whole ≡ run (bind p k) s → run p s ≡ Ok (a, s2) → whole ≡ run (k a) s2
+pub chain-ok : {A B : Type 0} (p : Rule A) (k : A → Rule B) (whole : Reading B) (s s2 : Ahead) (a : A) → whole ≡ run (bind p k) s → run p s ≡ Ok (a, s2)
+    → whole ≡ run (k a) s2
 chain-ok p k whole s s2 a e h = e ∙ bind_ok p k s s2 a h
 
-pub chain-stops : {X Y A B : Type 0} (view : X → A) (other : Y → B) (p : Rule A) (k : A → Rule B) (whole : Reading B) (s : Ahead) (e : FileFault) (new : Ahead) → whole ≡ run (bind p k) s
+pub chain-stops : {X Y A B : Type 0} (view : X → A) (other : Y → B) (p : Rule A) (k : A → Rule B) (whole : Reading B) (s : Ahead) (e : FileFault) (new : Ahead)
+    → whole ≡ run (bind p k) s
     → Reads view (run p s) (Err e) new → Reads other whole (Err e) new
 chain-stops view other p k whole s e new same h = stops_with view other (run p s) whole e new new h (λ x is. same ∙ bind_err p k s x is)
 
 -- the last part is the answer
-pub chain-last : {X B : Type 0} (view : X → B) (p : Rule B) (whole : Reading B) (s : Ahead) (r : Result X FileFault) (new : Ahead) → whole ≡ run p s → Reads view (run p s) r new → Reads view whole r new
+pub chain-last : {X B : Type 0} (view : X → B) (p : Rule B) (whole : Reading B) (s : Ahead) (r : Result X FileFault) (new : Ahead) → whole ≡ run p s
+    → Reads view (run p s) r new → Reads view whole r new
 chain-last view p whole s r new same h = subst (λ x. Reads view x r new) (sym same) h

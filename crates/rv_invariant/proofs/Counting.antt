@@ -16,7 +16,8 @@ use Rattle.rv_flat.specs.declared.parts.FlatMemory.{FlatMemory}
 use Rattle.rv_control.specs.Control.{order_tests, state_bits}
 use Rattle.rv_invariant.specs.Shapes.{is_next, is_test, shape}
 
-states-more : (b : Bit) (bs : List Bit) → state_bits (map variable_of (b ∷ bs)) ≡ cond (is_next b) (1 + state_bits (map variable_of bs)) (state_bits (map variable_of bs))
+states-more : (b : Bit) (bs : List Bit) → state_bits (map variable_of (b ∷ bs)) ≡ cond (is_next b) (1 + state_bits (map variable_of bs))
+    (state_bits (map variable_of bs))
 unfolding state_bits
 states-more bit.MainTick bs = refl
 states-more (bit.Tick p) bs = refl
@@ -32,7 +33,8 @@ states-none = refl
 states-count : (bs : List Bit) → state_bits (map variable_of bs) ≡ count_by is_next bs
 states-count = is_count_by (λ bs. state_bits (map variable_of bs)) is_next states-none states-more
 
-tests-more : (b : Bit) (bs : List Bit) → order_tests (map variable_of (b ∷ bs)) ≡ cond (is_test b) (1 + order_tests (map variable_of bs)) (order_tests (map variable_of bs))
+tests-more : (b : Bit) (bs : List Bit) → order_tests (map variable_of (b ∷ bs)) ≡ cond (is_test b) (1 + order_tests (map variable_of bs))
+    (order_tests (map variable_of bs))
 unfolding order_tests
 tests-more bit.MainTick bs = refl
 tests-more (bit.Tick p) bs = refl
@@ -53,13 +55,16 @@ by-one true n = refl
 by-one false n = omega arith
 
 whole-count : (all ms : List FlatMemory) → whole_count (map (λ m. m.kind) (map (kept_of all) ms)) ≡ count_by (λ (m : FlatMemory). is_integer m.kind) ms
-whole-count all = is_count_by (λ ms. whole_count (map (λ m. m.kind) (map (kept_of all) ms))) (λ (m : FlatMemory). is_integer m.kind) refl (λ m ms. by-one (is_integer m.kind) (whole_count (map (λ m. m.kind) (map (kept_of all) ms))))
+whole-count all = is_count_by (λ ms. whole_count (map (λ m. m.kind) (map (kept_of all) ms))) (λ (m : FlatMemory). is_integer m.kind) refl
+    (λ m ms. by-one (is_integer m.kind) (whole_count (map (λ m. m.kind) (map (kept_of all) ms))))
 
 integers-count : (ms : List FlatMemory) → integers (map (λ m. m.kind) ms) ≡ count_by (λ (m : FlatMemory). is_integer m.kind) ms
-integers-count = is_count_by (λ ms. integers (map (λ m. m.kind) ms)) (λ (m : FlatMemory). is_integer m.kind) refl (λ m ms. by-one (is_integer m.kind) (integers (map (λ m. m.kind) ms)))
+integers-count = is_count_by (λ ms. integers (map (λ m. m.kind) ms)) (λ (m : FlatMemory). is_integer m.kind) refl
+    (λ m ms. by-one (is_integer m.kind) (integers (map (λ m. m.kind) ms)))
 
 module _ (f : Flat) where
-  pub shape-is : (a b d e : ℕ) → a ≡ count_by is_next f.variables → b ≡ length f.variables → d ≡ count_by (λ (m : FlatMemory). is_integer m.kind) f.memories → e ≡ count_by is_test f.variables
+  pub shape-is : (a b d e : ℕ) → a ≡ count_by is_next f.variables → b ≡ length f.variables → d ≡ count_by (λ (m : FlatMemory). is_integer m.kind) f.memories
+      → e ≡ count_by is_test f.variables
       → record { states = a; variables = b; memories = d; tests = e } ≡ shape f
   shape-is a b d e ha hb hd he =
       let pa = ha ∙ sym (states-count f.variables) in

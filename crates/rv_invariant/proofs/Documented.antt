@@ -1,5 +1,6 @@
 -- A certificate that has the counts and ranges of a document is read from the records that are written for it.
-use Rattle.std.proofs.Common.{◌≡◌, ◌+◌, ◌%◌, ◌^◌, ◌<◌, ◌≤◌, ℕ, zero, suc, Bool, true, false, cond, List, [], ◌∷◌, ◌++◌, length, map, refl, sym, ap, ◌∙◌, subst, arith, append_assoc, eqb}
+use Rattle.std.proofs.Common.{◌≡◌, ◌+◌, ◌%◌, ◌^◌, ◌<◌, ◌≤◌, ℕ, zero, suc, Bool, true, false, cond, List, [], ◌∷◌, ◌++◌, length, map, refl, sym, ap, ◌∙◌, subst}
+use Rattle.std.proofs.Common.{arith, append_assoc, eqb}
 use Rattle.std.specs.Prelude.{◌&&◌, ◌-◌, option_map, nat_eq, nat_le, Option, Some, None, is_some, slice_get, replicate, codes, decimal, flat_map, ⊤}
 use Rattle.std.specs.Str.{bytes_eq}
 use Rattle.std.specs.List.{AllByRecursion, list_all}
@@ -31,7 +32,8 @@ use Rattle.rv_invfile.specs.Spells.{Spells}
 use Rattle.rv_invfile.specs.Texts.{dotted}
 use Rattle.rv_invfile.specs.Told.{IsTold}
 use Rattle.rv_invfile.proofs.Decimals.{natural-is}
-use Rattle.rv_invfile.proofs.ReadBack.{is_plain_text, decimal-plain, dotted-plain, name-plain, pair-plain, exactly-right, names-right, lists-right, counts-right}
+use Rattle.rv_invfile.proofs.ReadBack.{is_plain_text, decimal-plain, dotted-plain, name-plain, pair-plain, exactly-right, names-right, lists-right}
+use Rattle.rv_invfile.proofs.ReadBack.{counts-right}
 use Rattle.rv_invfile.proofs.Spelled.{parts-bind, spells-document}
 use Rattle.rv_invariant.specs.declared.counts.Shape.{Shape}
 use Rattle.rv_invariant.specs.declared.fronts.Front.{Front}
@@ -41,12 +43,16 @@ use Rattle.rv_invariant.specs.Naming.{bit_text, bit_texts, column_text, column_t
 use Rattle.rv_invariant.specs.Groups.{is_grouped}
 use Rattle.rv_invariant.specs.Shapes.{shape}
 use Rattle.rv_invariant.specs.Pieces.{a_diagram, a_list, a_proof, by_form, by_record, diagram_record, list_records, multipliers_of}
-use Rattle.rv_invariant.specs.Certificates.{known_at, learn, low_of, high_of, after_entry, row_lists, after_proofs, after_lists, after_control, front_rule, going, reach_rule, go_entry, dead_entry, go_rule, entry_rule, entry_forms, entries_rule, location_of, after_front, location_rule, locations_rule, first_record, last_record, kind_records, entry_records, location_records, cases_records, certificate_records, bits_rule, columns_rule, head_rule, all_locations, certificate_rule}
+use Rattle.rv_invariant.specs.Certificates.{known_at, learn, low_of, high_of, after_entry, row_lists, after_proofs, after_lists, after_control, front_rule}
+use Rattle.rv_invariant.specs.Certificates.{going, reach_rule, go_entry, dead_entry, go_rule, entry_rule, entry_forms, entries_rule, location_of, after_front}
+use Rattle.rv_invariant.specs.Certificates.{location_rule, locations_rule, first_record, last_record, kind_records, entry_records, location_records}
+use Rattle.rv_invariant.specs.Certificates.{cases_records, certificate_records, bits_rule, columns_rule, head_rule, all_locations, certificate_rule}
 use Rattle.rv_invariant.proofs.Choices.{form-left, form-right}
 use Rattle.rv_invariant.proofs.Going.{entries-none, entries-suc, locations-none, locations-suc}
 use Rattle.rv_invariant.proofs.Counting.{few-tests, tests-count}
 use Rattle.rv_invariant.proofs.Grouping.{both}
-use Rattle.rv_invariant.proofs.Knowing.{Tells, Sound, Follows, KindFits, EntryFits, LocationFits, AllLocated, row_records, row-records-more, front_records, front-records-more, some-is}
+use Rattle.rv_invariant.proofs.Knowing.{Tells, Sound, Follows, KindFits, EntryFits, LocationFits, AllLocated, row_records, row-records-more, front_records}
+use Rattle.rv_invariant.proofs.Knowing.{front-records-more, some-is}
 use Rattle.rv_invariant.proofs.Ranging.{SetFits, KeptRow, ProofFits}
 use Rattle.rv_invariant.proofs.Spelling.{below-right, times-right}
 use Rattle.rv_invariant.proofs.Standing.{by-kind, diagram-right, proof-right, list-right}
@@ -61,7 +67,8 @@ pub record Starts (rs : List Fields) : Type 0 where
 
 module _ {B : Type 0} (fs : List Form) (next : Fields → Rule B) where
   -- a record of the first forms goes by the first part
-  either-first : (q : Rule B) (b : B) (r : Fields) (rs : List Fields) (f : Form) → form_of fs r ≡ Some f → Spells (await fs next) b (r ∷ rs) → Spells (either (await fs next) q) b (r ∷ rs)
+  either-first : (q : Rule B) (b : B) (r : Fields) (rs : List Fields) (f : Form) → form_of fs r ≡ Some f → Spells (await fs next) b (r ∷ rs)
+      → Spells (either (await fs next) q) b (r ∷ rs)
   either-first (done x) b r rs f e s = s
   either-first (await gs then) b r rs f e s =
       let same = form-left fs gs r f e ∙ sym e in (
@@ -70,7 +77,8 @@ module _ {B : Type 0} (fs : List Form) (next : Fields → Rule B) where
       )
 
   -- and any other by the second
-  either-second : (q : Rule B) (b : B) (r : Fields) (rs : List Fields) → form_of fs r ≡ None → Spells q b (r ∷ rs) → Spells (either (await fs next) q) b (r ∷ rs)
+  either-second : (q : Rule B) (b : B) (r : Fields) (rs : List Fields) → form_of fs r ≡ None → Spells q b (r ∷ rs)
+      → Spells (either (await fs next) q) b (r ∷ rs)
   either-second (done x) b r rs e s = let h = s.0 in absurd (clash h)
     where
       clash : r ∷ rs ≡ [] → ⊥
@@ -107,11 +115,13 @@ module _ {A B : Type 0} (f : Form) (next : Fields → Rule A) (record_of : A →
       subst (λ p. Spells p b (record_of x ∷ (map record_of xs ++ (r ∷ rs)))) (sym (turns-next n rest))
       (either-first (f ∷ []) (λ r. bind (next r) (λ a. turns n (await (f ∷ []) next) (λ more. rest (a ∷ more)))) (rest []) b (record_of x)
       (map record_of xs ++ (r ∷ rs)) f (ap (λ k. cond k (Some f) None) (of_kind x))
-      (parts-bind (await (f ∷ []) next) (λ a. turns n (await (f ∷ []) next) (λ more. rest (a ∷ more))) x b (record_of x ∷ []) (map record_of xs ++ (r ∷ rs)) all.0
+      (parts-bind (await (f ∷ []) next) (λ a. turns n (await (f ∷ []) next) (λ more. rest (a ∷ more))) x b (record_of x ∷ []) (map record_of xs ++ (r ∷ rs))
+      all.0
       (turns-right n xs (λ more. rest (x ∷ more)) b r rs (omega arith) h all.1 s)))
 
 -- ---- What stands before the entries.
-lists-right-of : (memories low high : ℕ) (entry state : List Row) → low ≤ length entry → length entry ≤ high → high < 2 ^ 64 → AllByRecursion (KeptRow memories) entry
+lists-right-of : (memories low high : ℕ) (entry state : List Row) → low ≤ length entry → length entry ≤ high → high < 2 ^ 64
+    → AllByRecursion (KeptRow memories) entry
     → length state ≤ 1024 → AllByRecursion (KeptRow memories) state
     → Spells (row_lists memories low high) (record { entry = entry; state = state }) (row_records entry state [])
 lists-right-of memories low high entry state l h small all few each =
@@ -121,17 +131,20 @@ lists-right-of memories low high entry state l h small all few each =
     parts-bind (a_list memories (codes "entry") low high) (after_entry memories) entry whole (list_records (codes "entry") entry)
     (list_records (codes "first") [] ++ (list_records (codes "around") [] ++ (list_records (codes "state") state ++ [])))
     (list-right memories (codes "entry") low high entry refl l h small all)
-    (parts-bind (counts (codes "first") 0 0) k2 0 whole (list_records (codes "first") []) (list_records (codes "around") [] ++ (list_records (codes "state") state ++ []))
+    (parts-bind (counts (codes "first") 0 0) k2 0 whole (list_records (codes "first") [])
+    (list_records (codes "around") [] ++ (list_records (codes "state") state ++ []))
     (counts-right (codes "first") 0 0 0 refl (omega arith) (omega arith) (omega arith))
     (parts-bind (counts (codes "around") 0 0) k1 0 whole (list_records (codes "around") []) (list_records (codes "state") state ++ [])
     (counts-right (codes "around") 0 0 0 refl (omega arith) (omega arith) (omega arith))
-    (parts-bind (a_list memories (codes "state") 0 1024) (λ state. done (record { entry = entry; state = state })) state whole (list_records (codes "state") state) []
+    (parts-bind (a_list memories (codes "state") 0 1024) (λ state. done (record { entry = entry; state = state })) state whole
+    (list_records (codes "state") state) []
     (list-right memories (codes "state") 0 1024 state refl (omega arith) few (omega arith) each) (refl, refl))))
 
 -- the multipliers of a list are read as they are written
 proofs-right : (most premises : ℕ) → most ≤ 2 ^ 30 → premises ≤ 2 ^ 32 → (ms : List Multipliers) → AllByRecursion (ProofFits most premises) ms
     → Spells (times (length ms) (a_proof most premises)) ms (map by_record ms)
-proofs-right most premises l h ms all = times-right (a_proof most premises) (ProofFits most premises) by_record (λ m f. proof-right most premises l h m f) ms all
+proofs-right most premises l h ms all = times-right (a_proof most premises) (ProofFits most premises) by_record (λ m f. proof-right most premises l h m f) ms
+    all
 
 each-right : (most premises : ℕ) → most ≤ 2 ^ 30 → premises ≤ 2 ^ 32 → (ms : List Multipliers) → AllByRecursion (ProofFits most premises) ms
     → AllByRecursion (λ m. Spells (a_proof most premises) m (by_record m ∷ [])) ms
@@ -159,7 +172,8 @@ no-proof r h = ap (λ b. b && (nat_le 2 (length r) && nat_eq ((length r - 2) % 2
 
 go-fault : (locations target : ℕ) → target < locations → target < 2 ^ 32 → fault_in (entry_forms locations) (codes "go" ∷ decimal target ∷ []) ≡ None
 go-fault locations target l small =
-    ap (λ b. cond b (fault_by (Some (going locations)) (codes "go" ∷ decimal target ∷ [])) (Some why.NotRecords)) (pair-plain (codes "go") (decimal target) refl (decimal-plain target))
+    ap (λ b. cond b (fault_by (Some (going locations)) (codes "go" ∷ decimal target ∷ [])) (Some why.NotRecords))
+    (pair-plain (codes "go") (decimal target) refl (decimal-plain target))
     ∙ ap (λ b. option_map why.BadNumber (cond b None (Some 1))) (below-right locations target l small)
 
 kind-start : (when : Frozen) (k : EntryKind) (x y : List Fields) → Starts ((kind_records when k ++ x) ++ y)
@@ -201,7 +215,8 @@ shape-variables f = let h = f.few_variables in omega (arith, h, length-map f.var
 shape-tests : (f : Flat) → (shape f).tests ≤ 4096
 shape-tests f = let h = few-tests f in omega (arith, h, tests-count f.variables)
 
-module _ (s : Shape) (small : s.variables ≤ 4096) (few_tests : s.tests ≤ 4096) (locations : ℕ) (few : locations ≤ 4096) (full : Known) (sound : Sound locations full) where
+module _ (s : Shape) (small : s.variables ≤ 4096) (few_tests : s.tests ≤ 4096) (locations : ℕ) (few : locations ≤ 4096) (full : Known)
+    (sound : Sound locations full) where
   front-right : (i low high : ℕ) (l : Location) → LocationFits s locations full i l → low ≤ length l.entry → length l.entry ≤ high → high ≤ 1024
       → Spells (front_rule s low high) (front_of l) (front_records (front_of l) ((codes "cases" ∷ decimal (length l.entries) ∷ []) ∷ []))
   front-right i low high l fits least_low least_high bound =
@@ -214,9 +229,11 @@ module _ (s : Shape) (small : s.variables ≤ 4096) (few_tests : s.tests ≤ 409
       (row_records l.entry l.state (map by_record l.by_entry ++ (number ∷ [])))
       (diagram-right s small (codes "control") refl true l.control fits.control)
       (subst (Spells (after_control s low high l.control) (front_of l)) (row-records-more l.entry l.state [] (map by_record l.by_entry ++ (number ∷ [])))
-      (parts-bind (row_lists s.memories low high) (after_lists l.control) lists (front_of l) (row_records l.entry l.state []) (map by_record l.by_entry ++ (number ∷ []))
+      (parts-bind (row_lists s.memories low high) (after_lists l.control) lists (front_of l) (row_records l.entry l.state [])
+      (map by_record l.by_entry ++ (number ∷ []))
       (lists-right-of s.memories low high l.entry l.state least_low least_high (omega (arith, bound)) fits.entry fits.few_state fits.state)
-      (parts-bind (times (length l.state) (a_proof (2 ^ 30) (length l.entry))) (after_proofs l.control lists) l.by_entry (front_of l) (map by_record l.by_entry) (number ∷ [])
+      (parts-bind (times (length l.state) (a_proof (2 ^ 30) (length l.entry))) (after_proofs l.control lists) l.by_entry (front_of l) (map by_record l.by_entry)
+      (number ∷ [])
       (subst (λ n. Spells (times n (a_proof (2 ^ 30) (length l.entry))) l.by_entry (map by_record l.by_entry)) fits.counted
       (proofs-right (2 ^ 30) (length l.entry) (omega arith) (omega (arith, few_entry)) l.by_entry fits.by_entry))
       (parts-bind (counts (codes "cases") 0 4294967295) k1 (length l.entries) (front_of l) (number ∷ []) []
@@ -239,22 +256,26 @@ module _ (s : Shape) (small : s.variables ≤ 4096) (few_tests : s.tests ≤ 409
   GoesOn c then rs = (later : Known) → length later ≡ locations → Follows later full → Spells (then later) c rs
 
   module _ (c : Certificate) where
-    reach-right : (premises target : ℕ) (o : Option ℕ) (reach : List Multipliers) (next : Then (List Multipliers)) (known : Known) (rs : List Fields) → premises ≤ 2 ^ 32
+    reach-right : (premises target : ℕ) (o : Option ℕ) (reach : List Multipliers) (next : Then (List Multipliers)) (known : Known) (rs : List Fields)
+        → premises ≤ 2 ^ 32
         → known_at known target ≡ o → length known ≡ locations → Follows known full → target < locations → Tells full target (length reach)
         → AllByRecursion (ProofFits (2 ^ 30) premises) reach → Starts rs → GoesOn c (next reach) rs
         → Spells (reach_rule premises target o next known) c (map by_record reach ++ rs)
     reach-right premises target (Some n) reach next known rs bound e size follows there told all starts on =
         let same : length reach ≡ n = some-is (length reach) n (sym told ∙ follows target n e) in
         parts-bind (times n (a_proof (2 ^ 30) premises)) (λ reach. next reach known) reach c (map by_record reach) rs
-        (subst (λ k. Spells (times k (a_proof (2 ^ 30) premises)) reach (map by_record reach)) same (proofs-right (2 ^ 30) premises (omega arith) bound reach all))
+        (subst (λ k. Spells (times k (a_proof (2 ^ 30) premises)) reach (map by_record reach)) same
+        (proofs-right (2 ^ 30) premises (omega arith) bound reach all))
         (on known size follows)
     reach-right premises target None reach next known rs bound e size follows there told all starts on =
         let after = on (learn known target (length reach)) (length-set known target (Some (length reach)) ∙ size)
         (learn-follows known target (length reach) size there told follows) in
         let p = starts.parts in
-        subst (λ l. Spells (turns 1024 (a_proof (2 ^ 30) premises) (λ reach. next reach (learn known target (length reach)))) c (map by_record reach ++ l)) (sym p)
+        subst (λ l. Spells (turns 1024 (a_proof (2 ^ 30) premises) (λ reach. next reach (learn known target (length reach)))) c (map by_record reach ++ l))
+        (sym p)
         (turns-right (by_form (2 ^ 30) premises) (λ r. done (multipliers_of r)) by_record by-kind 1024 reach
-        (λ reach. next reach (learn known target (length reach))) c starts.front starts.rest (sound.small target (length reach) told) (no-proof starts.front starts.other)
+        (λ reach. next reach (learn known target (length reach))) c starts.front starts.rest (sound.small target (length reach) told)
+        (no-proof starts.front starts.other)
         (each-right (2 ^ 30) premises (omega arith) bound reach all)
         (subst (λ l. Spells (next reach (learn known target (length reach))) c l) p after))
 
@@ -316,7 +337,8 @@ module _ (s : Shape) (small : s.variables ≤ 4096) (few_tests : s.tests ≤ 409
         (parts-bind (front_rule s (low_of (known_at known i)) (high_of (known_at known i))) (after_front s locations i next known) (front_of l) c
         (front_records (front_of l) (number ∷ [])) (flat_map entry_records l.entries ++ rs)
         (front-right i (low_of (known_at known i)) (high_of (known_at known i)) l fits ends.0 ends.1 ends.2)
-        (entries-right (length l.state) l.entries [] (λ entries. next (location_of (front_of l) entries)) (learn known i (length l.entry)) rs few_state fits.entries
+        (entries-right (length l.state) l.entries [] (λ entries. next (location_of (front_of l) entries)) (learn known i (length l.entry)) rs few_state
+        fits.entries
         (length-set known i (Some (length l.entry)) ∙ size) (learn-follows known i (length l.entry) size there fits.told follows) starts
         (λ later n f. subst (λ x. Spells (next x later) c rs) (sym same) (on later n f)))))
 
@@ -330,7 +352,8 @@ module _ (s : Shape) (small : s.variables ≤ 4096) (few_tests : s.tests ≤ 409
         (refl, let e = sym (sym (append-nil before) ∙ same) in λ i. record { locations = e i }))
     locations-right (l ∷ ls) before known same count fits size follows =
         let here : length before + 0 ≡ length before = omega arith in
-        subst (λ p. Spells p c ((location_records l ++ flat_map location_records ls) ++ last_record ∷ [])) (sym (locations-suc s locations (length ls) before known))
+        subst (λ p. Spells p c ((location_records l ++ flat_map location_records ls) ++ last_record ∷ []))
+        (sym (locations-suc s locations (length ls) before known))
         (subst (Spells (location_rule s locations (length before) (λ l. locations_rule s locations (length ls) (before ++ l ∷ [])) known) c)
         (sym (append_assoc (location_records l) (flat_map location_records ls) (last_record ∷ [])))
         (location-right (length before) l (λ l. locations_rule s locations (length ls) (before ++ l ∷ [])) known
@@ -378,7 +401,8 @@ each-plain text h [] = refl
 each-plain text h (x ∷ xs) = ap (λ b. b && is_plain (map text xs)) (h x) ∙ each-plain text h xs
 
 head-right : (f : Flat) → IsTold f → (n : ℕ) → n ≤ 4096
-    → Spells (head_rule f) n (first_record ∷ (codes "main" ∷ f.main ∷ []) ∷ (codes "bits" ∷ bit_texts f) ∷ (codes "columns" ∷ column_texts f) ∷ (codes "locations" ∷ decimal n ∷ []) ∷ [])
+    → Spells (head_rule f) n (first_record ∷ (codes "main" ∷ f.main ∷ []) ∷ (codes "bits" ∷ bit_texts f) ∷ (codes "columns" ∷ column_texts f)
+    ∷ (codes "locations" ∷ decimal n ∷ []) ∷ [])
 head-right f told n few =
     let k4 : ⊤ → Rule ℕ = λ d. counts (codes "locations") 0 4096 in
     let k3 : ⊤ → Rule ℕ = λ c. bind (columns_rule f) k4 in
@@ -389,7 +413,8 @@ head-right f told n few =
     let r2 : List Fields = (codes "bits" ∷ bit_texts f) ∷ r3 in
     let r1 : List Fields = (codes "main" ∷ f.main ∷ []) ∷ r2 in
     parts-bind (exactly first_record) k1 tt n (first_record ∷ []) r1 (exactly-right first_record refl)
-    (parts-bind (names (codes "main") f.main) k2 tt n ((codes "main" ∷ f.main ∷ []) ∷ []) r2 (names-right (codes "main") f.main refl (name-plain f.main told.main))
+    (parts-bind (names (codes "main") f.main) k2 tt n ((codes "main" ∷ f.main ∷ []) ∷ []) r2
+    (names-right (codes "main") f.main refl (name-plain f.main told.main))
     (parts-bind (bits_rule f) k3 tt n ((codes "bits" ∷ bit_texts f) ∷ []) r3
     (lists-right (codes "bits") (bit_texts f) (each-plain (bit_text f.inputs) (bit-plain f.inputs told.inputs) f.variables))
     (parts-bind (columns_rule f) k4 tt n ((codes "columns" ∷ column_texts f) ∷ []) r4
@@ -414,7 +439,8 @@ document-right f c told few a =
     let n = length c.locations in
     spells-document (certificate_rule f) c (certificate_records f c)
     (parts-bind (head_rule f) (all_locations f) n c
-    (first_record ∷ (codes "main" ∷ f.main ∷ []) ∷ (codes "bits" ∷ bit_texts f) ∷ (codes "columns" ∷ column_texts f) ∷ (codes "locations" ∷ decimal n ∷ []) ∷ [])
+    (first_record ∷ (codes "main" ∷ f.main ∷ []) ∷ (codes "bits" ∷ bit_texts f) ∷ (codes "columns" ∷ column_texts f) ∷ (codes "locations" ∷ decimal n ∷ [])
+    ∷ [])
     (flat_map location_records c.locations ++ last_record ∷ []) (head-right f told n few)
     (locations-right (shape f) (shape-variables f) (shape-tests f) n few a.known a.sound c c.locations [] (replicate n None) refl (omega arith)
     (λ k l e. let same : k ≡ 0 + k = omega arith in subst (λ m. LocationFits (shape f) n a.known m l) same (a.fits k l e)) (length-replicate n None)

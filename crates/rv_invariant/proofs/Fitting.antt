@@ -1,5 +1,6 @@
 -- A certificate that has a document has the counts and ranges of one.
-use Rattle.std.proofs.Common.{◌++◌, ◌≡◌, ◌+◌, ◌*◌, ◌/◌, ◌%◌, ◌^◌, ◌<◌, ◌≤◌, ℕ, zero, suc, Bool, true, false, List, [], ◌∷◌, length, get_or, refl, sym, ap, ◌∙◌, subst, arith}
+use Rattle.std.proofs.Common.{◌++◌, ◌≡◌, ◌+◌, ◌*◌, ◌/◌, ◌%◌, ◌^◌, ◌<◌, ◌≤◌, ℕ, zero, suc, Bool, true, false, List, [], ◌∷◌, length, get_or, refl, sym, ap, ◌∙◌}
+use Rattle.std.proofs.Common.{subst, arith}
 use Rattle.std.specs.Prelude.{flat_map, decimal, ◌||◌, nat_eq, nat_le, nat_lt, pos, Option, Some, None, slice_get, replicate, codes}
 use Rattle.std.specs.List.{All, AllByRecursion}
 use Rattle.std.proofs.lemmas.Bool.{eqb-true, leb-true, ltb-true, ltb-false}
@@ -29,7 +30,8 @@ use Rattle.rv_invfile.proofs.Written.{counts-written, exactly-written, names-wri
 use Rattle.rv_invariant.specs.Continues.{Known}
 use Rattle.rv_invariant.specs.Shapes.{shape, shape_of, is_state}
 use Rattle.rv_invariant.specs.Naming.{bit_texts, column_texts}
-use Rattle.rv_invariant.specs.Certificates.{first_record, last_record, location_records, certificate_records, IsPlainLocation, FitsCertificate, bits_rule, columns_rule, head_rule, all_locations, certificate_rule}
+use Rattle.rv_invariant.specs.Certificates.{first_record, last_record, location_records, certificate_records, IsPlainLocation, FitsCertificate, bits_rule}
+use Rattle.rv_invariant.specs.Certificates.{columns_rule, head_rule, all_locations, certificate_rule}
 use Rattle.rv_invariant.proofs.Grouping.{both}
 use Rattle.rv_invariant.proofs.Knowing.{KindFits, EntryFits, LocationFits, AllLocated, Sound, all-located, all-map, some-is}
 use Rattle.rv_invariant.proofs.Ranging.{SetFits, KeptRow, ProofFits, is-record}
@@ -210,7 +212,8 @@ documents-free f rs c d k l e none = let p = (documents-fit f rs c d).plain k l 
 
 -- ---- The records of a document.
 head-written : (f : Flat) (n : ℕ) (rs : List Fields) → Spells (head_rule f) n rs
-    → rs ≡ first_record ∷ (codes "main" ∷ f.main ∷ []) ∷ (codes "bits" ∷ bit_texts f) ∷ (codes "columns" ∷ column_texts f) ∷ (codes "locations" ∷ decimal n ∷ []) ∷ []
+    → rs ≡ first_record ∷ (codes "main" ∷ f.main ∷ []) ∷ (codes "bits" ∷ bit_texts f) ∷ (codes "columns" ∷ column_texts f)
+    ∷ (codes "locations" ∷ decimal n ∷ []) ∷ []
 head-written f n rs h =
     let a = bind-parts (exactly first_record) (λ a. bind (names (codes "main") f.main)
     (λ b. bind (bits_rule f) (λ c. bind (columns_rule f) (λ d. counts (codes "locations") 0 4096)))) n rs h in

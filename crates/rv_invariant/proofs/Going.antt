@@ -20,7 +20,8 @@ use Rattle.rv_invariant.proofs.Choices.{chain-ok, chain-stops, then-here}
 use Rattle.rv_invariant.specs.Continues.{Known, Then, Waits, AllWait}
 use Rattle.rv_invfile.proofs.Bound.{bind_ok}
 use Rattle.rv_invariant.specs.Pieces.{a_diagram, a_proof}
-use Rattle.rv_invariant.specs.Certificates.{a_target, reach_rule, known_at, go_entry, dead_entry, entries_rule, entry_rule, entry_forms, going, go_rule, dead_rule, whole_go, whole_dead, location_rule, locations_rule, last_record}
+use Rattle.rv_invariant.specs.Certificates.{a_target, reach_rule, known_at, go_entry, dead_entry, entries_rule, entry_rule, entry_forms, going, go_rule}
+use Rattle.rv_invariant.specs.Certificates.{dead_rule, whole_go, whole_dead, location_rule, locations_rule, last_record}
 
 module _ (s : Shape) (n state : ℕ) where
   pub entries-none : (before : List Entry) (next : Then (List Entry)) (known : Known) → entries_rule s n state zero before next known ≡ next before known
@@ -32,14 +33,20 @@ module _ (s : Shape) (n state : ℕ) where
   unfolding entries_rule
   entries-suc k before next known = refl
 
-  pub entries-wait : (k : ℕ) (before : List Entry) (next : Then (List Entry)) (known : Known) → AllWait next → Waits (entries_rule s n state k before next known)
+  pub entries-wait : (k : ℕ) (before : List Entry) (next : Then (List Entry)) (known : Known) → AllWait next
+      → Waits (entries_rule s n state k before next known)
   unfolding entries_rule
   entries-wait zero before next known w = w before known
-  entries-wait (suc k) before next known w =
-      (entry_forms n, λ r. cond (bytes_eq (word_of r) (codes "go")) (go_rule s state (natural (field r 1)) (λ e. entries_rule s n state k (before ++ e ∷ []) next) known) (dead_rule s state (λ e. entries_rule s n state k (before ++ e ∷ []) next) known), refl)
+  entries-wait (suc k) before next known w = (
+    entry_forms n,
+    λ r. cond (bytes_eq (word_of r) (codes "go")) (go_rule s state (natural (field r 1))
+        (λ e. entries_rule s n state k (before ++ e ∷ []) next) known) (dead_rule s state (λ e. entries_rule s n state k (before ++ e ∷ []) next) known),
+    refl,
+  )
 
 module _ (s : Shape) (n : ℕ) where
-  pub locations-none : (before : List Location) (known : Known) → locations_rule s n zero before known ≡ bind (exactly last_record) (λ e. done (record { locations = before }))
+  pub locations-none : (before : List Location) (known : Known) → locations_rule s n zero before known ≡ bind (exactly last_record)
+      (λ e. done (record { locations = before }))
   unfolding locations_rule
   locations-none before known = refl
 
@@ -64,7 +71,8 @@ begun s n before known a e k =
     ∙ ap (λ m. run (locations_rule s n m [] (replicate n None)) a) (omega arith)
 
 -- all locations are read
-module _ (s : Shape) (n i : ℕ) (before : List Location) (known : Known) (a : Ahead) (whole : Reading Certificate) (past : n ≤ i) (kept : run (locations_rule s n (n - i) before known) a ≡ whole) where
+module _ (s : Shape) (n i : ℕ) (before : List Location) (known : Known) (a : Ahead) (whole : Reading Certificate) (past : n ≤ i)
+    (kept : run (locations_rule s n (n - i) before known) a ≡ whole) where
   abbrev ended : ⊤ → Rule Certificate
   ended e = done (record { locations = before })
 
@@ -76,7 +84,8 @@ module _ (s : Shape) (n i : ℕ) (before : List Location) (known : Known) (a : A
   pub over : (new : Ahead) → run (exactly last_record) a ≡ Ok (tt, new) → whole ≡ Ok (record { locations = before }, new)
   over new h = chain-ok (exactly last_record) ended whole a new tt at-end h
 
-  pub over-stops : (e : FileFault) (new : Ahead) → Reads (λ (u : ⊤). u) (run (exactly last_record) a) (Err e) new → Reads (λ (c : Certificate). c) whole (Err e) new
+  pub over-stops : (e : FileFault) (new : Ahead) → Reads (λ (u : ⊤). u) (run (exactly last_record) a) (Err e) new
+      → Reads (λ (c : Certificate). c) whole (Err e) new
   over-stops e new h = chain-stops (λ (u : ⊤). u) (λ (c : Certificate). c) (exactly last_record) ended whole a e new at-end h
 
 -- ---- The two kinds of entries.
@@ -97,7 +106,8 @@ not-true false h = refl
 -- a record that begins with `go` is not that of a dead entry
 pub not-dead : (r : Fields) → bytes_eq (word_of r) (codes "go") ≡ true → same_fields r (codes "dead" ∷ []) ≡ false
 not-dead [] h = refl
-not-dead (x ∷ r) h = not-true (same_fields (x ∷ r) (codes "dead" ∷ [])) (λ e. other-word x (bytes-same x (codes "go") h) (bytes-same x (codes "dead") (and-first (bytes_eq x (codes "dead")) (same_fields r []) e)))
+not-dead (x ∷ r) h = not-true (same_fields (x ∷ r) (codes "dead" ∷ []))
+    (λ e. other-word x (bytes-same x (codes "go") h) (bytes-same x (codes "dead") (and-first (bytes_eq x (codes "dead")) (same_fields r []) e)))
 
 pub go-form : (n : ℕ) (b d : Bool) (f g : Form) → d ≡ false → cond b (Some f) (cond d (Some g) None) ≡ cond b (Some f) None
 go-form n b d f g e = ap (λ x. cond b (Some f) (cond x (Some g) None)) e
@@ -105,15 +115,19 @@ go-form n b d f g e = ap (λ x. cond b (Some f) (cond x (Some g) None)) e
 go-in : (n k : ℕ) (rs : List Fields) → bytes_eq (word_of (first rs)) (codes "go") ≡ true → take_in (entry_forms n) k rs ≡ take_in (going n ∷ []) k rs
 go-in n k [] h = refl
 go-in n k (r ∷ rs) h =
-    ap (λ o. judged (cond (is_plain r) (fault_by o r) (Some why.NotRecords)) k r rs) (go-form n ((going n).is_kind r) (same_fields r (codes "dead" ∷ [])) (going n) (fixed (codes "dead" ∷ [])) (not-dead r h))
+    ap (λ o. judged (cond (is_plain r) (fault_by o r) (Some why.NotRecords)) k r rs)
+    (go-form n ((going n).is_kind r) (same_fields r (codes "dead" ∷ [])) (going n) (fixed (codes "dead" ∷ [])) (not-dead r h))
 
-dead-in : (n k : ℕ) (rs : List Fields) → bytes_eq (word_of (first rs)) (codes "go") ≡ false → take_in (entry_forms n) k rs ≡ take_in (fixed (codes "dead" ∷ []) ∷ []) k rs
+dead-in : (n k : ℕ) (rs : List Fields) → bytes_eq (word_of (first rs)) (codes "go") ≡ false
+    → take_in (entry_forms n) k rs ≡ take_in (fixed (codes "dead" ∷ []) ∷ []) k rs
 dead-in n k [] h = refl
 dead-in n k (r ∷ rs) h =
-    ap (λ b. judged (cond (is_plain r) (fault_by (cond (b && nat_eq (length r) 2) (Some (going n)) (cond (same_fields r (codes "dead" ∷ [])) (Some (fixed (codes "dead" ∷ []))) None)) r) (Some why.NotRecords)) k r rs) h
+    ap (λ b. judged (cond (is_plain r) (fault_by (cond (b && nat_eq (length r) 2) (Some (going n))
+    (cond (same_fields r (codes "dead" ∷ [])) (Some (fixed (codes "dead" ∷ []))) None)) r) (Some why.NotRecords)) k r rs) h
 
 -- the record that was taken is the one that stood here
-then-taken : {A : Type 0} (forms : List Form) (k : ℕ) (rs : List Fields) (f g : Fields → Rule A) → f (first rs) ≡ g (first rs) → (take_in forms k rs >>= λ x. run (f x.0) x.1) ≡ (take_in forms k rs >>= λ x. run (g x.0) x.1)
+then-taken : {A : Type 0} (forms : List Form) (k : ℕ) (rs : List Fields) (f g : Fields → Rule A) → f (first rs) ≡ g (first rs)
+    → (take_in forms k rs >>= λ x. run (f x.0) x.1) ≡ (take_in forms k rs >>= λ x. run (g x.0) x.1)
 then-taken forms k [] f g h = refl
 then-taken forms k (r ∷ rs) f g h = then-here (fault_in forms r) k r rs f g h
 
@@ -149,7 +163,8 @@ module _ (s : Shape) (n state : ℕ) (known : Known) (next : Then Entry) (a a1 a
   pub go-to-reach : run (a_target n) a ≡ Ok (t, a1) → run (a_diagram s (codes "when") false) a1 ≡ Ok (when, a2)
       → run (whole_go s n state next known) a ≡ run (reach_rule (state + s.tests) t (known_at known t) (λ reach. next (go_entry t when reach)) known) a2
   go-to-reach h k =
-      go-to-when h ∙ bind_ok (a_diagram s (codes "when") false) (λ w. reach_rule (state + s.tests) t (known_at known t) (λ reach. next (go_entry t w reach)) known) a1 a2 when k
+      go-to-when h ∙ bind_ok (a_diagram s (codes "when") false) (λ w. reach_rule (state + s.tests) t (known_at known t) (λ reach. next (go_entry t w reach))
+      known) a1 a2 when k
 
   pub dead-to-when : run (exactly (codes "dead" ∷ [])) a ≡ Ok (tt, a1) → run (whole_dead s state next known) a ≡ run (dead_rule s state next known) a1
   dead-to-when h = bind_ok (exactly (codes "dead" ∷ [])) (λ u. dead_rule s state next known) a a1 tt h

@@ -77,14 +77,16 @@ module _ (w : ℕ) (width : Width w) (head : Fields → Bool) (right : Fields �
       ∙ ap (λ a. right r a ((2 + w * k + j - 2) % w)) (width.group k j h)
       ∙ ap (λ b. right r k b) (width.place k j h)
 
-  pub all-right : (r : Fields) (n : ℕ) → length r ≡ 2 + w * n → head r ≡ true → AreRight w n (right r) → (i : ℕ) → i < length r → groups_right w head right r i ≡ true
+  pub all-right : (r : Fields) (n : ℕ) → length r ≡ 2 + w * n → head r ≡ true → AreRight w n (right r) → (i : ℕ) → i < length r
+      → groups_right w head right r i ≡ true
   all-right r n l h a zero b = refl
   all-right r n l h a (suc zero) b = h
   all-right r n l h a (suc (suc m)) b =
       let p = width.splits (suc (suc m)) n (omega arith) (omega (arith, l, b)) in
       ap (groups_right w head right r) p.4 ∙ at-group r p.0 p.1 p.3 ∙ a p.0 p.1 p.2 p.3
 
-  pub none-wrong : (r : Fields) (n : ℕ) → length r ≡ 2 + w * n → head r ≡ true → AreRight w n (right r) → first_bad (groups_right w head right r) 0 (length r) ≡ None
+  pub none-wrong : (r : Fields) (n : ℕ) → length r ≡ 2 + w * n → head r ≡ true → AreRight w n (right r)
+      → first_bad (groups_right w head right r) 0 (length r) ≡ None
   none-wrong r n l h a = none-bad (groups_right w head right r) 0 (length r) (λ k b. all-right r n l h a k (omega (arith, b)))
 
   word-right : (r : Fields) (k : ℕ) → k < 1 → groups_right w head right r k ≡ true
@@ -120,7 +122,8 @@ module _ (w : ℕ) (width : Width w) (head : Fields → Bool) (right : Fields �
         (ap (groups_right w head right r) f.here.number ∙ at-group r f.group f.here.place f.here.within ∙ f.here.wrong)
 
   -- groups that are not read are not read as the record
-  pub groups-stop : {X Y : Type 0} (word : List ℕ) (s : Ahead) (n : ℕ) (value : X) (other : Y) (e : FileFault) → length (here s) ≡ 2 + w * n → head (here s) ≡ true
+  pub groups-stop : {X Y : Type 0} (word : List ℕ) (s : Ahead) (n : ℕ) (value : X) (other : Y) (e : FileFault) → length (here s) ≡ 2 + w * n
+      → head (here s) ≡ true
       → ReadsGroups w right s n value (Err e) → ReadsFields s (grouped word w head right) other (Err e)
   groups-stop word s n value other fault.Memory l h g = tt
   groups-stop word s n value other (fault.NotRecords k) l h g = absurd g
@@ -130,7 +133,8 @@ module _ (w : ℕ) (width : Width w) (head : Fields → Bool) (right : Fields �
   groups-stop word s n value other (fault.Ends k) l h g = absurd g
 
 -- a group that is not right is the first wrong one
-pub group-stops : {X Y : Type 0} (w : ℕ) (right : Fields → ℕ → ℕ → Bool) (s : Ahead) (n k : ℕ) (value : X) (other : Y) (e : FileFault) → k < n → AreRight w k (right (here s))
+pub group-stops : {X Y : Type 0} (w : ℕ) (right : Fields → ℕ → ℕ → Bool) (s : Ahead) (n k : ℕ) (value : X) (other : Y) (e : FileFault) → k < n
+    → AreRight w k (right (here s))
     → ReadsGroup w right s k value (Err e) → ReadsGroups w right s n other (Err e)
 group-stops w right s n k value other fault.Memory l a g = absurd g
 group-stops w right s n k value other (fault.NotRecords m) l a g = absurd g
@@ -170,7 +174,8 @@ pub of-none : (p : ℕ → Bool) (j : ℕ) → j < 0 → p j ≡ true
 of-none p j l = absurd (omega (arith, l))
 
 -- a record whose fields were read and are not all right
-pub fields-stop : {A : Type 0} (f : Form) (g : Fields → A) (s : Ahead) (value : A) (e : FileFault) (new : Ahead) → kind_fault f.is_kind s ≡ None → f.is_program (here s) ≡ true
+pub fields-stop : {A : Type 0} (f : Form) (g : Fields → A) (s : Ahead) (value : A) (e : FileFault) (new : Ahead) → kind_fault f.is_kind s ≡ None
+    → f.is_program (here s) ≡ true
     → ReadsFields s f value (Err e) → Reads (λ (a : A). a) (run (await (f ∷ []) (λ r. done (g r))) s) (Err e) new
 fields-stop f g s value fault.Memory new k p h = tt
 fields-stop f g s value (fault.NotRecords n) new k p h = absurd h

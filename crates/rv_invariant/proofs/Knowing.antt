@@ -1,5 +1,6 @@
 -- What is known of entry rows as records are read, and that what is read is in range with it.
-use Rattle.std.proofs.Common.{append_assoc, ◌≡◌, ◌+◌, ◌^◌, ◌<◌, ◌≤◌, ℕ, zero, suc, Bool, true, false, cond, List, [], ◌∷◌, ◌++◌, length, refl, sym, ap, ◌∙◌, subst, arith, inl, inr, eqb}
+use Rattle.std.proofs.Common.{append_assoc, ◌≡◌, ◌+◌, ◌^◌, ◌<◌, ◌≤◌, ℕ, zero, suc, Bool, true, false, cond, List, [], ◌∷◌, ◌++◌, length, refl, sym, ap, ◌∙◌}
+use Rattle.std.proofs.Common.{subst, arith, inl, inr, eqb}
 use Rattle.std.specs.Prelude.{◌&&◌, nat_eq, map, flat_map, decimal, ◌⊎◌, Option, Some, None, slice_get, codes, is_some}
 use Rattle.std.specs.Str.{bytes_eq}
 use Rattle.std.specs.List.{AllByRecursion}
@@ -26,7 +27,9 @@ use Rattle.rv_invariant.specs.declared.fronts.Front.{Front}
 use Rattle.rv_invariant.specs.declared.fronts.Lists.{Lists}
 use Rattle.rv_invariant.specs.Continues.{Known, Then}
 use Rattle.rv_invariant.specs.Pieces.{a_diagram, a_list, a_proof, a_row, by_form, by_record, diagram_record, list_records, multipliers_of, row_record}
-use Rattle.rv_invariant.specs.Certificates.{known_at, learn, low_of, high_of, after_entry, row_lists, after_proofs, after_lists, after_control, front_rule, going, reach_rule, go_entry, dead_entry, go_rule, dead_rule, entry_rule, entry_forms, entries_rule, location_of, after_front, location_rule, locations_rule, last_record, entry_records, location_records, cases_records}
+use Rattle.rv_invariant.specs.Certificates.{known_at, learn, low_of, high_of, after_entry, row_lists, after_proofs, after_lists, after_control, front_rule}
+use Rattle.rv_invariant.specs.Certificates.{going, reach_rule, go_entry, dead_entry, go_rule, dead_rule, entry_rule, entry_forms, entries_rule, location_of}
+use Rattle.rv_invariant.specs.Certificates.{after_front, location_rule, locations_rule, last_record, entry_records, location_records, cases_records}
 use Rattle.rv_invariant.proofs.Choices.{form-left, form-right}
 use Rattle.rv_invariant.proofs.Going.{entries-none, entries-suc, locations-none, locations-suc, not-dead, go-form}
 use Rattle.rv_invariant.proofs.Recorded.{diagram-written, proof-written, row-written}
@@ -46,7 +49,8 @@ pub record FrontFits (s : Shape) (low high : ℕ) (front : Front) : Type 0 where
   pub cases : front.cases ≤ 4294967295
 
 lists-fit : (memories low high : ℕ) (lists : Lists) (rs : List Fields) → Spells (row_lists memories low high) lists rs
-    → (low ≤ length lists.entry) × (length lists.entry ≤ high) × AllByRecursion (KeptRow memories) lists.entry × (length lists.state ≤ 1024) × AllByRecursion (KeptRow memories) lists.state
+    → (low ≤ length lists.entry) × (length lists.entry ≤ high) × AllByRecursion (KeptRow memories) lists.entry × (length lists.state ≤ 1024)
+    × AllByRecursion (KeptRow memories) lists.state
 lists-fit memories low high lists rs s =
     let a = bind-parts (a_list memories (codes "entry") low high) (after_entry memories) lists rs s in
     let b = bind-parts (counts (codes "first") 0 0) (λ x. bind (counts (codes "around") 0 0)
@@ -457,7 +461,8 @@ record AllEntered (s : Shape) (locations state count : ℕ) (before : List Entry
   grown : entries ≡ before ++ added
   written : rs ≡ flat_map entry_records added ++ records
 
-all-entered : (s : Shape) (locations state n count : ℕ) (before : List Entry) (next : Then (List Entry)) (known : Known) (c : Certificate) (rs : List Fields) → Sound locations known → length before + n ≡ count
+all-entered : (s : Shape) (locations state n count : ℕ) (before : List Entry) (next : Then (List Entry)) (known : Known) (c : Certificate) (rs : List Fields)
+    → Sound locations known → length before + n ≡ count
     → AllByRecursion (EntryFits s locations state known) before → Spells (entries_rule s locations state n before next known) c rs
     → AllEntered s locations state count before known next c rs
 all-entered s locations state zero count before next known c rs sound size fits h = record {

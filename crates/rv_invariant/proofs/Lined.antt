@@ -156,7 +156,11 @@ kind-clear when (Loop first before around state) = (
 
 location-clear : (l : Location) → AreClear (location_records l)
 location-clear l =
-    let cases : AreClear (cases_records l.entries) = (count-clear (codes "cases") (omega arith) refl (length l.entries), flat-clear entry_records (λ e. kind-clear e.condition e.kind) l.entries) in
+    let cases : AreClear (cases_records l.entries) = (
+      count-clear (codes "cases") (omega arith) refl (length l.entries),
+      flat-clear entry_records
+          (λ e. kind-clear e.condition e.kind) l.entries,
+    ) in
     let by_first = joined-clear (map by_record l.by_first) (cases_records l.entries) (proofs-clear l.by_first) cases in
     let r0 = map by_record l.by_first ++ cases_records l.entries in
     let by_entry = joined-clear (map by_record l.by_entry) r0 (proofs-clear l.by_entry) by_first in
@@ -177,7 +181,10 @@ certificate-clear f c told =
     let head : IsClear first_record = (omega arith, (refl, (refl, (refl, tt)))) in
     let main : IsClear (codes "main" ∷ f.main ∷ []) = (omega arith, (refl, (name-quiet f.main told.main, tt))) in
     let bits : IsClear (codes "bits" ∷ bit_texts f) = (omega arith, (refl, mapped-quiet (bit_text f.inputs) (bit-quiet f.inputs told.inputs) f.variables)) in
-    let columns : IsClear (codes "columns" ∷ column_texts f) = (omega arith, (refl, mapped-quiet (column_text f.inputs) (column-quiet f.inputs told.inputs) f.columns)) in
+    let columns : IsClear (codes "columns" ∷ column_texts f) = (
+      omega arith,
+      (refl, mapped-quiet (column_text f.inputs) (column-quiet f.inputs told.inputs) f.columns),
+    ) in
     (head, (main, (bits, (columns, (count-clear (codes "locations") (omega arith) refl (length c.locations), locations)))))
 
 -- ---- How they are written.

@@ -1,5 +1,6 @@
 -- A certificate that has the counts and ranges of a document has, location by location, what the rule of documents asks for.
-use Rattle.std.proofs.Common.{◌≡◌, ◌+◌, ◌*◌, ◌/◌, ◌%◌, ◌^◌, ◌<◌, ◌≤◌, ℕ, zero, suc, Bool, true, false, List, [], ◌∷◌, length, map, refl, sym, ap, ◌∙◌, subst, arith}
+use Rattle.std.proofs.Common.{◌≡◌, ◌+◌, ◌*◌, ◌/◌, ◌%◌, ◌^◌, ◌<◌, ◌≤◌, ℕ, zero, suc, Bool, true, false, List, [], ◌∷◌, length, map, refl, sym, ap, ◌∙◌, subst}
+use Rattle.std.proofs.Common.{arith}
 use Rattle.std.specs.Prelude.{◌&&◌, ◌||◌, nat_eq, nat_le, pos, ◌≤ℤ◌, Option, Some, None, slice_get, option_map}
 use Rattle.std.specs.List.{AllByRecursion}
 use Rattle.std.proofs.lemmas.Bool.{lt-ltb, eq-eqb, eqb-false, leb-false}
@@ -39,7 +40,8 @@ told-at [] k l h = cc
 told-at (x ∷ ls) zero l h = ap (option_map (λ (y : Location). length y.entry)) h
 told-at (x ∷ ls) (suc k) l h = told-at ls k l h
 
-told-few : (ls : List Location) → ((k : ℕ) (l : Location) → slice_get ls k ≡ Some l → length l.entry ≤ 1024) → (i n : ℕ) → known_at (map told ls) i ≡ Some n → n ≤ 1024
+told-few : (ls : List Location) → ((k : ℕ) (l : Location) → slice_get ls k ≡ Some l → length l.entry ≤ 1024) → (i n : ℕ) → known_at (map told ls) i ≡ Some n
+    → n ≤ 1024
 told-few [] few i n h = absurd (clash h)
   where
     clash : None ≡ Some n → ⊥

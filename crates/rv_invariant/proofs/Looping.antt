@@ -11,14 +11,18 @@ use Rattle.rv_invariant.proofs.Upto.{upto-more}
 pub pushed-length : {A : Type 0} (xs new : List A) (x : A) → new ≡ xs ++ x ∷ [] → length new ≡ length xs + 1
 pushed-length xs new x e = ap length e ∙ length_push xs x
 
-pub pushed-read : {A : Type 0} (item : Fields → ℕ → A) (r : Fields) (xs new : List A) (x : A) → xs ≡ upto item r (length xs) → x ≡ item r (length xs) → new ≡ xs ++ x ∷ [] → new ≡ upto item r (length new)
+pub pushed-read : {A : Type 0} (item : Fields → ℕ → A) (r : Fields) (xs new : List A) (x : A) → xs ≡ upto item r (length xs) → x ≡ item r (length xs)
+    → new ≡ xs ++ x ∷ [] → new ≡ upto item r (length new)
 pushed-read item r xs new x h k e =
-    e ∙ ap (λ y. xs ++ y ∷ []) k ∙ ap (λ l. l ++ item r (length xs) ∷ []) h ∙ sym (upto-more item r (length xs)) ∙ ap (upto item r) (sym (pushed-length xs new x e))
+    e ∙ ap (λ y. xs ++ y ∷ []) k ∙ ap (λ l. l ++ item r (length xs) ∷ []) h ∙ sym (upto-more item r (length xs))
+    ∙ ap (upto item r) (sym (pushed-length xs new x e))
 
-pub pushed-right : {A : Type 0} (w : ℕ) (right : ℕ → ℕ → Bool) (xs new : List A) (x : A) → AreRight w (length xs) right → ((j : ℕ) → j < w → right (length xs) j ≡ true) → new ≡ xs ++ x ∷ [] → AreRight w (length new) right
+pub pushed-right : {A : Type 0} (w : ℕ) (right : ℕ → ℕ → Bool) (xs new : List A) (x : A) → AreRight w (length xs) right
+    → ((j : ℕ) → j < w → right (length xs) j ≡ true) → new ≡ xs ++ x ∷ [] → AreRight w (length new) right
 pushed-right w right xs new x a h e = subst (λ n. AreRight w n right) (sym (pushed-length xs new x e)) (right-more w (length xs) right a h)
 
-pub all-read : {A : Type 0} (item : Fields → ℕ → A) (r : Fields) (w : ℕ) (right : ℕ → ℕ → Bool) (xs : List A) (count : ℕ) → length xs ≡ count → xs ≡ upto item r (length xs) → AreRight w (length xs) right
+pub all-read : {A : Type 0} (item : Fields → ℕ → A) (r : Fields) (w : ℕ) (right : ℕ → ℕ → Bool) (xs : List A) (count : ℕ) → length xs ≡ count
+    → xs ≡ upto item r (length xs) → AreRight w (length xs) right
     → (xs ≡ upto item r count) × AreRight w count right
 all-read item r w right xs count e h a = (h ∙ ap (upto item r) e, subst (λ n. AreRight w n right) e a)
 
@@ -42,6 +46,7 @@ drop-same (y ∷ ys) zero x h = ap (λ z. z ∷ []) (same y x h)
     same a b e = cc
 drop-same (y ∷ ys) (suc i) x h = let e : suc i + 1 ≡ suc (i + 1) = omega arith in ap (λ k. take k (y ∷ ys)) e ∙ ap (λ l. y ∷ l) (drop-same ys i x h)
 
-pub mapped-more : {X Y : Type 0} (f : X → Y) (xs : List X) (i : ℕ) (x : X) (old new : List Y) (y : Y) → slice_get xs i ≡ Some x → old ≡ map f (take i xs) → y ≡ f x → new ≡ old ++ y ∷ [] → new ≡ map f (take (i + 1) xs)
+pub mapped-more : {X Y : Type 0} (f : X → Y) (xs : List X) (i : ℕ) (x : X) (old new : List Y) (y : Y) → slice_get xs i ≡ Some x → old ≡ map f (take i xs)
+    → y ≡ f x → new ≡ old ++ y ∷ [] → new ≡ map f (take (i + 1) xs)
 mapped-more f xs i x old new y h k e p =
     p ∙ ap (λ z. old ++ z ∷ []) e ∙ ap (λ l. l ++ f x ∷ []) k ∙ sym (map-append f (take i xs) (x ∷ [])) ∙ ap (map f) (sym (drop-same xs i x h))

@@ -29,7 +29,9 @@ use Rattle.rv_invariant.specs.declared.counts.Shape.{Shape}
 use Rattle.rv_invariant.specs.Certificates.{IsHeld}
 use Rattle.rv_invariant.specs.Groups.{grouped, group_count, upto}
 use Rattle.rv_invariant.specs.Shapes.{may_stand}
-use Rattle.rv_invariant.specs.Pieces.{a_diagram, a_list, a_proof, a_row, by_form, coefficient_at, diagram, frozen_of, is_below, is_child, is_divisor, is_node_field, is_pair_field, is_root, is_within, least_at, multipliers_of, row_form, row_of, triple_at, variable_at, weight_at}
+use Rattle.rv_invariant.specs.Pieces.{a_diagram, a_list, a_proof, a_row, by_form, coefficient_at, diagram, frozen_of, is_below, is_child, is_divisor}
+use Rattle.rv_invariant.specs.Pieces.{is_node_field, is_pair_field, is_root, is_within, least_at, multipliers_of, row_form, row_of, triple_at, variable_at}
+use Rattle.rv_invariant.specs.Pieces.{weight_at}
 use Rattle.rv_invariant.proofs.Grouping.{Width, two, three, both, grouped-is, at-group}
 use Rattle.rv_invariant.proofs.Rowing.{number-test}
 use Rattle.rv_invariant.proofs.Spelling.{below-told}

@@ -16,7 +16,9 @@ use Rattle.rv_invfile.proofs.Written.{Right, single, worded}
 use Rattle.rv_invariant.specs.declared.counts.Shape.{Shape}
 use Rattle.rv_invariant.specs.Groups.{grouped, group_count, upto}
 use Rattle.rv_invariant.specs.Shapes.{may_stand}
-use Rattle.rv_invariant.specs.Pieces.{a_diagram, a_proof, a_row, by_form, coefficient_at, diagram, diagram_record, by_record, row_record, frozen_of, is_below, is_child, is_divisor, is_node_field, is_pair_field, is_root, is_within, least_at, multipliers_of, row_form, row_of, triple_at, triple_texts, variable_at, weight_at, weight_texts}
+use Rattle.rv_invariant.specs.Pieces.{a_diagram, a_proof, a_row, by_form, coefficient_at, diagram, diagram_record, by_record, row_record, frozen_of, is_below}
+use Rattle.rv_invariant.specs.Pieces.{is_child, is_divisor, is_node_field, is_pair_field, is_root, is_within, least_at, multipliers_of, row_form, row_of}
+use Rattle.rv_invariant.specs.Pieces.{triple_at, triple_texts, variable_at, weight_at, weight_texts}
 use Rattle.rv_invariant.proofs.Grouping.{Width, two, three, both, grouped-is}
 use Rattle.rv_invariant.proofs.Ranging.{head-right, group-right}
 use Rattle.rv_invariant.proofs.Rowing.{number-test}

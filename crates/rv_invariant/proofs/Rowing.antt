@@ -33,15 +33,18 @@ module _ (r : Fields) where
   first-two h (suc zero) l = h
   first-two h (suc (suc k)) l = absurd (omega (arith, l))
 
-  pub number-wrong : (k : ℕ) → k + 2 < length r → ((i : ℕ) → i < k + 2 → is_row_field r i ≡ true) → is_within (2 ^ 30) (field r (k + 2)) ≡ false → first_bad (is_row_field r) 0 (length r) ≡ Some (k + 2)
+  pub number-wrong : (k : ℕ) → k + 2 < length r → ((i : ℕ) → i < k + 2 → is_row_field r i ≡ true) → is_within (2 ^ 30) (field r (k + 2)) ≡ false
+      → first_bad (is_row_field r) 0 (length r) ≡ Some (k + 2)
   number-wrong k l a h = one-bad (is_row_field r) 0 (length r) (k + 2) (omega arith) (omega (arith, l)) a (number-test k ∙ h)
 
-  pub numbers-more : (k n : ℕ) → n ≡ k + 1 → ((i : ℕ) → i < k + 2 → is_row_field r i ≡ true) → is_within (2 ^ 30) (field r (k + 2)) ≡ true → (i : ℕ) → i < n + 2 → is_row_field r i ≡ true
+  pub numbers-more : (k n : ℕ) → n ≡ k + 1 → ((i : ℕ) → i < k + 2 → is_row_field r i ≡ true) → is_within (2 ^ 30) (field r (k + 2)) ≡ true → (i : ℕ) → i < n + 2
+      → is_row_field r i ≡ true
   numbers-more k n e a h =
       let sum : (k + 2) + 1 ≡ n + 2 = omega (arith, e) in
       subst (λ m. (i : ℕ) → i < m → is_row_field r i ≡ true) sum (below_more _ _ a (number-test k ∙ h))
 
-  pub row-is : (memories : ℕ) (cs : List ℤ) (b : ℤ) → cs ≡ upto coefficient_at r memories → b ≡ whole (field r 1) → record { coefficients = cs; bound = b } ≡ row_of memories r
+  pub row-is : (memories : ℕ) (cs : List ℤ) (b : ℤ) → cs ≡ upto coefficient_at r memories → b ≡ whole (field r 1)
+      → record { coefficients = cs; bound = b } ≡ row_of memories r
   row-is memories cs b e h = λ i. record { coefficients = e i; bound = h i }
 
   pub all-right : (n : ℕ) → length r ≡ n + 2 → ((i : ℕ) → i < n + 2 → is_row_field r i ≡ true) → first_bad (is_row_field r) 0 (length r) ≡ None
@@ -50,6 +53,7 @@ module _ (r : Fields) where
 -- what a text within a limit writes is held
 pub fits-within : (limit : ℕ) (text : List ℕ) (z : ℤ) → limit < 2 ^ 110 → is_within limit text ≡ true → z ≡ whole text → FitsSigned w128 z
 fits-within limit text z l h e =
-    let small = leb-true (unsigned_abs (whole text)) limit (both (bytes_eq text (signed_decimal (whole text))) (nat_le (unsigned_abs (whole text)) limit) h).1 in
+    let small = leb-true (unsigned_abs (whole text)) limit (both (bytes_eq text (signed_decimal (whole text))) (nat_le (unsigned_abs (whole text)) limit) h).1
+    in
     let same = ap unsigned_abs e in
     fits_below z (omega (arith, same, small, l))

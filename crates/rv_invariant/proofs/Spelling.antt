@@ -46,7 +46,8 @@ pub record Grows (w : ℕ) : Type 0 where
 module _ {A : Type 0} (w : ℕ) (width : Width w) (grows : Grows w) (texts : A → Fields) (wide : (x : A) → length (texts x) ≡ w) where
   pub flat-length : (xs : List A) → length (flat_map texts xs) ≡ w * length xs
   flat-length [] = sym (omega (arith, grows.none 0))
-  flat-length (x ∷ xs) = length-append (texts x) (flat_map texts xs) ∙ ap (λ n. n + length (flat_map texts xs)) (wide x) ∙ ap (λ n. w + n) (flat-length xs) ∙ sym (grows.more (length xs))
+  flat-length (x ∷ xs) = length-append (texts x) (flat_map texts xs) ∙ ap (λ n. n + length (flat_map texts xs)) (wide x) ∙ ap (λ n. w + n) (flat-length xs)
+      ∙ sym (grows.more (length xs))
 
   flat-at : (xs : List A) (k j : ℕ) (d : A) → k < length xs → j < w → get_or (flat_map texts xs) (w * k + j) [] ≡ get_or (texts (get_or xs k d)) j []
   flat-at [] k j d l h = absurd (omega (arith, l))
@@ -58,7 +59,8 @@ module _ {A : Type 0} (w : ℕ) (width : Width w) (grows : Grows w) (texts : A �
       ∙ ap (λ i. get_or (flat_map texts xs) i []) (grows.back k j) ∙ flat-at xs k j d (omega (arith, l)) h
 
   -- the fields of the record of a list
-  pub field-at : (a b : List ℕ) (xs : List A) (k j : ℕ) (d : A) → k < length xs → j < w → field (a ∷ b ∷ flat_map texts xs) (2 + w * k + j) ≡ get_or (texts (get_or xs k d)) j []
+  pub field-at : (a b : List ℕ) (xs : List A) (k j : ℕ) (d : A) → k < length xs → j < w
+      → field (a ∷ b ∷ flat_map texts xs) (2 + w * k + j) ≡ get_or (texts (get_or xs k d)) j []
   field-at a b xs k j d l h =
       let e : 2 + w * k + j ≡ suc (suc (w * k + j)) = omega arith in
       ap (λ i. get_or (a ∷ b ∷ flat_map texts xs) i []) e ∙ flat-at xs k j d l h
@@ -67,7 +69,8 @@ module _ {A : Type 0} (w : ℕ) (width : Width w) (grows : Grows w) (texts : A �
   record-length a b xs = omega (arith, flat-length xs)
 
   -- a record whose fields are such is that of the list
-  module _ (item : Fields → ℕ → A) (r : Fields) (n : ℕ) (size : length r ≡ 2 + w * n) (fields : (k j : ℕ) → k < n → j < w → field r (2 + w * k + j) ≡ get_or (texts (item r k)) j []) where
+  module _ (item : Fields → ℕ → A) (r : Fields) (n : ℕ) (size : length r ≡ 2 + w * n)
+      (fields : (k j : ℕ) → k < n → j < w → field r (2 + w * k + j) ≡ get_or (texts (item r k)) j []) where
     abbrev spelled : Fields
     spelled = field r 0 ∷ field r 1 ∷ flat_map texts (upto item r n)
 
@@ -81,11 +84,13 @@ module _ {A : Type 0} (w : ℕ) (width : Width w) (grows : Grows w) (texts : A �
         ∙ sym (field-at (field r 0) (field r 1) (upto item r n) p.0 p.1 (item r 0) room p.3) ∙ sym (ap (λ m. get_or spelled m []) p.4)
 
     pub same-record : r ≡ spelled
-    same-record = ext_get_or [] r spelled (size ∙ sym (record-length (field r 0) (field r 1) (upto item r n) ∙ ap (λ m. 2 + w * m) (upto-length item r n))) at-place
+    same-record = ext_get_or [] r spelled (size ∙ sym (record-length (field r 0) (field r 1) (upto item r n) ∙ ap (λ m. 2 + w * m) (upto-length item r n)))
+        at-place
 
 -- ---- Lists of records.
 module _ {A : Type 0} (part : Rule A) (P : A → Type 0) (record_of : A → Fields) where
-  pub times-written : ((a : A) (rs : List Fields) → Spells part a rs → P a × (rs ≡ record_of a ∷ [])) → (n : ℕ) (xs : List A) (rs : List Fields) → Spells (times n part) xs rs
+  pub times-written : ((a : A) (rs : List Fields) → Spells part a rs → P a × (rs ≡ record_of a ∷ [])) → (n : ℕ) (xs : List A) (rs : List Fields)
+      → Spells (times n part) xs rs
       → (length xs ≡ n) × AllByRecursion P xs × (rs ≡ map record_of xs)
   times-written one zero xs rs s =
       let t = subst (λ p. Spells p xs rs) (times_none part) s in
@@ -99,7 +104,8 @@ module _ {A : Type 0} (part : Rule A) (P : A → Type 0) (record_of : A → Fiel
         t.4 ∙ ap (λ l. l ++ t.3) a.1 ∙ ap (λ l. record_of t.0 ∷ l) b.2 ∙ ap (map record_of) (sym t.7),
       )
 
-  pub times-right : ((a : A) → P a → Spells part a (record_of a ∷ [])) → (xs : List A) → AllByRecursion P xs → Spells (times (length xs) part) xs (map record_of xs)
+  pub times-right : ((a : A) → P a → Spells part a (record_of a ∷ [])) → (xs : List A) → AllByRecursion P xs
+      → Spells (times (length xs) part) xs (map record_of xs)
   times-right one [] h = subst (λ p. Spells p [] []) (sym (times_none part)) (refl, refl)
   times-right one (a ∷ xs) h =
       subst (λ p. Spells p (a ∷ xs) (record_of a ∷ map record_of xs)) (sym (times_more (length xs) part))

@@ -1,5 +1,6 @@
 -- What single records of a certificate are written as is read as them.
-use Rattle.std.proofs.Common.{◌≡◌, ◌+◌, ◌-◌, ◌*◌, ◌/◌, ◌%◌, ◌^◌, ◌<◌, ◌≤◌, ℕ, zero, suc, Bool, true, false, List, [], ◌∷◌, ◌++◌, length, map, get_or, refl, sym, ap, ◌∙◌, subst, arith}
+use Rattle.std.proofs.Common.{◌≡◌, ◌+◌, ◌-◌, ◌*◌, ◌/◌, ◌%◌, ◌^◌, ◌<◌, ◌≤◌, ℕ, zero, suc, Bool, true, false, List, [], ◌∷◌, ◌++◌, length, map, get_or, refl, sym}
+use Rattle.std.proofs.Common.{ap, ◌∙◌, subst, arith}
 use Rattle.std.specs.Prelude.{◌&&◌, ◌||◌, nat_eq, nat_le, nat_lt, ℤ, pos, negsuc, ◌≤ℤ◌, codes, decimal, flat_map}
 use Rattle.std.specs.Str.{bytes_eq}
 use Rattle.std.specs.Fmt.{signed_decimal}
@@ -28,7 +29,9 @@ use Rattle.rv_invariant.specs.declared.counts.Shape.{Shape}
 use Rattle.rv_invariant.specs.Groups.{grouped, group_count, is_grouped}
 use Rattle.rv_invariant.specs.Judging.{AreRight}
 use Rattle.rv_invariant.specs.Shapes.{may_stand}
-use Rattle.rv_invariant.specs.Pieces.{a_diagram, a_list, a_proof, a_row, by_form, coefficient_at, diagram, diagram_record, by_record, row_record, list_records, frozen_of, is_below, is_child, is_divisor, is_node_field, is_pair_field, is_root, is_row_field, is_within, least_at, multipliers_of, row_form, row_of, triple_at, triple_texts, variable_at, weight_at, weight_texts}
+use Rattle.rv_invariant.specs.Pieces.{a_diagram, a_list, a_proof, a_row, by_form, coefficient_at, diagram, diagram_record, by_record, row_record, list_records}
+use Rattle.rv_invariant.specs.Pieces.{frozen_of, is_below, is_child, is_divisor, is_node_field, is_pair_field, is_root, is_row_field, is_within, least_at}
+use Rattle.rv_invariant.specs.Pieces.{multipliers_of, row_form, row_of, triple_at, triple_texts, variable_at, weight_at, weight_texts}
 use Rattle.rv_invariant.proofs.Grouping.{Width, two, three, both, all-right, of-two, of-three}
 use Rattle.rv_invariant.proofs.Ranging.{SetFits, KeptRow, ProofFits}
 use Rattle.rv_invariant.proofs.Rowing.{number-test}
@@ -45,7 +48,8 @@ flat-plain texts h [] = refl
 flat-plain texts h (x ∷ xs) = plain-joined (texts x) (flat_map texts xs) (h x) (flat-plain texts h xs)
 
 triple-plain : (t : Triple) → is_plain (triple_texts t) ≡ true
-triple-plain t = ap (λ c. c && is_plain (decimal t.lo ∷ decimal t.hi ∷ [])) (decimal-plain t.var) ∙ pair-plain (decimal t.lo) (decimal t.hi) (decimal-plain t.lo) (decimal-plain t.hi)
+triple-plain t = ap (λ c. c && is_plain (decimal t.lo ∷ decimal t.hi ∷ [])) (decimal-plain t.var)
+    ∙ pair-plain (decimal t.lo) (decimal t.hi) (decimal-plain t.lo) (decimal-plain t.hi)
 
 weight-plain : (w : Weight) → is_plain (weight_texts w) ≡ true
 weight-plain w = pair-plain (decimal w.premise) (signed_decimal w.by) (decimal-plain w.premise) (signed-plain w.by)
@@ -69,98 +73,104 @@ module _ (w : ℕ) (width : Width w) (some : 0 < w) (word : List ℕ) (r : Field
       ap (λ b. b && (nat_le 2 (length r) && nat_eq ((length r - 2) % w) 0)) (same-bytes (word_of r) word e)
       ∙ ap (λ b. b && nat_eq ((length r - 2) % w) 0) (le-leb 2 (length r) (omega (arith, size))) ∙ eq-eqb ((length r - 2) % w) 0 rest
 
-  group-stands : (head : Fields → Bool) (right : Fields → ℕ → ℕ → Bool) → word_of r ≡ word → is_plain r ≡ true → head r ≡ true → AreRight w n (right r) → Right (grouped word w head right) r
+  group-stands : (head : Fields → Bool) (right : Fields → ℕ → ℕ → Bool) → word_of r ≡ word → is_plain r ≡ true → head r ≡ true → AreRight w n (right r)
+      → Right (grouped word w head right) r
   group-stands head right e p h a = record { plain = p; of_kind = kind-is e; of_program = refl; allowed = λ k b. all-right w width head right r n size h a k b }
 
 -- ---- Diagrams.
 abbrev no-node : Triple
 no-node = record { var = 0; lo = 0; hi = 0 }
 
-module _ (s : Shape) (few : s.variables ≤ 4096) (word : List ℕ) (plain : is_plain_text word ≡ true) (states : Bool) (d : Frozen) (fits : SetFits s states d) where
-  abbrev as_record : Fields
-  as_record = diagram_record word d
+module _ (s : Shape) (few : s.variables ≤ 4096) (word : List ℕ) (plain : is_plain_text word ≡ true) (states : Bool) (d : Frozen) (fits : SetFits s states d)
+  where
+    abbrev as_record : Fields
+    as_record = diagram_record word d
 
-  abbrev total : ℕ
-  total = length d.nodes
+    abbrev total : ℕ
+    total = length d.nodes
 
-  node-size : length as_record ≡ 2 + 3 * total
-  node-size = record-length 3 three grows-three triple_texts wide-triple word (decimal d.root) d.nodes
+    node-size : length as_record ≡ 2 + 3 * total
+    node-size = record-length 3 three grows-three triple_texts wide-triple word (decimal d.root) d.nodes
 
-  node-text : (k j : ℕ) → k < total → j < 3 → field as_record (2 + 3 * k + j) ≡ get_or (triple_texts (node_at d.nodes k)) j []
-  node-text k j l h = field-at 3 three grows-three triple_texts wide-triple word (decimal d.root) d.nodes k j no-node l h
+    node-text : (k j : ℕ) → k < total → j < 3 → field as_record (2 + 3 * k + j) ≡ get_or (triple_texts (node_at d.nodes k)) j []
+    node-text k j l h = field-at 3 three grows-three triple_texts wide-triple word (decimal d.root) d.nodes k j no-node l h
 
-  variable-text : (k : ℕ) → k < total → field as_record (2 + 3 * k) ≡ decimal (node_at d.nodes k).var
-  variable-text k l = let e : 2 + 3 * k ≡ 2 + 3 * k + 0 = omega arith in ap (field as_record) e ∙ node-text k 0 l (omega arith)
+    variable-text : (k : ℕ) → k < total → field as_record (2 + 3 * k) ≡ decimal (node_at d.nodes k).var
+    variable-text k l = let e : 2 + 3 * k ≡ 2 + 3 * k + 0 = omega arith in ap (field as_record) e ∙ node-text k 0 l (omega arith)
 
-  variable-small : (k : ℕ) → k < total → (node_at d.nodes k).var < 4096
-  variable-small k l = let low = fits.ordered.low k l in omega (arith, low, few)
+    variable-small : (k : ℕ) → k < total → (node_at d.nodes k).var < 4096
+    variable-small k l = let low = fits.ordered.low k l in omega (arith, low, few)
 
-  variable-told : (k : ℕ) → k < total → variable_at as_record k ≡ (node_at d.nodes k).var
-  variable-told k l = let small = variable-small k l in natural-is (field as_record (2 + 3 * k)) (node_at d.nodes k).var (omega (arith, small)) (variable-text k l)
+    variable-told : (k : ℕ) → k < total → variable_at as_record k ≡ (node_at d.nodes k).var
+    variable-told k l = let small = variable-small k l in natural-is (field as_record (2 + 3 * k)) (node_at d.nodes k).var (omega (arith, small))
+        (variable-text k l)
 
-  later-stands : (k c : ℕ) (b : Bool) → nat_lt c 2 ≡ b → k < total → c < k + 2 → IsFrom d.nodes ((node_at d.nodes k).var + 1) c
-      → (b || nat_lt (variable_at as_record k) (variable_at as_record (c - 2))) ≡ true
-  later-stands k c true e l h from = refl
-  later-stands k c false e l h from =
-      let many = ltb-false c 2 e in
-      let up = from many in
-      let here = variable-told k l in
-      let there = variable-told (c - 2) (omega (arith, h, l, many)) in
-      lt-ltb (variable_at as_record k) (variable_at as_record (c - 2)) (omega (arith, up, here, there))
+    later-stands : (k c : ℕ) (b : Bool) → nat_lt c 2 ≡ b → k < total → c < k + 2 → IsFrom d.nodes ((node_at d.nodes k).var + 1) c
+        → (b || nat_lt (variable_at as_record k) (variable_at as_record (c - 2))) ≡ true
+    later-stands k c true e l h from = refl
+    later-stands k c false e l h from =
+        let many = ltb-false c 2 e in
+        let up = from many in
+        let here = variable-told k l in
+        let there = variable-told (c - 2) (omega (arith, h, l, many)) in
+        lt-ltb (variable_at as_record k) (variable_at as_record (c - 2)) (omega (arith, up, here, there))
 
-  child-stands : (k c i : ℕ) → k < total → c < k + 2 → c < 2 ^ 32 → IsFrom d.nodes ((node_at d.nodes k).var + 1) c → field as_record i ≡ decimal c
-      → is_child as_record k (field as_record i) ≡ true
-  child-stands k c i l h small from e =
-      let is = natural-is (decimal c) c (omega (arith, small)) refl in
-      ap (is_child as_record k) e
-      ∙ ap (λ b. b && (nat_lt (natural (decimal c)) 2 || nat_lt (variable_at as_record k) (variable_at as_record (natural (decimal c) - 2)))) (below-right (k + 2) c h small)
-      ∙ ap (λ m. nat_lt m 2 || nat_lt (variable_at as_record k) (variable_at as_record (m - 2))) is
-      ∙ later-stands k c (nat_lt c 2) refl l h from
+    child-stands : (k c i : ℕ) → k < total → c < k + 2 → c < 2 ^ 32 → IsFrom d.nodes ((node_at d.nodes k).var + 1) c → field as_record i ≡ decimal c
+        → is_child as_record k (field as_record i) ≡ true
+    child-stands k c i l h small from e =
+        let is = natural-is (decimal c) c (omega (arith, small)) refl in
+        ap (is_child as_record k) e
+        ∙ ap (λ b. b && (nat_lt (natural (decimal c)) 2 || nat_lt (variable_at as_record k) (variable_at as_record (natural (decimal c) - 2))))
+        (below-right (k + 2) c h small)
+        ∙ ap (λ m. nat_lt m 2 || nat_lt (variable_at as_record k) (variable_at as_record (m - 2))) is
+        ∙ later-stands k c (nat_lt c 2) refl l h from
 
-  first-stands : (k : ℕ) → k < total → is_node_field s states as_record k 0 ≡ true
-  first-stands k l =
-      let small = variable-small k l in
-      ap (λ t. is_below s.variables t && may_stand s states (variable_at as_record k)) (variable-text k l)
-      ∙ ap (λ b. b && may_stand s states (variable_at as_record k)) (below-right s.variables (node_at d.nodes k).var (fits.ordered.low k l) (omega (arith, small)))
-      ∙ ap (may_stand s states) (variable-told k l) ∙ fits.may k l
+    first-stands : (k : ℕ) → k < total → is_node_field s states as_record k 0 ≡ true
+    first-stands k l =
+        let small = variable-small k l in
+        ap (λ t. is_below s.variables t && may_stand s states (variable_at as_record k)) (variable-text k l)
+        ∙ ap (λ b. b && may_stand s states (variable_at as_record k)) (below-right s.variables (node_at d.nodes k).var (fits.ordered.low k l)
+        (omega (arith, small)))
+        ∙ ap (may_stand s states) (variable-told k l) ∙ fits.may k l
 
-  node-stands : (k j : ℕ) → k < total → j < 3 → is_node_field s states as_record k j ≡ true
-  node-stands k j l h =
-      let p = fits.ordered.placed k l in
-      of-three (is_node_field s states as_record k) (first-stands k l)
-      (child-stands k (node_at d.nodes k).lo (2 + 3 * k + 1) l p.lo_earlier (fits.held.low k l) p.lo_greater (node-text k 1 l (omega arith)))
-      (child-stands k (node_at d.nodes k).hi (2 + 3 * k + 2) l p.hi_earlier (fits.held.high k l) p.hi_greater (node-text k 2 l (omega arith))) j h
+    node-stands : (k j : ℕ) → k < total → j < 3 → is_node_field s states as_record k j ≡ true
+    node-stands k j l h =
+        let p = fits.ordered.placed k l in
+        of-three (is_node_field s states as_record k) (first-stands k l)
+        (child-stands k (node_at d.nodes k).lo (2 + 3 * k + 1) l p.lo_earlier (fits.held.low k l) p.lo_greater (node-text k 1 l (omega arith)))
+        (child-stands k (node_at d.nodes k).hi (2 + 3 * k + 2) l p.hi_earlier (fits.held.high k l) p.hi_greater (node-text k 2 l (omega arith))) j h
 
-  node-count : group_count 3 as_record ≡ total
-  node-count = count-is 3 three (omega arith) word as_record total node-size
+    node-count : group_count 3 as_record ≡ total
+    node-count = count-is 3 three (omega arith) word as_record total node-size
 
-  root-stands : is_root as_record ≡ true
-  root-stands = ap (λ n. is_below (n + 2) (decimal d.root)) node-count ∙ below-right (total + 2) d.root fits.ordered.root fits.held.root
+    root-stands : is_root as_record ≡ true
+    root-stands = ap (λ n. is_below (n + 2) (decimal d.root)) node-count ∙ below-right (total + 2) d.root fits.ordered.root fits.held.root
 
-  diagram-stands : Right (diagram s word states) as_record
-  diagram-stands =
-      group-stands 3 three (omega arith) word as_record total node-size is_root (is_node_field s states) refl
-      (two-plain word (decimal d.root) (flat_map triple_texts d.nodes) plain (decimal-plain d.root) (flat-plain triple_texts triple-plain d.nodes))
-      root-stands node-stands
+    diagram-stands : Right (diagram s word states) as_record
+    diagram-stands =
+        group-stands 3 three (omega arith) word as_record total node-size is_root (is_node_field s states) refl
+        (two-plain word (decimal d.root) (flat_map triple_texts d.nodes) plain (decimal-plain d.root) (flat-plain triple_texts triple-plain d.nodes))
+        root-stands node-stands
 
-  node-same : (k : ℕ) → k < total → triple_at as_record k ≡ get_or d.nodes k no-node
-  node-same k l =
-      let a = variable-told k l in
-      let low = fits.held.low k l in
-      let high = fits.held.high k l in
-      let b = natural-is (field as_record (2 + 3 * k + 1)) (node_at d.nodes k).lo (omega (arith, low)) (node-text k 1 l (omega arith)) in
-      let e = natural-is (field as_record (2 + 3 * k + 2)) (node_at d.nodes k).hi (omega (arith, high)) (node-text k 2 l (omega arith)) in
-      λ i. record { var = a i; lo = b i; hi = e i }
+    node-same : (k : ℕ) → k < total → triple_at as_record k ≡ get_or d.nodes k no-node
+    node-same k l =
+        let a = variable-told k l in
+        let low = fits.held.low k l in
+        let high = fits.held.high k l in
+        let b = natural-is (field as_record (2 + 3 * k + 1)) (node_at d.nodes k).lo (omega (arith, low)) (node-text k 1 l (omega arith)) in
+        let e = natural-is (field as_record (2 + 3 * k + 2)) (node_at d.nodes k).hi (omega (arith, high)) (node-text k 2 l (omega arith)) in
+        λ i. record { var = a i; lo = b i; hi = e i }
 
-  diagram-same : frozen_of as_record ≡ d
-  diagram-same =
-      let root = fits.held.root in
-      let a = upto-is triple_at as_record d.nodes no-node node-same (group_count 3 as_record) node-count in
-      let b = natural-is (decimal d.root) d.root (omega (arith, root)) refl in
-      λ i. record { nodes = a i; root = b i }
+    diagram-same : frozen_of as_record ≡ d
+    diagram-same =
+        let root = fits.held.root in
+        let a = upto-is triple_at as_record d.nodes no-node node-same (group_count 3 as_record) node-count in
+        let b = natural-is (decimal d.root) d.root (omega (arith, root)) refl in
+        λ i. record { nodes = a i; root = b i }
 
-  pub diagram-right : Spells (a_diagram s word states) d (diagram_record word d ∷ [])
-  diagram-right = subst (λ x. Spells (a_diagram s word states) x (diagram_record word d ∷ [])) diagram-same (right-spells (diagram s word states) frozen_of as_record diagram-stands)
+    pub diagram-right : Spells (a_diagram s word states) d (diagram_record word d ∷ [])
+    diagram-right = subst (λ x. Spells (a_diagram s word states) x (diagram_record word d ∷ [])) diagram-same
+        (right-spells (diagram s word states) frozen_of as_record diagram-stands)
 
 -- ---- Multipliers.
 pub positive-is : (z : ℤ) → pos 1 ≤ℤ z → (n : ℕ) × (z ≡ pos n) × (1 ≤ n)
@@ -217,7 +227,8 @@ module _ (most premises : ℕ) (low : most ≤ 2 ^ 30) (few : premises ≤ 2 ^ 3
   least-stands zero l = omega arith
   least-stands (suc k) l =
       let before = premise-told k (omega (arith, l)) in
-      let up = fits.rising k (suc k) (pair k) (pair (suc k)) (omega arith) (slice_get-get_or m.weights k no-weight (omega (arith, l))) (slice_get-get_or m.weights (suc k) no-weight l) in
+      let up = fits.rising k (suc k) (pair k) (pair (suc k)) (omega arith) (slice_get-get_or m.weights k no-weight (omega (arith, l)))
+      (slice_get-get_or m.weights (suc k) no-weight l) in
       omega (arith, before, up)
 
   premise-stands : (k : ℕ) → k < pairs → is_pair_field premises by_fields k 0 ≡ true
@@ -226,7 +237,8 @@ module _ (most premises : ℕ) (low : most ≤ 2 ^ 30) (few : premises ≤ 2 ^ 3
       let told = premise-told k l in
       let least_here = least-stands k l in
       let fewer = fits.few in
-      ap (λ b. b && (is_below premises (field by_fields (2 + 2 * k)) && nat_le (least_at by_fields k) (natural (field by_fields (2 + 2 * k))))) (lt-ltb k 256 (omega (arith, l, fewer)))
+      ap (λ b. b && (is_below premises (field by_fields (2 + 2 * k)) && nat_le (least_at by_fields k) (natural (field by_fields (2 + 2 * k)))))
+      (lt-ltb k 256 (omega (arith, l, fewer)))
       ∙ ap (λ b. b && nat_le (least_at by_fields k) (natural (field by_fields (2 + 2 * k))))
       (ap (is_below premises) (premise-text k l) ∙ below-right premises (pair k).premise small.0 small.1)
       ∙ le-leb (least_at by_fields k) (natural (field by_fields (2 + 2 * k))) (omega (arith, told, least_here))
@@ -244,7 +256,8 @@ module _ (most premises : ℕ) (low : most ≤ 2 ^ 30) (few : premises ≤ 2 ^ 3
   proof-stands : Right (by_form most premises) by_fields
   proof-stands =
       group-stands 2 two (omega arith) (codes "by") by_fields pairs pair-size (is_divisor most) (is_pair_field premises) refl
-      (two-plain (codes "by") (signed_decimal m.divisor) (flat_map weight_texts m.weights) refl (signed-plain m.divisor) (flat-plain weight_texts weight-plain m.weights))
+      (two-plain (codes "by") (signed_decimal m.divisor) (flat_map weight_texts m.weights) refl (signed-plain m.divisor)
+      (flat-plain weight_texts weight-plain m.weights))
       divisor-stands (λ k j l h. of-two (is_pair_field premises by_fields k) (premise-stands k l) (weight-stands k l) j h)
 
   weight-same : (k : ℕ) → k < pairs → weight_at by_fields k ≡ get_or m.weights k no-weight
@@ -258,11 +271,13 @@ module _ (most premises : ℕ) (low : most ≤ 2 ^ 30) (few : premises ≤ 2 ^ 3
   proof-same =
       let small = fits.small in
       let a = ap pos (natural-is (field by_fields 1) fits.divisor (omega (arith, small, low)) (ap signed_decimal fits.divides)) ∙ sym fits.divides in
-      let b = upto-is weight_at by_fields m.weights no-weight weight-same (group_count 2 by_fields) (count-is 2 two (omega arith) (codes "by") by_fields pairs pair-size) in
+      let b = upto-is weight_at by_fields m.weights no-weight weight-same (group_count 2 by_fields)
+      (count-is 2 two (omega arith) (codes "by") by_fields pairs pair-size) in
       λ i. record { divisor = a i; weights = b i }
 
   pub proof-right : Spells (a_proof most premises) m (by_record m ∷ [])
-  proof-right = subst (λ x. Spells (a_proof most premises) x (by_record m ∷ [])) proof-same (right-spells (by_form most premises) multipliers_of by_fields proof-stands)
+  proof-right = subst (λ x. Spells (a_proof most premises) x (by_record m ∷ [])) proof-same
+      (right-spells (by_form most premises) multipliers_of by_fields proof-stands)
 
 -- ---- Rows.
 abs-least : (z : ℤ) → unsigned_abs z ≤ 2 ^ 60 → least ≤ℤ z
@@ -312,7 +327,8 @@ module _ (memories : ℕ) (row : Row) (fits : KeptRow memories row) where
 
   row-stands : Right (row_form memories) row_fields
   row-stands = record {
-    plain = two-plain (codes "row") (signed_decimal row.bound) (map signed_decimal row.coefficients) refl (signed-plain row.bound) (signed-all-plain row.coefficients);
+    plain = two-plain (codes "row") (signed_decimal row.bound) (map signed_decimal row.coefficients) refl (signed-plain row.bound)
+        (signed-all-plain row.coefficients);
     of_kind = eq-eqb (length row_fields) (memories + 2) row-length;
     of_program = refl;
     allowed = row-allowed;
@@ -322,14 +338,16 @@ module _ (memories : ℕ) (row : Row) (fits : KeptRow memories row) where
   row-same =
       let wide = fits.0 in
       let a = upto-is coefficient_at row_fields row.coefficients (pos 0)
-      (λ k l. let small = number-small k l in ap whole (number-text k l) ∙ whole-told (get_or row.coefficients k (pos 0)) (omega (arith, small))) memories (sym wide) in
+      (λ k l. let small = number-small k l in ap whole (number-text k l) ∙ whole-told (get_or row.coefficients k (pos 0)) (omega (arith, small))) memories
+      (sym wide) in
       let b = whole-told row.bound fits.1.bound in
       λ i. record { coefficients = a i; bound = b i }
 
   pub row-right : Spells (a_row memories) row (row_record row ∷ [])
   row-right = subst (λ x. Spells (a_row memories) x (row_record row ∷ [])) row-same (right-spells (row_form memories) (row_of memories) row_fields row-stands)
 
-pub list-right : (memories : ℕ) (word : List ℕ) (low high : ℕ) (rows : List Row) → is_plain_text word ≡ true → low ≤ length rows → length rows ≤ high → high < 2 ^ 64
+pub list-right : (memories : ℕ) (word : List ℕ) (low high : ℕ) (rows : List Row) → is_plain_text word ≡ true → low ≤ length rows → length rows ≤ high
+    → high < 2 ^ 64
     → AllByRecursion (KeptRow memories) rows → Spells (a_list memories word low high) rows (list_records word rows)
 list-right memories word low high rows plain l h small all =
     parts-bind (counts word low high) (λ n. times n (a_row memories)) (length rows) rows ((word ∷ decimal (length rows) ∷ []) ∷ []) (map row_record rows)

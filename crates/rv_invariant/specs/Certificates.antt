@@ -1,7 +1,8 @@
 -- The document of a certificate: how it is written, and by which rule it is read. The documents here are those without turns of
 -- loops. Where these come in, `first` and `around` have rows, a second list of multipliers follows that from `entry`, and
 -- `loop` stands beside `go` and `dead`; the writing rules have them already.
-use Rattle.std.specs.Prelude.{◌≡◌, ◌+◌, ◌<◌, ◌^◌, ℕ, zero, suc, true, false, cond, nat_eq, List, [], ◌∷◌, ◌++◌, length, map, flat_map, get_or, replicate, slice_get, slice_set, codes, decimal, Option, Some, None, ⊤}
+use Rattle.std.specs.Prelude.{◌≡◌, ◌+◌, ◌<◌, ◌^◌, ℕ, zero, suc, true, false, cond, nat_eq, List, [], ◌∷◌, ◌++◌, length, map, flat_map, get_or, replicate}
+use Rattle.std.specs.Prelude.{slice_get, slice_set, codes, decimal, Option, Some, None, ⊤}
 use Rattle.std.specs.Str.{bytes_eq}
 use Rattle.rv_diagram.specs.Nodes.{node_at}
 use Rattle.rv_diagram.specs.declared.frozen.Frozen.{Frozen}

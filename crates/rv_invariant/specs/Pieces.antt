@@ -1,5 +1,6 @@
 -- The single records of a certificate: diagrams, rows and multipliers.
-use Rattle.std.specs.Prelude.{◌+◌, ◌-◌, ◌*◌, ◌^◌, ◌&&◌, ◌||◌, ℕ, zero, suc, Bool, true, cond, nat_eq, nat_le, nat_lt, ℤ, pos, List, [], ◌∷◌, length, map, flat_map, codes, decimal}
+use Rattle.std.specs.Prelude.{◌+◌, ◌-◌, ◌*◌, ◌^◌, ◌&&◌, ◌||◌, ℕ, zero, suc, Bool, true, cond, nat_eq, nat_le, nat_lt, ℤ, pos, List, [], ◌∷◌, length, map}
+use Rattle.std.specs.Prelude.{flat_map, codes, decimal}
 use Rattle.std.specs.Str.{bytes_eq}
 use Rattle.std.specs.Fmt.{signed_decimal}
 use Rattle.std.specs.Int.RustNames.{unsigned_abs}

@@ -13,7 +13,8 @@ next-rule (done a) b [] = refl
 next-rule (done a) b (x ∷ bs) = refl
 next-rule (await forms next) b bs = refl
 
-one-more : {A : Type 0} (rule : Rule A) (before : List Fields) (r : Fields) → HasNoFault rule before → fault_after rule before r ≡ None → HasNoFault rule (before ++ r ∷ [])
+one-more : {A : Type 0} (rule : Rule A) (before : List Fields) (r : Fields) → HasNoFault rule before → fault_after rule before r ≡ None
+    → HasNoFault rule (before ++ r ∷ [])
 one-more rule [] r n h = none-more rule r [] h (none-first (after rule (r ∷ [])))
 one-more rule (b ∷ bs) r n h =
     none-more rule b (bs ++ r ∷ []) (first-right rule b bs n)
@@ -25,7 +26,8 @@ no-fault-begins rule alive rs n =
     let g = goes (after rule rs) (alive-after rule rs alive n) in
     (g.records, g.value, spells-document rule g.value (rs ++ g.records) (goes-on rule rs g.records g.value n g.spelled))
 
-pub awaited-begins : {A : Type 0} (rule : Rule A) → IsAlive rule → (before : List Fields) (r : Fields) → HasNoFault rule before → (fault_after rule before r ≡ None) ↔ BeginsDocument rule (before ++ r ∷ [])
+pub awaited-begins : {A : Type 0} (rule : Rule A) → IsAlive rule → (before : List Fields) (r : Fields) → HasNoFault rule before
+    → (fault_after rule before r ≡ None) ↔ BeginsDocument rule (before ++ r ∷ [])
 awaited-begins rule alive before r n = (
   λ h. no-fault-begins rule alive (before ++ r ∷ []) (one-more rule before r n h),
   λ b. b.2.0 before r b.0 (append_assoc before (r ∷ []) b.0),
@@ -38,8 +40,11 @@ alive-bind (await forms next) k h g = (h.0, λ r e. alive-bind (next r) k (h.1 r
 
 pub alive-each : {P A : Type 0} (part : P → Rule A) → ((p : P) → IsAlive (part p)) → (ps : List P) → IsAlive (each part ps)
 alive-each part h [] = subst IsAlive (sym (each_none part)) tt
-alive-each part h (p ∷ ps) = subst IsAlive (sym (each_more part p ps)) (alive-bind (part p) (λ a. bind (each part ps) (λ more. done (a ∷ more))) (h p) (λ a. alive-bind (each part ps) (λ more. done (a ∷ more)) (alive-each part h ps) (λ more. tt)))
+alive-each part h (p ∷ ps) = subst IsAlive (sym (each_more part p ps))
+    (alive-bind (part p) (λ a. bind (each part ps) (λ more. done (a ∷ more))) (h p)
+    (λ a. alive-bind (each part ps) (λ more. done (a ∷ more)) (alive-each part h ps) (λ more. tt)))
 
 pub alive-times : {A : Type 0} (n : ℕ) (part : Rule A) → IsAlive part → IsAlive (times n part)
 alive-times zero part h = subst IsAlive (sym (times_none part)) tt
-alive-times (suc n) part h = subst IsAlive (sym (times_more n part)) (alive-bind part (λ a. bind (times n part) (λ more. done (a ∷ more))) h (λ a. alive-bind (times n part) (λ more. done (a ∷ more)) (alive-times n part h) (λ more. tt)))
+alive-times (suc n) part h = subst IsAlive (sym (times_more n part)) (alive-bind part (λ a. bind (times n part) (λ more. done (a ∷ more))) h
+    (λ a. alive-bind (times n part) (λ more. done (a ∷ more)) (alive-times n part h) (λ more. tt)))

@@ -29,5 +29,6 @@ pub bind_err : {A B : Type 0} (p : Rule A) (k : A → Rule B) (s : Ahead) (e : F
 bind_err p k s e h = run_bind p k s ∙ ap (λ r. r >>= (λ x. run (k x.0) x.1)) h
 
 -- a first part that stops
-pub part_stops : {X Y A B : Type 0} (view : X → A) (other : Y → B) (p : Rule A) (k : A → Rule B) (s : Ahead) (e : FileFault) (old new : Ahead) → Reads view (run p s) (Err e) old → Reads other (run (bind p k) s) (Err e) new
+pub part_stops : {X Y A B : Type 0} (view : X → A) (other : Y → B) (p : Rule A) (k : A → Rule B) (s : Ahead) (e : FileFault) (old new : Ahead)
+    → Reads view (run p s) (Err e) old → Reads other (run (bind p k) s) (Err e) new
 part_stops view other p k s e old new h = stops_with view other (run p s) (run (bind p k) s) e old new h (λ x is. bind_err p k s x is)

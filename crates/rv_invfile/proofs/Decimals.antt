@@ -26,7 +26,8 @@ padded text (inl e) n h is = no-plus n h (subst (λ t. get_or t 0 0 ≡ 43) is e
 padded text (inr e) n h is = no-zero n h (subst (λ t. get_or t 0 0 ≡ 48) is e.0) (subst (λ t. 1 < length t) is e.1)
 
 -- digits that are not padded are the decimal of their number
-pub unpadded : (text : List ℕ) (n : ℕ) → (((get_or text 0 0 ≡ 43) ⊎ ((get_or text 0 0 ≡ 48) × (1 < length text))) → ⊥) → IsNumeral 10 (without_leading_plus text) → digits_value 10 (without_leading_plus text) < 2 ^ 64 → n ≡ digits_value 10 (without_leading_plus text)
+pub unpadded : (text : List ℕ) (n : ℕ) → (((get_or text 0 0 ≡ 43) ⊎ ((get_or text 0 0 ≡ 48) × (1 < length text))) → ⊥)
+    → IsNumeral 10 (without_leading_plus text) → digits_value 10 (without_leading_plus text) < 2 ^ 64 → n ≡ digits_value 10 (without_leading_plus text)
     → text ≡ decimal n
 unpadded text n unlike num small is =
     let plain : without_leading_plus text ≡ text = without_leading_plus_none text (λ e. unlike (inl e)) in
@@ -62,7 +63,8 @@ parts true false c e = cc
 parts false b c e = cc
 
 -- what a test of a range says
-pub natural-told : (low high : ℕ) (text : List ℕ) → is_natural low high text ≡ true → (text ≡ decimal (natural text)) × (low ≤ natural text) × (natural text ≤ high)
+pub natural-told : (low high : ℕ) (text : List ℕ) → is_natural low high text ≡ true
+    → (text ≡ decimal (natural text)) × (low ≤ natural text) × (natural text ≤ high)
 natural-told low high text e =
     let p = parts (bytes_eq text (decimal (natural text))) (nat_le low (natural text)) (nat_le (natural text) high) e in
     (bytes-same text (decimal (natural text)) p.0, leb-true low (natural text) p.1, leb-true (natural text) high p.2)
@@ -72,10 +74,12 @@ not-true true h = absurd (h refl)
 not-true false h = refl
 
 pub no-number : (low high : ℕ) (text : List ℕ) → high < 2 ^ 64 → ((n : ℕ) → n < 2 ^ 64 → text ≡ decimal n → ⊥) → is_natural low high text ≡ false
-no-number low high text fits none = not-true (is_natural low high text) (λ e. let t = natural-told low high text e in none (natural text) (omega (arith, t.2)) t.0)
+no-number low high text fits none = not-true (is_natural low high text)
+    (λ e. let t = natural-told low high text e in none (natural text) (omega (arith, t.2)) t.0)
 
 pub finds : (text : List ℕ) (b : Bool) → (b ≡ true ↔ ((get_or text 0 0 ≡ 43) ⊎ ((get_or text 0 0 ≡ 48) × (1 < length text)))) → b ≡ false → (o : Option ℕ)
-    → MatchOption o ((n : ℕ) → n < 2 ^ 64 → ¬ (text ≡ decimal n)) (λ n. IsNumeral 10 (without_leading_plus text) × (digits_value 10 (without_leading_plus text) < 2 ^ 64) × (n ≡ digits_value 10 (without_leading_plus text)))
+    → MatchOption o ((n : ℕ) → n < 2 ^ 64 → ¬ (text ≡ decimal n)) (λ n. IsNumeral 10 (without_leading_plus text)
+    × (digits_value 10 (without_leading_plus text) < 2 ^ 64) × (n ≡ digits_value 10 (without_leading_plus text)))
     → MatchOption o ((n : ℕ) → n < 2 ^ 64 → ¬ (text ≡ decimal n)) (λ n. (text ≡ decimal n) × (n < 2 ^ 64))
 finds text b is fails None h = h
 finds text b is fails (Some n) h = (unpadded text n (λ p. clash b fails (is.1 p)) h.0 h.1 h.2, omega (arith, h.1, h.2))

@@ -20,7 +20,8 @@ tail-passes false b e = cc
 pub joined-all : (passes : ℕ → Bool) (x y : List ℕ) → list_all passes x ≡ true → list_all passes y ≡ true → list_all passes (x ++ y) ≡ true
 joined-all passes [] y h k = k
 joined-all passes (b ∷ x) y h k =
-    ap (λ c. c && list_all passes (x ++ y)) (head-passes (passes b) (list_all passes x) h) ∙ joined-all passes x y (tail-passes (passes b) (list_all passes x) h) k
+    ap (λ c. c && list_all passes (x ++ y)) (head-passes (passes b) (list_all passes x) h)
+    ∙ joined-all passes x y (tail-passes (passes b) (list_all passes x) h) k
 
 either : (passes : ℕ → Bool) (b : Bool) (x y : List ℕ) → list_all passes x ≡ true → list_all passes y ≡ true → list_all passes (if b then x else y) ≡ true
 either passes true x y h k = h
@@ -34,7 +35,8 @@ module _ (passes : ℕ → Bool) (digit : (d : ℕ) → d < 10 → passes (48 + 
   onto-passes zero n acc h = h
   onto-passes (suc k) n acc h =
       let more = one-passes (n % 10) acc (omega arith) h in
-      either passes (n / 10 == 0) (digit_glyph false (n % 10) ∷ acc) (digits_onto k 10 false (n / 10) (digit_glyph false (n % 10) ∷ acc)) more (onto-passes k (n / 10) (digit_glyph false (n % 10) ∷ acc) more)
+      either passes (n / 10 == 0) (digit_glyph false (n % 10) ∷ acc) (digits_onto k 10 false (n / 10) (digit_glyph false (n % 10) ∷ acc)) more
+      (onto-passes k (n / 10) (digit_glyph false (n % 10) ∷ acc) more)
 
   pub decimal-all : (n : ℕ) → list_all passes (decimal n) ≡ true
   unfolding digits
@@ -47,7 +49,8 @@ module _ (passes : ℕ → Bool) (digit : (d : ℕ) → d < 10 → passes (48 + 
   points-all : passes 46 ≡ true → (sites : List ℕ) → list_all passes (flat_map (λ s. 46 ∷ decimal s) sites) ≡ true
   points-all point [] = refl
   points-all point (s ∷ ss) =
-      ap (λ c. c && list_all passes (decimal s ++ flat_map (λ s. 46 ∷ decimal s) ss)) point ∙ joined-all passes (decimal s) (flat_map (λ s. 46 ∷ decimal s) ss) (decimal-all s) (points-all point ss)
+      ap (λ c. c && list_all passes (decimal s ++ flat_map (λ s. 46 ∷ decimal s) ss)) point
+      ∙ joined-all passes (decimal s) (flat_map (λ s. 46 ∷ decimal s) ss) (decimal-all s) (points-all point ss)
 
   pub dotted-all : passes 46 ≡ true → (sites : List ℕ) → list_all passes (dotted sites) ≡ true
   dotted-all point [] = refl

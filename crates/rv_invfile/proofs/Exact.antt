@@ -33,7 +33,8 @@ pub none-first : {A : Type 0} (rule : Rule A) → HasNoFault rule []
 none-first rule [] r more e = not-cons r more e
 none-first rule (b ∷ bs) r more e = not-cons b (bs ++ r ∷ more) e
 
-pub none-more : {A : Type 0} (rule : Rule A) (r : Fields) (rs : List Fields) → fault_in (awaited rule) r ≡ None → HasNoFault (next_of rule r) rs → HasNoFault rule (r ∷ rs)
+pub none-more : {A : Type 0} (rule : Rule A) (r : Fields) (rs : List Fields) → fault_in (awaited rule) r ≡ None → HasNoFault (next_of rule r) rs
+    → HasNoFault rule (r ∷ rs)
 none-more rule r rs h k [] here more e = subst (λ x. fault_in (awaited rule) x ≡ None) (sym (head-is r here rs more e)) h
 none-more rule r rs h k (b ∷ bs) here more e =
     let same : b ≡ r = head-is r b rs (bs ++ here ∷ more) e in
@@ -60,7 +61,8 @@ Unfinished {A = A} rule = (a : A) → ¬ (rule ≡ done a)
 
 abbrev pub FaultyFrom : {A : Type 0} → ℕ → Rule A → List Fields → ℕ → Why → Type 0
 FaultyFrom n rule rs m y =
-    (before : List Fields) × (here : Fields) × (more : List Fields) × (rs ≡ before ++ here ∷ more) × (m ≡ n + length before) × HasNoFault rule before × (fault_after rule before here ≡ Some y)
+    (before : List Fields) × (here : Fields) × (more : List Fields) × (rs ≡ before ++ here ∷ more) × (m ≡ n + length before) × HasNoFault rule before
+    × (fault_after rule before here ≡ Some y)
 
 -- The fault is of the record with this number, counted on from n.
 abbrev pub TellsFrom : {A : Type 0} → ℕ → Rule A → List Fields → Result A FileFault → Type 0
@@ -73,7 +75,8 @@ TellsFrom n rule rs (Err (fault.Ends m)) = (m ≡ n + length rs) × HasNoFault r
 TellsFrom n rule rs (Err fault.Memory) = ⊥
 
 -- one record more before
-faulty-more : {A : Type 0} (n : ℕ) (rule : Rule A) (r : Fields) (rs : List Fields) (m : ℕ) (y : Why) → fault_in (awaited rule) r ≡ None → FaultyFrom (n + 1) (next_of rule r) rs m y → FaultyFrom n rule (r ∷ rs) m y
+faulty-more : {A : Type 0} (n : ℕ) (rule : Rule A) (r : Fields) (rs : List Fields) (m : ℕ) (y : Why) → fault_in (awaited rule) r ≡ None
+    → FaultyFrom (n + 1) (next_of rule r) rs m y → FaultyFrom n rule (r ∷ rs) m y
 faulty-more n rule r rs m y h f = (
   r ∷ f.0,
   f.1,
@@ -84,7 +87,8 @@ faulty-more n rule r rs m y h f = (
   ap (λ x. fault_in (awaited x) f.1) (after-rest rule r f.0) ∙ f.6,
 )
 
-tells-more : {A : Type 0} (n : ℕ) (rule : Rule A) (r : Fields) (rs : List Fields) → fault_in (awaited rule) r ≡ None → (x : Result A FileFault) → TellsFrom (n + 1) (next_of rule r) rs x → TellsFrom n rule (r ∷ rs) x
+tells-more : {A : Type 0} (n : ℕ) (rule : Rule A) (r : Fields) (rs : List Fields) → fault_in (awaited rule) r ≡ None → (x : Result A FileFault)
+    → TellsFrom (n + 1) (next_of rule r) rs x → TellsFrom n rule (r ∷ rs) x
 tells-more n rule r rs h (Ok a) t = (none-more rule r rs h t.0, after-rest rule r rs ∙ t.1)
 tells-more n rule r rs h (Err (fault.NotRecords m)) t = faulty-more n rule r rs m why.NotRecords h t
 tells-more n rule r rs h (Err (fault.WrongKind m)) t = faulty-more n rule r rs m why.WrongKind h t
@@ -93,10 +97,12 @@ tells-more n rule r rs h (Err (fault.BadNumber m i)) t = faulty-more n rule r rs
 tells-more n rule r rs h (Err (fault.Ends m)) t = (omega (arith, t.0), none-more rule r rs h t.1, λ a e. t.2 a (sym (after-rest rule r rs) ∙ e))
 tells-more n rule r rs h (Err fault.Memory) t = t
 
-faulty-here : {A : Type 0} (n : ℕ) (rule : Rule A) (r : Fields) (rs : List Fields) (y : Why) → fault_in (awaited rule) r ≡ Some y → FaultyFrom n rule (r ∷ rs) n y
+faulty-here : {A : Type 0} (n : ℕ) (rule : Rule A) (r : Fields) (rs : List Fields) (y : Why) → fault_in (awaited rule) r ≡ Some y
+    → FaultyFrom n rule (r ∷ rs) n y
 faulty-here n rule r rs y h = ([], r, rs, refl, omega arith, none-first rule, h)
 
-tells-here : {A : Type 0} (n : ℕ) (rule : Rule A) (r : Fields) (rs : List Fields) (y : Why) → fault_in (awaited rule) r ≡ Some y → TellsFrom n rule (r ∷ rs) (Err (fault_at n y))
+tells-here : {A : Type 0} (n : ℕ) (rule : Rule A) (r : Fields) (rs : List Fields) (y : Why) → fault_in (awaited rule) r ≡ Some y
+    → TellsFrom n rule (r ∷ rs) (Err (fault_at n y))
 tells-here n rule r rs why.NotRecords h = faulty-here n rule r rs why.NotRecords h
 tells-here n rule r rs why.WrongKind h = faulty-here n rule r rs why.WrongKind h
 tells-here n rule r rs why.WrongProgram h = faulty-here n rule r rs why.WrongProgram h
@@ -109,11 +115,13 @@ whole_from rule n rs = run rule (record { taken = n; rest = rs }) >>= λ x. clos
 await-not-done : {A : Type 0} (forms : List Form) (next : Fields → Rule A) → Unfinished (await forms next)
 await-not-done forms next a e = cc
 
-tells-done : {A : Type 0} (a : A) (n : ℕ) (r : Fields) (rs : List Fields) (o : Option Why) → fault_in [] r ≡ o → TellsFrom n (done a) (r ∷ rs) (judged o n r rs >>= λ x. Ok a)
+tells-done : {A : Type 0} (a : A) (n : ℕ) (r : Fields) (rs : List Fields) (o : Option Why) → fault_in [] r ≡ o
+    → TellsFrom n (done a) (r ∷ rs) (judged o n r rs >>= λ x. Ok a)
 tells-done a n r rs None h = absurd (nothing-awaited r h)
 tells-done a n r rs (Some y) h = tells-here n (done a) r rs y h
 
-tells-await : {A : Type 0} (forms : List Form) (next : Fields → Rule A) (n : ℕ) (r : Fields) (rs : List Fields) (o : Option Why) → fault_in forms r ≡ o → TellsFrom (n + 1) (next r) rs (whole_from (next r) (n + 1) rs)
+tells-await : {A : Type 0} (forms : List Form) (next : Fields → Rule A) (n : ℕ) (r : Fields) (rs : List Fields) (o : Option Why) → fault_in forms r ≡ o
+    → TellsFrom (n + 1) (next r) rs (whole_from (next r) (n + 1) rs)
     → TellsFrom n (await forms next) (r ∷ rs) ((judged o n r rs >>= λ x. run (next x.0) x.1) >>= λ x. closing x.0 x.1)
 tells-await forms next n r rs None h t = tells-more n (await forms next) r rs h (whole_from (next r) (n + 1) rs) t
 tells-await forms next n r rs (Some y) h t = tells-here n (await forms next) r rs y h

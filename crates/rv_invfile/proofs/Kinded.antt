@@ -34,7 +34,8 @@ high-back : (z : ℤ) → z <ℤ pos (2 ^ 63) → z ≤ℤ greatest
 high-back z h = omega (arith, ints)
 
 -- ---- One value.
-typed : (labels : Labels) (k : Kind) (v : Value) → HasKind labels k v → (constant_fits (map (λ (ls : List (List ℕ)). length ls) labels) k v ≡ true) × IsInRange v
+typed : (labels : Labels) (k : Kind) (v : Value) → HasKind labels k v → (constant_fits (map (λ (ls : List (List ℕ)). length ls) labels) k v ≡ true)
+    × IsInRange v
 typed labels kind.Bool (Flag b) h = (refl, tt)
 typed labels kind.Bool (Label n) h = absurd h
 typed labels kind.Bool (Whole z) h = absurd h
@@ -42,7 +43,11 @@ typed labels kind.Int (Flag b) h = absurd h
 typed labels kind.Int (Label n) h = absurd h
 typed labels kind.Int (Whole z) h = (refl, (low z h.0, high z h.1))
 typed labels (kind.Labels e) (Flag b) h = absurd h
-typed labels (kind.Labels e) (Label n) h = (lt-ltb n (get_or (map (λ (ls : List (List ℕ)). length ls) labels) e 0) (subst (λ m. n < m) (sym (length-at labels e)) h), tt)
+typed labels (kind.Labels e) (Label n) h = (
+  lt-ltb n (get_or (map (λ (ls : List (List ℕ)). length ls) labels) e 0)
+      (subst (λ m. n < m) (sym (length-at labels e)) h),
+  tt,
+)
 typed labels (kind.Labels e) (Whole z) h = absurd h
 
 back : (labels : Labels) (k : Kind) (v : Value) → constant_fits (map (λ (ls : List (List ℕ)). length ls) labels) k v ≡ true → IsInRange v → HasKind labels k v
@@ -60,7 +65,8 @@ back labels (kind.Labels e) (Whole z) h r = cc
 same-kind : (x j : Kind) → Some x ≡ Some j → x ≡ j
 same-kind x j e = cc
 
-kind-at : (labels : Labels) (ks : List Kind) (vs : List Value) → HaveKinds labels ks vs → (k : ℕ) (j : Kind) → slice_get ks k ≡ Some j → HasKind labels j (get_or vs k (Flag false))
+kind-at : (labels : Labels) (ks : List Kind) (vs : List Value) → HaveKinds labels ks vs → (k : ℕ) (j : Kind) → slice_get ks k ≡ Some j
+    → HasKind labels j (get_or vs k (Flag false))
 kind-at labels [] [] h k j e = cc
 kind-at labels [] (v ∷ vs) h k j e = absurd h
 kind-at labels (x ∷ ks) [] h k j e = absurd h
@@ -82,13 +88,17 @@ are-values f ks vs h = record {
 }
 
 have-kinds : (labels : Labels) (ks : List Kind) (vs : List Value) → length vs ≡ length ks
-    → ((k : ℕ) (j : Kind) → k < length ks → slice_get ks k ≡ Some j → constant_fits (map (λ (ls : List (List ℕ)). length ls) labels) j (get_or vs k (Flag false)) ≡ true)
+    → ((k : ℕ) (j : Kind) → k < length ks → slice_get ks k ≡ Some j → constant_fits (map (λ (ls : List (List ℕ)). length ls) labels) j
+    (get_or vs k (Flag false)) ≡ true)
     → ((k : ℕ) → k < length vs → IsInRange (get_or vs k (Flag false))) → HaveKinds labels ks vs
 have-kinds labels [] [] s t w = tt
 have-kinds labels [] (v ∷ vs) s t w = absurd (omega (arith, s))
 have-kinds labels (k ∷ ks) [] s t w = absurd (omega (arith, s))
-have-kinds labels (k ∷ ks) (v ∷ vs) s t w =
-    (back labels k v (t 0 k (omega arith) refl) (w 0 (omega arith)), have-kinds labels ks vs (omega (arith, s)) (λ i j lt e. t (suc i) j (omega (arith, lt)) e) (λ i lt. w (suc i) (omega (arith, lt))))
+have-kinds labels (k ∷ ks) (v ∷ vs) s t w = (
+  back labels k v (t 0 k (omega arith) refl) (w 0 (omega arith)),
+  have-kinds labels ks vs (omega (arith, s)) (λ i j lt e. t (suc i) j (omega (arith, lt)) e)
+      (λ i lt. w (suc i) (omega (arith, lt))),
+)
 
 all-of : {X : Type 0} (P Q : X → Type 0) → ((x : X) → P x → Q x) → (xs : List X) → AllByRecursion P xs → All Q xs
 all-of P Q g [] h k d lt = absurd (omega (arith, lt))
@@ -111,5 +121,6 @@ pub values-fit : (f : Flat) (t : Trace) → IsTraceOf f t → Fits f t
 values-fit f t h = record {
   starts = have-kinds f.labels (memory_kinds f) t.starts h.starts.size h.starts.typed h.starts.within;
   count = h.count;
-  instants = each-of (AreValues f (input_kinds f)) (HaveKinds f.labels (input_kinds f)) (λ vs a. have-kinds f.labels (input_kinds f) vs a.size a.typed a.within) t.instants h.instants;
+  instants = each-of (AreValues f (input_kinds f)) (HaveKinds f.labels (input_kinds f)) (λ vs a. have-kinds f.labels (input_kinds f) vs a.size a.typed a.within)
+      t.instants h.instants;
 }

@@ -15,22 +15,27 @@ shorter-end : (b : Bool) (fields : List (List ℕ)) (p : Read) → cond b (Some 
 shorter-end true fields p e = let same = some-is (fields, st.StartRecord, []) p e in (ap (λ (q : Read). q.1) (sym same), ap (λ (q : Read). q.2) (sym same))
 shorter-end false fields p e = cc
 
-last-record : (s : State) (fields : List (List ℕ)) (field : List ℕ) (p : Read) → next_record default_config s fields field [] ≡ Some p → (p.1 ≡ st.StartRecord) × (p.2 ≡ [])
+last-record : (s : State) (fields : List (List ℕ)) (field : List ℕ) (p : Read) → next_record default_config s fields field [] ≡ Some p
+    → (p.1 ≡ st.StartRecord) × (p.2 ≡ [])
 unfolding next_record
 last-record s fields field p e = shorter-end (ends_at_end s) (fields ++ (field ∷ [])) p e
 
-shorter-by : (b : Bool) (f : List (List ℕ)) (s : State) (rest : List ℕ) (o : Option Read) (p : Read) → cond b (Some (f, s, rest)) o ≡ Some p → (o ≡ Some p → length p.2 ≤ length rest) → length p.2 ≤ length rest
+shorter-by : (b : Bool) (f : List (List ℕ)) (s : State) (rest : List ℕ) (o : Option Read) (p : Read) → cond b (Some (f, s, rest)) o ≡ Some p
+    → (o ≡ Some p → length p.2 ≤ length rest) → length p.2 ≤ length rest
 shorter-by true f s rest o p e h = let same : rest ≡ p.2 = ap (λ (q : Read). q.2) (some-is (f, s, rest) p e) in omega (arith, ap length same)
 shorter-by false f s rest o p e h = h e
 
-pub shorter : (s : State) (fields : List (List ℕ)) (field : List ℕ) (c : ℕ) (rest : List ℕ) (p : Read) → next_record default_config s fields field (c ∷ rest) ≡ Some p → length p.2 ≤ length rest
+pub shorter : (s : State) (fields : List (List ℕ)) (field : List ℕ) (c : ℕ) (rest : List ℕ) (p : Read)
+    → next_record default_config s fields field (c ∷ rest) ≡ Some p → length p.2 ≤ length rest
 unfolding next_record
 shorter s fields field c [] p e =
     shorter-by (is_end (step default_config s c).1) (fields_after (step default_config s c).1 fields field) (step default_config s c).0 [] _ p e
-    (λ h. let q = last-record (step default_config s c).0 (fields_after (step default_config s c).1 fields field) (field_after (step default_config s c).1 c field) p h in omega (arith, ap length q.1))
+    (λ h. let q = last-record (step default_config s c).0 (fields_after (step default_config s c).1 fields field)
+    (field_after (step default_config s c).1 c field) p h in omega (arith, ap length q.1))
 shorter s fields field c (d ∷ rest) p e =
     shorter-by (is_end (step default_config s c).1) (fields_after (step default_config s c).1 fields field) (step default_config s c).0 (d ∷ rest) _ p e
-    (λ h. let q = shorter (step default_config s c).0 (fields_after (step default_config s c).1 fields field) (field_after (step default_config s c).1 c field) d rest p h in omega (arith, q))
+    (λ h. let q = shorter (step default_config s c).0 (fields_after (step default_config s c).1 fields field) (field_after (step default_config s c).1 c field)
+    d rest p h in omega (arith, q))
 
 -- none is left at the end
 pub none-left : (n : ℕ) → records_from default_config n st.StartRecord [] ≡ []
@@ -38,7 +43,8 @@ unfolding records_from next_record
 none-left zero = refl
 none-left (suc n) = refl
 
-next-same : (n m : ℕ) (o : Option Read) → ((p : Read) → o ≡ Some p → records_from default_config n p.1 p.2 ≡ records_from default_config m p.1 p.2) → records_next (records_from default_config n) o ≡ records_next (records_from default_config m) o
+next-same : (n m : ℕ) (o : Option Read) → ((p : Read) → o ≡ Some p → records_from default_config n p.1 p.2 ≡ records_from default_config m p.1 p.2)
+    → records_next (records_from default_config n) o ≡ records_next (records_from default_config m) o
 next-same n m None h = refl
 next-same n m (Some p) h = ap (λ l. p.0 ∷ l) (h p refl)
 
@@ -56,7 +62,8 @@ enough (suc n) (suc m) s (c ∷ rest) a b =
     (λ p e. let h = shorter s [] [] c rest p e in enough n m p.1 p.2 (omega (arith, h)) (omega (arith, h)))
 
 -- what is left is the next record and what is left then
-one-more : (n : ℕ) (s : State) (xs : List ℕ) → records_from default_config (n + 1) s xs ≡ records_next (records_from default_config n) (next_record default_config s [] [] xs)
+one-more : (n : ℕ) (s : State) (xs : List ℕ) → records_from default_config (n + 1) s xs ≡ records_next (records_from default_config n)
+    (next_record default_config s [] [] xs)
 unfolding records_from
 one-more n s xs = ap (λ k. records_from default_config k s xs) (add-one n)
 
@@ -71,7 +78,8 @@ pub left-none : (s : State) (xs : List ℕ) → next_record default_config s [] 
 left-none s xs e = one-more (length xs) s xs ∙ ap (records_next (records_from default_config (length xs))) e
 
 -- there are at most as many as tries
-next-few : (n : ℕ) (o : Option Read) → ((p : Read) → length (records_from default_config n p.1 p.2) ≤ n) → length (records_next (records_from default_config n) o) ≤ suc n
+next-few : (n : ℕ) (o : Option Read) → ((p : Read) → length (records_from default_config n p.1 p.2) ≤ n)
+    → length (records_next (records_from default_config n) o) ≤ suc n
 next-few n None h = omega arith
 next-few n (Some p) h = let k = h p in omega (arith, k)
 

@@ -1,5 +1,6 @@
 -- Loops that read a list of parts.
-use Rattle.std.proofs.Common.{◌≡◌, ◌+◌, ◌-◌, ◌<◌, ◌≤◌, ℕ, zero, suc, List, [], ◌∷◌, ◌++◌, length, drop, get_or, refl, sym, ap, ◌∙◌, arith, append_assoc, add-one, drop-cons}
+use Rattle.std.proofs.Common.{◌≡◌, ◌+◌, ◌-◌, ◌<◌, ◌≤◌, ℕ, zero, suc, List, [], ◌∷◌, ◌++◌, length, drop, get_or, refl, sym, ap, ◌∙◌, arith, append_assoc}
+use Rattle.std.proofs.Common.{add-one, drop-cons}
 use Rattle.std.specs.Prelude.{Result, Ok, Err}
 use Rattle.std.proofs.lemmas.List.{append-nil}
 use Rattle.rv_invfile.specs.declared.fault.FileFault.{FileFault}
@@ -23,13 +24,15 @@ then-front front a (Ok x) = ap (λ l. Ok (l, x.1)) (sym (append_assoc front (a �
 then-front front a (Err e) = refl
 
 -- one more value
-pub front_more : {A : Type 0} (p : Rule A) (q : Rule (List A)) (front : List A) (a : A) (s s2 : Ahead) → run p s ≡ Ok (a, s2) → with_front front (run (more p q) s) ≡ with_front (front ++ a ∷ []) (run q s2)
+pub front_more : {A : Type 0} (p : Rule A) (q : Rule (List A)) (front : List A) (a : A) (s s2 : Ahead) → run p s ≡ Ok (a, s2)
+    → with_front front (run (more p q) s) ≡ with_front (front ++ a ∷ []) (run q s2)
 front_more p q front a s s2 h =
     ap (with_front front) (bind_ok p (λ a. bind q (λ rest. done (a ∷ rest))) s s2 a h ∙ run_bind q (λ rest. done (a ∷ rest)) s2)
     ∙ then-front front a (run q s2)
 
 -- a part that stops
-pub front_stops : {A : Type 0} (p : Rule A) (q : Rule (List A)) (front : List A) (e : FileFault) (s : Ahead) → run p s ≡ Err e → with_front front (run (more p q) s) ≡ Err e
+pub front_stops : {A : Type 0} (p : Rule A) (q : Rule (List A)) (front : List A) (e : FileFault) (s : Ahead) → run p s ≡ Err e
+    → with_front front (run (more p q) s) ≡ Err e
 front_stops p q front e s h = ap (with_front front) (bind_err p (λ a. bind q (λ rest. done (a ∷ rest))) s e h)
 
 -- no more parts
@@ -54,8 +57,10 @@ unfolding times
 times_none part = refl
 
 -- the parts from a place on
-pub each_at : {P A : Type 0} (part : P → Rule A) (ps : List P) (i : ℕ) (p : P) → i < length ps → p ≡ get_or ps i p → each part (drop i ps) ≡ more (part p) (each part (drop (i + 1) ps))
-each_at part ps i p l e = ap (each part) (drop-cons ps i p l ∙ ap (λ x. x ∷ drop (suc i) ps) (sym e)) ∙ each_more part p (drop (suc i) ps) ∙ ap (λ k. more (part p) (each part (drop k ps))) (sym (add-one i))
+pub each_at : {P A : Type 0} (part : P → Rule A) (ps : List P) (i : ℕ) (p : P) → i < length ps → p ≡ get_or ps i p
+    → each part (drop i ps) ≡ more (part p) (each part (drop (i + 1) ps))
+each_at part ps i p l e = ap (each part) (drop-cons ps i p l ∙ ap (λ x. x ∷ drop (suc i) ps) (sym e)) ∙ each_more part p (drop (suc i) ps)
+    ∙ ap (λ k. more (part p) (each part (drop k ps))) (sym (add-one i))
 
 pub each_past : {P A : Type 0} (part : P → Rule A) (ps : List P) (i : ℕ) → length ps ≤ i → each part (drop i ps) ≡ done []
 each_past part ps i l = ap (each part) (none ps i l) ∙ each_none part
@@ -73,7 +78,8 @@ pub times_past : {A : Type 0} (part : Rule A) (n i : ℕ) → n ≤ i → times 
 times_past part n i l = let e : n - i ≡ zero = omega arith in ap (λ k. times k part) e ∙ times_none part
 
 -- ---- What a loop keeps.
-module _ {A : Type 0} (part : Rule A) (now next : Rule (List A)) (is : now ≡ more part next) (whole : Reading (List A)) (front : List A) (s : Ahead) (kept : with_front front (run now s) ≡ whole) where
+module _ {A : Type 0} (part : Rule A) (now next : Rule (List A)) (is : now ≡ more part next) (whole : Reading (List A)) (front : List A) (s : Ahead)
+    (kept : with_front front (run now s) ≡ whole) where
   unrolled : with_front front (run (more part next) s) ≡ whole
   unrolled = ap (λ r. with_front front (run r s)) (sym is) ∙ kept
 
@@ -82,8 +88,10 @@ module _ {A : Type 0} (part : Rule A) (now next : Rule (List A)) (is : now ≡ m
   goes_on a s2 front2 h e = ap (λ l. with_front l (run next s2)) e ∙ sym (front_more part next front a s s2 h) ∙ unrolled
 
   -- or it stops
-  pub leaves : {X Y : Type 0} (view : X → A) (other : Y → List A) (e : FileFault) (old new : Ahead) → Reads view (run part s) (Err e) old → Reads other whole (Err e) new
+  pub leaves : {X Y : Type 0} (view : X → A) (other : Y → List A) (e : FileFault) (old new : Ahead) → Reads view (run part s) (Err e) old
+      → Reads other whole (Err e) new
   leaves view other e old new h = stops_with view other (run part s) whole e old new h (λ x k. sym unrolled ∙ front_stops part next front x s k)
 
-pub ends : {A : Type 0} (now : Rule (List A)) → now ≡ done [] → (whole : Reading (List A)) (front : List A) (s : Ahead) → with_front front (run now s) ≡ whole → whole ≡ Ok (front, s)
+pub ends : {A : Type 0} (now : Rule (List A)) → now ≡ done [] → (whole : Reading (List A)) (front : List A) (s : Ahead) → with_front front (run now s) ≡ whole
+    → whole ≡ Ok (front, s)
 ends now is whole front s kept = sym kept ∙ ap (λ r. with_front front (run r s)) is ∙ front_end front s

@@ -9,7 +9,8 @@ use Rattle.rv_invfile.specs.Readers.{Ahead, ◌>>=◌, Reading, Reads, judged, t
 use Rattle.rv_invfile.specs.Ahead.{first, others, here, after_one, kind_fault, kind_fault_in}
 
 -- a fault of the kind is that of the record
-stopped-by : (p k : Bool) (f : Form) (n : ℕ) (r : Fields) (rs : List Fields) (e : FileFault) → cond p (cond k None (Some (fault.WrongKind n))) (Some (fault.NotRecords n)) ≡ Some e
+stopped-by : (p k : Bool) (f : Form) (n : ℕ) (r : Fields) (rs : List Fields) (e : FileFault)
+    → cond p (cond k None (Some (fault.WrongKind n))) (Some (fault.NotRecords n)) ≡ Some e
     → judged (cond p (fault_by (cond k (Some f) None) r) (Some why.NotRecords)) n r rs ≡ Err e
 stopped-by true true f n r rs e h = cc
 stopped-by true false f n r rs e h = cc
@@ -36,35 +37,45 @@ pub there : (kind : Fields → Bool) (s : Ahead) → kind_fault kind s ≡ None 
 there kind s h = there-in kind s.taken s.rest h
 
 -- what is at fault in it then
-pub further-in : (f : Form) (n : ℕ) (rs : List Fields) → kind_fault_in f.is_kind n rs ≡ None → take_in (f ∷ []) n rs ≡ judged (fault_by (Some f) (first rs)) n (first rs) (others rs)
+pub further-in : (f : Form) (n : ℕ) (rs : List Fields) → kind_fault_in f.is_kind n rs ≡ None
+    → take_in (f ∷ []) n rs ≡ judged (fault_by (Some f) (first rs)) n (first rs) (others rs)
 further-in f n [] h = cc
 further-in f n (r ∷ rs) h =
     let p = passes-by (is_plain r) (f.is_kind r) n h in
-    ap (λ b. judged (cond b (fault_by (form_of (f ∷ []) r) r) (Some why.NotRecords)) n r rs) p.0 ∙ ap (λ b. judged (fault_by (cond b (Some f) None) r) n r rs) p.1
+    ap (λ b. judged (cond b (fault_by (form_of (f ∷ []) r) r) (Some why.NotRecords)) n r rs) p.0
+    ∙ ap (λ b. judged (fault_by (cond b (Some f) None) r) n r rs) p.1
 
 pub further : (f : Form) (s : Ahead) → kind_fault f.is_kind s ≡ None → taking (f ∷ []) s ≡ judged (fault_by (Some f) (here s)) s.taken (here s) (others s.rest)
 further f s h = further-in f s.taken s.rest h
 
-pub other_program : (f : Form) (s : Ahead) → kind_fault f.is_kind s ≡ None → f.is_program (here s) ≡ false → taking (f ∷ []) s ≡ Err (fault.WrongProgram s.taken)
+pub other_program : (f : Form) (s : Ahead) → kind_fault f.is_kind s ≡ None → f.is_program (here s) ≡ false
+    → taking (f ∷ []) s ≡ Err (fault.WrongProgram s.taken)
 other_program f s h p =
-    further f s h ∙ ap (λ b. judged (cond b (option_map why.BadNumber (first_bad (f.allows (here s)) 0 (length (here s)))) (Some why.WrongProgram)) s.taken (here s) (others s.rest)) p
+    further f s h ∙ ap (λ b. judged (cond b (option_map why.BadNumber (first_bad (f.allows (here s)) 0 (length (here s)))) (Some why.WrongProgram)) s.taken
+    (here s) (others s.rest)) p
 
-pub by_fields : (f : Form) (s : Ahead) → kind_fault f.is_kind s ≡ None → f.is_program (here s) ≡ true → taking (f ∷ []) s ≡ judged (option_map why.BadNumber (first_bad (f.allows (here s)) 0 (length (here s)))) s.taken (here s) (others s.rest)
+pub by_fields : (f : Form) (s : Ahead) → kind_fault f.is_kind s ≡ None → f.is_program (here s) ≡ true
+    → taking (f ∷ []) s ≡ judged (option_map why.BadNumber (first_bad (f.allows (here s)) 0 (length (here s)))) s.taken (here s) (others s.rest)
 by_fields f s h p =
-    further f s h ∙ ap (λ b. judged (cond b (option_map why.BadNumber (first_bad (f.allows (here s)) 0 (length (here s)))) (Some why.WrongProgram)) s.taken (here s) (others s.rest)) p
+    further f s h ∙ ap (λ b. judged (cond b (option_map why.BadNumber (first_bad (f.allows (here s)) 0 (length (here s)))) (Some why.WrongProgram)) s.taken
+    (here s) (others s.rest)) p
 
-pub bad_field : (f : Form) (s : Ahead) (i : ℕ) → kind_fault f.is_kind s ≡ None → f.is_program (here s) ≡ true → first_bad (f.allows (here s)) 0 (length (here s)) ≡ Some i → taking (f ∷ []) s ≡ Err (fault.BadNumber s.taken i)
+pub bad_field : (f : Form) (s : Ahead) (i : ℕ) → kind_fault f.is_kind s ≡ None → f.is_program (here s) ≡ true
+    → first_bad (f.allows (here s)) 0 (length (here s)) ≡ Some i → taking (f ∷ []) s ≡ Err (fault.BadNumber s.taken i)
 bad_field f s i h p b = by_fields f s h p ∙ ap (λ o. judged (option_map why.BadNumber o) s.taken (here s) (others s.rest)) b
 
-pub right : (f : Form) (s : Ahead) → kind_fault f.is_kind s ≡ None → f.is_program (here s) ≡ true → first_bad (f.allows (here s)) 0 (length (here s)) ≡ None → taking (f ∷ []) s ≡ Ok (here s, after_one s)
+pub right : (f : Form) (s : Ahead) → kind_fault f.is_kind s ≡ None → f.is_program (here s) ≡ true → first_bad (f.allows (here s)) 0 (length (here s)) ≡ None
+    → taking (f ∷ []) s ≡ Ok (here s, after_one s)
 right f s h p b = by_fields f s h p ∙ ap (λ o. judged (option_map why.BadNumber o) s.taken (here s) (others s.rest)) b
 
 -- ---- The kind, where the bytes are plain.
-plain-by : (p : Bool) (kind : Bool) (n : ℕ) (e : FileFault) → cond p None (Some (fault.NotRecords n)) ≡ Some e → cond p (cond kind None (Some (fault.WrongKind n))) (Some (fault.NotRecords n)) ≡ Some e
+plain-by : (p : Bool) (kind : Bool) (n : ℕ) (e : FileFault) → cond p None (Some (fault.NotRecords n)) ≡ Some e
+    → cond p (cond kind None (Some (fault.WrongKind n))) (Some (fault.NotRecords n)) ≡ Some e
 plain-by true kind n e h = cc
 plain-by false kind n e h = h
 
-pub plain_stopped : (kind : Fields → Bool) (n : ℕ) (rs : List Fields) (e : FileFault) → kind_fault_in (λ r. true) n rs ≡ Some e → kind_fault_in kind n rs ≡ Some e
+pub plain_stopped : (kind : Fields → Bool) (n : ℕ) (rs : List Fields) (e : FileFault) → kind_fault_in (λ r. true) n rs ≡ Some e
+    → kind_fault_in kind n rs ≡ Some e
 plain_stopped kind n [] e h = h
 plain_stopped kind n (r ∷ rs) e h = plain-by (is_plain r) (kind r) n e h
 
@@ -72,15 +83,19 @@ plain-is : (p : Bool) (n : ℕ) → cond p None (Some (fault.NotRecords n)) ≡ 
 plain-is true n h = refl
 plain-is false n h = cc
 
-pub plain_kind : (kind : Fields → Bool) (n : ℕ) (rs : List Fields) → kind_fault_in (λ r. true) n rs ≡ None → kind (first rs) ≡ true → kind_fault_in kind n rs ≡ None
+pub plain_kind : (kind : Fields → Bool) (n : ℕ) (rs : List Fields) → kind_fault_in (λ r. true) n rs ≡ None → kind (first rs) ≡ true
+    → kind_fault_in kind n rs ≡ None
 plain_kind kind n [] h k = cc
 plain_kind kind n (r ∷ rs) h k =
-    ap (λ b. cond b (cond (kind r) None (Some (fault.WrongKind n))) (Some (fault.NotRecords n))) (plain-is (is_plain r) n h) ∙ ap (λ b. cond b None (Some (fault.WrongKind n))) k
+    ap (λ b. cond b (cond (kind r) None (Some (fault.WrongKind n))) (Some (fault.NotRecords n))) (plain-is (is_plain r) n h)
+    ∙ ap (λ b. cond b None (Some (fault.WrongKind n))) k
 
-pub plain_other : (kind : Fields → Bool) (n : ℕ) (rs : List Fields) → kind_fault_in (λ r. true) n rs ≡ None → kind (first rs) ≡ false → kind_fault_in kind n rs ≡ Some (fault.WrongKind n)
+pub plain_other : (kind : Fields → Bool) (n : ℕ) (rs : List Fields) → kind_fault_in (λ r. true) n rs ≡ None → kind (first rs) ≡ false
+    → kind_fault_in kind n rs ≡ Some (fault.WrongKind n)
 plain_other kind n [] h k = cc
 plain_other kind n (r ∷ rs) h k =
-    ap (λ b. cond b (cond (kind r) None (Some (fault.WrongKind n))) (Some (fault.NotRecords n))) (plain-is (is_plain r) n h) ∙ ap (λ b. cond b None (Some (fault.WrongKind n))) k
+    ap (λ b. cond b (cond (kind r) None (Some (fault.WrongKind n))) (Some (fault.NotRecords n))) (plain-is (is_plain r) n h)
+    ∙ ap (λ b. cond b None (Some (fault.WrongKind n))) k
 
 -- ---- What a method returns.
 -- it stops as reading stops
@@ -97,7 +112,8 @@ pub forgets : {X A : Type 0} (view : X → A) (r : Reading A) (e : FileFault) (n
 forgets view r e new h = subst (λ x. Reads view r (Err x) new) (sym h) tt
 
 -- a part that stops stops the whole
-pub stops_with : {X Y A B : Type 0} (view : X → A) (other : Y → B) (r : Reading A) (whole : Reading B) (e : FileFault) (old new : Ahead) → Reads view r (Err e) old → ((x : FileFault) → r ≡ Err x → whole ≡ Err x) → Reads other whole (Err e) new
+pub stops_with : {X Y A B : Type 0} (view : X → A) (other : Y → B) (r : Reading A) (whole : Reading B) (e : FileFault) (old new : Ahead)
+    → Reads view r (Err e) old → ((x : FileFault) → r ≡ Err x → whole ≡ Err x) → Reads other whole (Err e) new
 stops_with view other r whole (fault.NotRecords n) old new h k = k (fault.NotRecords n) h
 stops_with view other r whole (fault.WrongKind n) old new h k = k (fault.WrongKind n) h
 stops_with view other r whole (fault.WrongProgram n) old new h k = k (fault.WrongProgram n) h
@@ -106,7 +122,8 @@ stops_with view other r whole (fault.Ends n) old new h k = k (fault.Ends n) h
 stops_with view other r whole fault.Memory old new h k = tt
 
 -- A right record that was taken, or no memory.
-pub took_right : {A : Type 0} (f : Form) (value : Fields → A) (s : Ahead) (r : Result ⊤ FileFault) (new : Ahead) → taking (f ∷ []) s ≡ Ok (here s, after_one s) → OnOk r (new ≡ after_one s) → IfErr r (λ e. e ≡ fault.Memory)
+pub took_right : {A : Type 0} (f : Form) (value : Fields → A) (s : Ahead) (r : Result ⊤ FileFault) (new : Ahead) → taking (f ∷ []) s ≡ Ok (here s, after_one s)
+    → OnOk r (new ≡ after_one s) → IfErr r (λ e. e ≡ fault.Memory)
     → Reads (λ u. value (here s)) (taking (f ∷ []) s >>= λ x. Ok (value x.0, x.1)) r new
 took_right f value s (Ok u) new h a b = ap (λ z. z >>= λ x. Ok (value x.0, x.1)) h ∙ ap (λ n. Ok (value (here s), n)) (sym a)
 took_right f value s (Err e) new h a b = forgets {X = ⊤} (λ u. value (here s)) (taking (f ∷ []) s >>= λ x. Ok (value x.0, x.1)) e new b

@@ -60,18 +60,22 @@ module _ (labels : Labels) where
       bind (counts (codes "starts") starts starts) (λ c.
       bind (each start_at memories) (end_of inputs kinds count))))
 
-by_parts : (f : Flat) → trace_rule f ≡ rule_of f.labels f.main (length f.memories) (map memory_of f.memories) (map (λ (i : FlatInput). i.name) f.inputs) (map (λ (i : FlatInput). i.kind) f.inputs) (length f.inputs)
+by_parts : (f : Flat) → trace_rule f ≡ rule_of f.labels f.main (length f.memories) (map memory_of f.memories) (map (λ (i : FlatInput). i.name) f.inputs)
+    (map (λ (i : FlatInput). i.kind) f.inputs) (length f.inputs)
 by_parts f =
-    ap (λ (rule : Rule (List Value)). bind (exactly first_record) (λ a. bind (names (codes "main") f.main) (λ b. bind (counts (codes "starts") (length f.memories) (length f.memories)) (λ c. bind rule (trace_end f)))))
+    ap (λ (rule : Rule (List Value)). bind (exactly first_record) (λ a. bind (names (codes "main") f.main)
+    (λ b. bind (counts (codes "starts") (length f.memories) (length f.memories)) (λ c. bind rule (trace_end f)))))
     (each_start f.labels f.memories)
 
 pub one_rule : (p : ProgramTree) (main : Identifier) (f g : Flat) → IsFlatOf p main f → IsFlatOf p main g → trace_rule f ≡ trace_rule g
 one_rule p main f g a b =
-    let memories : map memory_of f.memories ≡ map memory_of g.memories = one_listing p main (map memory_of f.memories) (map memory_of g.memories) a.memories b.memories in
+    let memories : map memory_of f.memories ≡ map memory_of g.memories = one_listing p main (map memory_of f.memories) (map memory_of g.memories) a.memories
+    b.memories in
     let inputs : map (λ (i : FlatInput). i.name) f.inputs ≡ map (λ (i : FlatInput). i.name) g.inputs = a.inputs ∙ sym b.inputs in
     let kinds : map (λ (i : FlatInput). i.kind) f.inputs ≡ map (λ (i : FlatInput). i.kind) g.inputs = a.input_kinds ∙ sym b.input_kinds in
     let labels : f.labels ≡ g.labels = a.labels ∙ sym b.labels in
     let name : f.main ≡ g.main = a.name ∙ sym b.name in
     let starts : length f.memories ≡ length g.memories = sym (length-map f.memories memory_of) ∙ ap length memories ∙ length-map g.memories memory_of in
-    let count : length f.inputs ≡ length g.inputs = sym (length-map f.inputs (λ (i : FlatInput). i.name)) ∙ ap length inputs ∙ length-map g.inputs (λ (i : FlatInput). i.name) in
+    let count : length f.inputs ≡ length g.inputs = sym (length-map f.inputs (λ (i : FlatInput). i.name)) ∙ ap length inputs
+    ∙ length-map g.inputs (λ (i : FlatInput). i.name) in
     by_parts f ∙ (λ i. rule_of (labels i) (name i) (starts i) (memories i) (inputs i) (kinds i) (count i)) ∙ sym (by_parts g)

@@ -11,7 +11,8 @@ use Rattle.rv_invfile.specs.Readers.{◌>>=◌, Gives, fault_at, judged, run, cl
 use Rattle.rv_invfile.specs.Tells.{Refuses}
 use Rattle.rv_invfile.proofs.Exact.{first-right, rest-right, nothing-awaited, whole_from, Unfinished}
 
-pub reads-fault : {A : Type 0} (rule : Rule A) (n : ℕ) (before : List Fields) (here : Fields) (more : List Fields) (y : Why) → HasNoFault rule before → fault_after rule before here ≡ Some y → whole_from rule n (before ++ here ∷ more) ≡ Err (fault_at (n + length before) y)
+pub reads-fault : {A : Type 0} (rule : Rule A) (n : ℕ) (before : List Fields) (here : Fields) (more : List Fields) (y : Why) → HasNoFault rule before
+    → fault_after rule before here ≡ Some y → whole_from rule n (before ++ here ∷ more) ≡ Err (fault_at (n + length before) y)
 reads-fault (done a) n [] here more y r h = ap (λ o. judged o n here more >>= λ x. Ok a) h ∙ ap (λ k. Err (fault_at k y)) (omega arith)
 reads-fault (done a) n (b ∷ bs) here more y r h = absurd (nothing-awaited b (first-right (done a) b bs r))
 reads-fault (await forms next) n [] here more y r h =
@@ -20,7 +21,8 @@ reads-fault (await forms next) n (b ∷ bs) here more y r h =
     ap (λ o. (judged o n b (bs ++ here ∷ more) >>= λ x. run (next x.0) x.1) >>= λ x. closing x.0 x.1) (first-right (await forms next) b bs r)
     ∙ reads-fault (next b) (n + 1) bs here more y (rest-right (await forms next) b bs r) h ∙ ap (λ k. Err (fault_at k y)) (omega arith)
 
-pub reads-end : {A : Type 0} (rule : Rule A) (n : ℕ) (rs : List Fields) → HasNoFault rule rs → Unfinished (after rule rs) → whole_from rule n rs ≡ Err (fault.Ends (n + length rs))
+pub reads-end : {A : Type 0} (rule : Rule A) (n : ℕ) (rs : List Fields) → HasNoFault rule rs → Unfinished (after rule rs)
+    → whole_from rule n rs ≡ Err (fault.Ends (n + length rs))
 reads-end (done a) n [] r u = absurd (u a refl)
 reads-end (done a) n (b ∷ bs) r u = absurd (u a refl)
 reads-end (await forms next) n [] r u = ap (λ k. Err (fault.Ends k)) (omega arith)
@@ -34,7 +36,8 @@ err-same e = cc
 module _ {A : Type 0} (rule : Rule A) (rs : List Fields) where
   from-faulty : (n : ℕ) (y : Why) → Faulty rule rs n y → whole rule rs ≡ Err (fault_at n y)
   from-faulty n y f =
-      ap (λ l. whole_from rule 0 l) f.records ∙ reads-fault rule 0 f.before f.here f.more y f.right f.wrong ∙ ap (λ k. Err (fault_at k y)) (omega (arith, f.number))
+      ap (λ l. whole_from rule 0 l) f.records ∙ reads-fault rule 0 f.before f.here f.more y f.right f.wrong
+      ∙ ap (λ k. Err (fault_at k y)) (omega (arith, f.number))
 
   pub first-fault : (e : FileFault) → IsFirstFault rule rs e → whole rule rs ≡ Err e
   first-fault (fault.NotRecords n) f = from-faulty n why.NotRecords f

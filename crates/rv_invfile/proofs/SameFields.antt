@@ -54,19 +54,24 @@ text-at f (y ∷ ys) (suc k) x l e = text-at f ys k x (omega arith) e
 next-field : (w : List ℕ) (m : List (List ℕ)) (i : ℕ) → get_or (w ∷ m) (i + 1) [] ≡ get_or m i []
 next-field w m i = ap (λ k. get_or (w ∷ m) k []) (add-one i)
 
-pub texts-differ : {A : Type 0} (f : A → List ℕ) (x : List (List ℕ)) (xs : List A) (i : ℕ) (a : A) → i < length xs → a ≡ get_or xs i a → (get_or x i [] ≡ f a → ⊥) → same_fields x (map f xs) ≡ false
+pub texts-differ : {A : Type 0} (f : A → List ℕ) (x : List (List ℕ)) (xs : List A) (i : ℕ) (a : A) → i < length xs → a ≡ get_or xs i a
+    → (get_or x i [] ≡ f a → ⊥) → same_fields x (map f xs) ≡ false
 texts-differ f x xs i a l e h = other-field x (map f xs) i (λ s. h (s ∙ text-at f xs i a l e))
 
-pub later-differ : {A : Type 0} (f : A → List ℕ) (x : List (List ℕ)) (w : List ℕ) (xs : List A) (i : ℕ) (a : A) → i < length xs → a ≡ get_or xs i a → (get_or x (i + 1) [] ≡ f a → ⊥) → same_fields x (w ∷ map f xs) ≡ false
+pub later-differ : {A : Type 0} (f : A → List ℕ) (x : List (List ℕ)) (w : List ℕ) (xs : List A) (i : ℕ) (a : A) → i < length xs → a ≡ get_or xs i a
+    → (get_or x (i + 1) [] ≡ f a → ⊥) → same_fields x (w ∷ map f xs) ≡ false
 later-differ f x w xs i a l e h = other-field x (w ∷ map f xs) (i + 1) (λ s. h (s ∙ next-field w (map f xs) i ∙ text-at f xs i a l e))
 
-pub texts-same : {A : Type 0} (f : A → List ℕ) (x : List (List ℕ)) (xs : List A) → length x ≡ length xs → ((k : ℕ) → k < length xs → get_or x k [] ≡ get_or (map f xs) k []) → same_fields x (map f xs) ≡ true
+pub texts-same : {A : Type 0} (f : A → List ℕ) (x : List (List ℕ)) (xs : List A) → length x ≡ length xs
+    → ((k : ℕ) → k < length xs → get_or x k [] ≡ get_or (map f xs) k []) → same_fields x (map f xs) ≡ true
 texts-same f x xs l h = all-same x (map f xs) (omega (arith, length-map xs f)) (λ i k. h i (omega arith))
 
-pub later-same : {A : Type 0} (f : A → List ℕ) (x : List (List ℕ)) (w : List ℕ) (xs : List A) → length x ≡ length xs + 1 → get_or x 0 [] ≡ w → ((k : ℕ) → k < length xs → get_or x (k + 1) [] ≡ get_or (map f xs) k []) → same_fields x (w ∷ map f xs) ≡ true
+pub later-same : {A : Type 0} (f : A → List ℕ) (x : List (List ℕ)) (w : List ℕ) (xs : List A) → length x ≡ length xs + 1 → get_or x 0 [] ≡ w
+    → ((k : ℕ) → k < length xs → get_or x (k + 1) [] ≡ get_or (map f xs) k []) → same_fields x (w ∷ map f xs) ≡ true
 later-same {A = A} f x w xs l z h = all-same x (w ∷ map f xs) (omega (arith, length-map xs f)) (each x w xs l z h)
   where
-    each : (x : List (List ℕ)) (w : List ℕ) (xs : List A) → length x ≡ length xs + 1 → get_or x 0 [] ≡ w → ((k : ℕ) → k < length xs → get_or x (k + 1) [] ≡ get_or (map f xs) k []) → (i : ℕ) → i < length x → get_or x i [] ≡ get_or (w ∷ map f xs) i []
+    each : (x : List (List ℕ)) (w : List ℕ) (xs : List A) → length x ≡ length xs + 1 → get_or x 0 [] ≡ w
+        → ((k : ℕ) → k < length xs → get_or x (k + 1) [] ≡ get_or (map f xs) k []) → (i : ℕ) → i < length x → get_or x i [] ≡ get_or (w ∷ map f xs) i []
     each x w xs l z h zero k = z
     each x w xs l z h (suc i) k = ap (λ j. get_or x j []) (sym (add-one i)) ∙ h i (omega arith)
 

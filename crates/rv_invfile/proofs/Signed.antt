@@ -32,7 +32,8 @@ low-is : (m : ℕ) → int_le least (negsuc m) ≡ true → m ≤ 92233720368547
 low-is m h = grind (arith, ints)
 
 -- a minus and digits, by the number of the digits
-minus : (n : ℕ) (bs : List ℕ) → natural bs ≡ n → bytes_eq (45 ∷ bs) (signed_decimal (neg_ℤ (pos n))) ≡ true → int_le least (neg_ℤ (pos n)) ≡ true → is_natural 1 9223372036854775808 bs ≡ true
+minus : (n : ℕ) (bs : List ℕ) → natural bs ≡ n → bytes_eq (45 ∷ bs) (signed_decimal (neg_ℤ (pos n))) ≡ true → int_le least (neg_ℤ (pos n)) ≡ true
+    → is_natural 1 9223372036854775808 bs ≡ true
 minus zero bs is same low =
     let e = bytes-same (45 ∷ bs) (decimal 0) same ∙ decimal_digit 0 (omega arith) in
     unequal (head-of 45 48 bs [] e)
@@ -44,14 +45,16 @@ minus (suc m) bs is same low =
 minus-none : (bs : List ℕ) → is_natural 1 9223372036854775808 bs ≡ false → is_whole least greatest (45 ∷ bs) ≡ false
 minus-none bs h =
     not-true (is_whole least greatest (45 ∷ bs)) (λ e.
-    let p = three (bytes_eq (45 ∷ bs) (signed_decimal (neg_ℤ (pos (natural bs))))) (int_le least (neg_ℤ (pos (natural bs)))) (int_le (neg_ℤ (pos (natural bs))) greatest) e in
+    let p = three (bytes_eq (45 ∷ bs) (signed_decimal (neg_ℤ (pos (natural bs))))) (int_le least (neg_ℤ (pos (natural bs))))
+    (int_le (neg_ℤ (pos (natural bs))) greatest) e in
     clash (is_natural 1 9223372036854775808 bs) h (minus (natural bs) bs refl p.0 p.1))
   where
     clash : (b : Bool) → b ≡ false → b ≡ true → ⊥
     clash true e f = cc
     clash false e f = cc
 
-pub negative-none : (text ds : List ℕ) → get_or text 0 0 ≡ 45 → ds ≡ take (length text - 1) (drop 1 text) → is_natural 1 9223372036854775808 ds ≡ false → is_whole least greatest text ≡ false
+pub negative-none : (text ds : List ℕ) → get_or text 0 0 ≡ 45 → ds ≡ take (length text - 1) (drop 1 text) → is_natural 1 9223372036854775808 ds ≡ false
+    → is_whole least greatest text ≡ false
 negative-none [] ds h e n = absurd (omega arith)
 negative-none (b ∷ bs) ds h e n =
     let same : ds ≡ bs = e ∙ ap (λ k. take k bs) (omega arith) ∙ whole-take bs in

@@ -50,8 +50,10 @@ byte-sound : (d : ℕ) → d < 10 → is_sound (48 + d) ≡ true
 byte-sound d h =
     let low : nat_le 48 (48 + d) ≡ true = le-leb 48 (48 + d) (omega arith) in
     let high : nat_le (48 + d) 57 ≡ true = le-leb (48 + d) 57 (omega arith) in
-    ap (λ a. (a && nat_le (48 + d) 57) || (nat_le 65 (48 + d) && nat_le (48 + d) 90) || nat_eq (48 + d) 95 || (nat_le 97 (48 + d) && nat_le (48 + d) 122) || nat_eq (48 + d) 45 || nat_eq (48 + d) 46) low
-    ∙ ap (λ a. (true && a) || (nat_le 65 (48 + d) && nat_le (48 + d) 90) || nat_eq (48 + d) 95 || (nat_le 97 (48 + d) && nat_le (48 + d) 122) || nat_eq (48 + d) 45 || nat_eq (48 + d) 46) high
+    ap (λ a. (a && nat_le (48 + d) 57) || (nat_le 65 (48 + d) && nat_le (48 + d) 90) || nat_eq (48 + d) 95 || (nat_le 97 (48 + d) && nat_le (48 + d) 122) ||
+    nat_eq (48 + d) 45 || nat_eq (48 + d) 46) low
+    ∙ ap (λ a. (true && a) || (nat_le 65 (48 + d) && nat_le (48 + d) 90) || nat_eq (48 + d) 95 || (nat_le 97 (48 + d) && nat_le (48 + d) 122) || nat_eq
+    (48 + d) 45 || nat_eq (48 + d) 46) high
 
 pub decimal-sound : (n : ℕ) → is_sound_text (decimal n) ≡ true
 decimal-sound = decimal-all is_sound byte-sound
@@ -106,16 +108,20 @@ inputs-sound (i ∷ is) h =
     let p = both (is_name i.name) (list_all (λ (i : FlatInput). is_name i.name) is) h in
     ap (λ c. c && list_all is_sound_text (map (λ (i : FlatInput). i.name) is)) (name-sound i.name p.0) ∙ inputs-sound is p.1
 
-texts-sound : (labels : Labels) → list_all (list_all is_name) labels ≡ true → (ks : List Kind) (vs : List Value) → list_all is_sound_text (value_texts labels ks vs) ≡ true
+texts-sound : (labels : Labels) → list_all (list_all is_name) labels ≡ true → (ks : List Kind) (vs : List Value)
+    → list_all is_sound_text (value_texts labels ks vs) ≡ true
 texts-sound labels n [] vs = refl
 texts-sound labels n (k ∷ ks) [] = refl
-texts-sound labels n (k ∷ ks) (v ∷ vs) = ap (λ c. c && list_all is_sound_text (value_texts labels ks vs)) (value-sound labels n k v) ∙ texts-sound labels n ks vs
+texts-sound labels n (k ∷ ks) (v ∷ vs) = ap (λ c. c && list_all is_sound_text (value_texts labels ks vs)) (value-sound labels n k v)
+    ∙ texts-sound labels n ks vs
 
 starts-lines : (labels : Labels) → list_all (list_all is_name) labels ≡ true → (ms : List FlatMemory) (vs : List Value) → AreLines (start_records labels ms vs)
 starts-lines labels n [] vs = tt
 starts-lines labels n (m ∷ ms) [] = tt
-starts-lines labels n (m ∷ ms) (v ∷ vs) =
-    ((omega arith, two-texts (dotted m.place.sites) (value_text labels m.kind v) (dotted-sound m.place.sites) (value-sound labels n m.kind v)), starts-lines labels n ms vs)
+starts-lines labels n (m ∷ ms) (v ∷ vs) = (
+  (omega arith, two-texts (dotted m.place.sites) (value_text labels m.kind v) (dotted-sound m.place.sites) (value-sound labels n m.kind v)),
+  starts-lines labels n ms vs,
+)
 
 instants-lines : (f : Flat) → list_all (list_all is_name) f.labels ≡ true → (vss : List (List Value)) → AreLines (map (instant_record f) vss)
 instants-lines f n [] = tt
@@ -125,9 +131,11 @@ trace-lines : (f : Flat) (t : Trace) → IsTold f → AreLines (trace_records f 
 trace-lines f t told =
     let last : AreLines (last_record ∷ []) = ((omega arith, refl), tt) in
     let back = lines-joined (map (instant_record f) t.instants) (last_record ∷ []) (instants-lines f told.labels t.instants) last in
-    let count : IsLine (codes "instants" ∷ decimal (length t.instants) ∷ []) = (omega arith, one-text (decimal (length t.instants)) (decimal-sound (length t.instants))) in
+    let count : IsLine (codes "instants" ∷ decimal (length t.instants) ∷ [])
+    = (omega arith, one-text (decimal (length t.instants)) (decimal-sound (length t.instants))) in
     let inputs : IsLine (codes "inputs" ∷ map (λ (i : FlatInput). i.name) f.inputs) = (omega arith, inputs-sound f.inputs told.inputs) in
-    let starts : IsLine (codes "starts" ∷ decimal (length f.memories) ∷ []) = (omega arith, one-text (decimal (length f.memories)) (decimal-sound (length f.memories))) in
+    let starts : IsLine (codes "starts" ∷ decimal (length f.memories) ∷ [])
+    = (omega arith, one-text (decimal (length f.memories)) (decimal-sound (length f.memories))) in
     let main : IsLine (codes "main" ∷ f.main ∷ []) = (omega arith, one-text f.main (name-sound f.main told.main)) in
     let head : IsLine first_record = (omega arith, refl) in (
       head,
@@ -135,7 +143,8 @@ trace-lines f t told =
         main,
         (
           starts,
-          lines-joined (start_records f.labels f.memories t.starts) ((codes "inputs" ∷ map (λ (i : FlatInput). i.name) f.inputs) ∷ (codes "instants" ∷ decimal (length t.instants) ∷ []) ∷ (map (instant_record f) t.instants ++ last_record ∷ []))
+          lines-joined (start_records f.labels f.memories t.starts) ((codes "inputs" ∷ map (λ (i : FlatInput). i.name) f.inputs)
+              ∷ (codes "instants" ∷ decimal (length t.instants) ∷ []) ∷ (map (instant_record f) t.instants ++ last_record ∷ []))
               (starts-lines f.labels told.labels f.memories t.starts) (inputs, (count, back)),
         ),
       ),
@@ -203,4 +212,6 @@ pub trace-read : (f : Flat) (t : Trace) → IsTold f → records_of (lines (trac
 trace-read f t told = lines-read (trace_records f t) (trace-lines f t told) (no-mark (others f t))
   where
     others : Flat → Trace → List Fields
-    others f t = (codes "main" ∷ f.main ∷ []) ∷ (codes "starts" ∷ decimal (length f.memories) ∷ []) ∷ (start_records f.labels f.memories t.starts ++ (codes "inputs" ∷ map (λ i. i.name) f.inputs) ∷ (codes "instants" ∷ decimal (length t.instants) ∷ []) ∷ (map (instant_record f) t.instants ++ last_record ∷ []))
+    others f t = (codes "main" ∷ f.main ∷ []) ∷ (codes "starts" ∷ decimal (length f.memories) ∷ [])
+        ∷ (start_records f.labels f.memories t.starts ++ (codes "inputs" ∷ map (λ i. i.name) f.inputs) ∷ (codes "instants" ∷ decimal (length t.instants) ∷ [])
+        ∷ (map (instant_record f) t.instants ++ last_record ∷ []))

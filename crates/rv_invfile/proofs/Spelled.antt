@@ -16,7 +16,11 @@ pub document-spells : {A : Type 0} (rule : Rule A) (a : A) (rs : List Fields) �
 document-spells (done b) a [] d = (refl, done-is b a d.1)
 document-spells (done b) a (r ∷ rs) d = absurd (nothing-awaited r (first-right (done b) r rs d.0))
 document-spells (await forms next) a [] d = not-done forms next a d.1
-document-spells (await forms next) a (r ∷ rs) d = (first-right (await forms next) r rs d.0, document-spells (next r) a rs (rest-right (await forms next) r rs d.0, d.1))
+document-spells (await forms next) a (r ∷ rs) d = (
+  first-right (await forms next) r rs d.0,
+  document-spells (next r) a rs
+      (rest-right (await forms next) r rs d.0, d.1),
+)
 
 pub spells-document : {A : Type 0} (rule : Rule A) (a : A) (rs : List Fields) → Spells rule a rs → IsDocument rule rs a
 spells-document (done b) a [] s = (none-first (done b), ap done (sym s.1))
@@ -43,7 +47,8 @@ bind-parts (await forms next) k b (r ∷ rs) s =
 empty-front : {A B : Type 0} (a a2 : A) (k : A → Rule B) (b : B) (u v : List Fields) → u ≡ [] → a2 ≡ a → Spells (k a2) b v → Spells (k a) b (u ++ v)
 empty-front a a2 k b u v e f s = subst (λ l. Spells (k a) b (l ++ v)) (sym e) (subst (λ x. Spells (k x) b v) f s)
 
-pub parts-bind : {A B : Type 0} (p : Rule A) (k : A → Rule B) (a : A) (b : B) (u v : List Fields) → Spells p a u → Spells (k a) b v → Spells (bind p k) b (u ++ v)
+pub parts-bind : {A B : Type 0} (p : Rule A) (k : A → Rule B) (a : A) (b : B) (u v : List Fields) → Spells p a u → Spells (k a) b v
+    → Spells (bind p k) b (u ++ v)
 parts-bind (done c) k a b u v s t = empty-front c a k b u v s.0 s.1 t
 parts-bind (await forms next) k a b [] v s t = absurd s
 parts-bind (await forms next) k a b (r ∷ u) v s t = (s.0, parts-bind (next r) k a b u v s.1 t)
@@ -70,7 +75,8 @@ alive-after (await forms next) [] h n = h
 alive-after (await forms next) (r ∷ rs) h n = alive-after (next r) rs (h.1 r (first-right (await forms next) r rs n)) (rest-right (await forms next) r rs n)
 
 -- records at which no fault is go on to a document
-pub goes-on : {A : Type 0} (rule : Rule A) (before more : List Fields) (a : A) → HasNoFault rule before → Spells (after rule before) a more → Spells rule a (before ++ more)
+pub goes-on : {A : Type 0} (rule : Rule A) (before more : List Fields) (a : A) → HasNoFault rule before → Spells (after rule before) a more
+    → Spells rule a (before ++ more)
 goes-on rule [] more a n s = s
 goes-on (done b) (r ∷ rs) more a n s = absurd (nothing-awaited r (first-right (done b) r rs n))
 goes-on (await forms next) (r ∷ rs) more a n s = (first-right (await forms next) r rs n, goes-on (next r) rs more a (rest-right (await forms next) r rs n) s)

@@ -1,5 +1,6 @@
 -- What documents ask of a flat system follows from the program that it is of.
-use Rattle.std.proofs.Common.{◌≡◌, ◌<◌, ◌≤◌, ◌^◌, ℕ, zero, suc, Bool, true, false, List, [], ◌∷◌, ◌++◌, length, map, get_or, refl, sym, ap, ◌∙◌, subst, arith, inl, inr}
+use Rattle.std.proofs.Common.{◌≡◌, ◌<◌, ◌≤◌, ◌^◌, ℕ, zero, suc, Bool, true, false, List, [], ◌∷◌, ◌++◌, length, map, get_or, refl, sym, ap, ◌∙◌, subst, arith}
+use Rattle.std.proofs.Common.{inl, inr}
 use Rattle.std.specs.Prelude.{◌&&◌, ◌||◌, cond, flat_map, nat_eq, nat_le}
 use Rattle.std.specs.List.{Contains, list_all}
 use Rattle.std.proofs.lemmas.Bool.{eq-eqb, eqb-true, leb-true}
@@ -16,7 +17,8 @@ use Rattle.rv_types.specs.declared.typed.Typed.{Typed}
 use Rattle.rv_types.specs.Instances.{IsNode, node_of}
 use Rattle.rv_types.specs.declared.fault.NameFault.{NameFault}
 use Rattle.rv_types.specs.declared.fault.NameFault.TheVariants.{DefinedTwice}
-use Rattle.rv_types.specs.Names.{alias_use, constant_names, constant_uses, is_declared, label_names, labels_of, name_faults, names_in_node, node_names, repeated, repeated_after, repeated_values, texts, type_names}
+use Rattle.rv_types.specs.Names.{alias_use, constant_names, constant_uses, is_declared, label_names, labels_of, name_faults, names_in_node, node_names}
+use Rattle.rv_types.specs.Names.{repeated, repeated_after, repeated_values, texts, type_names}
 use Rattle.rv_types.specs.Settled.{IsSettled}
 use Rattle.rv_meaning.proofs.Acceptable.{main_in}
 use Rattle.rv_flat.specs.declared.flat.Flat.{Flat}
@@ -61,11 +63,13 @@ all-map g p [] = refl
 all-map g p (x ∷ xs) = ap (λ b. p (g x) && b) (all-map g p xs)
 
 -- ---- Names.
-named-plain : (ns : List NodeTree) (main : Identifier) → ((n : NodeTree) → Contains ns n → is_name n.name.text ≡ true) → is_among (map (λ (n : NodeTree). n.name.text) ns) main ≡ true → is_name main ≡ true
+named-plain : (ns : List NodeTree) (main : Identifier) → ((n : NodeTree) → Contains ns n → is_name n.name.text ≡ true)
+    → is_among (map (λ (n : NodeTree). n.name.text) ns) main ≡ true → is_name main ≡ true
 named-plain [] main h e = cc
 named-plain (n ∷ ns) main h e = tested (is_same n.name.text main) refl e (named-plain ns main (λ m w. h m (in-tail n ns m w)))
   where
-    tested : (b : Bool) → is_same n.name.text main ≡ b → (b || is_among (map (λ (n : NodeTree). n.name.text) ns) main) ≡ true → (is_among (map (λ (n : NodeTree). n.name.text) ns) main ≡ true → is_name main ≡ true) → is_name main ≡ true
+    tested : (b : Bool) → is_same n.name.text main ≡ b → (b || is_among (map (λ (n : NodeTree). n.name.text) ns) main) ≡ true
+        → (is_among (map (λ (n : NodeTree). n.name.text) ns) main ≡ true → is_name main ≡ true) → is_name main ≡ true
     tested true same e again = subst (λ x. is_name x ≡ true) (same-text n.name.text main same) (h n (at-head n ns))
     tested false same e again = again e
 
@@ -98,19 +102,23 @@ or-left false b e = cc
 not-again : (t : List ℕ) (before xs : List Name) → is_declared before t ≡ true → repeated before xs ≡ [] → IsAmong t (texts xs) → ⊥
 not-again t before [] d e a = a
 not-again t before (y ∷ ys) d e (inl same) =
-    clash (is_declared before y.text) (subst (λ z. is_declared before z ≡ true) same d) (both-empty (cond (is_declared before y.text) (DefinedTwice y.at ∷ []) []) (repeated (y ∷ before) ys) e).0
+    clash (is_declared before y.text) (subst (λ z. is_declared before z ≡ true) same d)
+    (both-empty (cond (is_declared before y.text) (DefinedTwice y.at ∷ []) []) (repeated (y ∷ before) ys) e).0
   where
     clash : (b : Bool) → b ≡ true → cond b (DefinedTwice y.at ∷ []) [] ≡ [] → ⊥
     clash true e f = cc
     clash false e f = cc
 not-again t before (y ∷ ys) d e (inr a) =
-    not-again t (y ∷ before) ys (or-right (is_same y.text t) (is_declared before t) d) (both-empty (cond (is_declared before y.text) (DefinedTwice y.at ∷ []) []) (repeated (y ∷ before) ys) e).1 a
+    not-again t (y ∷ before) ys (or-right (is_same y.text t) (is_declared before t) d)
+    (both-empty (cond (is_declared before y.text) (DefinedTwice y.at ∷ []) []) (repeated (y ∷ before) ys) e).1 a
 
 texts-differ : (before xs : List Name) → repeated before xs ≡ [] → AreDifferent (texts xs)
 texts-differ before [] e = tt
 texts-differ before (x ∷ xs) e =
-    let rest : repeated (x ∷ before) xs ≡ [] = (both-empty (cond (is_declared before x.text) (DefinedTwice x.at ∷ []) []) (repeated (x ∷ before) xs) e).1 in
-    ((λ a. not-again x.text (x ∷ before) xs (or-left (is_same x.text x.text) (is_declared before x.text) (same-itself x.text)) rest a), texts-differ (x ∷ before) xs rest)
+    let rest : repeated (x ∷ before) xs ≡ [] = (both-empty (cond (is_declared before x.text) (DefinedTwice x.at ∷ []) []) (repeated (x ∷ before) xs) e).1 in (
+      (λ a. not-again x.text (x ∷ before) xs (or-left (is_same x.text x.text) (is_declared before x.text) (same-itself x.text)) rest a),
+      texts-differ (x ∷ before) xs rest,
+    )
 
 split : (before xs ys : List Name) → repeated before (xs ++ ys) ≡ [] → (repeated before xs ≡ []) × ((others : List Name) × (repeated others ys ≡ []))
 split before [] ys e = (refl, (before, e))
@@ -119,7 +127,8 @@ split before (x ∷ xs) ys e =
     let r = split (x ∷ before) xs ys p.1 in
     (ap (λ l. l ++ repeated (x ∷ before) xs) p.0 ∙ r.0, r.1)
 
-types-differ : (before : List Name) (ds : List TypeDecl) → repeated before (flat_map labels_of ds) ≡ [] → (e : ℕ) → AreDifferent (get_or (map (λ (d : TypeDecl). texts (labels_of d)) ds) e [])
+types-differ : (before : List Name) (ds : List TypeDecl) → repeated before (flat_map labels_of ds) ≡ [] → (e : ℕ)
+    → AreDifferent (get_or (map (λ (d : TypeDecl). texts (labels_of d)) ds) e [])
 types-differ before [] h e = tt
 types-differ before (d ∷ ds) h zero = texts-differ before (labels_of d) (split before (labels_of d) (flat_map labels_of ds) h).0
 types-differ before (d ∷ ds) h (suc e) = let r = (split before (labels_of d) (flat_map labels_of ds) h).1 in types-differ r.0 ds r.1 e
@@ -127,7 +136,8 @@ types-differ before (d ∷ ds) h (suc e) = let r = (split before (labels_of d) (
 labels-apart : (p : ProgramTree) → name_faults p ≡ [] → repeated [] (label_names p) ≡ []
 labels-apart p e =
     let uses : List NameFault = (flat_map (alias_use p) p.types ++ flat_map (constant_uses p) p.constants) ++ flat_map (names_in_node p) p.nodes in
-    let both_kinds : List NameFault = flat_map (repeated_after (label_names p)) (constant_names p) ++ flat_map (repeated_after (constant_names p)) (label_names p) in
+    let both_kinds : List NameFault = flat_map (repeated_after (label_names p)) (constant_names p) ++ flat_map (repeated_after (constant_names p))
+    (label_names p) in
     let nodes : List NameFault = repeated [] (node_names p) in
     let types : List NameFault = repeated [] (type_names p) in
     let constants : List NameFault = repeated [] (constant_names p) in
@@ -144,7 +154,8 @@ few-all [] h k d l = absurd (omega (arith, l))
 few-all (l ∷ ls) h zero d lt = leb-true (length l) 256 (both (nat_le (length l) 256) (facts.all_few 256 ls) h).0
 few-all (l ∷ ls) h (suc k) d lt = few-all ls (both (nat_le (length l) 256) (facts.all_few 256 ls) h).1 k d (omega (arith, lt))
 
-few-inputs : (p : ProgramTree) (main : Identifier) (f : Flat) → IsSourceTree p → IsNode p main → map (λ (i : FlatInput). i.name) f.inputs ≡ names (node_of p main).inputs → length f.inputs ≤ 1048576
+few-inputs : (p : ProgramTree) (main : Identifier) (f : Flat) → IsSourceTree p → IsNode p main
+    → map (λ (i : FlatInput). i.name) f.inputs ≡ names (node_of p main).inputs → length f.inputs ≤ 1048576
 few-inputs p main f tree named same =
     let n = node_of p main in
     let bound = tree.bounded.node_flows n (main_in p main named) in
@@ -154,10 +165,12 @@ few-inputs p main f tree named same =
     let d = length-append (names n.inputs) (names n.outputs) in
     omega (arith, bound, a, b, c, d)
 
-pub is-told : (p : ProgramTree) (main other : Identifier) (t : Typed) (f : Flat) → IsSourceTree p → HasPlainNames p → IsSettled p other t → IsNode p main → IsFlatOf p main f → length f.memories < 2 ^ 64 → IsTold f
+pub is-told : (p : ProgramTree) (main other : Identifier) (t : Typed) (f : Flat) → IsSourceTree p → HasPlainNames p → IsSettled p other t → IsNode p main
+    → IsFlatOf p main f → length f.memories < 2 ^ 64 → IsTold f
 is-told p main other t f tree plain settled named flat long = record {
   main = subst (λ x. is_name x ≡ true) (sym flat.name) (named-plain p.nodes main plain.nodes named);
-  inputs = sym (all-map (λ (i : FlatInput). i.name) is_name f.inputs) ∙ ap (list_all is_name) flat.inputs ∙ names-plain p (node_of p main) plain (main_in p main named);
+  inputs = sym (all-map (λ (i : FlatInput). i.name) is_name f.inputs) ∙ ap (list_all is_name) flat.inputs
+      ∙ names-plain p (node_of p main) plain (main_in p main named);
   labels = ap (list_all (list_all is_name)) flat.labels ∙ labels-plain p plain;
   different = λ e. subst (λ ls. AreDifferent (get_or ls e [])) (sym flat.labels) (types-differ [] p.types (labels-apart p settled.names) e);
   few_labels = few-all f.labels f.few_labels;

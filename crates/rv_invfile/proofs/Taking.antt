@@ -29,21 +29,25 @@ unfolding Reached
 start-reached s xs = (refl, refl)
 
 -- a record was read
-pub took-one : (a b : ByteReader) (y : List ℕ) (fields : Fields) → a.config ≡ default_config → known a ≡ Some y → ReadRecord rem a b true fields → (left_of a ≡ fields ∷ left_of b) × ((z : List ℕ) × (known b ≡ Some z))
+pub took-one : (a b : ByteReader) (y : List ℕ) (fields : Fields) → a.config ≡ default_config → known a ≡ Some y → ReadRecord rem a b true fields
+    → (left_of a ≡ fields ∷ left_of b) × ((z : List ℕ) × (known b ≡ Some z))
 took-one a b y fields ec ex r =
     let m = rows-more rem a b fields default_config a.state y y [] ec ex (start-reached a.state y) r in
     (ap (left_in a.state) ex ∙ left-reached a.state b.state y m.0 fields m.2 ∙ ap (λ o. fields ∷ left_in b.state o) (sym m.1), (m.0, m.1))
 
 -- there was none
-pub took-none : (a b : ByteReader) (y : List ℕ) (fields : Fields) → a.config ≡ default_config → known a ≡ Some y → ReadRecord rem a b false fields → left_of a ≡ []
+pub took-none : (a b : ByteReader) (y : List ℕ) (fields : Fields) → a.config ≡ default_config → known a ≡ Some y → ReadRecord rem a b false fields
+    → left_of a ≡ []
 took-none a b y fields ec ex r = ap (left_in a.state) ex ∙ left-none a.state y (rows-end rem a b fields default_config y ec ex r)
 
 -- What is ahead after a read, and what the reader keeps.
-pub took : (found : Bool) (a b : ByteReader) (y : List ℕ) (row : Row) → a.config ≡ default_config → known a ≡ Some y → ReadRecord rem a b found (fields_of row) → left_of a ≡ standing found row b
+pub took : (found : Bool) (a b : ByteReader) (y : List ℕ) (row : Row) → a.config ≡ default_config → known a ≡ Some y → ReadRecord rem a b found (fields_of row)
+    → left_of a ≡ standing found row b
 took true a b y row ec ex r = (took-one a b y (fields_of row) ec ex r).0
 took false a b y row ec ex r = took-none a b y (fields_of row) ec ex r
 
-pub kept : (found : Bool) (a b : ByteReader) (y : List ℕ) (row : Row) (n : ℕ) → a.config ≡ default_config → known a ≡ Some y → a.trim ≡ trim.None → ReadRecord rem a b found (fields_of row) → took_first b ≡ true
+pub kept : (found : Bool) (a b : ByteReader) (y : List ℕ) (row : Row) (n : ℕ) → a.config ≡ default_config → known a ≡ Some y → a.trim ≡ trim.None
+    → ReadRecord rem a b found (fields_of row) → took_first b ≡ true
     → n + length (left_of a) ≤ most → Keeps found b n
 kept true a b y row n ec ex et r first few =
     let t = took-one a b y (fields_of row) ec ex r in
@@ -78,7 +82,8 @@ few-records bytes h =
     omega (arith, s, n)
 
 -- one record after the other
-pub goes-on : (here found : Bool) (row row2 : Row) (a b : ByteReader) (n : ℕ) → here ≡ true → left_of a ≡ standing found row2 b → ◌≡◌ {A = Ahead} (record { taken = n + 1; rest = standing found row2 b }) (after_one (record { taken = n; rest = standing here row a }))
+pub goes-on : (here found : Bool) (row row2 : Row) (a b : ByteReader) (n : ℕ) → here ≡ true → left_of a ≡ standing found row2 b
+    → ◌≡◌ {A = Ahead} (record { taken = n + 1; rest = standing found row2 b }) (after_one (record { taken = n; rest = standing here row a }))
 goes-on true found row row2 a b n e h = ap (λ l. record { taken = n + 1; rest = l }) (sym h)
 goes-on false found row row2 a b n e h = cc
 
@@ -95,10 +100,12 @@ field-of-none (f ∷ fs) zero e = cc
 field-of-none (f ∷ fs) (suc i) e = field-of-none fs i e
 
 -- the fields of the record that stands here
-pub standing-field : (here : Bool) (row : Row) (r : ByteReader) (i : ℕ) (x : List ℕ) → here ≡ true → Some x ≡ field_at (fields_of row) i → x ≡ get_or (first (standing here row r)) i []
+pub standing-field : (here : Bool) (row : Row) (r : ByteReader) (i : ℕ) (x : List ℕ) → here ≡ true → Some x ≡ field_at (fields_of row) i
+    → x ≡ get_or (first (standing here row r)) i []
 standing-field true row r i x h e = field-of-some (fields_of row) i x e
 standing-field false row r i x h e = cc
 
-pub standing-none : (here : Bool) (row : Row) (r : ByteReader) (i : ℕ) → here ≡ true → ◌≡◌ {A = Option (List ℕ)} None (field_at (fields_of row) i) → ◌≡◌ {A = List ℕ} [] (get_or (first (standing here row r)) i [])
+pub standing-none : (here : Bool) (row : Row) (r : ByteReader) (i : ℕ) → here ≡ true → ◌≡◌ {A = Option (List ℕ)} None (field_at (fields_of row) i)
+    → ◌≡◌ {A = List ℕ} [] (get_or (first (standing here row r)) i [])
 standing-none true row r i h e = field-of-none (fields_of row) i e
 standing-none false row r i h e = cc

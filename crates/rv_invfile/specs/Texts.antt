@@ -1,5 +1,6 @@
 -- What stands in fields: numbers, values and places.
-use Rattle.std.specs.Prelude.{◌<◌, ◌≤◌, ◌+◌, ◌&&◌, ℕ, ℤ, pos, negsuc, neg_ℤ, Bool, true, false, cond, nat_le, nat_eq, int_le, List, [], ◌∷◌, ◌++◌, length, get_or, flat_map, Option, Some, None, ⊤, codes, option_map, decimal, ◌≤ℤ◌}
+use Rattle.std.specs.Prelude.{◌<◌, ◌≤◌, ◌+◌, ◌&&◌, ℕ, ℤ, pos, negsuc, neg_ℤ, Bool, true, false, cond, nat_le, nat_eq, int_le, List, [], ◌∷◌, ◌++◌, length}
+use Rattle.std.specs.Prelude.{get_or, flat_map, Option, Some, None, ⊤, codes, option_map, decimal, ◌≤ℤ◌}
 use Rattle.std.specs.Str.{bytes_eq}
 use Rattle.std.specs.List.{All}
 use Rattle.std.specs.Fmt.{signed_decimal}

@@ -1,5 +1,6 @@
 -- The document of a trace: how it is written, and by which rule it is read.
-use Rattle.std.specs.Prelude.{◌≤◌, ◌+◌, ◌-◌, ◌||◌, ℕ, Bool, true, nat_eq, nat_lt, List, [], ◌∷◌, ◌++◌, length, map, codes, is_some, slice_get, Option, Some, None, ⊤, decimal}
+use Rattle.std.specs.Prelude.{◌≤◌, ◌+◌, ◌-◌, ◌||◌, ℕ, Bool, true, nat_eq, nat_lt, List, [], ◌∷◌, ◌++◌, length, map, codes, is_some, slice_get, Option, Some}
+use Rattle.std.specs.Prelude.{None, ⊤, decimal}
 use Rattle.std.specs.List.{All, AllByRecursion}
 use Rattle.std.specs.Option.{unwrap_or}
 use Rattle.rv_base.specs.declared.value.Value.{Value}

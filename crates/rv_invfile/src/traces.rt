@@ -105,7 +105,8 @@ fn read_instant(
 fn read_values(alloc: Global, records: &Records<'_>, flat: &Flat) -> Result<Many<Value>, FileFault>
     requires told { IsTold flat.now }
     requires many { length (here records.now) ≡ length flat.now.inputs + 1 }
-    ensures { ReadsFields records.now (spec.given flat.now) (spec.read_values flat.now.labels (spec.input_kinds flat.now) (spec.tail_of (here records.now))) result }
+    ensures { ReadsFields records.now (spec.given flat.now) (spec.read_values flat.now.labels (spec.input_kinds flat.now) (spec.tail_of (here records.now)))
+        result }
 {
     let mut values = Many::new(alloc);
     for index in 0..flat.inputs.len() {

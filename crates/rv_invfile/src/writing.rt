@@ -21,7 +21,8 @@ pub fn new_writer(alloc: Global) -> Writer<Vec<u8>>
 
 /// Writes a record of these fields.
 pub fn put_fields<W: Write + Drop>(writer: &mut Writer<W>, fields: &[&[u8]]) -> Result<(), Memory>
-    ensures { (text : List ℕ) → IsWriting W.contents writer.old text → OnOk result (IsWriting W.contents writer.new (text ++ row_text any_width (map (λ f. f.now) fields.now))) }
+    ensures { (text : List ℕ) → IsWriting W.contents writer.old text → OnOk result
+        (IsWriting W.contents writer.new (text ++ row_text any_width (map (λ f. f.now) fields.now))) }
 {
     match writer.write_fields(fields) {
         Ok(()) => Ok(()),
@@ -31,7 +32,8 @@ pub fn put_fields<W: Write + Drop>(writer: &mut Writer<W>, fields: &[&[u8]]) -> 
 
 /// Writes a record.
 pub fn put_record<W: Write + Drop>(writer: &mut Writer<W>, row: &ByteRecord) -> Result<(), Memory>
-    ensures { (text : List ℕ) → IsWriting W.contents writer.old text → OnOk result (IsWriting W.contents writer.new (text ++ row_text any_width (fields_of row.now))) }
+    ensures { (text : List ℕ) → IsWriting W.contents writer.old text → OnOk result
+        (IsWriting W.contents writer.new (text ++ row_text any_width (fields_of row.now))) }
 {
     match writer.write_byte_record(row) {
         Ok(()) => Ok(()),

@@ -12,13 +12,17 @@ use Rattle.rv_tree.specs.declared.tree.Op.TheVariants as op
 use Rattle.rv_tree.specs.declared.tree.TypeName.TheVariants as type_name
 use Rattle.rv_tree.specs.Groups.{flow}
 use Rattle.rv_tree.specs.Tree.{EquationTree, AssertionTree, NodeTree}
-use Rattle.rv_syntax.specs.Grammar.{No, Called, Function, Written, Atom, InBrackets, Before, Between, Given, NoneBefore, fixed, name_token, spelling, syntax_of, IsGrammatical}
+use Rattle.rv_syntax.specs.Grammar.{No, Called, Function, Written, Atom, InBrackets, Before, Between, Given, NoneBefore, fixed, name_token, spelling, syntax_of}
+use Rattle.rv_syntax.specs.Grammar.{IsGrammatical}
 use Rattle.rv_syntax.specs.Rules.{Each, Word}
-use Rattle.rv_syntax.specs.ProgramText.{IsName, IsNames, IsGroup, IsDecls, IsLocal, IsTitle, IsInputs, IsOutputs, IsVar, Item, Equates, equation_of, IsRight, IsItem, equations_of, assertions_of, IsBody, node_of, IsNode, Section, OneNode, IsSection, IsProgram}
+use Rattle.rv_syntax.specs.ProgramText.{IsName, IsNames, IsGroup, IsDecls, IsLocal, IsTitle, IsInputs, IsOutputs, IsVar, Item, Equates, equation_of, IsRight}
+use Rattle.rv_syntax.specs.ProgramText.{IsItem, equations_of, assertions_of, IsBody, node_of, IsNode, Section, OneNode, IsSection, IsProgram}
 use Rattle.rv_make.specs.Made.{link_name}
 use Rattle.rv_make.specs.Chains.{named_at, boolean, link_flows}
-use Rattle.rv_made_text.proofs.Tokens.{named, after, declared_end, declaration_tokens, declared_tokens, local_tokens, left_end, argument_end, call_tokens, call_at, calls_tokens, front_tokens, calls_at, ok_at, made_tokens}
-use Rattle.rv_made_text.proofs.Trees.{at_place, main_offsets, flow_at, plain_link, plain_call, plain_calls, plain_seen, plain_ok, plain_equations, plain_main, plain_program}
+use Rattle.rv_made_text.proofs.Tokens.{named, after, declared_end, declaration_tokens, declared_tokens, local_tokens, left_end, argument_end, call_tokens}
+use Rattle.rv_made_text.proofs.Tokens.{call_at, calls_tokens, front_tokens, calls_at, ok_at, made_tokens}
+use Rattle.rv_made_text.proofs.Trees.{at_place, main_offsets, flow_at, plain_link, plain_call, plain_calls, plain_seen, plain_ok, plain_equations, plain_main}
+use Rattle.rv_made_text.proofs.Trees.{plain_program}
 
 -- ---- Lists of parts.
 each-both : {T A : Type 0} (L : A → List T → Type 0) (xs ys : List A) (ts us : List T) → Each L xs ts → Each L ys us → Each L (xs ++ ys) (ts ++ us)

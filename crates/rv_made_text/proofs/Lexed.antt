@@ -8,7 +8,8 @@ use Rattle.rv_syntax.specs.Lexing.{is_word_byte, lex, cut, declaration_word, exp
 use Rattle.rv_make.specs.Made.{line, link_name, declared_links, link_equation, link_equations, link_text, made_text}
 use Rattle.rv_made_text.proofs.Numerals.{IsNumeral, numeral}
 use Rattle.rv_made_text.proofs.Words.{digits-go-on, lex-name, numbered-name, a-name, seen-name}
-use Rattle.rv_made_text.proofs.Tokens.{named, after, declared_end, declaration_tokens, declared_tokens, local_tokens, left_end, argument_end, call_tokens, call_at, calls_tokens, front_tokens, seen_tokens, calls_at, ok_at, ok_tokens, made_tokens}
+use Rattle.rv_made_text.proofs.Tokens.{named, after, declared_end, declaration_tokens, declared_tokens, local_tokens, left_end, argument_end, call_tokens}
+use Rattle.rv_made_text.proofs.Tokens.{call_at, calls_tokens, front_tokens, seen_tokens, calls_at, ok_at, ok_tokens, made_tokens}
 
 -- ---- Names of flows.
 numbered : (tel : Bool) (at : ℕ) (ds : List ℕ) (c : ℕ) (rest : List ℕ) → IsNumeral ds → is_word_byte c ≡ false

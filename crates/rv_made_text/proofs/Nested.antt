@@ -4,7 +4,8 @@ use Rattle.std.specs.Prelude.{codes, nat_le}
 use Rattle.std.proofs.lemmas.Bool.{and_parts, leb-true}
 use Rattle.rv_syntax.specs.declared.token.Token.{Token}
 use Rattle.rv_syntax.specs.Nesting.{Standing, Outside, behind, behind_all, depth, limit, IsShallowText}
-use Rattle.rv_made_text.proofs.Tokens.{named, declared_end, declaration_tokens, declared_tokens, local_tokens, call_tokens, call_at, calls_tokens, front_tokens, seen_tokens, calls_at, ok_at, ok_tokens, made_tokens}
+use Rattle.rv_made_text.proofs.Tokens.{named, declared_end, declaration_tokens, declared_tokens, local_tokens, call_tokens, call_at, calls_tokens, front_tokens}
+use Rattle.rv_made_text.proofs.Tokens.{seen_tokens, calls_at, ok_at, ok_tokens, made_tokens}
 
 -- the same, as a test
 abbrev is_shallow : Standing → List Token → Bool

@@ -1,5 +1,6 @@
 -- The tree of a made source is the one that is derived, with its sites.
-use Rattle.std.proofs.Common.{◌≡◌, ℕ, zero, suc, ◌+◌, ◌<◌, ◌≤◌, cond, List, [], ◌∷◌, ◌++◌, map, length, refl, sym, ap, ◌∙◌, inl, inr, arith, append_assoc, append-nil, length-append}
+use Rattle.std.proofs.Common.{◌≡◌, ℕ, zero, suc, ◌+◌, ◌<◌, ◌≤◌, cond, List, [], ◌∷◌, ◌++◌, map, length, refl, sym, ap, ◌∙◌, inl, inr, arith, append_assoc}
+use Rattle.std.proofs.Common.{append-nil, length-append}
 use Rattle.std.specs.Prelude.{codes, nat_lt, Some}
 use Rattle.std.proofs.lemmas.Bool.{lt-ltb, le-ltb, cases_lt}
 use Rattle.std.proofs.lemmas.List.{map_push}
@@ -11,7 +12,8 @@ use Rattle.rv_syntax.proofs.Earlier.{length-flows}
 use Rattle.rv_make.specs.Made.{link_name}
 use Rattle.rv_make.specs.Chains.{boolean, flow_read, equation, link_flows, link_calls, seen_equation, link_node, main_node, chain_program}
 use Rattle.rv_made_text.proofs.Tokens.{after, declared_end, call_at, calls_at}
-use Rattle.rv_made_text.proofs.Trees.{at_place, main_offsets, flow_at, left_at, invoked_at, argument_at, offsets_of, plain_call, plain_calls, plain_ok, plain_equations, plain_main, plain_program}
+use Rattle.rv_made_text.proofs.Trees.{at_place, main_offsets, flow_at, left_at, invoked_at, argument_at, offsets_of, plain_call, plain_calls, plain_ok}
+use Rattle.rv_made_text.proofs.Trees.{plain_equations, plain_main, plain_program}
 
 -- ---- How many of some offsets are less than one.
 earlier-both : (at : ℕ) (xs ys : List ℕ) → earlier at (xs ++ ys) ≡ earlier at xs + earlier at ys

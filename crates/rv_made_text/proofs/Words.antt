@@ -7,7 +7,8 @@ use Rattle.std.proofs.Math.Seq.{take-append_seam, drop-append_seam}
 use Rattle.std.proofs.lemmas.Bool.{and_parts, leb-true, ne_eqb}
 use Rattle.rv_syntax.specs.declared.lexer.Shape.{Shape}
 use Rattle.rv_syntax.specs.declared.lexer.Shape.TheVariants as shape
-use Rattle.rv_syntax.specs.Lexing.{is_space, is_letter, is_word_byte, word_len, number_len, other, word, cut, declaration_word, expression_word, is_left_out, is_left_out_too, emitted, kind_of, ends_in_tel, lex}
+use Rattle.rv_syntax.specs.Lexing.{is_space, is_letter, is_word_byte, word_len, number_len, other, word, cut, declaration_word, expression_word, is_left_out}
+use Rattle.rv_syntax.specs.Lexing.{is_left_out_too, emitted, kind_of, ends_in_tel, lex}
 use Rattle.rv_syntax.proofs.Lexed.{lex-from}
 use Rattle.rv_made_text.proofs.Numerals.{AreDigits}
 use Rattle.rv_made_text.proofs.Tokens.{named}

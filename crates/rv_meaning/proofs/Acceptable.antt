@@ -24,7 +24,8 @@ named_among : (ns : List NodeTree) (f : Identifier) → IsSome (node_among ns f)
 named_among [] f h = absurd (no_flag h)
 named_among (n ∷ ns) f h = tested (is_same n.name.text f) h (named_among ns f)
   where
-    tested : (b : Bool) → IsSome (cond b (Some n) (node_among ns f)) → (IsSome (node_among ns f) → Contains ns (unwrap_or (node_among ns f) no_node)) → Contains (n ∷ ns) (unwrap_or (cond b (Some n) (node_among ns f)) no_node)
+    tested : (b : Bool) → IsSome (cond b (Some n) (node_among ns f)) → (IsSome (node_among ns f) → Contains ns (unwrap_or (node_among ns f) no_node))
+        → Contains (n ∷ ns) (unwrap_or (cond b (Some n) (node_among ns f)) no_node)
     tested true h again = contains_head n ns
     tested false h again = contains_tail n ns (unwrap_or (node_among ns f) no_node) (again h)
 
@@ -33,7 +34,8 @@ some_among : (ns : List NodeTree) (f : Identifier) → IsTrue (is_among (map (λ
 some_among [] f h = absurd (no_flag h)
 some_among (n ∷ ns) f h = tested (is_same n.name.text f) h (some_among ns f)
   where
-    tested : (b : Bool) → IsTrue (b || is_among (map (λ n. n.name.text) ns) f) → (IsTrue (is_among (map (λ n. n.name.text) ns) f) → IsSome (node_among ns f)) → IsSome (cond b (Some n) (node_among ns f))
+    tested : (b : Bool) → IsTrue (b || is_among (map (λ n. n.name.text) ns) f) → (IsTrue (is_among (map (λ n. n.name.text) ns) f) → IsSome (node_among ns f))
+        → IsSome (cond b (Some n) (node_among ns f))
     tested true h again = refl
     tested false h again = again h
 

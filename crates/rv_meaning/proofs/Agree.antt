@@ -23,7 +23,8 @@ alike_at F Nothing (Some b) p q e = let bad = p.1 (q.0 refl) in grind arith
 alike_at F (Some a) Nothing p q e = let bad = q.1 (p.0 refl) in grind arith
 alike_at F (Some a) (Some b) p q e = ap Some (e (p.0 refl))
 
-module _ (program : ProgramTree) (main : Identifier) (made : Rule) (is_local : IsLocal program made) (defined : AreDefined program main) (sequence : List Sites) (ordered : IsSequence program main sequence)
+module _ (program : ProgramTree) (main : Identifier) (made : Rule) (is_local : IsLocal program made) (defined : AreDefined program main) (sequence : List Sites)
+    (ordered : IsSequence program main sequence)
     (n : ℕ) (h g : History) (p : IsSolution program main made n h) (q : IsSolution program main made n g) where
   -- the k-th flow of the sequence
   abbrev nth : ℕ → Sites

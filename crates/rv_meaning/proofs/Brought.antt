@@ -49,13 +49,18 @@ module _ (program : ProgramTree) (main : Identifier) (state : State) (row : Inst
   abbrev taken_of_name : Instance → Identifier → Sites → Value
   taken_of_name i x p = cond (is_on_in row (clock_in i Base (Node 0 Nothing (Named x)))) (now program state row i (Node 0 Nothing (Named x))) (state.kept p)
 
-  pub is_taken_of_name : (i : Instance) (d : Delay) (x : Identifier) → IsName i.node d.operand x → taken_after i d ≡ taken_of_name i x (kept_place i d.site d.operand)
+  pub is_taken_of_name : (i : Instance) (d : Delay) (x : Identifier) → IsName i.node d.operand x
+      → taken_after i d ≡ taken_of_name i x (kept_place i d.site d.operand)
   is_taken_of_name i d x w = ap (λ e. cond (is_on_in row (clock_in i Base e)) (now program state row i e) (state.kept (kept_place i d.site d.operand))) w.2
 
   -- There is a state after each row.
   pub a_next : AreWell program → IsNode program main → (next : State) × IsNext program main state row next
   a_next well named = (
-    record { ticked = λ k. state.ticked k || is_on_in row k; kept = λ p. held_at program taken_after taken_of_name is_taken_of_name p (main_instance program main) },
+    record {
+      ticked = λ k. state.ticked k || is_on_in row k;
+      kept = λ p. held_at program taken_after taken_of_name is_taken_of_name p
+          (main_instance program main);
+    },
     record {
       ticks = λ k. refl;
       memories = λ i d inst w. holds program taken_after taken_of_name is_taken_of_name main well named well.numbered i d inst w;

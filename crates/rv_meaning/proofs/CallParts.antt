@@ -2,7 +2,8 @@
 use Rattle.std.proofs.Common.{ℕ, List, [], ◌∷◌, ◌++◌, sym, ap, subst, inl, inr, unwrap_or, Option}
 use Rattle.std.proofs.lemmas.List.Elements.{Contains-append_left, Contains-append_right, Contains-append_cases}
 use Rattle.std.specs.List.{Contains}
-use Rattle.rv_tree.specs.Tree.{Tree, Node, Form, True, False, Number, Named, Not, Minus, Pre, Current, When, Binary, If, AtMostOne, Call, Trees, None, More, EquationTree, AssertionTree, NodeTree}
+use Rattle.rv_tree.specs.Tree.{Tree, Node, Form, True, False, Number, Named, Not, Minus, Pre, Current, When, Binary, If, AtMostOne, Call, Trees, None, More}
+use Rattle.rv_tree.specs.Tree.{EquationTree, AssertionTree, NodeTree}
 use Rattle.rv_tree.specs.Delays.{Delay, delays, form_delays, delays_of_all, delays_in_equations, delays_in_assertions, node_delays}
 use Rattle.rv_types.specs.Instances.{CallTree, calls, calls_in, form_calls, calls_in_all, calls_in_equations, calls_in_assertions, IsArgument, head, tail}
 use Rattle.rv_meaning.proofs.NameLemmas.{none_in, contains_tail, contains_cases}
@@ -69,7 +70,8 @@ module _ (c : CallTree) (j : ℕ) (a : Tree) (d : CallTree) (arg : IsArgument c.
   call_of_argument n w = both (calls_in_equations n.equations) (calls_in_assertions n.assertions) (equations_pass n.equations) (assertions_pass n.assertions) w
 
 -- the calls of an equation's right side are among those of the equations
-equation_within : (qs : List EquationTree) (q : EquationTree) (d : CallTree) → Contains qs q → Contains (calls_in q.right) d → Contains (calls_in_equations qs) d
+equation_within : (qs : List EquationTree) (q : EquationTree) (d : CallTree) → Contains qs q → Contains (calls_in q.right) d
+    → Contains (calls_in_equations qs) d
 equation_within [] q d w inner = absurd (none_in q w)
 equation_within (r ∷ qs) q d w inner = elim (contains_cases r qs q w) [
   | inl is ↦ Contains-append_left (calls_in r.right) (calls_in_equations qs) d (subst (λ (q : EquationTree). Contains (calls_in q.right) d) (sym is) inner)
@@ -77,7 +79,8 @@ equation_within (r ∷ qs) q d w inner = elim (contains_cases r qs q w) [
 ]
 
 -- and those of an assertion among those of the assertions
-assertion_within : (qs : List AssertionTree) (q : AssertionTree) (d : CallTree) → Contains qs q → Contains (calls_in q.body) d → Contains (calls_in_assertions qs) d
+assertion_within : (qs : List AssertionTree) (q : AssertionTree) (d : CallTree) → Contains qs q → Contains (calls_in q.body) d
+    → Contains (calls_in_assertions qs) d
 assertion_within [] q d w inner = absurd (none_in q w)
 assertion_within (r ∷ qs) q d w inner = elim (contains_cases r qs q w) [
   | inl is ↦ Contains-append_left (calls_in r.body) (calls_in_assertions qs) d (subst (λ (q : AssertionTree). Contains (calls_in q.body) d) (sym is) inner)
@@ -86,11 +89,13 @@ assertion_within (r ∷ qs) q d w inner = elim (contains_cases r qs q w) [
 
 -- the calls of an equation are calls of the node
 pub call_of_equation : (n : NodeTree) (q : EquationTree) (d : CallTree) → Contains n.equations q → Contains (calls_in q.right) d → Contains (calls n) d
-call_of_equation n q d w inner = Contains-append_left (calls_in_equations n.equations) (calls_in_assertions n.assertions) d (equation_within n.equations q d w inner)
+call_of_equation n q d w inner = Contains-append_left (calls_in_equations n.equations) (calls_in_assertions n.assertions) d
+    (equation_within n.equations q d w inner)
 
 -- and so are those of an assertion
 pub call_of_assertion : (n : NodeTree) (a : AssertionTree) (d : CallTree) → Contains n.assertions a → Contains (calls_in a.body) d → Contains (calls n) d
-call_of_assertion n a d w inner = Contains-append_right (calls_in_equations n.equations) (calls_in_assertions n.assertions) d (assertion_within n.assertions a d w inner)
+call_of_assertion n a d w inner = Contains-append_right (calls_in_equations n.equations) (calls_in_assertions n.assertions) d
+    (assertion_within n.assertions a d w inner)
 
 module _ (d : Delay) (c : CallTree) (inner : Contains (calls_in d.operand) c) where
   abbrev Within : List Delay → List CallTree → Type 0
@@ -131,7 +136,8 @@ module _ (d : Delay) (c : CallTree) (inner : Contains (calls_in d.operand) c) wh
         pair (delays l) (delays r ++ delays s) (calls_in l) (calls_in r ++ calls_in s) (within l)
         (pair (delays r) (delays s) (calls_in r) (calls_in s) (within r) (within s)) w
     form_within at site (AtMostOne es) w = all_within es w
-    form_within at site (Call f args) w = contains_tail (record { at = at; site = unwrap_or site 0; name = f; args = args }) (calls_in_all args) c (all_within args w)
+    form_within at site (Call f args) w = contains_tail (record { at = at; site = unwrap_or site 0; name = f; args = args }) (calls_in_all args) c
+        (all_within args w)
 
     -- some expressions
     all_within : (es : Trees) → Within (delays_of_all es) (calls_in_all es)

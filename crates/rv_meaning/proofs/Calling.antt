@@ -5,11 +5,13 @@ use Rattle.std.proofs.lemmas.Bool.{eqb-true}
 use Rattle.std.proofs.lemmas.Option.{none-some, same_Some}
 use Rattle.std.specs.List.{Contains}
 use Rattle.std.specs.Option.{option_map, option_or}
-use Rattle.rv_tree.specs.Tree.{Tree, Node, Form, True, False, Number, Named, Not, Minus, Pre, Current, When, Binary, If, AtMostOne, Call, Trees, None, More, EquationTree, AssertionTree, NodeTree}
+use Rattle.rv_tree.specs.Tree.{Tree, Node, Form, True, False, Number, Named, Not, Minus, Pre, Current, When, Binary, If, AtMostOne, Call, Trees, None, More}
+use Rattle.rv_tree.specs.Tree.{EquationTree, AssertionTree, NodeTree}
 use Rattle.rv_tree.specs.Places.{Identifier}
 use Rattle.rv_tree.specs.Delays.{Delay, delays, form_delays, delays_of_all, delays_in_equations, delays_in_assertions, node_delays}
 use Rattle.rv_types.specs.Instances.{CallTree, calls, calls_in, form_calls, calls_in_all, calls_in_equations, calls_in_assertions}
-use Rattle.rv_meaning.specs.Leading.{callee_within, callee_within_form, callee_within_all, callee_in_equations, callee_in_assertions, callee_in_node, operand_within, operand_within_form, operand_within_all, operand_in_equations, operand_in_assertions, operand_in_node}
+use Rattle.rv_meaning.specs.Leading.{callee_within, callee_within_form, callee_within_all, callee_in_equations, callee_in_assertions, callee_in_node}
+use Rattle.rv_meaning.specs.Leading.{operand_within, operand_within_form, operand_within_all, operand_in_equations, operand_in_assertions, operand_in_node}
 use Rattle.rv_meaning.proofs.NameLemmas.{contains_tail}
 use Rattle.rv_meaning.proofs.States.{first_with, found}
 
@@ -19,7 +21,8 @@ module _ {X : Type 0} (key : X → ℕ) where
   found_has [] s x e = absurd (none-some x e)
   found_has (y ∷ ys) s x e = tested (nat_eq (key y) s) refl e (found_has ys s x)
     where
-      tested : (b : Bool) → nat_eq (key y) s ≡ b → cond b (Some y) (first_with key ys s) ≡ Some x → (first_with key ys s ≡ Some x → Contains ys x × (key x ≡ s)) → Contains (y ∷ ys) x × (key x ≡ s)
+      tested : (b : Bool) → nat_eq (key y) s ≡ b → cond b (Some y) (first_with key ys s) ≡ Some x → (first_with key ys s ≡ Some x → Contains ys x × (key x ≡ s))
+          → Contains (y ∷ ys) x × (key x ≡ s)
       tested true is e again = let same = same_Some y x e in ((0, omega arith, same), sym (ap key same) ∙ eqb-true (key y) s is)
       tested false is e again = let r = again e in (contains_tail y ys x r.0, r.1)
 
@@ -34,7 +37,8 @@ module _ {X : Type 0} (key : X → ℕ) where
     both (x ∷ xs) ys s = tested (nat_eq (key x) s) (both xs ys s)
       where
         tested : (b : Bool) → option_or (picked xs s) (picked ys s) ≡ picked (xs ++ ys) s
-            → option_or (option_map part (cond b (Some x) (first_with key xs s))) (picked ys s) ≡ option_map part (cond b (Some x) (first_with key (xs ++ ys) s))
+            → option_or (option_map part (cond b (Some x) (first_with key xs s))) (picked ys s) ≡ option_map part
+            (cond b (Some x) (first_with key (xs ++ ys) s))
         tested true e = refl
         tested false e = e
 
@@ -93,7 +97,8 @@ module _ (s : ℕ) where
         (two_names (callee_within b s) (callee_within c s) (calls_in b) (calls_in c) (callee_is b) (callee_is c))
     form_callee at site (AtMostOne es) = all_callees es
     form_callee at site (Call f args) =
-        first call_site call_name (record { at = at; site = unwrap_or site 0; name = f; args = args }) (calls_in_all args) s (callee_within_all args s) (all_callees args)
+        first call_site call_name (record { at = at; site = unwrap_or site 0; name = f; args = args }) (calls_in_all args) s (callee_within_all args s)
+        (all_callees args)
 
     all_callees : (es : Trees) → callee_within_all es s ≡ name_in (calls_in_all es)
     all_callees None = refl
@@ -128,25 +133,31 @@ module _ (s : ℕ) where
   -- the same of equations, of assertions, and of a node
   equation_callees : (qs : List EquationTree) → callee_in_equations qs s ≡ name_in (calls_in_equations qs)
   equation_callees [] = refl
-  equation_callees (q ∷ qs) = two_names (callee_within q.right s) (callee_in_equations qs s) (calls_in q.right) (calls_in_equations qs) (callee_is q.right) (equation_callees qs)
+  equation_callees (q ∷ qs) = two_names (callee_within q.right s) (callee_in_equations qs s) (calls_in q.right) (calls_in_equations qs) (callee_is q.right)
+      (equation_callees qs)
 
   assertion_callees : (qs : List AssertionTree) → callee_in_assertions qs s ≡ name_in (calls_in_assertions qs)
   assertion_callees [] = refl
-  assertion_callees (q ∷ qs) = two_names (callee_within q.body s) (callee_in_assertions qs s) (calls_in q.body) (calls_in_assertions qs) (callee_is q.body) (assertion_callees qs)
+  assertion_callees (q ∷ qs) = two_names (callee_within q.body s) (callee_in_assertions qs s) (calls_in q.body) (calls_in_assertions qs) (callee_is q.body)
+      (assertion_callees qs)
 
   pub node_callee : (n : NodeTree) → callee_in_node n s ≡ name_in (calls n)
-  node_callee n = two_names (callee_in_equations n.equations s) (callee_in_assertions n.assertions s) (calls_in_equations n.equations) (calls_in_assertions n.assertions) (equation_callees n.equations) (assertion_callees n.assertions)
+  node_callee n = two_names (callee_in_equations n.equations s) (callee_in_assertions n.assertions s) (calls_in_equations n.equations)
+      (calls_in_assertions n.assertions) (equation_callees n.equations) (assertion_callees n.assertions)
 
   equation_operands : (qs : List EquationTree) → operand_in_equations qs s ≡ operand_in (delays_in_equations qs)
   equation_operands [] = refl
-  equation_operands (q ∷ qs) = two_operands (operand_within q.right s) (operand_in_equations qs s) (delays q.right) (delays_in_equations qs) (operand_is q.right) (equation_operands qs)
+  equation_operands (q ∷ qs) = two_operands (operand_within q.right s) (operand_in_equations qs s) (delays q.right) (delays_in_equations qs)
+      (operand_is q.right) (equation_operands qs)
 
   assertion_operands : (qs : List AssertionTree) → operand_in_assertions qs s ≡ operand_in (delays_in_assertions qs)
   assertion_operands [] = refl
-  assertion_operands (q ∷ qs) = two_operands (operand_within q.body s) (operand_in_assertions qs s) (delays q.body) (delays_in_assertions qs) (operand_is q.body) (assertion_operands qs)
+  assertion_operands (q ∷ qs) = two_operands (operand_within q.body s) (operand_in_assertions qs s) (delays q.body) (delays_in_assertions qs)
+      (operand_is q.body) (assertion_operands qs)
 
   node_operand : (n : NodeTree) → operand_in_node n s ≡ operand_in (node_delays n)
-  node_operand n = two_operands (operand_in_equations n.equations s) (operand_in_assertions n.assertions s) (delays_in_equations n.equations) (delays_in_assertions n.assertions) (equation_operands n.equations) (assertion_operands n.assertions)
+  node_operand n = two_operands (operand_in_equations n.equations s) (operand_in_assertions n.assertions s) (delays_in_equations n.equations)
+      (delays_in_assertions n.assertions) (equation_operands n.equations) (assertion_operands n.assertions)
 
 -- a part that is picked is that of an element that is found
 picked_is : {X Y : Type 0} (part : X → Y) (o : Option X) (y : Y) → option_map part o ≡ Some y → (x : X) × (o ≡ Some x) × (part x ≡ y)
@@ -161,20 +172,23 @@ callee_there n s f e =
     (r.0, h.0, h.1, r.2)
 
 -- and the operand of one of its delays
-pub operand_there : (n : NodeTree) (s : ℕ) (e : Tree) → operand_in_node n s ≡ Some e → (d : Delay) × Contains (node_delays n) d × (unwrap_or d.site 0 ≡ s) × (d.operand ≡ e)
+pub operand_there : (n : NodeTree) (s : ℕ) (e : Tree) → operand_in_node n s ≡ Some e
+    → (d : Delay) × Contains (node_delays n) d × (unwrap_or d.site 0 ≡ s) × (d.operand ≡ e)
 operand_there n s t e =
     let r = picked_is delay_operand (first_with delay_site (node_delays n) s) t (sym (node_operand s n) ∙ e) in
     let h = found_has delay_site (node_delays n) s r.0 r.1 in
     (r.0, h.0, h.1, r.2)
 
 -- at the site of a call some call is found
-pub callee_found : (n : NodeTree) (c : CallTree) → Contains (calls n) c → (d : CallTree) × (callee_in_node n c.site ≡ Some d.name) × Contains (calls n) d × (d.site ≡ c.site)
+pub callee_found : (n : NodeTree) (c : CallTree) → Contains (calls n) c → (d : CallTree) × (callee_in_node n c.site ≡ Some d.name) × Contains (calls n) d
+    × (d.site ≡ c.site)
 callee_found n c w =
     let r = found call_site (calls n) c w in
     (r.0, node_callee c.site n ∙ ap (option_map call_name) r.1, r.2, r.3)
 
 -- and at that of a delay some delay
-pub operand_found : (n : NodeTree) (d : Delay) → Contains (node_delays n) d → (g : Delay) × (operand_in_node n (unwrap_or d.site 0) ≡ Some g.operand) × Contains (node_delays n) g × (unwrap_or g.site 0 ≡ unwrap_or d.site 0)
+pub operand_found : (n : NodeTree) (d : Delay) → Contains (node_delays n) d → (g : Delay) × (operand_in_node n (unwrap_or d.site 0) ≡ Some g.operand)
+    × Contains (node_delays n) g × (unwrap_or g.site 0 ≡ unwrap_or d.site 0)
 operand_found n d w =
     let r = found delay_site (node_delays n) d w in
     (r.0, node_operand (unwrap_or d.site 0) n ∙ ap (option_map delay_operand) r.1, r.2, r.3)

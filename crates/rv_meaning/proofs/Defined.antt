@@ -1,12 +1,14 @@
 -- In an accepted program each flow has exactly one source, on its own clock.
-use Rattle.std.proofs.Common.{◌≡◌, ℕ, ◌<◌, ◌≤◌, ◌↔◌, true, [], ◌∷◌, ◌++◌, length, refl, sym, ◌∙◌, ap, subst, arith, get_or, ◌⊎◌, inl, inr, IsSome, length-append}
+use Rattle.std.proofs.Common.{◌≡◌, ℕ, ◌<◌, ◌≤◌, ◌↔◌, true, [], ◌∷◌, ◌++◌, length, refl, sym, ◌∙◌, ap, subst, arith, get_or, ◌⊎◌, inl, inr, IsSome}
+use Rattle.std.proofs.Common.{length-append}
 use Rattle.std.proofs.lemmas.List.{get_or_append_left, get_or_default, append_assoc, length-map}
 use Rattle.std.proofs.lemmas.Bool.{cases_order}
 use Rattle.std.specs.List.{Contains}
 use Rattle.rv_base.specs.declared.value.Value.{Value}
 use Rattle.rv_tree.specs.Tree.{ProgramTree}
 use Rattle.rv_tree.specs.Places.{Identifier, Sites, names, flows, site_of}
-use Rattle.rv_types.specs.Instances.{CallTree, calls, Right, Body, Output, IsRight, Instance, place, absolute, clock_of, clock_of_arguments, node_of, main_instance, callee, IsInstance, is_main, is_callee, IsFlow, IsNode}
+use Rattle.rv_types.specs.Instances.{CallTree, calls, Right, Body, Output, IsRight, Instance, place, absolute, clock_of, clock_of_arguments, node_of}
+use Rattle.rv_types.specs.Instances.{main_instance, callee, IsInstance, is_main, is_callee, IsFlow, IsNode}
 use Rattle.rv_types.specs.Clocks.{pace}
 use Rattle.rv_types.specs.Needs.{Giver, Given, Of, Gives, given, by_equation, by_call}
 use Rattle.rv_types.specs.WellFormed.{IsWellFormed, AreWell}
@@ -21,7 +23,8 @@ module _ (program : ProgramTree) (main : Identifier) (well : AreWell program) (i
   wf = formed program main well is_node
 
   -- the site of a name is its number
-  pub site_is : (i : Instance) → IsInstance program main i → (x : Identifier) (j : ℕ) → j < length (flows i.node) → get_or (flows i.node) j [] ≡ x → site_of i.node x ≡ j
+  pub site_is : (i : Instance) → IsInstance program main i → (x : Identifier) (j : ℕ) → j < length (flows i.node) → get_or (flows i.node) j [] ≡ x
+      → site_of i.node x ≡ j
   site_is i inst x j lt is =
       let r = index_at (flows i.node) x (j, lt, get_or_default (flows i.node) j x [] lt ∙ is) in
       ordered (site_of i.node x) r.0 r.1
@@ -50,7 +53,12 @@ module _ (program : ProgramTree) (main : Identifier) (well : AreWell program) (i
 
   -- there are no fewer flows than names of inputs
   longer : (i : Instance) → length (names i.node.inputs) ≤ length (flows i.node)
-  longer i = omega (arith, length-append (names i.node.inputs ++ names i.node.outputs) (names i.node.locals), length-append (names i.node.inputs) (names i.node.outputs))
+  longer i = omega (
+    arith,
+    length-append (names i.node.inputs ++ names i.node.outputs) (names i.node.locals),
+    length-append (names i.node.inputs)
+        (names i.node.outputs),
+  )
 
   -- nor than inputs
   more : (i : Instance) → length i.node.inputs ≤ length (flows i.node)
@@ -87,14 +95,16 @@ module _ (program : ProgramTree) (main : Identifier) (well : AreWell program) (i
       λ k. callee program (up k) (one k)
 
   -- and a place determines a flow
-  pub same_flow : (i j : Instance) (x y : Identifier) → IsInstance program main i → IsInstance program main j → Contains (flows i.node) x → Contains (flows j.node) y → place i x ≡ place j y → (i ≡ j) × (x ≡ y)
+  pub same_flow : (i j : Instance) (x y : Identifier) → IsInstance program main i → IsInstance program main j → Contains (flows i.node) x
+      → Contains (flows j.node) y → place i x ≡ place j y → (i ≡ j) × (x ≡ y)
   same_flow i j x y p q at at' e =
       let r = snoc i.path j.path (site_of i.node x) (site_of j.node y) e in
       let one = same_instance i j p q r.0 in
       (one, sym (index_at (flows i.node) x at).1 ∙ (λ k. get_or (flows (one k).node) (r.1 k) []) ∙ (index_at (flows j.node) y at').1)
 
   -- a left side is no input
-  not_input : (i j : Instance) (x y : Identifier) (r : Right) → IsInstance program main i → IsInstance program main j → Contains (flows i.node) x → Contains (names i.node.inputs) x → IsRight j.node y r → place i x ≡ place j y → ⊥
+  not_input : (i j : Instance) (x y : Identifier) (r : Right) → IsInstance program main i → IsInstance program main j → Contains (flows i.node) x
+      → Contains (names i.node.inputs) x → IsRight j.node y r → place i x ≡ place j y → ⊥
   not_input i j x y r p q at inside right e =
       let left = (wf j q).left y r right in
       let f = same_flow i j x y p q at left.0 e in
@@ -105,16 +115,30 @@ module _ (program : ProgramTree) (main : Identifier) (well : AreWell program) (i
   given_place j lt = ap (λ k. k ∷ []) (input_site (main_instance program main) is_main j lt)
 
   -- the place of an input of a callee
-  called_place : (i : Instance) (c : CallTree) (j : ℕ) → IsInstance program main i → Contains (calls i.node) c → j < length (node_of program c.name).inputs → place (callee program i c) (input (callee program i c) j) ≡ i.path ++ c.site ∷ j ∷ []
-  called_place i c j inst at lt = append_assoc i.path (c.site ∷ []) _ ∙ ap (λ k. i.path ++ c.site ∷ k ∷ []) (input_site (callee program i c) (is_callee c inst at) j lt)
+  called_place : (i : Instance) (c : CallTree) (j : ℕ) → IsInstance program main i → Contains (calls i.node) c → j < length (node_of program c.name).inputs
+      → place (callee program i c) (input (callee program i c) j) ≡ i.path ++ c.site ∷ j ∷ []
+  called_place i c j inst at lt = append_assoc i.path (c.site ∷ []) _ ∙ ap (λ k. i.path ++ c.site ∷ k ∷ [])
+      (input_site (callee program i c) (is_callee c inst at) j lt)
 
   -- what has a giver is a flow
   pub flow_of_giver : (p : Sites) (g : Giver) → Gives program main p g → IsFlow program main p
-  flow_of_giver p _ (given j lt is) = (main_instance program main, input (main_instance program main) j, is_main, input_flow (main_instance program main) j lt, sym is ∙ sym (given_place j lt))
+  flow_of_giver p _ (given j lt is) = (
+    main_instance program main,
+    input (main_instance program main) j,
+    is_main,
+    input_flow (main_instance program main) j lt,
+    sym is ∙ sym (given_place j lt),
+  )
   flow_of_giver p _ (by_equation i x r inst right is) = (i, x, inst, ((wf i inst).left x r right).0, sym is)
   flow_of_giver p _ (by_call i c j e inst at arg is) =
-      let lt = (wf i inst).no_more c j e at arg in
-      (callee program i c, input (callee program i c) j, is_callee c inst at, input_flow (callee program i c) j lt, sym is ∙ sym (called_place i c j inst at lt))
+      let lt = (wf i inst).no_more c j e at arg in (
+        callee program i c,
+        input (callee program i c) j,
+        is_callee c inst at,
+        input_flow (callee program i c) j lt,
+        sym is
+            ∙ sym (called_place i c j inst at lt),
+      )
 
   -- each flow has a giver
   source : (p : Sites) → IsFlow program main p → (g : Giver) × Gives program main p g
@@ -138,10 +162,13 @@ module _ (program : ProgramTree) (main : Identifier) (well : AreWell program) (i
   pub one_giver : (p : Sites) (a b : Giver) → Gives program main p a → Gives program main p b → a ≡ b
   one_giver p _ _ (given j lt is) (given k lt' is') = ap Given (ap (λ l. get_or l 0 0) (is ∙ sym is'))
   one_giver p _ _ (given j lt is) (by_equation i x r inst right is') =
-      absurd (not_input (main_instance program main) i (input (main_instance program main) j) x r is_main inst (input_flow (main_instance program main) j lt) (input_in (main_instance program main) j lt) right (given_place j lt ∙ is ∙ sym is'))
-  one_giver p _ _ (given j lt is) (by_call i c k e inst at arg is') = let long = ap length (is ∙ sym is') in absurd (omega (arith, long, length-append i.path (c.site ∷ k ∷ [])))
+      absurd (not_input (main_instance program main) i (input (main_instance program main) j) x r is_main inst (input_flow (main_instance program main) j lt)
+      (input_in (main_instance program main) j lt) right (given_place j lt ∙ is ∙ sym is'))
+  one_giver p _ _ (given j lt is) (by_call i c k e inst at arg is') = let long = ap length (is ∙ sym is') in
+      absurd (omega (arith, long, length-append i.path (c.site ∷ k ∷ [])))
   one_giver p _ _ (by_equation i x r inst right is) (given j lt is') =
-      absurd (not_input (main_instance program main) i (input (main_instance program main) j) x r is_main inst (input_flow (main_instance program main) j lt) (input_in (main_instance program main) j lt) right (given_place j lt ∙ is' ∙ sym is))
+      absurd (not_input (main_instance program main) i (input (main_instance program main) j) x r is_main inst (input_flow (main_instance program main) j lt)
+      (input_in (main_instance program main) j lt) right (given_place j lt ∙ is' ∙ sym is))
   one_giver p _ _ (by_equation i x r inst right is) (by_equation i' x' r' inst' right' is') =
       let f = same_flow i i' x x' inst inst' ((wf i inst).left x r right).0 ((wf i' inst').left x' r' right').0 (is ∙ sym is') in
       let one = (wf i' inst').one_right x' r r' (subst (λ z. IsRight i'.node z r) f.1 (subst (λ (i : Instance). IsRight i.node x r) f.0 right)) right' in
@@ -149,14 +176,18 @@ module _ (program : ProgramTree) (main : Identifier) (well : AreWell program) (i
   one_giver p _ _ (by_equation i x r inst right is) (by_call i' c j e inst' at arg is') =
       let lt = (wf i' inst').no_more c j e at arg in
       let d : Instance = callee program i' c in
-      absurd (not_input d i (input d j) x r (is_callee c inst' at) inst (input_flow d j lt) (input_in d j lt) right (called_place i' c j inst' at lt ∙ is' ∙ sym is))
-  one_giver p _ _ (by_call i c k e inst at arg is) (given j lt is') = let long = ap length (is ∙ sym is') in absurd (omega (arith, long, length-append i.path (c.site ∷ k ∷ [])))
+      absurd (not_input d i (input d j) x r (is_callee c inst' at) inst (input_flow d j lt) (input_in d j lt) right
+      (called_place i' c j inst' at lt ∙ is' ∙ sym is))
+  one_giver p _ _ (by_call i c k e inst at arg is) (given j lt is') = let long = ap length (is ∙ sym is') in
+      absurd (omega (arith, long, length-append i.path (c.site ∷ k ∷ [])))
   one_giver p _ _ (by_call i' c j e inst' at arg is') (by_equation i x r inst right is) =
       let lt = (wf i' inst').no_more c j e at arg in
       let d : Instance = callee program i' c in
-      absurd (not_input d i (input d j) x r (is_callee c inst' at) inst (input_flow d j lt) (input_in d j lt) right (called_place i' c j inst' at lt ∙ is' ∙ sym is))
+      absurd (not_input d i (input d j) x r (is_callee c inst' at) inst (input_flow d j lt) (input_in d j lt) right
+      (called_place i' c j inst' at lt ∙ is' ∙ sym is))
   one_giver p _ _ (by_call i c j e inst at arg is) (by_call i' c' j' e' inst' at' arg' is') =
-      let r = snoc (i.path ++ c.site ∷ []) (i'.path ++ c'.site ∷ []) j j' (append_assoc i.path (c.site ∷ []) (j ∷ []) ∙ is ∙ sym is' ∙ sym (append_assoc i'.path (c'.site ∷ []) (j' ∷ []))) in
+      let r = snoc (i.path ++ c.site ∷ []) (i'.path ++ c'.site ∷ []) j j'
+      (append_assoc i.path (c.site ∷ []) (j ∷ []) ∙ is ∙ sym is' ∙ sym (append_assoc i'.path (c'.site ∷ []) (j' ∷ []))) in
       let up = snoc i.path i'.path c.site c'.site r.0 in
       let one = same_instance i i' inst inst' up.0 in
       let call = (wf i' inst').sites c c' (subst (λ (i : Instance). Contains (calls i.node) c) one at) at' up.1 in
@@ -165,7 +196,8 @@ module _ (program : ProgramTree) (main : Identifier) (well : AreWell program) (i
 
   module _ (starts : Sites → Value) (inputs : ℕ → ℕ → Value) (h : Cells) (t : ℕ) where
     -- what the giver expects is there where the flow's clock is
-    on_clock : (i : Instance) (x : Identifier) (g : Giver) → Gives program main (place i x) g → IsInstance program main i → Contains (flows i.node) x → IsSome (expected program starts inputs g h t) ↔ (is_there h (absolute i (clock_of i.node x)) t ≡ true)
+    on_clock : (i : Instance) (x : Identifier) (g : Giver) → Gives program main (place i x) g → IsInstance program main i → Contains (flows i.node) x
+        → IsSome (expected program starts inputs g h t) ↔ (is_there h (absolute i (clock_of i.node x)) t ≡ true)
     on_clock i x _ (given j lt is) inst at =
         let m : Instance = main_instance program main in
         let f = same_flow m i (input m j) x is_main inst (input_flow m j lt) at (given_place j lt ∙ is) in
@@ -177,14 +209,17 @@ module _ (program : ProgramTree) (main : Identifier) (well : AreWell program) (i
         let f = same_flow i' i x' x inst' inst ((wf i' inst').left x' r right).0 at is in
         of_right r right (λ k. is_there h (absolute (f.0 k) (clock_of (f.0 k).node (f.1 k))) t)
       where
-        of_right : (r : Right) → IsRight i'.node x' r → is_there h (absolute i' (clock_of i'.node x')) t ≡ is_there h (absolute i (clock_of i.node x)) t → IsSome (right_value program starts h i' (clock_of i'.node x') r t) ↔ (is_there h (absolute i (clock_of i.node x)) t ≡ true)
-        of_right (Body e) right e' = masked _ _ _ (ap (λ k. is_there h (absolute i' k) t) (suits_taken (clock_of i'.node x') (pace i'.node e) ((wf i' inst').body_clock x' e right)) ∙ e')
+        of_right : (r : Right) → IsRight i'.node x' r → is_there h (absolute i' (clock_of i'.node x')) t ≡ is_there h (absolute i (clock_of i.node x)) t
+            → IsSome (right_value program starts h i' (clock_of i'.node x') r t) ↔ (is_there h (absolute i (clock_of i.node x)) t ≡ true)
+        of_right (Body e) right e' = masked _ _ _ (ap (λ k. is_there h (absolute i' k) t)
+            (suits_taken (clock_of i'.node x') (pace i'.node e) ((wf i' inst').body_clock x' e right)) ∙ e')
         of_right (Output c j) right e' = masked _ _ _ (ap (λ k. is_there h (absolute i' k) t) ((wf i' inst').output_clock x' c j right) ∙ e')
     on_clock i x _ (by_call i' c j e inst' at' arg is) inst at =
         let lt = (wf i' inst').no_more c j e at' arg in
         let d : Instance = callee program i' c in
         let f = same_flow d i (input d j) x (is_callee c inst' at') inst (input_flow d j lt) at (called_place i' c j inst' at' lt ∙ is) in
-        masked _ _ _ (ap (λ k. is_there h (absolute i' k) t) (suits_taken (clock_of_arguments i' c.args) (pace i'.node e) ((wf i' inst').argument_clock c j e at' arg))
+        masked _ _ _ (ap (λ k. is_there h (absolute i' k) t) (suits_taken (clock_of_arguments i' c.args) (pace i'.node e)
+        ((wf i' inst').argument_clock c j e at' arg))
         ∙ ap (λ k. is_there h (absolute d k) t) (sym ((wf d (is_callee c inst' at')).base (input d j) (input_in d j lt)))
         ∙ (λ k. is_there h (absolute (f.0 k) (clock_of (f.0 k).node (f.1 k))) t))
 

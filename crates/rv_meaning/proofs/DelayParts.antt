@@ -2,7 +2,8 @@
 use Rattle.std.proofs.Common.{ℕ, List, [], ◌∷◌, ◌++◌, sym, ap, subst, inl, inr, unwrap_or, Option}
 use Rattle.std.proofs.lemmas.List.Elements.{Contains-append_left, Contains-append_right, Contains-append_cases}
 use Rattle.std.specs.List.{Contains}
-use Rattle.rv_tree.specs.Tree.{Tree, Node, Form, True, False, Number, Named, Not, Minus, Pre, Current, When, Binary, If, AtMostOne, Call, Trees, None, More, EquationTree, AssertionTree, NodeTree}
+use Rattle.rv_tree.specs.Tree.{Tree, Node, Form, True, False, Number, Named, Not, Minus, Pre, Current, When, Binary, If, AtMostOne, Call, Trees, None, More}
+use Rattle.rv_tree.specs.Tree.{EquationTree, AssertionTree, NodeTree}
 use Rattle.rv_tree.specs.Delays.{Delay, delays, form_delays, delays_of_all, delays_in_equations, delays_in_assertions, node_delays}
 use Rattle.rv_types.specs.Instances.{CallTree, calls, calls_in, form_calls, calls_in_all, calls_in_equations, calls_in_assertions, IsArgument, head, tail}
 use Rattle.rv_meaning.proofs.NameLemmas.{none_in, contains_tail, contains_cases}
@@ -66,7 +67,8 @@ module _ (c : CallTree) (j : ℕ) (a : Tree) (d : Delay) (arg : IsArgument c.arg
 
   -- so those of an argument of a call of a node are delays of the node
   pub of_argument : (n : NodeTree) → Within (calls n) (node_delays n)
-  of_argument n w = both (calls_in_equations n.equations) (calls_in_assertions n.assertions) (delays_in_equations n.equations) (delays_in_assertions n.assertions)
+  of_argument n w = both (calls_in_equations n.equations) (calls_in_assertions n.assertions) (delays_in_equations n.equations)
+      (delays_in_assertions n.assertions)
       (in_equations n.equations) (in_assertions n.assertions) w
 
 -- the delays of an equation's right side are among those of the equations
@@ -87,11 +89,13 @@ assertion_within (r ∷ qs) q d w inner = elim (contains_cases r qs q w) [
 
 -- the delays of an equation are delays of the node
 pub of_equation : (n : NodeTree) (q : EquationTree) (d : Delay) → Contains n.equations q → Contains (delays q.right) d → Contains (node_delays n) d
-of_equation n q d w inner = Contains-append_left (delays_in_equations n.equations) (delays_in_assertions n.assertions) d (equation_within n.equations q d w inner)
+of_equation n q d w inner = Contains-append_left (delays_in_equations n.equations) (delays_in_assertions n.assertions) d
+    (equation_within n.equations q d w inner)
 
 -- and so are those of an assertion
 pub of_assertion : (n : NodeTree) (a : AssertionTree) (d : Delay) → Contains n.assertions a → Contains (delays a.body) d → Contains (node_delays n) d
-of_assertion n a d w inner = Contains-append_right (delays_in_equations n.equations) (delays_in_assertions n.assertions) d (assertion_within n.assertions a d w inner)
+of_assertion n a d w inner = Contains-append_right (delays_in_equations n.equations) (delays_in_assertions n.assertions) d
+    (assertion_within n.assertions a d w inner)
 
 module _ (d e : Delay) (inner : Contains (delays d.operand) e) where
   abbrev Passes : List Delay → Type 0

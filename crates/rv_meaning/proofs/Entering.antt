@@ -1,5 +1,6 @@
 -- What tables have once names and calls were entered in them.
-use Rattle.std.proofs.Common.{◌≡◌, ℕ, zero, suc, ◌+◌, ◌<◌, Bool, true, false, cond, nat_eq, unwrap_or, List, [], ◌∷◌, ◌++◌, length, refl, sym, ◌∙◌, ap, arith, Option, Some, slice_get, add-zero, zero-add}
+use Rattle.std.proofs.Common.{◌≡◌, ℕ, zero, suc, ◌+◌, ◌<◌, Bool, true, false, cond, nat_eq, unwrap_or, List, [], ◌∷◌, ◌++◌, length, refl, sym, ◌∙◌, ap, arith}
+use Rattle.std.proofs.Common.{Option, Some, slice_get, add-zero, zero-add}
 use Rattle.std.proofs.Common.{None as Nothing}
 use Rattle.std.specs.HashMap as hash
 use Rattle.std.specs.HashMap.{HashMap}
@@ -15,7 +16,8 @@ use Rattle.rv_meaning.proofs.States.{first_with}
 use Rattle.rv_meaning.proofs.Calling.{call_site, call_name, node_callee}
 
 -- names that are entered after others, before them in order
-pub entered_both : (k : ℕ) (xs ys : List Identifier) (before : Option ℕ) (x : Identifier) → entered k xs (entered (k + length xs) ys before x) x ≡ entered k (xs ++ ys) before x
+pub entered_both : (k : ℕ) (xs ys : List Identifier) (before : Option ℕ) (x : Identifier)
+    → entered k xs (entered (k + length xs) ys before x) x ≡ entered k (xs ++ ys) before x
 entered_both k [] ys before x = ap (λ j. entered j ys before x) (add-zero k)
 entered_both k (y ∷ xs) ys before x =
     let next : k + length (y ∷ xs) ≡ k + 1 + length xs = omega arith in
@@ -35,7 +37,8 @@ entered_number k (y ∷ xs) x = tested (is_same y x) (entered_number (k + 1) xs 
         ap (unwrap_or (entered (k + 1) xs Nothing x)) next ∙ e ∙ last
 
 -- what all names were entered into are their numbers
-pub are_numbers : (xs : List Identifier) (m : Numbers) → m.count ≡ length xs → ((x : Identifier) → hash.get is_same m.numbers x ≡ entered 0 xs Nothing x) → AreNumbers xs m
+pub are_numbers : (xs : List Identifier) (m : Numbers) → m.count ≡ length xs → ((x : Identifier) → hash.get is_same m.numbers x ≡ entered 0 xs Nothing x)
+    → AreNumbers xs m
 are_numbers xs m many has = record {
   count = many;
   number = λ x.
@@ -44,12 +47,14 @@ are_numbers xs m many has = record {
 }
 
 -- what calls are found by their callees' numbers
-called : (m : Numbers) (cs : List CallTree) (s : ℕ) → first_callee (callings m cs) s ≡ option_map (number_in m) (option_map call_name (first_with call_site cs s))
+called : (m : Numbers) (cs : List CallTree) (s : ℕ) → first_callee (callings m cs) s ≡ option_map (number_in m)
+    (option_map call_name (first_with call_site cs s))
 called m [] s = refl
 called m (c ∷ cs) s = tested (nat_eq c.site s) (called m cs s)
   where
     tested : (b : Bool) → first_callee (callings m cs) s ≡ option_map (number_in m) (option_map call_name (first_with call_site cs s))
-        → cond b (Some (number_in m c.name)) (first_callee (callings m cs) s) ≡ option_map (number_in m) (option_map call_name (cond b (Some c) (first_with call_site cs s)))
+        → cond b (Some (number_in m c.name)) (first_callee (callings m cs) s) ≡ option_map (number_in m)
+        (option_map call_name (cond b (Some c) (first_with call_site cs s)))
     tested true e = refl
     tested false e = e
 
@@ -61,7 +66,8 @@ alike f g same (Some x) = ap Some (same x)
 -- the callee of a call of a node
 pub called_in_node : (ns : List NodeTree) (m : Numbers) → AreNumbers (node_texts ns) m → (n : NodeTree) (s : ℕ)
     → first_callee (callings m (calls n)) s ≡ option_map (index_of (node_texts ns)) (callee_in_node n s)
-called_in_node ns m are n s = called m (calls n) s ∙ ap (option_map (number_in m)) (sym (node_callee s n)) ∙ alike (number_in m) (index_of (node_texts ns)) are.number (callee_in_node n s)
+called_in_node ns m are n s = called m (calls n) s ∙ ap (option_map (number_in m)) (sym (node_callee s n))
+    ∙ alike (number_in m) (index_of (node_texts ns)) are.number (callee_in_node n s)
 
 module _ {S : Type 0} (tables : List (HashMap ℕ ℕ S)) (table : HashMap ℕ ℕ S) where
   -- one more table leaves the others as they are

@@ -1,5 +1,6 @@
 -- A solution grows by one flow, and by one instant.
-use Rattle.std.proofs.Common.{◌≡◌, ℕ, zero, suc, ◌+◌, ◌<◌, ◌≤◌, ◌↔◌, List, [], ◌∷◌, ◌++◌, length, refl, sym, ◌∙◌, ap, subst, arith, get_or, inl, inr, Option, IsSome, length-append}
+use Rattle.std.proofs.Common.{◌≡◌, ℕ, zero, suc, ◌+◌, ◌<◌, ◌≤◌, ◌↔◌, List, [], ◌∷◌, ◌++◌, length, refl, sym, ◌∙◌, ap, subst, arith, get_or, inl, inr, Option}
+use Rattle.std.proofs.Common.{IsSome, length-append}
 use Rattle.std.proofs.lemmas.List.{get_or_append_left, get_or_default}
 use Rattle.std.proofs.Math.Seq.{get_or-append_seam}
 use Rattle.std.proofs.Math.Nat.{eq-or-lt_of_le}
@@ -27,7 +28,8 @@ module _ (program : ProgramTree) (main : Identifier) (made : Rule) (sequence : L
   -- the first m flows have what their sources give, in the row after the past
   pub record IsInstant (past : History) (row : Instant) (m : ℕ) : Type 0 where
     pub places : (p : Sites) → IsSome (map.get row p) ↔ IsAmongFirst program main sequence m p
-    pub has : (k : ℕ) (w : Giver) → k < m → Gives program main (nth k) w → cells (past ++ row ∷ []) (length past) (nth k) ≡ made w (past ++ row ∷ []) (length past)
+    pub has : (k : ℕ) (w : Giver) → k < m → Gives program main (nth k) w
+        → cells (past ++ row ∷ []) (length past) (nth k) ≡ made w (past ++ row ∷ []) (length past)
 
   module _ (is_local : IsLocal program made) (defined : AreDefined program main) (ordered : IsSequence program main sequence) where
     -- what a giver makes of an instant is fixed before the instants after it
@@ -45,26 +47,33 @@ module _ (program : ProgramTree) (main : Identifier) (made : Rule) (sequence : L
 
       -- the last row changes nothing before it
       kept : (row other : Instant) → AreAlike (with_row row) (with_row other) (length past)
-      kept row other s p lt = ap (λ r. flat (map.get r p)) (get_or_append_left past (row ∷ []) map.empty s lt ∙ sym (get_or_append_left past (other ∷ []) map.empty s lt))
+      kept row other s p lt = ap (λ r. flat (map.get r p)) (get_or_append_left past (row ∷ []) map.empty s lt
+          ∙ sym (get_or_append_left past (other ∷ []) map.empty s lt))
 
       -- and gives the cells of the last instant
       last : (row : Instant) (p : Sites) → with_row row (length past) p ≡ flat (map.get row p)
       last row p = ap (λ r. flat (map.get r p)) (get_or-append_seam past row [] map.empty)
 
       -- the row grows by the next flow
-      one_more : (row : Instant) (m : ℕ) (v : Option Value) (s : Giver) → Gives program main (nth m) s → m < length sequence → v ≡ made s (longer row) (length past) → IsInstant past row m → IsInstant past (map.insert row (nth m) v) (m + 1)
+      one_more : (row : Instant) (m : ℕ) (v : Option Value) (s : Giver) → Gives program main (nth m) s → m < length sequence
+          → v ≡ made s (longer row) (length past) → IsInstant past row m → IsInstant past (map.insert row (nth m) v) (m + 1)
       one_more row m v s gives lt is p =
           let more : Instant = map.insert row (nth m) v in
           let below : (j : ℕ) → j < m → with_row row (length past) (nth j) ≡ with_row more (length past) (nth j) = λ j less.
           last row (nth j) ∙ ap flat (sym (get_other row (nth m) (nth j) v (ordered.once j m less lt))) ∙ sym (last more (nth j)) in
-          let value_kept : (k : ℕ) (s : Giver) → k ≤ m → Gives program main (nth k) s → made s (longer row) (length past) ≡ made s (longer more) (length past) = λ k s le g.
+          let value_kept : (k : ℕ) (s : Giver) → k ≤ m → Gives program main (nth k) s
+          → made s (longer row) (length past) ≡ made s (longer more) (length past) = λ k s le g.
           is_local (longer row) (longer more) s (length past) (kept row more)
           (λ i d less. let w = ordered.after k s (omega arith) g i d less in
           let j_below : w.0 < m = omega (arith, w.1) in
           subst (λ r. with_row row (length past) r ≡ with_row more (length past) r) w.2 (below w.0 j_below)) in
           record {
             places = λ q. elim (one_or_other q (nth m)) [
-              | inl same ↦ (λ _. (m, omega arith, sym same), λ _. subst (λ r. IsSome (map.get more r)) (sym same) (subst IsSome (sym (get_same row (nth m) v)) refl))
+              | inl same ↦ (
+                λ _. (m, omega arith, sym same),
+                λ _. subst (λ r. IsSome (map.get more r)) (sym same)
+                    (subst IsSome (sym (get_same row (nth m) v)) refl),
+              )
               | inr n ↦ let e = get_other row (nth m) q v n in (
                 λ h. let w = (p.places q).0 (subst IsSome e h) in (w.0, omega (arith, w.1), w.2),
                 λ w. elim (eq-or-lt_of_le {n = w.0} {m = m} (omega (arith, w.1))) [
@@ -109,10 +118,12 @@ module _ (program : ProgramTree) (main : Identifier) (made : Rule) (sequence : L
     one_later past row p q =
         let h : History = past ++ row ∷ [] in
         let longer = length-append past (row ∷ []) in
-        let kept_row : (t : ℕ) → t < length past → get_or past t map.empty ≡ get_or h t map.empty = λ t lt. sym (get_or_append_left past (row ∷ []) map.empty t lt) in
+        let kept_row : (t : ℕ) → t < length past → get_or past t map.empty ≡ get_or h t map.empty = λ t lt. sym
+        (get_or_append_left past (row ∷ []) map.empty t lt) in
         record {
           places = λ t r lt. elim (eq-or-lt_of_le {n = t} {m = length past} (omega (arith, longer))) [
-            | inl at_end ↦ subst (λ m. IsSome (map.get m r) ↔ IsAmongFirst program main sequence (length sequence) r) (sym (get_or-append_seam past row [] map.empty) ∙ ap (λ s. get_or h s map.empty) (sym at_end)) (q.places r)
+            | inl at_end ↦ subst (λ m. IsSome (map.get m r) ↔ IsAmongFirst program main sequence (length sequence) r)
+                (sym (get_or-append_seam past row [] map.empty) ∙ ap (λ s. get_or h s map.empty) (sym at_end)) (q.places r)
             | inr below ↦ subst (λ m. IsSome (map.get m r) ↔ IsAmongFirst program main sequence (length sequence) r) (kept_row t below) (p.places t r below)
           ];
           has = λ t k s lt less g. elim (eq-or-lt_of_le {n = t} {m = length past} (omega (arith, longer))) [

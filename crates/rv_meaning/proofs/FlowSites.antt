@@ -1,5 +1,6 @@
 -- Flows by their sites: their names, types and clocks.
-use Rattle.std.proofs.Common.{◌≡◌, ℕ, zero, suc, ◌+◌, ◌<◌, Bool, true, false, cond, List, [], ◌∷◌, ◌++◌, map, length, get_or, refl, sym, ◌∙◌, ap, arith, Some, slice_get, length-append, zero-add}
+use Rattle.std.proofs.Common.{◌≡◌, ℕ, zero, suc, ◌+◌, ◌<◌, Bool, true, false, cond, List, [], ◌∷◌, ◌++◌, map, length, get_or, refl, sym, ◌∙◌, ap, arith, Some}
+use Rattle.std.proofs.Common.{slice_get, length-append, zero-add}
 use Rattle.std.proofs.lemmas.List.{length-map, get_or_append_left, get_or-append-add, get_or_default, append_assoc}
 use Rattle.std.proofs.lemmas.Option.{none-some, slice_get_within}
 use Rattle.std.specs.List.{Contains}
@@ -60,7 +61,8 @@ module _ (n : NodeTree) where
   output_base j lt =
       let ins : length (map base_clock n.inputs) ≡ length n.inputs = length-map n.inputs base_clock in
       let outs : length (map base_clock n.outputs) ≡ length n.outputs = length-map n.outputs base_clock in
-      let long : length (map base_clock n.inputs ++ map base_clock n.outputs) ≡ length (map base_clock n.inputs) + length (map base_clock n.outputs) = length-append (map base_clock n.inputs) (map base_clock n.outputs) in
+      let long : length (map base_clock n.inputs ++ map base_clock n.outputs) ≡ length (map base_clock n.inputs) + length
+      (map base_clock n.outputs) = length-append (map base_clock n.inputs) (map base_clock n.outputs) in
       let within : length n.inputs + j < length (map base_clock n.inputs ++ map base_clock n.outputs) = omega arith in
       get_or_append_left (map base_clock n.inputs ++ map base_clock n.outputs) (map (λ d. declared_clock n d.clock) n.locals) Base (length n.inputs + j) within
       ∙ ap (λ l. get_or (map base_clock n.inputs ++ map base_clock n.outputs) (l + j) Base) (sym ins)
@@ -70,7 +72,8 @@ module _ (n : NodeTree) where
   -- the site of an input is below their number
   pub input_within : (x : Identifier) → Contains (names n.inputs) x → site_of n x < length n.inputs
   input_within x w =
-      let whole : names n.inputs ++ names n.outputs ++ names n.locals ≡ names n.inputs ++ (names n.outputs ++ names n.locals) = append_assoc (names n.inputs) (names n.outputs) (names n.locals) in
+      let whole : names n.inputs ++ names n.outputs ++ names n.locals ≡ names n.inputs ++ (names n.outputs ++ names n.locals) = append_assoc (names n.inputs)
+      (names n.outputs) (names n.locals) in
       let found : site_of n x ≡ index_of (names n.inputs ++ (names n.outputs ++ names n.locals)) x = ap (λ xs. index_of xs x) whole in
       omega (arith, index_first (names n.inputs) (names n.outputs ++ names n.locals) x w, found, length-map n.inputs (λ d. d.name.text))
 

@@ -6,7 +6,8 @@ use Rattle.std.specs.List.{Contains}
 use Rattle.std.proofs.lemmas.List.Elements.{Contains-append_left, Contains-append_right}
 use Rattle.rv_base.specs.declared.value.Value.{Value}
 use Rattle.rv_base.specs.declared.value.Value.TheVariants.{Flag, Whole}
-use Rattle.rv_tree.specs.Tree.{Tree, Node, Form, True, False, Number, Named, Not, Minus, Pre, Current, When, Binary, If, AtMostOne, Call, Trees, None, More, AssertionTree, ProgramTree}
+use Rattle.rv_tree.specs.Tree.{Tree, Node, Form, True, False, Number, Named, Not, Minus, Pre, Current, When, Binary, If, AtMostOne, Call, Trees, None, More}
+use Rattle.rv_tree.specs.Tree.{AssertionTree, ProgramTree}
 use Rattle.rv_tree.specs.Places.{Identifier, Sites}
 use Rattle.rv_types.specs.declared.typed.Clock.{Clock}
 use Rattle.rv_types.specs.declared.typed.Clock.TheVariants.{Base}
@@ -20,7 +21,8 @@ use Rattle.rv_meaning.proofs.OneInstant.{on_there}
 use Rattle.rv_meaning.proofs.DelayParts.{of_argument, of_equation, of_assertion}
 use Rattle.rv_meaning.proofs.NameLemmas.{contains_head, contains_tail}
 
-module _ (program : ProgramTree) (starts : Sites → Value) (state : State) (h : History) (t : ℕ) (ticks : (k : Option Sites) → state.ticked k ≡ was_there (cells h) k t) (i : Instance) where
+module _ (program : ProgramTree) (starts : Sites → Value) (state : State) (h : History) (t : ℕ)
+    (ticks : (k : Option Sites) → state.ticked k ≡ was_there (cells h) k t) (i : Instance) where
   -- the memories of these delays have their values
   abbrev pub Knows : List Delay → Type 0
   Knows ds = (d : Delay) → Contains ds d → state.kept (kept_place i d.site d.operand) ≡ held_before program starts (cells h) i d t
@@ -39,7 +41,8 @@ module _ (program : ProgramTree) (starts : Sites → Value) (state : State) (h :
     followed (Node at site form) m = form_followed site form m
 
     -- by its form
-    form_followed : (site : Option ℕ) (form : Form) → Knows (form_delays site form) → form_content program starts (cells h) i site form t ≡ form_now program state (get_or h t map.empty) i site form
+    form_followed : (site : Option ℕ) (form : Form) → Knows (form_delays site form)
+        → form_content program starts (cells h) i site form t ≡ form_now program state (get_or h t map.empty) i site form
     form_followed site True m = refl
     form_followed site False m = refl
     form_followed site (Number n) m = refl
@@ -67,22 +70,26 @@ module _ (program : ProgramTree) (starts : Sites → Value) (state : State) (h :
     -- some expressions
     all_followed : (es : Trees) → Knows (delays_of_all es) → trues program starts (cells h) i es t ≡ trues_now program state (get_or h t map.empty) i es
     all_followed None m = refl
-    all_followed (More e es) m = λ j. cond (is_true (followed e (left (delays e) (delays_of_all es) m) j)) 1 0 + all_followed es (right (delays e) (delays_of_all es) m) j
+    all_followed (More e es) m = λ j. cond (is_true (followed e (left (delays e) (delays_of_all es) m) j)) 1 0 + all_followed es
+        (right (delays e) (delays_of_all es) m) j
 
   -- and is present alike
   pub value_followed : (k : Clock) (e : Tree) → Knows (delays e) → value program starts (cells h) i k e t ≡ value_now program state (get_or h t map.empty) i k e
   value_followed k e m = λ j. cond (on_there h t (clock_in i k e) j) (Some (followed e m j)) Nothing
 
   -- so has a right side
-  pub right_followed : (x : Identifier) (k : Clock) (r : Right) → IsRight i.node x r → Knows (node_delays i.node) → right_value program starts (cells h) i k r t ≡ right_now program state (get_or h t map.empty) i k r
+  pub right_followed : (x : Identifier) (k : Clock) (r : Right) → IsRight i.node x r → Knows (node_delays i.node)
+      → right_value program starts (cells h) i k r t ≡ right_now program state (get_or h t map.empty) i k r
   right_followed x k _ (alone q w is) m = value_followed k q.right (λ d inner. m d (of_equation i.node q d w inner))
-  right_followed x k _ (in_order q at site f args n w is several below at_n) m = λ j. cond (on_there h t (absolute i (clock_of_arguments i args)) j) (Some (held (cells h t (output_place program i site f n)))) Nothing
+  right_followed x k _ (in_order q at site f args n w is several below at_n) m = λ j. cond (on_there h t (absolute i (clock_of_arguments i args)) j)
+      (Some (held (cells h t (output_place program i site f n)))) Nothing
 
 -- an assertion with this value holds
 abbrev Holds : Option Value → Type 0
 Holds o = (o ≡ Nothing) ⊎ (o ≡ Some (Flag true))
 
-module _ (program : ProgramTree) (main : Identifier) (starts : Sites → Value) (inputs : ℕ → ℕ → Value) (h : History) (t : ℕ) (state : State) (f : IsStateAt program main starts (cells h) t state) where
+module _ (program : ProgramTree) (main : Identifier) (starts : Sites → Value) (inputs : ℕ → ℕ → Value) (h : History) (t : ℕ) (state : State)
+    (f : IsStateAt program main starts (cells h) t state) where
   -- the delays of each instance are known
   known : (i : Instance) → IsInstance program main i → Knows program starts state h t f.ticks i (node_delays i.node)
   known i inst d w = f.memories i d inst w
@@ -94,7 +101,8 @@ module _ (program : ProgramTree) (main : Identifier) (starts : Sites → Value) 
     given = λ j less. run.given t j lt less;
     equations = λ i x r inst w. run.equations t i x r lt inst w ∙ right_followed program starts state h t f.ticks i x (clock_of i.node x) r w (known i inst);
     arguments = λ i c j e inst at arg. run.arguments t i c j e lt inst at arg
-        ∙ value_followed program starts state h t f.ticks i (clock_of_arguments i c.args) e (λ d inner. known i inst d (of_argument c j e d arg inner i.node at));
+        ∙ value_followed program starts state h t f.ticks i (clock_of_arguments i c.args) e
+        (λ d inner. known i inst d (of_argument c j e d arg inner i.node at));
     clocks = λ i x inst at.
         let there = run.clocks t i x lt inst at in
         let on = on_there h t (absolute i (clock_of i.node x)) in
@@ -102,7 +110,8 @@ module _ (program : ProgramTree) (main : Identifier) (starts : Sites → Value) 
   }
 
   -- the assertions have the same there
-  pub assertion_alike : (i : Instance) (a : AssertionTree) → IsInstance program main i → Contains i.node.assertions a → value program starts (cells h) i Base a.body t ≡ value_now program state (get_or h t map.empty) i Base a.body
+  pub assertion_alike : (i : Instance) (a : AssertionTree) → IsInstance program main i → Contains i.node.assertions a
+      → value program starts (cells h) i Base a.body t ≡ value_now program state (get_or h t map.empty) i Base a.body
   assertion_alike i a inst w = value_followed program starts state h t f.ticks i Base a.body (λ d inner. known i inst d (of_assertion i.node a d w inner))
 
   -- so they hold alike

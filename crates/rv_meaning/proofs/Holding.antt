@@ -55,7 +55,8 @@ module _ (program : ProgramTree) (held : Instance → Delay → Value) (of_name 
 
   module _ (main : Identifier) (well : AreWell program) (named : IsNode program main) where
     -- the sites down to an instance lead to it
-    leads : (i : Instance) → IsInstance program main i → (s : ℕ) (rest : Sites) → held_at (i.path ++ s ∷ rest) (main_instance program main) ≡ held_at (s ∷ rest) i
+    leads : (i : Instance) → IsInstance program main i → (s : ℕ) (rest : Sites)
+        → held_at (i.path ++ s ∷ rest) (main_instance program main) ≡ held_at (s ∷ rest) i
     leads _ is_main s rest = refl
     leads _ (is_callee {i = i} c p at) s rest =
         let f = found (λ (c : CallTree). c.site) (calls i.node) c at in
@@ -66,7 +67,8 @@ module _ (program : ProgramTree) (held : Instance → Delay → Value) (of_name 
         ∙ ap (λ d. held_at (s ∷ rest) (callee program i d)) same
 
     -- at the place of the memory of each `pre` and `current` stands what it holds, where the sites are numbered
-    pub holds : ((n : NodeTree) → Contains program.nodes n → IsNumbered n) → (i : Instance) (d : Delay) → IsInstance program main i → Contains (node_delays i.node) d
+    pub holds : ((n : NodeTree) → Contains program.nodes n → IsNumbered n) → (i : Instance) (d : Delay) → IsInstance program main i
+        → Contains (node_delays i.node) d
         → held_at (kept_place i d.site d.operand) (main_instance program main) ≡ held i d
     holds numbered i d inst w =
         let f = found (site_in i) (node_delays i.node) d w in

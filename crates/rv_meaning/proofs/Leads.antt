@@ -1,5 +1,6 @@
 -- Paths lead to instances: each to the node of the instance with the path, and to nothing else.
-use Rattle.std.proofs.Common.{◌≡◌, ℕ, ◌+◌, Bool, true, false, cond, unwrap_or, List, [], ◌∷◌, ◌++◌, map, refl, sym, ◌∙◌, ap, subst, Option, Some, IsTrue, get_or, add-one}
+use Rattle.std.proofs.Common.{◌≡◌, ℕ, ◌+◌, Bool, true, false, cond, unwrap_or, List, [], ◌∷◌, ◌++◌, map, refl, sym, ◌∙◌, ap, subst, Option, Some, IsTrue}
+use Rattle.std.proofs.Common.{get_or, add-one}
 use Rattle.std.proofs.Common.{None as Nothing}
 use Rattle.std.proofs.Math.ListN.{get_or-map}
 use Rattle.std.proofs.lemmas.List.{append_assoc, append-nil}
@@ -123,7 +124,8 @@ module _ (p : ProgramTree) (main : Identifier) where
         }
 
   -- a path that leads to a node is that of an instance
-  pub led_to : (path : Sites) (k m : ℕ) (j : Instance) → IsInstance p main j → numbered p.nodes k ≡ j.node → led_by (callee_at p.nodes) k path ≡ Some m → IsLed j path m
+  pub led_to : (path : Sites) (k m : ℕ) (j : Instance) → IsInstance p main j → numbered p.nodes k ≡ j.node → led_by (callee_at p.nodes) k path ≡ Some m
+      → IsLed j path m
   led_to [] k m j inst here e = record {
     instance = j;
     is = inst;

@@ -1,18 +1,21 @@
 -- The value of an expression depends only on the earlier instants and on the flows that it needs.
-use Rattle.std.proofs.Common.{◌≡◌, ℕ, zero, suc, ◌+◌, ◌<◌, ◌≤◌, pos, ◌-ℤ◌, Bool, true, false, not, ◌||◌, cond, unwrap_or, List, [], ◌∷◌, ◌++◌, length, refl, ap, subst, arith, Option, Some, length-append, nat_le}
+use Rattle.std.proofs.Common.{◌≡◌, ℕ, zero, suc, ◌+◌, ◌<◌, ◌≤◌, pos, ◌-ℤ◌, Bool, true, false, not, ◌||◌, cond, unwrap_or, List, [], ◌∷◌, ◌++◌, length, refl, ap}
+use Rattle.std.proofs.Common.{subst, arith, Option, Some, length-append, nat_le}
 use Rattle.std.proofs.Common.{None as Nothing}
 use Rattle.std.specs.List.{All}
 use Rattle.std.proofs.lemmas.List.{get_or_append_left, get_or-append-add}
 use Rattle.rv_base.specs.declared.value.Value.{Value}
 use Rattle.rv_base.specs.declared.value.Value.TheVariants.{Flag, Whole}
-use Rattle.rv_tree.specs.Tree.{Tree, Node, Form, True, False, Number, Named, Not, Minus, Pre, Current, When, Binary, If, AtMostOne, Call, Trees, None, More, ProgramTree}
+use Rattle.rv_tree.specs.Tree.{Tree, Node, Form, True, False, Number, Named, Not, Minus, Pre, Current, When, Binary, If, AtMostOne, Call, Trees, None, More}
+use Rattle.rv_tree.specs.Tree.{ProgramTree}
 use Rattle.rv_tree.specs.Places.{Sites, is_flow}
 use Rattle.rv_types.specs.declared.typed.Clock.{Clock}
 use Rattle.rv_types.specs.declared.typed.Clock.TheVariants.{Base}
 use Rattle.rv_types.specs.Scopes.{constant_value}
 use Rattle.rv_types.specs.Instances.{Right, Body, Output, Instance, place, absolute, clock_in, clock_taken, clock_of_arguments, output_place}
 use Rattle.rv_types.specs.Needs.{flow_of, needs, form_needs, needs_all, needs_of_right}
-use Rattle.rv_meaning.specs.Meaning.{Cells, is_true, number, held, is_on, operate, is_there, was_there, last_before, kept_place, content, form_content, trues, value, right_value}
+use Rattle.rv_meaning.specs.Meaning.{Cells, is_true, number, held, is_on, operate, is_there, was_there, last_before, kept_place, content, form_content, trues}
+use Rattle.rv_meaning.specs.Meaning.{value, right_value}
 
 -- what holds of a joined list holds of its first part
 pub all_left : {X : Type 0} (P : X → Type 0) (xs ys : List X) → All P (xs ++ ys) → All P xs
@@ -47,7 +50,8 @@ module _ (g h : Cells) where
   was_before u alike k (suc t) le = λ i. there_before u alike k t (omega arith) i || was_before u alike k t (omega arith) i
 
   -- a memory
-  last_alike : (u : ℕ) → AreAlike u → (k : Option Sites) (a b : ℕ → Value) (start : Value) (t : ℕ) → t ≤ u → ((s : ℕ) → s < t → a s ≡ b s) → last_before g k a start t ≡ last_before h k b start t
+  last_alike : (u : ℕ) → AreAlike u → (k : Option Sites) (a b : ℕ → Value) (start : Value) (t : ℕ) → t ≤ u → ((s : ℕ) → s < t → a s ≡ b s)
+      → last_before g k a start t ≡ last_before h k b start t
   last_alike u alike k a b start zero le same = refl
   last_alike u alike k a b start (suc t) le same = λ i. cond
       (there_before u alike k t (omega arith) i)
@@ -66,7 +70,8 @@ module _ (g h : Cells) where
       before (Node at site form) u t alike lt = form_before site form u t alike lt
 
       -- by its form
-      form_before : (site : Option ℕ) (form : Form) (u t : ℕ) → AreAlike u → t < u → form_content program starts g i site form t ≡ form_content program starts h i site form t
+      form_before : (site : Option ℕ) (form : Form) (u t : ℕ) → AreAlike u → t < u
+          → form_content program starts g i site form t ≡ form_content program starts h i site form t
       form_before site True u t alike lt = refl
       form_before site False u t alike lt = refl
       form_before site (Number n) u t alike lt = refl
@@ -76,8 +81,10 @@ module _ (g h : Cells) where
       form_before site (Binary o a b) u t alike lt = λ j. operate o
           (not (was_before u alike (clock_in i Base (Node 0 site (Binary o a b))) t (omega arith) j))
           (before a u t alike lt j) (before b u t alike lt j)
-      form_before site (Pre e) u t alike lt = last_alike u alike (clock_in i Base e) _ _ (starts (kept_place i site e)) t (omega arith) (λ s less. before e u s alike (omega arith))
-      form_before site (Current e) u t alike lt = last_alike u alike (clock_in i Base e) _ _ (starts (kept_place i site e)) (suc t) (omega arith) (λ s less. before e u s alike (omega arith))
+      form_before site (Pre e) u t alike lt = last_alike u alike (clock_in i Base e) _ _ (starts (kept_place i site e)) t (omega arith)
+          (λ s less. before e u s alike (omega arith))
+      form_before site (Current e) u t alike lt = last_alike u alike (clock_in i Base e) _ _ (starts (kept_place i site e)) (suc t) (omega arith)
+          (λ s less. before e u s alike (omega arith))
       form_before site (When e c) u t alike lt = before e u t alike lt
       form_before site (If a b c) u t alike lt = λ j. cond (is_true (before a u t alike lt j)) (before b u t alike lt j) (before c u t alike lt j)
       form_before site (AtMostOne es) u t alike lt = ap (λ n. Flag (nat_le n 1)) (all_before es u t alike lt)
@@ -90,11 +97,13 @@ module _ (g h : Cells) where
 
     mutual
       -- an expression at t, where what it needs is the same
-      pub now : (k : Clock) (e : Tree) (t : ℕ) → AreAlike t → All (IsAlike t) (needs program i k e) → content program starts g i e t ≡ content program starts h i e t
+      pub now : (k : Clock) (e : Tree) (t : ℕ) → AreAlike t → All (IsAlike t) (needs program i k e)
+          → content program starts g i e t ≡ content program starts h i e t
       now k (Node at site form) t alike same = form_now k site form t alike (all_right (IsAlike t) (flow_of (absolute i k)) _ same)
 
       -- by its form
-      form_now : (k : Clock) (site : Option ℕ) (form : Form) (t : ℕ) → AreAlike t → All (IsAlike t) (form_needs program i k site form) → form_content program starts g i site form t ≡ form_content program starts h i site form t
+      form_now : (k : Clock) (site : Option ℕ) (form : Form) (t : ℕ) → AreAlike t → All (IsAlike t) (form_needs program i k site form)
+          → form_content program starts g i site form t ≡ form_content program starts h i site form t
       form_now k site True t alike same = refl
       form_now k site False t alike same = refl
       form_now k site (Number n) t alike same = refl
@@ -105,13 +114,16 @@ module _ (g h : Cells) where
           (not (was_before t alike (clock_in i Base (Node 0 site (Binary o a b))) t (omega arith) j))
           (now k a t alike (all_left (IsAlike t) (needs program i k a) _ same) j)
           (now k b t alike (all_right (IsAlike t) (needs program i k a) _ same) j)
-      form_now k site (Pre e) t alike same = last_alike t alike (clock_in i Base e) _ _ (starts (kept_place i site e)) t (omega arith) (λ s less. before e t s alike less)
+      form_now k site (Pre e) t alike same = last_alike t alike (clock_in i Base e) _ _ (starts (kept_place i site e)) t (omega arith)
+          (λ s less. before e t s alike less)
       form_now k site (Current e) t alike same = λ j. cond
           (there_of (clock_taken i Base e) e t same j)
           (now (clock_taken i Base e) e t alike same j)
-          (last_alike t alike (clock_in i Base e) (content program starts g i e) (content program starts h i e) (starts (kept_place i site e)) t (omega arith) (λ s less. before e t s alike less) j)
+          (last_alike t alike (clock_in i Base e) (content program starts g i e) (content program starts h i e) (starts (kept_place i site e)) t (omega arith)
+          (λ s less. before e t s alike less) j)
       form_now k site (When e c) t alike same = now _ e t alike same
-      form_now k site (If a b c) t alike same = let later : All (IsAlike t) (needs program i k b ++ needs program i k c) = all_right (IsAlike t) (needs program i k a) _ same in λ j. cond
+      form_now k site (If a b c) t alike same = let later : All (IsAlike t) (needs program i k b ++ needs program i k c) = all_right (IsAlike t)
+          (needs program i k a) _ same in λ j. cond
           (is_true (now k a t alike (all_left (IsAlike t) (needs program i k a) _ same) j))
           (now k b t alike (all_left (IsAlike t) (needs program i k b) _ later) j)
           (now k c t alike (all_right (IsAlike t) (needs program i k b) _ later) j)
@@ -119,7 +131,8 @@ module _ (g h : Cells) where
       form_now k site (Call f args) t alike same = ap held (same 0 (output_place program i (unwrap_or site 0) f 0) (omega arith))
 
       -- some expressions
-      all_now : (k : Clock) (es : Trees) (t : ℕ) → AreAlike t → All (IsAlike t) (needs_all program i k es) → trues program starts g i es t ≡ trues program starts h i es t
+      all_now : (k : Clock) (es : Trees) (t : ℕ) → AreAlike t → All (IsAlike t) (needs_all program i k es)
+          → trues program starts g i es t ≡ trues program starts h i es t
       all_now k None t alike same = refl
       all_now k (More e es) t alike same = λ j.
           cond (is_true (now k e t alike (all_left (IsAlike t) (needs program i k e) _ same) j)) 1 0
@@ -130,12 +143,15 @@ module _ (g h : Cells) where
       there_of k (Node at site form) t same = there_now (absolute i k) t (all_left (IsAlike t) (flow_of (absolute i k)) _ same)
 
     -- the value of an expression at t, which takes the clock k where it is free
-    pub value_now : (k : Clock) (e : Tree) (t : ℕ) → AreAlike t → All (IsAlike t) (needs program i (clock_taken i k e) e) → value program starts g i k e t ≡ value program starts h i k e t
+    pub value_now : (k : Clock) (e : Tree) (t : ℕ) → AreAlike t → All (IsAlike t) (needs program i (clock_taken i k e) e)
+        → value program starts g i k e t ≡ value program starts h i k e t
     value_now k e t alike same = λ j. cond (there_of (clock_taken i k e) e t same j) (Some (now (clock_taken i k e) e t alike same j)) Nothing
 
     -- the value of a right side at t
-    pub right_now : (k : Clock) (r : Right) (t : ℕ) → AreAlike t → All (IsAlike t) (needs_of_right program i k r) → right_value program starts g i k r t ≡ right_value program starts h i k r t
+    pub right_now : (k : Clock) (r : Right) (t : ℕ) → AreAlike t → All (IsAlike t) (needs_of_right program i k r)
+        → right_value program starts g i k r t ≡ right_value program starts h i k r t
     right_now k (Body e) t alike same = value_now k e t alike same
     right_now k (Output c n) t alike same = λ j. cond
         (there_now (absolute i (clock_of_arguments i c.args)) t (all_left (IsAlike t) (flow_of (absolute i (clock_of_arguments i c.args))) _ same) j)
-        (Some (held (all_right (IsAlike t) (flow_of (absolute i (clock_of_arguments i c.args))) _ same 0 (output_place program i c.site c.name n) (omega arith) j))) Nothing
+        (Some (held (all_right (IsAlike t) (flow_of (absolute i (clock_of_arguments i c.args))) _ same 0 (output_place program i c.site c.name n)
+        (omega arith) j))) Nothing

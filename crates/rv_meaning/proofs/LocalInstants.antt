@@ -4,7 +4,8 @@ use Rattle.std.proofs.Common.{None as Nothing}
 use Rattle.std.specs.List.{All}
 use Rattle.rv_base.specs.declared.value.Value.{Value}
 use Rattle.rv_base.specs.declared.value.Value.TheVariants.{Flag, Whole}
-use Rattle.rv_tree.specs.Tree.{Tree, Node, Form, True, False, Number, Named, Not, Minus, Pre, Current, When, Binary, If, AtMostOne, Call, Trees, None, More, ProgramTree}
+use Rattle.rv_tree.specs.Tree.{Tree, Node, Form, True, False, Number, Named, Not, Minus, Pre, Current, When, Binary, If, AtMostOne, Call, Trees, None, More}
+use Rattle.rv_tree.specs.Tree.{ProgramTree}
 use Rattle.rv_tree.specs.Places.{Sites, is_flow}
 use Rattle.rv_types.specs.declared.typed.Clock.{Clock}
 use Rattle.rv_types.specs.declared.typed.Clock.TheVariants.{Base}
@@ -38,7 +39,8 @@ module _ (g h : Instant) where
       alike k (Node at site form) same = form_alike k site form (all_right IsSameCell (flow_of (absolute i k)) _ same)
 
       -- by its form
-      form_alike : (k : Clock) (site : Option ℕ) (form : Form) → All IsSameCell (form_needs program i k site form) → form_now program state g i site form ≡ form_now program state h i site form
+      form_alike : (k : Clock) (site : Option ℕ) (form : Form) → All IsSameCell (form_needs program i k site form)
+          → form_now program state g i site form ≡ form_now program state h i site form
       form_alike k site True same = refl
       form_alike k site False same = refl
       form_alike k site (Number n) same = refl
@@ -55,7 +57,8 @@ module _ (g h : Instant) where
           (alike (clock_taken i Base e) e same j)
           (memory program state g i site e)
       form_alike k site (When e c) same = alike _ e same
-      form_alike k site (If a b c) same = let later : All IsSameCell (needs program i k b ++ needs program i k c) = all_right IsSameCell (needs program i k a) _ same in λ j. cond
+      form_alike k site (If a b c) same = let later : All IsSameCell (needs program i k b ++ needs program i k c) = all_right IsSameCell
+          (needs program i k a) _ same in λ j. cond
           (is_true (alike k a (all_left IsSameCell (needs program i k a) _ same) j))
           (alike k b (all_left IsSameCell (needs program i k b) _ later) j)
           (alike k c (all_right IsSameCell (needs program i k b) _ later) j)
@@ -74,12 +77,15 @@ module _ (g h : Instant) where
       on_of k (Node at site form) same = on_alike (absolute i k) (all_left IsSameCell (flow_of (absolute i k)) _ same)
 
     -- what an expression has, present alike
-    pub value_alike : (k : Clock) (e : Tree) → All IsSameCell (needs program i (clock_taken i k e) e) → value_now program state g i k e ≡ value_now program state h i k e
+    pub value_alike : (k : Clock) (e : Tree) → All IsSameCell (needs program i (clock_taken i k e) e)
+        → value_now program state g i k e ≡ value_now program state h i k e
     value_alike k e same = λ j. cond (on_of (clock_taken i k e) e same j) (Some (alike (clock_taken i k e) e same j)) Nothing
 
     -- what a right side has depends on the flows that it needs
-    pub right_alike : (k : Clock) (r : Right) → All IsSameCell (needs_of_right program i k r) → right_now program state g i k r ≡ right_now program state h i k r
+    pub right_alike : (k : Clock) (r : Right) → All IsSameCell (needs_of_right program i k r)
+        → right_now program state g i k r ≡ right_now program state h i k r
     right_alike k (Body e) same = value_alike k e same
     right_alike k (Output c n) same = λ j. cond
         (on_alike (absolute i (clock_of_arguments i c.args)) (all_left IsSameCell (flow_of (absolute i (clock_of_arguments i c.args))) _ same) j)
-        (Some (held (all_right IsSameCell (flow_of (absolute i (clock_of_arguments i c.args))) _ same 0 (output_place program i c.site c.name n) (omega arith) j))) Nothing
+        (Some (held (all_right IsSameCell (flow_of (absolute i (clock_of_arguments i c.args))) _ same 0 (output_place program i c.site c.name n)
+        (omega arith) j))) Nothing

@@ -67,7 +67,8 @@ module _ (p : ProgramTree) (main : Identifier) (well : AreWell p) (is_node : IsN
     pub place_is : q ≡ delay_place instance delay
 
   -- a site after a path is the place of a memory of the site in the instance with the path
-  found_at : (q path : Sites) (s : ℕ) (i : Instance) (d : Delay) → path ++ s ∷ [] ≡ q → i.path ≡ path → memory_site i.node d.site d.operand ≡ s → q ≡ delay_place i d
+  found_at : (q path : Sites) (s : ℕ) (i : Instance) (d : Delay) → path ++ s ∷ [] ≡ q → i.path ≡ path → memory_site i.node d.site d.operand ≡ s
+      → q ≡ delay_place i d
   found_at q path s i d e f g = sym e ∙ (λ j. sym f j ++ sym g j ∷ [])
 
   -- what is found is the place of a memory
@@ -88,10 +89,12 @@ module _ (p : ProgramTree) (main : Identifier) (well : AreWell p) (is_node : IsN
       }
 
   -- and that of each memory is found
-  all_memories : (i : Instance) (d : Delay) → IsInstance p main i → IsOnePath paths i → Contains (node_delays i.node) d → Contains (flat_map (places_at next sites start) paths) (delay_place i d)
+  all_memories : (i : Instance) (d : Delay) → IsInstance p main i → IsOnePath paths i → Contains (node_delays i.node) d
+      → Contains (flat_map (places_at next sites start) paths) (delay_place i d)
   all_memories i d inst taken w =
       let s = memory_site i.node d.site d.operand in
-      let there : Contains (sites_at next sites start i.path) s = (sites_of_instance i inst).all s (in_map (λ (d : Delay). memory_site i.node d.site d.operand) (node_delays i.node) d w) in
+      let there : Contains (sites_at next sites start i.path) s = (sites_of_instance i inst).all s
+      (in_map (λ (d : Delay). memory_site i.node d.site d.operand) (node_delays i.node) d w) in
       in_flat_map (places_at next sites start) paths i.path (delay_place i d) taken (in_map (λ s. i.path ++ s ∷ []) (sites_at next sites start i.path) s there)
 
   -- the memories at some places
@@ -128,7 +131,8 @@ module _ (p : ProgramTree) (main : Identifier) (well : AreWell p) (is_node : IsN
       let r = snoc i.path j.path (memory_site i.node d.site d.operand) (memory_site j.node e.site e.operand) same in
       let one = same_instance p main well is_node i j a b r.0 in
       let within : Contains (node_delays j.node) d = subst (λ (i : Instance). Contains (node_delays i.node) d) one w in
-      let site : memory_site j.node d.site d.operand ≡ memory_site j.node e.site e.operand = ap (λ (i : Instance). memory_site i.node d.site d.operand) (sym one) ∙ r.1 in
+      let site : memory_site j.node d.site d.operand ≡ memory_site j.node e.site e.operand = ap (λ (i : Instance). memory_site i.node d.site d.operand)
+      (sym one) ∙ r.1 in
       let kind = same_kind p j.node (well.numbered j.node (node_in p main well is_node j b)) d e within v site in
       ap (λ (i : Instance). memory_at p i d) one ∙ (λ k. record { place = j.path ++ site k ∷ []; kind = kind k })
 

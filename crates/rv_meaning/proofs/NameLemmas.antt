@@ -1,5 +1,6 @@
 -- Names and sites in lists: what determines them.
-use Rattle.std.proofs.Common.{◌≡◌, ℕ, zero, suc, ◌+◌, ◌<◌, ◌↔◌, ◌⊎◌, inl, inr, Bool, true, false, cond, List, [], ◌∷◌, ◌++◌, length, refl, sym, ◌∙◌, ap, subst, arith, get_or, Some, IsSome, length-append}
+use Rattle.std.proofs.Common.{◌≡◌, ℕ, zero, suc, ◌+◌, ◌<◌, ◌↔◌, ◌⊎◌, inl, inr, Bool, true, false, cond, List, [], ◌∷◌, ◌++◌, length, refl, sym, ◌∙◌, ap, subst}
+use Rattle.std.proofs.Common.{arith, get_or, Some, IsSome, length-append}
 use Rattle.std.proofs.Common.{None as Nothing}
 use Rattle.std.specs.Cmp.Lexicographic.{texts_ties}
 use Rattle.std.specs.List.{Contains}
@@ -66,7 +67,8 @@ pub index_at : (xs : List Identifier) (x : Identifier) → Contains xs x → (in
 index_at [] x w = absurd (omega (arith, w.1))
 index_at (y ∷ ys) x w = tested (is_same y x) refl (index_at ys x)
   where
-    tested : (b : Bool) → is_same y x ≡ b → (Contains ys x → (index_of ys x < length ys) × (get_or ys (index_of ys x) [] ≡ x)) → (cond b 0 (index_of ys x + 1) < length (y ∷ ys)) × (get_or (y ∷ ys) (cond b 0 (index_of ys x + 1)) [] ≡ x)
+    tested : (b : Bool) → is_same y x ≡ b → (Contains ys x → (index_of ys x < length ys) × (get_or ys (index_of ys x) [] ≡ x))
+        → (cond b 0 (index_of ys x + 1) < length (y ∷ ys)) × (get_or (y ∷ ys) (cond b 0 (index_of ys x + 1)) [] ≡ x)
     tested true e again = (omega arith, same_text y x e)
     tested false e again =
         let r = again (in_rest y ys x (λ is. no_flag (sym e ∙ ap (λ z. is_same z x) is ∙ text_itself x)) w) in

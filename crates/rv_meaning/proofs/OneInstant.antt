@@ -64,13 +64,17 @@ module _ (program : ProgramTree) (main : Identifier) (state : State) (inputs : �
       has t lt p w g = subst (λ u. cells (alone row) u p ≡ at_state w (alone row) u) (is_first t lt) (here p w g)
 
   -- what an instant has of a giver is there where a run's would be
-  present : (starts : Sites → Value) (others : ℕ → ℕ → Value) (h : History) (t : ℕ) (w : Giver) → IsSome (expected program starts others w (cells h) t) ↔ IsSome (at_state w h t)
+  present : (starts : Sites → Value) (others : ℕ → ℕ → Value) (h : History) (t : ℕ) (w : Giver)
+      → IsSome (expected program starts others w (cells h) t) ↔ IsSome (at_state w h t)
   present starts others h t (Given j) = (λ s. refl, λ s. refl)
-  present starts others h t (Of i k (Body e)) = same_mask (is_there (cells h) (clock_in i k e) t) (is_on_in (get_or h t map.empty) (clock_in i k e)) _ _ (on_there h t (clock_in i k e))
-  present starts others h t (Of i k (Output c j)) = same_mask (is_there (cells h) (absolute i (clock_of_arguments i c.args)) t) (is_on_in (get_or h t map.empty) (absolute i (clock_of_arguments i c.args))) _ _ (on_there h t (absolute i (clock_of_arguments i c.args)))
+  present starts others h t (Of i k (Body e)) = same_mask (is_there (cells h) (clock_in i k e) t) (is_on_in (get_or h t map.empty) (clock_in i k e)) _ _
+      (on_there h t (clock_in i k e))
+  present starts others h t (Of i k (Output c j)) = same_mask (is_there (cells h) (absolute i (clock_of_arguments i c.args)) t)
+      (is_on_in (get_or h t map.empty) (absolute i (clock_of_arguments i c.args))) _ _ (on_there h t (absolute i (clock_of_arguments i c.args)))
 
   -- and a solution has an instant
-  pub instant_of_solution : AreDefined program main → (h : History) → IsSolution program main at_state 1 h → IsInstant program main state inputs (get_or h 0 map.empty)
+  pub instant_of_solution : AreDefined program main → (h : History) → IsSolution program main at_state 1 h
+      → IsInstant program main state inputs (get_or h 0 map.empty)
   instant_of_solution d h s = record {
     places = λ p. s.history.places 0 p (omega arith);
     given = λ j lt. s.has 0 _ _ (omega arith) (given j lt refl);

@@ -16,7 +16,8 @@ pub index_early : (xs ys : List Identifier) (x : Identifier) → index_of xs x <
 index_early [] ys x lt = absurd (omega arith)
 index_early (y ∷ xs) ys x lt = tested (is_same y x) lt (index_early xs ys x)
   where
-    tested : (b : Bool) → cond b 0 (index_of xs x + 1) < length (y ∷ xs) → (index_of xs x < length xs → index_of (xs ++ ys) x ≡ index_of xs x) → cond b 0 (index_of (xs ++ ys) x + 1) ≡ cond b 0 (index_of xs x + 1)
+    tested : (b : Bool) → cond b 0 (index_of xs x + 1) < length (y ∷ xs) → (index_of xs x < length xs → index_of (xs ++ ys) x ≡ index_of xs x)
+        → cond b 0 (index_of (xs ++ ys) x + 1) ≡ cond b 0 (index_of xs x + 1)
     tested true lt again = refl
     tested false lt again = ap (λ k. k + 1) (again (omega arith))
 
@@ -25,7 +26,8 @@ pub index_late : (xs ys : List Identifier) (x : Identifier) → length xs ≤ in
 index_late [] ys x le = sym (zero-add (index_of ys x))
 index_late (y ∷ xs) ys x le = tested (is_same y x) le (index_late xs ys x)
   where
-    tested : (b : Bool) → length (y ∷ xs) ≤ cond b 0 (index_of xs x + 1) → (length xs ≤ index_of xs x → index_of (xs ++ ys) x ≡ length xs + index_of ys x) → cond b 0 (index_of (xs ++ ys) x + 1) ≡ length (y ∷ xs) + index_of ys x
+    tested : (b : Bool) → length (y ∷ xs) ≤ cond b 0 (index_of xs x + 1) → (length xs ≤ index_of xs x → index_of (xs ++ ys) x ≡ length xs + index_of ys x)
+        → cond b 0 (index_of (xs ++ ys) x + 1) ≡ length (y ∷ xs) + index_of ys x
     tested true le again = absurd (omega arith)
     tested false le again = let h = again (omega arith) in omega (arith, h)
 

@@ -15,7 +15,8 @@ Rule = Giver → History → ℕ → Option Value
 
 -- It looks at no more than the earlier instants and what the giver needs.
 abbrev pub IsLocal : ProgramTree → Rule → Type 0
-IsLocal program made = (g h : History) (w : Giver) (t : ℕ) → AreAlike (cells g) (cells h) t → All (IsAlike (cells g) (cells h) t) (needs_of program w) → made w g t ≡ made w h t
+IsLocal program made = (g h : History) (w : Giver) (t : ℕ) → AreAlike (cells g) (cells h) t → All (IsAlike (cells g) (cells h) t) (needs_of program w)
+    → made w g t ≡ made w h t
 
 -- a history of n instants in which each flow has what its giver makes
 pub record IsSolution (program : ProgramTree) (main : Identifier) (made : Rule) (n : ℕ) (h : History) : Type 0 where

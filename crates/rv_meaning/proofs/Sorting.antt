@@ -33,13 +33,15 @@ before_less [] (y ∷ ys) e = tt
 before_less (x ∷ xs) [] e = cc
 before_less (x ∷ xs) (y ∷ ys) e = tested (nat_cmp x y) (ranked x y (nat_cmp x y) refl) e (before_less xs ys)
   where
-    tested : (o : Ordering) → MatchOrdering o (x < y) (x ≡ y) (y < x) → ordering_then o (slice_cmp nat_cmp xs ys) ≡ Less → (slice_cmp nat_cmp xs ys ≡ Less → IsBefore xs ys) → IsBefore (x ∷ xs) (y ∷ ys)
+    tested : (o : Ordering) → MatchOrdering o (x < y) (x ≡ y) (y < x) → ordering_then o (slice_cmp nat_cmp xs ys) ≡ Less
+        → (slice_cmp nat_cmp xs ys ≡ Less → IsBefore xs ys) → IsBefore (x ∷ xs) (y ∷ ys)
     tested Less is e again = inl is
     tested Equal is e again = inr (is, again e)
     tested Greater is e again = cc
 
 -- the first of places in order stands before all others
-before_rest : (q : Place) (rs : List Place) → AllByRecursion (λ r. order q r ≡ Less) rs → (k : ℕ) → k < length (sites_of rs) → IsBefore q.sites (get_or (sites_of rs) k [])
+before_rest : (q : Place) (rs : List Place) → AllByRecursion (λ r. order q r ≡ Less) rs → (k : ℕ) → k < length (sites_of rs)
+    → IsBefore q.sites (get_or (sites_of rs) k [])
 before_rest q [] a k lt = absurd (omega arith)
 before_rest q (r ∷ rs) a zero lt = before_less q.sites r.sites a.0
 before_rest q (r ∷ rs) a (suc k) lt = before_rest q rs a.1 k (omega arith)
@@ -75,7 +77,8 @@ in_sites : (qs : List Place) (q : Place) (r : Sites) → Contains qs q → q.sit
 in_sites qs q r w e = subst (λ (s : Sites). Contains (sites_of qs) s) e (in_map (λ (q : Place). q.sites) qs q w)
 
 -- places that were sorted, of which then only one of each was kept, are the same places in order
-pub are_sorted : (places given up kept : List Place) → given ≡ places → IsPermutation given up → IsSorted order up → kept ≡ dedup same up → AreSorted places kept
+pub are_sorted : (places given up kept : List Place) → given ≡ places → IsPermutation given up → IsSorted order up → kept ≡ dedup same up
+    → AreSorted places kept
 are_sorted places given up kept is moved rises once = record {
   rising = subst (λ (l : List Place). AreRising (sites_of l)) (sym once) (rising (dedup same up) (IsStrictlySortedBy-dedup order_total place_ties up rises));
   all = λ r w.

@@ -43,5 +43,6 @@ module _ (program : ProgramTree) (main : Identifier) (starts : Sites → Value) 
     arguments = λ t i c j e less inst at arg. s.has t _ _ less (by_call i c j e inst at arg refl);
     clocks = λ t i x less inst at.
         let g = d.complete _ (i, x, inst, at, refl) in
-        subst (λ o. IsSome o ↔ (is_there (cells h) (absolute i (clock_of i.node x)) t ≡ true)) (sym (s.has t _ g.0 less g.1)) (d.clocked i x g.0 starts inputs (cells h) t inst at g.1);
+        subst (λ o. IsSome o ↔ (is_there (cells h) (absolute i (clock_of i.node x)) t ≡ true)) (sym (s.has t _ g.0 less g.1))
+        (d.clocked i x g.0 starts inputs (cells h) t inst at g.1);
   }

@@ -48,7 +48,8 @@ module _ (n : NodeTree) where
   pub pre_operand : (at : ℕ) (site : Option ℕ) (e : Tree) → Stands n (Node at site (Pre e)) → Contains (node_delays n) (record { site = site; operand = e })
   pre_operand at site e s = s.delays (record { site = site; operand = e }) (contains_head (record { site = site; operand = e }) (delays e))
 
-  pub current_operand : (at : ℕ) (site : Option ℕ) (e : Tree) → Stands n (Node at site (Current e)) → Contains (node_delays n) (record { site = site; operand = e }) × Stands n e
+  pub current_operand : (at : ℕ) (site : Option ℕ) (e : Tree) → Stands n (Node at site (Current e))
+      → Contains (node_delays n) (record { site = site; operand = e }) × Stands n e
   current_operand at site e s = (
     s.delays (record { site = site; operand = e }) (contains_head (record { site = site; operand = e }) (delays e)),
     record { delays = λ d w. s.delays d (contains_tail (record { site = site; operand = e }) (delays e) d w); calls = λ c w. s.calls c w },

@@ -1,6 +1,7 @@
 -- A history brings a state to each instant, where each `pre` and `current` of a node has a site of its own. Without that
 -- two memories with different values could have one place, and no state would hold both.
-use Rattle.std.proofs.Common.{◌≡◌, ℕ, ◌<◌, Bool, true, false, cond, nat_eq, List, [], ◌∷◌, ◌++◌, length, get_or, refl, sym, ◌∙◌, ap, arith, ◌⊎◌, inl, inr, Option, Some, unwrap_or, ◌||◌}
+use Rattle.std.proofs.Common.{◌≡◌, ℕ, ◌<◌, Bool, true, false, cond, nat_eq, List, [], ◌∷◌, ◌++◌, length, get_or, refl, sym, ◌∙◌, ap, arith, ◌⊎◌, inl, inr}
+use Rattle.std.proofs.Common.{Option, Some, unwrap_or, ◌||◌}
 use Rattle.std.proofs.Common.{None as Nothing}
 use Rattle.std.proofs.lemmas.List.{append_assoc}
 use Rattle.std.specs.List.{Contains}
@@ -30,7 +31,8 @@ module _ {X : Type 0} (key : X → ℕ) where
   found [] x w = absurd (none_in x w)
   found (z ∷ xs) x w = tested (nat_eq (key z) (key x)) refl (found xs x)
     where
-      tested : (b : Bool) → nat_eq (key z) (key x) ≡ b → (Contains xs x → (y : X) × (first_with xs (key x) ≡ Some y) × Contains xs y × (key y ≡ key x)) → (y : X) × (cond b (Some z) (first_with xs (key x)) ≡ Some y) × Contains (z ∷ xs) y × (key y ≡ key x)
+      tested : (b : Bool) → nat_eq (key z) (key x) ≡ b → (Contains xs x → (y : X) × (first_with xs (key x) ≡ Some y) × Contains xs y × (key y ≡ key x))
+          → (y : X) × (cond b (Some z) (first_with xs (key x)) ≡ Some y) × Contains (z ∷ xs) y × (key y ≡ key x)
       tested true e again = (z, refl, contains_head z xs, grind arith)
       tested false e again =
           let other : z ≡ x → ⊥ = λ is. let same : key z ≡ key x = ap key is in grind arith in
@@ -53,10 +55,12 @@ abbrev pub IsName : NodeTree → Tree → Identifier → Type 0
 IsName n e x = (at : ℕ) × (s : Option ℕ) × (e ≡ Node at s (Named x)) × (is_flow n x ≡ true)
 
 -- a memory has the site of its flow or its own
-pub memory_of_either : (n : NodeTree) (site : Option ℕ) (e : Tree) → ((x : Identifier) × IsName n e x × (memory_site n site e ≡ site_of n x)) ⊎ (memory_site n site e ≡ unwrap_or site 0)
+pub memory_of_either : (n : NodeTree) (site : Option ℕ) (e : Tree) → ((x : Identifier) × IsName n e x × (memory_site n site e ≡ site_of n x))
+    ⊎ (memory_site n site e ≡ unwrap_or site 0)
 memory_of_either n site (Node at s (Named x)) = tested (is_flow n x) refl
   where
-    tested : (b : Bool) → is_flow n x ≡ b → ((y : Identifier) × IsName n (Node at s (Named x)) y × (cond b (site_of n x) (unwrap_or site 0) ≡ site_of n y)) ⊎ (cond b (site_of n x) (unwrap_or site 0) ≡ unwrap_or site 0)
+    tested : (b : Bool) → is_flow n x ≡ b → ((y : Identifier) × IsName n (Node at s (Named x)) y × (cond b (site_of n x) (unwrap_or site 0) ≡ site_of n y))
+        ⊎ (cond b (site_of n x) (unwrap_or site 0) ≡ unwrap_or site 0)
     tested true is = inl (x, (at, s, refl, is), refl)
     tested false is = inr refl
 memory_of_either n site (Node at s _) = inr refl

@@ -25,7 +25,8 @@ module _ (program : ProgramTree) (main : Identifier) (starts : Sites → Value) 
 
   module _ (t : ℕ) (state next : State) where
     -- of the states at an instant and at the one after it, the second is the next of the first
-    after : IsStateAt program main starts (cells h) t state → IsStateAt program main starts (cells h) (suc t) next → IsNext program main state (get_or h t empty) next
+    after : IsStateAt program main starts (cells h) t state → IsStateAt program main starts (cells h) (suc t) next
+        → IsNext program main state (get_or h t empty) next
     after f g = record {
       ticks = λ k. g.ticks k ∙ or_comm (is_there (cells h) k t) (was_there (cells h) k t) ∙ (λ j. sym (f.ticks k) j || on_there h t k j);
       memories = λ i d inst at.
@@ -35,11 +36,13 @@ module _ (program : ProgramTree) (main : Identifier) (starts : Sites → Value) 
     }
 
     -- at the instant that is numbered as a sum
-    pub next_state : IsStateAt program main starts (cells h) t state → IsStateAt program main starts (cells h) (t + 1) next → IsNext program main state (get_or h t empty) next
+    pub next_state : IsStateAt program main starts (cells h) t state → IsStateAt program main starts (cells h) (t + 1) next
+        → IsNext program main state (get_or h t empty) next
     next_state f g = after f (subst (λ s. IsStateAt program main starts (cells h) s next) (add-one t) g)
 
     -- and the next of a state of the history is its state at the next instant
-    pub state_after : IsStateAt program main starts (cells h) t state → IsNext program main state (get_or h t empty) next → IsStateAt program main starts (cells h) (suc t) next
+    pub state_after : IsStateAt program main starts (cells h) t state → IsNext program main state (get_or h t empty) next
+        → IsStateAt program main starts (cells h) (suc t) next
     state_after f g = record {
       ticks = λ k. g.ticks k ∙ (λ j. f.ticks k j || sym (on_there h t k) j) ∙ or_comm (was_there (cells h) k t) (is_there (cells h) k t);
       memories = λ i d inst at.
@@ -50,7 +53,8 @@ module _ (program : ProgramTree) (main : Identifier) (starts : Sites → Value) 
 module _ (program : ProgramTree) (main : Identifier) (starts : Sites → Value) (inputs : ℕ → ℕ → Value) (n : ℕ) (rows : History) (states : ℕ → State) where
   -- rows that are instants at the states of their history are a run
   pub run_of_instants : AreStarts program main starts → AreInputs program main n inputs → length rows ≡ n
-      → ((t : ℕ) → t < n → IsStateAt program main starts (cells rows) t (states t)) → ((t : ℕ) → t < n → IsInstant program main (states t) (inputs t) (get_or rows t empty))
+      → ((t : ℕ) → t < n → IsStateAt program main starts (cells rows) t (states t))
+      → ((t : ℕ) → t < n → IsInstant program main (states t) (inputs t) (get_or rows t empty))
       → IsRun program main starts inputs n rows
   run_of_instants starts_typed inputs_typed long at_states at_rows = record {
     starts_typed = starts_typed;
@@ -62,7 +66,8 @@ module _ (program : ProgramTree) (main : Identifier) (starts : Sites → Value) 
         ∙ sym (right_followed program starts (states t) rows t f.ticks i x (clock_of i.node x) r right (λ d w. f.memories i d inst w));
     arguments = λ t i c j e lt inst at arg. let f = at_states t lt in
         (at_rows t lt).arguments i c j e inst at arg
-        ∙ sym (value_followed program starts (states t) rows t f.ticks i (clock_of_arguments i c.args) e (λ d inner. f.memories i d inst (of_argument c j e d arg inner i.node at)));
+        ∙ sym (value_followed program starts (states t) rows t f.ticks i (clock_of_arguments i c.args) e
+        (λ d inner. f.memories i d inst (of_argument c j e d arg inner i.node at)));
     clocks = λ t i x lt inst at.
         let there = (at_rows t lt).clocks i x inst at in
         let on = on_there rows t (absolute i (clock_of i.node x)) in
@@ -78,5 +83,6 @@ module _ (program : ProgramTree) (main : Identifier) (starts : Sites → Value) 
       state_after program main starts rows t (states t) (states (suc t)) (states_of_steps s t (omega arith)) next
 
   -- and are a run
-  pub run_of_steps : AreStarts program main starts → AreInputs program main n inputs → AreSteps program main starts inputs n states rows → IsRun program main starts inputs n rows
+  pub run_of_steps : AreStarts program main starts → AreInputs program main n inputs → AreSteps program main starts inputs n states rows
+      → IsRun program main starts inputs n rows
   run_of_steps starts_typed inputs_typed s = run_of_instants starts_typed inputs_typed s.instants (λ t lt. states_of_steps s t (omega arith)) s.instant

@@ -1,5 +1,6 @@
 -- What tells the type of an expression tells it rightly, where the expression has one.
-use Rattle.std.proofs.Common.{◌≡◌, ℕ, ◌+◌, ◌≤◌, Bool, true, false, ◌&&◌, ◌||◌, cond, List, [], ◌∷◌, map, reverse, length, unwrap_or, refl, sym, ◌∙◌, ap, arith, Option, Some, is_some, slice_get, add-zero, add-one}
+use Rattle.std.proofs.Common.{◌≡◌, ℕ, ◌+◌, ◌≤◌, Bool, true, false, ◌&&◌, ◌||◌, cond, List, [], ◌∷◌, map, reverse, length, unwrap_or, refl, sym, ◌∙◌, ap, arith}
+use Rattle.std.proofs.Common.{Option, Some, is_some, slice_get, add-zero, add-one}
 use Rattle.std.proofs.Common.{None as Nothing}
 use Rattle.std.proofs.lemmas.Option.{none-some, same_Some, slice_get-map, slice_get_past}
 use Rattle.std.specs.Option.{option_map}
@@ -8,17 +9,20 @@ use Rattle.rv_tree.specs.declared.tree.TypeDecl.{TypeDecl}
 use Rattle.rv_tree.specs.declared.tree.TypeName.{TypeName}
 use Rattle.rv_tree.specs.declared.tree.Op.{Op}
 use Rattle.rv_tree.specs.declared.tree.Op.TheVariants as op
-use Rattle.rv_tree.specs.Tree.{Tree, Node, Form, True, False, Number, Named, Not, Minus, Pre, Current, When, Binary, If, AtMostOne, Call, ConstantTree, NodeTree, ProgramTree}
+use Rattle.rv_tree.specs.Tree.{Tree, Node, Form, True, False, Number, Named, Not, Minus, Pre, Current, When, Binary, If, AtMostOne, Call, ConstantTree}
+use Rattle.rv_tree.specs.Tree.{NodeTree, ProgramTree}
 use Rattle.rv_tree.specs.Places.{Identifier, flows, is_same, is_flow, is_among, index_of, site_of}
 use Rattle.rv_types.specs.declared.typed.Kind.{Kind}
 use Rattle.rv_types.specs.declared.typed.Kind.TheVariants as kind
 use Rattle.rv_types.specs.declared.fault.Verdict.TheVariants.{Has, Silent, Clashes, Multiplies}
 use Rattle.rv_types.specs.Names.{is_declared, labels_of}
 use Rattle.rv_types.specs.Kinds.{flow_kinds, flow_kind, LabelPlace, number_from, label_from, label_of, node_among, kind_in_program}
-use Rattle.rv_types.specs.Types.{Signature, Scope, kind_in, same_kind, memory_rule, not_rule, minus_rule, when_rule, when_of, if_rule, binary_rule, both_are, all_typed, all_suit, fit, call_of, is_constant, form_verdict, kinds_of_all, kind_of}
+use Rattle.rv_types.specs.Types.{Signature, Scope, kind_in, same_kind, memory_rule, not_rule, minus_rule, when_rule, when_of, if_rule, binary_rule, both_are}
+use Rattle.rv_types.specs.Types.{all_typed, all_suit, fit, call_of, is_constant, form_verdict, kinds_of_all, kind_of}
 use Rattle.rv_types.specs.Scopes.{label_kind, constant_scope, as_declared, constant_kind_after, constant_kind, value_kind, signature_of, node_scope}
 use Rattle.rv_meaning.specs.Leading.{node_texts}
-use Rattle.rv_meaning.specs.Telling.{Telling, Itself, OfName, OfCallee, result_kind, telling, form_telling, label_told, constant_told, name_told, output_of, told}
+use Rattle.rv_meaning.specs.Telling.{Telling, Itself, OfName, OfCallee, result_kind, telling, form_telling, label_told, constant_told, name_told, output_of}
+use Rattle.rv_meaning.specs.Telling.{told}
 use Rattle.rv_meaning.proofs.FlowSites.{kinds_many, output_kind}
 use Rattle.rv_meaning.proofs.TypedOperators.{met_kind, one_kind, two_kinds, three_kinds}
 use Rattle.rv_meaning.proofs.TypedTrees.{all_kind, sole_output}
@@ -115,13 +119,15 @@ label_right i (d ∷ ds) x l e = tested (number_from 0 (labels_of d) x) (has_num
         → elim o as (λ _. Option LabelPlace) [ Nothing ↦ label_from (i + 1) ds x | Some k ↦ Some (record { declaration = i; number = k }) ] ≡ Some l
         → cond (is_declared (labels_of d) x) (kind.Labels i) (label_told (i + 1) ds x) ≡ kind.Labels l.declaration
     tested Nothing is again e = ap (λ b. cond b (kind.Labels i) (label_told (i + 1) ds x)) (sym is) ∙ again e
-    tested (Some k) is again e = ap (λ b. cond b (kind.Labels i) (label_told (i + 1) ds x)) (sym is) ∙ ap (λ (l : LabelPlace). kind.Labels l.declaration) (same_Some _ l e)
+    tested (Some k) is again e = ap (λ b. cond b (kind.Labels i) (label_told (i + 1) ds x)) (sym is)
+        ∙ ap (λ (l : LabelPlace). kind.Labels l.declaration) (same_Some _ l e)
 
 module _ (p : ProgramTree) where
   label_known : (x : Identifier) (k : Kind) → label_kind p x ≡ Some k → label_told 0 p.types x ≡ k
   label_known x k e = tested (label_of p x) refl e
     where
-      tested : (o : Option LabelPlace) → label_of p x ≡ o → elim o as (λ _. Option Kind) [ Nothing ↦ Nothing | Some l ↦ Some (kind.Labels l.declaration) ] ≡ Some k → label_told 0 p.types x ≡ k
+      tested : (o : Option LabelPlace) → label_of p x ≡ o → elim o as (λ _. Option Kind) [ Nothing ↦ Nothing | Some l ↦ Some (kind.Labels l.declaration) ]
+          ≡ Some k → label_told 0 p.types x ≡ k
       tested Nothing is e = absurd (none-some k e)
       tested (Some l) is e = label_right 0 p.types x l is ∙ same_Some (kind.Labels l.declaration) k e
 
@@ -140,7 +146,8 @@ module _ (p : ProgramTree) where
   constant_right [] x k e = label_known x k e
   constant_right (c ∷ before) x k e = tested (is_same c.name.text x) (λ y e. constant_right before y k e) e
     where
-      by_telling : (t : Telling) → ((y : Identifier) → constant_kind_after p before y ≡ Some k → constant_told p before y ≡ k) → meant (constant_scope (constant_kind_after p before)) t ≡ Some k
+      by_telling : (t : Telling) → ((y : Identifier) → constant_kind_after p before y ≡ Some k → constant_told p before y ≡ k)
+          → meant (constant_scope (constant_kind_after p before)) t ≡ Some k
           → elim t as (λ _. Kind) [ Itself k ↦ k | OfName y ↦ constant_told p before y | OfCallee f ↦ kind.Bool ] ≡ k
       by_telling (Itself j) again e = same_Some j k e
       by_telling (OfName y) again e = again y e
@@ -148,7 +155,8 @@ module _ (p : ProgramTree) where
 
       tested : (b : Bool) → ((y : Identifier) → constant_kind_after p before y ≡ Some k → constant_told p before y ≡ k)
           → cond b (as_declared p c.kind (kind_of (constant_scope (constant_kind_after p before)) c.body)) (constant_kind_after p before x) ≡ Some k
-          → cond b (elim (telling c.body) as (λ _. Kind) [ Itself k ↦ k | OfName y ↦ constant_told p before y | OfCallee f ↦ kind.Bool ]) (constant_told p before x) ≡ k
+          → cond b (elim (telling c.body) as (λ _. Kind) [ Itself k ↦ k | OfName y ↦ constant_told p before y | OfCallee f ↦ kind.Bool ])
+          (constant_told p before x) ≡ k
       tested true again e = by_telling (telling c.body) again (told_right (constant_scope (constant_kind_after p before)) c.body k (of_body c.kind _ k e))
       tested false again e = again x e
 
@@ -188,14 +196,18 @@ module _ (p : ProgramTree) (n : NodeTree) where
 
   -- the type of an output by the node of its number, and by the types of its flows
   abbrev by_node : ℕ → Option NodeTree → Option Kind
-  by_node j o = elim o as (λ _. Option Kind)
-      [ Nothing ↦ Nothing | Some m ↦ elim (slice_get (map (flow_kinds p) p.nodes) j) as (λ _. Option Kind) [ Nothing ↦ Nothing | Some ks ↦ slice_get ks (length m.inputs) ] ]
+  by_node j o = elim o as (λ _. Option Kind) [
+    | Nothing ↦ Nothing
+    | Some m ↦ elim (slice_get (map (flow_kinds p) p.nodes) j) as
+        (λ _. Option Kind) [ Nothing ↦ Nothing | Some ks ↦ slice_get ks (length m.inputs) ]
+  ]
 
   abbrev by_kinds : NodeTree → Option (List Kind) → Option Kind
   by_kinds m o = elim o as (λ _. Option Kind) [ Nothing ↦ Nothing | Some ks ↦ slice_get ks (length m.inputs) ]
 
   -- the type of a node's output is told
-  output_right : (f : Identifier) (k : Kind) → meant (node_scope p n) (OfCallee f) ≡ Some k → output_of p (map (flow_kinds p) p.nodes) (index_of (node_texts p.nodes) f) ≡ Some k
+  output_right : (f : Identifier) (k : Kind) → meant (node_scope p n) (OfCallee f) ≡ Some k
+      → output_of p (map (flow_kinds p) p.nodes) (index_of (node_texts p.nodes) f) ≡ Some k
   output_right f k e = tested (node_among p.nodes f) refl e
     where
       tested : (o : Option NodeTree) → node_among p.nodes f ≡ o
@@ -214,7 +226,12 @@ module _ (p : ProgramTree) (n : NodeTree) where
   told_in_node e k h = by_telling (telling e) (told_right (node_scope p n) e k h)
     where
       by_telling : (t : Telling) → meant (node_scope p n) t ≡ Some k
-          → elim t as (λ _. Kind) [ Itself k ↦ k | OfName x ↦ name_told p n (flow_kinds p n) x | OfCallee f ↦ unwrap_or (output_of p (map (flow_kinds p) p.nodes) (index_of (node_texts p.nodes) f)) kind.Bool ] ≡ k
+          → elim t as (λ _. Kind) [
+            | Itself k ↦ k
+            | OfName x ↦ name_told p n (flow_kinds p n) x
+            | OfCallee f ↦ unwrap_or
+                (output_of p (map (flow_kinds p) p.nodes) (index_of (node_texts p.nodes) f)) kind.Bool
+          ] ≡ k
       by_telling (Itself j) e = same_Some j k e
       by_telling (OfName x) e = name_right x k e
       by_telling (OfCallee f) e = ap (λ o. unwrap_or o kind.Bool) (output_right f k e)

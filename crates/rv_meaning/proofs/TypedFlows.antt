@@ -1,6 +1,7 @@
 -- Where the memories and inputs of an instant have values of their types, so have its flows, and so have the memories after
 -- it.
-use Rattle.std.proofs.Common.{◌≡◌, ℕ, zero, suc, ◌<◌, ◌≤◌, ◌⊎◌, Bool, unwrap_or, List, [], ◌∷◌, length, get_or, refl, sym, ◌∙◌, ap, subst, inl, inr, arith, Option, Some, IsSome, slice_get}
+use Rattle.std.proofs.Common.{◌≡◌, ℕ, zero, suc, ◌<◌, ◌≤◌, ◌⊎◌, Bool, unwrap_or, List, [], ◌∷◌, length, get_or, refl, sym, ◌∙◌, ap, subst, inl, inr, arith}
+use Rattle.std.proofs.Common.{Option, Some, IsSome, slice_get}
 use Rattle.std.proofs.Common.{None as Nothing}
 use Rattle.std.proofs.lemmas.Bool.{cases_lt}
 use Rattle.std.proofs.lemmas.List.{append_assoc, length-map, get_or_default}
@@ -19,7 +20,8 @@ use Rattle.rv_types.specs.Kinds.{kind_in_program, decl_kinds, flow_kind}
 use Rattle.rv_types.specs.Types.{kind_of}
 use Rattle.rv_types.specs.Scopes.{node_scope}
 use Rattle.rv_types.specs.Values.{HasKind, operand_kind}
-use Rattle.rv_types.specs.Instances.{Right, Body, Output, IsRight, taken, clock_of, clock_in, clock_taken, clock_of_arguments, Instance, place, absolute, node_of, callee, IsInstance, is_main, is_callee, output_place, IsNode}
+use Rattle.rv_types.specs.Instances.{Right, Body, Output, IsRight, taken, clock_of, clock_in, clock_taken, clock_of_arguments, Instance, place, absolute}
+use Rattle.rv_types.specs.Instances.{node_of, callee, IsInstance, is_main, is_callee, output_place, IsNode}
 use Rattle.rv_types.specs.Needs.{Giver, Of, Gives, by_equation, by_call, flow_of, needs, needs_of, IsAmongFirst, IsSequence}
 use Rattle.rv_types.specs.WellFormed.{Suits, AreWell}
 use Rattle.rv_meaning.specs.Meaning.{held, kept_place}
@@ -39,29 +41,38 @@ some_kind Nothing h = absurd (no_flag h)
 some_kind (Some k) h = refl
 
 -- each input has a type
-some_input : (program : ProgramTree) (main : Identifier) (j : ℕ) → j < length (node_of program main).inputs → (k : Kind) × (slice_get (decl_kinds program (node_of program main).inputs) j ≡ Some k)
+some_input : (program : ProgramTree) (main : Identifier) (j : ℕ) → j < length (node_of program main).inputs
+    → (k : Kind) × (slice_get (decl_kinds program (node_of program main).inputs) j ≡ Some k)
 some_input program main j lt =
-    let long : length (decl_kinds program (node_of program main).inputs) ≡ length (node_of program main).inputs = length-map (node_of program main).inputs (λ d. kind_in_program program d.kind) in
-    (get_or (decl_kinds program (node_of program main).inputs) j kind.Bool, slice_get-get_or (decl_kinds program (node_of program main).inputs) j kind.Bool (omega arith))
+    let long : length (decl_kinds program (node_of program main).inputs) ≡ length (node_of program main).inputs = length-map (node_of program main).inputs
+    (λ d. kind_in_program program d.kind) in (
+      get_or (decl_kinds program (node_of program main).inputs) j kind.Bool,
+      slice_get-get_or (decl_kinds program (node_of program main).inputs) j kind.Bool
+          (omega arith),
+    )
 
-module _ (program : ProgramTree) (main : Identifier) (well : AreWell program) (is_node : IsNode program main) (state : State) (inputs : ℕ → Value) (row : Instant)
+module _ (program : ProgramTree) (main : Identifier) (well : AreWell program) (is_node : IsNode program main) (state : State) (inputs : ℕ → Value)
+    (row : Instant)
     (starts : AreStarts program main state.kept) (given : AreGiven program main inputs) (instant : IsInstant program main state inputs row) where
   module _ (sequence : List Sites) (ordered : IsSequence program main sequence) where
     module _ (n : ℕ) (lt : n < length sequence) (earlier : (j : ℕ) → j < n → TypedAt program main row (get_or sequence j [])) where
       -- what a giver of this flow needs is known
       needed : (g : Giver) → Gives program main (get_or sequence n []) g → All (TypedAt program main row) (needs_of program g)
       needed g gives =
-          All-weaker (IsAmongFirst program main sequence n) (TypedAt program main row) (λ q among. subst (TypedAt program main row) among.2 (earlier among.0 among.1)) (needs_of program g)
+          All-weaker (IsAmongFirst program main sequence n) (TypedAt program main row)
+          (λ q among. subst (TypedAt program main row) among.2 (earlier among.0 among.1)) (needs_of program g)
           (ordered.after n g lt gives)
 
       -- where it is an input
-      by_input : (i : Instance) → IsInstance program main i → (x : Identifier) (k : Kind) (v : Value) → site_of i.node x < length i.node.inputs → get_or sequence n [] ≡ place i x
+      by_input : (i : Instance) → IsInstance program main i → (x : Identifier) (k : Kind) (v : Value) → site_of i.node x < length i.node.inputs
+          → get_or sequence n [] ≡ place i x
           → flow_kind program i.node x ≡ Some k → cell row (place i x) ≡ Some v → HasKind program k v
       by_input _ is_main x k v within is e has =
           let own = some_input program main (site_of (node_of program main) x) within in
           let same : own.0 ≡ k = same_Some own.0 k (sym (input_kind program (node_of program main) (site_of (node_of program main) x) own.0 own.1) ∙ e) in
           let value : inputs (site_of (node_of program main) x) ≡ v = same_Some _ v (sym (instant.given (site_of (node_of program main) x) within) ∙ has) in
-          subst (HasKind program k) value (subst (λ k. HasKind program k (inputs (site_of (node_of program main) x))) same (given (site_of (node_of program main) x) own.0 own.1))
+          subst (HasKind program k) value (subst (λ k. HasKind program k (inputs (site_of (node_of program main) x))) same
+          (given (site_of (node_of program main) x) own.0 own.1))
       by_input _ (is_callee {i = i} c inst at) x k v within is e has =
           let d : Instance = callee program i c in
           let s : ℕ = site_of d.node x in
@@ -75,7 +86,8 @@ module _ (program : ProgramTree) (main : Identifier) (well : AreWell program) (i
           (types.1 ∙ ap Some same) (sym (instant.arguments i c s arg.0 inst at arg.1) ∙ ap (cell row) (sym here) ∙ has)
 
       -- where it has a right side
-      by_right : (i : Instance) → IsInstance program main i → (x : Identifier) (r : Right) → IsRight i.node x r → (k : Kind) (v : Value) → get_or sequence n [] ≡ place i x
+      by_right : (i : Instance) → IsInstance program main i → (x : Identifier) (r : Right) → IsRight i.node x r → (k : Kind) (v : Value)
+          → get_or sequence n [] ≡ place i x
           → flow_kind program i.node x ≡ Some k → cell row (place i x) ≡ Some v → HasKind program k v
       by_right i inst x (Body e) right k v is kinds has =
           let types = (typed program main well is_node i inst).body x e right in
@@ -87,11 +99,13 @@ module _ (program : ProgramTree) (main : Identifier) (well : AreWell program) (i
       by_right i inst x (Output c j) right k v is kinds has =
           let types = (typed program main well is_node i inst).output x c j right in
           let same : types.0 ≡ k = same_Some types.0 k (sym types.2 ∙ kinds) in
-          let there = cond_some (is_on_in row (absolute i (clock_of_arguments i c.args))) (held (cell row (output_place program i c.site c.name j))) v (sym (instant.equations i x (Output c j) inst right) ∙ has) in
+          let there = cond_some (is_on_in row (absolute i (clock_of_arguments i c.args))) (held (cell row (output_place program i c.site c.name j))) v
+          (sym (instant.equations i x (Output c j) inst right) ∙ has) in
           let known = needed (Of i (clock_of i.node x) (Output c j)) (by_equation i x (Output c j) inst right (sym is)) in
           subst (HasKind program k) there.1
           (output_typed program main well is_node row instant.clocks i inst c j k (output_call i.node x c j right) (types.1 ∙ ap Some same) there.0
-          (all_right (TypedAt program main row) (flow_of (absolute i (clock_of_arguments i c.args))) (output_place program i c.site c.name j ∷ []) known 0 (output_place program i c.site c.name j) (omega arith)))
+          (all_right (TypedAt program main row) (flow_of (absolute i (clock_of_arguments i c.args))) (output_place program i c.site c.name j ∷ []) known 0
+          (output_place program i c.site c.name j) (omega arith)))
 
       -- the flow has a value of its type
       flow_typed : TypedAt program main row (get_or sequence n [])
@@ -109,7 +123,8 @@ module _ (program : ProgramTree) (main : Identifier) (well : AreWell program) (i
       where
         by_order : (j < n) ⊎ (n ≤ j) → ((j : ℕ) → j < n → TypedAt program main row (get_or sequence j [])) → TypedAt program main row (get_or sequence j [])
         by_order (inl below) before = before j below
-        by_order (inr above) before = let same : n ≡ j = omega arith in subst (λ j. TypedAt program main row (get_or sequence j [])) same (flow_typed n (omega arith) before)
+        by_order (inr above) before = let same : n ≡ j = omega arith in
+            subst (λ j. TypedAt program main row (get_or sequence j [])) same (flow_typed n (omega arith) before)
 
     -- the flow at each place
     pub place_typed : (p : Sites) → TypedAt program main row p
@@ -123,12 +138,16 @@ module _ (program : ProgramTree) (main : Identifier) (well : AreWell program) (i
     typed_instant i x k v inst w e has = place_typed (place i x) i x k v inst w refl e has
 
     -- each memory after the instant has a value of its type
-    pub typed_next : ((i : Instance) (d : Delay) → IsInstance program main i → Contains (node_delays i.node) d → Suits (taken Base (pace i.node d.operand)) (pace i.node d.operand))
+    pub typed_next : ((i : Instance) (d : Delay) → IsInstance program main i → Contains (node_delays i.node) d
+        → Suits (taken Base (pace i.node d.operand)) (pace i.node d.operand))
         → (next : State) → IsNext program main state row next → AreStarts program main next.kept
     typed_next suits next after i d inst w =
         let k : Kind = operand_kind program i.node d.operand in
         subst (HasKind program k) (sym (after.memories i d inst w))
-        (current_typed program main well is_node row instant.clocks state starts i inst (is_on_in row (clock_in i Base d.operand)) k (now program state row i d.operand) (state.kept (kept_place i d.site d.operand))
-        (λ there. tree_typed program main well is_node row instant.clocks state starts i inst (clock_taken i Base d.operand) d.operand k (operand_stands i.node d w) (suits i d inst w) there
-        (λ j p lt. place_typed (get_or (needs program i (clock_taken i Base d.operand) d.operand) j p)) (some_kind (kind_of (node_scope program i.node) d.operand) ((typed program main well is_node i inst).delay d w)))
+        (current_typed program main well is_node row instant.clocks state starts i inst (is_on_in row (clock_in i Base d.operand)) k
+        (now program state row i d.operand) (state.kept (kept_place i d.site d.operand))
+        (λ there. tree_typed program main well is_node row instant.clocks state starts i inst (clock_taken i Base d.operand) d.operand k
+        (operand_stands i.node d w) (suits i d inst w) there
+        (λ j p lt. place_typed (get_or (needs program i (clock_taken i Base d.operand) d.operand) j p))
+        (some_kind (kind_of (node_scope program i.node) d.operand) ((typed program main well is_node i inst).delay d w)))
         (starts i d inst w))

@@ -100,7 +100,8 @@ module _ (program : ProgramTree) where
   operator_typed scaled first op.Mod i j k v w e p q = absurd (none-some k e)
 
   -- one of the last two parts of an `if`
-  pub if_typed : (b : Bool) (h i j k : Kind) (v w : Value) → kind_in (if_rule h i j) ≡ Some k → HasKind program i v → HasKind program j w → HasKind program k (cond b v w)
+  pub if_typed : (b : Bool) (h i j k : Kind) (v w : Value) → kind_in (if_rule h i j) ≡ Some k → HasKind program i v → HasKind program j w
+      → HasKind program k (cond b v w)
   if_typed b h i j k v w e p q =
       let m = met_kind (same_kind h kind.Bool && same_kind i j) i k e in
       let same : i ≡ j = same_kinds i j (both_hold (same_kind h kind.Bool) (same_kind i j) m.0).1 in

@@ -27,14 +27,18 @@ AreNumbered program = (n : NodeTree) → Contains program.nodes n → IsNumbered
 
 -- the operand of each `pre` and `current` has one clock
 abbrev pub HaveOneClock : ProgramTree → Type 0
-HaveOneClock program = (n : NodeTree) (d : Delay) → Contains program.nodes n → Contains (node_delays n) d → Suits (taken Base (pace n d.operand)) (pace n d.operand)
+HaveOneClock program = (n : NodeTree) (d : Delay) → Contains program.nodes n → Contains (node_delays n) d
+    → Suits (taken Base (pace n d.operand)) (pace n d.operand)
 
-module _ (program : ProgramTree) (main : Identifier) (well : AreWell program) (is_node : IsNode program main) (sequence : List Sites) (ordered : IsSequence program main sequence)
-    (numbered : AreNumbered program) (clocks : HaveOneClock program) (starts : Sites → Value) (inputs : ℕ → ℕ → Value) (n : ℕ) (h : History) (run : IsRun program main starts inputs n h) where
+module _ (program : ProgramTree) (main : Identifier) (well : AreWell program) (is_node : IsNode program main) (sequence : List Sites)
+    (ordered : IsSequence program main sequence)
+    (numbered : AreNumbered program) (clocks : HaveOneClock program) (starts : Sites → Value) (inputs : ℕ → ℕ → Value) (n : ℕ) (h : History)
+    (run : IsRun program main starts inputs n h) where
   -- at the first instant they are the start values
   first_typed : (state : State) → IsStateAt program main starts (cells h) 0 state → AreStarts program main state.kept
   first_typed state at i d inst w =
-      subst (HasKind program (operand_kind program i.node d.operand)) (sym (((start_state program main starts h state).0 at).memories i d inst w)) (run.starts_typed i d inst w)
+      subst (HasKind program (operand_kind program i.node d.operand)) (sym (((start_state program main starts h state).0 at).memories i d inst w))
+      (run.starts_typed i d inst w)
 
   -- so each memory has a value of its type
   pub typed_at : (t : ℕ) → t ≤ n → (state : State) → IsStateAt program main starts (cells h) t state → AreStarts program main state.kept

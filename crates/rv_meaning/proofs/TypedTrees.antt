@@ -1,6 +1,7 @@
 -- What an expression of an instance has in a row has its type, where its clock is there and the flows that it needs have
 -- theirs.
-use Rattle.std.proofs.Common.{◌≡◌, ℕ, ◌+◌, ◌<◌, ◌↔◌, pos, Bool, true, false, not, ◌||◌, cond, unwrap_or, List, [], ◌∷◌, ◌++◌, refl, sym, ◌∙◌, ap, subst, arith, Option, Some, IsSome, slice_get, length}
+use Rattle.std.proofs.Common.{◌≡◌, ℕ, ◌+◌, ◌<◌, ◌↔◌, pos, Bool, true, false, not, ◌||◌, cond, unwrap_or, List, [], ◌∷◌, ◌++◌, refl, sym, ◌∙◌, ap, subst, arith}
+use Rattle.std.proofs.Common.{Option, Some, IsSome, slice_get, length}
 use Rattle.std.proofs.Common.{None as Nothing}
 use Rattle.std.proofs.lemmas.List.{append_assoc, length-map}
 use Rattle.std.proofs.lemmas.Option.{none-some, same_Some, cond_some, slice_get_within}
@@ -19,10 +20,12 @@ use Rattle.rv_types.specs.declared.fault.Pace.TheVariants.{Free, At}
 use Rattle.rv_types.specs.declared.fault.Verdict.TheVariants.{Has, Silent, Clashes}
 use Rattle.rv_types.specs.Clocks.{pace, pace_of_all, seen, meet, form_pace, clock_at}
 use Rattle.rv_types.specs.Kinds.{kind_in_program, decl_kinds, flow_kind, node_named}
-use Rattle.rv_types.specs.Types.{kind_in, same_kind, one_of, where_met, memory_rule, not_rule, minus_rule, when_rule, if_rule, binary_rule, all_typed, all_suit, fit, sole, call_of, is_constant, form_verdict, kinds_of_all, kind_of}
+use Rattle.rv_types.specs.Types.{kind_in, same_kind, one_of, where_met, memory_rule, not_rule, minus_rule, when_rule, if_rule, binary_rule, all_typed, all_suit}
+use Rattle.rv_types.specs.Types.{fit, sole, call_of, is_constant, form_verdict, kinds_of_all, kind_of}
 use Rattle.rv_types.specs.Scopes.{constant_kind, constant_value, signature_of, signature_named, node_scope}
 use Rattle.rv_types.specs.Values.{HasKind, operand_kind}
-use Rattle.rv_types.specs.Instances.{CallTree, calls, clock_of, clock_taken, clock_in, clock_of_arguments, Instance, place, absolute, no_node, node_of, callee, IsInstance, is_callee, output_place, IsNode}
+use Rattle.rv_types.specs.Instances.{CallTree, calls, clock_of, clock_taken, clock_in, clock_of_arguments, Instance, place, absolute, no_node, node_of, callee}
+use Rattle.rv_types.specs.Instances.{IsInstance, is_callee, output_place, IsNode}
 use Rattle.rv_types.specs.Needs.{flow_of, needs, form_needs}
 use Rattle.rv_types.specs.WellFormed.{Suits, AreWell}
 use Rattle.rv_meaning.specs.Meaning.{is_true, held, is_on, kept_place}
@@ -51,7 +54,8 @@ all_kind true met k e = (met_kind met kind.Bool k e).1
 all_kind false met k e = absurd (none-some k e)
 
 -- a call that has a type has one output, of that type
-pub sole_output : (typed fits : Bool) (gives : List Kind) (k : Kind) → kind_in (cond typed (cond fits (sole gives) Clashes) Silent) ≡ Some k → slice_get gives 0 ≡ Some k
+pub sole_output : (typed fits : Bool) (gives : List Kind) (k : Kind) → kind_in (cond typed (cond fits (sole gives) Clashes) Silent) ≡ Some k
+    → slice_get gives 0 ≡ Some k
 sole_output true true [] k e = absurd (none-some k e)
 sole_output true true (j ∷ []) k e = e
 sole_output true true (j ∷ i ∷ ks) k e = absurd (none-some k e)
@@ -62,7 +66,8 @@ sole_output false fits gives k e = absurd (none-some k e)
 pub call_kind : (program : ProgramTree) (f : Identifier) (ks : List (Option Kind)) (k : Kind) → kind_in (call_of true (signature_named program f) ks) ≡ Some k
     → slice_get (decl_kinds program (node_of program f).outputs) 0 ≡ Some k
 call_kind program f ks k e = elim (node_named program f)
-    as (λ m. kind_in (call_of true (option_map (signature_of program) m) ks) ≡ Some k → slice_get (decl_kinds program (unwrap_or m no_node).outputs) 0 ≡ Some k) [
+    as (λ m. kind_in (call_of true (option_map (signature_of program) m) ks) ≡ Some k
+    → slice_get (decl_kinds program (unwrap_or m no_node).outputs) 0 ≡ Some k) [
       | Nothing ↦ λ e. absurd (none-some k e)
       | Some m ↦ λ e. sole_output (all_typed ks) (fit (decl_kinds program m.inputs) ks) (decl_kinds program m.outputs) k e
     ] e
@@ -85,18 +90,22 @@ module _ (program : ProgramTree) (main : Identifier) (row : Instant) where
       let there : IsSome (cell row p) = subst (λ q. IsSome (cell row q)) (sym is) ((clocked i x inst w).1 on) in
       known i x k (held (cell row p)) inst w is e (some_held (cell row p) there)
 
-module _ (program : ProgramTree) (main : Identifier) (well : AreWell program) (is_node : IsNode program main) (row : Instant) (clocked : AreOnClock program main row) where
+module _ (program : ProgramTree) (main : Identifier) (well : AreWell program) (is_node : IsNode program main) (row : Instant)
+    (clocked : AreOnClock program main row) where
   -- an output of a call whose arguments' clock is there holds a value of its type
-  pub output_typed : (i : Instance) → IsInstance program main i → (c : CallTree) (j : ℕ) (k : Kind) → Contains (calls i.node) c → slice_get (decl_kinds program (node_of program c.name).outputs) j ≡ Some k
+  pub output_typed : (i : Instance) → IsInstance program main i → (c : CallTree) (j : ℕ) (k : Kind) → Contains (calls i.node) c
+      → slice_get (decl_kinds program (node_of program c.name).outputs) j ≡ Some k
       → is_on_in row (absolute i (clock_of_arguments i c.args)) ≡ true → TypedAt program main row (output_place program i c.site c.name j)
       → HasKind program k (held (cell row (output_place program i c.site c.name j)))
-  output_typed i inst c j k w e on known = of_flow (flow_at program main well is_node d (is_callee c inst w) (length d.node.inputs + j) k (output_kind program d.node j k e))
+  output_typed i inst c j k w e on known = of_flow (flow_at program main well is_node d (is_callee c inst w) (length d.node.inputs + j) k
+      (output_kind program d.node j k e))
     where
       d : Instance
       d = callee program i c
 
       lt : j < length d.node.outputs
-      lt = let below = slice_get_within (decl_kinds program d.node.outputs) j k e in omega (arith, length-map d.node.outputs (λ d. kind_in_program program d.kind))
+      lt = let below = slice_get_within (decl_kinds program d.node.outputs) j k e in
+          omega (arith, length-map d.node.outputs (λ d. kind_in_program program d.kind))
 
       of_flow : FlowAt program d.node (length d.node.inputs + j) k → HasKind program k (held (cell row (output_place program i c.site c.name j)))
       of_flow f =
@@ -114,14 +123,16 @@ module _ (program : ProgramTree) (main : Identifier) (well : AreWell program) (i
     AreKnown ps = All (TypedAt program main row) ps
 
     -- what a memory holds has the type of its operand
-    memory_typed : (site : Option ℕ) (e : Tree) (k : Kind) → Contains (node_delays i.node) (record { site = site; operand = e }) → kind_of (node_scope program i.node) e ≡ Some k
+    memory_typed : (site : Option ℕ) (e : Tree) (k : Kind) → Contains (node_delays i.node) (record { site = site; operand = e })
+        → kind_of (node_scope program i.node) e ≡ Some k
         → HasKind program k (state.kept (kept_place i site e))
     memory_typed site e k w is =
         let own : operand_kind program i.node e ≡ k = ap (λ o. unwrap_or o kind.Bool) is in
         subst (λ k. HasKind program k (state.kept (kept_place i site e))) own (starts i (record { site = site; operand = e }) inst w)
 
     -- a name is a flow whose clock is there, or a constant
-    named_typed : (c : Clock) (x : Identifier) (k : Kind) (b : Bool) → kind_in (one_of Has (cond b (flow_kind program i.node x) (constant_kind program x))) ≡ Some k
+    named_typed : (c : Clock) (x : Identifier) (k : Kind) (b : Bool) → kind_in (one_of Has (cond b (flow_kind program i.node x) (constant_kind program x)))
+        ≡ Some k
         → Suits c (cond b (At (clock_of i.node x)) Free) → is_on_in row (absolute i c) ≡ true → AreKnown (cond b (place i x ∷ []) [])
         → HasKind program k (cond b (held (cell row (place i x))) (constant_value program x))
     named_typed c x k true is s on known =
@@ -146,8 +157,10 @@ module _ (program : ProgramTree) (main : Identifier) (well : AreWell program) (i
           form_typed c at site form k stands s on (all_right (TypedAt program main row) (flow_of (absolute i c)) (form_needs program i c site form) known) is
 
       -- by its form
-      form_typed : (c : Clock) (at : ℕ) (site : Option ℕ) (form : Form) (k : Kind) → Stands i.node (Node at site form) → Suits c (form_pace i.node form) → is_on_in row (absolute i c) ≡ true
-          → AreKnown (form_needs program i c site form) → kind_in (form_verdict (node_scope program i.node) form) ≡ Some k → HasKind program k (form_now program state row i site form)
+      form_typed : (c : Clock) (at : ℕ) (site : Option ℕ) (form : Form) (k : Kind) → Stands i.node (Node at site form) → Suits c (form_pace i.node form)
+          → is_on_in row (absolute i c) ≡ true
+          → AreKnown (form_needs program i c site form) → kind_in (form_verdict (node_scope program i.node) form) ≡ Some k
+          → HasKind program k (form_now program state row i site form)
       form_typed c at site True k stands s on known is = flag_typed program k (Flag true) tt (same_Some kind.Bool k is)
       form_typed c at site False k stands s on known is = flag_typed program k (Flag false) tt (same_Some kind.Bool k is)
       form_typed c at site (Number n) k stands s on known is = whole_typed program k (Whole (pos n)) tt (same_Some kind.Int k is)
@@ -178,25 +191,35 @@ module _ (program : ProgramTree) (main : Identifier) (well : AreWell program) (i
           let scaled = is_constant (node_scope program i.node) a || is_constant (node_scope program i.node) b in
           let h = two_kinds (binary_rule true scaled o) (kind_of (node_scope program i.node) a) (kind_of (node_scope program i.node) b) k is in
           let clocks = suits_operands c o (pace i.node a) (pace i.node b) s in
-          operator_typed program scaled (not (state.ticked (clock_in i Base (Node 0 site (Binary o a b))))) o h.0 h.1 k (now program state row i a) (now program state row i b) h.4
-          (tree_typed c a h.0 (left_operand i.node at site o a b stands) clocks.0 on (all_left (TypedAt program main row) (needs program i c a) (needs program i c b) known) h.2)
-          (tree_typed c b h.1 (right_operand i.node at site o a b stands) clocks.1 on (all_right (TypedAt program main row) (needs program i c a) (needs program i c b) known) h.3)
+          operator_typed program scaled (not (state.ticked (clock_in i Base (Node 0 site (Binary o a b))))) o h.0 h.1 k (now program state row i a)
+          (now program state row i b) h.4
+          (tree_typed c a h.0 (left_operand i.node at site o a b stands) clocks.0 on
+          (all_left (TypedAt program main row) (needs program i c a) (needs program i c b) known) h.2)
+          (tree_typed c b h.1 (right_operand i.node at site o a b stands) clocks.1 on
+          (all_right (TypedAt program main row) (needs program i c a) (needs program i c b) known) h.3)
       form_typed c at site (If a b d) k stands s on known is =
-          let h = three_kinds if_rule (kind_of (node_scope program i.node) a) (kind_of (node_scope program i.node) b) (kind_of (node_scope program i.node) d) k is in
-          let clocks = suits_parts c (pace i.node b) (pace i.node d) (suits_both c (seen (pace i.node a)) (meet (seen (pace i.node b)) (seen (pace i.node d))) s).1 in
+          let h = three_kinds if_rule (kind_of (node_scope program i.node) a) (kind_of (node_scope program i.node) b) (kind_of (node_scope program i.node) d) k
+          is in
+          let clocks = suits_parts c (pace i.node b) (pace i.node d) (suits_both c (seen (pace i.node a)) (meet (seen (pace i.node b)) (seen (pace i.node d)))
+          s).1 in
           let later = all_right (TypedAt program main row) (needs program i c a) (needs program i c b ++ needs program i c d) known in
           if_typed program (is_true (now program state row i a)) h.0 h.1 h.2 k (now program state row i b) (now program state row i d) h.6
-          (tree_typed c b h.1 (then_part i.node at site a b d stands) clocks.0 on (all_left (TypedAt program main row) (needs program i c b) (needs program i c d) later) h.4)
-          (tree_typed c d h.2 (else_part i.node at site a b d stands) clocks.1 on (all_right (TypedAt program main row) (needs program i c b) (needs program i c d) later) h.5)
+          (tree_typed c b h.1 (then_part i.node at site a b d stands) clocks.0 on
+          (all_left (TypedAt program main row) (needs program i c b) (needs program i c d) later) h.4)
+          (tree_typed c d h.2 (else_part i.node at site a b d stands) clocks.1 on
+          (all_right (TypedAt program main row) (needs program i c b) (needs program i c d) later) h.5)
       form_typed c at site (AtMostOne es) k stands s on known is =
-          flag_typed program k _ tt (all_kind (all_typed (kinds_of_all (node_scope program i.node) es)) (all_suit kind.Bool (kinds_of_all (node_scope program i.node) es)) k is)
+          flag_typed program k _ tt (all_kind (all_typed (kinds_of_all (node_scope program i.node) es))
+          (all_suit kind.Bool (kinds_of_all (node_scope program i.node) es)) k is)
       form_typed c at site (Call f args) k stands s on known is =
           let own : CallTree = record { at = at; site = unwrap_or site 0; name = f; args = args } in
           output_typed i inst own 0 k (own_call i.node at site f args stands) (call_kind program f (kinds_of_all (node_scope program i.node) args) k is)
-          (ap (λ c. is_on_in row (absolute i c)) (ground_taken c (pace_of_all i.node args) s) ∙ on) (known 0 (output_place program i (unwrap_or site 0) f 0) (omega arith))
+          (ap (λ c. is_on_in row (absolute i c)) (ground_taken c (pace_of_all i.node args) s) ∙ on)
+          (known 0 (output_place program i (unwrap_or site 0) f 0) (omega arith))
 
     -- what an expression has as a whole, where it is there
-    pub value_typed : (c : Clock) (e : Tree) (k : Kind) (v : Value) → Stands i.node e → Suits c (pace i.node e) → AreKnown (needs program i (clock_taken i c e) e)
+    pub value_typed : (c : Clock) (e : Tree) (k : Kind) (v : Value) → Stands i.node e → Suits c (pace i.node e)
+        → AreKnown (needs program i (clock_taken i c e) e)
         → kind_of (node_scope program i.node) e ≡ Some k → value_now program state row i c e ≡ Some v → HasKind program k v
     value_typed c e k v stands s known is has =
         let h = cond_some (is_on_in row (clock_in i c e)) (now program state row i e) v has in

@@ -26,4 +26,5 @@ module _ (p : ProgramTree) (main : Identifier) where
   -- A flow, `pre` or `current` of this type stands at the place.
   pub data IsKindAt (q : Sites) (k : Kind) : Type 0 where
     by_flow : (i : Instance) (x : Identifier) → IsInstance p main i → Contains (flows i.node) x → place i x ≡ q → flow_kind p i.node x ≡ Some k → IsKindAt q k
-    by_delay : (i : Instance) (d : Delay) (s : ℕ) → IsInstance p main i → Contains (node_delays i.node) d → d.site ≡ Some s → i.path ++ s ∷ [] ≡ q → operand_kind p i.node d.operand ≡ k → IsKindAt q k
+    by_delay : (i : Instance) (d : Delay) (s : ℕ) → IsInstance p main i → Contains (node_delays i.node) d → d.site ≡ Some s → i.path ++ s ∷ [] ≡ q
+        → operand_kind p i.node d.operand ≡ k → IsKindAt q k

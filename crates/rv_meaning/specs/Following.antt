@@ -37,5 +37,6 @@ module _ (program : ProgramTree) (main : Identifier) where
 
   -- each flow that is present has a value of its type
   abbrev pub IsTypedInstant : Instant → Type 0
-  IsTypedInstant row = (i : Instance) (x : Identifier) (k : Kind) (v : Value) → IsInstance program main i → Contains (flows i.node) x → flow_kind program i.node x ≡ Some k
+  IsTypedInstant row = (i : Instance) (x : Identifier) (k : Kind) (v : Value) → IsInstance program main i → Contains (flows i.node) x
+      → flow_kind program i.node x ≡ Some k
       → cell row (place i x) ≡ Some v → HasKind program k v

@@ -19,5 +19,6 @@ pub record AreDefined (program : ProgramTree) (main : Identifier) : Type 0 where
   pub complete : (p : Sites) → IsFlow program main p → (g : Giver) × Gives program main p g
   pub flow : (p : Sites) (g : Giver) → Gives program main p g → IsFlow program main p
   pub one : (p : Sites) (a b : Giver) → Gives program main p a → Gives program main p b → a ≡ b
-  pub clocked : (i : Instance) (x : Identifier) (g : Giver) (starts : Sites → Value) (inputs : ℕ → ℕ → Value) (h : Cells) (t : ℕ) → IsInstance program main i → Contains (flows i.node) x → Gives program main (place i x) g
+  pub clocked : (i : Instance) (x : Identifier) (g : Giver) (starts : Sites → Value) (inputs : ℕ → ℕ → Value) (h : Cells) (t : ℕ) → IsInstance program main i
+      → Contains (flows i.node) x → Gives program main (place i x) g
       → IsSome (expected program starts inputs g h t) ↔ (is_there h (absolute i (clock_of i.node x)) t ≡ true)

@@ -1,13 +1,15 @@
 -- One instant of a program: what its flows have, given what its clocks and memories bring along and what its inputs
 -- have; and what the clocks and memories bring to the next one.
 -- (Jeannet 2003 for states and their successors.)
-use Rattle.std.specs.Prelude.{◌≡◌, ℕ, ◌+◌, ◌<◌, ◌↔◌, ◌⊎◌, pos, ◌-ℤ◌, Bool, true, false, not, ◌||◌, cond, nat_le, unwrap_or, ◌∷◌, ◌++◌, [], length, Option, Some, IsSome, slice_get}
+use Rattle.std.specs.Prelude.{◌≡◌, ℕ, ◌+◌, ◌<◌, ◌↔◌, ◌⊎◌, pos, ◌-ℤ◌, Bool, true, false, not, ◌||◌, cond, nat_le, unwrap_or, ◌∷◌, ◌++◌, [], length, Option, Some}
+use Rattle.std.specs.Prelude.{IsSome, slice_get}
 use Rattle.std.specs.Prelude.{None as Nothing}
 use Rattle.std.specs.FinMap as map
 use Rattle.std.specs.List.{Contains}
 use Rattle.rv_base.specs.declared.value.Value.{Value}
 use Rattle.rv_base.specs.declared.value.Value.TheVariants.{Flag, Whole}
-use Rattle.rv_tree.specs.Tree.{Tree, Node, Form, True, False, Number, Named, Not, Minus, Pre, Current, When, Binary, If, AtMostOne, Call, Trees, None, More, AssertionTree, ProgramTree}
+use Rattle.rv_tree.specs.Tree.{Tree, Node, Form, True, False, Number, Named, Not, Minus, Pre, Current, When, Binary, If, AtMostOne, Call, Trees, None, More}
+use Rattle.rv_tree.specs.Tree.{AssertionTree, ProgramTree}
 use Rattle.rv_tree.specs.Places.{Identifier, Sites, flows, is_flow}
 use Rattle.rv_tree.specs.Delays.{Delay, node_delays}
 use Rattle.rv_types.specs.declared.typed.Kind.{Kind}
@@ -16,7 +18,8 @@ use Rattle.rv_types.specs.declared.typed.Clock.TheVariants.{Base}
 use Rattle.rv_types.specs.Kinds.{decl_kinds}
 use Rattle.rv_types.specs.Scopes.{constant_value}
 use Rattle.rv_types.specs.Values.{HasKind}
-use Rattle.rv_types.specs.Instances.{CallTree, Right, Body, Output, IsRight, IsArgument, calls, clock_of, Instance, place, absolute, clock_in, clock_of_arguments, output_place, node_of, IsInstance, IsFlow}
+use Rattle.rv_types.specs.Instances.{CallTree, Right, Body, Output, IsRight, IsArgument, calls, clock_of, Instance, place, absolute, clock_in}
+use Rattle.rv_types.specs.Instances.{clock_of_arguments, output_place, node_of, IsInstance, IsFlow}
 use Rattle.rv_meaning.specs.Meaning.{is_true, number, held, is_on, operate, kept_place}
 use Rattle.rv_meaning.specs.Runs.{Instant, cell, observer_place}
 
@@ -69,7 +72,8 @@ module _ (program : ProgramTree) (state : State) (row : Instant) (i : Instance) 
   -- the same of a right side
   abbrev pub right_now : Clock → Right → Option Value
   right_now k (Body e) = value_now k e
-  right_now k (Output c j) = cond (is_on_in row (absolute i (clock_of_arguments i c.args))) (Some (held (cell row (output_place program i c.site c.name j)))) Nothing
+  right_now k (Output c j) = cond (is_on_in row (absolute i (clock_of_arguments i c.args))) (Some (held (cell row (output_place program i c.site c.name j))))
+      Nothing
 
 module _ (program : ProgramTree) (main : Identifier) where
   -- An instant at a state, where the inputs of the main node have these values: the flows are absent or have values so

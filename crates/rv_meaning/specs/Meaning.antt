@@ -1,13 +1,15 @@
 -- The value of an expression of an instance at an instant of a history.
 -- (Halbwachs, Caspi, Raymond and Pilaud 1991; where that leaves nil, a memory has a start value.)
-use Rattle.std.specs.Prelude.{ℕ, zero, suc, ◌+◌, ℤ, pos, ◌+ℤ◌, ◌-ℤ◌, ◌*ℤ◌, Bool, true, false, not, ◌&&◌, ◌||◌, cond, nat_eq, nat_le, int_lt, int_le, unwrap_or, Option, Some}
+use Rattle.std.specs.Prelude.{ℕ, zero, suc, ◌+◌, ℤ, pos, ◌+ℤ◌, ◌-ℤ◌, ◌*ℤ◌, Bool, true, false, not, ◌&&◌, ◌||◌, cond, nat_eq, nat_le, int_lt, int_le, unwrap_or}
+use Rattle.std.specs.Prelude.{Option, Some}
 use Rattle.std.specs.Prelude.{None as Nothing}
 use Rattle.std.specs.Ordering.{int_eq}
 use Rattle.rv_base.specs.declared.value.Value.{Value}
 use Rattle.rv_base.specs.declared.value.Value.TheVariants.{Flag, Label, Whole}
 use Rattle.rv_tree.specs.declared.tree.Op.{Op}
 use Rattle.rv_tree.specs.declared.tree.Op.TheVariants as op
-use Rattle.rv_tree.specs.Tree.{Tree, Node, Form, True, False, Number, Named, Not, Minus, Pre, Current, When, Binary, If, AtMostOne, Call, Trees, None, More, ProgramTree}
+use Rattle.rv_tree.specs.Tree.{Tree, Node, Form, True, False, Number, Named, Not, Minus, Pre, Current, When, Binary, If, AtMostOne, Call, Trees, None, More}
+use Rattle.rv_tree.specs.Tree.{ProgramTree}
 use Rattle.rv_tree.specs.Places.{Sites, is_flow, memory_place}
 use Rattle.rv_types.specs.declared.typed.Clock.{Clock}
 use Rattle.rv_types.specs.declared.typed.Clock.TheVariants.{Base}
@@ -118,4 +120,5 @@ module _ (program : ProgramTree) (starts : Sites → Value) (h : Cells) (i : Ins
   -- what a right side has, where the left side is on the clock k
   abbrev pub right_value : Clock → Right → ℕ → Option Value
   right_value k (Body e) t = value k e t
-  right_value k (Output c j) t = cond (is_there h (absolute i (clock_of_arguments i c.args)) t) (Some (held (h t (output_place program i c.site c.name j)))) Nothing
+  right_value k (Output c j) t = cond (is_there h (absolute i (clock_of_arguments i c.args)) t) (Some (held (h t (output_place program i c.site c.name j))))
+      Nothing

@@ -15,7 +15,8 @@ use Rattle.rv_types.specs.declared.typed.Kind.{Kind}
 use Rattle.rv_types.specs.declared.typed.Clock.TheVariants.{Base}
 use Rattle.rv_types.specs.Kinds.{decl_kinds}
 use Rattle.rv_types.specs.Values.{HasKind, operand_kind}
-use Rattle.rv_types.specs.Instances.{CallTree, Right, IsRight, IsArgument, calls, clock_of, Instance, place, absolute, clock_of_arguments, node_of, IsInstance, IsFlow}
+use Rattle.rv_types.specs.Instances.{CallTree, Right, IsRight, IsArgument, calls, clock_of, Instance, place, absolute, clock_of_arguments, node_of, IsInstance}
+use Rattle.rv_types.specs.Instances.{IsFlow}
 use Rattle.rv_meaning.specs.Meaning.{Cells, is_there, kept_place, value, right_value}
 
 -- what the flows have at one instant: each place has a value, or is absent
@@ -62,7 +63,8 @@ module _ (program : ProgramTree) (main : Identifier) where
     pub given : (t j : ℕ) → t < n → j < length (node_of program main).inputs → cells h t (j ∷ []) ≡ Some (inputs t j)
     pub equations : (t : ℕ) (i : Instance) (x : Identifier) (r : Right) → t < n → IsInstance program main i → IsRight i.node x r
         → cells h t (place i x) ≡ right_value program starts (cells h) i (clock_of i.node x) r t
-    pub arguments : (t : ℕ) (i : Instance) (c : CallTree) (j : ℕ) (e : Tree) → t < n → IsInstance program main i → Contains (calls i.node) c → IsArgument c.args j e
+    pub arguments : (t : ℕ) (i : Instance) (c : CallTree) (j : ℕ) (e : Tree) → t < n → IsInstance program main i → Contains (calls i.node) c
+        → IsArgument c.args j e
         → cells h t (i.path ++ c.site ∷ j ∷ []) ≡ value program starts (cells h) i (clock_of_arguments i c.args) e t
     pub clocks : (t : ℕ) (i : Instance) (x : Identifier) → t < n → IsInstance program main i → Contains (flows i.node) x
         → IsSome (cells h t (place i x)) ↔ (is_there (cells h) (absolute i (clock_of i.node x)) t ≡ true)
@@ -86,9 +88,11 @@ module _ (program : ProgramTree) (main : Identifier) where
 
   -- Safe: in every run the observer is true at each instant up to which the run is allowed.
   abbrev pub IsSafe : Type 0
-  IsSafe = (n t : ℕ) (starts : Sites → Value) (inputs : ℕ → ℕ → Value) (h : History) → IsRun starts inputs n h → t < n → IsAllowed starts h t → observed h t ≡ Some (Flag true)
+  IsSafe = (n t : ℕ) (starts : Sites → Value) (inputs : ℕ → ℕ → Value) (h : History) → IsRun starts inputs n h → t < n → IsAllowed starts h t
+      → observed h t ≡ Some (Flag true)
 
   -- The run of n + 1 instants from these starts and inputs is allowed up to the last one, and the observer is
   -- false there and true at all earlier instants.
   abbrev pub Falsifies : (Sites → Value) → (ℕ → ℕ → Value) → ℕ → Type 0
-  Falsifies starts inputs n = (h : History) × IsRun starts inputs (n + 1) h × IsAllowed starts h n × (observed h n ≡ Some (Flag false)) × ((t : ℕ) → t < n → observed h t ≡ Some (Flag true))
+  Falsifies starts inputs n = (h : History) × IsRun starts inputs (n + 1) h × IsAllowed starts h n × (observed h n ≡ Some (Flag false))
+      × ((t : ℕ) → t < n → observed h t ≡ Some (Flag true))

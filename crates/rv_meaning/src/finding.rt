@@ -4,7 +4,10 @@ ghost use Rattle.std.specs.Prelude.{◌≡◌, map};
 ghost use Rattle.std.specs.Option.{option_copied, option_map};
 ghost use Rattle.rv_tree.specs.Tree.{tree_of, trees, node_tree, equation_tree, assertion_tree};
 ghost use Rattle.rv_tree.specs.Places.{index_of};
-ghost use Rattle.rv_meaning.specs.Leading.{callee_within, callee_within_all, callee_in_equations as found_in_equations, callee_in_assertions as found_in_assertions, callee_in_node, operand_within, operand_within_all, operand_in_equations as operand_of_equations, operand_in_assertions as operand_of_assertions, operand_in_node, node_texts, callee_at, led_by};
+ghost use Rattle.rv_meaning.specs.Leading.{callee_within, callee_within_all, callee_in_equations as found_in_equations};
+ghost use Rattle.rv_meaning.specs.Leading.{callee_in_assertions as found_in_assertions, callee_in_node, operand_within, operand_within_all};
+ghost use Rattle.rv_meaning.specs.Leading.{operand_in_equations as operand_of_equations, operand_in_assertions as operand_of_assertions, operand_in_node};
+ghost use Rattle.rv_meaning.specs.Leading.{node_texts, callee_at, led_by};
 
 use rv_base::Text;
 use rv_tree::{Assertion, Equation, Expr, ExprForm, Node};

@@ -11,7 +11,8 @@ ghost use Rattle.rv_types.specs.Instances.{name_at};
 ghost use Rattle.rv_types.specs.Names.{is_declared, labels_of};
 ghost use Rattle.rv_types.specs.Settled.{IsAnswer};
 ghost use Rattle.rv_meaning.specs.Accessors.{IsKindAt};
-ghost use Rattle.rv_meaning.specs.Telling.{telling_of, telling, result_kind as result_of, constant_told, name_told, output_of, told, label_told, kind_of_site, kind_of_node, kind_at_end};
+ghost use Rattle.rv_meaning.specs.Telling.{telling_of, telling, result_kind as result_of, constant_told, name_told, output_of, told, label_told, kind_of_site};
+ghost use Rattle.rv_meaning.specs.Telling.{kind_of_node, kind_at_end};
 
 use crate::finding::{node_at, number_of, operand_at_site};
 use rv_base::{Place, Text};

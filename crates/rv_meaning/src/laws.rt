@@ -19,7 +19,8 @@ ghost use Rattle.rv_meaning.specs.Following.{IsStateAt, AreSteps, IsTypedInstant
 /// Two runs with the same starts and inputs are equal, where the flows stand in an order of evaluation.
 pub fn one_run()
     ensures { (program : ProgramTree) (main : Identifier) (sequence : List Sites) (starts : Sites → Value) (inputs : ℕ → ℕ → Value) (n : ℕ) (h g : History)
-        → AreWell program → IsNode program main → IsSequence program main sequence → IsRun program main starts inputs n h → IsRun program main starts inputs n g → h ≡ g }
+        → AreWell program → IsNode program main → IsSequence program main sequence → IsRun program main starts inputs n h → IsRun program main starts inputs n g
+        → h ≡ g }
 {}
 
 /// All starts and inputs of their types have a run, where the flows stand in an order of evaluation.
@@ -39,11 +40,13 @@ pub fn one_instant()
 /// Each row of a run is an instant at the state that the run brings there, and the assertions have the same there; so they hold
 /// in both or in neither.
 pub fn run_is_instants()
-    ensures instant { (program : ProgramTree) (main : Identifier) (starts : Sites → Value) (inputs : ℕ → ℕ → Value) (n : ℕ) (h : History) (t : ℕ) (state : State)
+    ensures instant { (program : ProgramTree) (main : Identifier) (starts : Sites → Value) (inputs : ℕ → ℕ → Value) (n : ℕ) (h : History) (t : ℕ)
+        (state : State)
         → IsRun program main starts inputs n h → t < n → IsStateAt program main starts (cells h) t state
         → IsInstant program main state (inputs t) (slice_index_or h t empty)
         × (AssertionsHold program main starts h t ↔ AllowsAt program main state (slice_index_or h t empty)) }
-    ensures assertions { (program : ProgramTree) (main : Identifier) (starts : Sites → Value) (h : History) (t : ℕ) (state : State) (i : Instance) (a : AssertionTree)
+    ensures assertions { (program : ProgramTree) (main : Identifier) (starts : Sites → Value) (h : History) (t : ℕ) (state : State) (i : Instance)
+        (a : AssertionTree)
         → IsStateAt program main starts (cells h) t state → IsInstance program main i → Contains i.node.assertions a
         → value program starts (cells h) i Base a.body t ≡ value_now program state (slice_index_or h t empty) i Base a.body }
 {}
@@ -61,7 +64,8 @@ pub fn states_of_run()
 
 /// There is a state after each row.
 pub fn some_next()
-    ensures { (program : ProgramTree) (main : Identifier) (state : State) (row : Instant) → AreWell program → IsNode program main → (next : State) × IsNext program main state row next }
+    ensures { (program : ProgramTree) (main : Identifier) (state : State) (row : Instant) → AreWell program → IsNode program main
+        → (next : State) × IsNext program main state row next }
 {}
 
 /// Each flow has exactly one right side, argument or input that gives it its value, on its own clock.

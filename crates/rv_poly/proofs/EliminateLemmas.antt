@@ -1,5 +1,6 @@
 -- Rows of the step of Fourier and Motzkin that are handed in one after the other.
-use Rattle.std.proofs.Common.{◌≡◌, ◌⊎◌, ℕ, ◌+◌, ◌*◌, ◌≤◌, ◌<◌, ◌^◌, ℤ, pos, ◌+ℤ◌, ◌-ℤ◌, ◌*ℤ◌, ◌≤ℤ◌, ◌<ℤ◌, Bool, true, false, List, [], ◌∷◌, ◌++◌, length, get_or, take, All, FitsSigned, arith, refl, ap, sym, ◌∙◌, subst, inl, inr}
+use Rattle.std.proofs.Common.{◌≡◌, ◌⊎◌, ℕ, ◌+◌, ◌*◌, ◌≤◌, ◌<◌, ◌^◌, ℤ, pos, ◌+ℤ◌, ◌-ℤ◌, ◌*ℤ◌, ◌≤ℤ◌, ◌<ℤ◌, Bool, true, false, List, [], ◌∷◌, ◌++◌, length}
+use Rattle.std.proofs.Common.{get_or, take, All, FitsSigned, arith, refl, ap, sym, ◌∙◌, subst, inl, inr}
 use Rattle.std.specs.Prelude.{int_lt, T}
 use Rattle.std.specs.Ordering.{int_eq}
 use Rattle.std.specs.List.{Contains, count_by}
@@ -10,7 +11,8 @@ use Rattle.std.proofs.Math.Seq.{take-length}
 use Rattle.std.proofs.Math.Nat.{mul-le-mul, mul-le-mul_right}
 use Rattle.std.proofs.lemmas.List.{length-append, length-take-le, length_push, get_or_default, get_or_past}
 use Rattle.std.proofs.lemmas.List.Sums.{count_by_more_yes, count_by_more_no, count_by-le-length}
-use Rattle.std.proofs.lemmas.List.Elements.{All-nil, All-push, All-append, All-contains, Contains-get_or, Contains-append_left, Contains-append_right, Contains-append_cases, Contains-push, Contains-push_cases}
+use Rattle.std.proofs.lemmas.List.Elements.{All-nil, All-push, All-append, All-contains, Contains-get_or, Contains-append_left, Contains-append_right}
+use Rattle.std.proofs.lemmas.List.Elements.{Contains-append_cases, Contains-push, Contains-push_cases}
 use Rattle.rv_rows.specs.declared.linear.Row.{Row}
 use Rattle.std.specs.Int.RustNames.{unsigned_abs}
 use Rattle.std.proofs.lemmas.Int.{unsigned_abs-mul, fits_signed_mul, fits_signed_from_abs}
@@ -22,7 +24,8 @@ use Rattle.rv_poly.specs.declared.eliminate.Eliminated.{Eliminated}
 use Rattle.rv_rows.proofs.IntLemmas.{abs-add}
 use Rattle.rv_poly.specs.Polys.{IsPoly, rows_width}
 use Rattle.rv_poly.specs.Projection.{IsCombined, IsStepRow, free, pair, AreStepRows, HasStepRows}
-use Rattle.rv_poly.specs.Elimination.{AreKept, IsFreeTaken, AreFreeTaken, IsPairTaken, ArePairsTaken, IsRowPaired, AreRowsPaired, IsRowWithin, positives, negatives, zeros}
+use Rattle.rv_poly.specs.Elimination.{AreKept, IsFreeTaken, AreFreeTaken, IsPairTaken, ArePairsTaken, IsRowPaired, AreRowsPaired, IsRowWithin, positives}
+use Rattle.rv_poly.specs.Elimination.{negatives, zeros}
 use Rattle.rv_poly.proofs.ListLemmas.{one_width}
 
 abbrev step_of : List Row → ℕ → Eliminated
@@ -106,10 +109,12 @@ kept-more part piece a b c x y = record {
     all first second r (inr h) = y.all second r h
 
     left : All Fits (part ++ piece) → All Fits part
-    left f k d l = let e = Contains-append_left part piece (get_or part k d) (Contains-get_or part k d l) in All-contains Fits (part ++ piece) (get_or part k d) f e
+    left f k d l = let e = Contains-append_left part piece (get_or part k d) (Contains-get_or part k d l) in
+        All-contains Fits (part ++ piece) (get_or part k d) f e
 
     right : All Fits (part ++ piece) → All Fits piece
-    right f k d l = let e = Contains-append_right part piece (get_or piece k d) (Contains-get_or piece k d l) in All-contains Fits (part ++ piece) (get_or piece k d) f e
+    right f k d l = let e = Contains-append_right part piece (get_or piece k d) (Contains-get_or piece k d l) in
+        All-contains Fits (part ++ piece) (get_or piece k d) f e
 
 in_one : (r q : Row) → Contains (r ∷ []) q → r ≡ q
 in_one r q h = go (Contains-push_cases [] r q h)
@@ -119,7 +124,8 @@ in_one r q h = go (Contains-push_cases [] r q h)
     go (inr e) = e
 
 -- what holds of one more row than of n
-one_more : (rows : List Row) (n i : ℕ) (d e : Row) (P : Row → Type 0) → n < length rows → i < n + 1 → (i < n → P (get_or rows i d)) → P (get_or rows n e) → P (get_or rows i d)
+one_more : (rows : List Row) (n i : ℕ) (d e : Row) (P : Row → Type 0) → n < length rows → i < n + 1 → (i < n → P (get_or rows i d)) → P (get_or rows n e)
+    → P (get_or rows i d)
 one_more rows n i d e P l m before here = go (cases_lt i n)
   where
     go : (i < n) ⊎ (n ≤ i) → P (get_or rows i d)
@@ -137,7 +143,8 @@ eq_true : (a b : ℤ) → a ≡ b → int_eq a b ≡ true
 eq_true a b e = (Decides-int_eq a b).1 e
 
 -- a count of one more row grows where the row passes
-count_yes : (p : Row → Bool) (rows : List Row) (n m : ℕ) (d : Row) → n < length rows → p (get_or rows n d) ≡ true → m ≤ count_by p (take n rows) → m + 1 ≤ count_by p (take (n + 1) rows)
+count_yes : (p : Row → Bool) (rows : List Row) (n m : ℕ) (d : Row) → n < length rows → p (get_or rows n d) ≡ true → m ≤ count_by p (take n rows)
+    → m + 1 ≤ count_by p (take (n + 1) rows)
 count_yes p rows n m d l e h = let x = count_by_more_yes p rows n d l e in omega arith
 
 count_kept : (p : Row → Bool) (rows : List Row) (n m : ℕ) (d : Row) → n < length rows → m ≤ count_by p (take n rows) → m ≤ count_by p (take (n + 1) rows)
@@ -195,7 +202,8 @@ pub combined-made : (k : ℕ) (p q : Row) (cs : List ℤ) (n m b : ℤ) → n �
     → IsCombined k p q (record { coefficients = cs; bound = b })
 combined-made k p q cs n m b e f w h g = record {
   width = w;
-  coefficients = λ j. h j ∙ ap (λ z. ((pos 0 -ℤ z) *ℤ coefficient j p) +ℤ (m *ℤ coefficient j q)) e ∙ ap (λ z. ((pos 0 -ℤ coefficient k q) *ℤ coefficient j p) +ℤ (z *ℤ coefficient j q)) f;
+  coefficients = λ j. h j ∙ ap (λ z. ((pos 0 -ℤ z) *ℤ coefficient j p) +ℤ (m *ℤ coefficient j q)) e
+      ∙ ap (λ z. ((pos 0 -ℤ coefficient k q) *ℤ coefficient j p) +ℤ (z *ℤ coefficient j q)) f;
   bound = g ∙ ap (λ z. ((pos 0 -ℤ z) *ℤ p.bound) +ℤ (m *ℤ q.bound)) e ∙ ap (λ z. ((pos 0 -ℤ coefficient k q) *ℤ p.bound) +ℤ (z *ℤ q.bound)) f;
 }
 
@@ -209,7 +217,8 @@ module _ (k : ℕ) (rows : List Row) where
     count = omega arith;
   }
 
-  pub free-more : (n : ℕ) (d : Row) (a b c : Eliminated) → AreFreeTaken k rows n a b → n < length rows → IsFreeTaken k (get_or rows n d) b c → AreFreeTaken k rows (n + 1) a c
+  pub free-more : (n : ℕ) (d : Row) (a b c : Eliminated) → AreFreeTaken k rows n a b → n < length rows → IsFreeTaken k (get_or rows n d) b c
+      → AreFreeTaken k rows (n + 1) a c
   free-more n d a b c t l (inl x) = record {
     part = t.part ++ get_or rows n d ∷ [];
     kept = kept-more t.part (get_or rows n d ∷ []) a b c t.kept (x.1);
@@ -259,7 +268,8 @@ module _ (k : ℕ) (rows : List Row) where
     part = t.part;
     kept = t.kept;
     known = t.known;
-    found = λ i f m o z. one_more rows n i f d (λ q. coefficient k q <ℤ pos 0 → (s : Row) × IsCombined k p q s × Contains t.part s) l m (λ s y. t.found i f s o y)
+    found = λ i f m o z. one_more rows n i f d (λ q. coefficient k q <ℤ pos 0 → (s : Row) × IsCombined k p q s × Contains t.part s) l m
+        (λ s y. t.found i f s o y)
         (λ y. absurd (both _ (x.0) y)) z;
     count = count_kept (λ q. int_lt (coefficient k q) (pos 0)) rows n (length t.part) d l t.count;
   })
@@ -279,7 +289,8 @@ module _ (k : ℕ) (rows : List Row) where
   all_taken : take (length rows) rows ≡ rows
   all_taken = take-length rows
 
-  pub paired-more : (n : ℕ) (d : Row) (a b c : Eliminated) → AreRowsPaired k rows n a b → n < length rows → IsRowPaired k (get_or rows n d) rows b c → AreRowsPaired k rows (n + 1) a c
+  pub paired-more : (n : ℕ) (d : Row) (a b c : Eliminated) → AreRowsPaired k rows n a b → n < length rows → IsRowPaired k (get_or rows n d) rows b c
+      → AreRowsPaired k rows (n + 1) a c
   paired-more n d a b c t l (inl (h, x)) = record {
     part = t.part ++ x.part;
     kept = kept-more t.part x.part a b c t.kept x.kept;
@@ -290,7 +301,8 @@ module _ (k : ℕ) (rows : List Row) where
     count = let s = length-append t.part x.part in
         let u = count_by_more_yes (λ p. int_lt (pos 0) (coefficient k p)) rows n d l (lt_true _ _ h) in
         let v = rw all_taken at x.count in
-        counted (length (t.part ++ x.part)) (length t.part) (length x.part) (positives k (take n rows)) (positives k (take (n + 1) rows)) (negatives k rows) s t.count v u;
+        counted (length (t.part ++ x.part)) (length t.part) (length x.part) (positives k (take n rows)) (positives k (take (n + 1) rows))
+        (negatives k rows) s t.count v u;
   }
     where
       known : (r : Row) → Contains t.part r ⊎ Contains x.part r
@@ -309,7 +321,8 @@ module _ (k : ℕ) (rows : List Row) where
     part = t.part;
     kept = t.kept;
     known = t.known;
-    found = λ i f q m o z cq y. one_more rows n i f d (λ p. pos 0 <ℤ coefficient k p → (s : Row) × IsCombined k p q s × Contains t.part s) l m (λ s u. t.found i f q s o u cq y)
+    found = λ i f q m o z cq y. one_more rows n i f d (λ p. pos 0 <ℤ coefficient k p → (s : Row) × IsCombined k p q s × Contains t.part s) l m
+        (λ s u. t.found i f q s o u cq y)
         (λ u. absurd (both _ (x.0) u)) z;
     count = let u = count_kept (λ p. int_lt (pos 0) (coefficient k p)) rows n (positives k (take n rows)) d l (omega arith) in
         let v = mul-le-mul_right (negatives k rows) u in let w = t.count in omega arith;
@@ -327,7 +340,8 @@ module _ (k : ℕ) (rows : List Row) where
       let x = length-take-le n rows (omega arith) in
       omega arith
 
-  pub pairs-few : (p : Row) (n : ℕ) (a b : Eliminated) → ArePairsTaken k p rows n a b → n < length rows → a.dropped + length rows < 2 ^ 64 → b.dropped + 1 < 2 ^ 64
+  pub pairs-few : (p : Row) (n : ℕ) (a b : Eliminated) → ArePairsTaken k p rows n a b → n < length rows → a.dropped + length rows < 2 ^ 64
+      → b.dropped + 1 < 2 ^ 64
   pairs-few p n a b t l room =
       let u = t.kept.dropped in
       let v = t.count in
@@ -347,12 +361,14 @@ module _ (k : ℕ) (rows : List Row) where
       joined : (b a u x y z w : ℕ) → b ≤ a + u → u ≤ x → x ≤ y → y + w ≤ z → z ≤ 4294967295 * w → a ≤ w → w < 2 ^ 32 → b + w < 2 ^ 64
       joined b a u x y z w h1 h2 h3 h4 h5 h6 h7 = omega arith
 
-  pub paired-few : (n : ℕ) (a b : Eliminated) → AreRowsPaired k rows n a b → n < length rows → length rows < 2 ^ 32 → a.dropped ≤ length rows → b.dropped + length rows < 2 ^ 64
+  pub paired-few : (n : ℕ) (a b : Eliminated) → AreRowsPaired k rows n a b → n < length rows → length rows < 2 ^ 32 → a.dropped ≤ length rows
+      → b.dropped + length rows < 2 ^ 64
   paired-few n a b t l few room =
       let p = count_by-le-length (λ r. int_lt (pos 0) (coefficient k r)) (take n rows) in
       let q = count_by-le-length (λ r. int_lt (coefficient k r) (pos 0)) rows in
       let x = length-take-le n rows (omega arith) in
-      few_in_all b.dropped a.dropped (length t.part) (positives k (take n rows)) (negatives k rows) n (length rows) t.kept.dropped t.count (omega arith) q l room few
+      few_in_all b.dropped a.dropped (length t.part) (positives k (take n rows)) (negatives k rows) n (length rows) t.kept.dropped t.count
+      (omega arith) q l room few
 
 -- a sum of two products of numbers within n and m
 sum_within : (a x b y : ℤ) (n m t : ℕ) → unsigned_abs a ≤ n → unsigned_abs x ≤ m → unsigned_abs b ≤ n → unsigned_abs y ≤ m → 2 * n * m ≤ t
@@ -363,7 +379,8 @@ sum_within a x b y n m t ha hx hb hy most =
     let q = unsigned_abs-mul b y in
     let u = mul-le-mul ha hx in
     let v = mul-le-mul hb hy in
-    joined (unsigned_abs ((a *ℤ x) +ℤ (b *ℤ y))) (unsigned_abs (a *ℤ x)) (unsigned_abs (b *ℤ y)) (unsigned_abs a * unsigned_abs x) (unsigned_abs b * unsigned_abs y) (n * m) t s p q u v (omega arith)
+    joined (unsigned_abs ((a *ℤ x) +ℤ (b *ℤ y))) (unsigned_abs (a *ℤ x)) (unsigned_abs (b *ℤ y)) (unsigned_abs a * unsigned_abs x)
+    (unsigned_abs b * unsigned_abs y) (n * m) t s p q u v (omega arith)
   where
     joined : (s p q u v w t : ℕ) → s ≤ p + q → p ≡ u → q ≡ v → u ≤ w → v ≤ w → w + w ≤ t → s ≤ t
     joined s p q u v w t h1 h2 h3 h4 h5 h6 = omega arith
@@ -371,7 +388,8 @@ sum_within a x b y n m t ha hx hb hy most =
 combined-fits : (k m c : ℕ) (p q r : Row) → IsRowWithin m c p → IsRowWithin m c q → IsCombined k p q r → 2 * m * m ≤ 2 ^ 30 → 2 * m * c ≤ 2 ^ 60 → Fits r
 combined-fits k m c p q r wp wq comb hm hc = record {
   coefficients = λ j d l. rw (get_or_default r.coefficients j d (pos 0) l, comb.coefficients j)
-      (sum_within (pos 0 -ℤ coefficient k q) (coefficient j p) (coefficient k p) (coefficient j q) m m (2 ^ 30) by (number_within m p.coefficients wp.coefficients j)
+      (sum_within (pos 0 -ℤ coefficient k q) (coefficient j p) (coefficient k p) (coefficient j q) m m (2 ^ 30) by
+      (number_within m p.coefficients wp.coefficients j)
       (number_within m p.coefficients wp.coefficients k) (number_within m q.coefficients wq.coefficients j) hm);
   bound = rw comb.bound (sum_within (pos 0 -ℤ coefficient k q) p.bound (coefficient k p) q.bound m c (2 ^ 60) by wp.bound
       (number_within m p.coefficients wp.coefficients k) wq.bound hc);
@@ -411,7 +429,8 @@ module _ (rows : List Row) (k : ℕ) (poly : IsPoly rows) (one two : Eliminated)
           let P : Row → Type 0 = λ y. coefficient k y ≡ pos 0 → Contains freed.part y in
           subst P e (λ u. freed.found i r l l u) z
 
-      second : (p q : Row) → Contains rows p → Contains rows q → pos 0 <ℤ coefficient k p → coefficient k q <ℤ pos 0 → (r : Row) × IsCombined k p q r × Contains paired.part r
+      second : (p q : Row) → Contains rows p → Contains rows q → pos 0 <ℤ coefficient k p → coefficient k q <ℤ pos 0
+          → (r : Row) × IsCombined k p q r × Contains paired.part r
       second p q (i, l, e) cq hp hq =
           let P : Row → Type 0 = λ y. pos 0 <ℤ coefficient k y → (r : Row) × IsCombined k y q r × Contains paired.part r in
           subst P e (λ u. paired.found i p q l l u cq hq) hp
@@ -430,7 +449,8 @@ module _ (rows : List Row) (k : ℕ) (poly : IsPoly rows) (one two : Eliminated)
     few = let x = eliminated-few in omega arith;
   }
 
-  pub eliminated-sizes : (m c : ℕ) → All (IsRowWithin m c) rows → positives k rows * negatives k rows + zeros k rows ≤ 1024 → 2 * m * m ≤ 2 ^ 30 → 2 * m * c ≤ 2 ^ 60 → two.dropped ≡ 0
+  pub eliminated-sizes : (m c : ℕ) → All (IsRowWithin m c) rows → positives k rows * negatives k rows + zeros k rows ≤ 1024 → 2 * m * m ≤ 2 ^ 30
+      → 2 * m * c ≤ 2 ^ 60 → two.dropped ≡ 0
   eliminated-sizes m c within room hm hc =
       let x = rw (take-length rows) at freed.count in
       let y = rw (take-length rows) at paired.count in
@@ -438,9 +458,11 @@ module _ (rows : List Row) (k : ℕ) (poly : IsPoly rows) (one two : Eliminated)
       all_kept.room (All-append Fits freed.part paired.part free_fits pair_fits) (omega arith)
     where
       free_fits : All Fits freed.part
-      free_fits i d l = let g = freed.known (get_or freed.part i d) (Contains-get_or freed.part i d l) in All-contains Fits rows (get_or freed.part i d) poly.fits (g.0)
+      free_fits i d l = let g = freed.known (get_or freed.part i d) (Contains-get_or freed.part i d l) in
+          All-contains Fits rows (get_or freed.part i d) poly.fits (g.0)
 
       pair_fits : All Fits paired.part
       pair_fits i d l =
           let g = paired.known (get_or paired.part i d) (Contains-get_or paired.part i d l) in
-          combined-fits k m c (g.0) (g.1) (get_or paired.part i d) (All-contains (IsRowWithin m c) rows (g.0) within (g.2)) (All-contains (IsRowWithin m c) rows (g.1) within (g.3)) (g.6) hm hc
+          combined-fits k m c (g.0) (g.1) (get_or paired.part i d) (All-contains (IsRowWithin m c) rows (g.0) within (g.2))
+          (All-contains (IsRowWithin m c) rows (g.1) within (g.3)) (g.6) hm hc

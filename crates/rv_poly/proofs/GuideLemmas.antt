@@ -1,5 +1,6 @@
 -- Lists of rows of one width, and points that grow number by number.
-use Rattle.std.proofs.Common.{◌≡◌, ℕ, zero, suc, ◌≤◌, ◌<◌, ◌^◌, ℤ, pos, ◌-ℤ◌, ◌≤ℤ◌, ◌<ℤ◌, List, [], ◌∷◌, ◌++◌, length, get_or, slice_get, None, Some, Option, IfSome, All, arith, refl, ap, sym, ◌∙◌, subst}
+use Rattle.std.proofs.Common.{◌≡◌, ℕ, zero, suc, ◌≤◌, ◌<◌, ◌^◌, ℤ, pos, ◌-ℤ◌, ◌≤ℤ◌, ◌<ℤ◌, List, [], ◌∷◌, ◌++◌, length, get_or, slice_get, None, Some, Option}
+use Rattle.std.proofs.Common.{IfSome, All, arith, refl, ap, sym, ◌∙◌, subst}
 use Rattle.std.proofs.lemmas.Int.{ints}
 use Rattle.std.proofs.lemmas.List.{length_push, get_or_append_left}
 use Rattle.std.proofs.lemmas.List.Elements.{All-push, All-nil}
@@ -44,7 +45,8 @@ tightened-width old new t = go t.divisor refl
 pub guide-fits : (width : ℕ) (rows : List Row) (i : ℕ) (r : Row) → IsGuide width rows → i < length rows → slice_get rows i ≡ Some r → Fits r
 guide-fits width rows i r g l e = subst Fits (get_or_from_slice_get rows i r r e) (g.fits i r l)
 
-pub guide-width : (width : ℕ) (rows : List Row) (i : ℕ) (r : Row) → IsGuide width rows → i < length rows → slice_get rows i ≡ Some r → length r.coefficients ≡ width
+pub guide-width : (width : ℕ) (rows : List Row) (i : ℕ) (r : Row) → IsGuide width rows → i < length rows → slice_get rows i ≡ Some r
+    → length r.coefficients ≡ width
 guide-width width rows i r g l e =
     let P : Row → Type 0 = λ x. length x.coefficients ≡ width in
     subst P (get_or_from_slice_get rows i r r e) (g.widths i r l)

@@ -1,5 +1,6 @@
 -- Bounds of left sides after updates, and the images of moves.
-use Rattle.std.proofs.Common.{◌≡◌, ◌⊎◌, ℕ, zero, suc, ◌+◌, ◌*◌, ◌≤◌, ◌<◌, ◌^◌, ℤ, pos, ◌+ℤ◌, ◌-ℤ◌, ◌*ℤ◌, ◌≤ℤ◌, List, [], ◌∷◌, ◌++◌, length, map, take, get_or, All, Option, Some, None, FitsSigned, arith, refl, ap, sym, ◌∙◌, subst, inl, inr}
+use Rattle.std.proofs.Common.{◌≡◌, ◌⊎◌, ℕ, zero, suc, ◌+◌, ◌*◌, ◌≤◌, ◌<◌, ◌^◌, ℤ, pos, ◌+ℤ◌, ◌-ℤ◌, ◌*ℤ◌, ◌≤ℤ◌, List, [], ◌∷◌, ◌++◌, length, map, take, get_or}
+use Rattle.std.proofs.Common.{All, Option, Some, None, FitsSigned, arith, refl, ap, sym, ◌∙◌, subst, inl, inr}
 use Rattle.std.specs.Prelude.{IfSome}
 use Rattle.std.specs.Int.{w128}
 use Rattle.std.specs.Int.RustNames.{unsigned_abs}
@@ -26,7 +27,8 @@ use Rattle.rv_poly.proofs.EliminateLemmas.{number_within}
 use Rattle.rv_poly.proofs.ClosingLemmas.{own_shown, keeps-later, covers-side}
 
 -- a sum of products is at most as many products of the greatest numbers
-dot-within : (a b m : ℕ) → a * b ≡ m → (cs xs : List ℤ) → All (λ c. unsigned_abs c ≤ a) cs → All (λ x. unsigned_abs x ≤ b) xs → unsigned_abs (dot cs xs) ≤ length cs * m
+dot-within : (a b m : ℕ) → a * b ≡ m → (cs xs : List ℤ) → All (λ c. unsigned_abs c ≤ a) cs → All (λ x. unsigned_abs x ≤ b) xs
+    → unsigned_abs (dot cs xs) ≤ length cs * m
 dot-within a b m e [] xs h k = omega arith
 dot-within a b m e (c ∷ cs) [] h k = omega arith
 dot-within a b m e (c ∷ cs) (x ∷ xs) h k =
@@ -39,7 +41,8 @@ dot-within a b m e (c ∷ cs) (x ∷ xs) h k =
     joined : (t u v w n : ℕ) → t ≤ u + v → u ≡ w → w ≤ m → v ≤ n * m → t ≤ suc n * m
     joined t u v w n s p q r = omega arith
 
-pub sums-within : (cs xs : List ℤ) → All (λ c. unsigned_abs c ≤ 2 ^ 30) cs → All (λ x. unsigned_abs x ≤ 2 ^ 41) xs → length cs ≤ 128 → unsigned_abs (dot cs xs) ≤ 2 ^ 78
+pub sums-within : (cs xs : List ℤ) → All (λ c. unsigned_abs c ≤ 2 ^ 30) cs → All (λ x. unsigned_abs x ≤ 2 ^ 41) xs → length cs ≤ 128
+    → unsigned_abs (dot cs xs) ≤ 2 ^ 78
 sums-within cs xs h k l = let x = dot-within (2 ^ 30) (2 ^ 41) (2 ^ 71) refl cs xs h k in omega arith
 
 sums-stay : (cs xs : List ℤ) → All (λ c. unsigned_abs c ≤ 2 ^ 30) cs → All (λ x. unsigned_abs x ≤ 2 ^ 41) xs → length cs ≤ 128 → SumsStay cs xs
@@ -48,8 +51,10 @@ sums-stay cs xs h k l n =
     let x = sums-within (take n cs) xs (All-take (λ c. unsigned_abs c ≤ 2 ^ 30) n cs h) k (omega arith) in
     omega arith
 
-columns-small : (updates : List Form) → All (FormWithin (2 ^ 41)) updates → (k : ℕ) → All (λ x. unsigned_abs x ≤ 2 ^ 41) (map (λ f. number k f.coefficients) updates)
-columns-small updates h k = All-map (λ x. unsigned_abs x ≤ 2 ^ 41) (λ f. number k f.coefficients) updates (λ i d l. number_within (2 ^ 41) (get_or updates i d).coefficients ((h i d l).0) k)
+columns-small : (updates : List Form) → All (FormWithin (2 ^ 41)) updates → (k : ℕ)
+    → All (λ x. unsigned_abs x ≤ 2 ^ 41) (map (λ f. number k f.coefficients) updates)
+columns-small updates h k = All-map (λ x. unsigned_abs x ≤ 2 ^ 41) (λ f. number k f.coefficients) updates
+    (λ i d l. number_within (2 ^ 41) (get_or updates i d).coefficients ((h i d l).0) k)
 
 constants-small : (updates : List Form) → All (FormWithin (2 ^ 41)) updates → All (λ x. unsigned_abs x ≤ 2 ^ 41) (map (λ f. f.constant) updates)
 constants-small updates h = All-map (λ x. unsigned_abs x ≤ 2 ^ 41) (λ f. f.constant) updates (λ i d l. (h i d l).1)
@@ -60,7 +65,8 @@ shows-same rows r s e b (by_none z l) = by_none (λ k. e k ∙ z k) (rw b l)
 shows-same rows r s e b (by_one i l c m) = by_one i l (λ k. e k ∙ c k) (rw b m)
 shows-same rows r s e b (by_two i j o l c m) = by_two i j o l (λ k. e k ∙ c k) (rw b m)
 
-module _ (updates : List Form) (side : List ℤ) (limits : AreUpdates updates) (width : length side ≡ length updates) (small : All (λ c. unsigned_abs c ≤ 2 ^ 30) side) where
+module _ (updates : List Form) (side : List ℤ) (limits : AreUpdates updates) (width : length side ≡ length updates)
+    (small : All (λ c. unsigned_abs c ≤ 2 ^ 30) side) where
   columns : ℕ → List ℤ
   columns k = map (λ f. number k f.coefficients) updates
 
@@ -100,7 +106,8 @@ module _ (updates : List Form) (side : List ℤ) (limits : AreUpdates updates) (
 
       pub form-within : FormWithin (2 ^ 78) form
       form-within = (
-        (λ i d l. rw (get_or_default form.coefficients i d (pos 0) l, number-is i) (sums-within side (map (λ f. number i f.coefficients) updates) small (columns-small updates limits.within i) few_sides)),
+        (λ i d l. rw (get_or_default form.coefficients i d (pos 0) l, number-is i)
+            (sums-within side (map (λ f. number i f.coefficients) updates) small (columns-small updates limits.within i) few_sides)),
         rw constant-is (sums-within side (map (λ f. f.constant) updates) small (constants-small updates limits.within) few_sides),
       )
 
@@ -200,7 +207,8 @@ dot-back (c ∷ cs) [] [] e = refl
 dot-back (c ∷ cs) [] (f ∷ fs) e = absurd (omega arith)
 dot-back (c ∷ cs) (x ∷ xs) [] e = absurd (omega arith)
 dot-back (c ∷ cs) (x ∷ xs) (f ∷ fs) e =
-    regroup (c *ℤ (x -ℤ f.constant)) (c *ℤ x) (c *ℤ f.constant) (dot cs (back xs fs)) (dot cs xs) (dot cs (map (λ g. g.constant) fs)) (product c x f.constant) (dot-back cs xs fs (omega arith))
+    regroup (c *ℤ (x -ℤ f.constant)) (c *ℤ x) (c *ℤ f.constant) (dot cs (back xs fs)) (dot cs xs) (dot cs (map (λ g. g.constant) fs)) (product c x f.constant)
+    (dot-back cs xs fs (omega arith))
   where
     product : (c x k : ℤ) → c *ℤ (x -ℤ k) ≡ (c *ℤ x) -ℤ (c *ℤ k)
     product c x k = move _ _ _ (sym (mul_add c (x -ℤ k) k) ∙ ap (λ z. c *ℤ z) (whole x k))
@@ -230,7 +238,8 @@ module _ (premises : List Row) (updates : List Form) (sides one two : List Row) 
   column-at k j l = get_or-map (λ f. number k f.coefficients) updates j none_form (pos 0) l
 
   column-past : (k j : ℕ) → length updates ≤ j → number j (map (λ f. number k f.coefficients) updates) ≡ pos 0
-  column-past k j l = let e = length-map updates (λ f. number k f.coefficients) in get_or_past (map (λ f. number k f.coefficients) updates) j (pos 0) (omega arith)
+  column-past k j l = let e = length-map updates (λ f. number k f.coefficients) in get_or_past (map (λ f. number k f.coefficients) updates) j (pos 0)
+      (omega arith)
 
   -- the column of a move
   column-other : (k j : ℕ) → (j ≡ k → ⊥) → number j (map (λ f. number k f.coefficients) updates) ≡ pos 0
@@ -269,10 +278,12 @@ module _ (premises : List Row) (updates : List Form) (sides one two : List Row) 
         bound = taken r.bound (dot r.coefficients (map (λ f. f.constant) updates)) (dot c.coefficients (map (λ f. f.constant) updates)) same_constants;
         shown = own_shown premises i d l;
       } in
-      let there = keeps-later (IsImage premises updates) (ShowsAfter premises updates) (length updates) c.coefficients one two second.grown (first.found (omega arith) i none_row inside inside) x (stay i d l) shown in
+      let there = keeps-later (IsImage premises updates) (ShowsAfter premises updates) (length updates) c.coefficients one two second.grown
+      (first.found (omega arith) i none_row inside inside) x (stay i d l) shown in
       let met : dot c.coefficients new ≤ℤ x = covers-side two c.coefficients x there new h in
       let whole = length-back new updates size in
-      let agree : dot c.coefficients (back new updates) ≡ dot r.coefficients (back new updates) = dot-agree (back new updates) c.coefficients r.coefficients (λ j m. k.same j (omega arith)) in
+      let agree : dot c.coefficients (back new updates) ≡ dot r.coefficients (back new updates) = dot-agree (back new updates) c.coefficients r.coefficients
+      (λ j m. k.same j (omega arith)) in
       finish _ _ _ _ _ _ agree (dot-back c.coefficients new updates size) same_constants met
     where
       at_column : (r c : Row) → IsCut (length updates) r c → (j : ℕ) → IsNarrow (length updates) r → (j < length updates) ⊎ (length updates ≤ j)
@@ -296,9 +307,11 @@ module _ (premises : List Row) (updates : List Form) (sides one two : List Row) 
       numbers i d l =
           let m : i < length updates = omega arith in
           let move = moves i none_form m in
-          let there : get_or (values updates (back new updates)) i d ≡ value (get_or updates i none_form) (back new updates) = get_or-map (λ f. value f (back new updates)) updates i none_form d m in
+          let there : get_or (values updates (back new updates)) i d ≡ value (get_or updates i none_form) (back new updates) = get_or-map
+          (λ f. value f (back new updates)) updates i none_form d m in
           let picked : dot (get_or updates i none_form).coefficients (back new updates) ≡ number i (back new updates) =
-          dot-comm (get_or updates i none_form).coefficients (back new updates) ∙ dot-unit (get_or updates i none_form).coefficients (back new updates) i (move.0) (move.1) in
+          dot-comm (get_or updates i none_form).coefficients (back new updates)
+          ∙ dot-unit (get_or updates i none_form).coefficients (back new updates) i (move.0) (move.1) in
           get_or_default new i d (pos 0) l ∙ joined _ _ _ _ picked (back-at new updates i none_form l m) ∙ sym there
         where
           joined : (n c v w : ℤ) → v ≡ w → w ≡ n -ℤ c → n ≡ v +ℤ c
@@ -312,7 +325,8 @@ both-narrow a b width h k = All-append (IsNarrow width) a b (λ i d l j m. let e
 pub cut-none : (width : ℕ) (old : List Row) → AreCut width old 0 []
 cut-none width old = record { size = refl; fits = All-nil Fits; widths = All-nil (λ r. length r.coefficients ≡ width); cut = λ i d e l. absurd (omega arith) }
 
-pub cut-more : (width : ℕ) (old new : List Row) (n : ℕ) (d r : Row) → AreCut width old n new → n < length old → IsCut width (get_or old n d) r → Fits r → AreCut width old (n + 1) (new ++ r ∷ [])
+pub cut-more : (width : ℕ) (old new : List Row) (n : ℕ) (d r : Row) → AreCut width old n new → n < length old → IsCut width (get_or old n d) r → Fits r
+    → AreCut width old (n + 1) (new ++ r ∷ [])
 cut-more width old new n d r a l k f = record {
   size = let x = length_push new r in let y = a.size in omega arith;
   fits = All-push Fits new r a.fits f;
@@ -324,12 +338,15 @@ cut-more width old new n d r a l k f = record {
     go i b e m (inl o) = let y = a.size in let inside : i < length new = omega arith in rw (get_or_append_left new (r ∷ []) e i inside) (a.cut i b e o)
     go i b e m (inr o) = let s : i ≡ n = omega arith in rw (s, get_or_push new r e n a.size, get_or_default old n b d l) k
 
-pub cut-made : (width : ℕ) (r : Row) (cs : List ℤ) → length cs ≡ width → ((k : ℕ) → k < width → number k cs ≡ number k r.coefficients) → IsCut width r (record { coefficients = cs; bound = r.bound })
+pub cut-made : (width : ℕ) (r : Row) (cs : List ℤ) → length cs ≡ width → ((k : ℕ) → k < width → number k cs ≡ number k r.coefficients)
+    → IsCut width r (record { coefficients = cs; bound = r.bound })
 cut-made width r cs w h = record { size = w; same = h; bound = refl }
 
-pub cut-fits : (width : ℕ) (r : Row) (cs : List ℤ) → Fits r → length cs ≡ width → ((k : ℕ) → k < width → number k cs ≡ number k r.coefficients) → Fits (record { coefficients = cs; bound = r.bound })
+pub cut-fits : (width : ℕ) (r : Row) (cs : List ℤ) → Fits r → length cs ≡ width → ((k : ℕ) → k < width → number k cs ≡ number k r.coefficients)
+    → Fits (record { coefficients = cs; bound = r.bound })
 cut-fits width r cs f w h = record {
-  coefficients = λ i d l. let m : i < width = omega arith in rw (get_or_default cs i d (pos 0) l, h i m) (number_within (2 ^ 30) r.coefficients f.coefficients i);
+  coefficients = λ i d l. let m : i < width = omega arith in rw (get_or_default cs i d (pos 0) l, h i m)
+      (number_within (2 ^ 30) r.coefficients f.coefficients i);
   bound = f.bound;
 }
 

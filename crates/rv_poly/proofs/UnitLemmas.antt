@@ -6,7 +6,8 @@ use Rattle.std.proofs.lemmas.Bool.{cases_lt}
 use Rattle.std.proofs.lemmas.List.{same_lists, get_or_default}
 use Rattle.rv_rows.specs.declared.linear.Row.{Row}
 use Rattle.rv_rows.specs.Forms.{number}
-use Rattle.rv_poly.specs.Closing.{KeepsSide, KeepsUnit, KeepsPair, IsSideAdded, IsGrown, unit_number, IsUnitSide, IsUnitAdded, IsPairAdded, AreAxesAdded, ArePairsAdded, AreDiagonalsAdded, AreUnitsAdded}
+use Rattle.rv_poly.specs.Closing.{KeepsSide, KeepsUnit, KeepsPair, IsSideAdded, IsGrown, unit_number, IsUnitSide, IsUnitAdded, IsPairAdded, AreAxesAdded}
+use Rattle.rv_poly.specs.Closing.{ArePairsAdded, AreDiagonalsAdded, AreUnitsAdded}
 use Rattle.rv_poly.proofs.ClosingLemmas.{grown-none, grown-more, grown-one, keeps-later, keeps-added}
 
 unit_small : (a b : Bool) (by other : ℤ) → unsigned_abs by ≡ 1 → unsigned_abs other ≡ 1 → unsigned_abs (if a then by else (if b then other else pos 0)) ≤ 2 ^ 30
@@ -29,14 +30,17 @@ axis_number true by other = refl
 axis_number false by other = refl
 
 module _ (has : List ℤ → Type 0) (shows : Row → Type 0) (width : ℕ) where
-  unit-later : (first second : ℕ) (by other : ℤ) (now new : List Row) → IsGrown has width now new → KeepsUnit shows width first by second other now → KeepsUnit shows width first by second other new
+  unit-later : (first second : ℕ) (by other : ℤ) (now new : List Row) → IsGrown has width now new → KeepsUnit shows width first by second other now
+      → KeepsUnit shows width first by second other new
   unit-later first second by other now new g k room s w n = let x = g.size in keeps-later has shows width s now new g (k (omega arith) s w n)
 
-  pair-later : (first second : ℕ) (now new : List Row) → IsGrown has width now new → KeepsPair shows width first second now → KeepsPair shows width first second new
+  pair-later : (first second : ℕ) (now new : List Row) → IsGrown has width now new → KeepsPair shows width first second now
+      → KeepsPair shows width first second new
   pair-later first second now new g k by other h m = unit-later first second by other now new g (k by other h m)
 
   pub unit-added : (first second : ℕ) (by other : ℤ) (side : List ℤ) (old new : List Row) → unsigned_abs by ≡ 1 → unsigned_abs other ≡ 1 → length side ≡ width
-      → ((k : ℕ) → k < width → number k side ≡ unit_number first by second other k) → IsSideAdded has shows side old new → IsUnitAdded has shows width first by second other old new
+      → ((k : ℕ) → k < width → number k side ≡ unit_number first by second other k) → IsSideAdded has shows side old new
+      → IsUnitAdded has shows width first by second other old new
   unit-added first second by other side old new h k w n one = record { grown = grown; found = found }
     where
       grown : IsGrown has width old new
@@ -50,8 +54,10 @@ module _ (has : List ℤ → Type 0) (shows : Row → Type 0) (width : ℕ) wher
           let P : List ℤ → Type 0 = λ z. KeepsSide shows z new in
           subst P same (keeps-added has shows side old new one (omega arith))
 
-  pub pair-added : (first second : ℕ) (a b c d e : List Row) → IsUnitAdded has shows width first (pos 1) second (pos 1) a b → IsUnitAdded has shows width first (pos 1) second (negsuc 0) b c
-      → IsUnitAdded has shows width first (negsuc 0) second (pos 1) c d → IsUnitAdded has shows width first (negsuc 0) second (negsuc 0) d e → IsPairAdded has shows width first second a e
+  pub pair-added : (first second : ℕ) (a b c d e : List Row) → IsUnitAdded has shows width first (pos 1) second (pos 1) a b
+      → IsUnitAdded has shows width first (pos 1) second (negsuc 0) b c
+      → IsUnitAdded has shows width first (negsuc 0) second (pos 1) c d → IsUnitAdded has shows width first (negsuc 0) second (negsuc 0) d e
+      → IsPairAdded has shows width first second a e
   pair-added first second a b c d e p q r s = record {
     grown = grown-more has shows width a b e p.grown be;
     found = λ by other h k. go by other (one_or by h) (one_or other k);
@@ -69,7 +75,8 @@ module _ (has : List ℤ → Type 0) (shows : Row → Type 0) (width : ℕ) wher
       go by other (inr x) (inl y) = rw (x, y) (unit-later first second (negsuc 0) (pos 1) d e s.grown r.found)
       go by other (inr x) (inr y) = rw (x, y) s.found
 
-  pub axis-added : (first : ℕ) (a b c : List Row) → IsUnitAdded has shows width first (pos 1) first (pos 1) a b → IsUnitAdded has shows width first (negsuc 0) first (negsuc 0) b c
+  pub axis-added : (first : ℕ) (a b c : List Row) → IsUnitAdded has shows width first (pos 1) first (pos 1) a b
+      → IsUnitAdded has shows width first (negsuc 0) first (negsuc 0) b c
       → IsPairAdded has shows width first first a c
   axis-added first a b c p q = record {
     grown = grown-more has shows width a b c p.grown q.grown;
@@ -77,13 +84,15 @@ module _ (has : List ℤ → Type 0) (shows : Row → Type 0) (width : ℕ) wher
   }
     where
       go : (by other : ℤ) → (by ≡ pos 1) ⊎ (by ≡ negsuc 0) → KeepsUnit shows width first by first other c
-      go by other (inl x) room s w n = unit-later first first (pos 1) (pos 1) b c q.grown p.found room s w (λ i l. rw x at (n i l ∙ axis_number (nat_eq i first) by other))
+      go by other (inl x) room s w n = unit-later first first (pos 1) (pos 1) b c q.grown p.found room s w
+          (λ i l. rw x at (n i l ∙ axis_number (nat_eq i first) by other))
       go by other (inr x) room s w n = q.found room s w (λ i l. rw x at (n i l ∙ axis_number (nat_eq i first) by other))
 
   pub axes-none : (old : List Row) → AreAxesAdded has shows width 0 old old
   axes-none old = record { grown = grown-none has shows width old; found = λ first l. absurd (omega arith) }
 
-  pub axes-more : (n : ℕ) (old now new : List Row) → AreAxesAdded has shows width n old now → IsPairAdded has shows width n n now new → AreAxesAdded has shows width (n + 1) old new
+  pub axes-more : (n : ℕ) (old now new : List Row) → AreAxesAdded has shows width n old now → IsPairAdded has shows width n n now new
+      → AreAxesAdded has shows width (n + 1) old new
   axes-more n old now new a p = record {
     grown = grown-more has shows width old now new a.grown p.grown;
     found = λ first l. go first l (cases_lt first n);
@@ -96,7 +105,8 @@ module _ (has : List ℤ → Type 0) (shows : Row → Type 0) (width : ℕ) wher
   pub pairs-none : (first : ℕ) (old : List Row) → ArePairsAdded has shows width first (first + 1) old old
   pairs-none first old = record { grown = grown-none has shows width old; found = λ second l m. absurd (omega arith) }
 
-  pub pairs-more : (first n : ℕ) (old now new : List Row) → ArePairsAdded has shows width first n old now → IsPairAdded has shows width first n now new → ArePairsAdded has shows width first (n + 1) old new
+  pub pairs-more : (first n : ℕ) (old now new : List Row) → ArePairsAdded has shows width first n old now → IsPairAdded has shows width first n now new
+      → ArePairsAdded has shows width first (n + 1) old new
   pairs-more first n old now new a p = record {
     grown = grown-more has shows width old now new a.grown p.grown;
     found = λ second l m. go second l m (cases_lt second n);
@@ -109,7 +119,8 @@ module _ (has : List ℤ → Type 0) (shows : Row → Type 0) (width : ℕ) wher
   pub diagonals-none : (old : List Row) → AreDiagonalsAdded has shows width 0 old old
   diagonals-none old = record { grown = grown-none has shows width old; found = λ first second l m o. absurd (omega arith) }
 
-  pub diagonals-more : (n : ℕ) (old now new : List Row) → AreDiagonalsAdded has shows width n old now → ArePairsAdded has shows width n width now new → AreDiagonalsAdded has shows width (n + 1) old new
+  pub diagonals-more : (n : ℕ) (old now new : List Row) → AreDiagonalsAdded has shows width n old now → ArePairsAdded has shows width n width now new
+      → AreDiagonalsAdded has shows width (n + 1) old new
   diagonals-more n old now new a p = record {
     grown = grown-more has shows width old now new a.grown p.grown;
     found = λ first second l m o. go first second l m o (cases_lt first n);

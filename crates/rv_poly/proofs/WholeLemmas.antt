@@ -1,5 +1,6 @@
 -- Rows with at most one coefficient other than 0, and the numbers that they allow.
-use Rattle.std.proofs.Common.{◌≡◌, ◌⊎◌, ℕ, zero, suc, ◌+◌, ◌≤◌, ◌<◌, ◌^◌, ℤ, pos, negsuc, ◌+ℤ◌, ◌-ℤ◌, ◌*ℤ◌, ◌≤ℤ◌, ◌<ℤ◌, List, [], ◌∷◌, ◌++◌, length, take, get_or, All, FitsSigned, arith, refl, ap, sym, ◌∙◌, subst, inl, inr, Bool, true, false, IsTrue}
+use Rattle.std.proofs.Common.{◌≡◌, ◌⊎◌, ℕ, zero, suc, ◌+◌, ◌≤◌, ◌<◌, ◌^◌, ℤ, pos, negsuc, ◌+ℤ◌, ◌-ℤ◌, ◌*ℤ◌, ◌≤ℤ◌, ◌<ℤ◌, List, [], ◌∷◌, ◌++◌, length, take}
+use Rattle.std.proofs.Common.{get_or, All, FitsSigned, arith, refl, ap, sym, ◌∙◌, subst, inl, inr, Bool, true, false, IsTrue}
 use Rattle.std.specs.Int.{w128}
 use Rattle.std.specs.Int.RustNames.{unsigned_abs}
 use Rattle.std.proofs.Math.IntN.{*ℤ-zero, zero-*ℤ}
@@ -51,7 +52,8 @@ dot-zeros (x ∷ xs) cs h =
 pub dot-single : (xs cs : List ℤ) (k : ℕ) → ((j : ℕ) → (j ≡ k → ⊥) → number j cs ≡ pos 0) → dot cs xs ≡ number k cs *ℤ number k xs
 dot-single [] cs k h = dot-none cs ∙ sym (*ℤ-zero (number k cs))
 dot-single (x ∷ xs) cs zero h =
-    dot-cons cs x xs ∙ ap (λ z. (number 0 cs *ℤ x) +ℤ z) (dot-zeros xs (tail_of cs) (λ k l. get_or-tail cs k ∙ h (k + 1) (λ e. omega arith))) ∙ last (number 0 cs *ℤ x)
+    dot-cons cs x xs ∙ ap (λ z. (number 0 cs *ℤ x) +ℤ z) (dot-zeros xs (tail_of cs) (λ k l. get_or-tail cs k ∙ h (k + 1) (λ e. omega arith)))
+    ∙ last (number 0 cs *ℤ x)
   where
     last : (a : ℤ) → a +ℤ pos 0 ≡ a
     last a = omega (arith, ints)
@@ -94,7 +96,8 @@ dot-suc (c ∷ cs) (x ∷ xs) zero l = last (c *ℤ x)
   where
     last : (a : ℤ) → a +ℤ pos 0 ≡ pos 0 +ℤ a
     last a = omega (arith, ints)
-dot-suc (c ∷ cs) (x ∷ xs) (suc i) l = group (c *ℤ x) (dot (take (suc i) cs) xs) (dot (take i cs) xs) (number i cs *ℤ number i xs) (dot-suc cs xs i (omega arith))
+dot-suc (c ∷ cs) (x ∷ xs) (suc i) l = group (c *ℤ x) (dot (take (suc i) cs) xs) (dot (take i cs) xs) (number i cs *ℤ number i xs)
+    (dot-suc cs xs i (omega arith))
   where
     group : (a b d e : ℤ) → b ≡ d +ℤ e → a +ℤ b ≡ (a +ℤ d) +ℤ e
     group a b d e h = omega (arith, ints)
@@ -147,13 +150,15 @@ pub single-fits : (cs xs : List ℤ) (i : ℕ) → i < length cs → IsSingle cs
     → FitsSigned w128 (dot (take i cs) xs +ℤ (number i cs *ℤ number i xs))
 single-fits cs xs i l s h r =
     rw (sym (dot-next cs xs i l))
-    (let m = single-small (take (i + 1) cs) xs (take-single cs (i + 1) s) (All-take (λ c. unsigned_abs c ≤ 2 ^ 30) (i + 1) cs h) r in fits_signed_from_abs w128 (dot (take (i + 1) cs) xs) (omega arith))
+    (let m = single-small (take (i + 1) cs) xs (take-single cs (i + 1) s) (All-take (λ c. unsigned_abs c ≤ 2 ^ 30) (i + 1) cs h) r in
+    fits_signed_from_abs w128 (dot (take (i + 1) cs) xs) (omega arith))
 
 -- a step of the sum, and its end
 pub side-more : (cs xs : List ℤ) (i : ℕ) (s x y t : ℤ) → i < length cs → s ≡ dot (take i cs) xs → number i cs ≡ x → y ≡ number i xs → t ≡ s +ℤ (x *ℤ y)
     → t ≡ dot (take (i + 1) cs) xs
 side-more cs xs i s x y t l h a b e =
-    e ∙ ap (λ z. z +ℤ (x *ℤ y)) h ∙ ap (λ z. dot (take i cs) xs +ℤ (z *ℤ y)) (sym a) ∙ ap (λ z. dot (take i cs) xs +ℤ (number i cs *ℤ z)) b ∙ sym (dot-next cs xs i l)
+    e ∙ ap (λ z. z +ℤ (x *ℤ y)) h ∙ ap (λ z. dot (take i cs) xs +ℤ (z *ℤ y)) (sym a) ∙ ap (λ z. dot (take i cs) xs +ℤ (number i cs *ℤ z)) b
+    ∙ sym (dot-next cs xs i l)
 
 pub side-fits : (cs xs : List ℤ) (i : ℕ) (s x y : ℤ) → i < length cs → s ≡ dot (take i cs) xs → number i cs ≡ x → y ≡ number i xs → IsSingle cs
     → All (λ c. unsigned_abs c ≤ 2 ^ 30) cs → All IsInReplay xs → FitsSigned w128 (s +ℤ (x *ℤ y))
@@ -170,7 +175,8 @@ pub rest-zero : (cs xs : List ℤ) (k : ℕ) → length xs ≡ k → IsSingle cs
 rest-zero cs xs k e s n = dot-zeros xs cs (λ j l. others-zero cs k s n j (λ f. omega arith))
 
 -- cuts of spans, with the quotient q of the rest
-cut-high : (by rest q low high : ℤ) (new : Span) → pos 0 <ℤ by → (by *ℤ q) ≤ℤ rest → rest <ℤ (by *ℤ (q +ℤ pos 1)) → new.low ≡ low → new.high ≤ℤ high → new.high ≤ℤ q
+cut-high : (by rest q low high : ℤ) (new : Span) → pos 0 <ℤ by → (by *ℤ q) ≤ℤ rest → rest <ℤ (by *ℤ (q +ℤ pos 1)) → new.low ≡ low → new.high ≤ℤ high
+    → new.high ≤ℤ q
     → ((x : ℤ) → x ≤ℤ high → x ≤ℤ q → x ≤ℤ new.high) → IsSpanCut by rest (record { low = low; high = high }) new
 cut-high by rest q low high new p lower upper e h g least = record {
   low = same low new.low e;
@@ -195,13 +201,18 @@ cut-high by rest q low high new p lower upper e h g least = record {
     below a b c h k = omega (arith, ints)
 
 -- `m` is the magnitude of `by`
-cut-low : (by m rest q low high : ℤ) (new : Span) → by ≡ pos 0 -ℤ m → pos 0 <ℤ m → (m *ℤ q) ≤ℤ rest → rest <ℤ (m *ℤ (q +ℤ pos 1)) → new.high ≡ high → low ≤ℤ new.low → (pos 0 -ℤ q) ≤ℤ new.low
+cut-low : (by m rest q low high : ℤ) (new : Span) → by ≡ pos 0 -ℤ m → pos 0 <ℤ m → (m *ℤ q) ≤ℤ rest → rest <ℤ (m *ℤ (q +ℤ pos 1)) → new.high ≡ high
+    → low ≤ℤ new.low → (pos 0 -ℤ q) ≤ℤ new.low
     → ((x : ℤ) → low ≤ℤ x → (pos 0 -ℤ q) ≤ℤ x → new.low ≤ℤ x) → IsSpanCut by rest (record { low = low; high = high }) new
 cut-low by m rest q low high new b p lower upper e h g least = record {
   low = h;
   high = same new.high high e;
   sound = λ x a c. rw (turned x) (up (m *ℤ (pos 0 -ℤ x)) (m *ℤ q) rest (mul_mono m (pos 0 -ℤ x) q (omega (arith, ints)) (opposite x q new.low a g)) lower);
-  kept = λ x a c d. (least x a (opposite_back x q (below_next m (pos 0 -ℤ x) q (omega (arith, ints)) (below (m *ℤ (pos 0 -ℤ x)) rest (m *ℤ (q +ℤ pos 1)) (rw (turned x) at d) upper))), last x new.high high e c);
+  kept = λ x a c d. (
+    least x a (opposite_back x q (below_next m (pos 0 -ℤ x) q (omega (arith, ints))
+        (below (m *ℤ (pos 0 -ℤ x)) rest (m *ℤ (q +ℤ pos 1)) (rw (turned x) at d) upper))),
+    last x new.high high e c,
+  );
 }
   where
     same : (a b : ℤ) → a ≡ b → a ≤ℤ b
@@ -237,7 +248,8 @@ abs-some z h = omega (arith, ints)
 pub high-cut : (by rest q : ℤ) (s : Span) → pos 0 <ℤ by → (pos (unsigned_abs by) *ℤ q) ≤ℤ rest → rest <ℤ (pos (unsigned_abs by) *ℤ (q +ℤ pos 1)) → q <ℤ s.high
     → IsSpanCut by rest s (record { low = s.low; high = q })
 high-cut by rest q s p lower upper b =
-    cut-high by rest q s.low s.high (record { low = s.low; high = q }) p (rw (abs-pos by p) at lower) (rw (abs-pos by p) at upper) refl (less q s.high b) (same q) (λ x h k. k)
+    cut-high by rest q s.low s.high (record { low = s.low; high = q }) p (rw (abs-pos by p) at lower) (rw (abs-pos by p) at upper) refl (less q s.high b)
+    (same q) (λ x h k. k)
   where
     less : (a b : ℤ) → a <ℤ b → a ≤ℤ b
     less a b h = omega (arith, ints)
@@ -245,16 +257,20 @@ high-cut by rest q s p lower upper b =
     same : (a : ℤ) → a ≤ℤ a
     same a = omega (arith, ints)
 
-pub high-kept : (by rest q : ℤ) (s : Span) → pos 0 <ℤ by → (pos (unsigned_abs by) *ℤ q) ≤ℤ rest → rest <ℤ (pos (unsigned_abs by) *ℤ (q +ℤ pos 1)) → s.high ≤ℤ q → IsSpanCut by rest s s
-high-kept by rest q s p lower upper b = cut-high by rest q s.low s.high s p (rw (abs-pos by p) at lower) (rw (abs-pos by p) at upper) refl (same s.high) b (λ x h k. h)
+pub high-kept : (by rest q : ℤ) (s : Span) → pos 0 <ℤ by → (pos (unsigned_abs by) *ℤ q) ≤ℤ rest → rest <ℤ (pos (unsigned_abs by) *ℤ (q +ℤ pos 1)) → s.high ≤ℤ q
+    → IsSpanCut by rest s s
+high-kept by rest q s p lower upper b = cut-high by rest q s.low s.high s p (rw (abs-pos by p) at lower) (rw (abs-pos by p) at upper) refl (same s.high) b
+    (λ x h k. h)
   where
     same : (a : ℤ) → a ≤ℤ a
     same a = omega (arith, ints)
 
-pub low-cut : (by rest q : ℤ) (s : Span) → by <ℤ pos 0 → (pos (unsigned_abs by) *ℤ q) ≤ℤ rest → rest <ℤ (pos (unsigned_abs by) *ℤ (q +ℤ pos 1)) → s.low <ℤ (pos 0 -ℤ q)
+pub low-cut : (by rest q : ℤ) (s : Span) → by <ℤ pos 0 → (pos (unsigned_abs by) *ℤ q) ≤ℤ rest → rest <ℤ (pos (unsigned_abs by) *ℤ (q +ℤ pos 1))
+    → s.low <ℤ (pos 0 -ℤ q)
     → IsSpanCut by rest s (record { low = pos 0 -ℤ q; high = s.high })
 low-cut by rest q s p lower upper b =
-    cut-low by (pos (unsigned_abs by)) rest q s.low s.high (record { low = pos 0 -ℤ q; high = s.high }) (abs-neg by p) (abs-some by p) lower upper refl (less s.low (pos 0 -ℤ q) b) (same (pos 0 -ℤ q)) (λ x h k. k)
+    cut-low by (pos (unsigned_abs by)) rest q s.low s.high (record { low = pos 0 -ℤ q; high = s.high }) (abs-neg by p) (abs-some by p) lower upper refl
+    (less s.low (pos 0 -ℤ q) b) (same (pos 0 -ℤ q)) (λ x h k. k)
   where
     less : (a b : ℤ) → a <ℤ b → a ≤ℤ b
     less a b h = omega (arith, ints)
@@ -262,7 +278,8 @@ low-cut by rest q s p lower upper b =
     same : (a : ℤ) → a ≤ℤ a
     same a = omega (arith, ints)
 
-pub low-kept : (by rest q : ℤ) (s : Span) → by <ℤ pos 0 → (pos (unsigned_abs by) *ℤ q) ≤ℤ rest → rest <ℤ (pos (unsigned_abs by) *ℤ (q +ℤ pos 1)) → (pos 0 -ℤ q) ≤ℤ s.low → IsSpanCut by rest s s
+pub low-kept : (by rest q : ℤ) (s : Span) → by <ℤ pos 0 → (pos (unsigned_abs by) *ℤ q) ≤ℤ rest → rest <ℤ (pos (unsigned_abs by) *ℤ (q +ℤ pos 1))
+    → (pos 0 -ℤ q) ≤ℤ s.low → IsSpanCut by rest s s
 low-kept by rest q s p lower upper b =
     cut-low by (pos (unsigned_abs by)) rest q s.low s.high s (abs-neg by p) (abs-some by p) lower upper refl (same s.low) b (λ x h k. h)
   where
@@ -270,8 +287,10 @@ low-kept by rest q s p lower upper b =
     same a = omega (arith, ints)
 
 -- the quotient of a rest that is not too great, and its opposite, fit
-pub quotient-fits : (m : ℕ) (q rest : ℤ) → 0 < m → unsigned_abs rest ≤ 2 ^ 101 → (pos m *ℤ q) ≤ℤ rest → rest <ℤ (pos m *ℤ (q +ℤ pos 1)) → FitsSigned w128 (pos 0 -ℤ q)
-quotient-fits m q rest p small lower upper = by_lt_z q (negsuc (2 ^ 102)) (λ (below : q <ℤ negsuc (2 ^ 102)). absurd (low below)) (λ (l : negsuc (2 ^ 102) ≤ℤ q). by_lt_z (pos (2 ^ 102)) q (λ (above : pos (2 ^ 102) <ℤ q). absurd (high above)) (λ (h : q ≤ℤ pos (2 ^ 102)). fits l h))
+pub quotient-fits : (m : ℕ) (q rest : ℤ) → 0 < m → unsigned_abs rest ≤ 2 ^ 101 → (pos m *ℤ q) ≤ℤ rest → rest <ℤ (pos m *ℤ (q +ℤ pos 1))
+    → FitsSigned w128 (pos 0 -ℤ q)
+quotient-fits m q rest p small lower upper = by_lt_z q (negsuc (2 ^ 102)) (λ (below : q <ℤ negsuc (2 ^ 102)). absurd (low below))
+    (λ (l : negsuc (2 ^ 102) ≤ℤ q). by_lt_z (pos (2 ^ 102)) q (λ (above : pos (2 ^ 102) <ℤ q). absurd (high above)) (λ (h : q ≤ℤ pos (2 ^ 102)). fits l h))
   where
     one : pos 1 ≤ℤ pos m
     one = omega (arith, ints)
@@ -281,7 +300,8 @@ quotient-fits m q rest p small lower upper = by_lt_z q (negsuc (2 ^ 102)) (λ (b
         let next : (q +ℤ pos 1) ≤ℤ negsuc (2 ^ 102) = omega (arith, ints) in
         let a = mul_mono (pos m) (q +ℤ pos 1) (negsuc (2 ^ 102)) (omega (arith, ints)) next in
         let b = mul_mono (pos (2 ^ 102 + 1)) (pos 1) (pos m) (omega (arith, ints)) one in
-        let c : pos m *ℤ negsuc (2 ^ 102) ≡ pos 0 -ℤ (pos (2 ^ 102 + 1) *ℤ pos m) = mul_neg (pos m) (pos (2 ^ 102 + 1)) ∙ ap (λ z. pos 0 -ℤ z) (mul_comm_int (pos m) (pos (2 ^ 102 + 1))) in
+        let c : pos m *ℤ negsuc (2 ^ 102) ≡ pos 0 -ℤ (pos (2 ^ 102 + 1) *ℤ pos m) = mul_neg (pos m) (pos (2 ^ 102 + 1))
+        ∙ ap (λ z. pos 0 -ℤ z) (mul_comm_int (pos m) (pos (2 ^ 102 + 1))) in
         clash rest (pos m *ℤ (q +ℤ pos 1)) (pos m *ℤ negsuc (2 ^ 102)) (pos (2 ^ 102 + 1) *ℤ pos m) small upper a c b
       where
         clash : (r t u v : ℤ) → unsigned_abs r ≤ 2 ^ 101 → r <ℤ t → t ≤ℤ u → u ≡ pos 0 -ℤ v → pos (2 ^ 102 + 1) ≤ℤ v → ⊥
@@ -311,7 +331,8 @@ narrowed-same k r s n = record {
     same : (a : ℤ) → a ≤ℤ a
     same a = omega (arith, ints)
 
-pub narrowed-cut : (k : ℕ) (r : Row) (old new : Span) → old.low ≤ℤ new.low → new.high ≤ℤ old.high → (coefficient k r ≡ pos 0 → ⊥) → (IsSingle r.coefficients → IsSpanCut (coefficient k r) r.bound old new) → IsNarrowed k r old new
+pub narrowed-cut : (k : ℕ) (r : Row) (old new : Span) → old.low ≤ℤ new.low → new.high ≤ℤ old.high → (coefficient k r ≡ pos 0 → ⊥)
+    → (IsSingle r.coefficients → IsSpanCut (coefficient k r) r.bound old new) → IsNarrowed k r old new
 narrowed-cut k r old new l h n c = record {
   low = l;
   high = h;
@@ -331,7 +352,8 @@ module _ (k : ℕ) (rows : List Row) where
       up_to : (x : ℤ) (n : ℕ) → x <ℤ pos n → x ≤ℤ (pos n -ℤ pos 1)
       up_to x n h = omega (arith, ints)
 
-  pub span-more : (n : ℕ) (d : Row) (now new : Span) → IsSpanOf k rows n now → n < length rows → IsNarrowed k (get_or rows n d) now new → IsSpanOf k rows (n + 1) new
+  pub span-more : (n : ℕ) (d : Row) (now new : Span) → IsSpanOf k rows n now → n < length rows → IsNarrowed k (get_or rows n d) now new
+      → IsSpanOf k rows (n + 1) new
   span-more n d now new a l b = record {
     low = up _ _ _ a.low b.low;
     high = below _ _ _ b.high a.high;
@@ -356,7 +378,8 @@ module _ (k : ℕ) (rows : List Row) where
 pub candidate-none : (rows : List Row) → IsCandidate rows 0 []
 candidate-none rows = record { size = refl; replay = All-nil IsInReplay; allowed = λ s other r h i d k l m. absurd (omega arith) }
 
-pub candidate-more : (rows : List Row) (n : ℕ) (point : List ℤ) (z : ℤ) (span : Span) → IsCandidate rows n point → IsSpanOf n rows (length rows) span → IsInReplay z
+pub candidate-more : (rows : List Row) (n : ℕ) (point : List ℤ) (z : ℤ) (span : Span) → IsCandidate rows n point → IsSpanOf n rows (length rows) span
+    → IsInReplay z
     → (span.low ≤ℤ span.high → (span.low ≤ℤ z) × (z ≤ℤ span.high)) → IsCandidate rows (n + 1) (point ++ z ∷ [])
 candidate-more rows n point z span c s r within = record {
   size = let e = c.size in let x = length_push point z in omega arith;
@@ -368,7 +391,8 @@ candidate-more rows n point z span c s r within = record {
     up a b c h k = omega (arith, ints)
 
     go : All (λ r. IsSingle r.coefficients) rows → (other : List ℤ) → All IsInReplay other → HasPoint rows other → (i : ℕ) (d : Row) (k : ℕ) → i < length rows
-        → (coefficient k (get_or rows i d) ≡ pos 0 → ⊥) → (k < n) ⊎ (n ≤ k) → k < n + 1 → (coefficient k (get_or rows i d) *ℤ number k (point ++ z ∷ [])) ≤ℤ (get_or rows i d).bound
+        → (coefficient k (get_or rows i d) ≡ pos 0 → ⊥) → (k < n) ⊎ (n ≤ k) → k < n + 1
+        → (coefficient k (get_or rows i d) *ℤ number k (point ++ z ∷ [])) ≤ℤ (get_or rows i d).bound
     go single other ro h i d k l nonzero (inl b) m =
         let e = c.size in
         let inside : k < length point = omega arith in
@@ -379,17 +403,21 @@ candidate-more rows n point z span c s r within = record {
         rw (dot-single other (get_or rows j f).coefficients n (others-zero (get_or rows j f).coefficients n (single j f o) y)) at (h j f o)) in
         let in_span = within (up _ _ _ (kept.0) (kept.1)) in
         let here : number n (point ++ z ∷ []) ≡ z = get_or_push point z (pos 0) n c.size in
-        let P : ℕ → Type 0 = λ j. (coefficient j (get_or rows i d) ≡ pos 0 → ⊥) → (coefficient j (get_or rows i d) *ℤ number j (point ++ z ∷ [])) ≤ℤ (get_or rows i d).bound in
+        let P : ℕ → Type 0 = λ j. (coefficient j (get_or rows i d) ≡ pos 0 → ⊥)
+        → (coefficient j (get_or rows i d) *ℤ number j (point ++ z ∷ [])) ≤ℤ (get_or rows i d).bound in
         subst P (sym e) (λ y. rw here (s.sound i d l l (single i d l) y z (in_span.0) (in_span.1))) nonzero
 
 -- where there is some point, the candidate is one
-pub candidate-has : (rows : List Row) (width : ℕ) (point : List ℤ) → All (λ r. length r.coefficients ≡ width) rows → IsCandidate rows width point → All (λ r. IsSingle r.coefficients) rows
+pub candidate-has : (rows : List Row) (width : ℕ) (point : List ℤ) → All (λ r. length r.coefficients ≡ width) rows → IsCandidate rows width point
+    → All (λ r. IsSingle r.coefficients) rows
     → (other : List ℤ) → All IsInReplay other → HasPoint rows other → HasPoint rows point
 candidate-has rows width point widths c single other ro h i d l = go (some_or_none (get_or rows i d).coefficients width)
   where
-    go : ((k : ℕ) × (k < width) × (number k (get_or rows i d).coefficients ≡ pos 0 → ⊥)) ⊎ ((k : ℕ) → k < width → number k (get_or rows i d).coefficients ≡ pos 0) → Holds (get_or rows i d) point
+    go : ((k : ℕ) × (k < width) × (number k (get_or rows i d).coefficients ≡ pos 0 → ⊥))
+        ⊎ ((k : ℕ) → k < width → number k (get_or rows i d).coefficients ≡ pos 0) → Holds (get_or rows i d) point
     go (inl (k, m, n)) =
-        rw (dot-single point (get_or rows i d).coefficients k (others-zero (get_or rows i d).coefficients k (single i d l) n)) (c.allowed single other ro h i d k l m n)
+        rw (dot-single point (get_or rows i d).coefficients k (others-zero (get_or rows i d).coefficients k (single i d l) n))
+        (c.allowed single other ro h i d k l m n)
     go (inr z) =
         rw (dot-zeros point (get_or rows i d).coefficients (λ k m. past k (cases_lt k width)))
         (rw (dot-zeros other (get_or rows i d).coefficients (λ k m. past k (cases_lt k width))) at (h i d l))
@@ -429,7 +457,8 @@ below-zero (pos (suc k)) n h = absurd (omega (arith, ints))
 below-zero (negsuc k) n h = omega (arith, ints)
 
 -- one width
-pub width-past : (rows : List Row) (width column : ℕ) → All (λ r. length r.coefficients ≡ width) rows → column < width → All (λ r. column < length r.coefficients) rows
+pub width-past : (rows : List Row) (width column : ℕ) → All (λ r. length r.coefficients ≡ width) rows → column < width
+    → All (λ r. column < length r.coefficients) rows
 width-past rows width column h l i d m = let e = h i d m in omega arith
 
 -- no other point where the candidate is none

@@ -90,7 +90,8 @@ impl Poly {
         ensures point { IfOk result (λ o. IfSome o (λ p. HasPoint self.now.rows p)) }
         ensures replay { IfOk result (λ o. IfSome o (λ p. All IsInReplay p)) }
         ensures width { IfOk result (λ o. IfSome o (λ p. length p ≡ rows_width self.now.rows)) }
-        ensures none { IfOk result (λ o. All (λ r. IsSingle r.coefficients) self.now.rows → o ≡ None → (point : List ℤ) → All IsInReplay point → ¬ (HasPoint self.now.rows point)) }
+        ensures none { IfOk result (λ o. All (λ r. IsSingle r.coefficients) self.now.rows → o ≡ None → (point : List ℤ) → All IsInReplay point
+            → ¬ (HasPoint self.now.rows point)) }
     {
         let width = width_of(&self.rows);
         let point = candidate(alloc, &self.rows, width, 0)?;

@@ -27,7 +27,8 @@ use Rattle.rv_probe.proofs.Typed.{flat_probe, have_of, number_within}
 
 -- the law by which a trace of a flat system is one of its program
 abbrev pub TracesOfProgram : Type 0
-TracesOfProgram = (program : ProgramTree) (main : Identifier) (f : Flat) (t : Trace) → AreWell program → IsNode program main → IsFlatOf program main f → IsFlatTrace f t → IsTrace program main t
+TracesOfProgram = (program : ProgramTree) (main : Identifier) (f : Flat) (t : Trace) → AreWell program → IsNode program main → IsFlatOf program main f
+    → IsFlatTrace f t → IsTrace program main t
 
 -- A source, and its flat system.
 module _ (p : ProgramTree) (t : Typed) (o : Order) (fits : Fits p t o) (well_formed : (main : Identifier) → IsSourceTree p → IsSettled p main t → AreWell p)
@@ -43,8 +44,10 @@ module _ (p : ProgramTree) (t : Typed) (o : Order) (fits : Fits p t o) (well_for
       have_of states inputs p (name_at p t.main) f of.well of.named of.flat (probe_of f b c) k at.falsified
 
 module _ (program : ProgramTree) (main : Identifier) (f : Flat) where
-  pub cut_probe : (b : Bool) (c : ℤ) → IsTrace program main (probe_of f b c) → (made : Trace) → made ≡ probe_of f b c → (last : ℕ) → IsFalsifiedAt program main made last
-      → (left : List (List Value)) → left ≡ take (last + 1) made.instants → (t : Trace) → record { starts = made.starts; instants = left } ≡ t → IsCutProbe program main f b c t
+  pub cut_probe : (b : Bool) (c : ℤ) → IsTrace program main (probe_of f b c) → (made : Trace) → made ≡ probe_of f b c → (last : ℕ)
+      → IsFalsifiedAt program main made last
+      → (left : List (List Value)) → left ≡ take (last + 1) made.instants → (t : Trace) → record { starts = made.starts; instants = left } ≡ t
+      → IsCutProbe program main f b c t
   cut_probe b c whole made e last is left so t same =
       let first : cut last made ≡ t = (λ i. record { starts = made.starts; instants = sym so i }) ∙ same in
       record {
@@ -59,8 +62,15 @@ module _ (program : ProgramTree) (main : Identifier) (f : Flat) where
       → IsTrace program main t × ((last : ℕ) × (length t.instants ≡ last + 1) × IsFalsifiedAt program main t last)
   told b c t is =
       let whole = probe_of f b c in
-      subst (λ (u : Trace). IsTrace program main u × ((last : ℕ) × (length u.instants ≡ last + 1) × IsFalsifiedAt program main u last)) (sym is.same)
-      (cut_trace program main whole is.last is.whole, (is.last, cut_count program main whole is.last is.falsified, cut_falsified program main whole is.last is.falsified))
+      subst (λ (u : Trace). IsTrace program main u × ((last : ℕ) × (length u.instants ≡ last + 1) × IsFalsifiedAt program main u last)) (sym is.same) (
+        cut_trace program main whole is.last is.whole,
+        (
+          is.last,
+          cut_count program main whole is.last is.falsified,
+          cut_falsified program main whole is.last
+              is.falsified,
+        ),
+      )
 
   -- and a probe that falsifies, cut there
   pub shown : (b : Bool) (c : ℤ) (t : Trace) → IsProbeNumber f c → IsCutProbe program main f b c t
@@ -79,7 +89,8 @@ module _ (program : ProgramTree) (main : Identifier) (f : Flat) where
   ]
 
   -- both, as one clause
-  pub exactly_of : (r : Result (Option Trace) Memory) → ((t : Trace) → r ≡ Ok (Some t) → HasFalsifyingProbe program main f) → (r ≡ Ok Nothing → HasFalsifyingProbe program main f → ⊥)
+  pub exactly_of : (r : Result (Option Trace) Memory) → ((t : Trace) → r ≡ Ok (Some t) → HasFalsifyingProbe program main f)
+      → (r ≡ Ok Nothing → HasFalsifyingProbe program main f → ⊥)
       → IfOk r (λ found. (found ≡ Nothing) ↔ (HasFalsifyingProbe program main f → ⊥))
   exactly_of (Ok (Some t)) some none = (λ e. absurd (let bad : ⊥ = cc in bad), λ h. absurd (h (some t refl)))
   exactly_of (Ok Nothing) some none = (λ e. none refl, λ h. refl)

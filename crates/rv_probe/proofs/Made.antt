@@ -6,7 +6,8 @@ use Rattle.rv_flat.specs.declared.flat.Flat.{Flat}
 use Rattle.rv_flat.specs.Steps.{input_kinds, memory_kinds}
 use Rattle.rv_probe.specs.Probes.{probe_of, probe_value, probe_within}
 
-pub made : (f : Flat) (b : Bool) (c d : ℤ) → d ≡ c → (n : ℕ) (starts : List Value) (instants : List (List Value)) → starts ≡ map (probe_value b d) (memory_kinds f)
+pub made : (f : Flat) (b : Bool) (c d : ℤ) → d ≡ c → (n : ℕ) (starts : List Value) (instants : List (List Value))
+    → starts ≡ map (probe_value b d) (memory_kinds f)
     → instants ≡ replicate n (map (probe_value b d) (input_kinds f)) → n ≡ 16 → record { starts = starts; instants = instants } ≡ probe_of f b c
 unfolding probe_within
 made f b c d number n starts instants e h is =

@@ -1,5 +1,6 @@
 -- A probe is a trace of a flat system where each type has a value; and no trace falsifies where one has none.
-use Rattle.std.proofs.Common.{◌≡◌, ℕ, zero, suc, ◌<◌, ◌≤◌, ◌^◌, Bool, true, false, ◌&&◌, List, [], ◌∷◌, map, get_or, refl, sym, ◌∙◌, ap, subst, arith, Some, IsTrue, slice_get}
+use Rattle.std.proofs.Common.{◌≡◌, ℕ, zero, suc, ◌<◌, ◌≤◌, ◌^◌, Bool, true, false, ◌&&◌, List, [], ◌∷◌, map, get_or, refl, sym, ◌∙◌, ap, subst, arith, Some}
+use Rattle.std.proofs.Common.{IsTrue, slice_get}
 use Rattle.std.specs.Prelude.{ℤ, pos, negsuc, unsigned_abs}
 use Rattle.std.specs.List.{list_all}
 use Rattle.std.proofs.lemmas.Bool.{ltb-true}
@@ -75,7 +76,8 @@ module _ (b : Bool) (c : ℤ) where
   value_fits counts (kind.Labels i) h = h
 
   module _ (f : Flat) (within : IsWithin c) where
-    are_values : (kinds : List Kind) → ((k : ℕ) (j : Kind) → slice_get kinds k ≡ Some j → has_value (label_counts f) j ≡ true) → AreValues f kinds (map (probe_value b c) kinds)
+    are_values : (kinds : List Kind) → ((k : ℕ) (j : Kind) → slice_get kinds k ≡ Some j → has_value (label_counts f) j ≡ true)
+        → AreValues f kinds (map (probe_value b c) kinds)
     are_values kinds have = record {
       size = length-map kinds (probe_value b c);
       typed = λ k j lt e. subst (λ v. IsTrue (constant_fits (label_counts f) j v)) (sym (value_there kinds k j e)) (value_fits (label_counts f) j (have k j e));
@@ -92,7 +94,8 @@ module _ (b : Bool) (c : ℤ) where
         let long = length-replicate n values in
         record {
           starts = are_values (memory_kinds f) (each (λ (m : FlatMemory). m.kind) has f.memories memories);
-          instants = λ k lt. subst (AreValues f (input_kinds f)) (sym (get_or-replicate n k values [] (omega (arith, lt, long)))) (are_values (input_kinds f) (each (λ (i : FlatInput). i.kind) has f.inputs inputs));
+          instants = λ k lt. subst (AreValues f (input_kinds f)) (sym (get_or-replicate n k values [] (omega (arith, lt, long))))
+              (are_values (input_kinds f) (each (λ (i : FlatInput). i.kind) has f.inputs inputs));
           count = omega (arith, few, long);
         }
 
@@ -127,11 +130,13 @@ has_one counts (kind.Labels i) (Flag b) h = absurd (let bad : ⊥ = cc in bad)
 has_one counts (kind.Labels i) (Whole z) h = absurd (let bad : ⊥ = cc in bad)
 has_one counts (kind.Labels i) (Label l) h = let lt = ltb-true l (get_or counts i 0) h in grind (arith, nat_tests)
 
-have_at : (f : Flat) (kinds : List Kind) (values : List Value) → AreValues f kinds values → (k : ℕ) (j : Kind) → slice_get kinds k ≡ Some j → has_value (label_counts f) j ≡ true
+have_at : (f : Flat) (kinds : List Kind) (values : List Value) → AreValues f kinds values → (k : ℕ) (j : Kind) → slice_get kinds k ≡ Some j
+    → has_value (label_counts f) j ≡ true
 have_at f kinds values are k j e = has_one (label_counts f) j (get_or values k (Flag false)) (are.typed k j (slice_get_within kinds k j e) e)
 
 -- Where a trace falsifies, each type has a value.
-module _ (states_of_flat : StatesOfFlat) (inputs_of_flat : InputsOfFlat) (program : ProgramTree) (main : Identifier) (f : Flat) (well : AreWell program) (named : IsNode program main)
+module _ (states_of_flat : StatesOfFlat) (inputs_of_flat : InputsOfFlat) (program : ProgramTree) (main : Identifier) (f : Flat) (well : AreWell program)
+    (named : IsNode program main)
     (flat : IsFlatOf program main f) (t : Trace) (k : ℕ) (is : IsFalsifiedAt program main t k) where
   memories_have : memories_have_values f ≡ true
   memories_have =

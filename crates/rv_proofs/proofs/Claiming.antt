@@ -1,5 +1,6 @@
 -- A closed good box claim, and a left partition.
-use Rattle.std.proofs.Common.{◌≡◌, ◌≢◌, ℕ, zero, suc, ◌+◌, ◌<◌, ℤ, pos, negsuc, ◌≤ℤ◌, List, [], ◌∷◌, length, Bool, true, false, not, cond, Some, IsTrue, slice_get, arith, refl, sym, subst, ◌⊎◌, inl, inr}
+use Rattle.std.proofs.Common.{◌≡◌, ◌≢◌, ℕ, zero, suc, ◌+◌, ◌<◌, ℤ, pos, negsuc, ◌≤ℤ◌, List, [], ◌∷◌, length, Bool, true, false, not, cond, Some, IsTrue}
+use Rattle.std.proofs.Common.{slice_get, arith, refl, sym, subst, ◌⊎◌, inl, inr}
 use Rattle.std.proofs.lemmas.Int.{ints}
 use Rattle.std.proofs.Math.IntN.{zero-*ℤ}
 use Rattle.rv_proofs.proofs.Settling.{settled_from_implied}
@@ -17,7 +18,8 @@ use Rattle.rv_proofs.specs.Accepted.{IsEntry, IsIncluded, IsCovered, Leads, IsSt
 use Rattle.rv_proofs.specs.declared.certificate.Location.{Location}
 use Rattle.rv_proofs.specs.declared.certificate.Entry.{Entry}
 use Rattle.rv_proofs.proofs.Sampling.{all_one, when_false, when_true, each-nil, each-cons}
-use Rattle.rv_proofs.specs.Samples.{counting, counting_row, at_most_ten, rising, steps_on, bare, undecided, row1, form1, node, everywhere, is_false_at, is_true_at}
+use Rattle.rv_proofs.specs.Samples.{counting, counting_row, at_most_ten, rising, steps_on, bare, undecided, row1, form1, node, everywhere, is_false_at}
+use Rattle.rv_proofs.specs.Samples.{is_true_at}
 use Rattle.rv_proofs.specs.Boxes.{IsBoxClaim, HasOneColumn, IsInBox, IsClosed, IsGood}
 use Rattle.rv_proofs.specs.Left.{IsLeftPartition, IsFailingStep, IsUnrefuted}
 use Rattle.std.specs.List.{Contains}

@@ -1,5 +1,6 @@
 -- The sample certificate of the counter with a loop is accepted.
-use Rattle.std.proofs.Common.{◌≡◌, ℕ, zero, suc, ◌+◌, ◌<◌, ◌≤◌, ◌^◌, ℤ, pos, negsuc, ◌+ℤ◌, ◌-ℤ◌, ◌*ℤ◌, List, [], ◌∷◌, ◌++◌, length, Bool, true, false, not, Some, All, slice_get, get_or, arith, refl, sym, ap, ◌∙◌, subst, ◌⊎◌, inl, inr}
+use Rattle.std.proofs.Common.{◌≡◌, ℕ, zero, suc, ◌+◌, ◌<◌, ◌≤◌, ◌^◌, ℤ, pos, negsuc, ◌+ℤ◌, ◌-ℤ◌, ◌*ℤ◌, List, [], ◌∷◌, ◌++◌, length, Bool, true, false, not}
+use Rattle.std.proofs.Common.{Some, All, slice_get, get_or, arith, refl, sym, ap, ◌∙◌, subst, ◌⊎◌, inl, inr}
 use Rattle.std.proofs.lemmas.Int.{ints}
 use Rattle.std.proofs.Math.IntN.{*ℤ-zero}
 use Rattle.rv_proofs.proofs.Settling.{settled_from_implied}
@@ -20,8 +21,10 @@ use Rattle.rv_proofs.specs.Accepted.{IsAccepted, IsEntry, IsInitial, IsIncluded,
 use Rattle.rv_proofs.specs.declared.certificate.Location.{Location}
 use Rattle.rv_proofs.specs.declared.certificate.Entry.{Entry}
 use Rattle.rv_proofs.specs.declared.certificate.EntryKind.TheVariants.{Go}
-use Rattle.rv_proofs.proofs.Sampling.{all_one, all_two, after_one, record_two, record_one, record_none, all_settled, none_named, prove_one, prove_none, refute_two, when_false, when_true, both_true, second_true, each-nil, each-cons}
-use Rattle.rv_proofs.specs.Samples.{counting, counting_row, counted, at_first, at_later, counting_on, standing_still, above_ten, names_unsettled, row1, form1, by_one, by_two, by_none, node, everywhere, counts_on, stands_still, is_false_at, is_true_at}
+use Rattle.rv_proofs.proofs.Sampling.{all_one, all_two, after_one, record_two, record_one, record_none, all_settled, none_named, prove_one, prove_none}
+use Rattle.rv_proofs.proofs.Sampling.{refute_two, when_false, when_true, both_true, second_true, each-nil, each-cons}
+use Rattle.rv_proofs.specs.Samples.{counting, counting_row, counted, at_first, at_later, counting_on, standing_still, above_ten, names_unsettled, row1, form1}
+use Rattle.rv_proofs.specs.Samples.{by_one, by_two, by_none, node, everywhere, counts_on, stands_still, is_false_at, is_true_at}
 
 -- what the diagrams say
 before_tick : (v : Valuation) → IsIn (is_false_at 0) v → v 0 ≡ false

@@ -1,5 +1,6 @@
 -- The certificate of the document of two counters is accepted, and two that differ from it in a record are refused.
-use Rattle.std.proofs.Common.{◌≡◌, ◌≢◌, ℕ, zero, suc, ◌+◌, ◌<◌, ◌≤◌, ◌^◌, ℤ, pos, negsuc, ◌≤ℤ◌, ◌<ℤ◌, ◌+ℤ◌, ◌-ℤ◌, ◌*ℤ◌, map, List, [], ◌∷◌, ◌++◌, length, Bool, true, false, not, cond, Some, All, IsTrue, slice_get, arith, refl, sym, ap, ◌∙◌, subst, ◌⊎◌, inl, inr}
+use Rattle.std.proofs.Common.{◌≡◌, ◌≢◌, ℕ, zero, suc, ◌+◌, ◌<◌, ◌≤◌, ◌^◌, ℤ, pos, negsuc, ◌≤ℤ◌, ◌<ℤ◌, ◌+ℤ◌, ◌-ℤ◌, ◌*ℤ◌, map, List, [], ◌∷◌, ◌++◌, length, Bool}
+use Rattle.std.proofs.Common.{true, false, not, cond, Some, All, IsTrue, slice_get, arith, refl, sym, ap, ◌∙◌, subst, ◌⊎◌, inl, inr}
 use Rattle.std.proofs.lemmas.Int.{ints}
 use Rattle.std.proofs.Math.IntN.{*ℤ-zero}
 use Rattle.rv_proofs.proofs.Settling.{settled_from_implied}
@@ -20,9 +21,11 @@ use Rattle.rv_proofs.specs.Ranges.{IsControlSet, IsCondition, IsRecord, HasDivis
 use Rattle.rv_proofs.specs.Accepted.{IsAccepted, IsEntry, IsInitial, IsIncluded, IsCovered, AreProved, Leads, IsStepKind, IsDeadKind, IsObserved, AreImplied}
 use Rattle.rv_proofs.specs.declared.certificate.Location.{Location}
 use Rattle.rv_proofs.specs.declared.certificate.Entry.{Entry}
-use Rattle.rv_proofs.proofs.Sampling.{all_one, all_two, record_two, record_one, record_none, none_named, prove_one, prove_none, refute_two, when_false, when_true, both_true, each-nil, each-cons}
+use Rattle.rv_proofs.proofs.Sampling.{all_one, all_two, record_two, record_one, record_none, none_named, prove_one, prove_none, refute_two, when_false}
+use Rattle.rv_proofs.proofs.Sampling.{when_true, both_true, each-nil, each-cons}
 use Rattle.rv_proofs.specs.Samples.{by_one, by_two, by_none, node, is_false_at, is_true_at}
-use Rattle.rv_proofs.specs.Counters.{row2, form2, pair_row, paired, both_hold, less_fails, more_fails, less, more, begins, begins_low, begins_high, beginning, goes_on, drops_low, drops_high, going, filed, wrong_weight, misfiled, cut_short}
+use Rattle.rv_proofs.specs.Counters.{row2, form2, pair_row, paired, both_hold, less_fails, more_fails, less, more, begins, begins_low, begins_high, beginning}
+use Rattle.rv_proofs.specs.Counters.{goes_on, drops_low, drops_high, going, filed, wrong_weight, misfiled, cut_short}
 use Rattle.rv_proofs.specs.Verdicts.{Fails, IsUncovered, IsNotIncluded, IsTarget, IsBefore, IsVerdict, place, word_of}
 use Rattle.rv_proofs.specs.declared.verdict.Reason.{Reason}
 use Rattle.rv_proofs.specs.declared.verdict.Verdict.TheVariants.{Rejected}

@@ -1,5 +1,6 @@
 -- Whichever rows and forms stand for the settled tests and updates, an implication holds with all of them or with none.
-use Rattle.std.proofs.Common.{◌≡◌, ◌≢◌, ◌↔◌, ℕ, ◌-◌, ◌<◌, ◌≤◌, ℤ, pos, ◌-ℤ◌, ◌*ℤ◌, List, [], ◌++◌, length, get_or, map, arith, refl, sym, ap, ◌∙◌, ◌⊎◌, inl, inr, Bool, true, false, MatchBool}
+use Rattle.std.proofs.Common.{◌≡◌, ◌≢◌, ◌↔◌, ℕ, ◌-◌, ◌<◌, ◌≤◌, ℤ, pos, ◌-ℤ◌, ◌*ℤ◌, List, [], ◌++◌, length, get_or, map, arith, refl, sym, ap, ◌∙◌, ◌⊎◌, inl}
+use Rattle.std.proofs.Common.{inr, Bool, true, false, MatchBool}
 use Rattle.std.proofs.lemmas.Bool.{cases_lt}
 use Rattle.std.proofs.lemmas.List.{get_or_append_left, get_or-append_right, get_or-map}
 use Rattle.std.proofs.lemmas.List.Elements.{Contains-get_or}

@@ -1,5 +1,6 @@
 -- A certificate with a loop that is checked from `entry` alone, of a system that is not safe.
-use Rattle.std.proofs.Common.{◌≡◌, ℕ, zero, suc, ◌+◌, ◌<◌, ℤ, pos, negsuc, List, [], ◌∷◌, ◌++◌, Bool, true, false, not, Some, slice_get, arith, refl, sym, ap, ◌∙◌, subst}
+use Rattle.std.proofs.Common.{◌≡◌, ℕ, zero, suc, ◌+◌, ◌<◌, ℤ, pos, negsuc, List, [], ◌∷◌, ◌++◌, Bool, true, false, not, Some, slice_get, arith, refl, sym, ap}
+use Rattle.std.proofs.Common.{◌∙◌, subst}
 use Rattle.std.proofs.lemmas.Int.{ints}
 use Rattle.rv_rows.specs.Rows.{row_at, coefficient}
 use Rattle.std.proofs.lemmas.Option.{same_Some, none-some}
@@ -14,8 +15,10 @@ use Rattle.rv_proofs.specs.Accepted.{IsEntry, IsInitial, IsIncluded, IsCovered, 
 use Rattle.rv_proofs.specs.declared.certificate.Location.{Location}
 use Rattle.rv_proofs.specs.declared.certificate.Entry.{Entry}
 use Rattle.rv_proofs.specs.declared.certificate.EntryKind.TheVariants.{Go}
-use Rattle.rv_proofs.proofs.Sampling.{all_one, all_two, after_one, all_settled, none_named, prove_one, prove_none, refute_two, when_false, when_true, each-nil, each-cons}
-use Rattle.rv_proofs.specs.Samples.{rising, rising_row, unsound, rises, above_one, starts_rising, goes_on_rising, LoopFromEntry, IsGoKind, IsAcceptedFromEntry, row1, form1, by_one, by_two, by_none, everywhere, is_false_at, is_true_at}
+use Rattle.rv_proofs.proofs.Sampling.{all_one, all_two, after_one, all_settled, none_named, prove_one, prove_none, refute_two, when_false, when_true, each-nil}
+use Rattle.rv_proofs.proofs.Sampling.{each-cons}
+use Rattle.rv_proofs.specs.Samples.{rising, rising_row, unsound, rises, above_one, starts_rising, goes_on_rising, LoopFromEntry, IsGoKind, IsAcceptedFromEntry}
+use Rattle.rv_proofs.specs.Samples.{row1, form1, by_one, by_two, by_none, everywhere, is_false_at, is_true_at}
 use Rattle.rv_proofs.specs.Runs.{IsAbstractRun, IsSafeSystem}
 use Rattle.rv_proofs.specs.Systems.{Agrees}
 use Rattle.rv_rows.specs.Forms.{number, value}

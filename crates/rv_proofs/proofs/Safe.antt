@@ -1,5 +1,6 @@
 -- An accepted certificate is an inductive invariant.
-use Rattle.std.proofs.Common.{◌≡◌, ℕ, zero, suc, ◌+◌, ◌<◌, ℤ, List, [], ◌∷◌, ◌++◌, length, get_or, All, Some, IsTrue, slice_get, arith, ap, sym, ◌∙◌, subst, ◌⊎◌, inl, inr, add-one}
+use Rattle.std.proofs.Common.{◌≡◌, ℕ, zero, suc, ◌+◌, ◌<◌, ℤ, List, [], ◌∷◌, ◌++◌, length, get_or, All, Some, IsTrue, slice_get, arith, ap, sym, ◌∙◌, subst}
+use Rattle.std.proofs.Common.{◌⊎◌, inl, inr, add-one}
 use Rattle.std.proofs.lemmas.List.{get_or_append_left, get_or-append-add, length-append}
 use Rattle.std.proofs.lemmas.List.Elements.{All-append, All-head, All-tail, All-nil, All-cons}
 use Rattle.std.proofs.lemmas.Option.{slice_get-get_or, same_Some}

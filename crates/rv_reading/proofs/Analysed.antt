@@ -24,7 +24,8 @@ module _ (s : System) (d : Diagrams) (r : Relation) (q : Questions) (thresholds 
   widening = record { relation = given.relation; questions = given.questions }
 
 -- the same in a store that is as it was
-pub given_there : (s : System) (d e : Diagrams) (r : Relation) (q : Questions) (thresholds : List ℤ) → e ≡ d → IsGiven s d r q thresholds → IsGiven s e r q thresholds
+pub given_there : (s : System) (d e : Diagrams) (r : Relation) (q : Questions) (thresholds : List ℤ) → e ≡ d → IsGiven s d r q thresholds
+    → IsGiven s e r q thresholds
 given_there s d e r q thresholds same given = subst (λ (x : Diagrams). IsGiven s x r q thresholds) (sym same) given
 
 module _ (s : System) (thresholds : List ℤ) (c : RowClaim) (least : IsLeastRowClosed s thresholds c)

@@ -85,7 +85,8 @@ one_more false c cs n e = omega (arith, e)
 
 memory_columns_many : (ms : List MemoryAt) → length (memory_columns ms) ≡ whole_count (map (λ m. m.kind) ms)
 memory_columns_many [] = refl
-memory_columns_many (m ∷ ms) = one_more (is_integer m.kind) (KeptColumn m.place) (memory_columns ms) (whole_count (map (λ m. m.kind) ms)) (memory_columns_many ms)
+memory_columns_many (m ∷ ms) = one_more (is_integer m.kind) (KeptColumn m.place) (memory_columns ms) (whole_count (map (λ m. m.kind) ms))
+    (memory_columns_many ms)
 
 input_columns_many : (j : ℕ) (ks : List Kind) → length (input_columns j ks) ≡ whole_count ks
 input_columns_many j [] = refl
@@ -103,7 +104,8 @@ columns_many p main f flat =
     let inputs = input_columns 0 (decl_kinds p (node_of p main).inputs) in
     let same : ms ≡ map memory_of f.memories = one_listing p main ms (map memory_of f.memories) listed.are_memories flat.memories in
     let kept : length (memory_columns ms) ≡ whole_count (map (λ m. m.kind) (map (kept_of f.memories) f.memories)) =
-    memory_columns_many ms ∙ ap (λ (l : List MemoryAt). whole_count (map (λ (m : MemoryAt). m.kind) l)) same ∙ ap whole_count (kept_kinds f.memories f.memories) in
+    memory_columns_many ms ∙ ap (λ (l : List MemoryAt). whole_count (map (λ (m : MemoryAt). m.kind) l)) same
+    ∙ ap whole_count (kept_kinds f.memories f.memories) in
     let given : length inputs ≡ whole_count (map (λ i. i.kind) f.inputs) =
     input_columns_many 0 (decl_kinds p (node_of p main).inputs) ∙ ap whole_count (sym flat.input_kinds) in
     sym (length-map f.columns column_of) ∙ ap length listed.list ∙ length-append (memory_columns ms) inputs ∙ (λ i. kept i + given i)

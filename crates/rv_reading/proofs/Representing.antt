@@ -33,7 +33,8 @@ use Rattle.rv_reading.specs.Analysing as analysing
 use Rattle.std.specs.Int.RustNames.{unsigned_abs}
 use Rattle.rv_reading.specs.Read.{flat_of, system_read, diagrams_of, relation_of, questions_of, IsRead}
 
-module _ (f : Flat) (well : IsWell (system_of f)) (computed : (s : System) (w : Valuation) → IsWell s → IsSymbolic s w (symbolic s w)) (a b : Diagrams) (p : Parts)
+module _ (f : Flat) (well : IsWell (system_of f)) (computed : (s : System) (w : Valuation) → IsWell s → IsSymbolic s w (symbolic s w)) (a b : Diagrams)
+    (p : Parts)
     (size : a.variables ≡ length f.variables) (are : ArePartsRead f a b p) where
   pub parts_are : AreParts (control_of f) b p
   parts_are = record {

@@ -8,7 +8,8 @@ use Rattle.rv_proofs.specs.RowClaims.{HasGoodRows}
 use Rattle.rv_reading.specs.Analysing.{HasStarts}
 
 module _ (s : System) (nodes : List Triple) (variables a : ℕ) (means : (v : Valuation) → value_of nodes a v ≡ s.initial v) where
-  pub picked : (o : Option (List Bool)) → MatchOption o ((v : Valuation) → value_of nodes a v ≡ false) (λ values. IsLeast nodes variables a values) → HasStarts s (is_some o)
+  pub picked : (o : Option (List Bool)) → MatchOption o ((v : Valuation) → value_of nodes a v ≡ false) (λ values. IsLeast nodes variables a values)
+      → HasStarts s (is_some o)
   picked (Some values) is = (λ e. (valuation_of values, sym (means (valuation_of values)) ∙ is.holds), λ e. absurd (let bad : ⊥ = cc in bad))
   picked None is = (λ e. absurd (let bad : ⊥ = cc in bad), λ e v. sym (means v) ∙ is v)
 

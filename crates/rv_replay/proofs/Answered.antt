@@ -18,7 +18,8 @@ module _ (P Q : Result Replayed ReplayFault → Type 0) (r : Result Replayed Rep
   found so a other is = so a (unless P a (subst (AnswersUnlessMemory P) is answers) other)
 
   -- and what is so is answered
-  pub only : ((a : Result Replayed ReplayFault) → P a → (b : Result Replayed ReplayFault) → Q b → a ≡ b) → (b : Result Replayed ReplayFault) → Q b → IsUnlessMemory b r
+  pub only : ((a : Result Replayed ReplayFault) → P a → (b : Result Replayed ReplayFault) → Q b → a ≡ b) → (b : Result Replayed ReplayFault) → Q b
+      → IsUnlessMemory b r
   only one b so = by r answers
     where
       by : (r : Result Replayed ReplayFault) → AnswersUnlessMemory P r → IsUnlessMemory b r

@@ -32,8 +32,10 @@ use Rattle.rv_replay.specs.Observers.{IsObserved}
 use Rattle.rv_replay.specs.Playing.{IsEnd, outgrown, fails, falsified, IsPlayed, never, ends, goes_on, IsPlayedOf}
 use Rattle.rv_replay.specs.Replays.{FailsAt, GoesOn, HasOutgrown, IsFalsifiedAt, IsReplay, OutgrowsAt, Plays, StaysWithin}
 use Rattle.rv_replay.specs.Traces.{Fixes, IsFlatTrace, IsTrace, given}
-use Rattle.rv_replay.proofs.FlatSteps.{FlatPasses, KeepsWithin, StepsGiveRun, outgrown_here, outgrown_there, passes_here, passes_there, run_rows, run_states, run_steps, stays_within}
-use Rattle.rv_replay.proofs.FlatTraces.{InputsOfFlat, StatesOfFlat, are_inputs, are_starts, flat_trace, inputs_flat, starts_flat, starts_same, trace_fixes, trace_inputs, trace_starts}
+use Rattle.rv_replay.proofs.FlatSteps.{FlatPasses, KeepsWithin, StepsGiveRun, outgrown_here, outgrown_there, passes_here, passes_there, run_rows, run_states}
+use Rattle.rv_replay.proofs.FlatSteps.{run_steps, stays_within}
+use Rattle.rv_replay.proofs.FlatTraces.{InputsOfFlat, StatesOfFlat, are_inputs, are_starts, flat_trace, inputs_flat, starts_flat, starts_same, trace_fixes}
+use Rattle.rv_replay.proofs.FlatTraces.{trace_inputs, trace_starts}
 use Rattle.rv_replay.proofs.Orders.{one_least, one_listing}
 
 -- Steps from the start values of a trace, with its inputs.
@@ -69,7 +71,8 @@ module _ (f : Flat) (t : Trace) (states : ℕ → State) (rows : ℕ → Row) wh
   Broken k = IsFlatBroken f (states k) (given t k) (rows k)
 
   abbrev FlatEnd : Result Replayed ReplayFault → Type 0
-  FlatEnd (Ok (Falsified k)) = (k < n) × Before k × ((q : Sites) → Grown k q → ⊥) × ((q : Sites) → Broken k q → ⊥) × (nth (rows k) f.observer ≡ Some (Flag false))
+  FlatEnd (Ok (Falsified k)) = (k < n) × Before k × ((q : Sites) → Grown k q → ⊥) × ((q : Sites) → Broken k q → ⊥)
+      × (nth (rows k) f.observer ≡ Some (Flag false))
   FlatEnd (Ok (AssertionFails k p)) = (k < n) × Before k × ((q : Sites) → Grown k q → ⊥) × IsLeast (Broken k) p.sites
   FlatEnd (Ok NeverFalse) = Before n
   FlatEnd (Err (Outgrown k p)) = (k < n) × Before k × IsLeast (Grown k) p.sites
@@ -143,10 +146,16 @@ module _ (f : Flat) (t : Trace) (states : ℕ → State) (rows : ℕ → Row) wh
         inputs = each 0 (omega arith) ∙ ap (given t) (let none : k + 0 ≡ k = omega arith in none)
 
         row_is : (row : Row) → IsFlatInstant f now x row → row ≡ rows k
-        row_is row is = only_row f (states k) (given t k) (rows k) row (follows.instants k lt) (moved (IsFlatInstant f) now (states k) x (given t k) row row same inputs refl is)
+        row_is row is = only_row f (states k) (given t k) (rows k) row (follows.instants k lt)
+            (moved (IsFlatInstant f) now (states k) x (given t k) row row same inputs refl is)
 
         by : (a : Result Replayed ReplayFault) → IsEnd f k now x a → FlatEnd a
-        by _ (outgrown row p is least) = (lt, before, moved (λ s y r. IsLeast (IsGrown f s y r) p.sites) now (states k) x (given t k) row (rows k) same inputs (row_is row is) least)
+        by _ (outgrown row p is least) = (
+          lt,
+          before,
+          moved (λ s y r. IsLeast (IsGrown f s y r) p.sites) now (states k) x (given t k) row (rows k) same inputs
+              (row_is row is) least,
+        )
         by _ (fails row p is within least) = (
           lt,
           before,
@@ -161,7 +170,8 @@ module _ (f : Flat) (t : Trace) (states : ℕ → State) (rows : ℕ → Row) wh
           subst (λ r. nth r f.observer ≡ Some (Flag false)) (row_is row is) observed,
         )
     played_end _ _ _ _ (goes_on k now next x xs a passed rest) same long each before =
-        played_end (k + 1) next xs a rest next_is (omega (arith, long)) (λ j less. each (suc j) (omega (arith, less)) ∙ ap (given t) (let shifted : k + suc j ≡ (k + 1) + j = omega arith in shifted))
+        played_end (k + 1) next xs a rest next_is (omega (arith, long))
+        (λ j less. each (suc j) (omega (arith, less)) ∙ ap (given t) (let shifted : k + suc j ≡ (k + 1) + j = omega arith in shifted))
         (one_more k before passes)
       where
         lt : k < n
@@ -188,7 +198,8 @@ SomeRun = (program : ProgramTree) (main : Identifier) (sequence : List Sites) (s
     → AreWell program → IsNode program main → IsSequence program main sequence → AreStarts program main starts → AreInputs program main n inputs
     → (h : History) × IsRun program main starts inputs n h
 
-module _ (run_is_instants : RunIsInstants) (states_of_run : StatesOfRun) (some_run : SomeRun) (steps_give_run : StepsGiveRun) (states_of_flat : StatesOfFlat) (inputs_of_flat : InputsOfFlat)
+module _ (run_is_instants : RunIsInstants) (states_of_run : StatesOfRun) (some_run : SomeRun) (steps_give_run : StepsGiveRun) (states_of_flat : StatesOfFlat)
+    (inputs_of_flat : InputsOfFlat)
     (program : ProgramTree) (main : Identifier) (f : Flat) (of : IsObserved program main f) (t : Trace) (trace : IsTrace program main t) where
   abbrev count : ℕ
   count = length t.instants
@@ -200,7 +211,8 @@ module _ (run_is_instants : RunIsInstants) (states_of_run : StatesOfRun) (some_r
   inputs = trace_inputs program main t trace
 
   run_to : (m : ℕ) → m ≤ count → (h : History) × IsRun program main starts inputs m h
-  run_to m le = some_run program main (places f) starts inputs m of.well of.named of.flat.sequence (are_starts program main t trace) (are_inputs program main t trace m le)
+  run_to m le = some_run program main (places f) starts inputs m of.well of.named of.flat.sequence (are_starts program main t trace)
+      (are_inputs program main t trace m le)
 
   whole : (h : History) × IsRun program main starts inputs count h
   whole = run_to count (omega arith)
@@ -219,7 +231,8 @@ module _ (run_is_instants : RunIsInstants) (states_of_run : StatesOfRun) (some_r
       let steps = run_steps run_is_instants states_of_run program main f of starts inputs count whole.0 whole.1 in
       let given_same = inputs_flat program main t trace states_of_flat inputs_of_flat f of.well of.named of.flat in
       record {
-        start = subst (λ vs. IsFlatStart f vs (states 0)) (starts_flat program main t trace states_of_flat inputs_of_flat f of.well of.named of.flat) steps.start;
+        start = subst (λ vs. IsFlatStart f vs (states 0)) (starts_flat program main t trace states_of_flat inputs_of_flat f of.well of.named of.flat)
+            steps.start;
         instants = λ k lt. subst (λ x. IsFlatInstant f (states k) x (rows k)) (given_same k lt) (steps.instants k lt);
         nexts = λ k lt. subst (λ x. IsFlatNext f (states k) x (rows k) (states (k + 1))) (given_same k lt) (steps.nexts k lt);
       }
@@ -246,16 +259,20 @@ module _ (run_is_instants : RunIsInstants) (states_of_run : StatesOfRun) (some_r
         flat = of.flat;
         run = run;
         start = subst (λ vs. IsFlatStart f vs (states 0)) (sym fixed_starts) follows.start;
-        instants = λ k lt. subst (λ x. IsFlatInstant f (states k) x (rows k)) (sym (fixed_inputs k lt)) (follows.instants k (let le = fixed.count in omega (arith, le, lt)));
-        nexts = λ k lt. subst (λ x. IsFlatNext f (states k) x (rows k) (states (k + 1))) (sym (fixed_inputs k lt)) (follows.nexts k (let le = fixed.count in omega (arith, le, lt)));
+        instants = λ k lt. subst (λ x. IsFlatInstant f (states k) x (rows k)) (sym (fixed_inputs k lt))
+            (follows.instants k (let le = fixed.count in omega (arith, le, lt)));
+        nexts = λ k lt. subst (λ x. IsFlatNext f (states k) x (rows k) (states (k + 1))) (sym (fixed_inputs k lt))
+            (follows.nexts k (let le = fixed.count in omega (arith, le, lt)));
       }
 
       module _ (k : ℕ) (lt : k < m) (keeps : KeepsWithin f (states k)) where
         there : Passes f t states rows k → GoesOn program main starts' h k
-        there passes = passes_there steps_give_run program main f starts' inputs' m h states rows steps_of k lt keeps (subst (λ x. FlatPasses f (states k) x (rows k)) (sym (fixed_inputs k lt)) passes)
+        there passes = passes_there steps_give_run program main f starts' inputs' m h states rows steps_of k lt keeps
+            (subst (λ x. FlatPasses f (states k) x (rows k)) (sym (fixed_inputs k lt)) passes)
 
         here : GoesOn program main starts' h k → Passes f t states rows k
-        here goes = subst (λ x. FlatPasses f (states k) x (rows k)) (fixed_inputs k lt) (passes_here steps_give_run program main f starts' inputs' m h states rows steps_of k lt keeps goes)
+        here goes = subst (λ x. FlatPasses f (states k) x (rows k)) (fixed_inputs k lt)
+            (passes_here steps_give_run program main f starts' inputs' m h states rows steps_of k lt keeps goes)
 
   keeps_first : KeepsWithin f (states 0)
   keeps_first j lt =
@@ -268,23 +285,28 @@ module _ (run_is_instants : RunIsInstants) (states_of_run : StatesOfRun) (some_r
   keeps_before (suc k) le before =
       let one : k + 1 ≡ suc k = omega arith in
       subst (λ j. KeepsWithin f (states j)) one
-      (stays_within f (states k) (given t k) (rows k) (states (k + 1)) (keeps_before k (omega (arith, le)) (λ s lt. before s (omega (arith, lt)))) (before k (omega arith)).within (follows.nexts k (omega (arith, le))))
+      (stays_within f (states k) (given t k) (rows k) (states (k + 1)) (keeps_before k (omega (arith, le)) (λ s lt. before s (omega (arith, lt))))
+      (before k (omega arith)).within (follows.nexts k (omega (arith, le))))
 
   -- the first instants of a run pass where those of the flat system do
-  module _ (m : ℕ) (starts' : Sites → Value) (inputs' : ℕ → ℕ → Value) (fixed : Fixes program main t m starts' inputs') (h : History) (run : IsRun program main starts' inputs' m h) where
+  module _ (m : ℕ) (starts' : Sites → Value) (inputs' : ℕ → ℕ → Value) (fixed : Fixes program main t m starts' inputs') (h : History)
+      (run : IsRun program main starts' inputs' m h) where
     goes_there : (k : ℕ) → k ≤ m → Before f t states rows k → (s : ℕ) → s < k → GoesOn program main starts' h s
     goes_there k le before s lt =
-        there m starts' inputs' fixed h run s (omega (arith, le, lt)) (keeps_before s (let most = fixed.count in omega (arith, le, lt, most)) (λ r less. before r (omega (arith, less, lt)))) (before s lt)
+        there m starts' inputs' fixed h run s (omega (arith, le, lt)) (keeps_before s (let most = fixed.count in omega (arith, le, lt, most))
+        (λ r less. before r (omega (arith, less, lt)))) (before s lt)
 
     goes_here : (k : ℕ) → k ≤ m → ((s : ℕ) → s < k → GoesOn program main starts' h s) → Before f t states rows k
     goes_here zero le goes s lt = absurd (omega (arith, lt))
     goes_here (suc k) le goes s lt =
         let before = goes_here k (omega (arith, le)) (λ r less. goes r (omega (arith, less))) in
-        let now = here m starts' inputs' fixed h run k (omega (arith, le)) (keeps_before k (let most = fixed.count in omega (arith, le, most)) before) (goes k (omega arith)) in
+        let now = here m starts' inputs' fixed h run k (omega (arith, le)) (keeps_before k (let most = fixed.count in omega (arith, le, most)) before)
+        (goes k (omega arith)) in
         one_more f t states rows follows k before now s (omega (arith, lt))
 
   -- What an instant gives, in the flat system and in the run.
-  module _ (m : ℕ) (starts' : Sites → Value) (inputs' : ℕ → ℕ → Value) (fixed : Fixes program main t m starts' inputs') (h : History) (run : IsRun program main starts' inputs' m h)
+  module _ (m : ℕ) (starts' : Sites → Value) (inputs' : ℕ → ℕ → Value) (fixed : Fixes program main t m starts' inputs') (h : History)
+      (run : IsRun program main starts' inputs' m h)
       (k : ℕ) (lt : k < m) (before : Before f t states rows k) where
     steps : AreStepsOf program main f starts' inputs' m h states rows
     steps = steps_of m starts' inputs' fixed h run
@@ -296,22 +318,28 @@ module _ (run_is_instants : RunIsInstants) (states_of_run : StatesOfRun) (some_r
     same = fixed_inputs m starts' inputs' fixed k lt
 
     grown_here : (q : Sites) → HasOutgrown program main starts' h k q → Grown f t states rows k q
-    grown_here q is = subst (λ x. IsGrown f (states k) x (rows k) q) same (outgrown_here steps_give_run program main f starts' inputs' m h states rows steps k lt keeps q is)
+    grown_here q is = subst (λ x. IsGrown f (states k) x (rows k) q) same
+        (outgrown_here steps_give_run program main f starts' inputs' m h states rows steps k lt keeps q is)
 
     grown_there : (q : Sites) → Grown f t states rows k q → HasOutgrown program main starts' h k q
-    grown_there q is = outgrown_there steps_give_run program main f starts' inputs' m h states rows steps k lt keeps q (subst (λ x. IsGrown f (states k) x (rows k) q) (sym same) is)
+    grown_there q is = outgrown_there steps_give_run program main f starts' inputs' m h states rows steps k lt keeps q
+        (subst (λ x. IsGrown f (states k) x (rows k) q) (sym same) is)
 
     broken_here : (q : Sites) → IsBrokenAt program main starts' h k q → Broken f t states rows k q
-    broken_here q is = subst (λ x. IsFlatBroken f (states k) x (rows k) q) same ((steps_give_run.broken program main f starts' inputs' m h states rows steps k lt q).1 is)
+    broken_here q is = subst (λ x. IsFlatBroken f (states k) x (rows k) q) same
+        ((steps_give_run.broken program main f starts' inputs' m h states rows steps k lt q).1 is)
 
     broken_there : (q : Sites) → Broken f t states rows k q → IsBrokenAt program main starts' h k q
-    broken_there q is = (steps_give_run.broken program main f starts' inputs' m h states rows steps k lt q).0 (subst (λ x. IsFlatBroken f (states k) x (rows k) q) (sym same) is)
+    broken_there q is = (steps_give_run.broken program main f starts' inputs' m h states rows steps k lt q).0
+        (subst (λ x. IsFlatBroken f (states k) x (rows k) q) (sym same) is)
 
     holds_there : ((q : Sites) → Broken f t states rows k q → ⊥) → AssertionsHold program main starts' h k
-    holds_there none = (steps_give_run.allowed program main f starts' inputs' m h states rows steps k lt).1 (λ q is. none q (subst (λ x. IsFlatBroken f (states k) x (rows k) q) same is))
+    holds_there none = (steps_give_run.allowed program main f starts' inputs' m h states rows steps k lt).1
+        (λ q is. none q (subst (λ x. IsFlatBroken f (states k) x (rows k) q) same is))
 
     holds_here : AssertionsHold program main starts' h k → (q : Sites) → Broken f t states rows k q → ⊥
-    holds_here holds q is = (steps_give_run.allowed program main f starts' inputs' m h states rows steps k lt).0 holds q (subst (λ x. IsFlatBroken f (states k) x (rows k) q) (sym same) is)
+    holds_here holds q is = (steps_give_run.allowed program main f starts' inputs' m h states rows steps k lt).0 holds q
+        (subst (λ x. IsFlatBroken f (states k) x (rows k) q) (sym same) is)
 
     observed_same : nth (rows k) f.observer ≡ observed program main h k
     observed_same = steps_give_run.observer program main f starts' inputs' m h states rows steps k lt
@@ -336,7 +364,8 @@ module _ (run_is_instants : RunIsInstants) (states_of_run : StatesOfRun) (some_r
     abbrev played : Plays program main t (k + 1) k
     played = record { starts = starts; inputs = inputs; fixed = fixes; history = ran.0; run = ran.1; goes_on = goes }
 
-    falsified_there : ((q : Sites) → Grown f t states rows k q → ⊥) → ((q : Sites) → Broken f t states rows k q → ⊥) → nth (rows k) f.observer ≡ Some (Flag false) → IsFalsifiedAt program main t k
+    falsified_there : ((q : Sites) → Grown f t states rows k q → ⊥) → ((q : Sites) → Broken f t states rows k q → ⊥)
+        → nth (rows k) f.observer ≡ Some (Flag false) → IsFalsifiedAt program main t k
     falsified_there within allowed observed = record {
       starts = starts;
       inputs = inputs;
@@ -345,14 +374,16 @@ module _ (run_is_instants : RunIsInstants) (states_of_run : StatesOfRun) (some_r
         ran.0,
         ran.1,
         λ s le. elim (eq-or-lt_of_le {n = s} {m = k} le) [
-          | inl same ↦ subst (AssertionsHold program main starts ran.0) (sym same) (holds_there (k + 1) starts inputs fixes ran.0 ran.1 k (omega arith) before allowed)
+          | inl same ↦ subst (AssertionsHold program main starts ran.0) (sym same)
+              (holds_there (k + 1) starts inputs fixes ran.0 ran.1 k (omega arith) before allowed)
           | inr less ↦ (goes s less).allowed
         ],
         sym (observed_same (k + 1) starts inputs fixes ran.0 ran.1 k (omega arith) before) ∙ observed,
         λ s less. (goes s less).observed,
       );
       within = λ s le. elim (eq-or-lt_of_le {n = s} {m = k} le) [
-        | inl same ↦ subst (StaysWithin program main starts ran.0) (sym same) (λ q is. within q (grown_here (k + 1) starts inputs fixes ran.0 ran.1 k (omega arith) before q is))
+        | inl same ↦ subst (StaysWithin program main starts ran.0) (sym same)
+            (λ q is. within q (grown_here (k + 1) starts inputs fixes ran.0 ran.1 k (omega arith) before q is))
         | inr less ↦ (goes s less).within
       ];
     }
@@ -362,14 +393,16 @@ module _ (run_is_instants : RunIsInstants) (states_of_run : StatesOfRun) (some_r
       plays = played;
       within = λ q is. within q (grown_here (k + 1) starts inputs fixes ran.0 ran.1 k (omega arith) before q is);
       least = least_both (Broken f t states rows k) (IsBrokenAt program main starts ran.0 k) p
-          (broken_there (k + 1) starts inputs fixes ran.0 ran.1 k (omega arith) before) (broken_here (k + 1) starts inputs fixes ran.0 ran.1 k (omega arith) before) least;
+          (broken_there (k + 1) starts inputs fixes ran.0 ran.1 k (omega arith) before)
+          (broken_here (k + 1) starts inputs fixes ran.0 ran.1 k (omega arith) before) least;
     }
 
     outgrows_there : (p : Place) → IsLeast (Grown f t states rows k) p.sites → OutgrowsAt program main t k p
     outgrows_there p least = record {
       plays = played;
       least = least_both (Grown f t states rows k) (HasOutgrown program main starts ran.0 k) p
-          (grown_there (k + 1) starts inputs fixes ran.0 ran.1 k (omega arith) before) (grown_here (k + 1) starts inputs fixes ran.0 ran.1 k (omega arith) before) least;
+          (grown_there (k + 1) starts inputs fixes ran.0 ran.1 k (omega arith) before)
+          (grown_here (k + 1) starts inputs fixes ran.0 ran.1 k (omega arith) before) least;
     }
 
   to_replay : (a : Result Replayed ReplayFault) → FlatEnd f t states rows a → IsReplay program main t a
@@ -413,7 +446,8 @@ module _ (run_is_instants : RunIsInstants) (states_of_run : StatesOfRun) (some_r
         before,
         λ q is. w.within q (grown_there m v.starts v.inputs v.fixed v.history v.run k (omega arith) before q is),
         least_both (IsBrokenAt program main v.starts v.history k) (Broken f t states rows k) p
-            (broken_here m v.starts v.inputs v.fixed v.history v.run k (omega arith) before) (broken_there m v.starts v.inputs v.fixed v.history v.run k (omega arith) before) w.least,
+            (broken_here m v.starts v.inputs v.fixed v.history v.run k (omega arith) before)
+            (broken_there m v.starts v.inputs v.fixed v.history v.run k (omega arith) before) w.least,
       )
   from_replay (Ok NeverFalse) w = goes_here count w.starts w.inputs w.fixed w.history w.run count (omega arith) w.goes_on
   from_replay (Err (Outgrown k p)) w =
@@ -423,7 +457,8 @@ module _ (run_is_instants : RunIsInstants) (states_of_run : StatesOfRun) (some_r
         (let le = v.fixed.count in omega (arith, le)),
         before,
         least_both (HasOutgrown program main v.starts v.history k) (Grown f t states rows k) p
-            (grown_here m v.starts v.inputs v.fixed v.history v.run k (omega arith) before) (grown_there m v.starts v.inputs v.fixed v.history v.run k (omega arith) before) w.least,
+            (grown_here m v.starts v.inputs v.fixed v.history v.run k (omega arith) before)
+            (grown_there m v.starts v.inputs v.fixed v.history v.run k (omega arith) before) w.least,
       )
   from_replay (Err Memory) w = w
 

@@ -1,5 +1,6 @@
 -- The steps of a flat system along a trace, and the run of its program.
-use Rattle.std.proofs.Common.{◌≡◌, ℕ, zero, suc, ◌+◌, ◌<◌, ◌≤◌, ◌↔◌, ℤ, Bool, true, false, cond, List, [], ◌∷◌, map, length, get_or, refl, sym, ◌∙◌, ap, subst, arith, Option, Some, IsSome}
+use Rattle.std.proofs.Common.{◌≡◌, ℕ, zero, suc, ◌+◌, ◌<◌, ◌≤◌, ◌↔◌, ℤ, Bool, true, false, cond, List, [], ◌∷◌, map, length, get_or, refl, sym, ◌∙◌, ap, subst}
+use Rattle.std.proofs.Common.{arith, Option, Some, IsSome}
 use Rattle.std.proofs.Common.{None as Nothing}
 use Rattle.std.specs.FinMap.{empty}
 use Rattle.std.specs.FinMap as finite
@@ -37,16 +38,24 @@ use Rattle.rv_replay.specs.Replays as replays
 
 -- What is taken from the flat systems: steps are the run.
 pub record StepsGiveRun : Type 0 where
-  pub rows : (program : ProgramTree) (main : Identifier) (f : Flat) (starts : Sites → Value) (inputs : ℕ → ℕ → Value) (n : ℕ) (h : History) (states : ℕ → State) (rows : ℕ → Row)
+  pub rows : (program : ProgramTree) (main : Identifier) (f : Flat) (starts : Sites → Value) (inputs : ℕ → ℕ → Value) (n : ℕ) (h : History) (states : ℕ → State)
+      (rows : ℕ → Row)
       → AreStepsOf program main f starts inputs n h states rows → (t : ℕ) → t < n → rows t ≡ row_of (places f) (get_or h t empty)
-  pub states : (program : ProgramTree) (main : Identifier) (f : Flat) (starts : Sites → Value) (inputs : ℕ → ℕ → Value) (n : ℕ) (h : History) (states : ℕ → State) (rows : ℕ → Row)
-      → AreStepsOf program main f starts inputs n h states rows → (t : ℕ) → t ≤ n → (state : Brought) × IsStateAt program main starts (cells h) t state × (states t ≡ flat_state f state)
-  pub observer : (program : ProgramTree) (main : Identifier) (f : Flat) (starts : Sites → Value) (inputs : ℕ → ℕ → Value) (n : ℕ) (h : History) (states : ℕ → State) (rows : ℕ → Row)
+  pub states : (program : ProgramTree) (main : Identifier) (f : Flat) (starts : Sites → Value) (inputs : ℕ → ℕ → Value) (n : ℕ) (h : History)
+      (states : ℕ → State) (rows : ℕ → Row)
+      → AreStepsOf program main f starts inputs n h states rows → (t : ℕ) → t ≤ n
+      → (state : Brought) × IsStateAt program main starts (cells h) t state × (states t ≡ flat_state f state)
+  pub observer : (program : ProgramTree) (main : Identifier) (f : Flat) (starts : Sites → Value) (inputs : ℕ → ℕ → Value) (n : ℕ) (h : History)
+      (states : ℕ → State) (rows : ℕ → Row)
       → AreStepsOf program main f starts inputs n h states rows → (t : ℕ) → t < n → nth (rows t) f.observer ≡ observed program main h t
-  pub broken : (program : ProgramTree) (main : Identifier) (f : Flat) (starts : Sites → Value) (inputs : ℕ → ℕ → Value) (n : ℕ) (h : History) (states : ℕ → State) (rows : ℕ → Row)
-      → AreStepsOf program main f starts inputs n h states rows → (t : ℕ) → t < n → (q : Sites) → IsFlatBroken f (states t) (flat_inputs f (inputs t)) (rows t) q ↔ IsBrokenAt program main starts h t q
-  pub allowed : (program : ProgramTree) (main : Identifier) (f : Flat) (starts : Sites → Value) (inputs : ℕ → ℕ → Value) (n : ℕ) (h : History) (states : ℕ → State) (rows : ℕ → Row)
-      → AreStepsOf program main f starts inputs n h states rows → (t : ℕ) → t < n → AssertionsHold program main starts h t ↔ ((q : Sites) → IsFlatBroken f (states t) (flat_inputs f (inputs t)) (rows t) q → ⊥)
+  pub broken : (program : ProgramTree) (main : Identifier) (f : Flat) (starts : Sites → Value) (inputs : ℕ → ℕ → Value) (n : ℕ) (h : History)
+      (states : ℕ → State) (rows : ℕ → Row)
+      → AreStepsOf program main f starts inputs n h states rows → (t : ℕ) → t < n → (q : Sites)
+      → IsFlatBroken f (states t) (flat_inputs f (inputs t)) (rows t) q ↔ IsBrokenAt program main starts h t q
+  pub allowed : (program : ProgramTree) (main : Identifier) (f : Flat) (starts : Sites → Value) (inputs : ℕ → ℕ → Value) (n : ℕ) (h : History)
+      (states : ℕ → State) (rows : ℕ → Row)
+      → AreStepsOf program main f starts inputs n h states rows → (t : ℕ) → t < n
+      → AssertionsHold program main starts h t ↔ ((q : Sites) → IsFlatBroken f (states t) (flat_inputs f (inputs t)) (rows t) q → ⊥)
 
 -- an instant of a flat system that does not end a replay
 pub record FlatPasses (f : Flat) (now : State) (inputs : List Value) (row : Row) : Type 0 where
@@ -77,13 +86,16 @@ in_range_if (Label l) h = tt
 in_range_if (Whole z) h = within_if z (h z refl)
 
 -- After an instant at which no integer leaves the range they are so again.
-pub stays_within : (f : Flat) (now : State) (inputs : List Value) (row : Row) (next : State) → KeepsWithin f now → ((q : Sites) → IsGrown f now inputs row q → ⊥)
+pub stays_within : (f : Flat) (now : State) (inputs : List Value) (row : Row) (next : State) → KeepsWithin f now
+    → ((q : Sites) → IsGrown f now inputs row q → ⊥)
     → IsFlatNext f now inputs row next → KeepsWithin f next
 stays_within f now inputs row next keeps none is m lt =
     subst IsInRange (sym (is.kept m lt)) (chosen (is_on_at row (nth_item (memory_items f) m).clock) refl)
   where
-    chosen : (b : Bool) → is_on_at row (nth_item (memory_items f) m).clock ≡ b → IsInRange (cond b (value_at now inputs row (nth_item (memory_items f) m).body) (get_or now.kept m (Flag false)))
-    chosen true e = in_range_if (value_at now inputs row (nth_item (memory_items f) m).body) (λ z at out. none (get_or (memory_places f) m []) (memory m z lt e at out refl))
+    chosen : (b : Bool) → is_on_at row (nth_item (memory_items f) m).clock ≡ b
+        → IsInRange (cond b (value_at now inputs row (nth_item (memory_items f) m).body) (get_or now.kept m (Flag false)))
+    chosen true e = in_range_if (value_at now inputs row (nth_item (memory_items f) m).body)
+        (λ z at out. none (get_or (memory_places f) m []) (memory m z lt e at out refl))
     chosen false e = keeps m lt
 
 -- what is there has a value
@@ -92,10 +104,12 @@ there_by Nothing v e = absurd (let bad : ⊥ = cc in bad)
 there_by (Some x) v e = refl
 
 -- the memory with a number, and its place
-memory_at_number : (ms : List FlatMemory) (m : ℕ) → m < length ms → (a : MemoryAt) × Contains (map memory_of ms) a × (get_or (map (λ x. x.place.sites) ms) m [] ≡ a.place)
+memory_at_number : (ms : List FlatMemory) (m : ℕ) → m < length ms → (a : MemoryAt) × Contains (map memory_of ms) a
+    × (get_or (map (λ x. x.place.sites) ms) m [] ≡ a.place)
 memory_at_number [] m lt = absurd (omega (arith, lt))
 memory_at_number (x ∷ ms) zero lt = (memory_of x, (0, omega arith, refl), refl)
-memory_at_number (x ∷ ms) (suc m) lt = let w = memory_at_number ms m (omega (arith, lt)) in (w.0, (suc w.1.0, (let less = w.1.1 in omega (arith, less)), w.1.2), w.2)
+memory_at_number (x ∷ ms) (suc m) lt = let w = memory_at_number ms m (omega (arith, lt)) in
+    (w.0, (suc w.1.0, (let less = w.1.1 in omega (arith, less)), w.1.2), w.2)
 
 -- a value that is there
 taken_by : (b : Bool) (c old : Value) (z : ℤ) → cond b (Some c) Nothing ≡ Some (Whole z) → cond b c old ≡ Whole z
@@ -103,7 +117,8 @@ taken_by true c old z e = cc
 taken_by false c old z e = absurd (let bad : ⊥ = cc in bad)
 
 -- What the instant k of a run and of its steps have in common.
-module _ (steps_give_run : StepsGiveRun) (program : ProgramTree) (main : Identifier) (f : Flat) (starts : Sites → Value) (inputs : ℕ → ℕ → Value) (n : ℕ) (h : History)
+module _ (steps_give_run : StepsGiveRun) (program : ProgramTree) (main : Identifier) (f : Flat) (starts : Sites → Value) (inputs : ℕ → ℕ → Value) (n : ℕ)
+    (h : History)
     (states : ℕ → State) (rows : ℕ → Row) (are : AreStepsOf program main f starts inputs n h states rows) (k : ℕ) (lt : k < n) where
   abbrev x : List Value
   x = flat_inputs f (inputs k)
@@ -144,14 +159,17 @@ module _ (steps_give_run : StepsGiveRun) (program : ProgramTree) (main : Identif
         let d = of.1 in
         let place : get_or (memory_places f) m [] ≡ kept_place i d.site d.operand = found.2 ∙ ap (λ (a : MemoryAt). a.place) of.5 in
         let after : get_or (states (k + 1)).kept m (Flag false) ≡ Whole z =
-        (are.nexts k lt).kept m less ∙ ap (λ b. cond b (value_at (states k) x (rows k) (nth_item (memory_items f) m).body) (get_or (states k).kept m (Flag false))) on ∙ is in
+        (are.nexts k lt).kept m less ∙ ap (λ b. cond b (value_at (states k) x (rows k) (nth_item (memory_items f) m).body)
+        (get_or (states k).kept m (Flag false))) on ∙ is in
         chosen i d z (of.2) (of.4) (sym place ∙ at) out (held_at k (omega arith) i d m of.2 of.4 less place) (keeps m less)
         (is_there (cells h) (clock_in i Base d.operand) k) refl (sym (held_after i d m of.2 of.4 less place) ∙ after)
       where
-        chosen : (i : Instance) (d : Delay) (z : ℤ) → IsInstance program main i → Contains (node_delays i.node) d → kept_place i d.site d.operand ≡ q → (IsWithin z → ⊥)
+        chosen : (i : Instance) (d : Delay) (z : ℤ) → IsInstance program main i → Contains (node_delays i.node) d → kept_place i d.site d.operand ≡ q
+            → (IsWithin z → ⊥)
             → {v : Value} → v ≡ held_before program starts (cells h) i d k → IsInRange v
             → (b : Bool) → is_there (cells h) (clock_in i Base d.operand) k ≡ b
-            → cond (is_there (cells h) (clock_in i Base d.operand) k) (content program starts (cells h) i d.operand k) (held_before program starts (cells h) i d k) ≡ Whole z
+            → cond (is_there (cells h) (clock_in i Base d.operand) k) (content program starts (cells h) i d.operand k)
+            (held_before program starts (cells h) i d k) ≡ Whole z
             → HasOutgrown program main starts h k q
         chosen i d z inst w at out held small true e is =
             let c = content program starts (cells h) i d.operand k in
@@ -176,17 +194,22 @@ module _ (steps_give_run : StepsGiveRun) (program : ProgramTree) (main : Identif
         let m = found.0 in
         let after : get_or (states (k + 1)).kept m (Flag false) ≡ Whole z =
         held_after i d m inst w found.1 found.3
-        ∙ taken_by (is_there (cells h) (clock_in i Base d.operand) k) (content program starts (cells h) i d.operand k) (held_before program starts (cells h) i d k) z is in
-        chosen m found.1 (found.3 ∙ at) (keeps m found.1) (is_on_at (rows k) (nth_item (memory_items f) m).clock) refl (sym ((are.nexts k lt).kept m found.1) ∙ after)
+        ∙ taken_by (is_there (cells h) (clock_in i Base d.operand) k) (content program starts (cells h) i d.operand k)
+        (held_before program starts (cells h) i d k) z is in
+        chosen m found.1 (found.3 ∙ at) (keeps m found.1) (is_on_at (rows k) (nth_item (memory_items f) m).clock) refl
+        (sym ((are.nexts k lt).kept m found.1) ∙ after)
       where
         chosen : (m : ℕ) → m < length f.memories → get_or (memory_places f) m [] ≡ q → IsInRange (get_or (states k).kept m (Flag false))
             → (b : Bool) → is_on_at (rows k) (nth_item (memory_items f) m).clock ≡ b
-            → cond (is_on_at (rows k) (nth_item (memory_items f) m).clock) (value_at (states k) x (rows k) (nth_item (memory_items f) m).body) (get_or (states k).kept m (Flag false)) ≡ Whole z
+            → cond (is_on_at (rows k) (nth_item (memory_items f) m).clock) (value_at (states k) x (rows k) (nth_item (memory_items f) m).body)
+            (get_or (states k).kept m (Flag false)) ≡ Whole z
             → IsGrown f (states k) x (rows k) q
         chosen m less place small true e is =
-            memory m z less e (sym (ap (λ b. cond b (value_at (states k) x (rows k) (nth_item (memory_items f) m).body) (get_or (states k).kept m (Flag false))) e) ∙ is) out place
+            memory m z less e (sym (ap (λ b. cond b (value_at (states k) x (rows k) (nth_item (memory_items f) m).body) (get_or (states k).kept m (Flag false)))
+            e) ∙ is) out place
         chosen m less place small false e is =
-            absurd (out (subst IsInRange (sym (ap (λ b. cond b (value_at (states k) x (rows k) (nth_item (memory_items f) m).body) (get_or (states k).kept m (Flag false))) e) ∙ is) small))
+            absurd (out (subst IsInRange (sym (ap (λ b. cond b (value_at (states k) x (rows k) (nth_item (memory_items f) m).body)
+            (get_or (states k).kept m (Flag false))) e) ∙ is) small))
 
     pub passes_there : FlatPasses f (states k) x (rows k) → replays.GoesOn program main starts h k
     passes_there passes = record {
@@ -226,7 +249,12 @@ module _ (run_is_instants : RunIsInstants) (states_of_run : StatesOfRun) (progra
       let ks = Nothing ∷ map (λ p. Some p) (tick_places f.variables) in
       record {
         ticks = length-map ks (brought 0).ticked
-            ∙ omega (arith, length-map (tick_places f.variables) (λ (p : Sites). Some p), length-map (tick_places f.variables) (λ (p : Sites). Some (index_of (places f) p)));
+            ∙ omega (
+              arith,
+              length-map (tick_places f.variables) (λ (p : Sites). Some p),
+              length-map (tick_places f.variables)
+                  (λ (p : Sites). Some (index_of (places f) p)),
+            );
         none = all_false (brought 0).ticked ks first.ticks;
         kept = same_kept (brought 0).kept starts f.memories (λ m w.
             let found = of.flat.memories.only m w in

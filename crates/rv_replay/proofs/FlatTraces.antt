@@ -31,11 +31,13 @@ use Rattle.rv_replay.proofs.Observers.{InputsOfProgram, StatesOfProgram}
 use Rattle.rv_replay.proofs.Orders.{one_listing}
 
 abbrev pub StatesOfFlat : Type 0
-StatesOfFlat = (program : ProgramTree) (main : Identifier) (f : Flat) (state : Brought) → AreWell program → IsNode program main → IsFlatOf program main f → AreStarts program main state.kept
+StatesOfFlat = (program : ProgramTree) (main : Identifier) (f : Flat) (state : Brought) → AreWell program → IsNode program main → IsFlatOf program main f
+    → AreStarts program main state.kept
     → ((q : Sites) → Contains (instants.memory_places f) q → IsInRange (state.kept q)) → IsState f (flat_state f state)
 
 abbrev pub InputsOfFlat : Type 0
-InputsOfFlat = (program : ProgramTree) (main : Identifier) (f : Flat) (inputs : ℕ → Value) → AreWell program → IsNode program main → IsFlatOf program main f → AreGiven program main inputs
+InputsOfFlat = (program : ProgramTree) (main : Identifier) (f : Flat) (inputs : ℕ → Value) → AreWell program → IsNode program main → IsFlatOf program main f
+    → AreGiven program main inputs
     → ((j : ℕ) → j < length f.inputs → IsInRange (inputs j)) → AreValues f (input_kinds f) (flat_inputs f inputs)
 
 -- values by number, and back
@@ -54,7 +56,8 @@ kinds_same [] = refl
 kinds_same (x ∷ ms) = ap (λ ks. x.kind ∷ ks) (kinds_same ms)
 
 -- what the memories of a flat system start with
-pub starts_same : (starts : Sites → Value) (ms : List FlatMemory) → map (λ (m : MemoryAt). starts m.place) (map memory_of ms) ≡ map starts (map (λ m. m.place.sites) ms)
+pub starts_same : (starts : Sites → Value) (ms : List FlatMemory) → map (λ (m : MemoryAt). starts m.place) (map memory_of ms) ≡ map starts
+    (map (λ m. m.place.sites) ms)
 starts_same starts [] = refl
 starts_same starts (x ∷ ms) = ap (λ vs. starts x.place.sites ∷ vs) (starts_same starts ms)
 
@@ -68,7 +71,8 @@ place_there [] k a lt e = absurd (omega (arith, lt))
 place_there (m ∷ ms) zero a lt e = ap (λ (m : MemoryAt). m.place) e
 place_there (m ∷ ms) (suc k) a lt e = place_there ms k a (omega (arith, lt)) e
 
-in_range_there : (values : List Value) → ((k : ℕ) → k < length values → IsInRange (get_or values k (Flag false))) → (k : ℕ) → IsInRange (get_or values k (Flag false))
+in_range_there : (values : List Value) → ((k : ℕ) → k < length values → IsInRange (get_or values k (Flag false))) → (k : ℕ)
+    → IsInRange (get_or values k (Flag false))
 in_range_there [] within k = tt
 in_range_there (v ∷ values) within zero = within 0 (omega arith)
 in_range_there (v ∷ values) within (suc k) = in_range_there values (λ j lt. within (suc j) (omega (arith, lt))) k
@@ -96,7 +100,8 @@ module _ (program : ProgramTree) (main : Identifier) (t : Trace) (trace : IsTrac
       ext_get_or (Flag false) (map (λ m. trace_starts m.place) trace.memories) t.starts (long ∙ sym starts_many)
       (λ k lt. at k (omega (arith, lt, long)))
     where
-      by_place : (ms : List MemoryAt) (k : ℕ) → k < length ms → get_or (map (λ m. trace_starts m.place) ms) k (Flag false) ≡ trace_starts (get_or (memory_places ms) k [])
+      by_place : (ms : List MemoryAt) (k : ℕ) → k < length ms → get_or (map (λ m. trace_starts m.place) ms) k (Flag false) ≡ trace_starts
+          (get_or (memory_places ms) k [])
       by_place [] k lt = absurd (omega (arith, lt))
       by_place (m ∷ ms) zero lt = refl
       by_place (m ∷ ms) (suc k) lt = by_place ms k (omega (arith, lt))
@@ -109,8 +114,10 @@ module _ (program : ProgramTree) (main : Identifier) (t : Trace) (trace : IsTrac
       let a = memory_at program i d in
       let found = trace.listed.all i d inst tt w in
       let number : index_of spots a.place ≡ found.0 =
-      ap (index_of spots) (sym (place_there trace.memories found.0 a found.1 found.2)) ∙ number_at spots trace.listed.rising found.0 (let lt = found.1 in omega (arith, lt, spots_many)) in
-      subst (λ k. HasKind program a.kind (get_or t.starts k (Flag false))) (sym number) (trace.starts.typed found.0 a.kind (kind_there trace.memories found.0 a found.1 found.2))
+      ap (index_of spots) (sym (place_there trace.memories found.0 a found.1 found.2))
+      ∙ number_at spots trace.listed.rising found.0 (let lt = found.1 in omega (arith, lt, spots_many)) in
+      subst (λ k. HasKind program a.kind (get_or t.starts k (Flag false))) (sym number)
+      (trace.starts.typed found.0 a.kind (kind_there trace.memories found.0 a found.1 found.2))
 
   pub are_given : (k : ℕ) → k < length t.instants → AreGiven program main (trace_inputs k)
   are_given k lt j kind e = (trace.instants k lt).typed j kind e
@@ -132,7 +139,8 @@ module _ (program : ProgramTree) (main : Identifier) (t : Trace) (trace : IsTrac
       inputs_many = length-map (node_of program main).inputs (λ d. kind_in_program program d.kind)
 
   -- the same of its flat system
-  module _ (states_of_flat : StatesOfFlat) (inputs_of_flat : InputsOfFlat) (f : Flat) (well : AreWell program) (named : IsNode program main) (flat : IsFlatOf program main f) where
+  module _ (states_of_flat : StatesOfFlat) (inputs_of_flat : InputsOfFlat) (f : Flat) (well : AreWell program) (named : IsNode program main)
+      (flat : IsFlatOf program main f) where
     inputs_long : length f.inputs ≡ length (decl_kinds program (node_of program main).inputs)
     inputs_long = sym (length-map f.inputs (λ i. i.kind)) ∙ ap length flat.input_kinds
 
@@ -151,7 +159,8 @@ module _ (program : ProgramTree) (main : Identifier) (t : Trace) (trace : IsTrac
           (states_of_flat program main f (record { ticked = λ o. false; kept = trace_starts }) well named flat are_starts
           (λ q w. in_range_there t.starts trace.starts.within (index_of spots q))).kept;
       instants = λ k lt. subst (AreValues f (input_kinds f)) (inputs_flat k lt)
-          (inputs_of_flat program main f (trace_inputs k) well named flat (are_given k lt) (λ j less. in_range_there (given t k) (trace.instants k lt).within j));
+          (inputs_of_flat program main f (trace_inputs k) well named flat (are_given k lt)
+          (λ j less. in_range_there (given t k) (trace.instants k lt).within j));
       count = trace.count;
     }
 
@@ -183,9 +192,11 @@ module _ (states_of_program : StatesOfProgram) (inputs_of_program : InputsOfProg
       let value : get_or t.starts k (Flag false) ≡ state.kept at.place =
       ap (λ vs. get_or vs k (Flag false)) (sym kept_same) ∙ get_or-map state.kept (instants.memory_places f) k [] (Flag false) lt ∙ ap state.kept place in
       subst (λ (x : Kind). HasKind program x (get_or t.starts k (Flag false))) (sym kind)
-      (subst (HasKind program at.kind) (sym value) ((states_of_program program main f (record { ticked = ticked; kept = t.starts }) well named flat first).2 found.0 found.1 found.2 found.4))
+      (subst (HasKind program at.kind) (sym value) ((states_of_program program main f (record { ticked = ticked; kept = t.starts }) well named flat first).2
+      found.0 found.1 found.2 found.4))
 
-  given_typed : (k : ℕ) → k < length t.instants → (j : ℕ) (x : Kind) → slice_get (decl_kinds program (node_of program main).inputs) j ≡ Some x → HasKind program x (get_or (given t k) j (Flag false))
+  given_typed : (k : ℕ) → k < length t.instants → (j : ℕ) (x : Kind) → slice_get (decl_kinds program (node_of program main).inputs) j ≡ Some x
+      → HasKind program x (get_or (given t k) j (Flag false))
   given_typed k lt j x e =
       let of = inputs_of_program program main f (given t k) well named flat (trace.instants k lt) in
       let is : slice_get (input_kinds f) j ≡ Some x = ap (λ ks. slice_get ks j) flat.input_kinds ∙ e in

@@ -37,7 +37,8 @@ TypedFlows = (program : ProgramTree) (main : Identifier) (sequence : List Sites)
     → IsInstant program main state inputs row → IsTypedInstant program main row
 
 abbrev pub StatesOfProgram : Type 0
-StatesOfProgram = (program : ProgramTree) (main : Identifier) (f : Flat) (now : State) → AreWell program → IsNode program main → IsFlatOf program main f → IsState f now
+StatesOfProgram = (program : ProgramTree) (main : Identifier) (f : Flat) (now : State) → AreWell program → IsNode program main → IsFlatOf program main f
+    → IsState f now
     → (state : Brought) × (flat_state f state ≡ now) × AreStarts program main state.kept
 
 abbrev pub InputsOfProgram : Type 0
@@ -95,18 +96,21 @@ module _ (typed_flows : TypedFlows) (states_of_program : StatesOfProgram) (input
   pub its_place : place i observer.name ≡ observer_place program main
   its_place = ap (λ s. s ∷ []) observer.site
 
-  module _ (now : State) (inputs : List Value) (row : Row) (state : IsState f now) (values : AreValues f (input_kinds f) inputs) (instant : IsFlatInstant f now inputs row) where
+  module _ (now : State) (inputs : List Value) (row : Row) (state : IsState f now) (values : AreValues f (input_kinds f) inputs)
+      (instant : IsFlatInstant f now inputs row) where
     pub has_truth : HasTruth f row
     has_truth =
         let before = states_of_program program main f now of.well of.named of.flat state in
         let given = inputs_of_program program main f inputs of.well of.named of.flat values in
         let cells = instant_of (places f) row in
         let is : IsInstant program main before.0 given.0 cells =
-        of.flat.rows before.0 given.0 row (subst (λ s. IsFlatInstant f s (flat_inputs f given.0) row) (sym before.1) (subst (λ js. IsFlatInstant f now js row) (sym given.1) instant)) in
+        of.flat.rows before.0 given.0 row (subst (λ s. IsFlatInstant f s (flat_inputs f given.0) row) (sym before.1)
+        (subst (λ js. IsFlatInstant f now js row) (sym given.1) instant)) in
         let typed = typed_flows program main (places f) before.0 given.0 cells of.well of.named of.flat.sequence before.2 given.2 is in
         let there : IsSome (cell cells (place i observer.name)) =
         (is.clocks i observer.name is_main observer.within).1 (ap (λ (k : Clock). is_on_in cells (absolute i k)) its_clock) in
-        let found = truth program (cell cells (place i observer.name)) there (λ v e. typed i observer.name kind.Bool v is_main observer.within observer.kind e) in
+        let found = truth program (cell cells (place i observer.name)) there (λ v e. typed i observer.name kind.Bool v is_main observer.within observer.kind e)
+        in
         let within = within_places (places f) f.observer n of.flat.observer in
         let told : nth row f.observer ≡ cell cells (place i observer.name) =
         ap (λ r. nth r f.observer) (sym (of.flat.kept row instant.flows))

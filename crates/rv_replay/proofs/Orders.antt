@@ -62,14 +62,16 @@ later x xs up m w =
 rest_rises : (x : MemoryAt) (xs : List MemoryAt) → AreRising (memory_places (x ∷ xs)) → AreRising (memory_places xs)
 rest_rises x xs up j k lt less = up (suc j) (suc k) (omega (arith, lt)) (omega (arith, less))
 
-no_more : (x : MemoryAt) (xs ys : List MemoryAt) → AreRising (memory_places (x ∷ xs)) → ((m : MemoryAt) → Contains (x ∷ xs) m → Contains (x ∷ ys) m) → (m : MemoryAt) → Contains xs m → Contains ys m
+no_more : (x : MemoryAt) (xs ys : List MemoryAt) → AreRising (memory_places (x ∷ xs)) → ((m : MemoryAt) → Contains (x ∷ xs) m → Contains (x ∷ ys) m)
+    → (m : MemoryAt) → Contains xs m → Contains ys m
 no_more x xs ys up to m w = elim (head_or_tail x ys m (to m (in_tail x xs m w))) [
   | inl same ↦ absurd (not_itself m.place (subst (λ (a : MemoryAt). IsBefore a.place m.place) same (later x xs up m w)))
   | inr there ↦ there
 ]
 
 -- Two lists that rise and have the same memories are one.
-one_list : (xs ys : List MemoryAt) → AreRising (memory_places xs) → AreRising (memory_places ys) → ((m : MemoryAt) → Contains xs m → Contains ys m) → ((m : MemoryAt) → Contains ys m → Contains xs m) → xs ≡ ys
+one_list : (xs ys : List MemoryAt) → AreRising (memory_places xs) → AreRising (memory_places ys) → ((m : MemoryAt) → Contains xs m → Contains ys m)
+    → ((m : MemoryAt) → Contains ys m → Contains xs m) → xs ≡ ys
 one_list [] [] up down to from = refl
 one_list [] (y ∷ ys) up down to from = none_in y (from y (at_head y ys))
 one_list (x ∷ xs) [] up down to from = none_in x (to x (at_head x xs))

@@ -38,11 +38,13 @@ some_among : (ns : List NodeTree) (x : Identifier) → IsTrue (is_among (map (λ
 some_among [] x h = absurd (let bad : ⊥ = cc in bad)
 some_among (n ∷ ns) x h = tested (is_same n.name.text x) h (some_among ns x)
   where
-    tested : (b : Bool) → IsTrue (b || is_among (map (λ n. n.name.text) ns) x) → (IsTrue (is_among (map (λ n. n.name.text) ns) x) → IsSome (node_among ns x)) → IsSome (cond b (Some n) (node_among ns x))
+    tested : (b : Bool) → IsTrue (b || is_among (map (λ n. n.name.text) ns) x) → (IsTrue (is_among (map (λ n. n.name.text) ns) x) → IsSome (node_among ns x))
+        → IsSome (cond b (Some n) (node_among ns x))
     tested true h again = refl
     tested false h again = again h
 
-observer_of : (p : ProgramTree) (o : Option NodeTree) → elim o as (λ _. List NameFault) [ Nothing ↦ [] | Some m ↦ cond (is_observer (decl_kinds p m.outputs)) [] (NotObserver m.name.at ∷ []) ] ≡ [] → IsSome o
+observer_of : (p : ProgramTree) (o : Option NodeTree) → elim o as (λ _. List NameFault)
+    [ Nothing ↦ [] | Some m ↦ cond (is_observer (decl_kinds p m.outputs)) [] (NotObserver m.name.at ∷ []) ] ≡ [] → IsSome o
     → is_observer (decl_kinds p (unwrap_or o no_node).outputs) ≡ true
 observer_of p Nothing h some = absurd (let bad : ⊥ = cc in bad)
 observer_of p (Some m) h some = by (is_observer (decl_kinds p m.outputs)) refl h
@@ -51,23 +53,24 @@ observer_of p (Some m) h some = by (is_observer (decl_kinds p m.outputs)) refl h
     by true e h = e
     by false e h = absurd (let bad : ⊥ = cc in bad)
 
-module _ (p : ProgramTree) (t : Typed) (o : Order) (fits : Fits p t o) (well_formed : (main : Identifier) → IsSourceTree p → IsSettled p main t → AreWell p) where
-  abbrev main : Identifier
-  main = name_at p t.main
+module _ (p : ProgramTree) (t : Typed) (o : Order) (fits : Fits p t o) (well_formed : (main : Identifier) → IsSourceTree p → IsSettled p main t → AreWell p)
+  where
+    abbrev main : Identifier
+    main = name_at p t.main
 
-  settled : IsSettled p main t
-  settled = subst (λ (x : Identifier). IsSettled p x t) (sym (main_name p fits.settled.0 t fits.settled.1)) fits.settled.1
+    settled : IsSettled p main t
+    settled = subst (λ (x : Identifier). IsSettled p x t) (sym (main_name p fits.settled.0 t fits.settled.1)) fits.settled.1
 
-  named : IsNode p main
-  named = is_node p main settled.has_main
+    named : IsNode p main
+    named = is_node p main settled.has_main
 
-  pub observed : (f : Flat) → IsFlatOf p main f → IsObserved p main f
-  observed f flat = record {
-    well = well_formed main fits.tree settled;
-    named = named;
-    flat = flat;
-    observer = observer_of p (node_named p main) settled.observer (some_among p.nodes main named);
-  }
+    pub observed : (f : Flat) → IsFlatOf p main f → IsObserved p main f
+    observed f flat = record {
+      well = well_formed main fits.tree settled;
+      named = named;
+      flat = flat;
+      observer = observer_of p (node_named p main) settled.observer (some_among p.nodes main named);
+    }
 
 -- What is taken from the layers below.
 pub record Laws : Type 0 where
@@ -79,8 +82,10 @@ pub record Laws : Type 0 where
   pub inputs : InputsOfFlat
 
 -- The answer of a replay over the flat system of a source says what the trace does to its program.
-module _ (laws : Laws) (p : ProgramTree) (t : Typed) (o : Order) (fits : Fits p t o) (well_formed : (main : Identifier) → IsSourceTree p → IsSettled p main t → AreWell p)
-    (f : Flat) (flat : IsFlatOf p (name_at p t.main) f) (trace : Trace) (is : IsTrace p (name_at p t.main) trace) (r : Result Replayed ReplayFault) (answers : AnswersUnlessMemory (IsPlayedOf f trace) r) where
+module _ (laws : Laws) (p : ProgramTree) (t : Typed) (o : Order) (fits : Fits p t o) (well_formed : (main : Identifier) → IsSourceTree p → IsSettled p main t
+    → AreWell p)
+    (f : Flat) (flat : IsFlatOf p (name_at p t.main) f) (trace : Trace) (is : IsTrace p (name_at p t.main) trace) (r : Result Replayed ReplayFault)
+    (answers : AnswersUnlessMemory (IsPlayedOf f trace) r) where
   abbrev of : IsObserved p (name_at p t.main) f
   of = observed p t o fits well_formed f flat
 
@@ -88,7 +93,9 @@ module _ (laws : Laws) (p : ProgramTree) (t : Typed) (o : Order) (fits : Fits p 
   flat_is = flat_trace p (name_at p t.main) trace is laws.of_flat laws.inputs f of.well of.named flat
 
   pub says : (a : Result Replayed ReplayFault) → (a ≡ Err Memory → ⊥) → r ≡ a → IsReplay p (name_at p t.main) trace a
-  says = found (IsPlayedOf f trace) (IsReplay p (name_at p t.main) trace) r answers (is_replay laws.instants laws.states laws.some laws.steps laws.of_flat laws.inputs p (name_at p t.main) f of trace is)
+  says = found (IsPlayedOf f trace) (IsReplay p (name_at p t.main) trace) r answers
+      (is_replay laws.instants laws.states laws.some laws.steps laws.of_flat laws.inputs p (name_at p t.main) f of trace is)
 
   pub tells : (b : Result Replayed ReplayFault) → IsReplay p (name_at p t.main) trace b → IsUnlessMemory b r
-  tells = only (IsPlayedOf f trace) (IsReplay p (name_at p t.main) trace) r answers (only_replay laws.instants laws.states laws.some laws.steps laws.of_flat laws.inputs p (name_at p t.main) f of trace is)
+  tells = only (IsPlayedOf f trace) (IsReplay p (name_at p t.main) trace) r answers
+      (only_replay laws.instants laws.states laws.some laws.steps laws.of_flat laws.inputs p (name_at p t.main) f of trace is)

@@ -1,5 +1,6 @@
 -- One turn of a replay, and its loop.
-use Rattle.std.proofs.Common.{◌≡◌, ℕ, zero, suc, ◌+◌, ◌<◌, ◌≤◌, Bool, true, false, cond, List, [], ◌∷◌, drop, length, get_or, refl, sym, ◌∙◌, ap, subst, arith, Option, Some, slice_get}
+use Rattle.std.proofs.Common.{◌≡◌, ℕ, zero, suc, ◌+◌, ◌<◌, ◌≤◌, Bool, true, false, cond, List, [], ◌∷◌, drop, length, get_or, refl, sym, ◌∙◌, ap, subst, arith}
+use Rattle.std.proofs.Common.{Option, Some, slice_get}
 use Rattle.std.proofs.Common.{None as Nothing}
 use Rattle.std.specs.Prelude.{Result, Ok, Err}
 use Rattle.std.proofs.lemmas.List.{drop_more}
@@ -27,7 +28,8 @@ use Rattle.rv_replay.specs.Playing.{AnswersUnlessMemory, IsEnd, IsEndFault, IsPa
 its_truth : (o : Option Value) (b : Bool) → ((x : Bool) × (o ≡ Some (Flag x))) → is_on o ≡ b → o ≡ Some (Flag b)
 its_truth o b there is = there.1 ∙ ap (λ x. Some (Flag x)) (sym (ap is_on there.1) ∙ is)
 
-module _ (f : Flat) (now : State) (inputs : List Value) (k : ℕ) (s : Stepped) (is : IsStepped f now inputs s) (truth : HasTruth f s.values) (taken : AreTaken f now inputs s.values) where
+module _ (f : Flat) (now : State) (inputs : List Value) (k : ℕ) (s : Stepped) (is : IsStepped f now inputs s) (truth : HasTruth f s.values)
+    (taken : AreTaken f now inputs s.values) where
   pub turn_fails : (p : Place) → s.broken ≡ Some p → IsTurn f k now inputs (turn.Ends (AssertionFails k p))
   turn_fails p e = fails s.values p is.instant is.within (subst (IsLeastOf (IsFlatBroken f now inputs s.values)) e is.broken)
 
@@ -81,7 +83,12 @@ module _ (f : Flat) (t : Trace) (first : State) (start : IsFlatStart f t.starts 
     faulted Memory h = tt
 
   pub all_played : length t.instants ≤ k → IsPlayedOf f t (Ok NeverFalse)
-  all_played le = record { first = first; start = start; played = played (Ok NeverFalse) (subst (λ xs. IsPlayed f k now xs (Ok NeverFalse)) (sym (nothing_left t.instants k le)) (never k now)) }
+  all_played le = record {
+    first = first;
+    start = start;
+    played = played (Ok NeverFalse)
+        (subst (λ xs. IsPlayed f k now xs (Ok NeverFalse)) (sym (nothing_left t.instants k le)) (never k now));
+  }
     where
       nothing_left : (xs : List (List Value)) (k : ℕ) → length xs ≤ k → drop k xs ≡ []
       nothing_left [] zero le = refl

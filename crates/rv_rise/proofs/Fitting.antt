@@ -1,5 +1,6 @@
 -- The premises and the updates of a case, and the numbers of left sides.
-use Rattle.std.proofs.Common.{◌≡◌, ◌≢◌, ℕ, zero, suc, ◌^◌, ◌<◌, ◌≤◌, ℤ, pos, List, [], ◌∷◌, ◌++◌, length, get_or, All, Option, arith, refl, sym, ap, ◌∙◌, subst, ◌⊎◌, inl, inr}
+use Rattle.std.proofs.Common.{◌≡◌, ◌≢◌, ℕ, zero, suc, ◌^◌, ◌<◌, ◌≤◌, ℤ, pos, List, [], ◌∷◌, ◌++◌, length, get_or, All, Option, arith, refl, sym, ap, ◌∙◌, subst}
+use Rattle.std.proofs.Common.{◌⊎◌, inl, inr}
 use Rattle.std.specs.List.{Contains}
 use Rattle.std.specs.Int.RustNames.{unsigned_abs}
 use Rattle.std.proofs.lemmas.Bool.{cases_eq}
@@ -32,7 +33,8 @@ updates_long s v (suc n) = omega (arith, length-append (updates_among s v n) (s.
 
 updates_all : (s : System) (v : Valuation) → IsSystem s → (n : ℕ) → n ≤ s.memories → All (IsUpdate s) (updates_among s v n)
 updates_all s v is zero l = All-nil (IsUpdate s)
-updates_all s v is (suc n) l = All-push (IsUpdate s) (updates_among s v n) (s.update v n) (updates_all s v is n (omega (arith, l))) (is.updates v n (omega (arith, l)))
+updates_all s v is (suc n) l = All-push (IsUpdate s) (updates_among s v n) (s.update v n) (updates_all s v is n (omega (arith, l)))
+    (is.updates v n (omega (arith, l)))
 
 -- a left side has small numbers
 unit_small : (z : ℤ) → IsUnit z → unsigned_abs z ≤ 2 ^ 30
@@ -63,12 +65,14 @@ side_fits s side r is same l = record {
   bound = l;
 }
 
-all_kept : (s : System) (rows : List Row) → ((r : Row) → Contains rows r → (length r.coefficients ≡ s.memories) × Fits r) → All (λ r. (length r.coefficients ≡ s.memories) × Fits r) rows
+all_kept : (s : System) (rows : List Row) → ((r : Row) → Contains rows r → (length r.coefficients ≡ s.memories) × Fits r)
+    → All (λ r. (length r.coefficients ≡ s.memories) × Fits r) rows
 all_kept s rows h = All-from_get_or (λ (r : Row). (length r.coefficients ≡ s.memories) × Fits r) rows nothing
     (λ k l. h (get_or rows k nothing) (Contains-get_or rows k nothing l))
 
 -- the rows of a claim are kept rows
-pub rows_kept : (s : System) (sides : List Row) → AreSides s sides → (thresholds : List ℤ) → All (λ t. unsigned_abs t ≤ 2 ^ 41) thresholds → (limits : List (Option ℤ))
+pub rows_kept : (s : System) (sides : List Row) → AreSides s sides → (thresholds : List ℤ) → All (λ t. unsigned_abs t ≤ 2 ^ 41) thresholds
+    → (limits : List (Option ℤ))
     → AreAmong thresholds limits → AreKept s (rows_with sides limits)
 rows_kept s sides are thresholds small limits among = (
   all_kept s (rows_with sides limits) (λ r has. kept r (rows_with-from sides limits r has)),
@@ -78,7 +82,8 @@ rows_kept s sides are thresholds small limits among = (
     kept : (r : Row) → IsRowAt sides limits r → (length r.coefficients ≡ s.memories) × Fits r
     kept r at =
         let side = are.each at.place at.there in
-        let m : unsigned_abs r.bound ≤ 2 ^ 41 = All-contains (λ (t : ℤ). unsigned_abs t ≤ 2 ^ 41) thresholds r.bound small (among at.place r.bound at.limit) in (
+        let m : unsigned_abs r.bound ≤ 2 ^ 41 = All-contains (λ (t : ℤ). unsigned_abs t ≤ 2 ^ 41) thresholds r.bound small
+        (among at.place r.bound at.limit) in (
           ap length at.side ∙ side.size,
           side_fits s (row_at sides at.place) r side at.side (omega (arith, m)),
         )

@@ -1,5 +1,6 @@
 -- The rows that limits make of left sides.
-use Rattle.std.proofs.Common.{◌≡◌, ℕ, zero, suc, ◌<◌, ◌≤◌, ℤ, List, [], ◌∷◌, ◌++◌, ◌+◌, length, take, Option, Some, slice_get, arith, refl, sym, ap, ◌∙◌, subst, ◌⊎◌, inl, inr}
+use Rattle.std.proofs.Common.{◌≡◌, ℕ, zero, suc, ◌<◌, ◌≤◌, ℤ, List, [], ◌∷◌, ◌++◌, ◌+◌, length, take, Option, Some, slice_get, arith, refl, sym, ap, ◌∙◌, subst}
+use Rattle.std.proofs.Common.{◌⊎◌, inl, inr}
 use Rattle.std.proofs.Common.{None as Nothing}
 use Rattle.std.specs.List.{Contains}
 use Rattle.std.proofs.lemmas.Option.{same_Some, none-some, slice_get_within, get_or_from_slice_get}
@@ -21,7 +22,8 @@ rows_with-push [] [] r o e = refl
 rows_with-push [] (x ∷ limits) r o e = absurd (omega (arith, e))
 rows_with-push (side ∷ sides) [] r o e = absurd (omega (arith, e))
 rows_with-push (side ∷ sides) (Nothing ∷ limits) r o e = rows_with-push sides limits r o (omega (arith, e))
-rows_with-push (side ∷ sides) (Some b ∷ limits) r o e = ap (λ (rs : List Row). bounded side.coefficients b ∷ rs) (rows_with-push sides limits r o (omega (arith, e)))
+rows_with-push (side ∷ sides) (Some b ∷ limits) r o e = ap (λ (rs : List Row). bounded side.coefficients b ∷ rs)
+    (rows_with-push sides limits r o (omega (arith, e)))
 
 pub rows_with-one : (r : Row) (b : ℤ) → rows_with (r ∷ []) (Some b ∷ []) ≡ bounded r.coefficients b ∷ []
 unfolding rows_with
@@ -57,7 +59,8 @@ rows_with-has (side ∷ sides) (Nothing ∷ limits) (suc k) b l at = rows_with-h
 rows_with-has (side ∷ sides) (Some a ∷ limits) zero b l at =
     let e : a ≡ b = same_Some a b at in
     subst (λ (z : ℤ). Contains (bounded side.coefficients a ∷ rows_with sides limits) (bounded side.coefficients z)) e
-    (Contains-append_left (bounded side.coefficients a ∷ []) (rows_with sides limits) (bounded side.coefficients a) (Contains-push [] (bounded side.coefficients a)))
+    (Contains-append_left (bounded side.coefficients a ∷ []) (rows_with sides limits) (bounded side.coefficients a)
+    (Contains-push [] (bounded side.coefficients a)))
 rows_with-has (side ∷ sides) (Some a ∷ limits) (suc k) b l at =
     Contains-append_right (bounded side.coefficients a ∷ []) (rows_with sides limits) (bounded (row_at sides k).coefficients b)
     (rows_with-has sides limits k b (omega (arith, l)) at)
@@ -66,7 +69,8 @@ rows_with-has (side ∷ sides) (Some a ∷ limits) (suc k) b l at =
 pub own_rows : (sides : List Row) (limits : List (Option ℤ)) → length limits ≡ length sides → (rows : List Row) (own : List (Option ℤ))
     → rows ≡ rows_with sides limits → own ≡ limits → AreOwn sides own rows
 own_rows sides limits size rows own are same k b e =
-    subst (λ (rs : List Row). Contains rs (bounded (row_at sides k).coefficients b)) (sym are) (rows_with-has sides limits k b (go (cases_lt k (length limits))) at)
+    subst (λ (rs : List Row). Contains rs (bounded (row_at sides k).coefficients b)) (sym are)
+    (rows_with-has sides limits k b (go (cases_lt k (length limits))) at)
   where
     at : limit_at limits k ≡ Some b
     at = ap (λ (os : List (Option ℤ)). limit_at os k) (sym same) ∙ e
@@ -93,7 +97,8 @@ unfolding rows_with
 rows_with-from [] limits r has = absurd (none_in r has)
 rows_with-from (side ∷ sides) [] r has = absurd (none_in r has)
 rows_with-from (side ∷ sides) (Nothing ∷ limits) r has = next_at side sides Nothing limits r (rows_with-from sides limits r has)
-rows_with-from (side ∷ sides) (Some a ∷ limits) r has = go (rows_with-from sides limits r) (Contains-append_cases (bounded side.coefficients a ∷ []) (rows_with sides limits) r has)
+rows_with-from (side ∷ sides) (Some a ∷ limits) r has = go (rows_with-from sides limits r)
+    (Contains-append_cases (bounded side.coefficients a ∷ []) (rows_with sides limits) r has)
   where
     here : (bounded side.coefficients a ≡ r) → IsRowAt (side ∷ sides) (Some a ∷ limits) r
     here e = record { place = 0; there = omega arith; limit = ap (λ (x : Row). Some x.bound) e; side = ap (λ (x : Row). x.coefficients) (sym e) }
@@ -117,7 +122,8 @@ AreApart sides = (i j : ℕ) → i < j → j < length sides → (row_at sides i)
 apart_tail : (side : Row) (sides : List Row) → AreApart (side ∷ sides) → AreApart sides
 apart_tail side sides h i j l m e = h (suc i) (suc j) (omega (arith, l)) (omega (arith, m)) e
 
-apart_head : (side : Row) (sides : List Row) → AreApart (side ∷ sides) → (limits : List (Option ℤ)) (r : Row) → IsRowAt sides limits r → side.coefficients ≡ r.coefficients → ⊥
+apart_head : (side : Row) (sides : List Row) → AreApart (side ∷ sides) → (limits : List (Option ℤ)) (r : Row) → IsRowAt sides limits r
+    → side.coefficients ≡ r.coefficients → ⊥
 apart_head side sides h limits r at e = let l = at.there in h 0 (suc at.place) (omega arith) (omega (arith, l)) (e ∙ at.side)
 
 pub rows_with-different : (sides : List Row) (limits : List (Option ℤ)) → AreApart sides → (i j : ℕ) (q r : Row) → slice_get (rows_with sides limits) i ≡ Some q
@@ -133,7 +139,8 @@ rows_with-different (side ∷ sides) (Some a ∷ limits) h zero (suc j) q r at t
 rows_with-different (side ∷ sides) (Some a ∷ limits) h (suc i) zero q r at there e =
     absurd (apart_head side sides h limits q (rows_with-from sides limits q (contains_at (rows_with sides limits) i q at))
     (ap (λ (x : Row). x.coefficients) (same_Some (bounded side.coefficients a) r there) ∙ sym e))
-rows_with-different (side ∷ sides) (Some a ∷ limits) h (suc i) (suc j) q r at there e = ap suc (rows_with-different sides limits (apart_tail side sides h) i j q r at there e)
+rows_with-different (side ∷ sides) (Some a ∷ limits) h (suc i) (suc j) q r at there e = ap suc
+    (rows_with-different sides limits (apart_tail side sides h) i j q r at there e)
 
 -- there are no more rows than sides
 pub rows_with-few : (sides : List Row) (limits : List (Option ℤ)) → length (rows_with sides limits) ≤ length sides

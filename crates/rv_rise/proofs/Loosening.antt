@@ -39,7 +39,8 @@ room_push [] o = omega arith
 room_push (x ∷ os) o = omega (arith, room_push os o)
 
 -- A loosened limit leaves less room, or is as before.
-pub loosened_room : (thresholds : List ℤ) (rows : List Row) (forms : List Form) (side : Row) (old new : Option ℤ) → All (λ t. unsigned_abs t ≤ 2 ^ 41) thresholds
+pub loosened_room : (thresholds : List ℤ) (rows : List Row) (forms : List Form) (side : Row) (old new : Option ℤ)
+    → All (λ t. unsigned_abs t ≤ 2 ^ 41) thresholds
     → IsLoosened thresholds rows forms side old new → (new ≡ old) ⊎ (room_of new < room_of old)
 loosened_room thresholds rows forms side Nothing Nothing small is = inl refl
 loosened_room thresholds rows forms side (Some a) Nothing small is = inr (omega (arith, room_nothing, room_some a))
@@ -72,7 +73,8 @@ changed_more false true olds news old new h (inl e) t u = absurd (t refl e)
 changed_more false true olds news old new h (inr l) t u = omega (arith, ap room h, l, room_push olds old, room_push news new)
 changed_more false false olds news old new h s t u = ap (λ (os : List (Option ℤ)). os ++ new ∷ []) h ∙ ap (λ (o : Option ℤ). olds ++ o ∷ []) (u refl)
 
-pub loosened_more : (thresholds : List ℤ) (rows : List Row) (forms : List Form) (sides : List Row) (n : ℕ) (old news : List (Option ℤ)) (o new : Option ℤ) (r : Row)
+pub loosened_more : (thresholds : List ℤ) (rows : List Row) (forms : List Form) (sides : List Row) (n : ℕ) (old news : List (Option ℤ)) (o new : Option ℤ)
+    (r : Row)
     → AreLoosened thresholds rows forms sides n old news → limit_at old n ≡ o → row_at sides n ≡ r → IsLoosened thresholds rows forms r o new
     → AreLoosened thresholds rows forms sides (n + 1) old (news ++ new ∷ [])
 loosened_more thresholds rows forms sides n old news o new r are is is_side here = record {

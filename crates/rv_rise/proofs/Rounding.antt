@@ -1,5 +1,6 @@
 -- Rounds, and the claim at which they end.
-use Rattle.std.proofs.Common.{◌≡◌, ℕ, ◌+◌, ◌^◌, ◌<◌, ◌≤◌, ℤ, negsuc, ◌≤ℤ◌, ◌<ℤ◌, Bool, true, false, cond, not, ◌&&◌, List, [], ◌++◌, length, All, Option, Some, IsTrue, slice_get, arith, lit≤, refl, sym, ap, ◌∙◌, subst, ◌⊎◌, inl, inr}
+use Rattle.std.proofs.Common.{◌≡◌, ℕ, ◌+◌, ◌^◌, ◌<◌, ◌≤◌, ℤ, negsuc, ◌≤ℤ◌, ◌<ℤ◌, Bool, true, false, cond, not, ◌&&◌, List, [], ◌++◌, length, All, Option, Some}
+use Rattle.std.proofs.Common.{IsTrue, slice_get, arith, lit≤, refl, sym, ap, ◌∙◌, subst, ◌⊎◌, inl, inr}
 use Rattle.std.proofs.Common.{None as Nothing}
 use Rattle.std.specs.List.{Contains}
 use Rattle.std.specs.Int.RustNames.{unsigned_abs}

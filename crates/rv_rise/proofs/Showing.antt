@@ -1,5 +1,6 @@
 -- What premises show at once, and the least bound of a pair.
-use Rattle.std.proofs.Common.{◌≡◌, ℕ, ◌+◌, ◌-◌, ◌++◌, ◌^◌, ◌<◌, ◌≤◌, ℤ, pos, negsuc, ◌+ℤ◌, ◌-ℤ◌, ◌≤ℤ◌, ◌<ℤ◌, Bool, true, false, List, [], length, map, All, Option, Some, arith, refl, sym, ap, ◌∙◌, subst, ◌⊎◌, inl, inr}
+use Rattle.std.proofs.Common.{◌≡◌, ℕ, ◌+◌, ◌-◌, ◌++◌, ◌^◌, ◌<◌, ◌≤◌, ℤ, pos, negsuc, ◌+ℤ◌, ◌-ℤ◌, ◌≤ℤ◌, ◌<ℤ◌, Bool, true, false, List, [], length, map, All}
+use Rattle.std.proofs.Common.{Option, Some, arith, refl, sym, ap, ◌∙◌, subst, ◌⊎◌, inl, inr}
 use Rattle.std.proofs.Common.{None as Nothing}
 use Rattle.std.specs.Prelude.{MatchBool, IsSomeAnd}
 use Rattle.std.specs.Int.RustNames.{unsigned_abs}
@@ -45,20 +46,25 @@ shows_from rows wanted i j l p = go (cases_lt i (length rows)) (cases_lt j (leng
 
     go : (i < length rows) ⊎ (length rows ≤ i) → (j < length rows) ⊎ (length rows ≤ j) → ShowsAtOnce rows wanted
     go (inl a) (inl b) = by_two i j l b p.sides p.bounds
-    go (inl a) (inr b) = by_one i a (λ k. drop_side (coefficient k wanted) (coefficient k (row_at rows i)) (coefficient k (row_at rows j)) (p.sides k) (ap (coefficient k) (past j b)))
+    go (inl a) (inr b) = by_one i a (λ k. drop_side (coefficient k wanted) (coefficient k (row_at rows i)) (coefficient k (row_at rows j)) (p.sides k)
+        (ap (coefficient k) (past j b)))
         (one_bound (row_at rows i).bound (row_at rows j).bound wanted.bound p.bounds (ap (λ (r : Row). r.bound) (past j b)))
     go (inr a) (inl b) = absurd (omega (arith, a, b, l))
-    go (inr a) (inr b) = by_none (λ k. drop_both (coefficient k wanted) (coefficient k (row_at rows i)) (coefficient k (row_at rows j)) (p.sides k) (ap (coefficient k) (past i a)) (ap (coefficient k) (past j b)))
-        (no_bound (row_at rows i).bound (row_at rows j).bound wanted.bound p.bounds (ap (λ (r : Row). r.bound) (past i a)) (ap (λ (r : Row). r.bound) (past j b)))
+    go (inr a) (inr b) = by_none (λ k. drop_both (coefficient k wanted) (coefficient k (row_at rows i)) (coefficient k (row_at rows j)) (p.sides k)
+        (ap (coefficient k) (past i a)) (ap (coefficient k) (past j b)))
+        (no_bound (row_at rows i).bound (row_at rows j).bound wanted.bound p.bounds (ap (λ (r : Row). r.bound) (past i a))
+        (ap (λ (r : Row). r.bound) (past j b)))
 
 -- the least pair gives the least bound
-pub least_some : (rows : List Row) (cs : List ℤ) (best : Best) → All (RowWithin (2 ^ 60)) rows → IsLeast rows cs (length rows + 2) (Some best) → IsLeastShown rows cs (Some best.bound)
+pub least_some : (rows : List Row) (cs : List ℤ) (best : Best) → All (RowWithin (2 ^ 60)) rows → IsLeast rows cs (length rows + 2) (Some best)
+    → IsLeastShown rows cs (Some best.bound)
 least_some rows cs best within h = record {
   shown = shows_from rows (bounded cs best.bound) best.first best.second sums.order (record {
     sides = sums.sides;
     bounds = at_most best.bound ((row_at rows best.first).bound +ℤ (row_at rows best.second).bound) sums.bound;
   });
-  small = small best.bound (row_at rows best.first).bound (row_at rows best.second).bound sums.bound (bound_within (2 ^ 60) rows within best.first) (bound_within (2 ^ 60) rows within best.second);
+  small = small best.bound (row_at rows best.first).bound (row_at rows best.second).bound sums.bound (bound_within (2 ^ 60) rows within best.first)
+      (bound_within (2 ^ 60) rows within best.second);
   least = λ z shows. let (i, j, l, m, p) = pair_from rows (bounded cs z) shows in h.least i j l m z p;
 }
   where
@@ -130,7 +136,8 @@ pub among_decided : (shut : Bool) (rows : List Row) (first : ℕ) → AreOthersO
     → MatchBool shut (b.bound <ℤ pos 0) (pos 0 ≤ℤ b.bound) → MatchBool shut (AreShutAtOnce rows) (¬ AreShutAtOnce rows)
 among_decided true rows first others b h l =
     shown_more rows (bounded [] b.bound) (bounded [] (negsuc 0)) (λ k. refl) (below b.bound l)
-    (shows_from rows (bounded [] b.bound) b.first b.second h.shown.order (record { sides = h.shown.sides; bounds = at_most b.bound ((row_at rows b.first).bound +ℤ (row_at rows b.second).bound) h.shown.bound }))
+    (shows_from rows (bounded [] b.bound) b.first b.second h.shown.order
+    (record { sides = h.shown.sides; bounds = at_most b.bound ((row_at rows b.first).bound +ℤ (row_at rows b.second).bound) h.shown.bound }))
   where
     below : (b : ℤ) → b <ℤ pos 0 → b ≤ℤ negsuc 0
     below b l = omega (arith, ints)
@@ -182,7 +189,8 @@ module _ (rows : List Row) (forms : List Form) (side before : Row) (zero_bound :
       sum : (z o b d : ℤ) → o ≡ pos 0 → b ≡ o -ℤ d → z +ℤ b ≡ z -ℤ d
       sum z o b d e q = omega (arith, ints)
 
-  moved_back : (z : ℤ) (new : Row) → IsSubstituted (bounded side.coefficients z) forms new → ShowsAtOnce rows new → ShowsAtOnce rows (bounded before.coefficients (z +ℤ before.bound))
+  moved_back : (z : ℤ) (new : Row) → IsSubstituted (bounded side.coefficients z) forms new → ShowsAtOnce rows new
+      → ShowsAtOnce rows (bounded before.coefficients (z +ℤ before.bound))
   moved_back z new is shows = shown_more rows new (bounded before.coefficients (z +ℤ before.bound)) (λ k. sub.coefficients k ∙ sym (is.coefficients k))
       (same z side.bound before.bound new.bound (dot side.coefficients (map (λ f. f.constant) forms)) zero_bound sub.bound is.bound) shows
     where
@@ -194,7 +202,8 @@ module _ (rows : List Row) (forms : List Form) (side before : Row) (zero_bound :
     shown = λ z l. (
       bounded before.coefficients (z +ℤ before.bound),
       moved z,
-      shown_more rows (bounded before.coefficients (v +ℤ before.bound)) (bounded before.coefficients (z +ℤ before.bound)) (λ k. refl) (up v z before.bound l) k.shown,
+      shown_more rows (bounded before.coefficients (v +ℤ before.bound)) (bounded before.coefficients (z +ℤ before.bound)) (λ k. refl)
+          (up v z before.bound l) k.shown,
     );
     least = λ z shows. inl k.low;
   }
@@ -225,7 +234,8 @@ module _ (rows : List Row) (forms : List Form) (side before : Row) (zero_bound :
   }
 
 -- what a pair of one premise and none shows
-pub alone_shows : (rows : List Row) (before : Row) (best : Best) (limit v : ℤ) → PairSums rows before.coefficients best → v ≡ best.bound -ℤ before.bound → v ≤ℤ limit
+pub alone_shows : (rows : List Row) (before : Row) (best : Best) (limit v : ℤ) → PairSums rows before.coefficients best → v ≡ best.bound -ℤ before.bound
+    → v ≤ℤ limit
     → IsKeptAlone rows before limit v
 alone_shows rows before best limit v sums is low = record {
   low = low;

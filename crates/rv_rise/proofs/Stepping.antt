@@ -87,14 +87,16 @@ module _ (s : System) (is : IsSystem s) (f : Frame) (frame : IsFrameOf s f) (bas
   }
 
   -- what is shown of the case is shown at each of its valuations, and the other way round
-  shown_there : (v : Valuation) → IsIn case.condition v → (r : Row) → IsShownAfter premises case.updates r → IsShownAfter (premises_at s base v) (updates_of s v) r
+  shown_there : (v : Valuation) → IsIn case.condition v → (r : Row) → IsShownAfter premises case.updates r
+      → IsShownAfter (premises_at s base v) (updates_of s v) r
   shown_there v i r (new, sub, shows) = (
     new,
     subst (λ (fs : List Form). IsSubstituted r fs new) (sym (of.case.updates v i)) sub,
     subst (λ (rs : List Row). ShowsAtOnce rs new) (sym (premises_here v i)) shows,
   )
 
-  shown_here : (v : Valuation) → IsIn case.condition v → (r : Row) → IsShownAfter (premises_at s base v) (updates_of s v) r → IsShownAfter premises case.updates r
+  shown_here : (v : Valuation) → IsIn case.condition v → (r : Row) → IsShownAfter (premises_at s base v) (updates_of s v) r
+      → IsShownAfter premises case.updates r
   shown_here v i r (new, sub, shows) = (
     new,
     subst (λ (fs : List Form). IsSubstituted r fs new) (of.case.updates v i) sub,
@@ -274,7 +276,8 @@ grown_all_shut s is f frame base from given setting cases are shut c kept = reco
   below = λ h k. k;
   still = λ e. refl;
   held = λ v (j, x, l, at, i).
-      let one = grown_shut s is f frame base from given setting x (record { case = are.each j x at; within = λ w h. are.within j x w at h }) (x.rows ++ given) refl
+      let one = grown_shut s is f frame base from given setting x (record { case = are.each j x at; within = λ w h. are.within j x w at h })
+      (x.rows ++ given) refl
       (shown_right x.rows given _ shut) c kept in
       one.held v i;
   less = λ (e : false ≡ true). cc;

@@ -193,7 +193,8 @@ down_up : negsuc 0 ≡ pos 1 → ⊥
 down_up e = cc
 
 -- one column more, alone
-pub column_added : (k y : ℕ) (old new : List Row) → y < k → IsTableOf k (column_places k y) old → AreBothAdded k y (pos 1) y old new → IsTableOf k (pair_places k y 0) new
+pub column_added : (k y : ℕ) (old new : List Row) → y < k → IsTableOf k (column_places k y) old → AreBothAdded k y (pos 1) y old new
+    → IsTableOf k (pair_places k y 0) new
 column_added k y old new known table both =
     table_as k (with_place (with_place (column_places k y) y (pos 1) y (pos 1)) y (pos 1) y (negsuc 0)) (pair_places k y 0) new there back
     (added k (with_place (column_places k y) y (pos 1) y (pos 1)) y (pos 1) y (negsuc 0) both.middle new (omega arith) known (inr refl) (λ l. inl refl)
@@ -209,7 +210,8 @@ column_added k y old new known table both =
     at_column first one second other b unit (e, f, g, h) = ((subst IsUnit (sym h) unit, inl (e ∙ sym g, f)), inr (g, inl e))
 
     there : (first : ℕ) (one : ℤ) (second : ℕ) (other : ℤ)
-        → with_place (with_place (column_places k y) y (pos 1) y (pos 1)) y (pos 1) y (negsuc 0) first one second other → pair_places k y 0 first one second other
+        → with_place (with_place (column_places k y) y (pos 1) y (pos 1)) y (pos 1) y (negsuc 0) first one second other
+        → pair_places k y 0 first one second other
     there first one second other (inl (inl (place, l))) = (place, inl l)
     there first one second other (inl (inr at)) = at_column first one second other (pos 1) (inl refl) at
     there first one second other (inr at) = at_column first one second other (negsuc 0) (inr refl) at
@@ -280,7 +282,8 @@ module _ (k x y : ℕ) (less : x < y) (known : y < k) (few : k ≤ 22) where
       go (inl m) = inl (inl (inl (inl (place, inr (e, inr m)))))
       go (inr m) = back_pair first one second other place e (omega (arith, l, m))
 
-  pub pair_added : (old middle new : List Row) → IsTableOf k (pair_places k y x) old → AreBothAdded k x (pos 1) y old middle → AreBothAdded k x (negsuc 0) y middle new
+  pub pair_added : (old middle new : List Row) → IsTableOf k (pair_places k y x) old → AreBothAdded k x (pos 1) y old middle
+      → AreBothAdded k x (negsuc 0) y middle new
       → IsTableOf k (pair_places k y (x + 1)) new
   pair_added old middle new table up down =
       let order : x ≤ y = omega (arith, less) in
@@ -351,22 +354,26 @@ module _ (s : System) (k : ℕ) (same : s.memories ≡ k) (rows : List Row) (tab
       let p = l.pattern in
       record { size = p.size ∙ sym same; shape = side_shape r l.first l.one l.second l.other l.order l.known p l.placed; bound = p.bound }
 
-  same_sides : (q r : Row) → length q.coefficients ≡ k → length r.coefficients ≡ s.memories → ((n : ℕ) → coefficient n q ≡ coefficient n r) → q.coefficients ≡ r.coefficients
+  same_sides : (q r : Row) → length q.coefficients ≡ k → length r.coefficients ≡ s.memories → ((n : ℕ) → coefficient n q ≡ coefficient n r)
+      → q.coefficients ≡ r.coefficients
   same_sides q r e f at = ext_get_or (pos 0) q.coefficients r.coefficients (e ∙ sym same ∙ sym f) (λ n l. at n)
 
-  find : (r : Row) → length r.coefficients ≡ s.memories → HasOne s r ⊎ HasTwo s r → (i : ℕ) × (i < length rows) × ((row_at rows i).coefficients ≡ r.coefficients)
+  find : (r : Row) → length r.coefficients ≡ s.memories → HasOne s r ⊎ HasTwo s r
+      → (i : ℕ) × (i < length rows) × ((row_at rows i).coefficients ≡ r.coefficients)
   find r size (inl one) =
       let known : one.column < k = let t = one.there in omega (arith, t, same) in
       let (i, l, p) = table.all one.column (pos 1) one.column (coefficient one.column r) ((one.one, inl (refl, refl)), known) in
       (i, l, same_sides (row_at rows i) r p.size size (λ n. at n (row_at rows i) p (cases_eq n one.column)))
     where
-      at : (n : ℕ) (q : Row) → IsPattern k one.column (pos 1) one.column (coefficient one.column r) q → (n ≡ one.column) ⊎ (n ≢ one.column) → coefficient n q ≡ coefficient n r
+      at : (n : ℕ) (q : Row) → IsPattern k one.column (pos 1) one.column (coefficient one.column r) q → (n ≡ one.column) ⊎ (n ≢ one.column)
+          → coefficient n q ≡ coefficient n r
       at n q p (inl e) = ap (λ (j : ℕ). coefficient j q) e ∙ p.last ∙ ap (λ (j : ℕ). coefficient j r) (sym e)
       at n q p (inr ne) = p.others n ne ne ∙ sym (one.others n ne)
   find r size (inr two) =
       let known : two.second < k = let t = two.there in omega (arith, t, same) in
       let few : k ≤ 22 = let f = two.few in omega (arith, f, same) in
-      let (i, l, p) = table.all two.first (coefficient two.first r) two.second (coefficient two.second r) ((two.other, inr (two.different, few, two.one)), known) in
+      let (i, l, p) = table.all two.first (coefficient two.first r) two.second (coefficient two.second r)
+      ((two.other, inr (two.different, few, two.one)), known) in
       (i, l, same_sides (row_at rows i) r p.size size (λ n. at n (row_at rows i) p (cases_eq n two.first) (cases_eq n two.second)))
     where
       at : (n : ℕ) (q : Row) → IsPattern k two.first (coefficient two.first r) two.second (coefficient two.second r) q → (n ≡ two.first) ⊎ (n ≢ two.first)

@@ -55,7 +55,8 @@ module _ (s : System) (old : Risen) (set : Frozen) (control : IsControlSet s old
     less = λ (e : false ≡ true). cc;
   }
 
-  pub taken_new : (m : ℕ) (e : Extended) (new : Risen) → IsControlSet s e.all → IsExtended m old.reached set e → new.reached ≡ e.all → new.limits ≡ old.limits → HasTaken s set true old new
+  pub taken_new : (m : ℕ) (e : Extended) (new : Risen) → IsControlSet s e.all → IsExtended m old.reached set e → new.reached ≡ e.all → new.limits ≡ old.limits
+      → HasTaken s set true old new
   taken_new m e new all x is limits = record {
     control = there;
     exact = exact;

@@ -51,4 +51,5 @@ pub record IsListed (k : ℕ) (places : ℕ → ℤ → ℕ → ℤ → Type 0) 
 pub record IsTableOf (k : ℕ) (places : ℕ → ℤ → ℕ → ℤ → Type 0) (rows : List Row) : Type 0 where
   pub each : (i : ℕ) → i < length rows → IsListed k places (row_at rows i)
   pub different : (i j : ℕ) → i < j → j < length rows → (row_at rows i).coefficients ≡ (row_at rows j).coefficients → ⊥
-  pub all : (first : ℕ) (one : ℤ) (second : ℕ) (other : ℤ) → places first one second other → (i : ℕ) × (i < length rows) × IsPattern k first one second other (row_at rows i)
+  pub all : (first : ℕ) (one : ℤ) (second : ℕ) (other : ℤ) → places first one second other
+      → (i : ℕ) × (i < length rows) × IsPattern k first one second other (row_at rows i)

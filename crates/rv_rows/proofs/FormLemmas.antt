@@ -1,5 +1,6 @@
 -- Sums over forms.
-use Rattle.std.proofs.Common.{◌≡◌, ◌↔◌, ℕ, suc, zero, ◌+◌, ◌*◌, ◌≤◌, ◌<◌, ◌^◌, ℤ, pos, ◌+ℤ◌, ◌-ℤ◌, ◌*ℤ◌, ◌≤ℤ◌, List, [], ◌∷◌, ◌++◌, All, map, length, take, get_or, add-one, slice_get, Some, arith, refl, ap, sym, ◌∙◌, ◌⊎◌, inl, inr}
+use Rattle.std.proofs.Common.{◌≡◌, ◌↔◌, ℕ, suc, zero, ◌+◌, ◌*◌, ◌≤◌, ◌<◌, ◌^◌, ℤ, pos, ◌+ℤ◌, ◌-ℤ◌, ◌*ℤ◌, ◌≤ℤ◌, List, [], ◌∷◌, ◌++◌, All, map, length, take}
+use Rattle.std.proofs.Common.{get_or, add-one, slice_get, Some, arith, refl, ap, sym, ◌∙◌, ◌⊎◌, inl, inr}
 use Rattle.std.specs.Int.RustNames.{unsigned_abs}
 use Rattle.std.proofs.Math.ListN.{length-append}
 use Rattle.std.proofs.Math.IntN.{*ℤ-zero, zero-*ℤ, +ℤ_assoc}
@@ -27,11 +28,13 @@ pushed f xs y i len done here k l = go (cases_lt k i)
     go (inr m) = let e : k ≡ i = omega arith in rw e (get_or_push xs y (pos 0) i len ∙ here)
 
 -- one more product
-dot-take : (cs xs : List ℤ) (i : ℕ) → i < length cs → i < length xs → dot (take (suc i) cs) xs ≡ dot (take i cs) xs +ℤ (get_or cs i (pos 0) *ℤ get_or xs i (pos 0))
+dot-take : (cs xs : List ℤ) (i : ℕ) → i < length cs → i < length xs → dot (take (suc i) cs) xs ≡ dot (take i cs) xs +ℤ
+    (get_or cs i (pos 0) *ℤ get_or xs i (pos 0))
 dot-take [] xs i h k = absurd (omega arith)
 dot-take (c ∷ cs) [] i h k = absurd (omega arith)
 dot-take (c ∷ cs) (x ∷ xs) zero h k = omega (arith, ints)
-dot-take (c ∷ cs) (x ∷ xs) (suc i) h k = rw (dot-take cs xs i (omega arith) (omega arith)) (sym (+ℤ_assoc (c *ℤ x) (dot (take i cs) xs) (get_or cs i (pos 0) *ℤ get_or xs i (pos 0))))
+dot-take (c ∷ cs) (x ∷ xs) (suc i) h k = rw (dot-take cs xs i (omega arith) (omega arith))
+    (sym (+ℤ_assoc (c *ℤ x) (dot (take i cs) xs) (get_or cs i (pos 0) *ℤ get_or xs i (pos 0))))
 
 -- one turn of a loop over a product of two lists
 module _ (cs xs : List ℤ) (i : ℕ) (s t c x : ℤ) (in_cs : i < length cs) (in_xs : i < length xs)
@@ -70,10 +73,12 @@ dot-same A f g (c ∷ cs) (a ∷ as') e = rw (e a, dot-same A f g cs as' e) refl
 -- the coefficients of a substituted row at a point
 dot-dot : (A : Type 0) (ys : List ℤ) (g : A → List ℤ) (cs : List ℤ) (as' : List A) (ds : List ℤ)
     → ((k : ℕ) → get_or ds k (pos 0) ≡ dot cs (map (λ a. get_or (g a) k (pos 0)) as')) → dot ds ys ≡ dot cs (map (λ a. dot (g a) ys) as')
-dot-dot A [] g cs as' ds h = dot-none ds ∙ sym (dot-same A (λ a. dot (g a) []) (λ a. pos 0 *ℤ pos 0) cs as' (λ a. dot-none (g a)) ∙ dot-mul A (λ a. pos 0) (pos 0) cs as' ∙ *ℤ-zero (dot cs (map (λ a. pos 0) as')))
+dot-dot A [] g cs as' ds h = dot-none ds ∙ sym (dot-same A (λ a. dot (g a) []) (λ a. pos 0 *ℤ pos 0) cs as' (λ a. dot-none (g a))
+    ∙ dot-mul A (λ a. pos 0) (pos 0) cs as' ∙ *ℤ-zero (dot cs (map (λ a. pos 0) as')))
 dot-dot A (y ∷ ys) g cs as' ds h =
     let rest = dot-dot A ys (λ a. tail_of (g a)) cs as' (tail_of ds)
-    (λ k. get_or-tail ds k ∙ h (k + 1) ∙ dot-same A (λ a. get_or (g a) (k + 1) (pos 0)) (λ a. get_or (tail_of (g a)) k (pos 0)) cs as' (λ a. sym (get_or-tail (g a) k))) in
+    (λ k. get_or-tail ds k ∙ h (k + 1) ∙ dot-same A (λ a. get_or (g a) (k + 1) (pos 0)) (λ a. get_or (tail_of (g a)) k (pos 0)) cs as'
+    (λ a. sym (get_or-tail (g a) k))) in
     dot-cons ds y ys
     ∙ ap (λ z. (z *ℤ y) +ℤ dot (tail_of ds) ys) (h 0)
     ∙ ap (λ z. (dot cs (map (λ a. get_or (g a) 0 (pos 0)) as') *ℤ y) +ℤ z) rest
@@ -89,7 +94,8 @@ dot-sum (x ∷ xs) as' bs cs h =
     ∙ ap (λ z. (z *ℤ x) +ℤ dot (tail_of cs) xs) (h 0)
     ∙ ap (λ z. z +ℤ dot (tail_of cs) xs) (add_mul (get_or as' 0 (pos 0)) (get_or bs 0 (pos 0)) x)
     ∙ ap (λ z. ((get_or as' 0 (pos 0) *ℤ x) +ℤ (get_or bs 0 (pos 0) *ℤ x)) +ℤ z)
-    (dot-sum xs (tail_of as') (tail_of bs) (tail_of cs) (λ k. get_or-tail cs k ∙ h (k + 1) ∙ ap (λ z. z +ℤ get_or bs (k + 1) (pos 0)) (sym (get_or-tail as' k)) ∙ ap (λ z. get_or (tail_of as') k (pos 0) +ℤ z) (sym (get_or-tail bs k))))
+    (dot-sum xs (tail_of as') (tail_of bs) (tail_of cs) (λ k. get_or-tail cs k ∙ h (k + 1) ∙ ap (λ z. z +ℤ get_or bs (k + 1) (pos 0)) (sym (get_or-tail as' k))
+    ∙ ap (λ z. get_or (tail_of as') k (pos 0) +ℤ z) (sym (get_or-tail bs k))))
     ∙ add_swap (get_or as' 0 (pos 0) *ℤ x) (get_or bs 0 (pos 0) *ℤ x) (dot (tail_of as') xs) (dot (tail_of bs) xs)
     ∙ ap (λ z. z +ℤ ((get_or bs 0 (pos 0) *ℤ x) +ℤ dot (tail_of bs) xs)) (sym (dot-cons as' x xs))
     ∙ ap (λ z. dot as' (x ∷ xs) +ℤ z) (sym (dot-cons bs x xs))
@@ -109,7 +115,8 @@ multiple_value by a cs products point =
 pub substituted_same : (old new : Row) (forms : List Form) → IsSubstituted old forms new → (point : List ℤ)
     → Holds new point ↔ Holds old (values forms point)
 substituted_same old new forms s point =
-    let e : dot new.coefficients point ≡ dot old.coefficients (map (λ f. dot f.coefficients point) forms) = dot-dot Form point (λ f. f.coefficients) old.coefficients forms new.coefficients s.coefficients in
+    let e : dot new.coefficients point ≡ dot old.coefficients (map (λ f. dot f.coefficients point) forms) = dot-dot Form point
+    (λ f. f.coefficients) old.coefficients forms new.coefficients s.coefficients in
     let a = dot-add Form (λ f. dot f.coefficients point) (λ f. f.constant) old.coefficients forms in
     let b = s.bound in
     ((λ h. moved _ _ _ _ _ _ e a b h), (λ h. moved_back _ _ _ _ _ _ e a b h))
@@ -127,7 +134,8 @@ pub columns_all : (cs ds : List ℤ) (forms : List Form) (width : ℕ) → lengt
 columns_all cs ds forms width len widths below k = go (cases_lt k width)
   where
     all_zero : width ≤ k → All (λ z. z ≡ pos 0) (map (λ f. number k f.coefficients) forms)
-    all_zero l = All-map (λ z. z ≡ pos 0) (λ f. number k f.coefficients) forms (λ j d m. let e = widths j d m in get_or_past (get_or forms j d).coefficients k (pos 0) (omega arith))
+    all_zero l = All-map (λ z. z ≡ pos 0) (λ f. number k f.coefficients) forms
+        (λ j d m. let e = widths j d m in get_or_past (get_or forms j d).coefficients k (pos 0) (omega arith))
 
     go : (k < width) ⊎ (width ≤ k) → number k ds ≡ dot cs (map (λ f. number k f.coefficients) forms)
     go (inl l) = below k l
@@ -145,7 +153,8 @@ module _ (f : Form → ℤ) (cs : List ℤ) (forms : List Form) (i : ℕ) (s c :
   in_map : i < length (map f forms)
   in_map = rw length-map (omega arith)
 
-  pub form-room : (x : ℤ) → x ≡ f form → s ≡ dot (take i cs) (map f forms) → SumsStay cs (map f forms) → unsigned_abs s + unsigned_abs c * unsigned_abs x < 2 ^ 127
+  pub form-room : (x : ℤ) → x ≡ f form → s ≡ dot (take i cs) (map f forms) → SumsStay cs (map f forms)
+      → unsigned_abs s + unsigned_abs c * unsigned_abs x < 2 ^ 127
   form-room x e so_far room = sum-room cs (map f forms) i s s c x inside in_map c_is (f_is ∙ sym e) so_far room
 
   pub form-kept : (x t : ℤ) → x ≡ f form → t ≡ s +ℤ (c *ℤ x) → s ≡ dot (take i cs) (map f forms) → t ≡ dot (take (i + 1) cs) (map f forms)

@@ -1,5 +1,6 @@
 -- Sums over rows, and the easy direction of Farkas.
-use Rattle.std.proofs.Common.{◌≡◌, ℕ, ◌+◌, ◌*◌, ◌≤◌, ◌<◌, ◌^◌, ℤ, pos, ◌+ℤ◌, ◌*ℤ◌, ◌≤ℤ◌, ◌<ℤ◌, List, [], ◌∷◌, All, length, drop, get_or, slice_get, None, Some, unwrap_or, Bool, true, false, IsTrue, MatchBool, true≢false, arith, refl, ap, sym, ◌∙◌, ◌⊎◌, inl, inr, add-one, zero-le}
+use Rattle.std.proofs.Common.{◌≡◌, ℕ, ◌+◌, ◌*◌, ◌≤◌, ◌<◌, ◌^◌, ℤ, pos, ◌+ℤ◌, ◌*ℤ◌, ◌≤ℤ◌, ◌<ℤ◌, List, [], ◌∷◌, All, length, drop, get_or, slice_get, None, Some}
+use Rattle.std.proofs.Common.{unwrap_or, Bool, true, false, IsTrue, MatchBool, true≢false, arith, refl, ap, sym, ◌∙◌, ◌⊎◌, inl, inr, add-one, zero-le}
 use Rattle.std.proofs.Math.Nat.{mul-le-mul}
 use Rattle.std.proofs.Math.IntN.{*ℤ-zero, zero-*ℤ, +ℤ_assoc}
 use Rattle.std.proofs.lemmas.Int.{ints, unsigned_abs-mul}
@@ -62,7 +63,8 @@ module _ (rows : List Row) where
       ∙ h (k + 1) ∙ ap (λ z. d *ℤ z) (sym (get_or-tail cs k))) in
       weighted-same (λ r. dot (g r) (x ∷ xs)) (λ r. (get_or (g r) 0 (pos 0) *ℤ x) +ℤ dot (tail_of (g r)) xs) ws (λ r. dot-cons (g r) x xs)
       ∙ weighted-add (λ r. get_or (g r) 0 (pos 0) *ℤ x) (λ r. dot (tail_of (g r)) xs) ws
-      ∙ ap (λ z. z +ℤ weighted (λ r. dot (tail_of (g r)) xs) rows ws) (weighted-mul (λ r. get_or (g r) 0 (pos 0)) x ws ∙ ap (λ z. z *ℤ x) (h 0) ∙ mul_assoc_int d (get_or cs 0 (pos 0)) x)
+      ∙ ap (λ z. z +ℤ weighted (λ r. dot (tail_of (g r)) xs) rows ws) (weighted-mul (λ r. get_or (g r) 0 (pos 0)) x ws ∙ ap (λ z. z *ℤ x) (h 0)
+      ∙ mul_assoc_int d (get_or cs 0 (pos 0)) x)
       ∙ ap (λ z. (d *ℤ (get_or cs 0 (pos 0) *ℤ x)) +ℤ z) rest
       ∙ sym (mul_add d (get_or cs 0 (pos 0) *ℤ x) (dot (tail_of cs) xs))
       ∙ ap (λ z. d *ℤ z) (sym (dot-cons cs x xs))
@@ -216,11 +218,13 @@ module _ (f : Row → ℤ) (rows : List Row) (ws items : List Weight) (i : ℕ) 
       (weighted-step f rows ws i d s t below kept now, omega arith)
 
 -- a sum of few products is small
-weighted-small : (f : Row → ℤ) (rows : List Row) (ws : List Weight) → ((j : ℕ) → unsigned_abs (f (row_at rows j)) ≤ 2 ^ 60) → All (λ w. unsigned_abs w.by ≤ 2 ^ 41) ws
+weighted-small : (f : Row → ℤ) (rows : List Row) (ws : List Weight) → ((j : ℕ) → unsigned_abs (f (row_at rows j)) ≤ 2 ^ 60)
+    → All (λ w. unsigned_abs w.by ≤ 2 ^ 41) ws
     → unsigned_abs (weighted f rows ws) ≤ length ws * 2 ^ 101
 weighted-small f rows [] small by_small = zero-le
 weighted-small f rows (w ∷ ws) small by_small =
-    let p : unsigned_abs w.by * unsigned_abs (f (row_at rows w.premise)) ≤ 2 ^ 41 * 2 ^ 60 = mul-le-mul (All-head (λ v. unsigned_abs v.by ≤ 2 ^ 41) w ws by_small) (small w.premise) in
+    let p : unsigned_abs w.by * unsigned_abs (f (row_at rows w.premise)) ≤ 2 ^ 41 * 2 ^ 60 = mul-le-mul
+    (All-head (λ v. unsigned_abs v.by ≤ 2 ^ 41) w ws by_small) (small w.premise) in
     let rest = weighted-small f rows ws small (All-tail (λ v. unsigned_abs v.by ≤ 2 ^ 41) w ws by_small) in
     let a = abs-add (w.by *ℤ f (row_at rows w.premise)) (weighted f rows ws) in
     let b = unsigned_abs-mul w.by (f (row_at rows w.premise)) in

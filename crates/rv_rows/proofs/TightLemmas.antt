@@ -1,5 +1,6 @@
 -- What tightening a row keeps.
-use Rattle.std.proofs.Common.{◌≡◌, ◌↔◌, ℕ, suc, ◌+◌, ◌*◌, ◌≤◌, ◌<◌, ℤ, pos, negsuc, ◌+ℤ◌, ◌*ℤ◌, ◌≤ℤ◌, ◌<ℤ◌, List, [], ◌∷◌, All, length, get_or, set, slice_get, Some, arith, ap, sym, ◌∙◌, ◌⊎◌, inl, inr}
+use Rattle.std.proofs.Common.{◌≡◌, ◌↔◌, ℕ, suc, ◌+◌, ◌*◌, ◌≤◌, ◌<◌, ℤ, pos, negsuc, ◌+ℤ◌, ◌*ℤ◌, ◌≤ℤ◌, ◌<ℤ◌, List, [], ◌∷◌, All, length, get_or, set, slice_get}
+use Rattle.std.proofs.Common.{Some, arith, ap, sym, ◌∙◌, ◌⊎◌, inl, inr}
 use Prim.Native.Nat.{◌∣◌, ◌/◌}
 use borrow.Author.Differences.{up, down, same_in, product_is, neg_is}
 use Rattle.std.specs.Int.{IsGcd}
@@ -100,7 +101,8 @@ dot-scale (x ∷ xs) d cs ds h =
     dot-cons cs x xs
     ∙ ap (λ z. (z *ℤ x) +ℤ dot (tail_of cs) xs) (h 0)
     ∙ ap (λ z. z +ℤ dot (tail_of cs) xs) (mul_assoc_int d (get_or ds 0 (pos 0)) x)
-    ∙ ap (λ z. (d *ℤ (get_or ds 0 (pos 0) *ℤ x)) +ℤ z) (dot-scale xs d (tail_of cs) (tail_of ds) (λ k. get_or-tail cs k ∙ h (k + 1) ∙ ap (λ z. d *ℤ z) (sym (get_or-tail ds k))))
+    ∙ ap (λ z. (d *ℤ (get_or ds 0 (pos 0) *ℤ x)) +ℤ z) (dot-scale xs d (tail_of cs) (tail_of ds)
+    (λ k. get_or-tail cs k ∙ h (k + 1) ∙ ap (λ z. d *ℤ z) (sym (get_or-tail ds k))))
     ∙ sym (mul_add d (get_or ds 0 (pos 0) *ℤ x) (dot (tail_of ds) xs))
     ∙ ap (λ z. d *ℤ z) (sym (dot-cons ds x xs))
 
@@ -130,4 +132,5 @@ DividesUpto-none cs = record { divides = λ k l. absurd (omega arith); greatest 
 
 -- a row whose coefficients are all 0 stays
 pub tight_stays : (old new : Row) → IsTightened old new → All (λ c. c ≡ pos 0) old.coefficients → new ≡ old
-tight_stays old new t zeros = t.none (eq-zero_of_zero-dvd (t.common.greatest 0 (λ i d l. let e : get_or old.coefficients i d ≡ pos 0 = zeros i d l in rw e (dvd-zero 0))))
+tight_stays old new t zeros = t.none (eq-zero_of_zero-dvd (t.common.greatest 0
+    (λ i d l. let e : get_or old.coefficients i d ≡ pos 0 = zeros i d l in rw e (dvd-zero 0))))

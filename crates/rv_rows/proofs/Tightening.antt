@@ -1,5 +1,6 @@
 -- Each row has exactly one tightened row.
-use Rattle.std.proofs.Common.{◌≡◌, ℕ, zero, suc, ◌+◌, ◌*◌, ◌/◌, ◌%◌, ◌<◌, ◌≤◌, ℤ, pos, negsuc, ◌+ℤ◌, ◌*ℤ◌, ◌≤ℤ◌, ◌<ℤ◌, List, [], ◌∷◌, map, length, get_or, refl, sym, ◌∙◌, ap, arith, inl, inr, ◌⊎◌, subst, All}
+use Rattle.std.proofs.Common.{◌≡◌, ℕ, zero, suc, ◌+◌, ◌*◌, ◌/◌, ◌%◌, ◌<◌, ◌≤◌, ℤ, pos, negsuc, ◌+ℤ◌, ◌*ℤ◌, ◌≤ℤ◌, ◌<ℤ◌, List, [], ◌∷◌, map, length, get_or, refl}
+use Rattle.std.proofs.Common.{sym, ◌∙◌, ap, arith, inl, inr, ◌⊎◌, subst, All}
 use Prim.Native.Nat.{◌∣◌}
 use borrow.Author.Differences.{up, down, product_is, at_most_in, sum_is_lem}
 use Rattle.std.specs.Int.{IsGcd}
@@ -34,7 +35,8 @@ some_divisor (c ∷ cs) =
     let both = some_gcd (suc rest.0) (unsigned_abs c) rest.0 (omega arith) in (
       both.0,
       record {
-        divides = All-cons (λ z. both.0 ∣ unsigned_abs z) c cs both.1.0 (All-weaker (λ z. rest.0 ∣ unsigned_abs z) (λ z. both.0 ∣ unsigned_abs z) (λ z h. dvd_trans both.0 both.1.1 h) cs rest.1.divides);
+        divides = All-cons (λ z. both.0 ∣ unsigned_abs z) c cs both.1.0
+            (All-weaker (λ z. rest.0 ∣ unsigned_abs z) (λ z. both.0 ∣ unsigned_abs z) (λ z h. dvd_trans both.0 both.1.1 h) cs rest.1.divides);
         greatest = λ d e. both.1.2 d (All-head (λ z. d ∣ unsigned_abs z) c cs e) (rest.1.greatest d (All-tail (λ z. d ∣ unsigned_abs z) c cs e));
       },
     )
@@ -87,7 +89,13 @@ some_tightened r = by (some_divisor r.coefficients) (cases_lt 0 (some_divisor r.
             divisor = d.0;
             common = d.1;
             none = λ e. absurd (omega arith);
-            divided = λ lt. record { width = length-map r.coefficients (λ c. quotient c d.0); coefficients = λ k. column d.0 lt d.1 k (cases_lt k (length r.coefficients)); lower = lower r.bound d.0 lt; upper = upper r.bound d.0 lt };
+            divided = λ lt. record {
+              width = length-map r.coefficients (λ c. quotient c d.0);
+              coefficients = λ k. column d.0 lt d.1 k
+                  (cases_lt k (length r.coefficients));
+              lower = lower r.bound d.0 lt;
+              upper = upper r.bound d.0 lt;
+            };
           },
         )
       where
@@ -98,7 +106,8 @@ some_tightened r = by (some_divisor r.coefficients) (cases_lt 0 (some_divisor r.
             (lower (get_or r.coefficients k (pos 0)) g some) (upper (get_or r.coefficients k (pos 0)) g some)
             ∙ ap (λ z. pos g *ℤ z) (sym (get_or-map (λ c. quotient c g) r.coefficients k (pos 0) (pos 0) lt))
         column g some common k (inr past) =
-            get_or_past r.coefficients k (pos 0) past ∙ sym (ap (λ z. pos g *ℤ z) (get_or_past (map (λ c. quotient c g) r.coefficients) k (pos 0) (rw length-map past)) ∙ *ℤ-zero (pos g))
+            get_or_past r.coefficients k (pos 0) past ∙ sym (ap (λ z. pos g *ℤ z)
+            (get_or_past (map (λ c. quotient c g) r.coefficients) k (pos 0) (rw length-map past)) ∙ *ℤ-zero (pos g))
 
 -- and only one
 
@@ -127,7 +136,8 @@ one_divided : (g : ℕ) (r a b : Row) → 0 < g → IsDivided g r a → IsDivide
 one_divided g r a b some x y =
     let sides : a.coefficients ≡ b.coefficients = ext_get_or (pos 0) a.coefficients b.coefficients (x.width ∙ sym y.width)
     (λ k lt. same_product g (coefficient k a) (coefficient k b) (coefficient k r) some (x.coefficients k) (y.coefficients k)) in
-    let bounds : a.bound ≡ b.bound = same_by a.bound b.bound (same_whole g a.bound b.bound r.bound some x.lower y.upper) (same_whole g b.bound a.bound r.bound some y.lower x.upper) in
+    let bounds : a.bound ≡ b.bound = same_by a.bound b.bound (same_whole g a.bound b.bound r.bound some x.lower y.upper)
+    (same_whole g b.bound a.bound r.bound some y.lower x.upper) in
     λ i. record { coefficients = sides i; bound = bounds i }
 
 pub one_tightened : (r a b : Row) → IsTightened r a → IsTightened r b → a ≡ b
@@ -151,7 +161,8 @@ one_left g n r t some common d all =
   where
     each : (k : ℕ) → k < length r.coefficients → g * n ∣ unsigned_abs (get_or r.coefficients k (pos 0))
     each k lt =
-        let is : unsigned_abs (coefficient k r) ≡ g * unsigned_abs (coefficient k t) = ap unsigned_abs (d.coefficients k) ∙ unsigned_abs-mul (pos g) (coefficient k t) in
+        let is : unsigned_abs (coefficient k r) ≡ g * unsigned_abs (coefficient k t) = ap unsigned_abs (d.coefficients k)
+        ∙ unsigned_abs-mul (pos g) (coefficient k t) in
         subst (λ m. g * n ∣ m) (sym is) (mul-dvd-mul_left n g (all k (pos 0) (omega (arith, lt, d.width))))
 
 pub tight_again : (r t : Row) → IsTightened r t → IsTightened t t
@@ -166,7 +177,11 @@ tight_again r t x = by (cases_lt 0 x.divisor)
     }
     by (inl some) = record {
       divisor = 1;
-      common = record { divides = λ k z lt. one-dvd (unsigned_abs (get_or t.coefficients k z)); greatest = λ n all. one_left x.divisor n r t some x.common (x.divided some) all };
+      common = record {
+        divides = λ k z lt. one-dvd (unsigned_abs (get_or t.coefficients k z));
+        greatest = λ n all. one_left x.divisor n r t some x.common
+            (x.divided some) all;
+      };
       none = λ e. refl;
       divided = λ lt. record { width = refl; coefficients = λ k. once (coefficient k t); lower = least t.bound; upper = most t.bound };
     }

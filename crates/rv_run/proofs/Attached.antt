@@ -16,7 +16,8 @@ use Rattle.rv_run.specs.declared.words.Task.{Task}
 use Rattle.rv_run.proofs.Named.{loaded_is, more_under, told_under, under_name}
 use Rattle.rv_run.proofs.Reported.{cut_off, named, told, told_back}
 
-module _ (held : Option Shelf) (name bytes : List ℕ) (node : Identifier) (s : Source) (source : IsSourceOf bytes node s) (short : length bytes ≤ source_limit) (task : Task) where
+module _ (held : Option Shelf) (name bytes : List ℕ) (node : Identifier) (s : Source) (source : IsSourceOf bytes node s) (short : length bytes ≤ source_limit)
+    (task : Task) where
   abbrev program : ProgramTree
   program = program_tree s.program
 
@@ -24,18 +25,21 @@ module _ (held : Option Shelf) (name bytes : List ℕ) (node : Identifier) (s : 
   main = name_at (program_tree s.program) s.typed.main
 
   -- The document was loaded whole.
-  module _ (loaded given : List ℕ) (whole : HoldsUnder held name (λ b. (loaded ≡ b) × (length b ≤ file_limit))) (fits : length loaded ≤ file_limit) (same : given ≡ loaded) where
+  module _ (loaded given : List ℕ) (whole : HoldsUnder held name (λ b. (loaded ≡ b) × (length b ≤ file_limit))) (fits : length loaded ≤ file_limit)
+      (same : given ≡ loaded) where
     pub document_said : (x : Report) → SaysOf task x given program main → HoldsUnder held name (OnAccepted (SaysOf task x) bytes node)
     document_said x h =
         under_name held name loaded file_limit (OnAccepted (SaysOf task x) bytes node) whole
         (short, fits, told bytes node s source (SaysOf task x loaded) (subst (λ (d : List ℕ). SaysOf task x d program main) same h))
 
-    pub document_told : ((t u : ProgramTree) → IsTextOf bytes t → IsTextOf bytes u → t ≡ u) → (r : Report) → ((x : Report) → SaysOf task x given program main → IsUnlessLimit task x r)
+    pub document_told : ((t u : ProgramTree) → IsTextOf bytes t → IsTextOf bytes u → t ≡ u) → (r : Report)
+        → ((x : Report) → SaysOf task x given program main → IsUnlessLimit task x r)
         → (x : Report) (document : List ℕ) → Tells held name document → OnAccepted (SaysOf task x) bytes node document → IsUnlessCut task x r
     document_told one r only x document tells on =
         let is : given ≡ document = same ∙ loaded_is held name loaded document file_limit whole tells in
         let here : SaysOf task x document program node = told_back bytes node s source one (SaysOf task x document) on.2 in
-        let by_main : SaysOf task x document program main = subst (λ (n : Identifier). SaysOf task x document program n) (sym (named bytes node s source)) here in
+        let by_main : SaysOf task x document program main = subst (λ (n : Identifier). SaysOf task x document program n) (sym (named bytes node s source))
+        here in
         cut_off task x r (only x (subst (λ (d : List ℕ). SaysOf task x d program main) (sym is) by_main))
 
     pub whole-not_long : (document : List ℕ) → Tells held name document → IsLongDocument bytes node document → ⊥
@@ -47,7 +51,8 @@ module _ (held : Option Shelf) (name bytes : List ℕ) (node : Identifier) (s : 
   -- It is too long.
   module _ (long : HoldsUnder held name (λ b. file_limit < length b)) where
     pub long_said : HoldsUnder held name (IsLongDocument bytes node)
-    long_said = more_under held name (λ b. file_limit < length b) (IsLongDocument bytes node) (λ b lt. (short, lt, told bytes node s source (λ p m. Unit {0}) tt)) long
+    long_said = more_under held name (λ b. file_limit < length b) (IsLongDocument bytes node)
+        (λ b lt. (short, lt, told bytes node s source (λ p m. Unit {0}) tt)) long
 
     pub long-not_said : (x : Report) (document : List ℕ) → Tells held name document → OnAccepted (SaysOf task x) bytes node document → ⊥
     long-not_said x document tells on =

@@ -50,7 +50,8 @@ probe_by b c memories inputs = record { starts = map (probe_value b c) memories;
 same_probe : (f g : Flat) (b : Bool) (c : ℤ) → f.inputs ≡ g.inputs → map memory_of f.memories ≡ map memory_of g.memories → probe_of f b c ≡ probe_of g b c
 unfolding probe_within
 same_probe f g b c inputs memories =
-    ap (λ (ks : List Kind). probe_by b c ks (input_kinds f)) (same_kinds f.memories ∙ ap (λ (ms : List MemoryAt). map (λ (m : MemoryAt). m.kind) ms) memories ∙ sym (same_kinds g.memories))
+    ap (λ (ks : List Kind). probe_by b c ks (input_kinds f)) (same_kinds f.memories ∙ ap (λ (ms : List MemoryAt). map (λ (m : MemoryAt). m.kind) ms) memories
+    ∙ sym (same_kinds g.memories))
     ∙ ap (λ (is : List FlatInput). probe_by b c (memory_kinds g) (map (λ (i : FlatInput). i.kind) is)) inputs
 
 pub one_probe : (p : ProgramTree) (m : Identifier) → ((f g : Flat) → IsFlatOf p m f → IsFlatOf p m g → f.inputs ≡ g.inputs)

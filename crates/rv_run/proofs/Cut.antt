@@ -18,7 +18,8 @@ use Rattle.rv_run.proofs.Named.{told_under}
 use Rattle.rv_run.proofs.Reported.{cut_memory, cut_read_fault}
 
 -- Where the files do not tell what they hold it is free: so a bound on what is held is one on what they tell.
-told_long : (held : Option Shelf) (name bytes : List ℕ) (limit : ℕ) → HoldsUnder held name (λ found. limit < length found) → Tells held name bytes → limit < length bytes
+told_long : (held : Option Shelf) (name bytes : List ℕ) (limit : ℕ) → HoldsUnder held name (λ found. limit < length found) → Tells held name bytes
+    → limit < length bytes
 told_long held name bytes limit = told_under held name bytes (λ found. limit < length found)
 
 none_some : {X : Type 0} (x : X) → (o : Option X) → o ≡ None → o ≡ Some x → ⊥
@@ -225,7 +226,8 @@ module _ (held : Option Shelf) (w : Wanted) (document : List ℕ) (none : w.name
     (short : IsNodesReport r → OnSource held w (λ bytes node. length bytes ≤ source_limit))
     (made : (source : List ℕ) → r ≡ Made source → (n : ℕ) × (w.made ≡ Some n) × (source ≡ made_text n))
     (toured : (n size : ℕ) (c : Certificate) → r ≡ Toured n size c
-    → (w.toured ≡ Some n) × (size ≡ length (made_text n)) × OnProgram (WithRuns IsSafe) (made_text n) (codes "main") × OnProgram (IsCertified c) (made_text n) (codes "main"))
+    → (w.toured ≡ Some n) × (size ≡ length (made_text n)) × OnProgram (WithRuns IsSafe) (made_text n) (codes "main") × OnProgram (IsCertified c) (made_text n)
+    (codes "main"))
     (only_made : (n : ℕ) → w.made ≡ Some n → (r ≡ Made (made_text n)) ⊎ (r ≡ Memory))
     (only_toured : (n : ℕ) → w.toured ≡ Some n → IsTouredReport r ⊎ (IsNodesReport r ⊎ (r ≡ Memory))) where
   pub off_file : Replies held w r document
@@ -272,7 +274,8 @@ same_number m n e = cc
 -- the text is shown
 pub make_replies : (held : Option Shelf) (document : List ℕ) (n : ℕ) (r : Report) → (r ≡ Made (made_text n)) ⊎ (r ≡ Memory)
     → Replies held (wanted_of (Some (make n))) r document
-make_replies held document n r (inr none) = subst (λ (x : Report). Replies held (wanted_of (Some (make n))) x document) (sym none) (memory_replies held (wanted_of (Some (make n))) document)
+make_replies held document n r (inr none) = subst (λ (x : Report). Replies held (wanted_of (Some (make n))) x document) (sym none)
+    (memory_replies held (wanted_of (Some (make n))) document)
 make_replies held document n r (inl made) = subst (λ (x : Report). Replies held (wanted_of (Some (make n))) x document) (sym made)
     (off_file held (wanted_of (Some (make n))) document refl (Made (made_text n)) tt
     (λ k h. absurd (let bad : ⊥ = cc in bad)) (λ k h. absurd (let bad : ⊥ = cc in bad)) (λ many. absurd (made-not_nodes many))
@@ -300,7 +303,8 @@ module _ (held : Option Shelf) (document : List ℕ) (n : ℕ) (short : length (
   pub tour_replies : Replies held (wanted_of (Some (tour n))) r document
   tour_replies = off_file held (wanted_of (Some (tour n))) document refl r off
       (λ k h. let two = nodes k h in (two.0, inr two.1)) (λ k h. inr (unprobed k h)) (λ many. inr short)
-      (λ source h. absurd (let bad : IsTouredReport (Made source) ⊎ (IsNodesReport (Made source) ⊎ (Made source ≡ Memory)) = subst (λ (x : Report). IsTouredReport x ⊎ (IsNodesReport x ⊎ (x ≡ Memory))) h only in
+      (λ source h. absurd (let bad : IsTouredReport (Made source) ⊎ (IsNodesReport (Made source) ⊎ (Made source ≡ Memory)) = subst
+      (λ (x : Report). IsTouredReport x ⊎ (IsNodesReport x ⊎ (x ≡ Memory))) h only in
       made-not_toured source bad))
       (λ m size c h. let two = toured m size c h in (
         ap (λ (k : ℕ). Some k) (sym two.0),

@@ -21,6 +21,7 @@ named_some p main h = some p.nodes h
     some [] h = absurd (let different : ⊥ = cc in different)
     some (n ∷ ns) h = tested (is_same n.name.text main) h (some ns)
       where
-        tested : (b : Bool) → IsTrue (b || is_among (map (λ n. n.name.text) ns) main) → (IsTrue (is_among (map (λ n. n.name.text) ns) main) → IsSome (node_among ns main)) → IsSome (cond b (Some n) (node_among ns main))
+        tested : (b : Bool) → IsTrue (b || is_among (map (λ n. n.name.text) ns) main)
+            → (IsTrue (is_among (map (λ n. n.name.text) ns) main) → IsSome (node_among ns main)) → IsSome (cond b (Some n) (node_among ns main))
         tested true h again = refl
         tested false h again = again h

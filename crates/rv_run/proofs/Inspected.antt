@@ -53,7 +53,8 @@ sure bytes p main systems rules (Rejected reason) (f, c, flat, is, right) = λ g
   subst (λ (r : Rule Certificate). IsDocument r (records_of bytes) c) (rules f g flat other) is,
   subst (λ (s : System). IsVerdict s c (verdict.Rejected reason)) (systems f g flat other) right,
 )
-sure bytes p main systems rules (BadFile fault) (f, flat, first) = λ g other. subst (λ (r : Rule Certificate). IsFirstFault r (records_of bytes) fault) (rules f g flat other) first
+sure bytes p main systems rules (BadFile fault) (f, flat, first) = λ g other. subst (λ (r : Rule Certificate). IsFirstFault r (records_of bytes) fault)
+    (rules f g flat other) first
 sure bytes p main systems rules x says = absurd says
 
 pub verdict-answers : (nodes : ℕ) (j : Result Verdict StoreFault) → IsAnswerOf Check (accepted_report nodes j)
@@ -97,28 +98,35 @@ fault-not_nodes (BadNumber m i) n h = cc
 fault-not_nodes (Ends m) n h = cc
 
 -- what the verdict Accepted makes of a system, and its fault of what is many
-pub verdict_safe : (nodes : ℕ) (f : Flat) (c : Certificate) (j : Result Verdict StoreFault) → IfOk j (λ v. IsVerdict (control_of f) c v) → accepted_report nodes j ≡ Accepted
+pub verdict_safe : (nodes : ℕ) (f : Flat) (c : Certificate) (j : Result Verdict StoreFault) → IfOk j (λ v. IsVerdict (control_of f) c v)
+    → accepted_report nodes j ≡ Accepted
     → ((s : System) (d : Certificate) → IsAccepted s d → IsSafeSystem s) → {P : Type 0} → (IsSafeSystem (control_of f) → P) → P
 verdict_safe nodes f c (Ok verdict.Accepted) right e safe to = to (safe (control_of f) c right)
 verdict_safe nodes f c (Ok (verdict.Rejected reason)) right e safe to = absurd (let bad : ⊥ = cc in bad)
 verdict_safe nodes f c (Err store.Nodes) right e safe to = absurd (let bad : ⊥ = cc in bad)
 verdict_safe nodes f c (Err store.Memory) right e safe to = absurd (let bad : ⊥ = cc in bad)
 
-pub verdict_wide : (nodes : ℕ) (j : Result Verdict StoreFault) (n : ℕ) → accepted_report nodes j ≡ Nodes n → {P : Type 0} → (IsErrOf j store.Nodes → P) → (n ≡ nodes) × P
-verdict_wide nodes j n e to = let both = was_nodes nodes j n e in (both.0, to (subst (λ (r : Result Verdict StoreFault). IsErrOf r store.Nodes) (sym both.1) refl))
+pub verdict_wide : (nodes : ℕ) (j : Result Verdict StoreFault) (n : ℕ) → accepted_report nodes j ≡ Nodes n → {P : Type 0} → (IsErrOf j store.Nodes → P)
+    → (n ≡ nodes) × P
+verdict_wide nodes j n e to = let both = was_nodes nodes j n e in (
+  both.0,
+  to (subst (λ (r : Result Verdict StoreFault). IsErrOf r store.Nodes) (sym both.1) refl),
+)
 
 module _ (nodes : ℕ) (bytes : List ℕ) (p : ProgramTree) (main : Identifier) (f : Flat) (flat : IsFlatOf p main f)
     (systems : (f g : Flat) → IsFlatOf p main f → IsFlatOf p main g → control_of f ≡ control_of g)
     (rules : (f g : Flat) → IsFlatOf p main f → IsFlatOf p main g → certificate_rule f ≡ certificate_rule g) where
   -- The bytes are the document of a certificate, on which the verdict is right.
   module _ (c : Certificate) (is : IsDocument (certificate_rule f) (records_of bytes) c) where
-    said_by : (j : Result Verdict StoreFault) → IfOk j (λ v. IsVerdict (control_of f) c v) → IsInvariantReport (accepted_report nodes j) → SaysOfInvariant (accepted_report nodes j) bytes p main
+    said_by : (j : Result Verdict StoreFault) → IfOk j (λ v. IsVerdict (control_of f) c v) → IsInvariantReport (accepted_report nodes j)
+        → SaysOfInvariant (accepted_report nodes j) bytes p main
     said_by (Ok verdict.Accepted) right answer = (f, c, flat, is, right)
     said_by (Ok (verdict.Rejected reason)) right answer = (f, c, flat, is, right)
     said_by (Err store.Nodes) right answer = absurd answer
     said_by (Err store.Memory) right answer = absurd answer
 
-    pub verdict_says : (j : Result Verdict StoreFault) → IfOk j (λ v. IsVerdict (control_of f) c v) → (x : Report) → IsInvariantReport x → accepted_report nodes j ≡ x → SaysOfInvariant x bytes p main
+    pub verdict_says : (j : Result Verdict StoreFault) → IfOk j (λ v. IsVerdict (control_of f) c v) → (x : Report) → IsInvariantReport x
+        → accepted_report nodes j ≡ x → SaysOfInvariant x bytes p main
     verdict_says j right x answer e = subst (λ (y : Report). SaysOfInvariant y bytes p main) e (said_by j right (subst IsInvariantReport (sym e) answer))
 
     same_certificate : (d : Certificate) → IsDocument (certificate_rule f) (records_of bytes) d → d ≡ c
@@ -127,11 +135,14 @@ module _ (nodes : ℕ) (bytes : List ℕ) (p : ProgramTree) (main : Identifier) 
         same : done d ≡ done c → d ≡ c
         same e = cc
 
-    module _ (one : (s : System) (c : Certificate) (u v : Verdict) → IsVerdict s c u → IsVerdict s c v → u ≡ v) (no_fault : (e : FileFault) → IsFirstFault (certificate_rule f) (records_of bytes) e → ⊥) where
-      sure_of : (v : Verdict) → IsVerdict (control_of f) c v → (x : Report) → IsSureOfInvariant x bytes p main → IsUnlessLimit Check x (accepted_report nodes (Ok v))
+    module _ (one : (s : System) (c : Certificate) (u v : Verdict) → IsVerdict s c u → IsVerdict s c v → u ≡ v)
+        (no_fault : (e : FileFault) → IsFirstFault (certificate_rule f) (records_of bytes) e → ⊥) where
+      sure_of : (v : Verdict) → IsVerdict (control_of f) c v → (x : Report) → IsSureOfInvariant x bytes p main
+          → IsUnlessLimit Check x (accepted_report nodes (Ok v))
       sure_of v right Accepted is =
           let here = is f flat in
-          let accepted : IsVerdict (control_of f) c verdict.Accepted = subst (λ (d : Certificate). IsVerdict (control_of f) d verdict.Accepted) (same_certificate here.0 here.1) here.2 in
+          let accepted : IsVerdict (control_of f) c verdict.Accepted = subst (λ (d : Certificate). IsVerdict (control_of f) d verdict.Accepted)
+          (same_certificate here.0 here.1) here.2 in
           inl (ap (λ (u : Verdict). accepted_report nodes (Ok u)) (one (control_of f) c v verdict.Accepted right accepted))
       sure_of v right (Rejected reason) is =
           let here = is f flat in
@@ -141,14 +152,16 @@ module _ (nodes : ℕ) (bytes : List ℕ) (p : ProgramTree) (main : Identifier) 
       sure_of v right (BadFile e) is = absurd (no_fault e (is f flat))
       sure_of v right x is = absurd is
 
-      pub verdict_tells : (j : Result Verdict StoreFault) → IfOk j (λ v. IsVerdict (control_of f) c v) → (x : Report) → SaysOfInvariant x bytes p main → IsUnlessLimit Check x (accepted_report nodes j)
+      pub verdict_tells : (j : Result Verdict StoreFault) → IfOk j (λ v. IsVerdict (control_of f) c v) → (x : Report) → SaysOfInvariant x bytes p main
+          → IsUnlessLimit Check x (accepted_report nodes j)
       verdict_tells (Ok v) right x says = sure_of v right x (sure bytes p main systems rules x says)
       verdict_tells (Err store.Nodes) right x says = inr tt
       verdict_tells (Err store.Memory) right x says = inr tt
 
   -- They are that of none.
   module _ (e : FileFault) where
-    first_of : (e : FileFault) → Explains (certificate_rule f) (records_of bytes) e → IsInvariantReport (file_report e) → SaysOfInvariant (file_report e) bytes p main
+    first_of : (e : FileFault) → Explains (certificate_rule f) (records_of bytes) e → IsInvariantReport (file_report e)
+        → SaysOfInvariant (file_report e) bytes p main
     first_of NoMemory h is = absurd is
     first_of (NotRecords n) (inl none) is = absurd (let bad : ⊥ = cc in bad)
     first_of (NotRecords n) (inr first) is = (f, flat, first)

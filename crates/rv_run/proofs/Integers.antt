@@ -41,7 +41,8 @@ not_both true other = absurd (other refl)
 not_both false other = refl
 
 module _ (p : ProgramTree) (main : Identifier) (f : Flat) (flat : IsFlatOf p main f) (well : AreWell p) (is_node : IsNode p main) where
-  flow_number : (i : Instance) (x : Identifier) → IsInstance p main i → Contains (flows i.node) x → (k : ℕ) × (k < length f.flows) × (get_or (places f) k [] ≡ place i x)
+  flow_number : (i : Instance) (x : Identifier) → IsInstance p main i → Contains (flows i.node) x
+      → (k : ℕ) × (k < length f.flows) × (get_or (places f) k [] ≡ place i x)
   flow_number i x inst w =
       let c = flat.sequence.flows (place i x) (i, x, inst, w, refl) in
       let long = length-map f.flows (λ (g : FlatFlow). g.place.sites) in
@@ -51,7 +52,8 @@ module _ (p : ProgramTree) (main : Identifier) (f : Flat) (flat : IsFlatOf p mai
   -- the order tests are those of comparisons
   tests_are : total (weight 0 1) (map variable_of f.variables) ≡ total (λ (c : ComparisonAt). length (sides_of c.operator)) flat.variables.comparisons
   tests_are =
-      let whole = ap (total (weight 0 1)) flat.variables.list ∙ all_weigh 0 1 p flat.variables.ticks flat.variables.memories (decl_kinds p (node_of p main).inputs) flat.variables.comparisons in
+      let whole = ap (total (weight 0 1)) flat.variables.list ∙ all_weigh 0 1 p flat.variables.ticks flat.variables.memories
+      (decl_kinds p (node_of p main).inputs) flat.variables.comparisons in
       omega (arith, whole)
 
   pub system_control : IsControlSystem f → IsControl p main
@@ -66,7 +68,8 @@ module _ (p : ProgramTree) (main : Identifier) (f : Flat) (flat : IsFlatOf p mai
         let bad : true ≡ false = ap is_integer (sym integer) ∙ All-contains (λ x. is_integer x.kind ≡ false) f.memories m.0 control.memories m.1 in
         let different : ⊥ = cc in different;
     comparisons = λ i e c inst w compares.
-        let part = total_part (λ (x : ComparisonAt). length (sides_of x.operator)) flat.variables.comparisons c (flat.variables.are_comparisons.all i e c inst w compares) in
+        let part = total_part (λ (x : ComparisonAt). length (sides_of x.operator)) flat.variables.comparisons c
+        (flat.variables.are_comparisons.all i e c inst w compares) in
         let none = untested_total f.variables control.untested in
         omega (arith, part, none, tests_are, compares.6);
   }
@@ -87,7 +90,8 @@ module _ (p : ProgramTree) (main : Identifier) (f : Flat) (flat : IsFlatOf p mai
         let once = (well.formed n (main_in p main is_node)).once in
         let lt = within_found (decl_kinds p n.inputs) j kind.Int declared in
         let long = length-map n.inputs (λ (d : Decl). kind_in_program p d.kind) in
-        control.flows (main_instance p main) (name_at_site n once j) is_main (name_within n once j (input_within n once j (omega (arith, lt, long)))) (input_kind n once p j kind.Int declared)
+        control.flows (main_instance p main) (name_at_site n once j) is_main (name_within n once j (input_within n once j (omega (arith, lt, long))))
+        (input_kind n once p j kind.Int declared)
 
     input_integer : (j : ℕ) → slice_get (input_kinds f) j ≡ Some kind.Int → ⊥
     input_integer j is = input_control j (ap (λ (l : List Kind). slice_get l j) (sym flat.input_kinds) ∙ is)
@@ -108,6 +112,7 @@ module _ (p : ProgramTree) (main : Identifier) (f : Flat) (flat : IsFlatOf p mai
           control.delays o.0 o.1 o.2 o.4 (ap (λ (x : MemoryAt). x.kind) (sym o.5) ∙ is_integer_kind m.kind is)));
       inputs = λ k d lt. not_both (is_integer (get_or f.inputs k d).kind) (λ is.
           let long = length-map f.inputs (λ (x : FlatInput). x.kind) in
-          input_integer k (found (input_kinds f) k kind.Bool (omega (arith, long, lt)) ∙ ap (λ (x : Kind). Some x) (get_or-map (λ (x : FlatInput). x.kind) f.inputs k d kind.Bool lt ∙ is_integer_kind (get_or f.inputs k d).kind is)));
+          input_integer k (found (input_kinds f) k kind.Bool (omega (arith, long, lt))
+          ∙ ap (λ (x : Kind). Some x) (get_or-map (λ (x : FlatInput). x.kind) f.inputs k d kind.Bool lt ∙ is_integer_kind (get_or f.inputs k d).kind is)));
       untested = total_untested f.variables (tests_are ∙ ap (total (λ (c : ComparisonAt). length (sides_of c.operator))) no_comparison);
     }

@@ -62,7 +62,8 @@ module _ (nodes : ℕ) (p : ProgramTree) (m : Identifier) where
   probe-unsafe (f, flat, (b, c, k, at)) safe = falsified-unsafe (probe_of f b c) k at.falsified safe
 
   -- a trace that is shown is the verdict
-  pub traced-verdict : (t : Trace) → IsViolated nodes t p m → LacksGoodClaim p m → (r : Result Verdict StoreFault) → IfOk r (IsTraced t p m) → IfOk r (λ v. IsVerdictOf nodes v p m)
+  pub traced-verdict : (t : Trace) → IsViolated nodes t p m → LacksGoodClaim p m → (r : Result Verdict StoreFault) → IfOk r (IsTraced t p m)
+      → IfOk r (λ v. IsVerdictOf nodes v p m)
   traced-verdict t is lacks (Ok (Violated u text)) (same, shown) =
       (subst (λ (x : Trace). IsViolated nodes x p m) (sym same) is, subst (λ (x : Trace). IsDocumentOf x text.items p m) (sym same) shown, lacks)
   traced-verdict t is lacks (Ok (Safe c text)) bad = absurd bad
@@ -83,7 +84,8 @@ module _ (nodes : ℕ) (p : ProgramTree) (m : Identifier) where
 
   pub said_violated : (r : Result Verdict StoreFault) (t : Trace) → IfOk r (λ v. IsVerdictOf nodes v p m) → verdict_report nodes r ≡ report.Violated t
       → IsViolated nodes t p m × IsDocumentOf t (verdict_document r) p m × LacksGoodClaim p m
-  said_violated (Ok (Violated u text)) t judged is = subst (λ (e : Trace). IsViolated nodes e p m × IsDocumentOf e text.items p m × LacksGoodClaim p m) (same u t is) judged
+  said_violated (Ok (Violated u text)) t judged is = subst (λ (e : Trace). IsViolated nodes e p m × IsDocumentOf e text.items p m × LacksGoodClaim p m)
+      (same u t is) judged
     where
       same : (u t : Trace) → report.Violated u ≡ report.Violated t → u ≡ t
       same u t e = cc
@@ -92,7 +94,8 @@ module _ (nodes : ℕ) (p : ProgramTree) (m : Identifier) where
   said_violated (Err fault.Nodes) t judged is = absurd (let different : ⊥ = cc in different)
   said_violated (Err fault.Memory) t judged is = absurd (let different : ⊥ = cc in different)
 
-  pub said_unknown : (r : Result Verdict StoreFault) (l : Left) → IfOk r (λ v. IsVerdictOf nodes v p m) → verdict_report nodes r ≡ report.Unknown l → IsUnknown l p m
+  pub said_unknown : (r : Result Verdict StoreFault) (l : Left) → IfOk r (λ v. IsVerdictOf nodes v p m) → verdict_report nodes r ≡ report.Unknown l
+      → IsUnknown l p m
   said_unknown (Ok (Undecided k)) l judged is = subst (λ (x : Left). IsUnknown x p m) (same k l is) judged
     where
       same : (k l : Left) → report.Unknown k ≡ report.Unknown l → k ≡ l
@@ -102,7 +105,8 @@ module _ (nodes : ℕ) (p : ProgramTree) (m : Identifier) where
   said_unknown (Err fault.Nodes) l judged is = absurd (let different : ⊥ = cc in different)
   said_unknown (Err fault.Memory) l judged is = absurd (let different : ⊥ = cc in different)
 
-  pub said_nodes : (r : Result Verdict StoreFault) (n : ℕ) → (IsErrOf r fault.Nodes → HasManyVariables nodes p m) → verdict_report nodes r ≡ report.Nodes n → (n ≡ nodes) × HasManyVariables nodes p m
+  pub said_nodes : (r : Result Verdict StoreFault) (n : ℕ) → (IsErrOf r fault.Nodes → HasManyVariables nodes p m) → verdict_report nodes r ≡ report.Nodes n
+      → (n ≡ nodes) × HasManyVariables nodes p m
   said_nodes (Err fault.Nodes) n wide is = (same n is, wide refl)
     where
       same : (n : ℕ) → report.Nodes nodes ≡ report.Nodes n → n ≡ nodes
@@ -120,21 +124,24 @@ module _ (nodes : ℕ) (p : ProgramTree) (m : Identifier) where
   must_safe (Err fault.Nodes) judged is = inr (inl (nodes, refl))
   must_safe (Err fault.Memory) judged is = inr (inr (inr refl))
 
-  pub must_violated : (r : Result Verdict StoreFault) → IfOk r (λ v. IsVerdictOf nodes v p m) → IsUnsafeControl p m → IsViolatedUnlessCutOff (verdict_report nodes r)
+  pub must_violated : (r : Result Verdict StoreFault) → IfOk r (λ v. IsVerdictOf nodes v p m) → IsUnsafeControl p m
+      → IsViolatedUnlessCutOff (verdict_report nodes r)
   must_violated (Ok (Safe c text)) judged is = absurd (is.1 judged.0)
   must_violated (Ok (Violated t text)) judged is = inl (t, refl)
   must_violated (Ok (Undecided l)) judged is = absurd (judged.0.0 is.0)
   must_violated (Err fault.Nodes) judged is = inr (inl (nodes, refl))
   must_violated (Err fault.Memory) judged is = inr (inr (inr refl))
 
-  pub must_claim : (r : Result Verdict StoreFault) → (HasGoodClaim p m → LacksGoodClaim p m → ⊥) → IfOk r (λ v. IsVerdictOf nodes v p m) → HasGoodClaim p m → IsSafeUnlessCutOff (verdict_report nodes r)
+  pub must_claim : (r : Result Verdict StoreFault) → (HasGoodClaim p m → LacksGoodClaim p m → ⊥) → IfOk r (λ v. IsVerdictOf nodes v p m) → HasGoodClaim p m
+      → IsSafeUnlessCutOff (verdict_report nodes r)
   must_claim (Ok (Safe c text)) one judged is = inl (c, refl)
   must_claim (Ok (Violated t text)) one judged is = absurd (one is judged.2)
   must_claim (Ok (Undecided l)) one judged is = absurd (one is judged.0.1)
   must_claim (Err fault.Nodes) one judged is = inr (inl (nodes, refl))
   must_claim (Err fault.Memory) one judged is = inr (inr (inr refl))
 
-  pub must_probe : (r : Result Verdict StoreFault) → (HasProbe p m → LacksProbe p m → ⊥) → (IsErrOf r fault.Nodes → LacksProbe p m) → IfOk r (λ v. IsVerdictOf nodes v p m) → HasProbe p m
+  pub must_probe : (r : Result Verdict StoreFault) → (HasProbe p m → LacksProbe p m → ⊥) → (IsErrOf r fault.Nodes → LacksProbe p m)
+      → IfOk r (λ v. IsVerdictOf nodes v p m) → HasProbe p m
       → IsViolatedUnlessUnread (verdict_report nodes r)
   must_probe (Ok (Safe c text)) probe lacks judged is = absurd (probe-unsafe is judged.0)
   must_probe (Ok (Violated t text)) probe lacks judged is = inl (t, refl)
@@ -142,7 +149,8 @@ module _ (nodes : ℕ) (p : ProgramTree) (m : Identifier) where
   must_probe (Err fault.Nodes) probe lacks judged is = absurd (probe is (lacks refl))
   must_probe (Err fault.Memory) probe lacks judged is = inr (inr refl)
 
-  pub said_unprobed : (r : Result Verdict StoreFault) (n : ℕ) → (IsErrOf r fault.Nodes → LacksProbe p m) → verdict_report nodes r ≡ report.Nodes n → LacksProbe p m
+  pub said_unprobed : (r : Result Verdict StoreFault) (n : ℕ) → (IsErrOf r fault.Nodes → LacksProbe p m) → verdict_report nodes r ≡ report.Nodes n
+      → LacksProbe p m
   said_unprobed (Err fault.Nodes) n lacks is = lacks refl
   said_unprobed (Ok (Safe d text)) n lacks is = absurd (let different : ⊥ = cc in different)
   said_unprobed (Ok (Violated t text)) n lacks is = absurd (let different : ⊥ = cc in different)

@@ -1,5 +1,6 @@
 -- What stands in lists, names by their numbers, and the nodes of a well formed program.
-use Rattle.std.proofs.Common.{◌≡◌, ℕ, zero, suc, ◌+◌, ◌<◌, ◌⊎◌, inl, inr, Bool, true, false, cond, ◌||◌, List, [], ◌∷◌, map, length, get_or, refl, sym, ◌∙◌, ap, subst, arith, Some, IsSome, IsTrue, unwrap_or}
+use Rattle.std.proofs.Common.{◌≡◌, ℕ, zero, suc, ◌+◌, ◌<◌, ◌⊎◌, inl, inr, Bool, true, false, cond, ◌||◌, List, [], ◌∷◌, map, length, get_or, refl, sym, ◌∙◌, ap}
+use Rattle.std.proofs.Common.{subst, arith, Some, IsSome, IsTrue, unwrap_or}
 use Rattle.std.proofs.Common.{None as Nothing}
 use Rattle.std.specs.List.{Contains, flat_map}
 use Rattle.std.specs.Cmp.Lexicographic.{same_text}
@@ -35,7 +36,15 @@ pub of_map : {X Y : Type 0} (f : X → Y) (xs : List X) (y : Y) → Contains (ma
 of_map f [] y w = nothing_in y w
 of_map f (x ∷ xs) y w = elim (cons_cases (f x) (map f xs) y w) [
   | inl same ↦ (x, (0, omega arith, refl), same)
-  | inr rest ↦ let v = of_map f xs y rest in (v.0, (v.1.0 + 1, (let lt = v.1.1 in omega (arith, lt)), (let z : v.1.0 + 1 ≡ suc v.1.0 = omega arith in ap (λ k. get_or (x ∷ xs) k v.0) z ∙ v.1.2)), v.2)
+  | inr rest ↦ let v = of_map f xs y rest in (
+    v.0,
+    (
+      v.1.0 + 1,
+      (let lt = v.1.1 in omega (arith, lt)),
+      (let z : v.1.0 + 1 ≡ suc v.1.0 = omega arith in ap (λ k. get_or (x ∷ xs) k v.0) z ∙ v.1.2),
+    ),
+    v.2,
+  )
 ]
 
 pub in_flat_map : {X Y : Type 0} (f : X → List Y) (xs : List X) (x : X) (y : Y) → Contains xs x → Contains (f x) y → Contains (flat_map f xs) y
@@ -61,7 +70,8 @@ pub index_there : (xs : List Identifier) (x : Identifier) → is_among xs x ≡ 
 index_there [] x e = cc
 index_there (y ∷ ys) x e = tested (is_same y x) refl e (index_there ys x)
   where
-    tested : (b : Bool) → is_same y x ≡ b → (b || is_among ys x) ≡ true → (is_among ys x ≡ true → (index_of ys x < length ys) × (get_or ys (index_of ys x) [] ≡ x))
+    tested : (b : Bool) → is_same y x ≡ b → (b || is_among ys x) ≡ true
+        → (is_among ys x ≡ true → (index_of ys x < length ys) × (get_or ys (index_of ys x) [] ≡ x))
         → (cond b 0 (index_of ys x + 1) < suc (length ys)) × (get_or (y ∷ ys) (cond b 0 (index_of ys x + 1)) [] ≡ x)
     tested true same e again = (omega arith, same_text y x (sym same))
     tested false other e again =
@@ -91,12 +101,14 @@ index_at xs x w = index_there xs x (among xs x w)
 
 -- Nodes by their names.
 
-pub node_there : (ns : List NodeTree) (f : Identifier) → is_among (texts (map (λ (n : NodeTree). n.name) ns)) f ≡ true → node_among ns f ≡ Some (get_or ns (index_of (texts (map (λ (n : NodeTree). n.name) ns)) f) no_node)
+pub node_there : (ns : List NodeTree) (f : Identifier) → is_among (texts (map (λ (n : NodeTree). n.name) ns)) f ≡ true
+    → node_among ns f ≡ Some (get_or ns (index_of (texts (map (λ (n : NodeTree). n.name) ns)) f) no_node)
 node_there [] f e = cc
 node_there (n ∷ ns) f e = tested (is_same n.name.text f) e (node_there ns f)
   where
     tested : (b : Bool) → (b || is_among (texts (map (λ (n : NodeTree). n.name) ns)) f) ≡ true
-        → (is_among (texts (map (λ (n : NodeTree). n.name) ns)) f ≡ true → node_among ns f ≡ Some (get_or ns (index_of (texts (map (λ (n : NodeTree). n.name) ns)) f) no_node))
+        → (is_among (texts (map (λ (n : NodeTree). n.name) ns)) f ≡ true
+        → node_among ns f ≡ Some (get_or ns (index_of (texts (map (λ (n : NodeTree). n.name) ns)) f) no_node))
         → cond b (Some n) (node_among ns f) ≡ Some (get_or (n ∷ ns) (cond b 0 (index_of (texts (map (λ (n : NodeTree). n.name) ns)) f + 1)) no_node)
     tested true e again = refl
     tested false e again =
@@ -123,7 +135,8 @@ named_among : (ns : List NodeTree) (f : Identifier) → IsSome (node_among ns f)
 named_among [] f h = absurd (let different : ⊥ = cc in different)
 named_among (n ∷ ns) f h = tested (is_same n.name.text f) h (named_among ns f)
   where
-    tested : (b : Bool) → IsSome (cond b (Some n) (node_among ns f)) → (IsSome (node_among ns f) → Contains ns (unwrap_or (node_among ns f) no_node)) → Contains (n ∷ ns) (unwrap_or (cond b (Some n) (node_among ns f)) no_node)
+    tested : (b : Bool) → IsSome (cond b (Some n) (node_among ns f)) → (IsSome (node_among ns f) → Contains ns (unwrap_or (node_among ns f) no_node))
+        → Contains (n ∷ ns) (unwrap_or (cond b (Some n) (node_among ns f)) no_node)
     tested true h again = (0, omega arith, refl)
     tested false h again = (let w = again h in let lt = w.1 in (suc w.0, omega (arith, lt), w.2))
 
@@ -132,7 +145,8 @@ some_among : (ns : List NodeTree) (f : Identifier) → IsTrue (is_among (map (λ
 some_among [] f h = absurd (let different : ⊥ = cc in different)
 some_among (n ∷ ns) f h = tested (is_same n.name.text f) h (some_among ns f)
   where
-    tested : (b : Bool) → IsTrue (b || is_among (map (λ n. n.name.text) ns) f) → (IsTrue (is_among (map (λ n. n.name.text) ns) f) → IsSome (node_among ns f)) → IsSome (cond b (Some n) (node_among ns f))
+    tested : (b : Bool) → IsTrue (b || is_among (map (λ n. n.name.text) ns) f) → (IsTrue (is_among (map (λ n. n.name.text) ns) f) → IsSome (node_among ns f))
+        → IsSome (cond b (Some n) (node_among ns f))
     tested true h again = refl
     tested false h again = again h
 

@@ -1,5 +1,6 @@
 -- The main node of a program that keeps every rule.
-use Rattle.std.proofs.Common.{◌≡◌, ◌<◌, Bool, true, false, cond, List, [], ◌∷◌, map, length, refl, sym, ◌∙◌, ap, subst, arith, Option, Some, IsTrue, IsSome, unwrap_or}
+use Rattle.std.proofs.Common.{◌≡◌, ◌<◌, Bool, true, false, cond, List, [], ◌∷◌, map, length, refl, sym, ◌∙◌, ap, subst, arith, Option, Some, IsTrue, IsSome}
+use Rattle.std.proofs.Common.{unwrap_or}
 use Rattle.std.proofs.Common.{None as Nothing}
 use Rattle.std.proofs.lemmas.List.{length-map}
 use Rattle.rv_tree.specs.declared.tree.Decl.{Decl}
@@ -26,7 +27,9 @@ some_output : (ds : List Decl) (p : ProgramTree) → is_observer (decl_kinds p d
 some_output [] p h = cc
 some_output (d ∷ ds) p h = omega arith
 
-observed : (p : ProgramTree) (o : Option NodeTree) → elim o as (λ _. List NameFault) [ Nothing ↦ [] | Some m ↦ cond (is_observer (decl_kinds p m.outputs)) [] (NotObserver m.name.at ∷ []) ] ≡ [] → IsSome o → 0 < length (unwrap_or o no_node).outputs
+observed : (p : ProgramTree) (o : Option NodeTree) → elim o as (λ _. List NameFault)
+    [ Nothing ↦ [] | Some m ↦ cond (is_observer (decl_kinds p m.outputs)) [] (NotObserver m.name.at ∷ []) ] ≡ [] → IsSome o
+    → 0 < length (unwrap_or o no_node).outputs
 observed p Nothing h some = absurd (let different : ⊥ = cc in different)
 observed p (Some m) h some = by (is_observer (decl_kinds p m.outputs)) refl h
   where

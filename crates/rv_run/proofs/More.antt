@@ -30,7 +30,8 @@ pub file_more : (held : Option Shelf) (w : Wanted) (P Q : ProgramTree → Identi
     → OnFile held w (OnProgram P) → OnFile held w (OnProgram Q)
 file_more held w P Q to = by (w.named)
   where
-    by : (o : Option (List ℕ × List ℕ)) → IsSomeAnd o (λ n. HoldsUnder held n.0 (λ bytes. OnProgram P bytes n.1)) → IsSomeAnd o (λ n. HoldsUnder held n.0 (λ bytes. OnProgram Q bytes n.1))
+    by : (o : Option (List ℕ × List ℕ)) → IsSomeAnd o (λ n. HoldsUnder held n.0 (λ bytes. OnProgram P bytes n.1))
+        → IsSomeAnd o (λ n. HoldsUnder held n.0 (λ bytes. OnProgram Q bytes n.1))
     by None h = h
     by (Some n) h = more_under held n.0 (λ bytes. OnProgram P bytes n.1) (λ bytes. OnProgram Q bytes n.1) (λ bytes. program_more P Q bytes n.1 to) h
 

@@ -48,7 +48,8 @@ told_under None name bytes P h told = absurd told
 told_under (Some shelf) name bytes P h told = subst (λ o. IsSomeAnd o P) told h
 
 -- what is so of each list of bytes with P is so under the name
-pub more_under : (held : Option Shelf) (name : List ℕ) (P Q : List ℕ → Type 0) → ((bytes : List ℕ) → P bytes → Q bytes) → HoldsUnder held name P → HoldsUnder held name Q
+pub more_under : (held : Option Shelf) (name : List ℕ) (P Q : List ℕ → Type 0) → ((bytes : List ℕ) → P bytes → Q bytes) → HoldsUnder held name P
+    → HoldsUnder held name Q
 more_under None name P Q to h = tt
 more_under (Some shelf) name P Q to h = more (get shelf name) h
   where
@@ -57,16 +58,21 @@ more_under (Some shelf) name P Q to h = more (get shelf name) h
     more (Some bytes) h = to bytes h
 
 -- The same of both files that the words of a command with a document name.
-module _ (held : Option Shelf) (w : Wanted) (named : List ℕ × List ℕ) (other : Task × List ℕ) (loaded given : List ℕ) (limit : ℕ) (P : List ℕ → List ℕ → List ℕ → Type 0)
+module _ (held : Option Shelf) (w : Wanted) (named : List ℕ × List ℕ) (other : Task × List ℕ) (loaded given : List ℕ) (limit : ℕ)
+    (P : List ℕ → List ℕ → List ℕ → Type 0)
     (is : w.named ≡ Some named) (with_other : w.beside ≡ Some other)
     (whole : HoldsUnder held named.0 (λ bytes. (loaded ≡ bytes) × (length bytes ≤ limit))) (same : given ≡ loaded) where
   pub on_document : HoldsUnder held other.1 (P given named.1) → OnDocument held w other.0 P
   on_document h =
       subst (λ o. IsSomeAnd o (λ n. IsSomeAnd (w.beside) (λ t. (t.0 ≡ other.0) × HoldsUnder held n.0 (λ bytes. HoldsUnder held t.1 (P bytes n.1))))) (sym is)
-      (subst (λ o. IsSomeAnd o (λ t. (t.0 ≡ other.0) × HoldsUnder held named.0 (λ bytes. HoldsUnder held t.1 (P bytes named.1)))) (sym with_other)
-      (refl, under_name held named.0 loaded limit (λ bytes. HoldsUnder held other.1 (P bytes named.1)) whole (subst (λ bytes. HoldsUnder held other.1 (P bytes named.1)) same h)))
+      (subst (λ o. IsSomeAnd o (λ t. (t.0 ≡ other.0) × HoldsUnder held named.0 (λ bytes. HoldsUnder held t.1 (P bytes named.1)))) (sym with_other) (
+        refl,
+        under_name held named.0 loaded limit (λ bytes. HoldsUnder held other.1 (P bytes named.1)) whole
+            (subst (λ bytes. HoldsUnder held other.1 (P bytes named.1)) same h),
+      ))
 
-  pub told_of_document : (task : Task) (told : IsToldDocument held w task P) → (task ≡ other.0) × Tells held other.1 told.document × P given named.1 told.document
+  pub told_of_document : (task : Task) (told : IsToldDocument held w task P)
+      → (task ≡ other.0) × Tells held other.1 told.document × P given named.1 told.document
   told_of_document task told =
       let pair : named ≡ (told.file, told.node) = same_pair named (told.file, told.node) (sym is ∙ told.named) in
       let both : (task, told.other) ≡ other = same_other (task, told.other) other (sym told.with_other ∙ with_other) in

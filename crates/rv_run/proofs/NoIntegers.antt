@@ -27,7 +27,8 @@ within_found (y ∷ ys) zero x is = omega arith
 within_found (y ∷ ys) (suc k) x is = let lt = within_found ys k x is in omega arith
 
 -- none of some types is that of integers
-pub not_integer : {X : Type 0} (kind_of : X → Kind) (xs : List X) → All (λ x. is_integer (kind_of x) ≡ false) xs → (k : ℕ) (j : Kind) → slice_get (map kind_of xs) k ≡ Some j → is_integer j ≡ false
+pub not_integer : {X : Type 0} (kind_of : X → Kind) (xs : List X) → All (λ x. is_integer (kind_of x) ≡ false) xs → (k : ℕ) (j : Kind)
+    → slice_get (map kind_of xs) k ≡ Some j → is_integer j ≡ false
 not_integer kind_of [] all k j is = cc
 not_integer kind_of (x ∷ xs) all zero j is = let same : kind_of x ≡ j = cc in ap is_integer (sym same) ∙ all 0 x (omega arith)
 not_integer kind_of (x ∷ xs) all (suc k) j is = not_integer kind_of xs (λ i d lt. all (suc i) d (omega arith)) k j is

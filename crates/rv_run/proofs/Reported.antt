@@ -22,7 +22,8 @@ use Rattle.rv_run.specs.Programs.{OnProgram, IsRefusedFor}
 use Rattle.rv_run.specs.Refusals.{refusal_of}
 use Rattle.rv_fixpoint.specs.declared.end.Left.{Left}
 use Rattle.rv_run.specs.declared.report.Report.{Report}
-use Rattle.rv_run.specs.declared.report.Report.TheVariants.{Safe, Violated, Unknown, Nodes, Accepted, Rejected, Falsified, AssertionFails, NeverFalse, Outgrown, Made, Toured, Refused, BadFile, TooLong, ReadFault, Usage, Memory}
+use Rattle.rv_run.specs.declared.report.Report.TheVariants.{Safe, Violated, Unknown, Nodes, Accepted, Rejected, Falsified, AssertionFails, NeverFalse, Outgrown}
+use Rattle.rv_run.specs.declared.report.Report.TheVariants.{Made, Toured, Refused, BadFile, TooLong, ReadFault, Usage, Memory}
 use Rattle.rv_run.specs.Traced.{IsTraceAnswer, IsTraceReport, IsUnlessNoMemory}
 use Rattle.rv_run.proofs.MainNode.{main_named}
 
@@ -93,8 +94,10 @@ refusal-of_document (Cause f) = tt
 
 -- ---- Reports on documents, on sources and of commands with a document are of different kinds.
 -- What is neither a report on the bytes of a document nor one of want of memory or of the limit of diagrams.
-pub answer-is : (P : Report → Type 0) (task : Task) (x : Report) → P Memory → ((n : ℕ) → P (Nodes n)) → P Accepted → ((r : Reason) → P (Rejected r)) → ((k : ℕ) → P (Falsified k))
-    → ((k : ℕ) (at : Place) → P (AssertionFails k at)) → P NeverFalse → ((k : ℕ) (at : Place) → P (Outgrown k at)) → ((e : FileFault) → P (BadFile e)) → IsAnswerOf task x → P x
+pub answer-is : (P : Report → Type 0) (task : Task) (x : Report) → P Memory → ((n : ℕ) → P (Nodes n)) → P Accepted → ((r : Reason) → P (Rejected r))
+    → ((k : ℕ) → P (Falsified k))
+    → ((k : ℕ) (at : Place) → P (AssertionFails k at)) → P NeverFalse → ((k : ℕ) (at : Place) → P (Outgrown k at)) → ((e : FileFault) → P (BadFile e))
+    → IsAnswerOf task x → P x
 answer-is P Replay (Falsified k) m n a r f s v o b (inl is) = f k
 answer-is P Replay (AssertionFails k at) m n a r f s v o b (inl is) = s k at
 answer-is P Replay NeverFalse m n a r f s v o b (inl is) = v
@@ -160,15 +163,18 @@ not_read_fault x = Unit {0}
 
 pub document-not_refused : (task : Task) (x : Report) (fault : SourceFault) → IsAnswerOf task x → x ≡ Refused fault → ⊥
 document-not_refused task x fault is h =
-    different x (Refused fault) not_refused (answer-is not_refused task x tt (λ n. tt) tt (λ r. tt) (λ k. tt) (λ k at. tt) tt (λ k at. tt) (λ e. tt) is) (λ impossible. impossible) h
+    different x (Refused fault) not_refused (answer-is not_refused task x tt (λ n. tt) tt (λ r. tt) (λ k. tt) (λ k at. tt) tt (λ k at. tt) (λ e. tt) is)
+    (λ impossible. impossible) h
 
 pub document-not_long : (task : Task) (x : Report) (n : ℕ) → IsAnswerOf task x → x ≡ TooLong n → ⊥
 document-not_long task x n is h =
-    different x (TooLong n) not_long (answer-is not_long task x tt (λ n. tt) tt (λ r. tt) (λ k. tt) (λ k at. tt) tt (λ k at. tt) (λ e. tt) is) (λ impossible. impossible) h
+    different x (TooLong n) not_long (answer-is not_long task x tt (λ n. tt) tt (λ r. tt) (λ k. tt) (λ k at. tt) tt (λ k at. tt) (λ e. tt) is)
+    (λ impossible. impossible) h
 
 pub document-not_read_fault : (task : Task) (x : Report) → IsAnswerOf task x → x ≡ ReadFault → ⊥
 document-not_read_fault task x is h =
-    different x ReadFault not_read_fault (answer-is not_read_fault task x tt (λ n. tt) tt (λ r. tt) (λ k. tt) (λ k at. tt) tt (λ k at. tt) (λ e. tt) is) (λ impossible. impossible) h
+    different x ReadFault not_read_fault (answer-is not_read_fault task x tt (λ n. tt) tt (λ r. tt) (λ k. tt) (λ k at. tt) tt (λ k at. tt) (λ e. tt) is)
+    (λ impossible. impossible) h
 
 -- a report on a document that an answer of a command is, is one of that command
 pub answer-reports : (task : Task) (x : Report) → IsAnswerOf task x → IsDocumentAnswer x → IsReportOf task x
@@ -285,7 +291,8 @@ module _ (bytes : List ℕ) (node : Identifier) where
   refusal-refused (Cause f) fault cause h = subst (λ (g : SourceFault). IsRefusedFor g bytes node) (inner (Cause f) fault h) cause
 
   -- where it is refused, an accepted source is none but for want of memory
-  pub refused_accepted : (P : ProgramTree → Identifier → Type 0) (e : SourceFault) → ((p : ProgramTree) (t : Typed) → IsSource bytes node p t → e ≡ NoMemory) → OnProgram P bytes node → refusal_of e ≡ Memory
+  pub refused_accepted : (P : ProgramTree → Identifier → Type 0) (e : SourceFault) → ((p : ProgramTree) (t : Typed) → IsSource bytes node p t → e ≡ NoMemory)
+      → OnProgram P bytes node → refusal_of e ≡ Memory
   refused_accepted P e only on = ap refusal_of (only on.program on.typed on.source)
 
   pub refused_same : (e fault : SourceFault) → (e ≡ NoMemory) ⊎ AreSame fault e → IsRefusalUnlessCutOff fault (refusal_of e)
@@ -310,5 +317,6 @@ module _ (bytes : List ℕ) (node : Identifier) where
     }
 
     -- and what is told of the bytes is true of it
-    pub told_back : ((t u : ProgramTree) → IsTextOf bytes t → IsTextOf bytes u → t ≡ u) → (P : ProgramTree → Identifier → Type 0) → OnProgram P bytes node → P (program_tree s.program) node
+    pub told_back : ((t u : ProgramTree) → IsTextOf bytes t → IsTextOf bytes u → t ≡ u) → (P : ProgramTree → Identifier → Type 0) → OnProgram P bytes node
+        → P (program_tree s.program) node
     told_back one P on = subst (λ (p : ProgramTree). P p node) (one on.program (program_tree s.program) on.source.text source.text) on.holds

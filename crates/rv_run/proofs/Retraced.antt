@@ -51,7 +51,8 @@ of_document f t is = record {
 -- ---- How a replay ended.
 module _ (p : ProgramTree) (main : Identifier) (t : Trace) (r : Result Replayed ReplayFault) where
   -- what the clauses of a replay say, as one
-  pub all_said : ((k : ℕ) → r ≡ Ok (replayed.Falsified k) → IsFalsifiedAt p main t k) → ((k : ℕ) (at : Place) → r ≡ Ok (replayed.AssertionFails k at) → FailsAt p main t k at)
+  pub all_said : ((k : ℕ) → r ≡ Ok (replayed.Falsified k) → IsFalsifiedAt p main t k)
+      → ((k : ℕ) (at : Place) → r ≡ Ok (replayed.AssertionFails k at) → FailsAt p main t k at)
       → (r ≡ Ok replayed.NeverFalse → NeverEnds p main t) → ((k : ℕ) (at : Place) → r ≡ Err (replay_fault.Outgrown k at) → OutgrowsAt p main t k at)
       → (a : Result Replayed ReplayFault) → r ≡ a → (a ≡ Err replay_fault.Memory → ⊥) → IsReplay p main t a
   all_said falsified fails never outgrown (Ok (replayed.Falsified k)) is other = falsified k is
@@ -60,8 +61,10 @@ module _ (p : ProgramTree) (main : Identifier) (t : Trace) (r : Result Replayed 
   all_said falsified fails never outgrown (Err (replay_fault.Outgrown k at)) is other = outgrown k at is
   all_said falsified fails never outgrown (Err replay_fault.Memory) is other = absurd (other refl)
 
-  pub all_told : ((k : ℕ) → IsFalsifiedAt p main t k → IsUnlessMemory (Ok (replayed.Falsified k)) r) → ((k : ℕ) (at : Place) → FailsAt p main t k at → IsUnlessMemory (Ok (replayed.AssertionFails k at)) r)
-      → (NeverEnds p main t → IsUnlessMemory (Ok replayed.NeverFalse) r) → ((k : ℕ) (at : Place) → OutgrowsAt p main t k at → IsUnlessMemory (Err (replay_fault.Outgrown k at)) r)
+  pub all_told : ((k : ℕ) → IsFalsifiedAt p main t k → IsUnlessMemory (Ok (replayed.Falsified k)) r)
+      → ((k : ℕ) (at : Place) → FailsAt p main t k at → IsUnlessMemory (Ok (replayed.AssertionFails k at)) r)
+      → (NeverEnds p main t → IsUnlessMemory (Ok replayed.NeverFalse) r)
+      → ((k : ℕ) (at : Place) → OutgrowsAt p main t k at → IsUnlessMemory (Err (replay_fault.Outgrown k at)) r)
       → (a : Result Replayed ReplayFault) → IsReplay p main t a → IsUnlessMemory a r
   all_told falsified fails never outgrown (Ok (replayed.Falsified k)) is = falsified k is
   all_told falsified fails never outgrown (Ok (replayed.AssertionFails k at)) is = fails k at is
@@ -114,22 +117,26 @@ module _ (bytes : List ℕ) (p : ProgramTree) (main : Identifier) (f : Flat) (fl
     module _ (one : (g h : Flat) → IsFlatOf p main g → IsFlatOf p main h → trace_rule g ≡ trace_rule h) where
       one_trace : (u : Trace) → IsTraceDocument u bytes p main → u ≡ t
       one_trace u (g, other, doc) =
-          let here : IsDocument (trace_rule f) (records_of bytes) u = subst (λ (rule : Rule Trace). IsDocument rule (records_of bytes) u) (one g f other flat) doc in
+          let here : IsDocument (trace_rule f) (records_of bytes) u = subst (λ (rule : Rule Trace). IsDocument rule (records_of bytes) u)
+          (one g f other flat) doc in
           same (sym here.1 ∙ is.1)
         where
           same : done u ≡ done t → u ≡ t
           same e = cc
 
-      pub trace_tells : ((a : Result Replayed ReplayFault) → IsReplay p main t a → IsUnlessMemory a r) → ((e : FileFault) → IsFirstFault (trace_rule f) (records_of bytes) e → ⊥)
+      pub trace_tells : ((a : Result Replayed ReplayFault) → IsReplay p main t a → IsUnlessMemory a r)
+          → ((e : FileFault) → IsFirstFault (trace_rule f) (records_of bytes) e → ⊥)
           → (x : Report) → SaysOfTrace x bytes p main → IsUnlessNoMemory x (replay_report r)
       trace_tells tells none (Falsified k) (u, doc, h) =
           told_as (Ok (replayed.Falsified k)) r (tells (Ok (replayed.Falsified k)) (subst (λ (v : Trace). IsFalsifiedAt p main v k) (one_trace u doc) h))
       trace_tells tells none (AssertionFails k at) (u, doc, h) =
-          told_as (Ok (replayed.AssertionFails k at)) r (tells (Ok (replayed.AssertionFails k at)) (subst (λ (v : Trace). FailsAt p main v k at) (one_trace u doc) h))
+          told_as (Ok (replayed.AssertionFails k at)) r (tells (Ok (replayed.AssertionFails k at))
+          (subst (λ (v : Trace). FailsAt p main v k at) (one_trace u doc) h))
       trace_tells tells none NeverFalse (u, doc, h) =
           told_as (Ok replayed.NeverFalse) r (tells (Ok replayed.NeverFalse) (subst (λ (v : Trace). NeverEnds p main v) (one_trace u doc) h))
       trace_tells tells none (Outgrown k at) (u, doc, h) =
-          told_as (Err (replay_fault.Outgrown k at)) r (tells (Err (replay_fault.Outgrown k at)) (subst (λ (v : Trace). OutgrowsAt p main v k at) (one_trace u doc) h))
+          told_as (Err (replay_fault.Outgrown k at)) r (tells (Err (replay_fault.Outgrown k at))
+          (subst (λ (v : Trace). OutgrowsAt p main v k at) (one_trace u doc) h))
       trace_tells tells none (BadFile fault) (g, other, first) =
           absurd (none fault (subst (λ (rule : Rule Trace). IsFirstFault rule (records_of bytes) fault) (one g f other flat) first))
       trace_tells tells none x h = absurd h

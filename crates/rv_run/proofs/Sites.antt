@@ -89,6 +89,7 @@ module _ (n : NodeTree) (once : (j k : ℕ) → j < k → k < length (flows n) �
       let o = length-map n.outputs base_clock in
       let both = length-append (map base_clock n.inputs) (map base_clock n.outputs) in
       ap (λ (k : ℕ). get_or (flow_clocks n) k Base) (site_is (length n.inputs) within)
-      ∙ get_or_append_left (map base_clock n.inputs ++ map base_clock n.outputs) (map (λ (d : Decl). declared_clock n d.clock) n.locals) Base (length n.inputs) (omega (arith, some, i, o, both))
+      ∙ get_or_append_left (map base_clock n.inputs ++ map base_clock n.outputs) (map (λ (d : Decl). declared_clock n d.clock) n.locals) Base (length n.inputs)
+      (omega (arith, some, i, o, both))
       ∙ get_or-append_right (map base_clock n.inputs) (map base_clock n.outputs) (length n.inputs) (length n.inputs) Base i (omega arith)
       ∙ base_at n.outputs (length n.inputs - length n.inputs)

@@ -30,4 +30,5 @@ module _ (p : ProgramTree) (small : HasSmallNumbers p) where
 
   -- each threshold has a magnitude of at most 2^41
   pub thresholds_small : (ys : List ℤ) → AreThresholds p ys → All (λ y. unsigned_abs y ≤ 2 ^ 41) ys
-  thresholds_small ys are = All-weaker (Contains ys) (λ y. unsigned_abs y ≤ 2 ^ 41) (λ y among. threshold_small y (are.only y among)) ys (All-contains_itself ys)
+  thresholds_small ys are = All-weaker (Contains ys) (λ y. unsigned_abs y ≤ 2 ^ 41) (λ y among. threshold_small y (are.only y among)) ys
+      (All-contains_itself ys)

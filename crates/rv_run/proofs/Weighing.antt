@@ -5,7 +5,8 @@ use Rattle.rv_tree.specs.Tree.{ProgramTree}
 use Rattle.rv_tree.specs.Places.{Sites}
 use Rattle.rv_types.specs.declared.typed.Kind.{Kind}
 use Rattle.rv_types.specs.Variables.{total, kind_bits}
-use Rattle.rv_types.specs.Lists.{MemoryAt, Side, sides_of, ComparisonAt, Variable, MainTick, Tick, Kept, Next, Input, Test, bits, with_copies, memory_variables, input_variables, test_variables}
+use Rattle.rv_types.specs.Lists.{MemoryAt, Side, sides_of, ComparisonAt, Variable, MainTick, Tick, Kept, Next, Input, Test, bits, with_copies, memory_variables}
+use Rattle.rv_types.specs.Lists.{input_variables, test_variables}
 use Rattle.rv_flat.specs.declared.parts.Bit.{Bit}
 use Rattle.rv_flat.specs.declared.parts.Bit.TheVariants as bit
 use Rattle.rv_flat.specs.Lists.{variable_of}

@@ -14,7 +14,8 @@ use Rattle.rv_run.specs.Printed.{text_of}
 use Rattle.rv_run.specs.Programs.{OnProgram}
 use Rattle.rv_run.specs.Verdicts.{IsDocumentOf, IsInvariantOf}
 use Rattle.rv_run.specs.declared.report.Report.{Report}
-use Rattle.rv_run.specs.declared.report.Report.TheVariants.{Safe, Violated, Unknown, Nodes, Accepted, Rejected, Falsified, AssertionFails, NeverFalse, Outgrown, Made, Toured, Refused, BadFile, TooLong, ReadFault, Usage, Memory}
+use Rattle.rv_run.specs.declared.report.Report.TheVariants.{Safe, Violated, Unknown, Nodes, Accepted, Rejected, Falsified, AssertionFails, NeverFalse, Outgrown}
+use Rattle.rv_run.specs.declared.report.Report.TheVariants.{Made, Toured, Refused, BadFile, TooLong, ReadFault, Usage, Memory}
 
 -- The words are a command, and what is held under its file has P, beside its node, where the files tell what they
 -- hold.

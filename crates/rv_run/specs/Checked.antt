@@ -18,7 +18,8 @@ use Rattle.rv_proofs.specs.declared.verdict.Verdict.TheVariants as verdict
 use Rattle.rv_run.specs.declared.words.Task.{Task}
 use Rattle.rv_run.specs.declared.words.Task.TheVariants.{Replay, Check}
 use Rattle.rv_run.specs.declared.report.Report.{Report}
-use Rattle.rv_run.specs.declared.report.Report.TheVariants.{Safe, Violated, Unknown, Nodes, Accepted, Rejected, Falsified, AssertionFails, NeverFalse, Outgrown, Made, Toured, BadFile, Usage, Memory}
+use Rattle.rv_run.specs.declared.report.Report.TheVariants.{Safe, Violated, Unknown, Nodes, Accepted, Rejected, Falsified, AssertionFails, NeverFalse, Outgrown}
+use Rattle.rv_run.specs.declared.report.Report.TheVariants.{Made, Toured, BadFile, Usage, Memory}
 use Rattle.rv_run.specs.Answers.{IsUnlessCutOff, IsUnlessLimited}
 use Rattle.rv_run.specs.Traced.{IsTraceReport, SaysOfTrace}
 

@@ -5,7 +5,8 @@ use Rattle.rv_base.specs.declared.value.Place.{Place}
 use Rattle.rv_syntax.specs.declared.fault.TextFault.{TextFault}
 use Rattle.rv_syntax.specs.declared.fault.TextFault.TheVariants.{BadText, TooDeep, LeftOut, Memory as TextMemory}
 use Rattle.rv_types.specs.declared.fault.NameFault.{NameFault}
-use Rattle.rv_types.specs.declared.fault.NameFault.TheVariants.{NoNode, UnknownName, DefinedTwice, Undefined, TypeClash, Nonlinear, ClockClash, NotObserver, Memory as NameMemory}
+use Rattle.rv_types.specs.declared.fault.NameFault.TheVariants.{NoNode, UnknownName, DefinedTwice, Undefined, TypeClash, Nonlinear, ClockClash, NotObserver}
+use Rattle.rv_types.specs.declared.fault.NameFault.TheVariants.{Memory as NameMemory}
 use Rattle.rv_calls.specs.declared.fault.CauseFault.{CauseFault}
 use Rattle.rv_calls.specs.declared.fault.CauseFault.TheVariants.{Recursive, Cycle, TooLarge, TooWide, Memory as CauseMemory}
 use Rattle.rv_calls.specs.declared.fault.Quantity.{Quantity}
@@ -17,7 +18,8 @@ use Rattle.rv_proofs.specs.declared.verdict.Reason.TheVariants.{NoInitial, Uncov
 use Rattle.rv_source.specs.declared.fault.SourceFault.{SourceFault}
 use Rattle.rv_source.specs.declared.fault.SourceFault.TheVariants.{Text, Names, Cause, Memory as SourceMemory}
 use Rattle.rv_run.specs.declared.report.Report.{Report}
-use Rattle.rv_run.specs.declared.report.Report.TheVariants.{Safe, Violated, Unknown, Nodes, Accepted, Rejected, Falsified, AssertionFails, NeverFalse, Outgrown, Made, Toured, Refused, BadFile, TooLong, ReadFault, Usage, Memory}
+use Rattle.rv_run.specs.declared.report.Report.TheVariants.{Safe, Violated, Unknown, Nodes, Accepted, Rejected, Falsified, AssertionFails, NeverFalse, Outgrown}
+use Rattle.rv_run.specs.declared.report.Report.TheVariants.{Made, Toured, Refused, BadFile, TooLong, ReadFault, Usage, Memory}
 use Rattle.rv_run.specs.declared.report.Sent.{Sent}
 use Rattle.rv_run.specs.declared.report.Sent.TheVariants.{Whole, Failed, Memory as SentMemory}
 

@@ -11,10 +11,12 @@ use Rattle.rv_run.specs.Words.{Wanted}
 use Rattle.rv_run.specs.declared.words.Task.{Task}
 use Rattle.rv_run.specs.declared.report.Report.{Report}
 use Rattle.rv_run.specs.declared.report.Report.TheVariants.{Safe, Violated, Unknown, Nodes, Accepted, Made, Toured, Refused, TooLong, Memory}
-use Rattle.rv_run.specs.Answers.{OnFile, OnDocument, OnSource, IsTold, IsToldDocument, IsVerdict, IsNodesReport, IsTouredReport, IsUnlessCutOff, IsJudgedUnlessLimited, IsSafeUnlessCutOff, IsViolatedUnlessCutOff, IsViolatedUnlessUnread, IsRefusalUnlessCutOff}
+use Rattle.rv_run.specs.Answers.{OnFile, OnDocument, OnSource, IsTold, IsToldDocument, IsVerdict, IsNodesReport, IsTouredReport, IsUnlessCutOff}
+use Rattle.rv_run.specs.Answers.{IsJudgedUnlessLimited, IsSafeUnlessCutOff, IsViolatedUnlessCutOff, IsViolatedUnlessUnread, IsRefusalUnlessCutOff}
 use Rattle.rv_run.specs.Checked.{IsDocumentAnswer, IsReportOf, IsUnlessCut, SaysOf}
 use Rattle.rv_fixpoint.specs.declared.end.Left.{Left}
-use Rattle.rv_run.specs.Programs.{OnProgram, WithRuns, HasGoodClaim, IsSafeControl, IsUnsafeControl, HasManyVariables, HasProbe, LacksProbe, IsCertified, IsProgram, IsUnknown, IsRefusedFor}
+use Rattle.rv_run.specs.Programs.{OnProgram, WithRuns, HasGoodClaim, IsSafeControl, IsUnsafeControl, HasManyVariables, HasProbe, LacksProbe, IsCertified}
+use Rattle.rv_run.specs.Programs.{IsProgram, IsUnknown, IsRefusedFor}
 use Rattle.rv_run.specs.Traced.{IsLongDocument, OnAccepted, file_limit}
 use Rattle.rv_run.specs.Verdicts.{IsDocumentOf, IsInvariantOf, IsViolated}
 
@@ -39,14 +41,20 @@ pub record Replies (held : Option Shelf) (w : Wanted) (report : Report) (documen
       ⊎ ((n ≡ file_limit + 1) × (task : Task) × OnDocument held w task IsLongDocument)
   pub made : (source : List ℕ) → report ≡ Made source → (n : ℕ) × (w.made ≡ Some n) × (source ≡ made_text n)
   pub toured : (n size : ℕ) (c : Certificate) → report ≡ Toured n size c
-      → (w.toured ≡ Some n) × (size ≡ length (made_text n)) × OnProgram (WithRuns IsSafe) (made_text n) (codes "main") × OnProgram (IsCertified c) (made_text n) (codes "main")
+      → (w.toured ≡ Some n) × (size ≡ length (made_text n)) × OnProgram (WithRuns IsSafe) (made_text n) (codes "main") × OnProgram (IsCertified c) (made_text n)
+      (codes "main")
   pub only_safe : w.beside ≡ None → IsTold held w (λ bytes node. (length bytes ≤ source_limit) × OnProgram IsSafeControl bytes node) → IsSafeUnlessCutOff report
-  pub only_violated : w.beside ≡ None → IsTold held w (λ bytes node. (length bytes ≤ source_limit) × OnProgram IsUnsafeControl bytes node) → IsViolatedUnlessCutOff report
-  pub only_probed : w.beside ≡ None → IsTold held w (λ bytes node. (length bytes ≤ source_limit) × OnProgram HasProbe bytes node) → IsViolatedUnlessUnread report
-  pub only_claimed : w.beside ≡ None → IsTold held w (λ bytes node. (length bytes ≤ source_limit) × OnProgram HasGoodClaim bytes node) → IsSafeUnlessCutOff report
-  pub only_judged : w.beside ≡ None → IsTold held w (λ bytes node. (length bytes ≤ source_limit) × OnProgram IsProgram bytes node) → IsJudgedUnlessLimited report
+  pub only_violated : w.beside ≡ None → IsTold held w (λ bytes node. (length bytes ≤ source_limit) × OnProgram IsUnsafeControl bytes node)
+      → IsViolatedUnlessCutOff report
+  pub only_probed : w.beside ≡ None → IsTold held w (λ bytes node. (length bytes ≤ source_limit) × OnProgram HasProbe bytes node)
+      → IsViolatedUnlessUnread report
+  pub only_claimed : w.beside ≡ None → IsTold held w (λ bytes node. (length bytes ≤ source_limit) × OnProgram HasGoodClaim bytes node)
+      → IsSafeUnlessCutOff report
+  pub only_judged : w.beside ≡ None → IsTold held w (λ bytes node. (length bytes ≤ source_limit) × OnProgram IsProgram bytes node)
+      → IsJudgedUnlessLimited report
   pub only_told : (task : Task) (x : Report) → IsToldDocument held w task (OnAccepted (SaysOf task x)) → IsUnlessCut task x report
-  pub only_refused : (fault : SourceFault) → IsTold held w (λ bytes node. (length bytes ≤ source_limit) × IsRefusedFor fault bytes node) → IsRefusalUnlessCutOff fault report
+  pub only_refused : (fault : SourceFault) → IsTold held w (λ bytes node. (length bytes ≤ source_limit) × IsRefusedFor fault bytes node)
+      → IsRefusalUnlessCutOff fault report
   pub only_too_long : IsTold held w (λ bytes node. source_limit < length bytes) → IsUnlessCutOff (TooLong (source_limit + 1)) report
   pub only_long_document : (task : Task) → IsToldDocument held w task IsLongDocument → IsUnlessCutOff (TooLong (file_limit + 1)) report
   pub only_made : (n : ℕ) → w.made ≡ Some n → (report ≡ Made (made_text n)) ⊎ (report ≡ Memory)

@@ -24,8 +24,20 @@ usual_nodes = 4194304
 abbrev pub wanted_of : Option Asked → Wanted
 wanted_of None = record { named = None; beside = None; nodes = usual_nodes; made = None; toured = None }
 wanted_of (Some (prove file node nodes locations accelerate)) = record { named = Some (file, node); beside = None; nodes = nodes; made = None; toured = None }
-wanted_of (Some (check file node invariant nodes)) = record { named = Some (file, node); beside = Some (task.Check, invariant); nodes = nodes; made = None; toured = None }
-wanted_of (Some (replay file node trace)) = record { named = Some (file, node); beside = Some (task.Replay, trace); nodes = usual_nodes; made = None; toured = None }
+wanted_of (Some (check file node invariant nodes)) = record {
+  named = Some (file, node);
+  beside = Some (task.Check, invariant);
+  nodes = nodes;
+  made = None;
+  toured = None;
+}
+wanted_of (Some (replay file node trace)) = record {
+  named = Some (file, node);
+  beside = Some (task.Replay, trace);
+  nodes = usual_nodes;
+  made = None;
+  toured = None;
+}
 wanted_of (Some (make n)) = record { named = None; beside = None; nodes = usual_nodes; made = Some n; toured = None }
 wanted_of (Some (tour n)) = record { named = None; beside = None; nodes = usual_nodes; made = None; toured = Some n }
 

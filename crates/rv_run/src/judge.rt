@@ -51,16 +51,21 @@ use std::alloc::Global;
 /// The verdict on a source. A probe that falsifies it is asked for first, before any diagram is made. A source without integers has a
 /// certificate and its document where it is safe, and else a shortest trace that falsifies it with its document, or the probe where its
 /// diagrams would have more nodes than they may. One with integers has the probe where there is one, else a certificate wherever some
-/// closed box claim or row claim is good, and else a certificate, a trace or what is left, as they are found. Nodes comes only where no probe falsifies, and the source has many diagram variables
-/// for the number of nodes that the diagrams may have. Names are letters, digits and `_`, and literals and constants at most 2^40 + 1, as in the tree of each text.
+/// closed box claim or row claim is good, and else a certificate, a trace or what is left, as they are found. Nodes comes only where no probe falsifies, and
+/// the source has many diagram variables
+/// for the number of nodes that the diagrams may have. Names are letters, digits and `_`, and literals and constants at most 2^40 + 1, as in the tree of each
+/// text.
 pub fn judge(alloc: Global, source: &Source, nodes: u32) -> Result<Verdict, StoreFault>
     requires limit { nodes ≤ 33554432 }
     requires fits { Fits (program_tree source.now.program) source.now.typed source.now.order }
     requires plain { HasPlainNames (program_tree source.now.program) }
     requires small { HasSmallNumbers (program_tree source.now.program) }
-    ensures judged { IfOk result (λ v. IsVerdictOf nodes v (program_tree source.now.program) (name_at (program_tree source.now.program) source.now.typed.main)) }
-    ensures wide { IsErrOf result StoreFault.Nodes → HasManyVariables nodes (program_tree source.now.program) (name_at (program_tree source.now.program) source.now.typed.main) }
-    ensures unprobed { IsErrOf result StoreFault.Nodes → LacksProbe (program_tree source.now.program) (name_at (program_tree source.now.program) source.now.typed.main) }
+    ensures judged { IfOk result (λ v. IsVerdictOf nodes v (program_tree source.now.program)
+        (name_at (program_tree source.now.program) source.now.typed.main)) }
+    ensures wide { IsErrOf result StoreFault.Nodes → HasManyVariables nodes (program_tree source.now.program)
+        (name_at (program_tree source.now.program) source.now.typed.main) }
+    ensures unprobed { IsErrOf result StoreFault.Nodes → LacksProbe (program_tree source.now.program)
+        (name_at (program_tree source.now.program) source.now.typed.main) }
 {
     well_formed_programs();
     runs_are_abstract();
@@ -86,7 +91,8 @@ fn probed(
     requires thresholds { All (λ t. unsigned_abs t ≤ 2 ^ 41) flat.now.thresholds }
     requires falsifying { IsFalsifying (program_tree source.now.program) (name_at (program_tree source.now.program) source.now.typed.main) trace }
     requires probe { IsProbe trace (program_tree source.now.program) (name_at (program_tree source.now.program) source.now.typed.main) }
-    ensures judged { IfOk result (λ v. IsVerdictOf nodes v (program_tree source.now.program) (name_at (program_tree source.now.program) source.now.typed.main)) }
+    ensures judged { IfOk result (λ v. IsVerdictOf nodes v (program_tree source.now.program)
+        (name_at (program_tree source.now.program) source.now.typed.main)) }
     ensures decided { IsErrOf result StoreFault.Nodes → ⊥ }
 {
     control_is_a_system();
@@ -114,7 +120,8 @@ fn unless_shorter(
     requires falsifying { IsFalsifying (program_tree source.now.program) (name_at (program_tree source.now.program) source.now.typed.main) trace }
     requires probe { IsProbe trace (program_tree source.now.program) (name_at (program_tree source.now.program) source.now.typed.main) }
     requires lacks { HasGood (control_of flat.now) flat.now.thresholds → ⊥ }
-    ensures judged { IfOk result (λ v. IsVerdictOf nodes v (program_tree source.now.program) (name_at (program_tree source.now.program) source.now.typed.main)) }
+    ensures judged { IfOk result (λ v. IsVerdictOf nodes v (program_tree source.now.program)
+        (name_at (program_tree source.now.program) source.now.typed.main)) }
     ensures decided { IsErrOf result StoreFault.Nodes → ⊥ }
 {
     match decided(alloc, source, flat, nodes) {
@@ -153,8 +160,10 @@ fn decided(alloc: Global, source: &Source, flat: &Flat, nodes: u32) -> Result<Ve
     requires plain { HasPlainNames (program_tree source.now.program) }
     requires known { IsKnown (program_tree source.now.program) (name_at (program_tree source.now.program) source.now.typed.main) flat.now }
     requires thresholds { All (λ t. unsigned_abs t ≤ 2 ^ 41) flat.now.thresholds }
-    requires unprobed { HasFalsifyingProbe (program_tree source.now.program) (name_at (program_tree source.now.program) source.now.typed.main) flat.now → IsControlSystem flat.now }
-    ensures judged { IfOk result (λ v. IsVerdictOf nodes v (program_tree source.now.program) (name_at (program_tree source.now.program) source.now.typed.main)) }
+    requires unprobed { HasFalsifyingProbe (program_tree source.now.program) (name_at (program_tree source.now.program) source.now.typed.main) flat.now
+        → IsControlSystem flat.now }
+    ensures judged { IfOk result (λ v. IsVerdictOf nodes v (program_tree source.now.program)
+        (name_at (program_tree source.now.program) source.now.typed.main)) }
     ensures wide { IsErrOf result StoreFault.Nodes → nodes < 2 ^ (2 ^ length flat.now.variables) }
 {
     let mut reading = Reading::new(alloc, flat, nodes)?;
@@ -176,7 +185,8 @@ fn safe(
     requires known { IsKnown (program_tree source.now.program) (name_at (program_tree source.now.program) source.now.typed.main) flat.now }
     requires accepted { IsAccepted (control_of flat.now) certificate }
     requires loops { IsWithoutLoops certificate }
-    ensures judged { (nodes : ℕ) → IfOk result (λ v. IsVerdictOf nodes v (program_tree source.now.program) (name_at (program_tree source.now.program) source.now.typed.main)) }
+    ensures judged { (nodes : ℕ) → IfOk result (λ v. IsVerdictOf nodes v (program_tree source.now.program)
+        (name_at (program_tree source.now.program) source.now.typed.main)) }
     ensures memory { IsErrOf result StoreFault.Nodes → ⊥ }
 {
     certificates_are_safe();
@@ -199,10 +209,12 @@ fn not_good(
     requires known { IsKnown (program_tree source.now.program) (name_at (program_tree source.now.program) source.now.typed.main) (flat_of reading.old) }
     requires lacks { HasGoodBox (system_read reading.old) (flat_of reading.old).thresholds → ⊥ }
     requires thresholds { All (λ t. unsigned_abs t ≤ 2 ^ 41) (flat_of reading.old).thresholds }
-    requires unprobed { HasFalsifyingProbe (program_tree source.now.program) (name_at (program_tree source.now.program) source.now.typed.main) (flat_of reading.old) → IsControlSystem (flat_of reading.old) }
+    requires unprobed { HasFalsifyingProbe (program_tree source.now.program) (name_at (program_tree source.now.program) source.now.typed.main)
+        (flat_of reading.old) → IsControlSystem (flat_of reading.old) }
     requires bad { HasNoIntegers (system_read reading.old) → AreBadLayers (system_read reading.old) layers.now }
     requires sets { (t : ℕ) (set : Frozen) → slice_get layers.now.sets t ≡ Some set → IsControlSet (system_read reading.old) set }
-    ensures judged { (nodes : ℕ) → IfOk result (λ v. IsVerdictOf nodes v (program_tree source.now.program) (name_at (program_tree source.now.program) source.now.typed.main)) }
+    ensures judged { (nodes : ℕ) → IfOk result (λ v. IsVerdictOf nodes v (program_tree source.now.program)
+        (name_at (program_tree source.now.program) source.now.typed.main)) }
     ensures wide { IsErrOf result StoreFault.Nodes → (diagrams_of reading.old).limit < 2 ^ (2 ^ (diagrams_of reading.old).variables) }
 {
     let flat = reading.flat();
@@ -235,10 +247,12 @@ fn searched(
     requires known { IsKnown (program_tree source.now.program) (name_at (program_tree source.now.program) source.now.typed.main) (flat_of reading.old) }
     requires integers { IsControlSystem (flat_of reading.old) → ⊥ }
     requires lacks { HasGood (system_read reading.old) (flat_of reading.old).thresholds → ⊥ }
-    requires unprobed { HasFalsifyingProbe (program_tree source.now.program) (name_at (program_tree source.now.program) source.now.typed.main) (flat_of reading.old) → ⊥ }
+    requires unprobed { HasFalsifyingProbe (program_tree source.now.program) (name_at (program_tree source.now.program) source.now.typed.main)
+        (flat_of reading.old) → ⊥ }
     requires left { IsLeftPartition (system_read reading.old) left.partition left.left }
     requires sets { (t : ℕ) (set : Frozen) → slice_get layers.now.sets t ≡ Some set → IsControlSet (system_read reading.old) set }
-    ensures judged { (nodes : ℕ) → IfOk result (λ v. IsVerdictOf nodes v (program_tree source.now.program) (name_at (program_tree source.now.program) source.now.typed.main)) }
+    ensures judged { (nodes : ℕ) → IfOk result (λ v. IsVerdictOf nodes v (program_tree source.now.program)
+        (name_at (program_tree source.now.program) source.now.typed.main)) }
     ensures wide { IsErrOf result StoreFault.Nodes → (diagrams_of reading.old).limit < 2 ^ (2 ^ (diagrams_of reading.old).variables) }
 {
     let found = find(alloc, reading, source, layers)?;
@@ -263,7 +277,8 @@ fn violated(
     requires program_control { IsControl (program_tree source.now.program) (name_at (program_tree source.now.program) source.now.typed.main) }
     requires control { HasNoIntegers (system_read reading.old) }
     requires bad { AreBadLayers (system_read reading.old) layers.now }
-    ensures judged { (nodes : ℕ) → IfOk result (λ v. IsVerdictOf nodes v (program_tree source.now.program) (name_at (program_tree source.now.program) source.now.typed.main)) }
+    ensures judged { (nodes : ℕ) → IfOk result (λ v. IsVerdictOf nodes v (program_tree source.now.program)
+        (name_at (program_tree source.now.program) source.now.typed.main)) }
     ensures wide { IsErrOf result StoreFault.Nodes → (diagrams_of reading.old).limit < 2 ^ (2 ^ (diagrams_of reading.old).variables) }
 {
     control_is_a_system();

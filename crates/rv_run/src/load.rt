@@ -33,7 +33,8 @@ pub fn load_whole<F: Files>(
     requires { IsTrue (F.serves files.old name.now) }
     ensures whole { IfOk result (λ loaded. HoldsUnder (F.held files.old) name.now (λ bytes. (loaded.items ≡ bytes) × (length bytes ≤ limit))) }
     ensures fits { IfOk result (λ loaded. length loaded.items ≤ limit) }
-    ensures too_long { (n : ℕ) → IsErrOf result (WholeFault.TooLong n) → (n ≡ limit + 1) × HoldsUnder (F.held files.old) name.now (λ bytes. limit < length bytes) }
+    ensures too_long { (n : ℕ) → IsErrOf result (WholeFault.TooLong n)
+        → (n ≡ limit + 1) × HoldsUnder (F.held files.old) name.now (λ bytes. limit < length bytes) }
     ensures failed { IsErrOf result WholeFault.Failed → Rose (F.faults files.old) (F.faults files.new) }
     ensures later { F.faults files.old ≤ F.faults files.new }
     ensures same_held { F.held files.new ≡ F.held files.old }

@@ -5,9 +5,11 @@ ghost use Rattle.rv_base.specs.declared.value.Trace.{Trace as TraceModel};
 ghost use Rattle.rv_source.specs.declared.fault.SourceFault.{SourceFault as FaultModel};
 ghost use Rattle.rv_meaning.specs.Runs.{IsSafe};
 ghost use Rattle.rv_proofs.specs.declared.certificate.Certificate.{Certificate as CertificateModel};
-ghost use Rattle.rv_run.specs.Answers.{IsOnSource, IsSafeUnlessCutOff, IsJudgedUnlessLimited, IsViolatedUnlessCutOff, IsViolatedUnlessUnread, IsRefusalUnlessCutOff};
+ghost use Rattle.rv_run.specs.Answers.{IsOnSource, IsSafeUnlessCutOff, IsJudgedUnlessLimited, IsViolatedUnlessCutOff, IsViolatedUnlessUnread};
+ghost use Rattle.rv_run.specs.Answers.{IsRefusalUnlessCutOff};
 ghost use Rattle.rv_fixpoint.specs.declared.end.Left.{Left};
-ghost use Rattle.rv_run.specs.Programs.{OnProgram, WithRuns, IsSafeControl, IsUnsafeControl, IsCertified, HasGoodClaim, HasManyVariables, HasProbe, LacksProbe, IsProgram, IsUnknown, IsRefusedFor};
+ghost use Rattle.rv_run.specs.Programs.{OnProgram, WithRuns, IsSafeControl, IsUnsafeControl, IsCertified, HasGoodClaim, HasManyVariables, HasProbe, LacksProbe};
+ghost use Rattle.rv_run.specs.Programs.{IsProgram, IsUnknown, IsRefusedFor};
 ghost use Rattle.rv_run.specs.Refusals.{refusal_of};
 ghost use Rattle.rv_run.specs.Verdicts.{IsDocumentOf, IsInvariantOf, IsViolated, verdict_document, verdict_report};
 

@@ -2,7 +2,8 @@
 
 ghost use Rattle.std.specs.Prelude.{◌≡◌, ◌++◌, ◌∷◌, codes, decimal, IfOk, OnOk};
 ghost use Rattle.std.specs.String.{string_bytes};
-ghost use Rattle.rv_run.specs.Printed.{record_of, text_of, text_of_reason, digits, text_of_refusal, text_of_fault, text_of_name_fault, text_of_cause, text_of_file_fault, dotted, listed, quantity_name, status_of, report_status};
+ghost use Rattle.rv_run.specs.Printed.{record_of, text_of, text_of_reason, digits, text_of_refusal, text_of_fault, text_of_name_fault, text_of_cause};
+ghost use Rattle.rv_run.specs.Printed.{text_of_file_fault, dotted, listed, quantity_name, status_of, report_status};
 
 use rv_base::{Many, Place, Sites, Text, Trace};
 use rv_causality::{CauseFault, Quantity};
@@ -233,7 +234,8 @@ fn multipliers_text(
     entry: u32,
     number: u32,
 ) -> Result<String, AllocError>
-    ensures { IfOk result (λ text. string_bytes text ≡ record_of (codes "reaver,rejected,6,multipliers," ++ decimal location ++ 44 ∷ decimal entry ++ 44 ∷ decimal number)) }
+    ensures { IfOk result (λ text. string_bytes text ≡ record_of (codes "reaver,rejected,6,multipliers," ++ decimal location ++ 44 ∷ decimal entry ++ 44
+        ∷ decimal number)) }
 {
     let mut text = format!(in alloc; "reaver,rejected,6,multipliers,{location},{entry},")?;
     write!(text, "{number}")?;

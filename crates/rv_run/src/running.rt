@@ -16,10 +16,14 @@ ghost use Rattle.rv_words.specs.Words.{texts, command};
 ghost use Rattle.rv_run.specs.Words.{IsNamed, wanted, wanted_on_file};
 ghost use Rattle.rv_run.specs.Replies.{Replies};
 ghost use Rattle.rv_make.specs.Made.{made_text};
-ghost use Rattle.rv_run.specs.Answers.{OnFile, OnDocument, OnSource, Tells, IsTold, IsToldDocument, IsVerdict, IsNodesReport, IsTouredReport, IsShown, IsUnlessCutOff, IsJudgedUnlessLimited, IsUnlessLimited, IsSafeUnlessCutOff, IsViolatedUnlessCutOff, IsViolatedUnlessUnread, IsRefusalUnlessCutOff};
-ghost use Rattle.rv_run.specs.Checked.{HasAccepted, HasRejected, IsAnswerOf, IsDocumentAnswer, IsDocumentReport, IsInvariantFault, IsReportOf, IsUnlessCut, IsUnlessLimit, SaysOf};
+ghost use Rattle.rv_run.specs.Answers.{OnFile, OnDocument, OnSource, Tells, IsTold, IsToldDocument, IsVerdict, IsNodesReport, IsTouredReport, IsShown};
+ghost use Rattle.rv_run.specs.Answers.{IsUnlessCutOff, IsJudgedUnlessLimited, IsUnlessLimited, IsSafeUnlessCutOff, IsViolatedUnlessCutOff};
+ghost use Rattle.rv_run.specs.Answers.{IsViolatedUnlessUnread, IsRefusalUnlessCutOff};
+ghost use Rattle.rv_run.specs.Checked.{HasAccepted, HasRejected, IsAnswerOf, IsDocumentAnswer, IsDocumentReport, IsInvariantFault, IsReportOf, IsUnlessCut};
+ghost use Rattle.rv_run.specs.Checked.{IsUnlessLimit, SaysOf};
 ghost use Rattle.rv_fixpoint.specs.declared.end.Left.{Left};
-ghost use Rattle.rv_run.specs.Programs.{OnProgram, WithRuns, HasGoodClaim, IsSafeControl, IsUnsafeControl, HasManyVariables, HasProbe, LacksProbe, IsCertified, IsProgram, IsUnknown, IsRefusedFor};
+ghost use Rattle.rv_run.specs.Programs.{OnProgram, WithRuns, HasGoodClaim, IsSafeControl, IsUnsafeControl, HasManyVariables, HasProbe, LacksProbe, IsCertified};
+ghost use Rattle.rv_run.specs.Programs.{IsProgram, IsUnknown, IsRefusedFor};
 ghost use Rattle.rv_run.specs.Traced.{IsFileFault, IsLongDocument, IsUnlessNoMemory, OnAccepted, OnTrace};
 ghost use Rattle.rv_run.specs.Printed.{is_documented, shown_of, status_of};
 ghost use Rattle.rv_run.specs.Verdicts.{HasOrigin};
@@ -63,7 +67,8 @@ fn report_on_document<F: Files>(
     requires limit { nodes ≤ 33554432 }
     requires served { IsTrue (F.serves files.old other.file.now) }
     ensures told { (report : ReportModel) → IsDocumentAnswer report → result ≡ report
-        → IsReportOf other.entry.task report × HoldsUnder (F.held files.old) other.entry.file.now (OnAccepted (SaysOf other.entry.task report) bytes.now node.now) }
+        → IsReportOf other.entry.task report × HoldsUnder (F.held files.old) other.entry.file.now
+        (OnAccepted (SaysOf other.entry.task report) bytes.now node.now) }
     ensures safe { result ≡ Report.Accepted → OnProgram (WithRuns IsSafe) bytes.now node.now }
     ensures nodes { (n : ℕ) → result ≡ Report.Nodes n → (n ≡ nodes) × OnProgram (HasManyVariables nodes) bytes.now node.now }
     ensures refused { (fault : SourceFault) → result ≡ Report.Refused fault → IsRefusedFor fault bytes.now node.now }
@@ -251,13 +256,16 @@ pub fn run<F: Files, S: Sink>(
     out: &mut S,
 ) -> Outcome
     requires { (name : List ℕ) → IsNamed (wanted (texts words.now.items)) name → IsTrue (F.serves files.old name) }
-    ensures safe { (c : CertificateModel) → result.report ≡ Report.Safe c → OnFile (F.held files.old) (wanted (texts words.now.items)) (OnProgram (WithRuns IsSafe)) }
-    ensures certified { (c : CertificateModel) → result.report ≡ Report.Safe c → OnFile (F.held files.old) (wanted (texts words.now.items)) (OnProgram (IsCertified c)) }
+    ensures safe { (c : CertificateModel) → result.report ≡ Report.Safe c
+        → OnFile (F.held files.old) (wanted (texts words.now.items)) (OnProgram (WithRuns IsSafe)) }
+    ensures certified { (c : CertificateModel) → result.report ≡ Report.Safe c
+        → OnFile (F.held files.old) (wanted (texts words.now.items)) (OnProgram (IsCertified c)) }
     ensures violated { (t : TraceModel) → result.report ≡ Report.Violated t
         → OnFile (F.held files.old) (wanted (texts words.now.items)) (OnProgram (WithRuns (λ program main. IsFalsifying program main t))) }
     ensures origin { (t : TraceModel) → result.report ≡ Report.Violated t
         → OnFile (F.held files.old) (wanted (texts words.now.items)) (OnProgram (HasOrigin (wanted (texts words.now.items)).nodes t)) }
-    ensures unknown { (l : Left) → result.report ≡ Report.Unknown l → OnFile (F.held files.old) (wanted (texts words.now.items)) (OnProgram (WithRuns (IsUnknown l))) }
+    ensures unknown { (l : Left) → result.report ≡ Report.Unknown l → OnFile (F.held files.old) (wanted (texts words.now.items))
+        (OnProgram (WithRuns (IsUnknown l))) }
     ensures nodes { (n : ℕ) → result.report ≡ Report.Nodes n
         → (n ≡ (wanted (texts words.now.items)).nodes) × OnSource (F.held files.old) (wanted (texts words.now.items)) (OnProgram (HasManyVariables n)) }
     ensures unprobed { (wanted (texts words.now.items)).beside ≡ None → (n : ℕ) → result.report ≡ Report.Nodes n
@@ -291,8 +299,10 @@ pub fn run<F: Files, S: Sink>(
         → (n : ℕ) × ((wanted (texts words.now.items)).made ≡ Some n) × (source ≡ made_text n) }
     ensures toured { (n size : ℕ) (c : CertificateModel) → result.report ≡ Report.Toured n size c
         → ((wanted (texts words.now.items)).toured ≡ Some n) × (size ≡ length (made_text n)) }
-    ensures toured_safe { (n size : ℕ) (c : CertificateModel) → result.report ≡ Report.Toured n size c → OnProgram (WithRuns IsSafe) (made_text n) (codes "main") }
-    ensures toured_certified { (n size : ℕ) (c : CertificateModel) → result.report ≡ Report.Toured n size c → OnProgram (IsCertified c) (made_text n) (codes "main") }
+    ensures toured_safe { (n size : ℕ) (c : CertificateModel) → result.report ≡ Report.Toured n size c
+        → OnProgram (WithRuns IsSafe) (made_text n) (codes "main") }
+    ensures toured_certified { (n size : ℕ) (c : CertificateModel) → result.report ≡ Report.Toured n size c
+        → OnProgram (IsCertified c) (made_text n) (codes "main") }
     ensures usage { result.report ≡ Report.Usage → command (texts words.now.items) ≡ None }
     ensures only_usage { command (texts words.now.items) ≡ None → IsUnlessNoMemory Report.Usage result.report }
     ensures only_made { (n : ℕ) → (wanted (texts words.now.items)).made ≡ Some n → IsUnlessNoMemory (Report.Made (made_text n)) result.report }
@@ -313,15 +323,19 @@ pub fn run<F: Files, S: Sink>(
     ensures only_judged { (wanted (texts words.now.items)).beside ≡ None
         → IsTold (F.held files.old) (wanted (texts words.now.items)) (λ bytes node. (length bytes ≤ SOURCE_LIMIT) × OnProgram IsProgram bytes node)
         → IsJudgedUnlessLimited result.report }
-    ensures only_falsified { (k : ℕ) → IsToldDocument (F.held files.old) (wanted (texts words.now.items)) tasks.Replay (OnAccepted (OnTrace (λ p m t. IsFalsifiedAt p m t k)))
+    ensures only_falsified { (k : ℕ) → IsToldDocument (F.held files.old) (wanted (texts words.now.items)) tasks.Replay
+        (OnAccepted (OnTrace (λ p m t. IsFalsifiedAt p m t k)))
         → IsUnlessCutOff (Report.Falsified k) result.report }
-    ensures only_fails { (k : ℕ) (at : PlaceModel) → IsToldDocument (F.held files.old) (wanted (texts words.now.items)) tasks.Replay (OnAccepted (OnTrace (λ p m t. FailsAt p m t k at)))
+    ensures only_fails { (k : ℕ) (at : PlaceModel) → IsToldDocument (F.held files.old) (wanted (texts words.now.items)) tasks.Replay
+        (OnAccepted (OnTrace (λ p m t. FailsAt p m t k at)))
         → IsUnlessCutOff (Report.AssertionFails k at) result.report }
     ensures only_never { IsToldDocument (F.held files.old) (wanted (texts words.now.items)) tasks.Replay (OnAccepted (OnTrace (λ p m t. NeverEnds p m t)))
         → IsUnlessCutOff Report.NeverFalse result.report }
-    ensures only_outgrown { (k : ℕ) (at : PlaceModel) → IsToldDocument (F.held files.old) (wanted (texts words.now.items)) tasks.Replay (OnAccepted (OnTrace (λ p m t. OutgrowsAt p m t k at)))
+    ensures only_outgrown { (k : ℕ) (at : PlaceModel) → IsToldDocument (F.held files.old) (wanted (texts words.now.items)) tasks.Replay
+        (OnAccepted (OnTrace (λ p m t. OutgrowsAt p m t k at)))
         → IsUnlessCutOff (Report.Outgrown k at) result.report }
-    ensures only_bad_file { (fault : FileFault) → IsToldDocument (F.held files.old) (wanted (texts words.now.items)) tasks.Replay (OnAccepted (IsFileFault fault))
+    ensures only_bad_file { (fault : FileFault) → IsToldDocument (F.held files.old) (wanted (texts words.now.items)) tasks.Replay
+        (OnAccepted (IsFileFault fault))
         → IsUnlessCutOff (Report.BadFile fault) result.report }
     ensures only_accepted { IsToldDocument (F.held files.old) (wanted (texts words.now.items)) tasks.Check (OnAccepted HasAccepted)
         → IsUnlessLimited Report.Accepted result.report }
@@ -331,7 +345,8 @@ pub fn run<F: Files, S: Sink>(
     ensures only_bad_invariant { (fault : FileFault)
         → IsToldDocument (F.held files.old) (wanted (texts words.now.items)) tasks.Check (OnAccepted (IsInvariantFault fault))
         → IsUnlessLimited (Report.BadFile fault) result.report }
-    ensures only_refused { (fault : SourceFault) → IsTold (F.held files.old) (wanted (texts words.now.items)) (λ bytes node. (length bytes ≤ SOURCE_LIMIT) × IsRefusedFor fault bytes node)
+    ensures only_refused { (fault : SourceFault) → IsTold (F.held files.old) (wanted (texts words.now.items))
+        (λ bytes node. (length bytes ≤ SOURCE_LIMIT) × IsRefusedFor fault bytes node)
         → IsRefusalUnlessCutOff fault result.report }
     ensures only_too_long { IsTold (F.held files.old) (wanted (texts words.now.items)) (λ bytes _. SOURCE_LIMIT < length bytes)
         → IsUnlessCutOff (Report.TooLong (SOURCE_LIMIT + 1)) result.report }
@@ -341,9 +356,11 @@ pub fn run<F: Files, S: Sink>(
     ensures same_serves { F.serves files.new ≡ F.serves files.old }
 
     ensures shown_whole { result.sent ≡ Sent.Whole
-        → (shown : List ℕ) × IsShown (F.held files.old) (wanted (texts words.now.items)) result.report shown × Appends (S.shown out.old) (S.shown out.new) shown }
+        → (shown : List ℕ) × IsShown (F.held files.old) (wanted (texts words.now.items)) result.report shown × Appends (S.shown out.old)
+        (S.shown out.new) shown }
     ensures shown_prefix { result.sent ≡ Sent.Failed
-        → (shown : List ℕ) × IsShown (F.held files.old) (wanted (texts words.now.items)) result.report shown × AppendsPrefix (S.shown out.old) (S.shown out.new) shown }
+        → (shown : List ℕ) × IsShown (F.held files.old) (wanted (texts words.now.items)) result.report shown × AppendsPrefix (S.shown out.old)
+        (S.shown out.new) shown }
     ensures shown_nothing { result.sent ≡ Sent.Memory → Keeps (S.shown out.old) (S.shown out.new) }
     ensures write_fault { result.sent ≡ Sent.Failed → Rose (S.faults out.old) (S.faults out.new) }
     ensures one_put { (result.sent ≡ Sent.Whole) ⊎ (result.sent ≡ Sent.Failed) → S.puts out.new ≡ raised (S.puts out.old) }

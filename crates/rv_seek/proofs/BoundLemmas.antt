@@ -10,7 +10,8 @@ use Rattle.rv_rows.proofs.RowLemmas.{proves_sound}
 use Rattle.rv_seek.specs.declared.seek.Bounded.{Bounded}
 use Rattle.rv_seek.specs.Least.{at_most}
 
-pub lower_bound : (p r : Option Bounded) (bound : ℤ) → IfSome p (λ x. IsSomeAnd r (λ b. b.bound ≤ℤ x.bound)) → IsSomeAnd p (λ b. b.bound ≤ℤ bound) → IsSomeAnd r (λ b. b.bound ≤ℤ bound)
+pub lower_bound : (p r : Option Bounded) (bound : ℤ) → IfSome p (λ x. IsSomeAnd r (λ b. b.bound ≤ℤ x.bound)) → IsSomeAnd p (λ b. b.bound ≤ℤ bound)
+    → IsSomeAnd r (λ b. b.bound ≤ℤ bound)
 lower_bound None r bound h k = absurd k
 lower_bound (Some p) None bound h k = absurd h
 lower_bound (Some p) (Some r) bound h k = omega (arith, ints)

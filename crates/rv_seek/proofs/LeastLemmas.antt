@@ -1,5 +1,6 @@
 -- The least bound that a pair of places shows.
-use Rattle.std.proofs.Common.{◌≡◌, ◌≢◌, ℕ, ◌+◌, ◌≤◌, ◌<◌, ℤ, pos, ◌+ℤ◌, ◌-ℤ◌, ◌≤ℤ◌, List, [], ◌∷◌, ◌++◌, length, Option, None, Some, IfSome, IsSome, IsSomeAnd, All, FitsSigned, ◌^◌, true≢false, ◌<ℤ◌, arith, refl, ap, sym, ◌∙◌, ◌⊎◌, inl, inr, append_assoc, append-nil}
+use Rattle.std.proofs.Common.{◌≡◌, ◌≢◌, ℕ, ◌+◌, ◌≤◌, ◌<◌, ℤ, pos, ◌+ℤ◌, ◌-ℤ◌, ◌≤ℤ◌, List, [], ◌∷◌, ◌++◌, length, Option, None, Some, IfSome, IsSome, IsSomeAnd}
+use Rattle.std.proofs.Common.{All, FitsSigned, ◌^◌, true≢false, ◌<ℤ◌, arith, refl, ap, sym, ◌∙◌, ◌⊎◌, inl, inr, append_assoc, append-nil}
 use Rattle.std.proofs.lemmas.Int.{ints}
 use Rattle.std.proofs.lemmas.Bool.{cases_eq}
 use Rattle.std.proofs.lemmas.List.{get_or_past}
@@ -101,10 +102,12 @@ walked-more rows cs n pivot old new all left next c w e h here = record {
   done = w.done ++ c ∷ [];
   parts = w.parts ∙ ap (λ x. w.done ++ x) e ∙ sym (append_assoc w.done (c ∷ []) next);
   least = All-push (λ x. IsPassed rows cs n pivot new x.first) w.done c
-      (All-weaker (λ x. IsPassed rows cs n pivot old x.first) (λ x. IsPassed rows cs n pivot new x.first) (λ x. passed-kept rows cs n pivot old new h x.first) w.done w.least) here;
+      (All-weaker (λ x. IsPassed rows cs n pivot old x.first) (λ x. IsPassed rows cs n pivot new x.first) (λ x. passed-kept rows cs n pivot old new h x.first)
+      w.done w.least) here;
 }
 
-pub walked-all : (rows : List Row) (cs : List ℤ) (n : ℕ) (pivot : Option ℕ) (best : Option Best) (all left : List Closest) → IsWalked rows cs n pivot best all left
+pub walked-all : (rows : List Row) (cs : List ℤ) (n : ℕ) (pivot : Option ℕ) (best : Option Best) (all left : List Closest)
+    → IsWalked rows cs n pivot best all left
     → left ≡ [] → All (λ c. IsPassed rows cs n pivot best c.first) all
 walked-all rows cs n pivot best all left w e = rw (w.parts ∙ ap (λ x. w.done ++ x) e ∙ append-nil w.done) w.least
 
@@ -169,7 +172,8 @@ module _ (rows : List Row) (cs : List ℤ) (width n : ℕ) (map : BTreeMap (Vec 
       (IfSome-lookup_from_All (λ c. IsPassed rows cs n pivot best c.first) (λ key. is_eq (slice_cmp int_cmp k.key.items key.items)) map.entries walked)
       (λ c h w. passed i l k.key.items k.side c h.1 w)
 
-  decided : (i j : ℕ) → i < n → j < n → i ≢ j → (bound : ℤ) → PairShows rows (bounded cs bound) i j → IsAside rows pivot i ⊎ IsBest i → IsAside rows pivot j ⊎ IsBest j
+  decided : (i j : ℕ) → i < n → j < n → i ≢ j → (bound : ℤ) → PairShows rows (bounded cs bound) i j → IsAside rows pivot i ⊎ IsBest i
+      → IsAside rows pivot j ⊎ IsBest j
       → IsSomeAnd best (λ b. b.bound ≤ℤ bound)
   decided i j l m apart bound p (inr f) y = f j m apart bound p
   decided i j l m apart bound p (inl a) (inr g) = g i l (λ e. apart (sym e)) bound (swapped rows (bounded cs bound) i j p)
@@ -238,7 +242,8 @@ alone-of rows cs best shown part least = record {
     none b c z = omega (arith, ints)
 
 -- and a wanted side that goes past all premises is that of none
-pub alone-wide : (rows : List Row) (cs : List ℤ) (width k : ℕ) → All (λ r. length r.coefficients ≤ width) rows → width ≤ k → number k cs ≢ pos 0 → IsAlone rows cs None
+pub alone-wide : (rows : List Row) (cs : List ℤ) (width k : ℕ) → All (λ r. length r.coefficients ≤ width) rows → width ≤ k → number k cs ≢ pos 0
+    → IsAlone rows cs None
 alone-wide rows cs width k widths far ne = record { shown = tt; past = tt; least = λ i l same. absurd (ne (same k ∙ zero_at i)) }
   where
     zero_at : (i : ℕ) → coefficient k (row_at rows i) ≡ pos 0

@@ -1,5 +1,6 @@
 -- Pairs of places, and what none, one or two premises show.
-use Rattle.std.proofs.Common.{◌≡◌, ℕ, zero, suc, ◌+◌, ◌≤◌, ◌<◌, ℤ, pos, negsuc, ◌+ℤ◌, ◌≤ℤ◌, List, [], ◌∷◌, ◌++◌, All, length, slice_get, None, unwrap_or, Bool, true, false, nat_lt, append-nil, zero-le, arith, refl, ap, sym, ◌∙◌, ◌⊎◌, inl, inr}
+use Rattle.std.proofs.Common.{◌≡◌, ℕ, zero, suc, ◌+◌, ◌≤◌, ◌<◌, ℤ, pos, negsuc, ◌+ℤ◌, ◌≤ℤ◌, List, [], ◌∷◌, ◌++◌, All, length, slice_get, None, unwrap_or, Bool}
+use Rattle.std.proofs.Common.{true, false, nat_lt, append-nil, zero-le, arith, refl, ap, sym, ◌∙◌, ◌⊎◌, inl, inr}
 use Rattle.std.proofs.lemmas.Int.{ints}
 use Rattle.std.proofs.Math.IntN.{*ℤ-zero}
 use Rattle.std.proofs.lemmas.Bool.{cases_lt}
@@ -18,7 +19,8 @@ zero_row : Row
 zero_row = record { coefficients = []; bound = pos 0 }
 
 pub row_none : (rows : List Row) (i : ℕ) → None ≡ slice_get rows i → record { coefficients = []; bound = pos 0 } ≡ row_at rows i
-row_none rows i e = ap (λ o. unwrap_or o (record { coefficients = []; bound = pos 0 })) e ∙ unwrap_or-slice_get rows i (record { coefficients = []; bound = pos 0 })
+row_none rows i e = ap (λ o. unwrap_or o (record { coefficients = []; bound = pos 0 })) e
+    ∙ unwrap_or-slice_get rows i (record { coefficients = []; bound = pos 0 })
 
 row_past : (rows : List Row) (i : ℕ) → length rows ≤ i → row_at rows i ≡ record { coefficients = []; bound = pos 0 }
 row_past rows i h = get_or_past rows i (record { coefficients = []; bound = pos 0 }) h
@@ -66,7 +68,8 @@ weighted-pair : (f : Row → ℤ) (rows : List Row) (i j : ℕ) → f (record { 
 weighted-pair f rows i j z =
     let e = weighted-unit f rows i (unit_at (length rows) j) z in
     let g = weighted-unit f rows j [] z in
-    let h : weighted f rows (unit_at (length rows) j) ≡ weighted f rows (unit_at (length rows) j ++ []) = ap (weighted f rows) (sym (append-nil (unit_at (length rows) j))) in
+    let h : weighted f rows (unit_at (length rows) j) ≡ weighted f rows (unit_at (length rows) j ++ []) = ap (weighted f rows)
+    (sym (append-nil (unit_at (length rows) j))) in
     let n : weighted f rows [] ≡ pos 0 = refl in
     omega (arith, ints, e, g, h, n)
 

@@ -1,5 +1,6 @@
 -- The closest places of each left side.
-use Rattle.std.proofs.Common.{◌≡◌, ◌≢◌, ℕ, ◌+◌, ◌<◌, ◌≤◌, ℤ, pos, ◌≤ℤ◌, List, length, Option, None, Some, IfSome, IsSome, IsSomeAnd, cond, Bool, true, false, true≢false, arith, refl, ap, sym, ◌∙◌, ◌⊎◌, inl, inr}
+use Rattle.std.proofs.Common.{◌≡◌, ◌≢◌, ℕ, ◌+◌, ◌<◌, ◌≤◌, ℤ, pos, ◌≤ℤ◌, List, length, Option, None, Some, IfSome, IsSome, IsSomeAnd, cond, Bool, true, false}
+use Rattle.std.proofs.Common.{true≢false, arith, refl, ap, sym, ◌∙◌, ◌⊎◌, inl, inr}
 use Rattle.std.proofs.lemmas.Int.{ints}
 use Rattle.std.proofs.lemmas.Bool.{cases_lt}
 use Rattle.std.proofs.lemmas.List.{ext_get_or, get_or_past}
@@ -111,7 +112,8 @@ module _ (rows : List Row) (width n : ℕ) (c : Closest) (m m' : BTreeMap (Vec �
   still_other : (q : List ℤ) → ¬ (IsSide (row_at rows n) q) → (place : ℕ) (o : Option ℕ) → IsOther rows n q place o → IsOther rows (n + 1) q place o
   still_other q away place o h = record { found = found o h.found; least = λ i l ne s. go i l ne s (cases_lt i n) }
     where
-      found : (o : Option ℕ) → IfSome o (λ p. (p < n) × (p ≢ place) × IsSide (row_at rows p) q) → IfSome o (λ p. (p < n + 1) × (p ≢ place) × IsSide (row_at rows p) q)
+      found : (o : Option ℕ) → IfSome o (λ p. (p < n) × (p ≢ place) × IsSide (row_at rows p) q)
+          → IfSome o (λ p. (p < n + 1) × (p ≢ place) × IsSide (row_at rows p) q)
       found None k = tt
       found (Some p) k = let l = k.0 in (omega arith, k.1, k.2)
 
@@ -178,7 +180,8 @@ put_again rows width n key again c d m m1 m2 one two = record {
   columns = one.columns;
   side = one.side;
   changed = λ q. two.changed q ∙ ap (λ l. cond (is_eq (slice_cmp int_cmp l q.items)) (Some d) (closest_at m1 q.items)) same
-      ∙ ap (cond (is_eq (slice_cmp int_cmp key.items q.items)) (Some d)) (one.changed q) ∙ twice (is_eq (slice_cmp int_cmp key.items q.items)) (closest_at m q.items);
+      ∙ ap (cond (is_eq (slice_cmp int_cmp key.items q.items)) (Some d)) (one.changed q)
+      ∙ twice (is_eq (slice_cmp int_cmp key.items q.items)) (closest_at m q.items);
 }
   where
     same : again.items ≡ key.items

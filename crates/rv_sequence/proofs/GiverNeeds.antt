@@ -16,7 +16,8 @@ use Rattle.rv_types.specs.Scopes.{node_scope}
 use Rattle.rv_types.specs.Types.{kind_of}
 use Rattle.rv_types.specs.ToldPaces.{IsTimed}
 use Rattle.rv_types.specs.WellFormed.{Suits}
-use Rattle.rv_types.specs.Instances.{CallTree, calls, calls_in, calls_in_equations, calls_in_assertions, Right, IsRight, alone, in_order, IsArgument, Instance, absolute, clock_of, clock_of_args, taken, clock_taken, node_of, IsInstance}
+use Rattle.rv_types.specs.Instances.{CallTree, calls, calls_in, calls_in_equations, calls_in_assertions, Right, IsRight, alone, in_order, IsArgument, Instance}
+use Rattle.rv_types.specs.Instances.{absolute, clock_of, clock_of_args, taken, clock_taken, node_of, IsInstance}
 use Rattle.rv_types.specs.Instances as right
 use Rattle.rv_types.specs.Needs.{Giver, Given, Of, Gives, by_equation, by_call, flow_of, needs, needs_of}
 use Rattle.rv_instances.specs.declared.answer.Instance.{Instance as Numbered}
@@ -81,7 +82,8 @@ module _ (p : ProgramTree) (main : Identifier) (instances : List Numbered) (know
       of_order : (n : NodeTree) (x : Identifier) (c : CallTree) (j : ℕ) → IsRight n x (right.Output c j) → Contains (calls n) c
       of_order n x _ _ (in_order q at site f args j w is more lt named) =
           Contains-append_left (calls_in_equations n.equations) (calls_in_assertions n.assertions) (record { at = at; site = site; name = f; args = args })
-          (in_right n.equations q (record { at = at; site = site; name = f; args = args }) w (subst (λ (t : Tree). Contains (calls_in t) (record { at = at; site = site; name = f; args = args })) (sym is) (0, omega arith, refl)))
+          (in_right n.equations q (record { at = at; site = site; name = f; args = args }) w
+          (subst (λ (t : Tree). Contains (calls_in t) (record { at = at; site = site; name = f; args = args })) (sym is) (0, omega arith, refl)))
 
   -- what suits a clock takes it
   suits_taken : (k : Clock) (p : Pace) → Suits k p → taken k p ≡ k
@@ -145,7 +147,8 @@ module _ (p : ProgramTree) (main : Identifier) (instances : List Numbered) (know
 
   module _ (l : Layout) (laid_out : IsLayout p main instances l) where
     -- the number of the flow of the clock of what is told has 32 bits
-    told_within : (m : ℕ) (told : Clock) (q : Sites) (i : Instance) (k : Clock) (r : Right) → Gives p main q (Of i k r) → IsNumberOf p instances m i → told ≡ k → IsWithin (here_of l m).offset told
+    told_within : (m : ℕ) (told : Clock) (q : Sites) (i : Instance) (k : Clock) (r : Right) → Gives p main q (Of i k r) → IsNumberOf p instances m i → told ≡ k
+        → IsWithin (here_of l m).offset told
     told_within m told q i k r gives number is =
         let g = giver_clock q i k r gives in
         subst (λ n. IsWithin n told) (sym (ap (λ (x : Laid). x.first) (laid_there p main instances known l laid_out m number.0)))
@@ -173,8 +176,10 @@ module _ (p : ProgramTree) (main : Identifier) (instances : List Numbered) (know
     output_instance o (q, Of i k (right.Output c j), gives, stands) = stands.0.0
 
     -- the output of a call
-    output_at : (o : OutputOf) (q : Sites) (i : Instance) (k : Clock) (c : CallTree) (j : ℕ) → Gives p main q (Of i k (right.Output c j)) → StandsFor p instances (Output o) (Of i k (right.Output c j))
-        → IsPlaced (all_places p instances) ((here_of l o.instance).output (site_in (tree_of o.call.now)) + o.output) (i.path ++ c.site ∷ (length (node_of p c.name).inputs + j) ∷ [])
+    output_at : (o : OutputOf) (q : Sites) (i : Instance) (k : Clock) (c : CallTree) (j : ℕ) → Gives p main q (Of i k (right.Output c j))
+        → StandsFor p instances (Output o) (Of i k (right.Output c j))
+        → IsPlaced (all_places p instances) ((here_of l o.instance).output (site_in (tree_of o.call.now)) + o.output)
+        (i.path ++ c.site ∷ (length (node_of p c.name).inputs + j) ∷ [])
     output_at o q i k c j gives stands =
         let from = output_given q i k c j gives in
         let is = (giver_clock q i k (right.Output c j) gives).0 in
@@ -192,7 +197,8 @@ module _ (p : ProgramTree) (main : Identifier) (instances : List Numbered) (know
         omega (arith, at, few)
 
     -- the numbers of what a flow needs are those of the places
-    pub giver_needs : (q : Sites) (g : Told) (f : Giver) → Gives p main q f → StandsFor p instances g f → AreAt (all_places p instances) (giver_numbers p instances l g) (needs_of p f)
+    pub giver_needs : (q : Sites) (g : Told) (f : Giver) → Gives p main q f → StandsFor p instances g f
+        → AreAt (all_places p instances) (giver_numbers p instances l g) (needs_of p f)
     giver_needs q (Input j) (Given k) gives stands = tt
     giver_needs q (Input j) (Of i k r) gives stands = absurd stands
     giver_needs q (Body b) (Given k) gives stands = absurd stands
@@ -204,9 +210,11 @@ module _ (p : ProgramTree) (main : Identifier) (instances : List Numbered) (know
         let m = b.instance in
         let here = is_here p main instances known l laid_out m i stands.0.0 g.0 stands.0.1 in
         let node = node_is p main instances known m i g.0 stands.0.1 in
-        let good : (c : CallTree) → Contains (calls_in e) c → Contains (calls i.node) c × (0 < length (node_of p c.name).outputs) = λ c w. (from.calls_there c w, sole_output p i.node c.name (typed_calls (node_scope p i.node) e from.kind c w)) in
+        let good : (c : CallTree) → Contains (calls_in e) c → Contains (calls i.node) c × (0 < length (node_of p c.name).outputs) = λ c w.
+        (from.calls_there c w, sole_output p i.node c.name (typed_calls (node_scope p i.node) e from.kind c w)) in
         let at = needs_at p i (all_places p instances) (here_of l m) here (flow_clock_known p known.named i.node there) k e g.1 from.uses good in
-        subst (λ js. AreAt (all_places p instances) js (needs p i (clock_taken i k e) e)) (λ t. numbers_needed (sym node t) (here_of l m) (clock_number (here_of l m) (sym stands.1 t)) (sym stands.2 t))
+        subst (λ js. AreAt (all_places p instances) js (needs p i (clock_taken i k e) e))
+        (λ t. numbers_needed (sym node t) (here_of l m) (clock_number (here_of l m) (sym stands.1 t)) (sym stands.2 t))
         (subst (λ c. AreAt (all_places p instances) (numbers_needed i.node (here_of l m) (clock_number (here_of l m) k) e) (needs p i c e)) (sym from.clock) at)
     giver_needs q (Output o) (Given k) gives stands = absurd stands
     giver_needs q (Output o) (Of i k (right.Body e)) gives stands = absurd stands
@@ -215,8 +223,12 @@ module _ (p : ProgramTree) (main : Identifier) (instances : List Numbered) (know
         let g = giver_clock q i k (right.Output c j) gives in
         let here = is_here p main instances known l laid_out o.instance i stands.0.0 g.0 stands.0.1 in
         let clock = clock_flow p i (all_places p instances) (here_of l o.instance) here k g.1 in
-        let seen : AreAt (all_places p instances) (listed (clock_number (here_of l o.instance) o.clock)) (flow_of (absolute i (right.clock_of_args i.node c.args))) =
-        subst (λ t. AreAt (all_places p instances) (listed (clock_number (here_of l o.instance) t)) (flow_of (absolute i (right.clock_of_args i.node c.args)))) (sym stands.1)
+        let seen : AreAt (all_places p instances) (listed (clock_number (here_of l o.instance) o.clock))
+        (flow_of (absolute i (right.clock_of_args i.node c.args))) =
+        subst (λ t. AreAt (all_places p instances) (listed (clock_number (here_of l o.instance) t)) (flow_of (absolute i (right.clock_of_args i.node c.args))))
+        (sym stands.1)
         (subst (λ t. AreAt (all_places p instances) (listed (clock_number (here_of l o.instance) k)) (flow_of (absolute i t))) (sym from.clock) clock) in
-        at_append (all_places p instances) (listed (clock_number (here_of l o.instance) o.clock)) (((here_of l o.instance).output (site_in (tree_of o.call.now)) + o.output) ∷ [])
-        (flow_of (absolute i (right.clock_of_args i.node c.args))) ((i.path ++ c.site ∷ (length (node_of p c.name).inputs + j) ∷ []) ∷ []) seen (output_at o q i k c j gives stands, tt)
+        at_append (all_places p instances) (listed (clock_number (here_of l o.instance) o.clock))
+        (((here_of l o.instance).output (site_in (tree_of o.call.now)) + o.output) ∷ [])
+        (flow_of (absolute i (right.clock_of_args i.node c.args))) ((i.path ++ c.site ∷ (length (node_of p c.name).inputs + j) ∷ []) ∷ []) seen
+        (output_at o q i k c j gives stands, tt)

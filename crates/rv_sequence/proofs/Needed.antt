@@ -2,7 +2,8 @@
 use Rattle.std.proofs.Common.{◌≡◌, ℕ, inl, inr, List, [], ◌∷◌, ◌++◌, unwrap_or, Option, sym, ap, subst}
 use Rattle.std.specs.List.{Contains}
 use Rattle.std.proofs.lemmas.List.Elements.{Contains-append_left, Contains-append_right, Contains-append_cases}
-use Rattle.rv_tree.specs.Tree.{Tree, Node, Form, True, False, Number, Named, Not, Minus, Pre, Current, When, Binary, If, AtMostOne, Call, Trees, None, More, NodeTree, ProgramTree, tree_of}
+use Rattle.rv_tree.specs.Tree.{Tree, Node, Form, True, False, Number, Named, Not, Minus, Pre, Current, When, Binary, If, AtMostOne, Call, Trees, None, More}
+use Rattle.rv_tree.specs.Tree.{NodeTree, ProgramTree, tree_of}
 use Rattle.rv_types.specs.declared.typed.Clock.TheVariants.{Base}
 use Rattle.rv_types.specs.declared.fault.Pace.{Pace}
 use Rattle.rv_types.specs.Instances.{clock_of, taken}
@@ -13,7 +14,8 @@ use Rattle.rv_instances.specs.declared.givers.Giver.TheVariants.{Input, Body, Ou
 use Rattle.rv_instances.specs.declared.layout.Layout.{Layout}
 use Rattle.rv_instances.specs.declared.reader.Reader.{Reader}
 use Rattle.rv_instances.specs.Layouts.{Here, IsWithin, here_of, node_at}
-use Rattle.rv_instances.specs.NumberedNeeds.{IsReader, listed, clock_number, clock_of_expression, flow_number, numbers_needed, form_numbers, numbers_of_all, giver_numbers, node_read, numbers_of}
+use Rattle.rv_instances.specs.NumberedNeeds.{IsReader, listed, clock_number, clock_of_expression, flow_number, numbers_needed, form_numbers, numbers_of_all}
+use Rattle.rv_instances.specs.NumberedNeeds.{giver_numbers, node_read, numbers_of}
 use Rattle.rv_instances.proofs.ClockBounds.{low_within, taken_low, told_low}
 use Rattle.rv_instances.proofs.Known.{nothing_in}
 use Rattle.rv_sequence.specs.Needed.{needed, form_needed, needed_by_all, giver_needed}
@@ -22,7 +24,8 @@ use Rattle.rv_sequence.specs.Needed.{needed, form_needed, needed_by_all, giver_n
 pub told_within : (r : Reader) → IsReader r → (e : Tree) (k : Pace) → k ≡ told_pace (node_read r) e → IsWithin (numbers_of r).offset (taken Base k)
 told_within r is e k same =
     let n = node_read r in
-    subst (IsWithin (numbers_of r).offset) (sym (ap (taken Base) same)) (low_within n (numbers_of r).offset (taken Base (told_pace n e)) is.room (taken_low n (told_pace n e) (told_low n e)))
+    subst (IsWithin (numbers_of r).offset) (sym (ap (taken Base) same))
+    (low_within n (numbers_of r).offset (taken Base (told_pace n e)) is.room (taken_low n (told_pace n e) (told_low n e)))
 
 -- each number of a list is in another
 record Among (xs ys : List ℕ) : Type 0 where
@@ -62,13 +65,15 @@ module _ (n : NodeTree) (h : Here) where
   -- two lists of what parts need, on a clock
   joined : (l ps qs xs ys : List ℕ) → Among ps (l ++ xs) → Among qs (l ++ ys) → Among (ps ++ qs) (l ++ (xs ++ ys))
   joined l ps qs xs ys a b =
-      both ps qs (l ++ (xs ++ ys)) (onward ps (l ++ xs) (l ++ (xs ++ ys)) a (wider_left l xs ys)) (onward qs (l ++ ys) (l ++ (xs ++ ys)) b (wider_right l xs ys))
+      both ps qs (l ++ (xs ++ ys)) (onward ps (l ++ xs) (l ++ (xs ++ ys)) a (wider_left l xs ys))
+      (onward qs (l ++ ys) (l ++ (xs ++ ys)) b (wider_right l xs ys))
 
   mutual
     -- what is needed is found, or the clock
     is_found : (k : Option ℕ) (e : Tree) → Among (numbers_needed n h k e) (listed k ++ needed n h e)
     is_found k (Node at site form) =
-        both (listed k) (form_numbers n h k site form) (listed k ++ form_needed n h site form) (on_left (listed k) (form_needed n h site form)) (form_found k site form)
+        both (listed k) (form_numbers n h k site form) (listed k ++ form_needed n h site form) (on_left (listed k) (form_needed n h site form))
+        (form_found k site form)
 
     form_found : (k : Option ℕ) (site : Option ℕ) (form : Form) → Among (form_numbers n h k site form) (listed k ++ form_needed n h site form)
     form_found k site True = none_in (listed k ++ [])
@@ -80,21 +85,25 @@ module _ (n : NodeTree) (h : Here) where
     form_found k site (Pre e) = none_in (listed k ++ [])
     form_found k site (Current e) =
         let c = clock_number h (clock_of_expression n e) in
-        onward (numbers_needed n h c e) (listed c ++ needed n h e) (listed k ++ (needed n h e ++ listed c)) (is_found c e) (turned (listed k) (needed n h e) (listed c))
+        onward (numbers_needed n h c e) (listed c ++ needed n h e) (listed k ++ (needed n h e ++ listed c)) (is_found c e)
+        (turned (listed k) (needed n h e) (listed c))
     form_found k site (When e x) =
         let c = clock_number h (clock_of n x.text) in
-        onward (numbers_needed n h c e) (listed c ++ needed n h e) (listed k ++ (needed n h e ++ listed c)) (is_found c e) (turned (listed k) (needed n h e) (listed c))
+        onward (numbers_needed n h c e) (listed c ++ needed n h e) (listed k ++ (needed n h e ++ listed c)) (is_found c e)
+        (turned (listed k) (needed n h e) (listed c))
     form_found k site (Binary o a b) =
         joined (listed k) (numbers_needed n h k a) (numbers_needed n h k b) (needed n h a) (needed n h b) (is_found k a) (is_found k b)
     form_found k site (If a b c) =
-        joined (listed k) (numbers_needed n h k a) (numbers_needed n h k b ++ numbers_needed n h k c) (needed n h a) (needed n h b ++ needed n h c) (is_found k a)
+        joined (listed k) (numbers_needed n h k a) (numbers_needed n h k b ++ numbers_needed n h k c) (needed n h a) (needed n h b ++ needed n h c)
+        (is_found k a)
         (joined (listed k) (numbers_needed n h k b) (numbers_needed n h k c) (needed n h b) (needed n h c) (is_found k b) (is_found k c))
     form_found k site (AtMostOne es) = all_found k es
     form_found k site (Call f args) = on_right (listed k) (h.output (unwrap_or site 0) ∷ [])
 
     all_found : (k : Option ℕ) (es : Trees) → Among (numbers_of_all n h k es) (listed k ++ needed_by_all n h es)
     all_found k None = none_in (listed k ++ [])
-    all_found k (More e es) = joined (listed k) (numbers_needed n h k e) (numbers_of_all n h k es) (needed n h e) (needed_by_all n h es) (is_found k e) (all_found k es)
+    all_found k (More e es) = joined (listed k) (numbers_needed n h k e) (numbers_of_all n h k es) (needed n h e) (needed_by_all n h es) (is_found k e)
+        (all_found k es)
 
   -- the clock is needed
   own_clock : (k : Option ℕ) (e : Tree) → Among (listed k) (numbers_needed n h k e)
@@ -107,7 +116,8 @@ module _ (n : NodeTree) (h : Here) where
     -- what is found is needed
     is_needed : (k : Option ℕ) (e : Tree) → Among (needed n h e) (numbers_needed n h k e)
     is_needed k (Node at site form) =
-        onward (form_needed n h site form) (form_numbers n h k site form) (listed k ++ form_numbers n h k site form) (form_is_needed k site form) (on_right (listed k) (form_numbers n h k site form))
+        onward (form_needed n h site form) (form_numbers n h k site form) (listed k ++ form_numbers n h k site form) (form_is_needed k site form)
+        (on_right (listed k) (form_numbers n h k site form))
 
     form_is_needed : (k : Option ℕ) (site : Option ℕ) (form : Form) → Among (form_needed n h site form) (form_numbers n h k site form)
     form_is_needed k site True = none_in []
@@ -146,7 +156,8 @@ module _ (p : ProgramTree) (instances : List Numbered) (l : Layout) where
       let n = node_at p instances b.instance in
       let h = here_of l b.instance in
       let k = clock_number h b.clock in
-      both (listed k) (needed n h (tree_of b.body.now)) (numbers_needed n h k (tree_of b.body.now)) (own_clock n h k (tree_of b.body.now)) (is_needed n h k (tree_of b.body.now))
+      both (listed k) (needed n h (tree_of b.body.now)) (numbers_needed n h k (tree_of b.body.now)) (own_clock n h k (tree_of b.body.now))
+      (is_needed n h k (tree_of b.body.now))
   giver_is_needed (Output o) = all_in (giver_numbers p instances l (Output o))
 
   -- what gives a flow its value is found to need what it needs

@@ -28,7 +28,8 @@ use Rattle.rv_sequence.proofs.NumbersNeeded.{AreAt, at_place, at_number}
 all_from : {X : Type 0} (P : X → Type 0) (xs : List X) → ((x : X) → Contains xs x → P x) → All P xs
 all_from P xs each k d lt = each (get_or xs k d) (Contains-get_or xs k d lt)
 
-module _ (p : ProgramTree) (main : Identifier) (instances : List Numbered) (known : IsExpanded p main instances) (l : Layout) (laid_out : IsLayout p main instances l) (givers : List Told) (are : AreGivers p main instances givers) where
+module _ (p : ProgramTree) (main : Identifier) (instances : List Numbered) (known : IsExpanded p main instances) (l : Layout)
+    (laid_out : IsLayout p main instances l) (givers : List Told) (are : AreGivers p main instances givers) where
   -- each is told to give some flow its value
   pub is_giver : (k : ℕ) (g : Told) → k < length givers → g ≡ get_or givers k g → IsGiver p main instances g
   is_giver k g lt is =
@@ -49,11 +50,14 @@ module _ (p : ProgramTree) (main : Identifier) (instances : List Numbered) (know
     edges_are : (k : ℕ) → k < length (all_places p instances) → edges graph k ≡ giver_needed p instances l (get_or givers k (Input 0))
     edges_are k lt = ap (λ (g : Graph). edges g k) is ∙ map_at (giver_needed p instances l) givers k [] (Input 0) (within k lt)
 
-    at : (k : ℕ) (f : Giver) → k < length (all_places p instances) → Gives p main (place_at (all_places p instances) k) f → AreAt (all_places p instances) (giver_numbers p instances l (get_or givers k (Input 0))) (needs_of p f)
-    at k f lt gives = giver_needs p main instances known l laid_out (place_at (all_places p instances) k) (get_or givers k (Input 0)) f gives (are.one k f (within k lt) gives)
+    at : (k : ℕ) (f : Giver) → k < length (all_places p instances) → Gives p main (place_at (all_places p instances) k) f
+        → AreAt (all_places p instances) (giver_numbers p instances l (get_or givers k (Input 0))) (needs_of p f)
+    at k f lt gives = giver_needs p main instances known l laid_out (place_at (all_places p instances) k) (get_or givers k (Input 0)) f gives
+        (are.one k f (within k lt) gives)
 
     -- a place that is needed has the number of an edge
-    edge_to : (k : ℕ) (f : Giver) (q : Sites) → k < length (all_places p instances) → Gives p main (place_at (all_places p instances) k) f → Contains (needs_of p f) q
+    edge_to : (k : ℕ) (f : Giver) (q : Sites) → k < length (all_places p instances) → Gives p main (place_at (all_places p instances) k) f
+        → Contains (needs_of p f) q
         → (j : ℕ) × Contains (edges graph k) j × IsPlaced (all_places p instances) j q
     edge_to k f q lt gives w =
         let g = get_or givers k (Input 0) in

@@ -14,7 +14,8 @@ module _ (p : ProgramTree) (main : Identifier) (sequence : List Sites) (ordered 
   earlier k lt a b is = subst (λ a. NeedsFlow p main a b → IsAmongFirst p main sequence k b) is
       (λ n. All-contains (IsAmongFirst p main sequence k) (needs_of p n.0) b (ordered.after k n.0 lt n.1) n.2)
 
-  all_earlier : (k : ℕ) → k < length sequence → (a : Sites) (rs : List Sites) (b : Sites) → get_or sequence k [] ≡ a → Leads p main a rs b → IsAmongFirst p main sequence k b
+  all_earlier : (k : ℕ) → k < length sequence → (a : Sites) (rs : List Sites) (b : Sites) → get_or sequence k [] ≡ a → Leads p main a rs b
+      → IsAmongFirst p main sequence k b
   all_earlier k lt a [] b is n = earlier k lt a b is n
   all_earlier k lt a (r ∷ rs) b is n =
       let w = earlier k lt a r is n.0 in

@@ -25,12 +25,14 @@ module _ (p : ProgramTree) (main : Identifier) (instances : List Numbered) where
       → IfOk r (λ numbers. IsSequence p main (map (place_at (flow_places instances flows)) numbers))
       → IfOk r (IsNumbered p main instances)
   numbered flows (Ok ns) are within ordered = record {
-    within = λ j lt. subst (λ (n : ℕ). slice_index_or ns j 0 < n) (ap length are ∙ sym (length_map (flow_sites instances) (all_flows p instances))) (within j lt);
+    within = λ j lt. subst (λ (n : ℕ). slice_index_or ns j 0 < n) (ap length are ∙ sym (length_map (flow_sites instances) (all_flows p instances)))
+        (within j lt);
     ordered = subst (λ (fs : List Flow). IsSequence p main (map (place_at (flow_places instances fs)) ns)) are ordered;
   }
   numbered flows (Err f) are within ordered = tt
 
-  pub numbers_within : (flows : List Flow) (numbers taken : List ℕ) (k : ℕ) → flows ≡ all_flows p instances → IsNumbered p main instances numbers → taken ≡ numbers → Contains taken k → k < length flows
+  pub numbers_within : (flows : List Flow) (numbers taken : List ℕ) (k : ℕ) → flows ≡ all_flows p instances → IsNumbered p main instances numbers
+      → taken ≡ numbers → Contains taken k → k < length flows
   numbers_within flows numbers taken k are n same w =
       let v : Contains numbers k = subst (λ (ns : List ℕ). Contains ns k) same w in
       let is : slice_index_or numbers v.0 0 ≡ k = get_or_default numbers v.0 0 k v.1 ∙ v.2 in
@@ -38,7 +40,8 @@ module _ (p : ProgramTree) (main : Identifier) (instances : List Numbered) where
       (subst (λ (m : ℕ). slice_index_or numbers v.0 0 < m) (length_map (flow_sites instances) (all_flows p instances) ∙ ap length (sym are)) (n.within v.0 v.1))
 
   -- their places are a sequence
-  pub sequenced : (flows : List Flow) (numbers : List ℕ) (places : List Place) → flows ≡ all_flows p instances → IsNumbered p main instances numbers → AreLight p main
+  pub sequenced : (flows : List Flow) (numbers : List ℕ) (places : List Place) → flows ≡ all_flows p instances → IsNumbered p main instances numbers
+      → AreLight p main
       → sites_of places ≡ map (place_at (flow_places instances flows)) numbers → AreSequenced p main places
   sequenced flows numbers places are n light is = record {
     ordered = subst (IsSequence p main) (sym (is ∙ ap (λ (fs : List Flow). map (place_at (flow_places instances fs)) numbers) are)) n.ordered;

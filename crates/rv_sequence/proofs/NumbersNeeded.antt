@@ -1,9 +1,11 @@
 -- The numbers of what is needed are those of the places that are.
-use Rattle.std.proofs.Common.{◌≡◌, ℕ, ◌+◌, ◌<◌, ◌≤◌, inl, inr, Bool, true, false, cond, List, [], ◌∷◌, ◌++◌, length, unwrap_or, Option, Some, refl, subst, arith, length-append, add-zero, None as Nothing}
+use Rattle.std.proofs.Common.{◌≡◌, ℕ, ◌+◌, ◌<◌, ◌≤◌, inl, inr, Bool, true, false, cond, List, [], ◌∷◌, ◌++◌, length, unwrap_or, Option, Some, refl, subst}
+use Rattle.std.proofs.Common.{arith, length-append, add-zero, None as Nothing}
 use Rattle.std.specs.List.{Contains}
 use Rattle.std.proofs.lemmas.List.Elements.{Contains-append_left, Contains-append_right}
 use Rattle.rv_tree.specs.declared.tree.Decl.{Decl}
-use Rattle.rv_tree.specs.Tree.{Tree, Node, Form, True, False, Number, Named, Not, Minus, Pre, Current, When, Binary, If, AtMostOne, Call, Trees, None, More, NodeTree, ProgramTree}
+use Rattle.rv_tree.specs.Tree.{Tree, Node, Form, True, False, Number, Named, Not, Minus, Pre, Current, When, Binary, If, AtMostOne, Call, Trees, None, More}
+use Rattle.rv_tree.specs.Tree.{NodeTree, ProgramTree}
 use Rattle.rv_tree.specs.Places.{Identifier, Sites, flows, names, is_flow, site_of}
 use Rattle.rv_types.specs.declared.typed.Clock.{Clock}
 use Rattle.rv_types.specs.declared.typed.Clock.TheVariants.{Base, On}
@@ -34,7 +36,8 @@ at_append places (j ∷ js) ks [] rs h v = absurd h
 at_append places (j ∷ js) ks (q ∷ qs) rs h v = (h.0, at_append places js ks qs rs h.1 v)
 
 -- a place that is needed has one of the numbers
-pub at_place : (places : List Sites) (js : List ℕ) (qs : List Sites) (q : Sites) → AreAt places js qs → Contains qs q → (j : ℕ) × Contains js j × IsPlaced places j q
+pub at_place : (places : List Sites) (js : List ℕ) (qs : List Sites) (q : Sites) → AreAt places js qs → Contains qs q
+    → (j : ℕ) × Contains js j × IsPlaced places j q
 at_place places [] [] q h w = nothing_in q w
 at_place places [] (r ∷ qs) q h w = absurd h
 at_place places (k ∷ js) [] q h w = absurd h
@@ -44,7 +47,8 @@ at_place places (k ∷ js) (r ∷ qs) q h w = elim (cons_cases r qs q w) [
 ]
 
 -- and the place of a number is needed
-pub at_number : (places : List Sites) (js : List ℕ) (qs : List Sites) (j : ℕ) → AreAt places js qs → Contains js j → (q : Sites) × Contains qs q × IsPlaced places j q
+pub at_number : (places : List Sites) (js : List ℕ) (qs : List Sites) (j : ℕ) → AreAt places js qs → Contains js j
+    → (q : Sites) × Contains qs q × IsPlaced places j q
 at_number places [] [] j h w = nothing_in j w
 at_number places [] (r ∷ qs) j h w = absurd h
 at_number places (k ∷ js) [] j h w = absurd h
@@ -77,13 +81,15 @@ module _ (p : ProgramTree) (i : Instance) (places : List Sites) (h : Here) (here
   clock_flow (On s) v = (here.flow s v, tt)
 
   -- the output of a call
-  pub output_flow : (c : CallTree) (j : ℕ) → Contains (calls i.node) c → j < length (node_of p c.name).outputs → IsPlaced places (h.output c.site + j) (i.path ++ c.site ∷ (length (node_of p c.name).inputs + j) ∷ [])
+  pub output_flow : (c : CallTree) (j : ℕ) → Contains (calls i.node) c → j < length (node_of p c.name).outputs
+      → IsPlaced places (h.output c.site + j) (i.path ++ c.site ∷ (length (node_of p c.name).inputs + j) ∷ [])
   output_flow c j w lt =
       let at = here.callee c (length (node_of p c.name).inputs + j) w (output_within (node_of p c.name) j lt) in
       let number : h.callee c.site + (length (node_of p c.name).inputs + j) ≡ h.output c.site + j = let e = here.output c w in omega (arith, e) in
       subst (λ k. IsPlaced places k (i.path ++ c.site ∷ (length (node_of p c.name).inputs + j) ∷ [])) number at
 
-  name_flow : (x : Identifier) (b : Bool) → is_flow i.node x ≡ b → AreAt places (listed (cond b (Some (h.offset + site_of i.node x)) Nothing)) (cond b (place i x ∷ []) [])
+  name_flow : (x : Identifier) (b : Bool) → is_flow i.node x ≡ b → AreAt places (listed (cond b (Some (h.offset + site_of i.node x)) Nothing))
+      (cond b (place i x ∷ []) [])
   name_flow x true is = (here.flow (site_of i.node x) (index_there (flows i.node) x is).0, tt)
   name_flow x false is = tt
 
@@ -103,12 +109,15 @@ module _ (p : ProgramTree) (i : Instance) (places : List Sites) (h : Here) (here
     good_right xs ys good c w = good c (Contains-append_right xs ys c w)
 
     mutual
-      pub needs_at : (k : Clock) (e : Tree) → IsKnownClock i.node k → node_uses p i.node e ≡ [] → AreGood (calls_in e) → AreAt places (numbers_needed i.node h (clock_number h k) e) (needs p i k e)
+      pub needs_at : (k : Clock) (e : Tree) → IsKnownClock i.node k → node_uses p i.node e ≡ [] → AreGood (calls_in e)
+          → AreAt places (numbers_needed i.node h (clock_number h k) e) (needs p i k e)
       needs_at k (Node at site form) v known good =
-          at_append places (listed (clock_number h k)) (form_numbers i.node h (clock_number h k) site form) (flow_of (absolute i k)) (form_needs p i k site form)
+          at_append places (listed (clock_number h k)) (form_numbers i.node h (clock_number h k) site form) (flow_of (absolute i k))
+          (form_needs p i k site form)
           (clock_flow k v) (form_at k at site form v known good)
 
-      form_at : (k : Clock) (at : ℕ) (site : Option ℕ) (form : Form) → IsKnownClock i.node k → node_uses p i.node (Node at site form) ≡ [] → AreGood (form_calls at site form)
+      form_at : (k : Clock) (at : ℕ) (site : Option ℕ) (form : Form) → IsKnownClock i.node k → node_uses p i.node (Node at site form) ≡ []
+          → AreGood (form_calls at site form)
           → AreAt places (form_numbers i.node h (clock_number h k) site form) (form_needs p i k site form)
       form_at k at site True v known good = tt
       form_at k at site False v known good = tt
@@ -129,17 +138,22 @@ module _ (p : ProgramTree) (i : Instance) (places : List Sites) (h : Here) (here
           let s = split_nil (node_uses p i.node a) (node_uses p i.node b ++ node_uses p i.node c) known in
           let t = split_nil (node_uses p i.node b) (node_uses p i.node c) s.1 in
           let rest = good_right (calls_in a) (calls_in b ++ calls_in c) good in
-          at_append places (numbers_needed i.node h (clock_number h k) a) (numbers_needed i.node h (clock_number h k) b ++ numbers_needed i.node h (clock_number h k) c) (needs p i k a) (needs p i k b ++ needs p i k c)
+          at_append places (numbers_needed i.node h (clock_number h k) a)
+          (numbers_needed i.node h (clock_number h k) b ++ numbers_needed i.node h (clock_number h k) c) (needs p i k a) (needs p i k b ++ needs p i k c)
           (needs_at k a v s.0 (good_left (calls_in a) (calls_in b ++ calls_in c) good))
           (at_append places (numbers_needed i.node h (clock_number h k) b) (numbers_needed i.node h (clock_number h k) c) (needs p i k b) (needs p i k c)
           (needs_at k b v t.0 (good_left (calls_in b) (calls_in c) rest)) (needs_at k c v t.1 (good_right (calls_in b) (calls_in c) rest)))
       form_at k at site (AtMostOne es) v known good = all_at k es v known good
       form_at k at site (Call f args) v known good =
           let call : CallTree = record { at = at; site = unwrap_or site 0; name = f; args = args } in
-          let g = good call (0, omega arith, refl) in
-          (subst (λ n. IsPlaced places n (i.path ++ call.site ∷ (length (node_of p f).inputs + 0) ∷ [])) (add-zero (h.output call.site)) (output_flow call 0 g.0 g.1), tt)
+          let g = good call (0, omega arith, refl) in (
+            subst (λ n. IsPlaced places n (i.path ++ call.site ∷ (length (node_of p f).inputs + 0) ∷ [])) (add-zero (h.output call.site))
+                (output_flow call 0 g.0 g.1),
+            tt,
+          )
 
-      all_at : (k : Clock) (es : Trees) → IsKnownClock i.node k → faults_of_all (own_uses (is_value p i.node) (is_flow i.node) (is_declared (node_names p))) es ≡ [] → AreGood (calls_in_all es)
+      all_at : (k : Clock) (es : Trees) → IsKnownClock i.node k → faults_of_all (own_uses (is_value p i.node) (is_flow i.node) (is_declared (node_names p)))
+          es ≡ [] → AreGood (calls_in_all es)
           → AreAt places (numbers_of_all i.node h (clock_number h k) es) (needs_all p i k es)
       all_at k None v known good = tt
       all_at k (More e es) v known good =

@@ -1,5 +1,6 @@
 -- An order of the graph of flows is a sequence, and a loop in it is a cycle.
-use Rattle.std.proofs.Common.{◌≡◌, ℕ, zero, suc, ◌+◌, ◌-◌, ◌<◌, ◌≤◌, inl, inr, List, [], ◌∷◌, ◌++◌, map, length, length-drop, get_or, take, drop, refl, sym, ◌∙◌, ap, subst, arith}
+use Rattle.std.proofs.Common.{◌≡◌, ℕ, zero, suc, ◌+◌, ◌-◌, ◌<◌, ◌≤◌, inl, inr, List, [], ◌∷◌, ◌++◌, map, length, length-drop, get_or, take, drop, refl, sym}
+use Rattle.std.proofs.Common.{◌∙◌, ap, subst, arith}
 use Rattle.std.specs.List.{Contains}
 use Rattle.std.proofs.lemmas.List.{append-nil, get_or_default, take-append-drop}
 use Rattle.std.proofs.lemmas.List.Elements.{Contains-append_cases, Contains-append_left, Contains-append_right}
@@ -72,11 +73,13 @@ module _ (p : ProgramTree) (main : Identifier) (places : List Sites) (g : Graph)
   same_number a b la lb e = elim (cases_eq a b) [
     | inl same ↦ same
     | inr other ↦ elim (nat_split a b) [
-      | inl lt ↦ let h = f.placed.rising a b lt lb in absurd (not_both (place_at places a) (place_at places b) h (subst (λ q. IsBefore q (place_at places a)) e (subst (IsBefore (place_at places a)) (sym e) h)))
+      | inl lt ↦ let h = f.placed.rising a b lt lb in absurd (not_both (place_at places a) (place_at places b) h
+          (subst (λ q. IsBefore q (place_at places a)) e (subst (IsBefore (place_at places a)) (sym e) h)))
       | inr ge ↦
           let lt : b < a = elim (nat_split b a) [ inl less ↦ less | inr more ↦ absurd (other (omega (arith, ge, more))) ] in
           let h = f.placed.rising b a lt la in
-          absurd (not_both (place_at places b) (place_at places a) h (subst (λ q. IsBefore q (place_at places b)) (sym e) (subst (IsBefore (place_at places b)) e h)))
+          absurd (not_both (place_at places b) (place_at places a) h (subst (λ q. IsBefore q (place_at places b)) (sym e)
+          (subst (IsBefore (place_at places b)) e h)))
     ]
   ]
 
@@ -97,8 +100,12 @@ module _ (p : ProgramTree) (main : Identifier) (places : List Sites) (g : Graph)
             let lt = w.1 in
             let v = contains_at order w.0 (o.all w.0 (omega (arith, lt, size))) in
             let lv = v.1 in
-            let less : v.0 < length (map (place_at places) order) = omega (arith, lv, long) in
-            (v.0, less, get_or_default (map (place_at places) order) v.0 q [] less ∙ nth order v.0 lv ∙ ap (place_at places) v.2 ∙ get_or_default places w.0 [] q lt ∙ w.2);
+            let less : v.0 < length (map (place_at places) order) = omega (arith, lv, long) in (
+              v.0,
+              less,
+              get_or_default (map (place_at places) order) v.0 q [] less ∙ nth order v.0 lv ∙ ap (place_at places) v.2
+                  ∙ get_or_default places w.0 [] q lt ∙ w.2,
+            );
         only = λ k lt.
             let lk : k < length order = omega (arith, long, lt) in
             let wk = o.only k lk in
@@ -110,7 +117,8 @@ module _ (p : ProgramTree) (main : Identifier) (places : List Sites) (g : Graph)
             λ i d less. stands order o k lk (get_or (needs_of p giver) i d) (needed i d less);
       }
     where
-      stands : (order : List ℕ) → IsOrdered g order → (k : ℕ) → k < length order → (q : Sites) → ((j : ℕ) × Contains (edges g (get_or order k 0)) j × (place_at places j ≡ q))
+      stands : (order : List ℕ) → IsOrdered g order → (k : ℕ) → k < length order → (q : Sites)
+          → ((j : ℕ) × Contains (edges g (get_or order k 0)) j × (place_at places j ≡ q))
           → IsAmongFirst p main (map (place_at places) order) k q
       stands order o k lk q w =
           let e = contains_at (edges g (get_or order k 0)) w.0 w.1 in
@@ -138,7 +146,8 @@ module _ (p : ProgramTree) (main : Identifier) (places : List Sites) (g : Graph)
         let back : IsBefore (place_at places v.0) (place_at places x) = subst (λ r. IsBefore r (place_at places x)) (sym v.2) before in
         elim (cases_eq x v.0) [
           | inl same ↦ not_both (place_at places x) (place_at places x)
-              (subst (λ k. IsBefore (place_at places k) (place_at places x)) (sym same) back) (subst (λ k. IsBefore (place_at places k) (place_at places x)) (sym same) back)
+              (subst (λ k. IsBefore (place_at places k) (place_at places x)) (sym same) back)
+              (subst (λ k. IsBefore (place_at places k) (place_at places x)) (sym same) back)
           | inr other ↦ elim (nat_split x v.0) [
             | inl lt ↦ not_both (place_at places x) (place_at places v.0) (f.placed.rising x v.0 lt (omega (arith, within, size))) back
             | inr ge ↦ absurd (other (omega (arith, le, ge)))
@@ -151,18 +160,21 @@ module _ (p : ProgramTree) (main : Identifier) (places : List Sites) (g : Graph)
         (loop_cycle new again, least_first new again t.least)
 
 pub turned_within : (g : Graph) → IsGraph g → (old new : List ℕ) → IsLoop g old → AreTurned old new → (k : ℕ) → Contains new k → k < length g
-turned_within g graph old new l t k w = loop_within g graph new (subst (IsLoop g) (sym t.is) (turned_loop g graph t.front t.back (subst (IsLoop g) t.was l))) k w
+turned_within g graph old new l t k w = loop_within g graph new (subst (IsLoop g) (sym t.is) (turned_loop g graph t.front t.back (subst (IsLoop g) t.was l))) k
+    w
 
 pub loop_some : (g : Graph) (xs : List ℕ) → IsLoop g xs → 0 < length xs
 loop_some g [] l = absurd l
 loop_some g (x ∷ xs) l = omega arith
 
 -- numbers from the least on, and then those before it
-pub turned_from : (numbers new : List ℕ) (k : ℕ) → k < length numbers → ((j : ℕ) → j < length numbers → get_or numbers k 0 ≤ get_or numbers j 0) → new ≡ drop k numbers ++ take k numbers → AreTurned numbers new
+pub turned_from : (numbers new : List ℕ) (k : ℕ) → k < length numbers → ((j : ℕ) → j < length numbers → get_or numbers k 0 ≤ get_or numbers j 0)
+    → new ≡ drop k numbers ++ take k numbers → AreTurned numbers new
 turned_from numbers new k lt least is =
     let whole : numbers ≡ take k numbers ++ drop k numbers = sym (take-append-drop k numbers) in
     let head : get_or new 0 0 ≡ get_or numbers k 0 =
-    ap (λ l. get_or l 0 0) is ∙ ap (λ l. get_or (l ++ take k numbers) 0 0) (turn numbers k (get_or numbers k 0) lt (get_or_default numbers k 0 (get_or numbers k 0) lt)) in
+    ap (λ l. get_or l 0 0) is ∙ ap (λ l. get_or (l ++ take k numbers) 0 0)
+    (turn numbers k (get_or numbers k 0) lt (get_or_default numbers k 0 (get_or numbers k 0) lt)) in
     record {
       front = take k numbers;
       back = drop k numbers;

@@ -1,5 +1,6 @@
 -- The weights of flows in a table by numbers.
-use Rattle.std.proofs.Common.{◌≡◌, ℕ, ◌+◌, ◌<◌, ◌≤◌, inl, inr, List, [], ◌++◌, map, length, get_or, set, refl, sym, ◌∙◌, ap, subst, arith, Some, slice_get, length-append}
+use Rattle.std.proofs.Common.{◌≡◌, ℕ, ◌+◌, ◌<◌, ◌≤◌, inl, inr, List, [], ◌++◌, map, length, get_or, set, refl, sym, ◌∙◌, ap, subst, arith, Some, slice_get}
+use Rattle.std.proofs.Common.{length-append}
 use Rattle.std.proofs.lemmas.List.{get_or_default, get_or-set_same, get_or-set_other, length-set}
 use Rattle.std.proofs.lemmas.Bool.{cases_eq}
 use Rattle.rv_tree.specs.declared.tree.Decl.{Decl}
@@ -45,12 +46,15 @@ module _ (p : ProgramTree) (main : Identifier) (instances : List Numbered) (know
   placed = are_flow_places p main known.named known.declared known.sited instances known.all
 
   -- a place has one number
-  pub one_place : (j k : ℕ) → j < length (all_places p instances) → k < length (all_places p instances) → place_at (all_places p instances) j ≡ place_at (all_places p instances) k → j ≡ k
+  pub one_place : (j k : ℕ) → j < length (all_places p instances) → k < length (all_places p instances)
+      → place_at (all_places p instances) j ≡ place_at (all_places p instances) k → j ≡ k
   one_place j k lt less e = elim (cases_eq j k) [
     | inl same ↦ same
     | inr other ↦ elim (nat_split j k) [
-      | inl before ↦ absurd (not_itself (place_at (all_places p instances) k) (subst (λ q. IsBefore q (place_at (all_places p instances) k)) e (placed.rising j k before less)))
-      | inr ge ↦ absurd (not_itself (place_at (all_places p instances) j) (subst (λ q. IsBefore q (place_at (all_places p instances) j)) (sym e) (placed.rising k j (omega (arith, ge, other)) lt)))
+      | inl before ↦ absurd (not_itself (place_at (all_places p instances) k)
+          (subst (λ q. IsBefore q (place_at (all_places p instances) k)) e (placed.rising j k before less)))
+      | inr ge ↦ absurd (not_itself (place_at (all_places p instances) j)
+          (subst (λ q. IsBefore q (place_at (all_places p instances) j)) (sym e) (placed.rising k j (omega (arith, ge, other)) lt)))
     ]
   ]
 
@@ -71,14 +75,17 @@ module _ (p : ProgramTree) (main : Identifier) (instances : List Numbered) (know
       let e = s.3 in
       omega (arith, within, few, e)
 
-  pub given_within : (givers : List Told) → AreGivers p main instances givers → (number : ℕ) (t : Told) → number < length (all_places p instances) → slice_get givers number ≡ Some t → IsToldWithin (length instances) t
+  pub given_within : (givers : List Told) → AreGivers p main instances givers → (number : ℕ) (t : Told) → number < length (all_places p instances)
+      → slice_get givers number ≡ Some t → IsToldWithin (length instances) t
   given_within givers given number t lt there =
       let size = given.size in
       let within : number < length givers = omega (arith, lt, size) in
       let v = given.each number within in
-      told_within (place_at (all_places p instances) number) t v.0 v.1 (subst (λ u. StandsFor p instances u v.0) (got givers number t (told.Input 0) there) (given.one number v.0 within v.1))
+      told_within (place_at (all_places p instances) number) t v.0 v.1
+      (subst (λ u. StandsFor p instances u v.0) (got givers number t (told.Input 0) there) (given.one number v.0 within v.1))
 
-  module _ (l : Layout) (laid : IsLayout p main instances l) (values : NamedTables) (named : value_by values ≡ constant_value p) (weights : List ℕ) (flows_of : Sites → ℕ) where
+  module _ (l : Layout) (laid : IsLayout p main instances l) (values : NamedTables) (named : value_by values ≡ constant_value p) (weights : List ℕ)
+      (flows_of : Sites → ℕ) where
     -- the table has the weight of a place
     abbrev pub HasWeight : Sites → Type 0
     HasWeight q = (k : ℕ) → IsPlaced (all_places p instances) k q → counted_weight (get_or weights k 0) ≡ counted_weight (flows_of q)
@@ -92,11 +99,14 @@ module _ (p : ProgramTree) (main : Identifier) (instances : List Numbered) (know
         capped_weight p i HasWeight flows_of (weighing_at p instances values l weights m) (λ x. ap (λ (n : NodeTree). is_fixed n x) node) named
         (λ x in_flows has.
         let there = index_there (flows i.node) x in_flows in
-        ap (λ (n : NodeTree). counted_weight (get_or weights ((here_of l m).offset + site_of n x) 0)) node ∙ has ((here_of l m).offset + site_of i.node x) (here.flow (site_of i.node x) there.0))
+        ap (λ (n : NodeTree). counted_weight (get_or weights ((here_of l m).offset + site_of n x) 0)) node
+        ∙ has ((here_of l m).offset + site_of i.node x) (here.flow (site_of i.node x) there.0))
         (λ c there one has.
         let within = output_within (node_of p c.name) 0 (omega (arith, one)) in
-        let k : (here_of l m).output c.site ≡ (here_of l m).callee c.site + (length (node_of p c.name).inputs + 0) = let e = here.output c there in omega (arith, e) in
-        ap (λ j. counted_weight (get_or weights j 0)) k ∙ has ((here_of l m).callee c.site + (length (node_of p c.name).inputs + 0)) (here.callee c (length (node_of p c.name).inputs + 0) there within))
+        let k : (here_of l m).output c.site ≡ (here_of l m).callee c.site + (length (node_of p c.name).inputs + 0) = let e = here.output c there in
+        omega (arith, e) in
+        ap (λ j. counted_weight (get_or weights j 0)) k ∙ has ((here_of l m).callee c.site + (length (node_of p c.name).inputs + 0))
+        (here.callee c (length (node_of p c.name).inputs + 0) there within))
         e reads
 
     -- the weight that is told of a giver
@@ -121,9 +131,11 @@ module _ (p : ProgramTree) (main : Identifier) (instances : List Numbered) (know
         let e = here.output c reads.0 in let f = s.3 in omega (arith, e, f) in
         ap (λ n. counted_weight (get_or weights ((here_of l o.instance).output n + o.output) 0)) site
         ∙ ap (λ n. counted_weight (get_or weights n 0)) number
-        ∙ reads.1 ((here_of l o.instance).callee c.site + (length (node_of p c.name).inputs + j)) (here.callee c (length (node_of p c.name).inputs + j) reads.0 within)
+        ∙ reads.1 ((here_of l o.instance).callee c.site + (length (node_of p c.name).inputs + j))
+        (here.callee c (length (node_of p c.name).inputs + j) reads.0 within)
 
-module _ (p : ProgramTree) (main : Identifier) (instances : List Numbered) (known : IsExpanded p main instances) (sequence : List ℕ) (numbers : IsNumbered p main instances sequence) where
+module _ (p : ProgramTree) (main : Identifier) (instances : List Numbered) (known : IsExpanded p main instances) (sequence : List ℕ)
+    (numbers : IsNumbered p main instances sequence) where
   abbrev places : List Sites
   places = all_places p instances
 
@@ -134,8 +146,10 @@ module _ (p : ProgramTree) (main : Identifier) (instances : List Numbered) (know
   long = length_map (place_at places) sequence
 
   -- the first flows of the sequence have their weights in a table of these
-  first_has : (weights : List ℕ) (flows_of : Sites → ℕ) (done : ℕ) → done ≤ length sequence → AreFirstWeights p main instances sequence done weights → AreWeights p main flows_of → (q : Sites)
-      → IsAmongFirst p main (map (place_at places) sequence) done q → (k : ℕ) → IsPlaced places k q → counted_weight (get_or weights k 0) ≡ counted_weight (flows_of q)
+  first_has : (weights : List ℕ) (flows_of : Sites → ℕ) (done : ℕ) → done ≤ length sequence → AreFirstWeights p main instances sequence done weights
+      → AreWeights p main flows_of → (q : Sites)
+      → IsAmongFirst p main (map (place_at places) sequence) done q → (k : ℕ) → IsPlaced places k q
+      → counted_weight (get_or weights k 0) ≡ counted_weight (flows_of q)
   first_has weights flows_of done le first are q w k at =
       let less = w.1 in
       let lt : w.0 < length sequence = omega (arith, less, le) in
@@ -146,9 +160,11 @@ module _ (p : ProgramTree) (main : Identifier) (instances : List Numbered) (know
       ∙ ap (λ r. counted_weight (flows_of r)) there
 
   -- one flow more
-  pub weights_more : (l : Layout) (laid : IsLayout p main instances l) (values : NamedTables) (named : value_by values ≡ constant_value p) (givers : List Told) (given : AreGivers p main instances givers) (old new : List ℕ) (done weight number : ℕ) (t : Told)
+  pub weights_more : (l : Layout) (laid : IsLayout p main instances l) (values : NamedTables) (named : value_by values ≡ constant_value p) (givers : List Told)
+      (given : AreGivers p main instances givers) (old new : List ℕ) (done weight number : ℕ) (t : Told)
       → done < length sequence → number ≡ get_or sequence done 0 → slice_get givers number ≡ Some t → AreFirstWeights p main instances sequence done old
-      → weight ≡ counted_weight (told_weight p instances values l old t) → new ≡ set old number weight → AreFirstWeights p main instances sequence (done + 1) new
+      → weight ≡ counted_weight (told_weight p instances values l old t) → new ≡ set old number weight
+      → AreFirstWeights p main instances sequence (done + 1) new
   weights_more l laid values named givers given old new done weight number t lt at there first is write = record {
     size = ap length write ∙ length-set old number weight ∙ first.size;
     each = λ flows_of j are less. elim (cases_eq j done) [
@@ -177,13 +193,15 @@ module _ (p : ProgramTree) (main : Identifier) (instances : List Numbered) (know
           let s = long in
           numbers.ordered.once j done before (omega (arith, s, lt)) (nth j (omega (arith, before, lt)) ∙ ap (place_at places) e ∙ sym (nth done lt))
 
-      told_is : (flows_of : Sites → ℕ) → AreWeights p main flows_of → counted_weight (told_weight p instances values l old t) ≡ counted_weight (flows_of (place_at places number))
+      told_is : (flows_of : Sites → ℕ) → AreWeights p main flows_of → counted_weight (told_weight p instances values l old t) ≡ counted_weight
+          (flows_of (place_at places number))
       told_is flows_of are =
           let h = numbers.within done lt in
           let size = given.size in
           let within : number < length givers = omega (arith, at, h, size) in
           let v = given.each number within in
-          let stands : StandsFor p instances t v.0 = subst (λ u. StandsFor p instances u v.0) (got givers number t (told.Input 0) there) (given.one number v.0 within v.1) in
+          let stands : StandsFor p instances t v.0 = subst (λ u. StandsFor p instances u v.0) (got givers number t (told.Input 0) there)
+          (given.one number v.0 within v.1) in
           let placed_at : get_or (map (place_at places) sequence) done [] ≡ place_at places number = nth done lt ∙ ap (place_at places) (sym at) in
           let gives : Gives p main (get_or (map (place_at places) sequence) done []) v.0 = subst (λ q. Gives p main q v.0) (sym placed_at) v.1 in
           let s = long in
@@ -194,7 +212,8 @@ module _ (p : ProgramTree) (main : Identifier) (instances : List Numbered) (know
           ∙ ap counted_weight (sym (are (place_at places number) v.0 v.1))
 
   -- all flows
-  pub all_weights : (weights : List ℕ) (done : ℕ) → length sequence ≤ done → done ≤ length sequence → AreFirstWeights p main instances sequence done weights → AreFlowWeights p main instances weights
+  pub all_weights : (weights : List ℕ) (done : ℕ) → length sequence ≤ done → done ≤ length sequence → AreFirstWeights p main instances sequence done weights
+      → AreFlowWeights p main instances weights
   all_weights weights done ge le first = record {
     size = first.size;
     each = λ flows_of k are lt.
@@ -203,12 +222,14 @@ module _ (p : ProgramTree) (main : Identifier) (instances : List Numbered) (know
         let w = numbers.ordered.flows (place_at places k) ((placed p main instances known).only k within) in
         let s = long in
         let less = w.1 in
-        let at : get_or (map (place_at places) sequence) w.0 [] ≡ place_at places k = get_or_default (map (place_at places) sequence) w.0 [] (place_at places k) less ∙ w.2 in
+        let at : get_or (map (place_at places) sequence) w.0 [] ≡ place_at places k = get_or_default (map (place_at places) sequence) w.0 []
+        (place_at places k) less ∙ w.2 in
         first_has weights flows_of done le first are (place_at places k) (w.0, omega (arith, less, s, ge), at) k (within, refl);
   }
 
 -- an order of the graph of flows has the numbers of a sequence
-pub numbered_order : (p : ProgramTree) (main : Identifier) (instances : List Numbered) (g : Graph) (order : List ℕ) → IsFlowGraph p main (all_places p instances) g → IsOrdered g order → IsNumbered p main instances order
+pub numbered_order : (p : ProgramTree) (main : Identifier) (instances : List Numbered) (g : Graph) (order : List ℕ)
+    → IsFlowGraph p main (all_places p instances) g → IsOrdered g order → IsNumbered p main instances order
 numbered_order p main instances g order graph ordered = record {
   within = λ j lt. let h = ordered.only j lt in let size = graph.size in omega (arith, h, size);
   ordered = ordered_sequence p main (all_places p instances) g graph order ordered;

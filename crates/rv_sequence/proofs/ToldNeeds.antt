@@ -1,6 +1,7 @@
 -- Of an expression that is free or on a clock, what is needed by the clocks that operands tell is what is needed.
 use Rattle.std.proofs.Common.{◌≡◌, ℕ, ◌++◌, refl, Option}
-use Rattle.rv_tree.specs.Tree.{Tree, Node, Form, True, False, Number, Named, Not, Minus, Pre, Current, When, Binary, If, AtMostOne, Call, Trees, None, More, NodeTree}
+use Rattle.rv_tree.specs.Tree.{Tree, Node, Form, True, False, Number, Named, Not, Minus, Pre, Current, When, Binary, If, AtMostOne, Call, Trees, None, More}
+use Rattle.rv_tree.specs.Tree.{NodeTree}
 use Rattle.rv_tree.specs.Places.{site_of}
 use Rattle.rv_types.specs.declared.typed.Clock.TheVariants.{Base}
 use Rattle.rv_types.specs.Clocks.{seen, meet, pace, form_pace, pace_of_all}

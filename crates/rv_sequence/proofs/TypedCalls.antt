@@ -1,17 +1,20 @@
 -- The calls of an expression that has a type have one output.
-use Rattle.std.proofs.Common.{◌≡◌, ℕ, ◌<◌, inl, inr, Bool, true, false, cond, ◌||◌, List, [], ◌∷◌, ◌++◌, length, unwrap_or, Option, Some, refl, ◌∙◌, ap, subst, arith, None as Nothing}
+use Rattle.std.proofs.Common.{◌≡◌, ℕ, ◌<◌, inl, inr, Bool, true, false, cond, ◌||◌, List, [], ◌∷◌, ◌++◌, length, unwrap_or, Option, Some, refl, ◌∙◌, ap, subst}
+use Rattle.std.proofs.Common.{arith, None as Nothing}
 use Rattle.std.specs.Option.{option_map}
 use Rattle.std.specs.List.{Contains}
 use Rattle.std.proofs.lemmas.List.Elements.{Contains-append_cases}
 use Rattle.rv_tree.specs.declared.tree.Decl.{Decl}
-use Rattle.rv_tree.specs.Tree.{Tree, Node, Form, True, False, Number, Named, Not, Minus, Pre, Current, When, Binary, If, AtMostOne, Call, Trees, None, More, NodeTree, ProgramTree}
+use Rattle.rv_tree.specs.Tree.{Tree, Node, Form, True, False, Number, Named, Not, Minus, Pre, Current, When, Binary, If, AtMostOne, Call, Trees, None, More}
+use Rattle.rv_tree.specs.Tree.{NodeTree, ProgramTree}
 use Rattle.rv_tree.specs.Places.{Identifier}
 use Rattle.rv_types.specs.declared.typed.Kind.{Kind}
 use Rattle.rv_types.specs.declared.typed.Kind.TheVariants as kind
 use Rattle.rv_types.specs.declared.fault.Verdict.{Verdict}
 use Rattle.rv_types.specs.declared.fault.Verdict.TheVariants.{Silent, Clashes}
 use Rattle.rv_types.specs.Kinds.{decl_kinds, kind_in_program, node_named}
-use Rattle.rv_types.specs.Types.{Signature, Scope, kind_in, one_of, two_of, three_of, all_typed, all_suit, fit, where_met, binary_rule, not_rule, minus_rule, memory_rule, when_rule, when_of, if_rule, sole, call_of, is_constant, kind_of, kinds_of_all}
+use Rattle.rv_types.specs.Types.{Signature, Scope, kind_in, one_of, two_of, three_of, all_typed, all_suit, fit, where_met, binary_rule, not_rule, minus_rule}
+use Rattle.rv_types.specs.Types.{memory_rule, when_rule, when_of, if_rule, sole, call_of, is_constant, kind_of, kinds_of_all}
 use Rattle.rv_types.specs.Scopes.{node_scope, signature_of}
 use Rattle.rv_types.specs.Instances.{CallTree, calls_in, form_calls, calls_in_all, node_of, no_node}
 use Rattle.rv_instances.proofs.Known.{cons_cases, nothing_in}
@@ -63,7 +66,8 @@ none_typed : (b : Bool) → IsTyped (kind_in (cond b Clashes Silent)) → ⊥
 none_typed true (k, e) = cc
 none_typed false (k, e) = cc
 
-call_typed : (moves : Bool) (o : Option Signature) (ks : List (Option Kind)) → IsTyped (kind_in (call_of moves o ks)) → (g : Signature) × (o ≡ Some g) × (all_typed ks ≡ true) × ((k : Kind) × (g.gives ≡ k ∷ []))
+call_typed : (moves : Bool) (o : Option Signature) (ks : List (Option Kind)) → IsTyped (kind_in (call_of moves o ks))
+    → (g : Signature) × (o ≡ Some g) × (all_typed ks ≡ true) × ((k : Kind) × (g.gives ≡ k ∷ []))
 call_typed false o ks t = absurd (none_typed (all_typed ks) t)
 call_typed true Nothing ks (k, e) = cc
 call_typed true (Some g) ks t = let b = both_typed (all_typed ks) (fit g.takes ks) g.gives t in (g, refl, b.0, b.1)
@@ -82,7 +86,8 @@ module _ (s : Scope) where
     pub typed_calls : (e : Tree) → IsTyped (kind_of s e) → (c : CallTree) → Contains (calls_in e) c → IsSole c.name
     typed_calls (Node at site form) t c w = form_typed at site form t c w
 
-    form_typed : (at : ℕ) (site : Option ℕ) (form : Form) → IsTyped (kind_of s (Node at site form)) → (c : CallTree) → Contains (form_calls at site form) c → IsSole c.name
+    form_typed : (at : ℕ) (site : Option ℕ) (form : Form) → IsTyped (kind_of s (Node at site form)) → (c : CallTree) → Contains (form_calls at site form) c
+        → IsSole c.name
     form_typed at site True t c w = nothing_in c w
     form_typed at site False t c w = nothing_in c w
     form_typed at site (Number v) t c w = nothing_in c w
@@ -101,7 +106,8 @@ module _ (s : Scope) where
           | inl v ↦ typed_calls i all.0 c v
           | inr v ↦ elim (Contains-append_cases (calls_in a) (calls_in b) c v) [ inl u ↦ typed_calls a all.1 c u | inr u ↦ typed_calls b all.2 c u ]
         ]
-    form_typed at site (AtMostOne es) t c w = typed_all es (most_typed (all_typed (kinds_of_all s es)) (where_met (all_suit kind.Bool (kinds_of_all s es)) kind.Bool) t) c w
+    form_typed at site (AtMostOne es) t c w = typed_all es (most_typed (all_typed (kinds_of_all s es))
+        (where_met (all_suit kind.Bool (kinds_of_all s es)) kind.Bool) t) c w
     form_typed at site (Call f es) t c w =
         let call = call_typed s.moves (s.callee f) (kinds_of_all s es) t in
         elim (cons_cases (record { at = at; site = unwrap_or site 0; name = f; args = es }) (calls_in_all es) c w) [

@@ -1,5 +1,6 @@
 -- The flows of a program that has a sequence have weights, each of them one.
-use Rattle.std.proofs.Common.{◌≡◌, ℕ, zero, suc, ◌+◌, ◌<◌, ◌≤◌, ◌⊎◌, inl, inr, true, false, ◌&&◌, cond, List, [], ◌∷◌, ◌++◌, length, get_or, refl, sym, ◌∙◌, ap, subst, arith, Option, length-append, unwrap_or}
+use Rattle.std.proofs.Common.{◌≡◌, ℕ, zero, suc, ◌+◌, ◌<◌, ◌≤◌, ◌⊎◌, inl, inr, true, false, ◌&&◌, cond, List, [], ◌∷◌, ◌++◌, length, get_or, refl, sym, ◌∙◌, ap}
+use Rattle.std.proofs.Common.{subst, arith, Option, length-append, unwrap_or}
 use Rattle.std.specs.List.{Contains, All}
 use Rattle.std.proofs.lemmas.List.{append_assoc, get_or_default}
 use Rattle.std.proofs.lemmas.List.Elements.{All-contains, Contains-get_or, Contains-append_left, Contains-append_right}
@@ -9,13 +10,17 @@ use Rattle.std.proofs.lemmas.Bool.Decides.{eqb_tells}
 use Rattle.rv_tree.specs.declared.tree.Decl.{Decl}
 use Rattle.rv_tree.specs.declared.tree.Op.{Op}
 use Rattle.rv_tree.specs.declared.tree.Op.TheVariants as op
-use Rattle.rv_tree.specs.Tree.{Tree, Node, Form, True, False, Number, Named, Not, Minus, Pre, Current, When, Binary, If, AtMostOne, Call, EquationTree, NodeTree, ProgramTree}
+use Rattle.rv_tree.specs.Tree.{Tree, Node, Form, True, False, Number, Named, Not, Minus, Pre, Current, When, Binary, If, AtMostOne, Call, EquationTree}
+use Rattle.rv_tree.specs.Tree.{NodeTree, ProgramTree}
 use Rattle.rv_tree.specs.Places.{Identifier, Sites, flows, names, is_flow}
 use Rattle.rv_types.specs.declared.typed.Clock.{Clock}
 use Rattle.rv_types.specs.declared.typed.Clock.TheVariants.{Base}
-use Rattle.rv_types.specs.Instances.{CallTree, calls, calls_in, form_calls, calls_in_equations, calls_in_assertions, Right, Body, Output, IsRight, alone, in_order, Instance, place, callee, clock_taken, clock_of, clock_of_arguments, absolute, output_place, node_of, IsInstance, is_callee, IsFlow}
+use Rattle.rv_types.specs.Instances.{CallTree, calls, calls_in, form_calls, calls_in_equations, calls_in_assertions, Right, Body, Output, IsRight, alone}
+use Rattle.rv_types.specs.Instances.{in_order, Instance, place, callee, clock_taken, clock_of, clock_of_arguments, absolute, output_place, node_of, IsInstance}
+use Rattle.rv_types.specs.Instances.{is_callee, IsFlow}
 use Rattle.rv_types.specs.Kinds.{kind_in_program, decl_kinds}
-use Rattle.rv_types.specs.Needs.{flow_of, needs, form_needs, Giver, Given, Of, Gives, given, by_equation, by_call, needs_of, needs_of_right, IsAmongFirst, IsSequence}
+use Rattle.rv_types.specs.Needs.{flow_of, needs, form_needs, Giver, Given, Of, Gives, given, by_equation, by_call, needs_of, needs_of_right, IsAmongFirst}
+use Rattle.rv_types.specs.Needs.{IsSequence}
 use Rattle.rv_types.specs.Scopes.{node_scope}
 use Rattle.rv_instances.specs.declared.answer.Instance.{Instance as Numbered}
 use Rattle.rv_instances.specs.AllInstances.{AreFed}
@@ -76,10 +81,13 @@ module _ (p : ProgramTree) (i : Instance) (P : Sites → Type 0) where
 
   -- what the expression needs has the property
   mutual
-    pub needs_read : (k : Clock) (e : Tree) → IsTyped (node_scope p i.node) e → IsInside (calls_in e) → ((q : Sites) → Contains (needs p i k e) q → P q) → Reads p i P e
-    needs_read k (Node at site form) w v all = form_read k at site form w v (λ q u. all q (Contains-append_right (flow_of (absolute i k)) (form_needs p i k site form) q u))
+    pub needs_read : (k : Clock) (e : Tree) → IsTyped (node_scope p i.node) e → IsInside (calls_in e) → ((q : Sites) → Contains (needs p i k e) q → P q)
+        → Reads p i P e
+    needs_read k (Node at site form) w v all = form_read k at site form w v
+        (λ q u. all q (Contains-append_right (flow_of (absolute i k)) (form_needs p i k site form) q u))
 
-    form_read : (k : Clock) (at : ℕ) (site : Option ℕ) (form : Form) → IsTyped (node_scope p i.node) (Node at site form) → IsInside (form_calls at site form) → ((q : Sites) → Contains (form_needs p i k site form) q → P q) → FormReads p i P at site form
+    form_read : (k : Clock) (at : ℕ) (site : Option ℕ) (form : Form) → IsTyped (node_scope p i.node) (Node at site form) → IsInside (form_calls at site form)
+        → ((q : Sites) → Contains (form_needs p i k site form) q → P q) → FormReads p i P at site form
     form_read k at site True w v all = tt
     form_read k at site False w v all = tt
     form_read k at site (Number n) w v all = tt
@@ -92,27 +100,37 @@ module _ (p : ProgramTree) (i : Instance) (P : Sites → Type 0) where
     form_read k at site (Binary o a b) w v all =
         let t = operands_typed (node_scope p i.node) at site o a b w in (
           product_scaled at site o a b w,
-          needs_read k a t.0 (λ c u. v c (Contains-append_left (calls_in a) (calls_in b) c u)) (λ q u. all q (Contains-append_left (needs p i k a) (needs p i k b) q u)),
-          needs_read k b t.1 (λ c u. v c (Contains-append_right (calls_in a) (calls_in b) c u)) (λ q u. all q (Contains-append_right (needs p i k a) (needs p i k b) q u)),
+          needs_read k a t.0 (λ c u. v c (Contains-append_left (calls_in a) (calls_in b) c u))
+              (λ q u. all q (Contains-append_left (needs p i k a) (needs p i k b) q u)),
+          needs_read k b t.1 (λ c u. v c (Contains-append_right (calls_in a) (calls_in b) c u))
+              (λ q u. all q (Contains-append_right (needs p i k a) (needs p i k b) q u)),
         )
     form_read k at site (If j a b) w v all =
         let t = branches_typed (node_scope p i.node) at site j a b w in (
           needs_read k a t.0 (λ c u. v c (Contains-append_right (calls_in j) (calls_in a ++ calls_in b) c (Contains-append_left (calls_in a) (calls_in b) c u)))
-              (λ q u. all q (Contains-append_right (needs p i k j) (needs p i k a ++ needs p i k b) q (Contains-append_left (needs p i k a) (needs p i k b) q u))),
-          needs_read k b t.1 (λ c u. v c (Contains-append_right (calls_in j) (calls_in a ++ calls_in b) c (Contains-append_right (calls_in a) (calls_in b) c u)))
-              (λ q u. all q (Contains-append_right (needs p i k j) (needs p i k a ++ needs p i k b) q (Contains-append_right (needs p i k a) (needs p i k b) q u))),
+              (λ q u. all q (Contains-append_right (needs p i k j) (needs p i k a ++ needs p i k b) q
+              (Contains-append_left (needs p i k a) (needs p i k b) q u))),
+          needs_read k b t.1 (λ c u. v c (Contains-append_right (calls_in j) (calls_in a ++ calls_in b) c
+              (Contains-append_right (calls_in a) (calls_in b) c u)))
+              (λ q u. all q (Contains-append_right (needs p i k j) (needs p i k a ++ needs p i k b) q
+              (Contains-append_right (needs p i k a) (needs p i k b) q u))),
         )
     form_read k at site (AtMostOne es) w v all = tt
-    form_read k at site (Call f es) w v all =
-        (v (record { at = at; site = unwrap_or site 0; name = f; args = es }) (0, omega arith, refl), call_output p i.node at site f es w, all (output_place p i (unwrap_or site 0) f 0) (0, omega arith, refl))
+    form_read k at site (Call f es) w v all = (
+      v (record { at = at; site = unwrap_or site 0; name = f; args = es }) (0, omega arith, refl),
+      call_output p i.node at site f es w,
+      all (output_place p i (unwrap_or site 0) f 0) (0, omega arith, refl),
+    )
 
   -- flows and the outputs of calls have it
-  module _ (flow : (x : Identifier) → is_flow i.node x ≡ true → P (place i x)) (output : (c : CallTree) → Contains (calls i.node) c → length (node_of p c.name).outputs ≡ 1 → P (output_place p i c.site c.name 0)) where
+  module _ (flow : (x : Identifier) → is_flow i.node x ≡ true → P (place i x))
+      (output : (c : CallTree) → Contains (calls i.node) c → length (node_of p c.name).outputs ≡ 1 → P (output_place p i c.site c.name 0)) where
     mutual
       pub flows_read : (e : Tree) → IsTyped (node_scope p i.node) e → IsInside (calls_in e) → Reads p i P e
       flows_read (Node at site form) w v = form_flows at site form w v
 
-      form_flows : (at : ℕ) (site : Option ℕ) (form : Form) → IsTyped (node_scope p i.node) (Node at site form) → IsInside (form_calls at site form) → FormReads p i P at site form
+      form_flows : (at : ℕ) (site : Option ℕ) (form : Form) → IsTyped (node_scope p i.node) (Node at site form) → IsInside (form_calls at site form)
+          → FormReads p i P at site form
       form_flows at site True w v = tt
       form_flows at site False w v = tt
       form_flows at site (Number n) w v = tt
@@ -130,8 +148,10 @@ module _ (p : ProgramTree) (i : Instance) (P : Sites → Type 0) where
           )
       form_flows at site (If j a b) w v =
           let t = branches_typed (node_scope p i.node) at site j a b w in (
-            flows_read a t.0 (λ c u. v c (Contains-append_right (calls_in j) (calls_in a ++ calls_in b) c (Contains-append_left (calls_in a) (calls_in b) c u))),
-            flows_read b t.1 (λ c u. v c (Contains-append_right (calls_in j) (calls_in a ++ calls_in b) c (Contains-append_right (calls_in a) (calls_in b) c u))),
+            flows_read a t.0 (λ c u. v c (Contains-append_right (calls_in j) (calls_in a ++ calls_in b) c
+                (Contains-append_left (calls_in a) (calls_in b) c u))),
+            flows_read b t.1 (λ c u. v c (Contains-append_right (calls_in j) (calls_in a ++ calls_in b) c
+                (Contains-append_right (calls_in a) (calls_in b) c u))),
           )
       form_flows at site (AtMostOne es) w v = tt
       form_flows at site (Call f es) w v =
@@ -142,7 +162,8 @@ module _ (p : ProgramTree) (i : Instance) (P : Sites → Type 0) where
 
 module _ (p : ProgramTree) (main : Identifier) (instances : List Numbered) (known : IsExpanded p main instances) where
   -- an output of a call is a flow
-  pub output_flow : (i : Instance) (c : CallTree) (j : ℕ) → IsInstance p main i → Contains (calls i.node) c → j < length (node_of p c.name).outputs → IsFlow p main (output_place p i c.site c.name j)
+  pub output_flow : (i : Instance) (c : CallTree) (j : ℕ) → IsInstance p main i → Contains (calls i.node) c → j < length (node_of p c.name).outputs
+      → IsFlow p main (output_place p i c.site c.name j)
   output_flow i c j is w lt =
       let n = node_of p c.name in
       let k = length n.inputs + j in
@@ -164,7 +185,8 @@ module _ (p : ProgramTree) (main : Identifier) (instances : List Numbered) (know
   own_flow i x is e = (i, x, is, among_contains (flows i.node) x e, refl)
 
   -- what an expression reads are flows
-  pub reads_flows : (i : Instance) (e : Tree) → IsInstance p main i → IsTyped (node_scope p i.node) e → IsInside p i (IsFlow p main) (calls_in e) → Reads p i (IsFlow p main) e
+  pub reads_flows : (i : Instance) (e : Tree) → IsInstance p main i → IsTyped (node_scope p i.node) e → IsInside p i (IsFlow p main) (calls_in e)
+      → Reads p i (IsFlow p main) e
   reads_flows i e is w v =
       flows_read p i (IsFlow p main) (λ x e. own_flow i x is e) (λ c u one. output_flow i c 0 is u (omega (arith, one))) e w v
 
@@ -200,7 +222,8 @@ module _ (p : ProgramTree) (main : Identifier) (instances : List Numbered) (know
           let c : CallTree = record { at = at; site = site; name = f; args = args } in (
             equation_inside i.node s c w (subst (λ (e : Tree). Contains (calls_in e) c) (sym is_call) (0, omega arith, refl)),
             All-contains P (needs_of_right p i (clock_of i.node x) (Output c j)) (output_place p i site f j) all
-                (Contains-append_right (flow_of (absolute i (clock_of_arguments i args))) (output_place p i site f j ∷ []) (output_place p i site f j) (0, omega arith, refl)),
+                (Contains-append_right (flow_of (absolute i (clock_of_arguments i args))) (output_place p i site f j ∷ []) (output_place p i site f j)
+                (0, omega arith, refl)),
           )
   giver_reads P q _ (by_call i c j e is w arg same) all =
       let t = (known.well.typed i.node (node_in p main instances known i is)).argument c j e w arg in
@@ -243,14 +266,18 @@ module _ (p : ProgramTree) (main : Identifier) (instances : List Numbered) (know
           reads_flows i s.right is (t.0, t.1) (λ d v. equation_inside i.node s d w v)
       of_right (in_order s at site f args j w is_call many lt named) =
           let c : CallTree = record { at = at; site = site; name = f; args = args } in
-          let there = equation_inside i.node s c w (subst (λ (e : Tree). Contains (calls_in e) c) (sym is_call) (0, omega arith, refl)) in
-          (there, output_flow i c j is there (giver_output q (Of i (clock_of i.node x) (Output c j)) (by_equation i x (Output c j) is (in_order s at site f args j w is_call many lt named) e)))
+          let there = equation_inside i.node s c w (subst (λ (e : Tree). Contains (calls_in e) c) (sym is_call) (0, omega arith, refl)) in (
+            there,
+            output_flow i c j is there (giver_output q (Of i (clock_of i.node x) (Output c j))
+                (by_equation i x (Output c j) is (in_order s at site f args j w is_call many lt named) e)),
+          )
   giver_flows q _ (by_call i c j e is w arg same) =
       let t = (known.well.typed i.node (node_in p main instances known i is)).argument c j e w arg in
       reads_flows i e is (t.0, t.1) (λ d v. calls_nested i.node c d w (in_argument c.args j e d arg v))
 
   -- the weight that a giver gives depends on what it reads
-  pub same_given : (P : Sites → Type 0) (flows others : Sites → ℕ) → ((q : Sites) → P q → flows q ≡ others q) → (g : Giver) → ReadsGiver P g → weight_of_giver p flows g ≡ weight_of_giver p others g
+  pub same_given : (P : Sites → Type 0) (flows others : Sites → ℕ) → ((q : Sites) → P q → flows q ≡ others q) → (g : Giver) → ReadsGiver P g
+      → weight_of_giver p flows g ≡ weight_of_giver p others g
   same_given P flows others same (Given j) r = refl
   same_given P flows others same (Of i k (Body e)) r = same_weight p i P flows others same e r
   same_given P flows others same (Of i k (Output c j)) r = same (output_place p i c.site c.name j) r.1
@@ -261,7 +288,8 @@ module _ (p : ProgramTree) (main : Identifier) (instances : List Numbered) (know
     stands q is = let w = ordered.flows q is in (w.0, w.1, get_or_default sequence w.0 [] q w.1 ∙ w.2)
 
     -- two functions that give all flows weights agree on the first flows
-    agree_to : (flows others : Sites → ℕ) → AreWeights p main flows → AreWeights p main others → (n : ℕ) → n ≤ length sequence → (k : ℕ) → k < n → flows (get_or sequence k []) ≡ others (get_or sequence k [])
+    agree_to : (flows others : Sites → ℕ) → AreWeights p main flows → AreWeights p main others → (n : ℕ) → n ≤ length sequence → (k : ℕ) → k < n
+        → flows (get_or sequence k []) ≡ others (get_or sequence k [])
     agree_to flows others f g zero le k lt = absurd (omega (arith, lt))
     agree_to flows others f g (suc n) le k lt = elim (cases_eq k n) [
       | inr other ↦ agree_to flows others f g n (omega (arith, le)) k (omega (arith, lt, other))
@@ -332,7 +360,8 @@ module _ (p : ProgramTree) (main : Identifier) (instances : List Numbered) (know
             λ r v.
             let less = v.1 in
             let lt = w.1 in
-            subst (λ s. weights_to k s ≡ weights_to (length sequence) s) v.2 (stays k v.0 (omega (arith, lt)) less ∙ sym (stays (length sequence) v.0 (omega arith) (omega (arith, lt, less)))) in
+            subst (λ s. weights_to k s ≡ weights_to (length sequence) s) v.2
+            (stays k v.0 (omega (arith, lt)) less ∙ sym (stays (length sequence) v.0 (omega arith) (omega (arith, lt, less)))) in
             ap (weights_to (length sequence)) (sym w.2)
             ∙ stays (length sequence) k (omega arith) w.1
             ∙ ap (weight_of_giver p (weights_to k)) same

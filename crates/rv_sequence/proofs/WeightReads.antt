@@ -1,11 +1,13 @@
 -- What the weight of an expression of an instance reads, and that nothing else matters to it.
-use Rattle.std.proofs.Common.{◌≡◌, ℕ, zero, suc, ◌+◌, ◌*◌, ◌≤◌, inl, inr, min, max, Bool, true, false, not, ◌&&◌, ◌||◌, cond, length, refl, sym, ◌∙◌, ap, arith, Option, Some, nat_abs, None as Nothing, unwrap_or}
+use Rattle.std.proofs.Common.{◌≡◌, ℕ, zero, suc, ◌+◌, ◌*◌, ◌≤◌, inl, inr, min, max, Bool, true, false, not, ◌&&◌, ◌||◌, cond, length, refl, sym, ◌∙◌, ap, arith}
+use Rattle.std.proofs.Common.{Option, Some, nat_abs, None as Nothing, unwrap_or}
 use Rattle.std.specs.List.{Contains}
 use Rattle.std.proofs.Math.Nat.{mul-le-mul_left}
 use Rattle.rv_base.specs.declared.value.Value.{Value}
 use Rattle.rv_tree.specs.declared.tree.Op.{Op}
 use Rattle.rv_tree.specs.declared.tree.Op.TheVariants as op
-use Rattle.rv_tree.specs.Tree.{Tree, Node, Form, True, False, Number, Named, Not, Minus, Pre, Current, When, Binary, If, AtMostOne, Call, Trees, None, More, ProgramTree}
+use Rattle.rv_tree.specs.Tree.{Tree, Node, Form, True, False, Number, Named, Not, Minus, Pre, Current, When, Binary, If, AtMostOne, Call, Trees, None, More}
+use Rattle.rv_tree.specs.Tree.{ProgramTree}
 use Rattle.rv_tree.specs.Places.{Identifier, Sites, is_flow}
 use Rattle.rv_types.specs.declared.weighing.Weighed.{Weighed}
 use Rattle.rv_types.specs.Constants.{whole_in, value_of, form_value, form_weight}
@@ -113,7 +115,8 @@ module _ (p : ProgramTree) (i : Instance) (P : Sites → Type 0) where
     FormReads at site (Binary o a b) = IsScaled o a b × Reads a × Reads b
     FormReads at site (If c a b) = Reads a × Reads b
     FormReads at site (AtMostOne es) = Unit {0}
-    FormReads at site (Call f es) = Contains (calls i.node) (record { at = at; site = unwrap_or site 0; name = f; args = es }) × (length (node_of p f).outputs ≡ 1) × P (output_place p i (unwrap_or site 0) f 0)
+    FormReads at site (Call f es) = Contains (calls i.node) (record { at = at; site = unwrap_or site 0; name = f; args = es })
+        × (length (node_of p f).outputs ≡ 1) × P (output_place p i (unwrap_or site 0) f 0)
 
 -- Weights of the same flows are the same.
 module _ (p : ProgramTree) (i : Instance) (P : Sites → Type 0) (flows others : Sites → ℕ) (same : (q : Sites) → P q → flows q ≡ others q) where
@@ -127,7 +130,8 @@ module _ (p : ProgramTree) (i : Instance) (P : Sites → Type 0) (flows others :
     form_same at site (Number n) r = refl
     form_same at site (Named x) r = named (is_flow i.node x) refl
       where
-        named : (b : Bool) → is_flow i.node x ≡ b → cond b (flows (place i x)) (nat_abs (whole_in (constant_value p x))) ≡ cond b (others (place i x)) (nat_abs (whole_in (constant_value p x)))
+        named : (b : Bool) → is_flow i.node x ≡ b → cond b (flows (place i x)) (nat_abs (whole_in (constant_value p x))) ≡ cond b (others (place i x))
+            (nat_abs (whole_in (constant_value p x)))
         named true e = same (place i x) (r e)
         named false e = refl
     form_same at site (Not e) r = refl
@@ -135,7 +139,8 @@ module _ (p : ProgramTree) (i : Instance) (P : Sites → Type 0) (flows others :
     form_same at site (Pre e) r = refl
     form_same at site (Current e) r = ap (max 1) (same_weight e r)
     form_same at site (When e c) r = same_weight e r
-    form_same at site (Binary op.Times a b) r = λ j. cond (is_constant (node_scope p i.node) a) (constant_size p a * same_weight b r.2 j) (constant_size p b * same_weight a r.1 j)
+    form_same at site (Binary op.Times a b) r = λ j. cond (is_constant (node_scope p i.node) a) (constant_size p a * same_weight b r.2 j)
+        (constant_size p b * same_weight a r.1 j)
     form_same at site (Binary op.Plus a b) r = λ j. same_weight a r.1 j + same_weight b r.2 j
     form_same at site (Binary op.Minus a b) r = λ j. same_weight a r.1 j + same_weight b r.2 j
     form_same at site (Binary op.Arrow a b) r = λ j. max (same_weight a r.1 j) (same_weight b r.2 j)
@@ -157,16 +162,24 @@ module _ (p : ProgramTree) (i : Instance) (P : Sites → Type 0) (flows others :
     form_same at site (Call f es) r = same (output_place p i (unwrap_or site 0) f 0) r.2
 
 -- what is known of an expression where it is constant
-constant_known : (s : Scope) (k : Identifier → Value) (e : Tree) → is_constant s e ≡ true → (c : Weighed) × (constant_part s k e ≡ Some c) × (c.value ≡ value_of k e)
-constant_known s k (Node at site form) e =
-    (record { value = form_value k form; weight = min (form_weight k form) too_heavy }, ap (λ b. cond b (Some (record { value = form_value k form; weight = min (form_weight k form) too_heavy })) Nothing) e, refl)
+constant_known : (s : Scope) (k : Identifier → Value) (e : Tree) → is_constant s e ≡ true
+    → (c : Weighed) × (constant_part s k e ≡ Some c) × (c.value ≡ value_of k e)
+constant_known s k (Node at site form) e = (
+  record { value = form_value k form; weight = min (form_weight k form) too_heavy },
+  ap (λ b. cond b (Some (record { value = form_value k form; weight = min (form_weight k form) too_heavy })) Nothing) e,
+  refl,
+)
 
 constant_unknown : (s : Scope) (k : Identifier → Value) (e : Tree) → is_constant s e ≡ false → constant_part s k e ≡ Nothing
-constant_unknown s k (Node at site form) e = ap (λ b. cond b (Some (record { value = form_value k form; weight = min (form_weight k form) too_heavy })) Nothing) e
+constant_unknown s k (Node at site form) e = ap (λ b. cond b (Some (record { value = form_value k form; weight = min (form_weight k form) too_heavy })) Nothing)
+    e
 
-product_capped : (p : ProgramTree) (i : Instance) (w : Weighing) → ((x : Identifier) → w.scope.fixed x ≡ is_fixed i.node x) → w.known ≡ constant_value p → (a b : Tree) (v u x y : ℕ)
-    → (is_constant (node_scope p i.node) a || is_constant (node_scope p i.node) b) ≡ true → min v too_heavy ≡ min x too_heavy → min u too_heavy ≡ min y too_heavy
-    → min (product_of (constant_part w.scope w.known a) (constant_part w.scope w.known b) v u) too_heavy ≡ min (cond (is_constant (node_scope p i.node) a) (constant_size p a * y) (constant_size p b * x)) too_heavy
+product_capped : (p : ProgramTree) (i : Instance) (w : Weighing) → ((x : Identifier) → w.scope.fixed x ≡ is_fixed i.node x) → w.known ≡ constant_value p
+    → (a b : Tree) (v u x y : ℕ)
+    → (is_constant (node_scope p i.node) a || is_constant (node_scope p i.node) b) ≡ true → min v too_heavy ≡ min x too_heavy
+    → min u too_heavy ≡ min y too_heavy
+    → min (product_of (constant_part w.scope w.known a) (constant_part w.scope w.known b) v u) too_heavy ≡ min
+    (cond (is_constant (node_scope p i.node) a) (constant_size p a * y) (constant_size p b * x)) too_heavy
 product_capped p i w fixed known a b v u x y one e f =
     chosen (is_constant (node_scope p i.node) a) (is_constant (node_scope p i.node) b) (constant a) (constant b) one
   where
@@ -177,7 +190,8 @@ product_capped p i w fixed known a b v u x y one e f =
     constant e = same_constant w.scope (node_scope p i.node) fixed e
 
     chosen : (j k : Bool) → is_constant w.scope a ≡ j → is_constant w.scope b ≡ k → (j || k) ≡ true
-        → min (product_of (constant_part w.scope w.known a) (constant_part w.scope w.known b) v u) too_heavy ≡ min (cond j (constant_size p a * y) (constant_size p b * x)) too_heavy
+        → min (product_of (constant_part w.scope w.known a) (constant_part w.scope w.known b) v u) too_heavy ≡ min
+        (cond j (constant_size p a * y) (constant_size p b * x)) too_heavy
     chosen true k c d one =
         let left = constant_known w.scope w.known a c in
         ap (λ o. min (product_of o (constant_part w.scope w.known b) v u) too_heavy) left.1
@@ -193,20 +207,24 @@ product_capped p i w fixed known a b v u x y one e f =
     chosen false false c d one = cc
 
 -- Tables that count to 2^40 + 1 give the weights that do.
-module _ (p : ProgramTree) (i : Instance) (P : Sites → Type 0) (flows : Sites → ℕ) (w : Weighing) (fixed : (x : Identifier) → w.scope.fixed x ≡ is_fixed i.node x) (known : w.known ≡ constant_value p)
+module _ (p : ProgramTree) (i : Instance) (P : Sites → Type 0) (flows : Sites → ℕ) (w : Weighing)
+    (fixed : (x : Identifier) → w.scope.fixed x ≡ is_fixed i.node x) (known : w.known ≡ constant_value p)
     (flow : (x : Identifier) → is_flow i.node x ≡ true → P (place i x) → min (w.flow x) too_heavy ≡ min (flows (place i x)) too_heavy)
-    (output : (c : CallTree) → Contains (calls i.node) c → length (node_of p c.name).outputs ≡ 1 → P (output_place p i c.site c.name 0) → min (w.output c.site) too_heavy ≡ min (flows (output_place p i c.site c.name 0)) too_heavy) where
+    (output : (c : CallTree) → Contains (calls i.node) c → length (node_of p c.name).outputs ≡ 1 → P (output_place p i c.site c.name 0)
+    → min (w.output c.site) too_heavy ≡ min (flows (output_place p i c.site c.name 0)) too_heavy) where
   mutual
     pub capped_weight : (e : Tree) → Reads p i P e → min (weight_in w e) too_heavy ≡ min (weight p flows i e) too_heavy
     capped_weight (Node at site form) r = form_capped at site form r
 
-    form_capped : (at : ℕ) (site : Option ℕ) (form : Form) → FormReads p i P at site form → min (form_weight_in w site form) too_heavy ≡ min (exact_weight p flows i site form) too_heavy
+    form_capped : (at : ℕ) (site : Option ℕ) (form : Form) → FormReads p i P at site form
+        → min (form_weight_in w site form) too_heavy ≡ min (exact_weight p flows i site form) too_heavy
     form_capped at site True r = refl
     form_capped at site False r = refl
     form_capped at site (Number n) r = refl
     form_capped at site (Named x) r = ap (λ b. min (cond b (nat_abs (whole_in (w.known x))) (w.flow x)) too_heavy) (fixed x) ∙ named (is_flow i.node x) refl
       where
-        named : (b : Bool) → is_flow i.node x ≡ b → min (cond (not b) (nat_abs (whole_in (w.known x))) (w.flow x)) too_heavy ≡ min (cond b (flows (place i x)) (nat_abs (whole_in (constant_value p x)))) too_heavy
+        named : (b : Bool) → is_flow i.node x ≡ b → min (cond (not b) (nat_abs (whole_in (w.known x))) (w.flow x)) too_heavy ≡ min
+            (cond b (flows (place i x)) (nat_abs (whole_in (constant_value p x)))) too_heavy
         named true e = flow x e (r e)
         named false e = ap (λ (k : Identifier → Value). min (nat_abs (whole_in (k x))) too_heavy) known
     form_capped at site (Not e) r = refl
@@ -214,10 +232,14 @@ module _ (p : ProgramTree) (i : Instance) (P : Sites → Type 0) (flows : Sites 
     form_capped at site (Pre e) r = refl
     form_capped at site (Current e) r = max_capped 1 (weight_in w e) 1 (weight p flows i e) refl (capped_weight e r)
     form_capped at site (When e c) r = capped_weight e r
-    form_capped at site (Binary op.Times a b) r = product_capped p i w fixed known a b (weight_in w a) (weight_in w b) (weight p flows i a) (weight p flows i b) r.0 (capped_weight a r.1) (capped_weight b r.2)
-    form_capped at site (Binary op.Plus a b) r = plus_capped (weight_in w a) (weight_in w b) (weight p flows i a) (weight p flows i b) (capped_weight a r.1) (capped_weight b r.2)
-    form_capped at site (Binary op.Minus a b) r = plus_capped (weight_in w a) (weight_in w b) (weight p flows i a) (weight p flows i b) (capped_weight a r.1) (capped_weight b r.2)
-    form_capped at site (Binary op.Arrow a b) r = max_capped (weight_in w a) (weight_in w b) (weight p flows i a) (weight p flows i b) (capped_weight a r.1) (capped_weight b r.2)
+    form_capped at site (Binary op.Times a b) r = product_capped p i w fixed known a b (weight_in w a) (weight_in w b) (weight p flows i a)
+        (weight p flows i b) r.0 (capped_weight a r.1) (capped_weight b r.2)
+    form_capped at site (Binary op.Plus a b) r = plus_capped (weight_in w a) (weight_in w b) (weight p flows i a) (weight p flows i b) (capped_weight a r.1)
+        (capped_weight b r.2)
+    form_capped at site (Binary op.Minus a b) r = plus_capped (weight_in w a) (weight_in w b) (weight p flows i a) (weight p flows i b) (capped_weight a r.1)
+        (capped_weight b r.2)
+    form_capped at site (Binary op.Arrow a b) r = max_capped (weight_in w a) (weight_in w b) (weight p flows i a) (weight p flows i b) (capped_weight a r.1)
+        (capped_weight b r.2)
     form_capped at site (Binary op.Implies a b) r = refl
     form_capped at site (Binary op.Or a b) r = refl
     form_capped at site (Binary op.Xor a b) r = refl
@@ -231,6 +253,7 @@ module _ (p : ProgramTree) (i : Instance) (P : Sites → Type 0) (flows : Sites 
     form_capped at site (Binary op.Slash a b) r = refl
     form_capped at site (Binary op.Div a b) r = refl
     form_capped at site (Binary op.Mod a b) r = refl
-    form_capped at site (If c a b) r = max_capped (weight_in w a) (weight_in w b) (weight p flows i a) (weight p flows i b) (capped_weight a r.0) (capped_weight b r.1)
+    form_capped at site (If c a b) r = max_capped (weight_in w a) (weight_in w b) (weight p flows i a) (weight p flows i b) (capped_weight a r.0)
+        (capped_weight b r.1)
     form_capped at site (AtMostOne es) r = refl
     form_capped at site (Call f es) r = output (record { at = at; site = unwrap_or site 0; name = f; args = es }) r.0 r.1 r.2

@@ -3,11 +3,13 @@ use Rattle.std.proofs.Common.{◌≡◌, ℕ, suc, inl, inr, cond, nat_lt, List,
 use Rattle.std.specs.List.{Contains, flat_map}
 use Rattle.std.proofs.lemmas.List.Elements.{Contains-append_left, Contains-append_right, Contains-append_cases}
 use Rattle.rv_tree.specs.declared.tree.Name.{Name}
-use Rattle.rv_tree.specs.Tree.{Tree, Node, Form, True, False, Number, Named, Not, Minus, Pre, Current, When, Binary, If, AtMostOne, Call, Trees, None, More, EquationTree, AssertionTree, ProgramTree}
+use Rattle.rv_tree.specs.Tree.{Tree, Node, Form, True, False, Number, Named, Not, Minus, Pre, Current, When, Binary, If, AtMostOne, Call, Trees, None, More}
+use Rattle.rv_tree.specs.Tree.{EquationTree, AssertionTree, ProgramTree}
 use Rattle.rv_tree.specs.Places.{Identifier, Sites}
 use Rattle.rv_types.specs.declared.typed.Kind.TheVariants as kind
 use Rattle.rv_types.specs.Names.{texts}
-use Rattle.rv_types.specs.Instances.{CallTree, calls, calls_in, form_calls, calls_in_all, calls_in_equations, calls_in_assertions, alone, IsArgument, head, tail, Instance, IsInstance, IsFlow}
+use Rattle.rv_types.specs.Instances.{CallTree, calls, calls_in, form_calls, calls_in_all, calls_in_equations, calls_in_assertions, alone, IsArgument, head}
+use Rattle.rv_types.specs.Instances.{tail, Instance, IsInstance, IsFlow}
 use Rattle.rv_types.specs.Needs.{IsSequence}
 use Rattle.rv_types.specs.Scopes.{node_scope}
 use Rattle.rv_instances.specs.declared.answer.Instance.{Instance as Numbered}
@@ -32,7 +34,8 @@ mutual
     | inr rest ↦ form_inside at site form t rest c w
   ]
 
-  form_inside : (at : ℕ) (site : Option ℕ) (form : Form) (t : Tree) → Contains (form_parts form) t → (c : CallTree) → Contains (calls_in t) c → Contains (form_calls at site form) c
+  form_inside : (at : ℕ) (site : Option ℕ) (form : Form) (t : Tree) → Contains (form_parts form) t → (c : CallTree) → Contains (calls_in t) c
+      → Contains (form_calls at site form) c
   form_inside at site True t v c w = nothing_in t v
   form_inside at site False t v c w = nothing_in t v
   form_inside at site (Number n) t v c w = nothing_in t v
@@ -54,7 +57,8 @@ mutual
     ])
   ]
   form_inside at site (AtMostOne es) t v c w = all_inside es t v c w
-  form_inside at site (Call f es) t v c w = Contains-append_right (record { at = at; site = unwrap_or site 0; name = f; args = es } ∷ []) (calls_in_all es) c (all_inside es t v c w)
+  form_inside at site (Call f es) t v c w = Contains-append_right (record { at = at; site = unwrap_or site 0; name = f; args = es } ∷ []) (calls_in_all es) c
+      (all_inside es t v c w)
 
   all_inside : (es : Trees) (t : Tree) → Contains (parts_of_all es) t → (c : CallTree) → Contains (calls_in t) c → Contains (calls_in_all es) c
   all_inside None t v c w = nothing_in t v
@@ -75,9 +79,11 @@ argument_part (More e es) t v = elim (Contains-append_cases (parts e) (parts_of_
 pub too_same : (w u : Tree → ℕ) (es : List Tree) → ((e : Tree) → Contains es e → w e ≡ u e) → too_wide w es ≡ too_wide u es
 too_same w u [] same = refl
 too_same w u (Node at site form ∷ es) same =
-    (λ i. cond (nat_lt heaviest (same (Node at site form) (0, omega arith, refl) i)) (at ∷ []) [] ++ too_same w u es (λ e v. same e (Contains-append_right (Node at site form ∷ []) es e v)) i)
+    (λ i. cond (nat_lt heaviest (same (Node at site form) (0, omega arith, refl) i)) (at ∷ []) []
+    ++ too_same w u es (λ e v. same e (Contains-append_right (Node at site form ∷ []) es e v)) i)
 
-module _ (p : ProgramTree) (main : Identifier) (instances : List Numbered) (known : IsExpanded p main instances) (sided : AreSided p) (i : Instance) (is : IsInstance p main i) where
+module _ (p : ProgramTree) (main : Identifier) (instances : List Numbered) (known : IsExpanded p main instances) (sided : AreSided p) (i : Instance)
+    (is : IsInstance p main i) where
   -- What has a weight in an instance: it has a type, and its calls are calls of the node.
   pub record IsWeighed (t : Tree) : Type 0 where
     pub typed : IsTyped (node_scope p i.node) t
@@ -112,23 +118,28 @@ module _ (p : ProgramTree) (main : Identifier) (instances : List Numbered) (know
   in_assertion : (a : AssertionTree) (t : Tree) → Contains i.node.assertions a → Contains (parts a.body) t → IsWeighed t
   in_assertion a t w u =
       let typed = (known.well.typed i.node (node_in p main instances known i is)).assertion a w in
-      part_of a.body t (kind.Bool, typed) (λ c r. Contains-append_right (calls_in_equations i.node.equations) (calls_in_assertions i.node.assertions) c (in_body i.node.assertions a c w r)) u
+      part_of a.body t (kind.Bool, typed) (λ c r. Contains-append_right (calls_in_equations i.node.equations) (calls_in_assertions i.node.assertions) c
+      (in_body i.node.assertions a c w r)) u
 
   pub is_weighed : (t : Tree) → Contains (weighed i.node) t → IsWeighed t
-  is_weighed t u = elim (Contains-append_cases (flat_map (λ (q : EquationTree). weighed_under q.lefts q.right) i.node.equations) (flat_map (λ (a : AssertionTree). parts a.body) i.node.assertions) t u) [
-    | inl v ↦ let q = of_flat_map (λ (q : EquationTree). weighed_under q.lefts q.right) i.node.equations t v in in_equation q.0 t q.1 q.2
-    | inr v ↦ let a = of_flat_map (λ (a : AssertionTree). parts a.body) i.node.assertions t v in in_assertion a.0 t a.1 a.2
-  ]
+  is_weighed t u = elim (Contains-append_cases (flat_map (λ (q : EquationTree). weighed_under q.lefts q.right) i.node.equations)
+      (flat_map (λ (a : AssertionTree). parts a.body) i.node.assertions) t u) [
+        | inl v ↦ let q = of_flat_map (λ (q : EquationTree). weighed_under q.lefts q.right) i.node.equations t v in in_equation q.0 t q.1 q.2
+        | inr v ↦ let a = of_flat_map (λ (a : AssertionTree). parts a.body) i.node.assertions t v in in_assertion a.0 t a.1 a.2
+      ]
 
-module _ (p : ProgramTree) (main : Identifier) (instances : List Numbered) (known : IsExpanded p main instances) (sided : AreSided p) (sequence : List Sites) (ordered : IsSequence p main sequence) where
-  pub wide_in_both : (flows others : Sites → ℕ) (at : ℕ) → AreWeights p main flows → AreWeights p main others → IsTooWide p main flows at → IsTooWide p main others at
+module _ (p : ProgramTree) (main : Identifier) (instances : List Numbered) (known : IsExpanded p main instances) (sided : AreSided p) (sequence : List Sites)
+    (ordered : IsSequence p main sequence) where
+  pub wide_in_both : (flows others : Sites → ℕ) (at : ℕ) → AreWeights p main flows → AreWeights p main others → IsTooWide p main flows at
+      → IsTooWide p main others at
   wide_in_both flows others at f g (inl constant) = inl constant
   wide_in_both flows others at f g (inr w) =
       let i = w.0 in
       let same : too_wide (weight p flows i) (weighed i.node) ≡ too_wide (weight p others i) (weighed i.node) =
       too_same (weight p flows i) (weight p others i) (weighed i.node) (λ t u.
       let v = is_weighed p main instances known sided i w.1 t u in
-      same_weight p i (IsFlow p main) flows others (λ q is. one_weight p main instances known sequence ordered flows others f g q is) t (reads_flows p main instances known i t w.1 v.typed v.inside)) in
+      same_weight p i (IsFlow p main) flows others (λ q is. one_weight p main instances known sequence ordered flows others f g q is) t
+      (reads_flows p main instances known i t w.1 v.typed v.inside)) in
       inr (i, w.1, subst (λ l. Contains l at) same w.2)
 
   pub not_both : (at : ℕ) → AreLight p main → IsFirstTooWide p main at → ⊥

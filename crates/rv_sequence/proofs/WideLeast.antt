@@ -1,5 +1,6 @@
 -- The least offset of what is too wide.
-use Rattle.std.proofs.Common.{◌≡◌, ℕ, zero, suc, ◌<◌, ◌≤◌, ◌⊎◌, inl, inr, min, Bool, true, false, cond, nat_lt, List, [], ◌∷◌, ◌++◌, length, reverse, refl, sym, ◌∙◌, ap, subst, arith, Option, Some, None as Nothing}
+use Rattle.std.proofs.Common.{◌≡◌, ℕ, zero, suc, ◌<◌, ◌≤◌, ◌⊎◌, inl, inr, min, Bool, true, false, cond, nat_lt, List, [], ◌∷◌, ◌++◌, length, reverse, refl, sym}
+use Rattle.std.proofs.Common.{◌∙◌, ap, subst, arith, Option, Some, None as Nothing}
 use Rattle.std.specs.List.{Contains, flat_map}
 use Rattle.std.proofs.lemmas.Bool.{cases_eq}
 use Rattle.std.proofs.lemmas.Bool.Decides.{nat_tests}
@@ -7,7 +8,8 @@ use Rattle.std.proofs.lemmas.List.{append_assoc}
 use Rattle.std.proofs.lemmas.List.Elements.{Contains-append_right}
 use Rattle.rv_base.specs.declared.value.Value.{Value}
 use Rattle.rv_tree.specs.declared.tree.Name.{Name}
-use Rattle.rv_tree.specs.Tree.{Tree, Node, Form, True, False, Number, Named, Not, Minus, Pre, Current, When, Binary, If, AtMostOne, Call, Trees, None, More, EquationTree, AssertionTree, ConstantTree, NodeTree, ProgramTree}
+use Rattle.rv_tree.specs.Tree.{Tree, Node, Form, True, False, Number, Named, Not, Minus, Pre, Current, When, Binary, If, AtMostOne, Call, Trees, None, More}
+use Rattle.rv_tree.specs.Tree.{EquationTree, AssertionTree, ConstantTree, NodeTree, ProgramTree}
 use Rattle.rv_tree.specs.Places.{Identifier, Sites}
 use Rattle.rv_types.specs.Constants.{weight_of, form_weight}
 use Rattle.rv_types.specs.Instances.{Instance, IsInstance}
@@ -23,7 +25,8 @@ use Rattle.rv_instances.specs.Layouts.{IsNumberOf, IsLayout, node_at}
 use Rattle.rv_calls.specs.Loops.{AtMost}
 use Rattle.rv_sequence.specs.Sided.{AreSided}
 use Rattle.rv_types.specs.Variables.{parts, form_parts, parts_of_all}
-use Rattle.rv_instances.specs.Weights.{weight, too_wide, weighed_of_several, weighed_under, weighed, too_wide_constants, AreWeights, IsTooWide, AreLight, IsFirstTooWide}
+use Rattle.rv_instances.specs.Weights.{weight, too_wide, weighed_of_several, weighed_under, weighed, too_wide_constants, AreWeights, IsTooWide, AreLight}
+use Rattle.rv_instances.specs.Weights.{IsFirstTooWide}
 use Rattle.rv_sequence.specs.Weighing.{Weighing, weight_in, form_weight_in, first_in, first_below, first_in_all}
 use Rattle.rv_sequence.specs.WeightTables.{weighing_at, counted_weight, AreFlowWeights}
 use Rattle.rv_sequence.specs.WideNodes.{wide_in_several, wide_in_side, wide_in_equations, wide_in_assertions, wide_in_node, wide_in_first}
@@ -91,7 +94,8 @@ least_wide w es = least (too_wide w es)
 pub least_both : (w : Tree → ℕ) (xs ys : List Tree) → least_wide w (xs ++ ys) ≡ lesser (least_wide w xs) (least_wide w ys)
 least_both w xs ys = ap least (wide_append w xs ys) ∙ least_append (too_wide w xs) (too_wide w ys)
 
-least_first : (w : Tree → ℕ) (at : ℕ) (site : Option ℕ) (form : Form) (es : List Tree) → least_wide w (Node at site form ∷ es) ≡ lesser (wide_at at (w (Node at site form))) (least_wide w es)
+least_first : (w : Tree → ℕ) (at : ℕ) (site : Option ℕ) (form : Form) (es : List Tree)
+    → least_wide w (Node at site form ∷ es) ≡ lesser (wide_at at (w (Node at site form))) (least_wide w es)
 least_first w at site form es =
     least_append (cond (nat_lt heaviest (w (Node at site form))) (at ∷ []) []) (too_wide w es)
     ∙ ap (λ o. lesser o (least_wide w es)) (by (nat_lt heaviest (w (Node at site form))))
@@ -103,7 +107,8 @@ least_first w at site form es =
 module _ (w : Weighing) where
   mutual
     pub first_least : (e : Tree) → first_in w true e ≡ least_wide (weight_in w) (parts e)
-    first_least (Node at site form) = ap (lesser (wide_at at (form_weight_in w site form))) (below_least form) ∙ sym (least_first (weight_in w) at site form (form_parts form))
+    first_least (Node at site form) = ap (lesser (wide_at at (form_weight_in w site form))) (below_least form)
+        ∙ sym (least_first (weight_in w) at site form (form_parts form))
 
     below_least : (form : Form) → first_below w true form ≡ least_wide (weight_in w) (form_parts form)
     below_least True = refl
@@ -146,7 +151,8 @@ module _ (w : Weighing) where
   side_least (x ∷ []) e = first_least e
   side_least (x ∷ y ∷ xs) e = several_least e
 
-  equations_least : (qs : List EquationTree) → wide_in_equations w qs ≡ least_wide (weight_in w) (flat_map (λ (q : EquationTree). weighed_under q.lefts q.right) qs)
+  equations_least : (qs : List EquationTree) → wide_in_equations w qs ≡ least_wide (weight_in w)
+      (flat_map (λ (q : EquationTree). weighed_under q.lefts q.right) qs)
   equations_least [] = refl
   equations_least (q ∷ qs) =
       (λ i. lesser (side_least q.lefts q.right i) (equations_least qs i))
@@ -155,18 +161,21 @@ module _ (w : Weighing) where
   assertions_least : (qs : List AssertionTree) → wide_in_assertions w qs ≡ least_wide (weight_in w) (flat_map (λ (a : AssertionTree). parts a.body) qs)
   assertions_least [] = refl
   assertions_least (a ∷ rest) =
-      (λ i. lesser (first_least a.body i) (assertions_least rest i)) ∙ sym (least_both (weight_in w) (parts a.body) (flat_map (λ (a : AssertionTree). parts a.body) rest))
+      (λ i. lesser (first_least a.body i) (assertions_least rest i)) ∙ sym
+      (least_both (weight_in w) (parts a.body) (flat_map (λ (a : AssertionTree). parts a.body) rest))
 
   pub node_least : (n : NodeTree) → wide_in_node w n ≡ least_wide (weight_in w) (weighed n)
   node_least n =
       (λ i. lesser (equations_least n.equations i) (assertions_least n.assertions i))
-      ∙ sym (least_both (weight_in w) (flat_map (λ (q : EquationTree). weighed_under q.lefts q.right) n.equations) (flat_map (λ (a : AssertionTree). parts a.body) n.assertions))
+      ∙ sym (least_both (weight_in w) (flat_map (λ (q : EquationTree). weighed_under q.lefts q.right) n.equations)
+      (flat_map (λ (a : AssertionTree). parts a.body) n.assertions))
 
 -- The same in constants.
 module _ (known : Identifier → Value) where
   mutual
     constant_least : (e : Tree) → first_wide known e ≡ least_wide (weight_of known) (parts e)
-    constant_least (Node at site form) = ap (lesser (wide_at at (form_weight known form))) (form_least form) ∙ sym (least_first (weight_of known) at site form (form_parts form))
+    constant_least (Node at site form) = ap (lesser (wide_at at (form_weight known form))) (form_least form)
+        ∙ sym (least_first (weight_of known) at site form (form_parts form))
 
     form_least : (form : Form) → wide_below known form ≡ least_wide (weight_of known) (form_parts form)
     form_least True = refl
@@ -180,14 +189,16 @@ module _ (known : Identifier → Value) where
     form_least (When e c) = constant_least e
     form_least (Binary o a b) = (λ i. lesser (constant_least a i) (constant_least b i)) ∙ sym (least_both (weight_of known) (parts a) (parts b))
     form_least (If c a b) =
-        (λ i. lesser (constant_least c i) (((λ j. lesser (constant_least a j) (constant_least b j)) ∙ sym (least_both (weight_of known) (parts a) (parts b))) i))
+        (λ i. lesser (constant_least c i) (((λ j. lesser (constant_least a j) (constant_least b j)) ∙ sym (least_both (weight_of known) (parts a) (parts b)))
+        i))
         ∙ sym (least_both (weight_of known) (parts c) (parts a ++ parts b))
     form_least (AtMostOne es) = constants_all_least es
     form_least (Call f es) = constants_all_least es
 
     constants_all_least : (es : Trees) → first_wide_of_all known es ≡ least_wide (weight_of known) (parts_of_all es)
     constants_all_least None = refl
-    constants_all_least (More e es) = (λ i. lesser (constant_least e i) (constants_all_least es i)) ∙ sym (least_both (weight_of known) (parts e) (parts_of_all es))
+    constants_all_least (More e es) = (λ i. lesser (constant_least e i) (constants_all_least es i))
+        ∙ sym (least_both (weight_of known) (parts e) (parts_of_all es))
 
 pub constants_least : (p : ProgramTree) (cs : List ConstantTree) → first_wide_constant p cs ≡ least (too_wide_constants p cs)
 constants_least p [] = refl
@@ -212,10 +223,12 @@ told_by_count v = elim (nat_split heaviest v) [
 wide_counted : (w u : Tree → ℕ) (es : List Tree) → ((e : Tree) → Contains es e → counted_weight (w e) ≡ counted_weight (u e)) → too_wide w es ≡ too_wide u es
 wide_counted w u [] same = refl
 wide_counted w u (Node at site form ∷ es) same =
-    let told = told_by_count (w (Node at site form)) ∙ ap (nat_lt heaviest) (same (Node at site form) (0, omega arith, refl)) ∙ sym (told_by_count (u (Node at site form))) in
+    let told = told_by_count (w (Node at site form)) ∙ ap (nat_lt heaviest) (same (Node at site form) (0, omega arith, refl))
+    ∙ sym (told_by_count (u (Node at site form))) in
     (λ i. cond (told i) (at ∷ []) [] ++ wide_counted w u es (λ e v. same e (Contains-append_right (Node at site form ∷ []) es e v)) i)
 
-module _ (p : ProgramTree) (main : Identifier) (instances : List Numbered) (known : IsExpanded p main instances) (sided : AreSided p) (l : Layout) (laid : IsLayout p main instances l) (values : NamedTables) (named : value_by values ≡ constant_value p)
+module _ (p : ProgramTree) (main : Identifier) (instances : List Numbered) (known : IsExpanded p main instances) (sided : AreSided p) (l : Layout)
+    (laid : IsLayout p main instances l) (values : NamedTables) (named : value_by values ≡ constant_value p)
     (weights : List ℕ) (table : AreFlowWeights p main instances weights) (flows : Sites → ℕ) (are : AreWeights p main flows) where
   has_all : (q : Sites) → HasWeight p main instances known l laid values named weights flows q
   has_all q k at =
@@ -224,7 +237,8 @@ module _ (p : ProgramTree) (main : Identifier) (instances : List Numbered) (know
       table.each flows k are (omega (arith, size, within)) ∙ ap (λ r. counted_weight (flows r)) at.1
 
   -- the least offset in an instance
-  instance_least : (m : ℕ) (i : Instance) → IsNumberOf p instances m i → IsInstance p main i → wide_in_node (weighing_at p instances values l weights m) (node_at p instances m) ≡ least (too_wide (weight p flows i) (weighed i.node))
+  instance_least : (m : ℕ) (i : Instance) → IsNumberOf p instances m i → IsInstance p main i
+      → wide_in_node (weighing_at p instances values l weights m) (node_at p instances m) ≡ least (too_wide (weight p flows i) (weighed i.node))
   instance_least m i at is =
       ap (wide_in_node (weighing_at p instances values l weights m)) (node_is p main instances known m i is at.1)
       ∙ node_least (weighing_at p instances values l weights m) i.node
@@ -251,7 +265,8 @@ module _ (p : ProgramTree) (main : Identifier) (instances : List Numbered) (know
   ]
 
   -- what is too wide is no less than the least
-  pub wide_below_least : (k : ℕ) → IsTooWide p main flows k → AtMost (lesser (first_wide_constant p (reverse p.constants)) (wide_in_first p instances values l weights (length instances))) k
+  pub wide_below_least : (k : ℕ) → IsTooWide p main flows k → AtMost (lesser (first_wide_constant p (reverse p.constants))
+      (wide_in_first p instances values l weights (length instances))) k
   wide_below_least k (inl constant) =
       lesser_left (first_wide_constant p (reverse p.constants)) (wide_in_first p instances values l weights (length instances)) k
       (subst (λ o. AtMost o k) (sym (constants_least p (reverse p.constants))) (least_below (too_wide_constants p (reverse p.constants)) k constant))
@@ -262,25 +277,34 @@ module _ (p : ProgramTree) (main : Identifier) (instances : List Numbered) (know
       (subst (λ o. AtMost o k) (sym (instance_least n.0 w.0 (n.1, n.2) w.1)) (least_below (too_wide (weight p flows w.0) (weighed w.0.node)) k w.2)))
 
   -- and the least is too wide
-  pub least_wide_there : (k : ℕ) → lesser (first_wide_constant p (reverse p.constants)) (wide_in_first p instances values l weights (length instances)) ≡ Some k → IsTooWide p main flows k
-  least_wide_there k e = elim (lesser_either (first_wide_constant p (reverse p.constants)) (wide_in_first p instances values l weights (length instances)) k e) [
-    | inl constant ↦ inl (least_there (too_wide_constants p (reverse p.constants)) k (sym (constants_least p (reverse p.constants)) ∙ constant))
-    | inr instance ↦
-        let w = first_there (length instances) k instance in
-        let v = instance_at p main instances known w.0 w.1 in
-        inr (v.0, v.1, least_there (too_wide (weight p flows v.0) (weighed v.0.node)) k (sym (instance_least w.0 v.0 (w.1, v.2) v.1) ∙ w.2))
-  ]
+  pub least_wide_there : (k : ℕ) → lesser (first_wide_constant p (reverse p.constants)) (wide_in_first p instances values l weights (length instances)) ≡ Some k
+      → IsTooWide p main flows k
+  least_wide_there k e = elim (lesser_either (first_wide_constant p (reverse p.constants))
+      (wide_in_first p instances values l weights (length instances)) k e) [
+        | inl constant ↦ inl (least_there (too_wide_constants p (reverse p.constants)) k (sym (constants_least p (reverse p.constants)) ∙ constant))
+        | inr instance ↦
+            let w = first_there (length instances) k instance in
+            let v = instance_at p main instances known w.0 w.1 in
+            inr (v.0, v.1, least_there (too_wide (weight p flows v.0) (weighed v.0.node)) k (sym (instance_least w.0 v.0 (w.1, v.2) v.1) ∙ w.2))
+      ]
 
-module _ (p : ProgramTree) (main : Identifier) (instances : List Numbered) (known : IsExpanded p main instances) (sided : AreSided p) (l : Layout) (laid : IsLayout p main instances l) (values : NamedTables) (named : value_by values ≡ constant_value p)
+module _ (p : ProgramTree) (main : Identifier) (instances : List Numbered) (known : IsExpanded p main instances) (sided : AreSided p) (l : Layout)
+    (laid : IsLayout p main instances l) (values : NamedTables) (named : value_by values ≡ constant_value p)
     (weights : List ℕ) (table : AreFlowWeights p main instances weights) (sequence : List Sites) (ordered : IsSequence p main sequence) where
   -- where there is no least offset, no expression is too wide
-  pub none_wide : lesser (first_wide_constant p (reverse p.constants)) (wide_in_first p instances values l weights (length instances)) ≡ Nothing → AreLight p main
+  pub none_wide : lesser (first_wide_constant p (reverse p.constants)) (wide_in_first p instances values l weights (length instances)) ≡ Nothing
+      → AreLight p main
   none_wide e =
-      let flows = are_weights p main instances known sequence ordered in
-      (flows.0, flows.1, λ at is. subst (λ o. AtMost o at) e (wide_below_least p main instances known sided l laid values named weights table flows.0 flows.1 at is))
+      let flows = are_weights p main instances known sequence ordered in (
+        flows.0,
+        flows.1,
+        λ at is. subst (λ o. AtMost o at) e (wide_below_least p main instances known sided l laid values named weights table flows.0 flows.1 at
+            is),
+      )
 
   -- otherwise it is that of the first
-  pub first_wide_is : (at : ℕ) → lesser (first_wide_constant p (reverse p.constants)) (wide_in_first p instances values l weights (length instances)) ≡ Some at → IsFirstTooWide p main at
+  pub first_wide_is : (at : ℕ) → lesser (first_wide_constant p (reverse p.constants)) (wide_in_first p instances values l weights (length instances)) ≡ Some at
+      → IsFirstTooWide p main at
   first_wide_is at e =
       let flows = are_weights p main instances known sequence ordered in (
         flows.0,

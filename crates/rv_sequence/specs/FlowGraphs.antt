@@ -15,7 +15,8 @@ use Rattle.rv_instances.specs.Flowing.{place_at, AreFlowPlaces}
 pub record IsFlowGraph (p : ProgramTree) (main : Identifier) (places : List Sites) (g : Graph) : Type 0 where
   pub size : length g ≡ length places
   pub placed : AreFlowPlaces p main places
-  pub whole : (k : ℕ) (f : Giver) → k < length places → Gives p main (place_at places k) f → All (λ q. (j : ℕ) × Contains (edges g k) j × (place_at places j ≡ q)) (needs_of p f)
+  pub whole : (k : ℕ) (f : Giver) → k < length places → Gives p main (place_at places k) f
+      → All (λ q. (j : ℕ) × Contains (edges g k) j × (place_at places j ≡ q)) (needs_of p f)
   pub sound : (k j : ℕ) → k < length places → Contains (edges g k) j → NeedsFlow p main (place_at places k) (place_at places j)
 
 -- Numbers turned so that they begin with the least.

@@ -1,7 +1,8 @@
 -- What a flow needs at the same instant, by the numbers of flows, as it is found: the flow of the clock of an operand of
 -- `current` or `when` stands once, after what the operand needs.
 use Rattle.std.specs.Prelude.{ℕ, ◌+◌, List, [], ◌∷◌, ◌++◌, unwrap_or, Option}
-use Rattle.rv_tree.specs.Tree.{Tree, Node, Form, True, False, Number, Named, Not, Minus, Pre, Current, When, Binary, If, AtMostOne, Call, Trees, None, More, NodeTree, ProgramTree, tree_of}
+use Rattle.rv_tree.specs.Tree.{Tree, Node, Form, True, False, Number, Named, Not, Minus, Pre, Current, When, Binary, If, AtMostOne, Call, Trees, None, More}
+use Rattle.rv_tree.specs.Tree.{NodeTree, ProgramTree, tree_of}
 use Rattle.rv_types.specs.declared.typed.Clock.{Clock}
 use Rattle.rv_types.specs.Instances.{clock_of}
 use Rattle.rv_types.specs.ToldPaces.{told_clock}

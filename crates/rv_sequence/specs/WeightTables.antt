@@ -52,10 +52,12 @@ counted_weight weight = min weight too_heavy
 -- Each flow has its weight.
 pub record AreFlowWeights (p : ProgramTree) (main : Identifier) (instances : List Numbered) (weights : List ℕ) : Type 0 where
   pub size : length weights ≡ length (all_places p instances)
-  pub each : (flows : Sites → ℕ) (k : ℕ) → AreWeights p main flows → k < length weights → counted_weight (slice_index_or weights k 0) ≡ counted_weight (flows (place_at (all_places p instances) k))
+  pub each : (flows : Sites → ℕ) (k : ℕ) → AreWeights p main flows → k < length weights
+      → counted_weight (slice_index_or weights k 0) ≡ counted_weight (flows (place_at (all_places p instances) k))
 
 -- The first flows of a sequence have their weights.
 pub record AreFirstWeights (p : ProgramTree) (main : Identifier) (instances : List Numbered) (sequence : List ℕ) (done : ℕ) (weights : List ℕ) : Type 0 where
   pub size : length weights ≡ length (all_places p instances)
   pub each : (flows : Sites → ℕ) (j : ℕ) → AreWeights p main flows → j < done
-      → counted_weight (slice_index_or weights (slice_index_or sequence j 0) 0) ≡ counted_weight (flows (place_at (all_places p instances) (slice_index_or sequence j 0)))
+      → counted_weight (slice_index_or weights (slice_index_or sequence j 0) 0) ≡ counted_weight
+      (flows (place_at (all_places p instances) (slice_index_or sequence j 0)))

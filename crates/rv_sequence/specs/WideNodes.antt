@@ -40,7 +40,8 @@ module _ (w : Weighing) where
 -- in the first instances
 abbrev pub wide_in_first : ProgramTree → List Numbered → NamedTables → Layout → List ℕ → ℕ → Option ℕ
 wide_in_first p instances values l weights zero = Nothing
-wide_in_first p instances values l weights (suc m) = lesser (wide_in_first p instances values l weights m) (wide_in_node (weighing_at p instances values l weights m) (node_at p instances m))
+wide_in_first p instances values l weights (suc m) = lesser (wide_in_first p instances values l weights m)
+    (wide_in_node (weighing_at p instances values l weights m) (node_at p instances m))
 
 -- an offset is the least that is too wide; want of memory needs no cause
 abbrev pub IsWideFault : ProgramTree → Identifier → CauseFault → Type 0

@@ -30,7 +30,8 @@ pub fn flow_graph(
     requires layout { IsLayout (program_of expanded.now) (main_of expanded.now) expanded.now.instances.now layout.now }
     requires givers { AreGivers (program_of expanded.now) (main_of expanded.now) expanded.now.instances.now givers.now }
     ensures vertices { IfOk result IsGraph }
-    ensures graph { IfOk result (IsFlowGraph (program_of expanded.now) (main_of expanded.now) (all_places (program_of expanded.now) expanded.now.instances.now)) }
+    ensures graph { IfOk result (IsFlowGraph (program_of expanded.now) (main_of expanded.now)
+        (all_places (program_of expanded.now) expanded.now.instances.now)) }
 {
     let mut graph = Many::new(alloc);
     for giver in givers.as_slice() {

@@ -26,8 +26,10 @@ pub fn evaluation(
     requires size { length graph.now ≡ length flows.now }
     requires instances { AreOf instances.now flows.now }
     ensures within { IfOk result (λ numbers. (j : ℕ) → j < length numbers → slice_index_or numbers j 0 < length flows.now) }
-    ensures sequence { (p : ProgramTree) (main : Identifier) → IsFlowGraph p main (flow_places instances.now flows.now) graph.now → IfOk result (λ numbers. IsSequence p main (map (place_at (flow_places instances.now flows.now)) numbers)) }
-    ensures cycle { (p : ProgramTree) (main : Identifier) → IsFlowGraph p main (flow_places instances.now flows.now) graph.now → IfErr result (IsCycleFault p main) }
+    ensures sequence { (p : ProgramTree) (main : Identifier) → IsFlowGraph p main (flow_places instances.now flows.now) graph.now
+        → IfOk result (λ numbers. IsSequence p main (map (place_at (flow_places instances.now flows.now)) numbers)) }
+    ensures cycle { (p : ProgramTree) (main : Identifier) → IsFlowGraph p main (flow_places instances.now flows.now) graph.now
+        → IfErr result (IsCycleFault p main) }
 {
     match sort(alloc, graph)? {
         Sorted::Ordered(order) => Ok(order),

@@ -99,7 +99,8 @@ fn add_name(reader: &Reader, name: &Text, found: &mut Many<u32>) -> Result<Pace,
 pub fn add_current(reader: &Reader, operand: &Expr, found: &mut Many<u32>) -> Result<Pace, Memory>
     requires { IsReader reader.now }
     ensures pace { IfOk result (λ p. p ≡ current_pace (node_read reader.now) (seen (told.told_pace (node_read reader.now) (tree_of operand.now)))) }
-    ensures found { OnOk result (found.new ≡ found.old ++ (told_needed (node_read reader.now) (numbers_of reader.now) (tree_of operand.now) ++ listed (clock_number (numbers_of reader.now) (told.told_clock (node_read reader.now) (tree_of operand.now))))) }
+    ensures found { OnOk result (found.new ≡ found.old ++ (told_needed (node_read reader.now) (numbers_of reader.now) (tree_of operand.now)
+        ++ listed (clock_number (numbers_of reader.now) (told.told_clock (node_read reader.now) (tree_of operand.now))))) }
 {
     let operand = add_shown(reader, operand, found)?;
     add_clock(reader, operand, found)?;
@@ -140,7 +141,8 @@ fn add_else(
 fn add_all(reader: &Reader, expressions: &[Expr], found: &mut Many<u32>) -> Result<Pace, Memory>
     requires { IsReader reader.now }
     ensures pace { IfOk result (λ p. p ≡ told.told_pace_of_all (node_read reader.now) (trees (map tree_of expressions.now))) }
-    ensures found { OnOk result (found.new ≡ found.old ++ told_needed_by_all (node_read reader.now) (numbers_of reader.now) (trees (map tree_of expressions.now))) }
+    ensures found { OnOk result (found.new ≡ found.old ++ told_needed_by_all (node_read reader.now) (numbers_of reader.now)
+        (trees (map tree_of expressions.now))) }
 {
     let mut together = Pace::Free;
     for e in expressions {

@@ -66,7 +66,8 @@ fn wide_in_instances<'a>(
     weights: &'a [u64],
 ) -> Option<u32>
     requires { IsKnown expanded.now }
-    ensures { result ≡ wide_in_first (program_of expanded.now) expanded.now.instances.now values.now layout.now weights.now (length expanded.now.instances.now) }
+    ensures { result ≡ wide_in_first (program_of expanded.now) expanded.now.instances.now values.now layout.now weights.now
+        (length expanded.now.instances.now) }
 {
     let mut first = None;
     for instance in 0..expanded.instances.len() {

@@ -191,7 +191,8 @@ fn of_name(w: &Weigher, at: u32, name: &Text) -> Part
 /// no weight.
 fn product_weight(a: &Part, b: &Part) -> u64
     ensures small { result ≤ too_heavy }
-    ensures weight { (v w : ℕ) → a.now.weight ≡ min v too_heavy → b.now.weight ≡ min w too_heavy → result ≡ min (product_of a.now.constant b.now.constant v w) too_heavy }
+    ensures weight { (v w : ℕ) → a.now.weight ≡ min v too_heavy → b.now.weight ≡ min w too_heavy
+        → result ≡ min (product_of a.now.constant b.now.constant v w) too_heavy }
 {
     match &a.constant {
         Some(constant) => saturated(constant_size(constant) as u128 * b.weight as u128),
@@ -205,7 +206,8 @@ fn product_weight(a: &Part, b: &Part) -> u64
 /// The weight of an operator between two operands. What gives a Boolean has none.
 fn operator_weight(op: Op, a: &Part, b: &Part) -> u64
     ensures small { result ≤ too_heavy }
-    ensures weight { (v w : ℕ) → a.now.weight ≡ min v too_heavy → b.now.weight ≡ min w too_heavy → result ≡ min (weight_of_operator op a.now.constant b.now.constant v w) too_heavy }
+    ensures weight { (v w : ℕ) → a.now.weight ≡ min v too_heavy → b.now.weight ≡ min w too_heavy
+        → result ≡ min (weight_of_operator op a.now.constant b.now.constant v w) too_heavy }
 {
     match op {
         Op::Plus | Op::Minus => saturated(a.weight as u128 + b.weight as u128),
@@ -218,9 +220,12 @@ fn operator_weight(op: Op, a: &Part, b: &Part) -> u64
 /// An operator between two operands.
 #[inline(never)]
 fn of_operator(at: u32, op: Op, a: &Part, b: &Part) -> Part
-    ensures weight { (v w : ℕ) → a.now.weight ≡ min v too_heavy → b.now.weight ≡ min w too_heavy → result.weight ≡ min (weight_of_operator op a.now.constant b.now.constant v w) too_heavy }
-    ensures constant { (s : Scope) (known : Identifier → AnyValue) (x y : Tree) → a.now.constant ≡ constant_part s known x → b.now.constant ≡ constant_part s known y → result.constant ≡ constant_form s known (Binary op x y) }
-    ensures first { (v w : ℕ) → a.now.weight ≡ min v too_heavy → b.now.weight ≡ min w too_heavy → result.first ≡ lesser (wide_at at (weight_of_operator op a.now.constant b.now.constant v w)) (lesser a.now.first b.now.first) }
+    ensures weight { (v w : ℕ) → a.now.weight ≡ min v too_heavy → b.now.weight ≡ min w too_heavy
+        → result.weight ≡ min (weight_of_operator op a.now.constant b.now.constant v w) too_heavy }
+    ensures constant { (s : Scope) (known : Identifier → AnyValue) (x y : Tree) → a.now.constant ≡ constant_part s known x
+        → b.now.constant ≡ constant_part s known y → result.constant ≡ constant_form s known (Binary op x y) }
+    ensures first { (v w : ℕ) → a.now.weight ≡ min v too_heavy → b.now.weight ≡ min w too_heavy
+        → result.first ≡ lesser (wide_at at (weight_of_operator op a.now.constant b.now.constant v w)) (lesser a.now.first b.now.first) }
 {
     made(
         at,
@@ -234,8 +239,10 @@ fn of_operator(at: u32, op: Op, a: &Part, b: &Part) -> Part
 #[inline(never)]
 fn of_if(at: u32, condition: &Part, a: &Part, b: &Part) -> Part
     ensures weight { (v w : ℕ) → a.now.weight ≡ min v too_heavy → b.now.weight ≡ min w too_heavy → result.weight ≡ min (max v w) too_heavy }
-    ensures constant { (s : Scope) (known : Identifier → AnyValue) (i x y : Tree) → condition.now.constant ≡ constant_part s known i → a.now.constant ≡ constant_part s known x → b.now.constant ≡ constant_part s known y → result.constant ≡ constant_form s known (If i x y) }
-    ensures first { (v w : ℕ) → a.now.weight ≡ min v too_heavy → b.now.weight ≡ min w too_heavy → result.first ≡ lesser (wide_at at (max v w)) (lesser condition.now.first (lesser a.now.first b.now.first)) }
+    ensures constant { (s : Scope) (known : Identifier → AnyValue) (i x y : Tree) → condition.now.constant ≡ constant_part s known i
+        → a.now.constant ≡ constant_part s known x → b.now.constant ≡ constant_part s known y → result.constant ≡ constant_form s known (If i x y) }
+    ensures first { (v w : ℕ) → a.now.weight ≡ min v too_heavy → b.now.weight ≡ min w too_heavy
+        → result.first ≡ lesser (wide_at at (max v w)) (lesser condition.now.first (lesser a.now.first b.now.first)) }
 {
     made(
         at,
@@ -249,9 +256,15 @@ fn of_if(at: u32, condition: &Part, a: &Part, b: &Part) -> Part
 #[cycle(weigh)]
 #[inline(never)]
 fn with_right(w: &Weigher, whole: bool, at: u32, op: Op, left: &Part, right: &Expr) -> Part
-    ensures weight { (x : Tree) → left.now.weight ≡ min (weight_in (weighing w.now) x) too_heavy → left.now.constant ≡ constant_part (weighing w.now).scope (weighing w.now).known x → result.weight ≡ min (form_weight_in (weighing w.now) None (Binary op x (tree_of right.now))) too_heavy }
-    ensures constant { (x : Tree) → left.now.constant ≡ constant_part (weighing w.now).scope (weighing w.now).known x → result.constant ≡ constant_form (weighing w.now).scope (weighing w.now).known (Binary op x (tree_of right.now)) }
-    ensures first { (x : Tree) → left.now.weight ≡ min (weight_in (weighing w.now) x) too_heavy → left.now.constant ≡ constant_part (weighing w.now).scope (weighing w.now).known x → left.now.first ≡ first_in (weighing w.now) whole x → result.first ≡ lesser (wide_at at (form_weight_in (weighing w.now) None (Binary op x (tree_of right.now)))) (first_below (weighing w.now) whole (Binary op x (tree_of right.now))) }
+    ensures weight { (x : Tree) → left.now.weight ≡ min (weight_in (weighing w.now) x) too_heavy
+        → left.now.constant ≡ constant_part (weighing w.now).scope (weighing w.now).known x
+        → result.weight ≡ min (form_weight_in (weighing w.now) None (Binary op x (tree_of right.now))) too_heavy }
+    ensures constant { (x : Tree) → left.now.constant ≡ constant_part (weighing w.now).scope (weighing w.now).known x
+        → result.constant ≡ constant_form (weighing w.now).scope (weighing w.now).known (Binary op x (tree_of right.now)) }
+    ensures first { (x : Tree) → left.now.weight ≡ min (weight_in (weighing w.now) x) too_heavy
+        → left.now.constant ≡ constant_part (weighing w.now).scope (weighing w.now).known x → left.now.first ≡ first_in (weighing w.now) whole x
+        → result.first ≡ lesser (wide_at at (form_weight_in (weighing w.now) None (Binary op x (tree_of right.now))))
+        (first_below (weighing w.now) whole (Binary op x (tree_of right.now))) }
 {
     let right = weigh(w, whole, right);
     of_operator(at, op, left, &right)
@@ -275,7 +288,8 @@ fn weigh_not(w: &Weigher, whole: bool, operand: &Expr) -> Part
 fn weigh_minus(w: &Weigher, whole: bool, at: u32, operand: &Expr) -> Part
     ensures weight { result.weight ≡ min (form_weight_in (weighing w.now) None (Minus (tree_of operand.now))) too_heavy }
     ensures constant { result.constant ≡ constant_form (weighing w.now).scope (weighing w.now).known (Minus (tree_of operand.now)) }
-    ensures first { result.first ≡ lesser (wide_at at (form_weight_in (weighing w.now) None (Minus (tree_of operand.now)))) (first_below (weighing w.now) whole (Minus (tree_of operand.now))) }
+    ensures first { result.first ≡ lesser (wide_at at (form_weight_in (weighing w.now) None (Minus (tree_of operand.now))))
+        (first_below (weighing w.now) whole (Minus (tree_of operand.now))) }
 {
     let a = weigh(w, whole, operand);
     made(at, a.weight, constant_minus(&a.constant), a.first)
@@ -303,7 +317,8 @@ fn weigh_pre(w: &Weigher, whole: bool, operand: &Expr) -> Part
 fn weigh_current(w: &Weigher, whole: bool, at: u32, operand: &Expr) -> Part
     ensures weight { result.weight ≡ min (form_weight_in (weighing w.now) None (Current (tree_of operand.now))) too_heavy }
     ensures constant { result.constant ≡ constant_form (weighing w.now).scope (weighing w.now).known (Current (tree_of operand.now)) }
-    ensures first { result.first ≡ lesser (wide_at at (form_weight_in (weighing w.now) None (Current (tree_of operand.now)))) (first_below (weighing w.now) whole (Current (tree_of operand.now))) }
+    ensures first { result.first ≡ lesser (wide_at at (form_weight_in (weighing w.now) None (Current (tree_of operand.now))))
+        (first_below (weighing w.now) whole (Current (tree_of operand.now))) }
 {
     let a = weigh(w, whole, operand);
     made(at, a.weight.max(1), None, a.first)
@@ -315,7 +330,8 @@ fn weigh_current(w: &Weigher, whole: bool, at: u32, operand: &Expr) -> Part
 fn weigh_when(w: &Weigher, whole: bool, at: u32, operand: &Expr) -> Part
     ensures weight { result.weight ≡ min (weight_in (weighing w.now) (tree_of operand.now)) too_heavy }
     ensures constant { result.constant ≡ None }
-    ensures first { result.first ≡ lesser (wide_at at (weight_in (weighing w.now) (tree_of operand.now))) (first_in (weighing w.now) whole (tree_of operand.now)) }
+    ensures first { result.first ≡ lesser (wide_at at (weight_in (weighing w.now) (tree_of operand.now)))
+        (first_in (weighing w.now) whole (tree_of operand.now)) }
 {
     let a = weigh(w, whole, operand);
     made(at, a.weight, None, a.first)
@@ -326,8 +342,10 @@ fn weigh_when(w: &Weigher, whole: bool, at: u32, operand: &Expr) -> Part
 #[inline(never)]
 fn weigh_if(w: &Weigher, whole: bool, at: u32, condition: &Expr, yes: &Expr, no: &Expr) -> Part
     ensures weight { result.weight ≡ min (form_weight_in (weighing w.now) None (If (tree_of condition.now) (tree_of yes.now) (tree_of no.now))) too_heavy }
-    ensures constant { result.constant ≡ constant_form (weighing w.now).scope (weighing w.now).known (If (tree_of condition.now) (tree_of yes.now) (tree_of no.now)) }
-    ensures first { result.first ≡ lesser (wide_at at (form_weight_in (weighing w.now) None (If (tree_of condition.now) (tree_of yes.now) (tree_of no.now)))) (first_below (weighing w.now) whole (If (tree_of condition.now) (tree_of yes.now) (tree_of no.now))) }
+    ensures constant { result.constant ≡ constant_form (weighing w.now).scope (weighing w.now).known
+        (If (tree_of condition.now) (tree_of yes.now) (tree_of no.now)) }
+    ensures first { result.first ≡ lesser (wide_at at (form_weight_in (weighing w.now) None (If (tree_of condition.now) (tree_of yes.now) (tree_of no.now))))
+        (first_below (weighing w.now) whole (If (tree_of condition.now) (tree_of yes.now) (tree_of no.now))) }
 {
     let condition = weigh(w, whole, condition);
     let yes = weigh(w, whole, yes);
@@ -369,7 +387,8 @@ fn weigh_at_most_one(w: &Weigher, whole: bool, es: &[Expr]) -> Part
 fn weigh_call(w: &Weigher, whole: bool, at: u32, site: Option<u32>, es: &[Expr]) -> Part
     ensures weight { result.weight ≡ min ((weighing w.now).output (unwrap_or site 0)) too_heavy }
     ensures constant { result.constant ≡ None }
-    ensures first { result.first ≡ lesser (wide_at at ((weighing w.now).output (unwrap_or site 0))) (cond whole (first_in_all (weighing w.now) whole (trees (map tree_of es.now))) None) }
+    ensures first { result.first ≡ lesser (wide_at at ((weighing w.now).output (unwrap_or site 0)))
+        (cond whole (first_in_all (weighing w.now) whole (trees (map tree_of es.now))) None) }
 {
     let weight = output_weight(w, site.unwrap_or(0));
     let first = if whole {

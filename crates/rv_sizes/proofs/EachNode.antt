@@ -16,7 +16,8 @@ module _ (xs : List declared.Node) (k : ℕ) (x : declared.Node) (within : k < l
   among_nodes = in_map node_tree xs x (k, within, sym is)
 
   -- and its part comes next
-  pub one_more : {B : Type 0} (f : NodeTree → B) (ys : List B) (y : B) (all : List B) → ys ++ map f (map node_tree (drop k xs)) ≡ all → y ≡ f (node_tree x) → (ys ++ y ∷ []) ++ map f (map node_tree (drop (k + 1) xs)) ≡ all
+  pub one_more : {B : Type 0} (f : NodeTree → B) (ys : List B) (y : B) (all : List B) → ys ++ map f (map node_tree (drop k xs)) ≡ all → y ≡ f (node_tree x)
+      → (ys ++ y ∷ []) ++ map f (map node_tree (drop (k + 1) xs)) ≡ all
   one_more f ys y all so_far found =
       append_assoc ys (y ∷ []) (map f (map node_tree (drop (k + 1) xs)))
       ∙ ap (λ z. ys ++ z ∷ map f (map node_tree (drop (k + 1) xs))) found

@@ -10,7 +10,8 @@ use Rattle.rv_types.specs.Instances.{no_node, node_of, name_at}
 use Rattle.rv_instances.proofs.Known.{map_at, node_of_number}
 use Rattle.rv_instances.proofs.Lists.{length_map, got}
 
-module _ (p : ProgramTree) (ns : List declared.Node) (k : ℕ) (n : declared.Node) (are : p.nodes ≡ map node_tree ns) (within : k < length p.nodes) (read : slice_get ns k ≡ Some n) where
+module _ (p : ProgramTree) (ns : List declared.Node) (k : ℕ) (n : declared.Node) (are : p.nodes ≡ map node_tree ns) (within : k < length p.nodes)
+    (read : slice_get ns k ≡ Some n) where
   -- the node with a number
   node_here : get_or p.nodes k no_node ≡ node_tree n
   node_here =

@@ -33,29 +33,34 @@ sizes_capped (n ∷ ns) (suc k) lt = sizes_capped ns k (omega (arith, lt))
 
 module _ (p : ProgramTree) (named : name_faults p ≡ []) (k : ℕ) (within : k < length p.nodes) where
   -- the sum over all instances of a program is that of its main node
-  over_all : (f : NodeTree → ℕ) → total (λ (j : Instance). f j.node) (all_instances p (name_at p k)) ≡ total_at (map f p.nodes) (callings_of p) (length p.nodes) k
+  over_all : (f : NodeTree → ℕ) → total (λ (j : Instance). f j.node) (all_instances p (name_at p k)) ≡ total_at (map f p.nodes) (callings_of p)
+      (length p.nodes) k
   over_all f = unrolled_total p named f (length p.nodes) (main_instance p (name_at p k)) k within (node_of_number p named k within)
 
-  pub instances_measured : (own : List ℕ) (count : ℕ) → own ≡ replicate (length p.nodes) 1 → count ≡ capped (total_at own (callings_of p) (length p.nodes) k) → count ≡ capped (instance_count p (name_at p k))
+  pub instances_measured : (own : List ℕ) (count : ℕ) → own ≡ replicate (length p.nodes) 1 → count ≡ capped (total_at own (callings_of p) (length p.nodes) k)
+      → count ≡ capped (instance_count p (name_at p k))
   instances_measured own count ones is =
       is ∙ ap (λ l. capped (total_at l (callings_of p) (length p.nodes) k)) (ones ∙ replicated p.nodes 1)
       ∙ ap capped (sym (over_all (λ n. 1)) ∙ total_ones (all_instances p (name_at p k)))
 
-  pub expanded_measured : (own : List ℕ) (count : ℕ) → own ≡ capped_sizes p.nodes → count ≡ capped (total_at own (callings_of p) (length p.nodes) k) → count ≡ capped (expanded p (name_at p k))
+  pub expanded_measured : (own : List ℕ) (count : ℕ) → own ≡ capped_sizes p.nodes → count ≡ capped (total_at own (callings_of p) (length p.nodes) k)
+      → count ≡ capped (expanded p (name_at p k))
   expanded_measured own count sizes is =
       is ∙ ap (λ l. capped (total_at l (callings_of p) (length p.nodes) k)) sizes
       ∙ capped_total node_size p.nodes (callings_of p) (length p.nodes) k
       ∙ ap capped (sym (over_all node_size))
 
   -- the sum over all instances of what each node has
-  pub sum_measured : (f : NodeTree → ℕ) (own : List ℕ) (count : ℕ) → own ≡ map (λ (n : NodeTree). capped (f n)) p.nodes → count ≡ capped (total_at own (callings_of p) (length p.nodes) k) → count ≡ capped (over_instances p (name_at p k) f)
+  pub sum_measured : (f : NodeTree → ℕ) (own : List ℕ) (count : ℕ) → own ≡ map (λ (n : NodeTree). capped (f n)) p.nodes
+      → count ≡ capped (total_at own (callings_of p) (length p.nodes) k) → count ≡ capped (over_instances p (name_at p k) f)
   sum_measured f own count each is =
       is ∙ ap (λ l. capped (total_at l (callings_of p) (length p.nodes) k)) each
       ∙ capped_total f p.nodes (callings_of p) (length p.nodes) k
       ∙ ap capped (sym (over_all f))
 
 -- the sum of a node, read from the sums of all
-pub total_read : (p : ProgramTree) (named : name_faults p ≡ []) (own totals : List ℕ) (t : List (List Calling)) (k sum : ℕ) → k < length p.nodes → t ≡ callings_of p
+pub total_read : (p : ProgramTree) (named : name_faults p ≡ []) (own totals : List ℕ) (t : List (List Calling)) (k sum : ℕ) → k < length p.nodes
+    → t ≡ callings_of p
     → AreTotals own t totals → get_or totals k 0 ≡ sum → sum ≡ capped (total_at own (callings_of p) (length p.nodes) k)
 total_read p named own totals t k sum within table sums read =
     let size : length t ≡ length p.nodes = ap length table ∙ table_size p named in
@@ -71,9 +76,11 @@ numbers_capped f (n ∷ ns) (suc k) lt = numbers_capped f ns k (omega (arith, lt
 integers_here : (p : ProgramTree) (n : NodeTree) → integers (memory_kinds p n) ≡ integer_memories p n
 integers_here p n = total_map (λ (k : Kind). cond (is_integer k) 1 0) (λ (d : Delay). operand_kind p n d.operand) (memories n)
 
-integers_all : (p : ProgramTree) (ns : List NodeTree) → map (λ (ks : List Kind). capped (integers ks)) (map (memory_kinds p) ns) ≡ map (λ (n : NodeTree). capped (integer_memories p n)) ns
+integers_all : (p : ProgramTree) (ns : List NodeTree) → map (λ (ks : List Kind). capped (integers ks)) (map (memory_kinds p) ns) ≡ map
+    (λ (n : NodeTree). capped (integer_memories p n)) ns
 integers_all p [] = refl
 integers_all p (n ∷ ns) = λ i. capped (integers_here p n i) ∷ integers_all p ns i
 
-pub integers_measured : (p : ProgramTree) (kinds : List (List Kind)) (own : List ℕ) → kinds ≡ map (memory_kinds p) p.nodes → own ≡ map (λ (ks : List Kind). capped (integers ks)) kinds → own ≡ map (λ (n : NodeTree). capped (integer_memories p n)) p.nodes
+pub integers_measured : (p : ProgramTree) (kinds : List (List Kind)) (own : List ℕ) → kinds ≡ map (memory_kinds p) p.nodes
+    → own ≡ map (λ (ks : List Kind). capped (integers ks)) kinds → own ≡ map (λ (n : NodeTree). capped (integer_memories p n)) p.nodes
 integers_measured p kinds own each is = is ∙ ap (map (λ (ks : List Kind). capped (integers ks))) each ∙ integers_all p p.nodes

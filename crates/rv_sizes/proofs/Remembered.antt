@@ -1,5 +1,6 @@
 -- The memories of a node, found by the tables of its expressions.
-use Rattle.std.proofs.Common.{◌≡◌, ℕ, Bool, true, false, cond, ◌||◌, nat_eq, List, [], ◌∷◌, ◌++◌, map, flat_map, unwrap_or, Option, refl, sym, ◌∙◌, ap, ◌+◌, length, length-append}
+use Rattle.std.proofs.Common.{◌≡◌, ℕ, Bool, true, false, cond, ◌||◌, nat_eq, List, [], ◌∷◌, ◌++◌, map, flat_map, unwrap_or, Option, refl, sym, ◌∙◌, ap, ◌+◌}
+use Rattle.std.proofs.Common.{length, length-append}
 use Rattle.std.specs.Prelude.{slice_index_or}
 use Rattle.std.proofs.lemmas.List.{append_assoc}
 use Rattle.std.specs.List.{Contains, list_any}
@@ -13,7 +14,8 @@ use Rattle.rv_types.specs.declared.typed.Kind.TheVariants as kind
 use Rattle.rv_types.specs.declared.reading.ProgramTables.{ProgramTables}
 use Rattle.rv_types.specs.declared.reading.NodeTables.{NodeTables}
 use Rattle.rv_types.specs.Delayed.{delayed_kinds}
-use Rattle.rv_types.specs.Names.{texts, decls, decl_names, lefts, repeated, repeated_values, node_names, type_names, alias_use, constant_uses, names_in_node, name_faults, undefined_unless, flow_use, clock_use, equation_uses, assertion_uses}
+use Rattle.rv_types.specs.Names.{texts, decls, decl_names, lefts, repeated, repeated_values, node_names, type_names, alias_use, constant_uses, names_in_node}
+use Rattle.rv_types.specs.Names.{name_faults, undefined_unless, flow_use, clock_use, equation_uses, assertion_uses}
 use Rattle.rv_types.specs.Readings.{view_of}
 use Rattle.rv_types.specs.Scopes.{node_scope}
 use Rattle.rv_types.specs.Tables.{scope_of}
@@ -60,7 +62,8 @@ module _ (p : ProgramTree) (n : NodeTree) (s : Scope) (names : List Identifier) 
   read_kind d = ap (λ (c : Scope). unwrap_or (kind_of c d.operand) kind.Bool) scope
 
   -- what is kept of the reads are the types of the memories
-  beside_same : (ds : List Delay) (seen other : List ℕ) → ((k : ℕ) → is_in seen k ≡ is_in other k) → kinds_beside seen (map (read_of s names) ds) ≡ map (λ (d : Delay). operand_kind p n d.operand) (memories_beside n other ds)
+  beside_same : (ds : List Delay) (seen other : List ℕ) → ((k : ℕ) → is_in seen k ≡ is_in other k)
+      → kinds_beside seen (map (read_of s names) ds) ≡ map (λ (d : Delay). operand_kind p n d.operand) (memories_beside n other ds)
   beside_same [] seen other same = refl
   beside_same (d ∷ ds) seen other same =
       let r = read_of s names d in
@@ -68,7 +71,8 @@ module _ (p : ProgramTree) (n : NodeTree) (s : Scope) (names : List Identifier) 
       tested (is_in seen r.site) (is_in other m) (same r.site ∙ ap (is_in other) (read_site d)) r.site m (read_site d) r.kind (read_kind d) (beside_same ds)
     where
       tested : (a b : Bool) → a ≡ b → (k m : ℕ) → k ≡ m → (j : Kind) → j ≡ operand_kind p n d.operand
-          → ((seen other : List ℕ) → ((k : ℕ) → is_in seen k ≡ is_in other k) → kinds_beside seen (map (read_of s names) ds) ≡ map (λ (d : Delay). operand_kind p n d.operand) (memories_beside n other ds))
+          → ((seen other : List ℕ) → ((k : ℕ) → is_in seen k ≡ is_in other k)
+          → kinds_beside seen (map (read_of s names) ds) ≡ map (λ (d : Delay). operand_kind p n d.operand) (memories_beside n other ds))
           → (cond a [] (j ∷ []) ++ kinds_beside (cond a seen (seen ++ k ∷ [])) (map (read_of s names) ds))
           ≡ map (λ (d : Delay). operand_kind p n d.operand) (cond b (memories_beside n other ds) (d ∷ memories_beside n (m ∷ other) ds))
       tested true true e k m at j is more = more seen other same
@@ -87,7 +91,8 @@ paired_from s names ks (d ∷ ds) =
     let k = unwrap_or (kind_of s d.operand) kind.Bool in
     let here : slice_index_or (ks ++ k ∷ delayed_kinds s ds) (length ks) kind.Bool ≡ k = index_here ks k (delayed_kinds s ds) in
     let on : paired (ks ++ k ∷ delayed_kinds s ds) (length ks + 1) (sites_read names ds) ≡ map (read_of s names) ds =
-    (λ i. paired (sym (append_assoc ks (k ∷ []) (delayed_kinds s ds)) i) (sym (length-append ks (k ∷ [])) i) (sites_read names ds)) ∙ paired_from s names (ks ++ k ∷ []) ds in
+    (λ i. paired (sym (append_assoc ks (k ∷ []) (delayed_kinds s ds)) i) (sym (length-append ks (k ∷ [])) i) (sites_read names ds))
+    ∙ paired_from s names (ks ++ k ∷ []) ds in
     λ i. record { site = site_in names d.site d.operand; kind = here i } ∷ on i
   where
     index_here : (xs : List Kind) (x : Kind) (ys : List Kind) → slice_index_or (xs ++ x ∷ ys) (length xs) kind.Bool ≡ x
@@ -99,7 +104,8 @@ pub paired_reads : (t : ProgramTables) (own : NodeTables) (ds : List Delay)
 paired_reads t own ds = paired_from (scope_of (view_of t own)) (texts own.flows) [] ds
 
 -- the types of the memories of a node
-pub remembered : (p : ProgramTree) (n : NodeTree) (t : ProgramTables) (own : NodeTables) (found : List MemoryRead) → scope_of (view_of t own) ≡ node_scope p n → texts own.flows ≡ flows n
+pub remembered : (p : ProgramTree) (n : NodeTree) (t : ProgramTables) (own : NodeTables) (found : List MemoryRead) → scope_of (view_of t own) ≡ node_scope p n
+    → texts own.flows ≡ flows n
     → found ≡ reads t own (node_delays n) → kinds_beside [] found ≡ memory_kinds p n
 remembered p n t own found scope flow is =
     ap (kinds_beside []) is ∙ beside_same p n (scope_of (view_of t own)) (texts own.flows) scope flow (node_delays n) [] [] (λ k. refl)

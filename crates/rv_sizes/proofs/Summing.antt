@@ -1,5 +1,6 @@
 -- Sums over nodes in an order in which each stands after those that it calls.
-use Rattle.std.proofs.Common.{◌≡◌, ℕ, zero, suc, ◌+◌, ◌<◌, ◌≤◌, inl, inr, min, List, [], ◌∷◌, ◌++◌, length, get_or, set, take, replicate, refl, sym, ◌∙◌, ap, subst, arith, slice_get, Some}
+use Rattle.std.proofs.Common.{◌≡◌, ℕ, zero, suc, ◌+◌, ◌<◌, ◌≤◌, inl, inr, min, List, [], ◌∷◌, ◌++◌, length, get_or, set, take, replicate, refl, sym, ◌∙◌, ap}
+use Rattle.std.proofs.Common.{subst, arith, slice_get, Some}
 use Rattle.std.specs.List.{Contains}
 use Rattle.std.proofs.lemmas.List.{length-set, length-replicate, get_or-set_same, get_or-set_other, get_or-replicate, take_more}
 use Rattle.std.proofs.lemmas.Bool.{cases_eq}
@@ -21,15 +22,22 @@ pub min_step : (m a b x y s : ℕ) → s ≡ min (a + b) m → y ≡ min (s + x)
 min_step m a b x y s is next = omega (arith, is, next)
 
 -- the same over a list, where each part stops at the bound too
-pub total_min : {X : Type 0} (m : ℕ) (f g : X → ℕ) (xs : List X) (a : ℕ) → ((x : X) → Contains xs x → f x ≡ min (g x) m) → min (a + total f xs) m ≡ min (a + total g xs) m
+pub total_min : {X : Type 0} (m : ℕ) (f g : X → ℕ) (xs : List X) (a : ℕ) → ((x : X) → Contains xs x → f x ≡ min (g x) m)
+    → min (a + total f xs) m ≡ min (a + total g xs) m
 total_min m f g [] a each = refl
 total_min m f g (x ∷ xs) a each =
     let here = each x (0, omega arith, refl) in
-    let more = total_min m f g xs (a + f x) (λ y w. each y (w.0 + 1, (let lt = w.1 in omega (arith, lt)), ap (λ k. get_or (x ∷ xs) k y) (let e : w.0 + 1 ≡ suc w.0 = omega arith in e) ∙ w.2)) in
+    let more = total_min m f g xs (a + f x) (λ y w. each y (
+      w.0 + 1,
+      (let lt = w.1 in omega (arith, lt)),
+      ap (λ k. get_or (x ∷ xs) k y)
+          (let e : w.0 + 1 ≡ suc w.0 = omega arith in e) ∙ w.2,
+    )) in
     omega (arith, here, more)
 
 pub called_more : (totals : List ℕ) (own : ℕ) (calls : List Calling) (i : ℕ) (sum next x : ℕ) → i < length calls
-    → sum ≡ min (own + called_total totals (take i calls)) heaviest → x ≡ get_or totals (get_or calls i (record { at = 0; site = 0; callee = 0 })).callee 0 → next ≡ min (sum + x) heaviest
+    → sum ≡ min (own + called_total totals (take i calls)) heaviest → x ≡ get_or totals (get_or calls i (record { at = 0; site = 0; callee = 0 })).callee 0
+    → next ≡ min (sum + x) heaviest
     → next ≡ min (own + called_total totals (take (i + 1) calls)) heaviest
 called_more totals own calls i sum next x lt is read more =
     let c : Calling = get_or calls i (record { at = 0; site = 0; callee = 0 }) in
@@ -76,11 +84,14 @@ module _ (own : List ℕ) (t : List (List Calling)) (order : List ℕ) (ordered 
   summed_step i totals sum s lt is = record {
     size = length-set totals (get_or order i 0) sum ∙ s.size;
     capped = λ k less. elim (cases_eq k (get_or order i 0)) [
-      | inl same ↦ subst (λ u. u ≤ heaviest) (sym (ap (λ u. get_or (set totals (get_or order i 0) sum) u 0) same ∙ here)) (min_below heaviest sum (get_or own (get_or order i 0) 0 + called_total totals (get_or t (get_or order i 0) [])) is)
-      | inr other ↦ subst (λ u. u ≤ heaviest) (sym (get_or-set_other totals (get_or order i 0) k sum 0 other)) (s.capped k (let n = length-set totals (get_or order i 0) sum in omega (arith, n, less)))
+      | inl same ↦ subst (λ u. u ≤ heaviest) (sym (ap (λ u. get_or (set totals (get_or order i 0) sum) u 0) same ∙ here))
+          (min_below heaviest sum (get_or own (get_or order i 0) 0 + called_total totals (get_or t (get_or order i 0) [])) is)
+      | inr other ↦ subst (λ u. u ≤ heaviest) (sym (get_or-set_other totals (get_or order i 0) k sum 0 other))
+          (s.capped k (let n = length-set totals (get_or order i 0) sum in omega (arith, n, less)))
     ];
     value = λ j levels below inside enough. elim (cases_eq j i) [
-      | inl same ↦ subst (λ j. j < levels → get_or (set totals (get_or order i 0) sum) (get_or order j 0) 0 ≡ min (total_at own t levels (get_or order j 0)) heaviest) (sym same) (at_node levels) enough
+      | inl same ↦ subst (λ j. j < levels → get_or (set totals (get_or order i 0) sum) (get_or order j 0) 0 ≡ min (total_at own t levels (get_or order j 0))
+          heaviest) (sym same) (at_node levels) enough
       | inr other ↦
           let less : j < i = omega (arith, below, other) in
           get_or-set_other totals (get_or order i 0) (get_or order j 0) sum 0 (ordered.once j i less lt)
@@ -94,9 +105,11 @@ module _ (own : List ℕ) (t : List (List Calling)) (order : List ℕ) (ordered 
       here : get_or (set totals (get_or order i 0) sum) (get_or order i 0) 0 ≡ sum
       here = get_or-set_same totals (get_or order i 0) sum 0 in_totals
 
-      at_node : (levels : ℕ) → i < levels → get_or (set totals (get_or order i 0) sum) (get_or order i 0) 0 ≡ min (total_at own t levels (get_or order i 0)) heaviest
+      at_node : (levels : ℕ) → i < levels → get_or (set totals (get_or order i 0) sum) (get_or order i 0) 0 ≡ min (total_at own t levels (get_or order i 0))
+          heaviest
       at_node zero enough = absurd (omega (arith, enough))
-      at_node (suc levels) enough = here ∙ is ∙ total_min heaviest (λ (c : Calling). get_or totals c.callee 0) (λ (c : Calling). total_at own t levels c.callee) (get_or t (get_or order i 0) []) (get_or own (get_or order i 0) 0)
+      at_node (suc levels) enough = here ∙ is ∙ total_min heaviest (λ (c : Calling). get_or totals c.callee 0) (λ (c : Calling). total_at own t levels c.callee)
+          (get_or t (get_or order i 0) []) (get_or own (get_or order i 0) 0)
           (λ c w.
           let b = before i lt c w in
           let less = b.1 in
@@ -116,11 +129,13 @@ module _ (own : List ℕ) (t : List (List Calling)) (order : List ℕ) (ordered 
   }
 
   -- the same with what the code reads
-  pub node_within : (items : List ℕ) (i : ℕ) (cs calls : List Calling) (totals : List ℕ) → items ≡ order → i < length items → slice_get t (get_or items i 0) ≡ Some cs → calls ≡ cs
+  pub node_within : (items : List ℕ) (i : ℕ) (cs calls : List Calling) (totals : List ℕ) → items ≡ order → i < length items
+      → slice_get t (get_or items i 0) ≡ Some cs → calls ≡ cs
       → AreSummed own t order i totals → (c : Calling) → Contains calls c → c.callee < length totals
   node_within items i cs calls totals same lt read is s c w =
       let in_order : i < length order = subst (λ (l : List ℕ). i < length l) same lt in
-      let here : calls ≡ get_or t (get_or order i 0) [] = is ∙ sym (got t (get_or items i 0) cs [] read) ∙ ap (λ (l : List ℕ). get_or t (get_or l i 0) []) same in
+      let here : calls ≡ get_or t (get_or order i 0) [] = is ∙ sym (got t (get_or items i 0) cs [] read)
+      ∙ ap (λ (l : List ℕ). get_or t (get_or l i 0) []) same in
       subst (λ n. c.callee < n) (sym s.size) (callees_within i in_order c (subst (λ (l : List Calling). Contains l c) here w))
 
   pub node_step : (items : List ℕ) (i o sum : ℕ) (cs calls : List Calling) (totals new : List ℕ) → items ≡ order → i < length items
@@ -128,7 +143,9 @@ module _ (own : List ℕ) (t : List (List Calling)) (order : List ℕ) (ordered 
       → sum ≡ min (o + called_total totals calls) heaviest → new ≡ set totals (get_or items i 0) sum → AreSummed own t order (i + 1) new
   node_step items i o sum cs calls totals new same lt read_own read is s summed set_is =
       let in_order : i < length order = subst (λ (l : List ℕ). i < length l) same lt in
-      let here : calls ≡ get_or t (get_or order i 0) [] = is ∙ sym (got t (get_or items i 0) cs [] read) ∙ ap (λ (l : List ℕ). get_or t (get_or l i 0) []) same in
+      let here : calls ≡ get_or t (get_or order i 0) [] = is ∙ sym (got t (get_or items i 0) cs [] read)
+      ∙ ap (λ (l : List ℕ). get_or t (get_or l i 0) []) same in
       let has : o ≡ get_or own (get_or order i 0) 0 = sym (got own (get_or items i 0) o 0 read_own) ∙ ap (λ (l : List ℕ). get_or own (get_or l i 0) 0) same in
       subst (λ (l : List ℕ). AreSummed own t order (i + 1) l) (sym (set_is ∙ ap (λ (l : List ℕ). set totals (get_or l i 0) sum) same))
-      (summed_step i totals sum s in_order (summed ∙ ap (λ o. min (o + called_total totals calls) heaviest) has ∙ ap (λ (l : List Calling). min (get_or own (get_or order i 0) 0 + called_total totals l) heaviest) here))
+      (summed_step i totals sum s in_order (summed ∙ ap (λ o. min (o + called_total totals calls) heaviest) has
+      ∙ ap (λ (l : List Calling). min (get_or own (get_or order i 0) 0 + called_total totals l) heaviest) here))

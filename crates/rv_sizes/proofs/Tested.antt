@@ -1,7 +1,8 @@
 -- Order tests counted along the expressions of a node that keeps the rules are those of all their parts.
 use Rattle.std.proofs.Common.{◌≡◌, ℕ, ◌+◌, cond, List, ◌++◌, flat_map, refl, sym, ◌∙◌, ap, arith, unwrap_or}
 use Rattle.std.specs.List.{Contains}
-use Rattle.rv_tree.specs.Tree.{Tree, Node, True, False, Number, Named, Not, Minus, Pre, Current, When, Binary, If, AtMostOne, Call, Trees, None, More, EquationTree, AssertionTree, NodeTree, ProgramTree}
+use Rattle.rv_tree.specs.Tree.{Tree, Node, True, False, Number, Named, Not, Minus, Pre, Current, When, Binary, If, AtMostOne, Call, Trees, None, More}
+use Rattle.rv_tree.specs.Tree.{EquationTree, AssertionTree, NodeTree, ProgramTree}
 use Rattle.rv_types.specs.declared.typed.Kind.TheVariants as kind
 use Rattle.rv_types.specs.Heads.{head_kind}
 use Rattle.rv_types.specs.Scopes.{node_scope}
@@ -76,15 +77,20 @@ module _ (p : ProgramTree) (n : NodeTree) (formed : IsWellFormed p n) (typed : I
   told (Node at site (Call f es)) w = refl
 
   -- the order tests of a node, counted along its expressions
-  pub tested : total (λ (q : EquationTree). tests (node_scope p n) q.right) n.equations + total (λ (a : AssertionTree). tests (node_scope p n) a.body) n.assertions ≡ order_tests p n
+  pub tested : total (λ (q : EquationTree). tests (node_scope p n) q.right) n.equations + total (λ (a : AssertionTree). tests (node_scope p n) a.body)
+      n.assertions ≡ order_tests p n
   tested =
-      sym (two s (flat_map (λ (q : EquationTree). parts q.right) n.equations) (flat_map (λ (a : AssertionTree). parts a.body) n.assertions) (total (λ (q : EquationTree). tests s q.right) n.equations) (total (λ (a : AssertionTree). tests s a.body) n.assertions)
-      (total_flat_map (told_tests s) (λ (q : EquationTree). parts q.right) n.equations ∙ (λ i. total (λ (q : EquationTree). parts_tested s q.right i) n.equations))
-      (total_flat_map (told_tests s) (λ (a : AssertionTree). parts a.body) n.assertions ∙ (λ i. total (λ (a : AssertionTree). parts_tested s a.body i) n.assertions)))
+      sym (two s (flat_map (λ (q : EquationTree). parts q.right) n.equations) (flat_map (λ (a : AssertionTree). parts a.body) n.assertions)
+      (total (λ (q : EquationTree). tests s q.right) n.equations) (total (λ (a : AssertionTree). tests s a.body) n.assertions)
+      (total_flat_map (told_tests s) (λ (q : EquationTree). parts q.right) n.equations
+      ∙ (λ i. total (λ (q : EquationTree). parts_tested s q.right i) n.equations))
+      (total_flat_map (told_tests s) (λ (a : AssertionTree). parts a.body) n.assertions
+      ∙ (λ i. total (λ (a : AssertionTree). parts_tested s a.body i) n.assertions)))
       ∙ sym (total_same (own_tests p n) (told_tests s) (node_parts n) told)
 
 -- and capped
-pub capped_tests : (p : ProgramTree) (n : NodeTree) (s : Scope) (a b : ℕ) → s ≡ node_scope p n → IsWellFormed p n → IsWellTyped p n → a ≡ capped (total (λ (q : EquationTree). tests s q.right) n.equations) → b ≡ capped (total (λ (q : AssertionTree). tests s q.body) n.assertions)
+pub capped_tests : (p : ProgramTree) (n : NodeTree) (s : Scope) (a b : ℕ) → s ≡ node_scope p n → IsWellFormed p n → IsWellTyped p n
+    → a ≡ capped (total (λ (q : EquationTree). tests s q.right) n.equations) → b ≡ capped (total (λ (q : AssertionTree). tests s q.body) n.assertions)
     → capped (a + b) ≡ capped (order_tests p n)
 capped_tests p n s a b scope formed typed e f =
     (λ i. capped (e i + f i))

@@ -44,7 +44,8 @@ module _ (p : ProgramTree) (named : name_faults p ≡ []) (order : List ℕ) (or
   enough j lt = let n = graph_size p named in let few = ordered.size in omega (arith, n, few, lt)
 
   -- a node that is called stands before
-  pub earlier : (j : ℕ) → j < length order → (c : CallTree) → Contains (calls (at j)) c → (i : ℕ) × (i < j) × (get_or order i 0 ≡ index_of (names_of p) c.name) × (node_of p c.name ≡ at i)
+  pub earlier : (j : ℕ) → j < length order → (c : CallTree) → Contains (calls (at j)) c
+      → (i : ℕ) × (i < j) × (get_or order i 0 ≡ index_of (names_of p) c.name) × (node_of p c.name ≡ at i)
   unfolding at
   earlier j lt c w =
       let e = edge_of (callings_of p) (get_or order j 0) (calling (names_of p) c) (tabled p named (get_or order j 0) c (number_within j lt) w) in
@@ -70,13 +71,17 @@ module _ (p : ProgramTree) (named : name_faults p ≡ []) (order : List ℕ) (or
       (ap (ticking p a) e.3 ∙ again ∙ sym (ap (ticking p b) e.3))))
 
   -- the ticks of a node and of all below it are the sum of what each has of its own
-  summed : (levels j : ℕ) (i : Instance) → j < length order → j < levels → i.node ≡ at j → tick_total p levels i.node ≡ total (λ (a : Instance). own_ticks p a.node) (unrolled p levels i)
+  summed : (levels j : ℕ) (i : Instance) → j < length order → j < levels → i.node ≡ at j
+      → tick_total p levels i.node ≡ total (λ (a : Instance). own_ticks p a.node) (unrolled p levels i)
   summed zero j i lt below is = absurd (omega (arith, below))
   summed (suc levels) j i lt below is =
       let own : length (sites_of_clocks [] (ticking p (suc levels) i.node)) ≡ own_ticks p i.node =
-      ap (λ (ks : List Clock). length (sites_of_clocks [] ks)) (ap (ticking p (suc levels)) is ∙ steady (suc levels) (length p.nodes) j lt below (enough j lt) ∙ ap (ticking p (length p.nodes)) (sym is)) in
-      let more : total (λ (c : CallTree). tick_total p levels (node_of p c.name)) (calls i.node) ≡ total (λ (c : CallTree). total (λ (a : Instance). own_ticks p a.node) (unrolled p levels (callee p i c))) (calls i.node) =
-      total_same (λ (c : CallTree). tick_total p levels (node_of p c.name)) (λ (c : CallTree). total (λ (a : Instance). own_ticks p a.node) (unrolled p levels (callee p i c))) (calls i.node)
+      ap (λ (ks : List Clock). length (sites_of_clocks [] ks)) (ap (ticking p (suc levels)) is ∙ steady (suc levels) (length p.nodes) j lt below (enough j lt)
+      ∙ ap (ticking p (length p.nodes)) (sym is)) in
+      let more : total (λ (c : CallTree). tick_total p levels (node_of p c.name)) (calls i.node) ≡ total
+      (λ (c : CallTree). total (λ (a : Instance). own_ticks p a.node) (unrolled p levels (callee p i c))) (calls i.node) =
+      total_same (λ (c : CallTree). tick_total p levels (node_of p c.name))
+      (λ (c : CallTree). total (λ (a : Instance). own_ticks p a.node) (unrolled p levels (callee p i c))) (calls i.node)
       (λ c w.
       let e = earlier j lt c (subst (λ (n : NodeTree). Contains (calls n) c) is w) in
       let less = e.1 in

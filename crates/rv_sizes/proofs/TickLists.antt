@@ -1,5 +1,6 @@
 -- Lists whose elements are different, and how long they are.
-use Rattle.std.proofs.Common.{◌≡◌, ℕ, suc, ◌≤◌, ◌⊎◌, inl, inr, Bool, true, false, cond, ◌&&◌, ◌||◌, nat_eq, List, [], ◌∷◌, ◌++◌, map, length, refl, sym, ◌∙◌, ap, subst, arith}
+use Rattle.std.proofs.Common.{◌≡◌, ℕ, suc, ◌≤◌, ◌⊎◌, inl, inr, Bool, true, false, cond, ◌&&◌, ◌||◌, nat_eq, List, [], ◌∷◌, ◌++◌, map, length, refl, sym, ◌∙◌}
+use Rattle.std.proofs.Common.{ap, subst, arith}
 use Rattle.std.specs.List.{Contains, flat_map}
 use Rattle.std.proofs.lemmas.Bool.{eqb-true, eq-eqb}
 use Rattle.std.proofs.lemmas.List.Elements.{Contains-append_right, Contains-append_cases}
@@ -23,7 +24,8 @@ pub later_in : {X : Type 0} (x : X) (xs : List X) (y : X) → Contains xs y → 
 later_in x xs y w = Contains-append_right (x ∷ []) xs y w
 
 -- a list without one of its elements
-rest_of : {X : Type 0} (ys : List X) (x : X) → Contains ys x → (zs : List X) × (length ys ≡ suc (length zs)) × ((z : X) → Contains ys z → (z ≡ x → ⊥) → Contains zs z)
+rest_of : {X : Type 0} (ys : List X) (x : X) → Contains ys x → (zs : List X) × (length ys ≡ suc (length zs))
+    × ((z : X) → Contains ys z → (z ≡ x → ⊥) → Contains zs z)
 rest_of [] x w = nothing_in x w
 rest_of {X = X} (y ∷ ys) x w = elim (cons_cases y ys x w) [
   | inl same ↦ (ys, refl, λ z v other. after ys z x same other (cons_cases y ys z v))
@@ -34,7 +36,8 @@ rest_of {X = X} (y ∷ ys) x w = elim (cons_cases y ys x w) [
     after ys z x same other (inl e) = absurd (other (sym e ∙ same))
     after ys z x same other (inr v) = v
 
-    before : (zs ys : List X) (x : X) → ((z : X) → Contains ys z → (z ≡ x → ⊥) → Contains zs z) → (z : X) → (z ≡ x → ⊥) → (y ≡ z) ⊎ Contains ys z → Contains (y ∷ zs) z
+    before : (zs ys : List X) (x : X) → ((z : X) → Contains ys z → (z ≡ x → ⊥) → Contains zs z) → (z : X) → (z ≡ x → ⊥) → (y ≡ z) ⊎ Contains ys z
+        → Contains (y ∷ zs) z
     before zs ys x keeps z other (inl e) = first_in y zs z e
     before zs ys x keeps z other (inr v) = later_in y zs z (keeps z v other)
 
@@ -48,7 +51,8 @@ no_longer (x ∷ xs) ys apart sub =
     omega (arith, less, size)
 
 -- two lists of different elements that have the same elements are as long
-pub same_length : {X : Type 0} (xs ys : List X) → Apart xs → Apart ys → ((z : X) → Contains xs z → Contains ys z) → ((z : X) → Contains ys z → Contains xs z) → length xs ≡ length ys
+pub same_length : {X : Type 0} (xs ys : List X) → Apart xs → Apart ys → ((z : X) → Contains xs z → Contains ys z) → ((z : X) → Contains ys z → Contains xs z)
+    → length xs ≡ length ys
 same_length xs ys a b to from =
     let first = no_longer xs ys a to in
     let second = no_longer ys xs b from in
@@ -134,7 +138,8 @@ pub in_different : (ps : List Sites) (q : Sites) → Contains ps q → Contains 
 in_different [] q w = w
 in_different (p ∷ ps) q w = tested (is_place_in ps p) refl (cons_cases p ps q w) (in_different ps q)
   where
-    tested : (b : Bool) → is_place_in ps p ≡ b → (p ≡ q) ⊎ Contains ps q → (Contains ps q → Contains (different ps) q) → Contains (cond b (different ps) (p ∷ different ps)) q
+    tested : (b : Bool) → is_place_in ps p ≡ b → (p ≡ q) ⊎ Contains ps q → (Contains ps q → Contains (different ps) q)
+        → Contains (cond b (different ps) (p ∷ different ps)) q
     tested true is (inl same) more = more (subst (Contains ps) same (place_there ps p is))
     tested true is (inr rest) more = more rest
     tested false is (inl same) more = first_in p (different ps) q same
@@ -190,7 +195,8 @@ pub site_comes : (ks : List Clock) (seen : List ℕ) (c : ℕ) → Contains ks (
 site_comes [] seen c w new = nothing_in (On c) w
 site_comes (Base ∷ ks) seen c w new = elim (cons_cases Base ks (On c) w) [ inl same ↦ absurd (not_base c same) | inr rest ↦ site_comes ks seen c rest new ]
 site_comes (On d ∷ ks) seen c w new =
-    tested (is_in seen d) refl (nat_eq d c) refl (cons_cases (On d) ks (On c) w) (λ v. site_comes ks seen c v new) (λ v other. site_comes ks (d ∷ seen) c v (ap (λ b. b || is_in seen c) other ∙ new))
+    tested (is_in seen d) refl (nat_eq d c) refl (cons_cases (On d) ks (On c) w) (λ v. site_comes ks seen c v new)
+    (λ v other. site_comes ks (d ∷ seen) c v (ap (λ b. b || is_in seen c) other ∙ new))
   where
     tested : (b : Bool) → is_in seen d ≡ b → (same : Bool) → nat_eq d c ≡ same → (On d ≡ On c) ⊎ Contains ks (On c)
         → (Contains ks (On c) → Contains (sites_of_clocks seen ks) c) → (Contains ks (On c) → nat_eq d c ≡ false → Contains (sites_of_clocks (d ∷ seen) ks) c)
@@ -206,6 +212,11 @@ sites_apart [] seen = tt
 sites_apart (Base ∷ ks) seen = sites_apart ks seen
 sites_apart (On d ∷ ks) seen = tested (is_in seen d) (sites_apart ks seen) (sites_apart ks (d ∷ seen))
   where
-    tested : (b : Bool) → Apart (sites_of_clocks seen ks) → Apart (sites_of_clocks (d ∷ seen) ks) → Apart (cond b (sites_of_clocks seen ks) (d ∷ sites_of_clocks (d ∷ seen) ks))
+    tested : (b : Bool) → Apart (sites_of_clocks seen ks) → Apart (sites_of_clocks (d ∷ seen) ks)
+        → Apart (cond b (sites_of_clocks seen ks) (d ∷ sites_of_clocks (d ∷ seen) ks))
     tested true more next = more
-    tested false more next = (λ w. let v = (site_is ks (d ∷ seen) d w).1 in let here = ap (λ b. b || is_in seen d) (eq-eqb d d refl) in let no : ⊥ = cc in no, next)
+    tested false more next = (
+      λ w. let v = (site_is ks (d ∷ seen) d w).1 in let here = ap (λ b. b || is_in seen d) (eq-eqb d d refl) in let no : ⊥ = cc in
+          no,
+      next,
+    )

@@ -1,5 +1,6 @@
 -- The places of ticks, counted along calls.
-use Rattle.std.proofs.Common.{◌≡◌, ℕ, zero, suc, ◌+◌, ◌<◌, ◌⊎◌, inl, inr, Bool, true, false, cond, List, [], ◌∷◌, ◌++◌, map, length, get_or, refl, sym, ◌∙◌, ap, subst, arith, Option, Some, unwrap_or, length-append, None as Nothing}
+use Rattle.std.proofs.Common.{◌≡◌, ℕ, zero, suc, ◌+◌, ◌<◌, ◌⊎◌, inl, inr, Bool, true, false, cond, List, [], ◌∷◌, ◌++◌, map, length, get_or, refl, sym, ◌∙◌, ap}
+use Rattle.std.proofs.Common.{subst, arith, Option, Some, unwrap_or, length-append, None as Nothing}
 use Rattle.std.specs.List.{Contains, flat_map}
 use Rattle.std.proofs.lemmas.List.{append_assoc}
 use Rattle.std.proofs.lemmas.List.Elements.{Contains-append_left, Contains-append_right, Contains-append_cases}
@@ -16,7 +17,8 @@ use Rattle.rv_sizes.specs.Ticks.{arrows, has_base, sites_of_clocks, ticking, tic
 use Rattle.rv_instances.proofs.Known.{cons_cases, nothing_in, in_map, of_map}
 use Rattle.rv_instances.proofs.Lists.{length_map}
 use Rattle.rv_calls.proofs.AllInstances.{in_flat_map, of_flat_map}
-use Rattle.rv_sizes.proofs.TickLists.{Apart, first_in, later_in, same_length, apart_append, apart_map, apart_flat_map, different_in, in_different, different_apart, base_there, there_base, site_is, site_comes, sites_apart}
+use Rattle.rv_sizes.proofs.TickLists.{Apart, first_in, later_in, same_length, apart_append, apart_map, apart_flat_map, different_in, in_different}
+use Rattle.rv_sizes.proofs.TickLists.{different_apart, base_there, there_base, site_is, site_comes, sites_apart}
 
 -- paths that begin alike go on alike
 goes_on : (a : Sites) (r s : Sites) → a ++ r ≡ a ++ s → r ≡ s
@@ -48,7 +50,8 @@ length_flat_map f g (x ∷ xs) each =
     omega (arith, here, more, both)
 
 -- the calls of a node have different sites
-sites_differ : (cs : List CallTree) → ((i j : ℕ) (c : CallTree) → i < j → j < length cs → (get_or cs i c).site ≡ (get_or cs j c).site → ⊥) → Apart (map (λ (c : CallTree). c.site) cs)
+sites_differ : (cs : List CallTree) → ((i j : ℕ) (c : CallTree) → i < j → j < length cs → (get_or cs i c).site ≡ (get_or cs j c).site → ⊥)
+    → Apart (map (λ (c : CallTree). c.site) cs)
 sites_differ [] apart = tt
 sites_differ (c ∷ cs) apart = (
   λ w.
@@ -89,17 +92,20 @@ module _ (p : ProgramTree) where
   unfolding tick_places
   counted zero i = refl
   counted (suc levels) i =
-      length-append (map (λ c. i.path ++ c ∷ []) (sites_of_clocks [] (ticking p (suc levels) i.node))) (flat_map (λ c. tick_places levels (callee p i c)) (calls i.node))
+      length-append (map (λ c. i.path ++ c ∷ []) (sites_of_clocks [] (ticking p (suc levels) i.node)))
+      (flat_map (λ c. tick_places levels (callee p i c)) (calls i.node))
       ∙ (λ t.
       length_map (λ c. i.path ++ c ∷ []) (sites_of_clocks [] (ticking p (suc levels) i.node)) t
-      + length_flat_map (λ c. tick_places levels (callee p i c)) (λ (c : CallTree). tick_total p levels (node_of p c.name)) (calls i.node) (λ c. counted levels (callee p i c)) t)
+      + length_flat_map (λ c. tick_places levels (callee p i c)) (λ (c : CallTree). tick_total p levels (node_of p c.name)) (calls i.node)
+      (λ c. counted levels (callee p i c)) t)
 
   -- they stand below the instance
   below_path : (levels : ℕ) (i : Instance) (q : Sites) → Contains (tick_places levels i) q → (x : ℕ) × (rest : Sites) × (q ≡ i.path ++ x ∷ rest)
   unfolding tick_places
   below_path zero i q w = nothing_in q w
   below_path (suc levels) i q w =
-      elim (Contains-append_cases (map (λ c. i.path ++ c ∷ []) (sites_of_clocks [] (ticking p (suc levels) i.node))) (flat_map (λ c. tick_places levels (callee p i c)) (calls i.node)) q w) [
+      elim (Contains-append_cases (map (λ c. i.path ++ c ∷ []) (sites_of_clocks [] (ticking p (suc levels) i.node)))
+      (flat_map (λ c. tick_places levels (callee p i c)) (calls i.node)) q w) [
         | inl own ↦ let v = of_map (λ c. i.path ++ c ∷ []) (sites_of_clocks [] (ticking p (suc levels) i.node)) q own in (v.0, [], sym v.2)
         | inr rest ↦
             let v = of_flat_map (λ c. tick_places levels (callee p i c)) (calls i.node) q rest in
@@ -108,15 +114,18 @@ module _ (p : ProgramTree) where
       ]
 
   -- those of a callee stand below its site
-  below_call : (levels : ℕ) (i : Instance) (c : CallTree) (q : Sites) → Contains (tick_places levels (callee p i c)) q → (x : ℕ) × (rest : Sites) × (q ≡ i.path ++ c.site ∷ x ∷ rest)
+  below_call : (levels : ℕ) (i : Instance) (c : CallTree) (q : Sites) → Contains (tick_places levels (callee p i c)) q
+      → (x : ℕ) × (rest : Sites) × (q ≡ i.path ++ c.site ∷ x ∷ rest)
   below_call levels i c q w = let b = below_path levels (callee p i c) q w in (b.0, b.1, b.2 ∙ append_assoc i.path (c.site ∷ []) (b.0 ∷ b.1))
 
   all_apart : AreSited p → (levels : ℕ) (i : Instance) → HasSites i.node → Apart (tick_places levels i)
   unfolding tick_places
   all_apart sited zero i has = tt
   all_apart sited (suc levels) i has =
-      apart_append (map (λ c. i.path ++ c ∷ []) (sites_of_clocks [] (ticking p (suc levels) i.node))) (flat_map (λ c. tick_places levels (callee p i c)) (calls i.node))
-      (apart_map (λ c. i.path ++ c ∷ []) (λ x y e. head_same x y [] [] (goes_on i.path (x ∷ []) (y ∷ []) e)) (sites_of_clocks [] (ticking p (suc levels) i.node)) (sites_apart (ticking p (suc levels) i.node) []))
+      apart_append (map (λ c. i.path ++ c ∷ []) (sites_of_clocks [] (ticking p (suc levels) i.node)))
+      (flat_map (λ c. tick_places levels (callee p i c)) (calls i.node))
+      (apart_map (λ c. i.path ++ c ∷ []) (λ x y e. head_same x y [] [] (goes_on i.path (x ∷ []) (y ∷ []) e))
+      (sites_of_clocks [] (ticking p (suc levels) i.node)) (sites_apart (ticking p (suc levels) i.node) []))
       (apart_flat_map (λ c. tick_places levels (callee p i c)) (λ (c : CallTree). c.site) (calls i.node) (sites_differ (calls i.node) has.apart)
       (λ c w. all_apart sited levels (callee p i c) (node_sited sited c.name))
       (λ c d q w v in_c in_d.
@@ -173,7 +182,8 @@ module _ (p : ProgramTree) where
   handed : ℕ → NodeTree → CallTree → List Clock
   handed levels n c = cond (has_base (ticking p levels (node_of p c.name))) (taken Base (pace_of_all n c.args) ∷ []) []
 
-  handed_on : (levels : ℕ) (n : NodeTree) (c : CallTree) → Contains (ticking p levels (node_of p c.name)) Base → Contains (handed levels n c) (taken Base (pace_of_all n c.args))
+  handed_on : (levels : ℕ) (n : NodeTree) (c : CallTree) → Contains (ticking p levels (node_of p c.name)) Base
+      → Contains (handed levels n c) (taken Base (pace_of_all n c.args))
   unfolding handed
   handed_on levels n c w = at (has_base (ticking p levels (node_of p c.name))) (there_base (ticking p levels (node_of p c.name)) w)
     where
@@ -181,12 +191,15 @@ module _ (p : ProgramTree) where
       at true e = first_in (taken Base (pace_of_all n c.args)) [] (taken Base (pace_of_all n c.args)) refl
       at false e = cc
 
-  was_handed : (levels : ℕ) (n : NodeTree) (c : CallTree) (k : Clock) → Contains (handed levels n c) k → Contains (ticking p levels (node_of p c.name)) Base × (taken Base (pace_of_all n c.args) ≡ k)
+  was_handed : (levels : ℕ) (n : NodeTree) (c : CallTree) (k : Clock) → Contains (handed levels n c) k
+      → Contains (ticking p levels (node_of p c.name)) Base × (taken Base (pace_of_all n c.args) ≡ k)
   unfolding handed
   was_handed levels n c k w = at (has_base (ticking p levels (node_of p c.name))) refl w
     where
-      at : (b : Bool) → has_base (ticking p levels (node_of p c.name)) ≡ b → Contains (cond b (taken Base (pace_of_all n c.args) ∷ []) []) k → Contains (ticking p levels (node_of p c.name)) Base × (taken Base (pace_of_all n c.args) ≡ k)
-      at true e w = elim (cons_cases (taken Base (pace_of_all n c.args)) [] k w) [ inl same ↦ (base_there (ticking p levels (node_of p c.name)) e, same) | inr rest ↦ nothing_in k rest ]
+      at : (b : Bool) → has_base (ticking p levels (node_of p c.name)) ≡ b → Contains (cond b (taken Base (pace_of_all n c.args) ∷ []) []) k
+          → Contains (ticking p levels (node_of p c.name)) Base × (taken Base (pace_of_all n c.args) ≡ k)
+      at true e w = elim (cons_cases (taken Base (pace_of_all n c.args)) [] k w)
+          [ inl same ↦ (base_there (ticking p levels (node_of p c.name)) e, same) | inr rest ↦ nothing_in k rest ]
       at false e w = nothing_in k w
 
   -- the places of all clocks on which `->` stand in an instance and those below it
@@ -199,12 +212,15 @@ module _ (p : ProgramTree) where
   Below (suc levels) i q = (c : CallTree) × Contains (calls i.node) c × Contains (tick_places levels (callee p i c)) q
 
   -- a place of a tick is that of a clock of the instance, or stands below
-  placed : (levels : ℕ) (i : Instance) (q : Sites) → Contains (tick_places levels i) q → ((c : ℕ) × Contains (ticking p levels i.node) (On c) × (i.path ++ c ∷ [] ≡ q)) ⊎ Below levels i q
+  placed : (levels : ℕ) (i : Instance) (q : Sites) → Contains (tick_places levels i) q
+      → ((c : ℕ) × Contains (ticking p levels i.node) (On c) × (i.path ++ c ∷ [] ≡ q)) ⊎ Below levels i q
   unfolding tick_places
   placed zero i q w = nothing_in q w
   placed (suc levels) i q w =
-      elim (Contains-append_cases (map (λ c. i.path ++ c ∷ []) (sites_of_clocks [] (ticking p (suc levels) i.node))) (flat_map (λ c. tick_places levels (callee p i c)) (calls i.node)) q w) [
-        | inl own ↦ let v = of_map (λ c. i.path ++ c ∷ []) (sites_of_clocks [] (ticking p (suc levels) i.node)) q own in inl (v.0, (site_is (ticking p (suc levels) i.node) [] v.0 v.1).0, v.2)
+      elim (Contains-append_cases (map (λ c. i.path ++ c ∷ []) (sites_of_clocks [] (ticking p (suc levels) i.node)))
+      (flat_map (λ c. tick_places levels (callee p i c)) (calls i.node)) q w) [
+        | inl own ↦ let v = of_map (λ c. i.path ++ c ∷ []) (sites_of_clocks [] (ticking p (suc levels) i.node)) q own in
+            inl (v.0, (site_is (ticking p (suc levels) i.node) [] v.0 v.1).0, v.2)
         | inr rest ↦ inr (of_flat_map (λ c. tick_places levels (callee p i c)) (calls i.node) q rest)
       ]
 
@@ -213,14 +229,16 @@ module _ (p : ProgramTree) where
   unfolding tick_places
   own_placed zero i c w = nothing_in (On c) w
   own_placed (suc levels) i c w =
-      Contains-append_left (map (λ c. i.path ++ c ∷ []) (sites_of_clocks [] (ticking p (suc levels) i.node))) (flat_map (λ c. tick_places levels (callee p i c)) (calls i.node)) (i.path ++ c ∷ [])
+      Contains-append_left (map (λ c. i.path ++ c ∷ []) (sites_of_clocks [] (ticking p (suc levels) i.node)))
+      (flat_map (λ c. tick_places levels (callee p i c)) (calls i.node)) (i.path ++ c ∷ [])
       (in_map (λ c. i.path ++ c ∷ []) (sites_of_clocks [] (ticking p (suc levels) i.node)) c (site_comes (ticking p (suc levels) i.node) [] c w refl))
 
   below_placed : (levels : ℕ) (i : Instance) (q : Sites) → Below levels i q → Contains (tick_places levels i) q
   unfolding tick_places
   below_placed zero i q b = absurd b
   below_placed (suc levels) i q b =
-      Contains-append_right (map (λ c. i.path ++ c ∷ []) (sites_of_clocks [] (ticking p (suc levels) i.node))) (flat_map (λ c. tick_places levels (callee p i c)) (calls i.node)) q
+      Contains-append_right (map (λ c. i.path ++ c ∷ []) (sites_of_clocks [] (ticking p (suc levels) i.node)))
+      (flat_map (λ c. tick_places levels (callee p i c)) (calls i.node)) q
       (in_flat_map (λ c. tick_places levels (callee p i c)) (calls i.node) b.0 q b.1 b.2)
 
   -- where a `->` stands, the flow of its clock is that of a clock of the instance or a tick below it
@@ -228,17 +246,21 @@ module _ (p : ProgramTree) where
   unfolding raw handed
   raw_is zero i q w = nothing_in q w
   raw_is (suc levels) i q w =
-      elim (Contains-append_cases (arrow_clocks i (node_parts i.node)) (flat_map (λ (j : Instance). arrow_clocks j (node_parts j.node)) (flat_map (λ (c : CallTree). unrolled p levels (callee p i c)) (calls i.node))) q w) [
+      elim (Contains-append_cases (arrow_clocks i (node_parts i.node))
+      (flat_map (λ (j : Instance). arrow_clocks j (node_parts j.node)) (flat_map (λ (c : CallTree). unrolled p levels (callee p i c)) (calls i.node))) q w) [
         | inl own ↦
             let h = arrow_held i (node_parts i.node) q own in
             inl (h.0, Contains-append_left (arrows i.node (node_parts i.node)) (flat_map (handed levels i.node) (calls i.node)) h.0 h.1, h.2)
         | inr rest ↦
-            let v = of_flat_map (λ (j : Instance). arrow_clocks j (node_parts j.node)) (flat_map (λ (c : CallTree). unrolled p levels (callee p i c)) (calls i.node)) q rest in
+            let v = of_flat_map (λ (j : Instance). arrow_clocks j (node_parts j.node))
+            (flat_map (λ (c : CallTree). unrolled p levels (callee p i c)) (calls i.node)) q rest in
             let u = of_flat_map (λ (c : CallTree). unrolled p levels (callee p i c)) (calls i.node) v.0 v.1 in
-            of_call u.0 u.1 (raw_is levels (callee p i u.0) q (in_flat_map (λ (j : Instance). arrow_clocks j (node_parts j.node)) (unrolled p levels (callee p i u.0)) v.0 q u.2 v.2))
+            of_call u.0 u.1 (raw_is levels (callee p i u.0) q (in_flat_map (λ (j : Instance). arrow_clocks j (node_parts j.node))
+            (unrolled p levels (callee p i u.0)) v.0 q u.2 v.2))
       ]
     where
-      of_clock : (c : CallTree) → Contains (calls i.node) c → (k : Clock) → Contains (ticking p levels (node_of p c.name)) k → absolute (callee p i c) k ≡ Some q
+      of_clock : (c : CallTree) → Contains (calls i.node) c → (k : Clock) → Contains (ticking p levels (node_of p c.name)) k
+          → absolute (callee p i c) k ≡ Some q
           → Held i (ticking p (suc levels) i.node) q ⊎ Below (suc levels) i q
       of_clock c w Base on is =
           inl (
@@ -248,7 +270,12 @@ module _ (p : ProgramTree) where
             is,
           )
       of_clock c w (On d) on is =
-          inr (c, w, subst (Contains (tick_places levels (callee p i c))) (some_same ((callee p i c).path ++ d ∷ []) q is) (own_placed levels (callee p i c) d on))
+          inr (
+            c,
+            w,
+            subst (Contains (tick_places levels (callee p i c))) (some_same ((callee p i c).path ++ d ∷ []) q is)
+                (own_placed levels (callee p i c) d on),
+          )
 
       of_call : (c : CallTree) → Contains (calls i.node) c → Held (callee p i c) (ticking p levels (node_of p c.name)) q ⊎ Below levels (callee p i c) q
           → Held i (ticking p (suc levels) i.node) q ⊎ Below (suc levels) i q
@@ -256,11 +283,13 @@ module _ (p : ProgramTree) where
       of_call c w (inr b) = inr (c, w, below_placed levels (callee p i c) q b)
 
   -- what stands in a callee stands below the instance
-  in_call : (levels : ℕ) (i : Instance) (c : CallTree) (q : Sites) → Contains (calls i.node) c → Contains (raw levels (callee p i c)) q → Contains (raw (suc levels) i) q
+  in_call : (levels : ℕ) (i : Instance) (c : CallTree) (q : Sites) → Contains (calls i.node) c → Contains (raw levels (callee p i c)) q
+      → Contains (raw (suc levels) i) q
   unfolding raw
   in_call levels i c q w v =
       let u = of_flat_map (λ (j : Instance). arrow_clocks j (node_parts j.node)) (unrolled p levels (callee p i c)) q v in
-      Contains-append_right (arrow_clocks i (node_parts i.node)) (flat_map (λ (j : Instance). arrow_clocks j (node_parts j.node)) (flat_map (λ (c : CallTree). unrolled p levels (callee p i c)) (calls i.node))) q
+      Contains-append_right (arrow_clocks i (node_parts i.node)) (flat_map (λ (j : Instance). arrow_clocks j (node_parts j.node))
+      (flat_map (λ (c : CallTree). unrolled p levels (callee p i c)) (calls i.node))) q
       (in_flat_map (λ (j : Instance). arrow_clocks j (node_parts j.node)) (flat_map (λ (c : CallTree). unrolled p levels (callee p i c)) (calls i.node)) u.0 q
       (in_flat_map (λ (c : CallTree). unrolled p levels (callee p i c)) (calls i.node) c u.0 w u.1) u.2)
 
@@ -271,7 +300,8 @@ module _ (p : ProgramTree) where
   is_raw (suc levels) i q (inl h) =
       elim (Contains-append_cases (arrows i.node (node_parts i.node)) (flat_map (handed levels i.node) (calls i.node)) h.0 h.1) [
         | inl own ↦
-            Contains-append_left (arrow_clocks i (node_parts i.node)) (flat_map (λ (j : Instance). arrow_clocks j (node_parts j.node)) (flat_map (λ (c : CallTree). unrolled p levels (callee p i c)) (calls i.node))) q
+            Contains-append_left (arrow_clocks i (node_parts i.node)) (flat_map (λ (j : Instance). arrow_clocks j (node_parts j.node))
+            (flat_map (λ (c : CallTree). unrolled p levels (callee p i c)) (calls i.node))) q
             (held_arrow i (node_parts i.node) q (h.0, own, h.2))
         | inr rest ↦
             let v = of_flat_map (handed levels i.node) (calls i.node) h.0 rest in
@@ -287,15 +317,18 @@ module _ (p : ProgramTree) where
 
   -- main's own base clock has no flow
   module _ (main : Identifier) (levels : ℕ) where
-    main_held : (q : Sites) → Held (main_instance p main) (ticking p levels (node_of p main)) q ⊎ Below levels (main_instance p main) q → Contains (tick_places levels (main_instance p main)) q
+    main_held : (q : Sites) → Held (main_instance p main) (ticking p levels (node_of p main)) q ⊎ Below levels (main_instance p main) q
+        → Contains (tick_places levels (main_instance p main)) q
     main_held q (inr b) = below_placed levels (main_instance p main) q b
     main_held q (inl h) = at h.0 h.1 h.2
       where
-        at : (k : Clock) → Contains (ticking p levels (node_of p main)) k → absolute (main_instance p main) k ≡ Some q → Contains (tick_places levels (main_instance p main)) q
+        at : (k : Clock) → Contains (ticking p levels (node_of p main)) k → absolute (main_instance p main) k ≡ Some q
+            → Contains (tick_places levels (main_instance p main)) q
         at Base w is = absurd (none_some q is)
         at (On c) w is = subst (Contains (tick_places levels (main_instance p main))) (some_same (c ∷ []) q is) (own_placed levels (main_instance p main) c w)
 
-    held_main : (q : Sites) → Contains (tick_places levels (main_instance p main)) q → Held (main_instance p main) (ticking p levels (node_of p main)) q ⊎ Below levels (main_instance p main) q
+    held_main : (q : Sites) → Contains (tick_places levels (main_instance p main)) q
+        → Held (main_instance p main) (ticking p levels (node_of p main)) q ⊎ Below levels (main_instance p main) q
     held_main q w = at (placed levels (main_instance p main) q w)
       where
         at : ((c : ℕ) × Contains (ticking p levels (node_of p main)) (On c) × ([] ++ c ∷ [] ≡ q)) ⊎ Below levels (main_instance p main) q
@@ -307,7 +340,10 @@ module _ (p : ProgramTree) where
   pub ticks_counted : AreSited p → (main : Identifier) → length (ticks p main) ≡ tick_total p (length p.nodes) (node_of p main)
   unfolding raw
   ticks_counted sited main =
-      same_length (ticks p main) (tick_places (length p.nodes) (main_instance p main)) (different_apart (raw (length p.nodes) (main_instance p main))) (all_apart sited (length p.nodes) (main_instance p main) (node_sited sited main))
-      (λ q w. main_held main (length p.nodes) q (raw_is (length p.nodes) (main_instance p main) q (different_in (raw (length p.nodes) (main_instance p main)) q w)))
-      (λ q w. in_different (raw (length p.nodes) (main_instance p main)) q (is_raw (length p.nodes) (main_instance p main) q (held_main main (length p.nodes) q w)))
+      same_length (ticks p main) (tick_places (length p.nodes) (main_instance p main)) (different_apart (raw (length p.nodes) (main_instance p main)))
+      (all_apart sited (length p.nodes) (main_instance p main) (node_sited sited main))
+      (λ q w. main_held main (length p.nodes) q (raw_is (length p.nodes) (main_instance p main) q
+      (different_in (raw (length p.nodes) (main_instance p main)) q w)))
+      (λ q w. in_different (raw (length p.nodes) (main_instance p main)) q
+      (is_raw (length p.nodes) (main_instance p main) q (held_main main (length p.nodes) q w)))
       ∙ counted (length p.nodes) (main_instance p main)

@@ -1,5 +1,6 @@
 -- One node more in a walk over the nodes of a program in their order.
-use Rattle.std.proofs.Common.{◌≡◌, ℕ, zero, suc, ◌+◌, ◌<◌, ◌≤◌, inl, inr, Bool, false, List, [], ◌∷◌, map, length, get_or, set, replicate, refl, sym, ◌∙◌, ap, subst, arith, slice_get, Some}
+use Rattle.std.proofs.Common.{◌≡◌, ℕ, zero, suc, ◌+◌, ◌<◌, ◌≤◌, inl, inr, Bool, false, List, [], ◌∷◌, map, length, get_or, set, replicate, refl, sym, ◌∙◌, ap}
+use Rattle.std.proofs.Common.{subst, arith, slice_get, Some}
 use Rattle.std.specs.List.{Contains}
 use Rattle.std.proofs.lemmas.Bool.{cases_eq}
 use Rattle.std.proofs.lemmas.List.{length-set, length-replicate, get_or-set_same, get_or-set_other}
@@ -46,10 +47,12 @@ module _ (p : ProgramTree) (named : name_faults p ≡ []) (order : List ℕ) (or
 
   -- the walk over the next node comes to what ticks in it
   walk_is : (j : ℕ) (bases : List Bool) (own : List ℕ) → AreTicked p order j bases own → j < length order
-      → Same (walked_node (get_or p.nodes (get_or order j 0) no_node) (ticks_on_base (names_of p) bases)) (ticking p (length p.nodes) (get_or p.nodes (get_or order j 0) no_node))
+      → Same (walked_node (get_or p.nodes (get_or order j 0) no_node) (ticks_on_base (names_of p) bases))
+      (ticking p (length p.nodes) (get_or p.nodes (get_or order j 0) no_node))
   walk_is j bases own t lt =
       let m = one_less (length p.nodes) j (enough p named order ordered j lt) in
-      subst (λ levels. Same (walked_node (get_or p.nodes (get_or order j 0) no_node) (ticks_on_base (names_of p) bases)) (ticking p levels (get_or p.nodes (get_or order j 0) no_node))) (sym m.1)
+      subst (λ levels. Same (walked_node (get_or p.nodes (get_or order j 0) no_node) (ticks_on_base (names_of p) bases))
+      (ticking p levels (get_or p.nodes (get_or order j 0) no_node))) (sym m.1)
       (walk_same (get_or p.nodes (get_or order j 0) no_node) (ticks_on_base (names_of p) bases) p m.0
       (λ c w.
       let e = earlier p named order ordered j lt c (subst (λ (n : NodeTree). Contains (calls n) c) (sym (at_is p named order ordered j)) w) in
@@ -59,26 +62,34 @@ module _ (p : ProgramTree) (named : name_faults p ≡ []) (order : List ℕ) (or
       let known = t.base e.0 e.1 (omega (arith, less, lt)) in
       ap (λ k. get_or bases k false) (sym e.2) ∙ known
       ∙ ap (λ (n : NodeTree). has_base (ticking p (length p.nodes) n)) (sym (at_is p named order ordered e.0))
-      ∙ ap has_base (steady p named order ordered (length p.nodes) m.0 e.0 (omega (arith, less, lt)) (omega (arith, less, within)) (omega (arith, less, within, size)))
+      ∙ ap has_base (steady p named order ordered (length p.nodes) m.0 e.0 (omega (arith, less, lt)) (omega (arith, less, within))
+      (omega (arith, less, within, size)))
       ∙ ap (λ (n : NodeTree). has_base (ticking p m.0 n)) (sym e.3)))
 
   pub ticked_step : (j : ℕ) (bases new_bases : List Bool) (own new_own : List ℕ) → AreTicked p order j bases own → j < length order
       → new_bases ≡ set bases (get_or order j 0) (has_base (walked_node (get_or p.nodes (get_or order j 0) no_node) (ticks_on_base (names_of p) bases)))
-      → new_own ≡ set own (get_or order j 0) (capped (length (sites_of_clocks [] (walked_node (get_or p.nodes (get_or order j 0) no_node) (ticks_on_base (names_of p) bases)))))
+      → new_own ≡ set own (get_or order j 0) (capped (length (sites_of_clocks []
+      (walked_node (get_or p.nodes (get_or order j 0) no_node) (ticks_on_base (names_of p) bases)))))
       → AreTicked p order (j + 1) new_bases new_own
   ticked_step j bases new_bases own new_own t lt bases_are own_are = record {
-    bases_size = ap length bases_are ∙ length-set bases (get_or order j 0) (has_base (walked_node (get_or p.nodes (get_or order j 0) no_node) (ticks_on_base (names_of p) bases))) ∙ t.bases_size;
-    own_size = ap length own_are ∙ length-set own (get_or order j 0) (capped (length (sites_of_clocks [] (walked_node (get_or p.nodes (get_or order j 0) no_node) (ticks_on_base (names_of p) bases))))) ∙ t.own_size;
+    bases_size = ap length bases_are ∙ length-set bases (get_or order j 0)
+        (has_base (walked_node (get_or p.nodes (get_or order j 0) no_node) (ticks_on_base (names_of p) bases))) ∙ t.bases_size;
+    own_size = ap length own_are ∙ length-set own (get_or order j 0) (capped
+        (length (sites_of_clocks [] (walked_node (get_or p.nodes (get_or order j 0) no_node) (ticks_on_base (names_of p) bases))))) ∙ t.own_size;
     base = λ i less inside. ap (λ (l : List Bool). get_or l (get_or order i 0) false) bases_are ∙ elim (cases_eq i j) [
-      | inl same ↦ subst (λ i. get_or (set bases (get_or order j 0) base_here) (get_or order i 0) false ≡ has_base (ticking p (length p.nodes) (get_or p.nodes (get_or order i 0) no_node))) (sym same)
-          (get_or-set_same bases (get_or order j 0) base_here false (subst (λ n. get_or order j 0 < n) (sym t.bases_size) (number_within p named order ordered j lt)) ∙ same_base walk ticks is)
+      | inl same ↦ subst (λ i. get_or (set bases (get_or order j 0) base_here) (get_or order i 0) false ≡ has_base
+          (ticking p (length p.nodes) (get_or p.nodes (get_or order i 0) no_node))) (sym same)
+          (get_or-set_same bases (get_or order j 0) base_here false (subst (λ n. get_or order j 0 < n) (sym t.bases_size)
+          (number_within p named order ordered j lt)) ∙ same_base walk ticks is)
       | inr other ↦
           let before : i < j = omega (arith, less, other) in
           get_or-set_other bases (get_or order j 0) (get_or order i 0) base_here false (ordered.once i j before lt) ∙ t.base i before inside
     ];
     count = λ i less inside. ap (λ (l : List ℕ). get_or l (get_or order i 0) 0) own_are ∙ elim (cases_eq i j) [
-      | inl same ↦ subst (λ i. get_or (set own (get_or order j 0) (capped count_here)) (get_or order i 0) 0 ≡ capped (own_ticks p (get_or p.nodes (get_or order i 0) no_node))) (sym same)
-          (get_or-set_same own (get_or order j 0) (capped count_here) 0 (subst (λ n. get_or order j 0 < n) (sym t.own_size) (number_within p named order ordered j lt)) ∙ ap capped (same_sites walk ticks is))
+      | inl same ↦ subst (λ i. get_or (set own (get_or order j 0) (capped count_here)) (get_or order i 0) 0 ≡ capped
+          (own_ticks p (get_or p.nodes (get_or order i 0) no_node))) (sym same)
+          (get_or-set_same own (get_or order j 0) (capped count_here) 0
+          (subst (λ n. get_or order j 0 < n) (sym t.own_size) (number_within p named order ordered j lt)) ∙ ap capped (same_sites walk ticks is))
       | inr other ↦
           let before : i < j = omega (arith, less, other) in
           get_or-set_other own (get_or order j 0) (get_or order i 0) (capped count_here) 0 (ordered.once i j before lt) ∙ t.count i before inside
@@ -97,11 +108,13 @@ module _ (p : ProgramTree) (named : name_faults p ≡ []) (order : List ℕ) (or
       count_here : ℕ
       count_here = length (sites_of_clocks [] (walked_node (get_or p.nodes (get_or order j 0) no_node) (ticks_on_base (names_of p) bases)))
 
-      is : Same (walked_node (get_or p.nodes (get_or order j 0) no_node) (ticks_on_base (names_of p) bases)) (ticking p (length p.nodes) (get_or p.nodes (get_or order j 0) no_node))
+      is : Same (walked_node (get_or p.nodes (get_or order j 0) no_node) (ticks_on_base (names_of p) bases))
+          (ticking p (length p.nodes) (get_or p.nodes (get_or order j 0) no_node))
       is = walk_is j bases own t lt
 
   -- at the end all nodes have been walked over
-  pub ticked_end : (j : ℕ) (bases : List Bool) (own : List ℕ) → AreTicked p order j bases own → length order ≤ j → own ≡ map (λ (n : NodeTree). capped (own_ticks p n)) p.nodes
+  pub ticked_end : (j : ℕ) (bases : List Bool) (own : List ℕ) → AreTicked p order j bases own → length order ≤ j
+      → own ≡ map (λ (n : NodeTree). capped (own_ticks p n)) p.nodes
   ticked_end j bases own t all =
       lists_same own (map (λ (n : NodeTree). capped (own_ticks p n)) p.nodes) (t.own_size ∙ sym (length_map (λ (n : NodeTree). capped (own_ticks p n)) p.nodes))
       (λ k lt.
@@ -114,21 +127,25 @@ module _ (p : ProgramTree) (named : name_faults p ≡ []) (order : List ℕ) (or
       ∙ sym (map_at (λ (n : NodeTree). capped (own_ticks p n)) p.nodes k 0 no_node within))
 
   -- The same with what the code reads.
-  module _ (ns : List declared.Node) (are : p.nodes ≡ map node_tree ns) (items : List ℕ) (same : items ≡ order) (j : ℕ) (lt : j < length items) (n : declared.Node) (read : slice_get ns (get_or items j 0) ≡ Some n) where
+  module _ (ns : List declared.Node) (are : p.nodes ≡ map node_tree ns) (items : List ℕ) (same : items ≡ order) (j : ℕ) (lt : j < length items)
+      (n : declared.Node) (read : slice_get ns (get_or items j 0) ≡ Some n) where
     in_order : j < length order
     in_order = subst (λ (l : List ℕ). j < length l) same lt
 
     node_read : get_or p.nodes (get_or order j 0) no_node ≡ node_tree n
     node_read =
         let there : slice_get ns (get_or order j 0) ≡ Some n = subst (λ (l : List ℕ). slice_get ns (get_or l j 0) ≡ Some n) same read in
-        let within : get_or order j 0 < length ns = subst (λ k. get_or order j 0 < k) (ap length are ∙ length_map node_tree ns) (number_within p named order ordered j in_order) in
-        ap (λ l. get_or l (get_or order j 0) no_node) are ∙ map_at node_tree ns (get_or order j 0) no_node n within ∙ ap node_tree (got ns (get_or order j 0) n n there)
+        let within : get_or order j 0 < length ns = subst (λ k. get_or order j 0 < k) (ap length are ∙ length_map node_tree ns)
+        (number_within p named order ordered j in_order) in
+        ap (λ l. get_or l (get_or order j 0) no_node) are ∙ map_at node_tree ns (get_or order j 0) no_node n within
+        ∙ ap node_tree (got ns (get_or order j 0) n n there)
 
     pub read_among : Contains p.nodes (node_tree n)
     read_among = subst (Contains p.nodes) (at_is p named order ordered j ∙ node_read) (among p named order ordered j in_order)
 
     pub read_within : {X : Type 0} (l : List X) → length l ≡ length p.nodes → get_or items j 0 < length l
-    read_within l size = subst (λ k. get_or k j 0 < length l) (sym same) (subst (λ k. get_or order j 0 < k) (sym size) (number_within p named order ordered j in_order))
+    read_within l size = subst (λ k. get_or k j 0 < length l) (sym same)
+        (subst (λ k. get_or order j 0 < k) (sym size) (number_within p named order ordered j in_order))
 
     pub read_step : (names : List Identifier) (bases new_bases : List Bool) (own new_own : List ℕ) → names ≡ names_of p → AreTicked p order j bases own
         → new_bases ≡ set bases (get_or items j 0) (has_base (walked_node (node_tree n) (ticks_on_base names bases)))
@@ -137,4 +154,5 @@ module _ (p : ProgramTree) (named : name_faults p ≡ []) (order : List ℕ) (or
     read_step names bases new_bases own new_own names_are t bases_are own_are =
         ticked_step j bases new_bases own new_own t in_order
         (bases_are ∙ (λ i. set bases (get_or (same i) j 0) (has_base (walked_node (sym node_read i) (ticks_on_base (names_are i) bases)))))
-        (own_are ∙ (λ i. set own (get_or (same i) j 0) (capped (length (sites_of_clocks [] (walked_node (sym node_read i) (ticks_on_base (names_are i) bases)))))))
+        (own_are ∙ (λ i. set own (get_or (same i) j 0) (capped (length
+        (sites_of_clocks [] (walked_node (sym node_read i) (ticks_on_base (names_are i) bases)))))))

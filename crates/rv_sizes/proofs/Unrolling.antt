@@ -21,7 +21,12 @@ pub total_same : {X : Type 0} (f g : X → ℕ) (xs : List X) → ((x : X) → C
 total_same f g [] each = refl
 total_same f g (x ∷ xs) each =
     let here = each x (0, omega arith, refl) in
-    let more = total_same f g xs (λ y w. each y (w.0 + 1, (let lt = w.1 in omega (arith, lt)), ap (λ k. get_or (x ∷ xs) k y) (let e : w.0 + 1 ≡ suc w.0 = omega arith in e) ∙ w.2)) in
+    let more = total_same f g xs (λ y w. each y (
+      w.0 + 1,
+      (let lt = w.1 in omega (arith, lt)),
+      ap (λ k. get_or (x ∷ xs) k y)
+          (let e : w.0 + 1 ≡ suc w.0 = omega arith in e) ∙ w.2,
+    )) in
     omega (arith, here, more)
 
 pub total_flat_map : {X Y : Type 0} (h : Y → ℕ) (g : X → List Y) (xs : List X) → total h (flat_map g xs) ≡ total (λ x. total h (g x)) xs
@@ -44,10 +49,12 @@ module _ (p : ProgramTree) (named : name_faults p ≡ []) (f : NodeTree → ℕ)
   unrolled_total (suc levels) i k lt is =
       let cs = calls (get_or p.nodes k no_node) in
       let own : f i.node ≡ get_or (map f p.nodes) k 0 = ap f is ∙ sym (map_at f p.nodes k 0 no_node lt) in
-      let below : total (λ (j : Instance). f j.node) (flat_map (λ (c : CallTree). unrolled p levels (callee p i c)) (calls i.node)) ≡ total (λ (c : Calling). total_at (map f p.nodes) (callings_of p) levels c.callee) (get_or (callings_of p) k []) =
+      let below : total (λ (j : Instance). f j.node) (flat_map (λ (c : CallTree). unrolled p levels (callee p i c)) (calls i.node)) ≡ total
+      (λ (c : Calling). total_at (map f p.nodes) (callings_of p) levels c.callee) (get_or (callings_of p) k []) =
       total_flat_map (λ (j : Instance). f j.node) (λ (c : CallTree). unrolled p levels (callee p i c)) (calls i.node)
       ∙ ap (λ (n : NodeTree). total (λ (c : CallTree). total (λ (j : Instance). f j.node) (unrolled p levels (callee p i c))) (calls n)) is
-      ∙ total_same (λ (c : CallTree). total (λ (j : Instance). f j.node) (unrolled p levels (callee p i c))) (λ (c : CallTree). total_at (map f p.nodes) (callings_of p) levels (index_of (names_of p) c.name)) (calls (get_or p.nodes k no_node))
+      ∙ total_same (λ (c : CallTree). total (λ (j : Instance). f j.node) (unrolled p levels (callee p i c)))
+      (λ (c : CallTree). total_at (map f p.nodes) (callings_of p) levels (index_of (names_of p) c.name)) (calls (get_or p.nodes k no_node))
       (λ c w.
       let to = called p named c.name (calls_declared p named (get_or p.nodes k no_node) c (Contains-get_or p.nodes k no_node lt) w) in
       unrolled_total levels (callee p i c) (index_of (names_of p) c.name) to.0 to.1)
@@ -56,16 +63,22 @@ module _ (p : ProgramTree) (named : name_faults p ≡ []) (f : NodeTree → ℕ)
       (λ j. own j + below j)
 
 -- sums of capped numbers are the same up to 2^40
-pub capped_total : {X : Type 0} (f : X → ℕ) (xs : List X) (t : List (List Calling)) (levels k : ℕ) → min (total_at (map (λ x. capped (f x)) xs) t levels k) heaviest ≡ min (total_at (map f xs) t levels k) heaviest
+pub capped_total : {X : Type 0} (f : X → ℕ) (xs : List X) (t : List (List Calling)) (levels k : ℕ)
+    → min (total_at (map (λ x. capped (f x)) xs) t levels k) heaviest ≡ min (total_at (map f xs) t levels k) heaviest
 capped_total {X = X} f xs t zero k = refl
 capped_total {X = X} f xs t (suc levels) k =
     let own = own_capped xs k in
-    let first = total_min heaviest (λ (c : Calling). min (total_at (map (λ x. capped (f x)) xs) t levels c.callee) heaviest) (λ (c : Calling). total_at (map (λ x. capped (f x)) xs) t levels c.callee) (get_or t k []) (get_or (map (λ x. capped (f x)) xs) k 0) (λ c w. refl) in
-    let second = total_min heaviest (λ (c : Calling). min (total_at (map f xs) t levels c.callee) heaviest) (λ (c : Calling). total_at (map f xs) t levels c.callee) (get_or t k []) (get_or (map f xs) k 0) (λ c w. refl) in
-    let same = total_same (λ (c : Calling). min (total_at (map (λ x. capped (f x)) xs) t levels c.callee) heaviest) (λ (c : Calling). min (total_at (map f xs) t levels c.callee) heaviest) (get_or t k []) (λ c w. capped_total f xs t levels c.callee) in
+    let first = total_min heaviest (λ (c : Calling). min (total_at (map (λ x. capped (f x)) xs) t levels c.callee) heaviest)
+    (λ (c : Calling). total_at (map (λ x. capped (f x)) xs) t levels c.callee) (get_or t k []) (get_or (map (λ x. capped (f x)) xs) k 0) (λ c w. refl) in
+    let second = total_min heaviest (λ (c : Calling). min (total_at (map f xs) t levels c.callee) heaviest)
+    (λ (c : Calling). total_at (map f xs) t levels c.callee) (get_or t k []) (get_or (map f xs) k 0) (λ c w. refl) in
+    let same = total_same (λ (c : Calling). min (total_at (map (λ x. capped (f x)) xs) t levels c.callee) heaviest)
+    (λ (c : Calling). min (total_at (map f xs) t levels c.callee) heaviest) (get_or t k []) (λ c w. capped_total f xs t levels c.callee) in
     joined (get_or (map (λ x. capped (f x)) xs) k 0) (get_or (map f xs) k 0)
-    (total (λ (c : Calling). min (total_at (map (λ x. capped (f x)) xs) t levels c.callee) heaviest) (get_or t k [])) (total (λ (c : Calling). total_at (map (λ x. capped (f x)) xs) t levels c.callee) (get_or t k []))
-    (total (λ (c : Calling). min (total_at (map f xs) t levels c.callee) heaviest) (get_or t k [])) (total (λ (c : Calling). total_at (map f xs) t levels c.callee) (get_or t k []))
+    (total (λ (c : Calling). min (total_at (map (λ x. capped (f x)) xs) t levels c.callee) heaviest) (get_or t k []))
+    (total (λ (c : Calling). total_at (map (λ x. capped (f x)) xs) t levels c.callee) (get_or t k []))
+    (total (λ (c : Calling). min (total_at (map f xs) t levels c.callee) heaviest) (get_or t k []))
+    (total (λ (c : Calling). total_at (map f xs) t levels c.callee) (get_or t k []))
     own first second same
   where
     own_capped : (xs : List X) (k : ℕ) → get_or (map (λ x. capped (f x)) xs) k 0 ≡ min (get_or (map f xs) k 0) heaviest
@@ -73,5 +86,6 @@ capped_total {X = X} f xs t (suc levels) k =
     own_capped (x ∷ xs) zero = refl
     own_capped (x ∷ xs) (suc k) = own_capped xs k
 
-    joined : (a b s u v w : ℕ) → a ≡ min b heaviest → min (a + s) heaviest ≡ min (a + u) heaviest → min (b + v) heaviest ≡ min (b + w) heaviest → s ≡ v → min (a + u) heaviest ≡ min (b + w) heaviest
+    joined : (a b s u v w : ℕ) → a ≡ min b heaviest → min (a + s) heaviest ≡ min (a + u) heaviest → min (b + v) heaviest ≡ min (b + w) heaviest → s ≡ v
+        → min (a + u) heaviest ≡ min (b + w) heaviest
     joined a b s u v w e p q r = omega (arith, e, p, q, r)

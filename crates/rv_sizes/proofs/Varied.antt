@@ -26,10 +26,12 @@ labels_of_body : (d : TypeDecl) (b : TypeBody) → d.body ≡ b → ((xs : List 
 labels_of_body d (Alias t) is each = rw is (omega arith)
 labels_of_body d (Labels xs) is each = let few = each xs is in rw is (omega (arith, few))
 
-labels_few : (ds : List TypeDecl) → ((d : TypeDecl) (xs : List Name) → Contains ds d → d.body ≡ Labels xs → length xs ≤ most) → (k : ℕ) → labels_at ds k ≤ heaviest
+labels_few : (ds : List TypeDecl) → ((d : TypeDecl) (xs : List Name) → Contains ds d → d.body ≡ Labels xs → length xs ≤ most) → (k : ℕ)
+    → labels_at ds k ≤ heaviest
 labels_few [] each k = omega arith
 labels_few (d ∷ ds) each zero = labels_of_body d d.body refl (λ xs is. each d xs (0, omega arith, refl) is)
-labels_few (d ∷ ds) each (suc k) = labels_few ds (λ e xs w is. each e xs (w.0 + 1, (let lt = w.1 in omega (arith, lt)), ap (λ j. get_or (d ∷ ds) j e) (let h : w.0 + 1 ≡ suc w.0 = omega arith in h) ∙ w.2) is) k
+labels_few (d ∷ ds) each (suc k) = labels_few ds (λ e xs w is. each e xs
+    (w.0 + 1, (let lt = w.1 in omega (arith, lt)), ap (λ j. get_or (d ∷ ds) j e) (let h : w.0 + 1 ≡ suc w.0 = omega arith in h) ∙ w.2) is) k
 
 -- no type has more labels than a source has bytes
 pub few_labels : (p : ProgramTree) → IsBounded p → (k : ℕ) → labels_at p.types k ≤ heaviest
@@ -42,11 +44,13 @@ bits_each p (k ∷ ks) = λ i. bits_same p k i + bits_each p ks i
 bits_here : (p : ProgramTree) (n : NodeTree) → bits_of_all p.types (memory_kinds p n) ≡ memory_bits p n
 bits_here p n = bits_each p (memory_kinds p n) ∙ total_map (kind_bits p) (λ (d : Delay). operand_kind p n d.operand) (memories n)
 
-bits_everywhere : (p : ProgramTree) (ns : List NodeTree) → map (λ (ks : List Kind). capped (bits_of_all p.types ks)) (map (memory_kinds p) ns) ≡ map (λ (n : NodeTree). capped (memory_bits p n)) ns
+bits_everywhere : (p : ProgramTree) (ns : List NodeTree) → map (λ (ks : List Kind). capped (bits_of_all p.types ks)) (map (memory_kinds p) ns) ≡ map
+    (λ (n : NodeTree). capped (memory_bits p n)) ns
 bits_everywhere p [] = refl
 bits_everywhere p (n ∷ ns) = λ i. capped (bits_here p n i) ∷ bits_everywhere p ns i
 
-pub bits_measured : (p : ProgramTree) (kinds : List (List Kind)) (own : List ℕ) → kinds ≡ map (memory_kinds p) p.nodes → own ≡ map (λ (ks : List Kind). capped (bits_of_all p.types ks)) kinds → own ≡ map (λ (n : NodeTree). capped (memory_bits p n)) p.nodes
+pub bits_measured : (p : ProgramTree) (kinds : List (List Kind)) (own : List ℕ) → kinds ≡ map (memory_kinds p) p.nodes
+    → own ≡ map (λ (ks : List Kind). capped (bits_of_all p.types ks)) kinds → own ≡ map (λ (n : NodeTree). capped (memory_bits p n)) p.nodes
 bits_measured p kinds own each is = is ∙ ap (map (λ (ks : List Kind). capped (bits_of_all p.types ks))) each ∙ bits_everywhere p p.nodes
 
 pub take_length : {X : Type 0} (n : ℕ) (xs : List X) → n ≤ length xs → length (take n xs) ≡ n

@@ -1,7 +1,8 @@
 -- The clocks that tick in a node, in the order in which a walk over its expressions comes to them, and what is known
 -- of the nodes that have been walked over.
 use Rattle.std.specs.Prelude.{◌≡◌, ℕ, ◌<◌, Bool, false, not, cond, List, [], ◌∷◌, ◌++◌, flat_map, length, slice_index_or}
-use Rattle.rv_tree.specs.Tree.{Tree, Node, Form, True, False, Number, Named, Not, Minus, Pre, Current, When, Binary, If, AtMostOne, Call, Trees, None, More, NodeTree, ProgramTree}
+use Rattle.rv_tree.specs.Tree.{Tree, Node, Form, True, False, Number, Named, Not, Minus, Pre, Current, When, Binary, If, AtMostOne, Call, Trees, None, More}
+use Rattle.rv_tree.specs.Tree.{NodeTree, ProgramTree}
 use Rattle.rv_tree.specs.Places.{Identifier, index_of}
 use Rattle.rv_types.specs.declared.typed.Clock.{Clock}
 use Rattle.rv_types.specs.declared.typed.Clock.TheVariants.{Base, On}
@@ -66,5 +67,7 @@ module _ (n : NodeTree) (on_base : Identifier → Bool) where
 pub record AreTicked (p : ProgramTree) (order : List ℕ) (done : ℕ) (bases : List Bool) (own : List ℕ) : Type 0 where
   pub bases_size : length bases ≡ length p.nodes
   pub own_size : length own ≡ length p.nodes
-  pub base : (j : ℕ) → j < done → j < length order → slice_index_or bases (slice_index_or order j 0) false ≡ has_base (ticking p (length p.nodes) (slice_index_or p.nodes (slice_index_or order j 0) no_node))
-  pub count : (j : ℕ) → j < done → j < length order → slice_index_or own (slice_index_or order j 0) 0 ≡ capped (own_ticks p (slice_index_or p.nodes (slice_index_or order j 0) no_node))
+  pub base : (j : ℕ) → j < done → j < length order → slice_index_or bases (slice_index_or order j 0) false ≡ has_base
+      (ticking p (length p.nodes) (slice_index_or p.nodes (slice_index_or order j 0) no_node))
+  pub count : (j : ℕ) → j < done → j < length order → slice_index_or own (slice_index_or order j 0) 0 ≡ capped
+      (own_ticks p (slice_index_or p.nodes (slice_index_or order j 0) no_node))

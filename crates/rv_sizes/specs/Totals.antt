@@ -27,4 +27,5 @@ called_total totals cs = total (λ c. slice_index_or totals c.callee 0) cs
 pub record AreSummed (own : List ℕ) (t : List (List Calling)) (order : List ℕ) (done : ℕ) (totals : List ℕ) : Type 0 where
   pub size : length totals ≡ length t
   pub capped : AreCapped totals
-  pub value : (j levels : ℕ) → j < done → j < length order → j < levels → slice_index_or totals (slice_index_or order j 0) 0 ≡ min (total_at own t levels (slice_index_or order j 0)) heaviest
+  pub value : (j levels : ℕ) → j < done → j < length order → j < levels
+      → slice_index_or totals (slice_index_or order j 0) 0 ≡ min (total_at own t levels (slice_index_or order j 0)) heaviest

@@ -138,7 +138,8 @@ fn memory_total(alloc: Global, p: &Program, main: u32, nodes: &Nodes) -> Result<
     requires named { name_faults (program_tree p.now) ≡ [] }
     requires nodes { AreOrderedNodes (program_tree p.now) nodes.now }
     requires main { main < length (program_tree p.now).nodes }
-    ensures { IfOk result (λ count. count ≡ capped (over_instances (program_tree p.now) (name_at (program_tree p.now) main) (integer_memories (program_tree p.now)))) }
+    ensures { IfOk result (λ count. count ≡ capped (over_instances (program_tree p.now) (name_at (program_tree p.now) main)
+        (integer_memories (program_tree p.now)))) }
 {
     let tables = program_tables(alloc, p)?;
     let kinds = memories_of(alloc, p, &tables)?;

@@ -46,7 +46,8 @@ fn memories_of_node(
     tables: &ProgramTables,
     node: &Node,
 ) -> Result<Many<Kind>, Memory>
-    ensures { (p : ProgramTree) → AreTables p tables.now → repeated [] (decl_names (decls (node_tree node.now))) ≡ [] → IfOk result (λ kinds. kinds ≡ memory_kinds p (node_tree node.now)) }
+    ensures { (p : ProgramTree) → AreTables p tables.now → repeated [] (decl_names (decls (node_tree node.now))) ≡ []
+        → IfOk result (λ kinds. kinds ≡ memory_kinds p (node_tree node.now)) }
 {
     let own = node_tables(alloc, tables, node)?;
     let kinds = delay_kinds(alloc, tables, &own, node)?;

@@ -37,7 +37,8 @@ pub fn order_tests_of(
 
 /// The number of order tests of a node that keeps the rules.
 fn order_tests_of_node(alloc: Global, tables: &ProgramTables, node: &Node) -> Result<u64, Memory>
-    ensures { (p : ProgramTree) → AreTables p tables.now → repeated [] (decl_names (decls (node_tree node.now))) ≡ [] → IsWellFormed p (node_tree node.now) → IsWellTyped p (node_tree node.now) → IfOk result (λ count. count ≡ capped (order_tests p (node_tree node.now))) }
+    ensures { (p : ProgramTree) → AreTables p tables.now → repeated [] (decl_names (decls (node_tree node.now))) ≡ [] → IsWellFormed p (node_tree node.now)
+        → IsWellTyped p (node_tree node.now) → IfOk result (λ count. count ≡ capped (order_tests p (node_tree node.now))) }
 {
     let own = node_tables(alloc, tables, node)?;
     Ok(capped_sum(

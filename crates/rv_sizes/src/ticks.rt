@@ -92,8 +92,10 @@ fn add_node(
     requires few { length (flows (node_tree node.now)) < 2 ^ 32 }
     requires bases { at < length ticks.old.bases }
     requires own { at < length ticks.old.own }
-    ensures bases { OnOk result (ticks.new.bases ≡ slice_set ticks.old.bases at (has_base (walked_node (node_tree node.now) (ticks_on_base names.now ticks.old.bases)))) }
-    ensures own { OnOk result (ticks.new.own ≡ slice_set ticks.old.own at (capped (length (sites_of_clocks [] (walked_node (node_tree node.now) (ticks_on_base names.now ticks.old.bases)))))) }
+    ensures bases { OnOk result (ticks.new.bases ≡ slice_set ticks.old.bases at
+        (has_base (walked_node (node_tree node.now) (ticks_on_base names.now ticks.old.bases)))) }
+    ensures own { OnOk result (ticks.new.own ≡ slice_set ticks.old.own at
+        (capped (length (sites_of_clocks [] (walked_node (node_tree node.now) (ticks_on_base names.now ticks.old.bases)))))) }
 {
     let found = ticking_in(alloc, node, names, &ticks.bases)?;
     let own = different_sites(alloc, found.as_slice())?;
@@ -168,7 +170,8 @@ fn gather_equations(
     equations: &[Equation],
     found: &mut Many<Clock>,
 ) -> Result<(), Memory>
-    ensures { OnOk result (found.new ≡ found.old ++ flat_map (λ q. walked (node_tree walk.now.clocks.now.node.now) (ticks_on_base walk.now.names.now walk.now.bases.now) q.right) (map equation_tree equations.now)) }
+    ensures { OnOk result (found.new ≡ found.old ++ flat_map (λ q. walked (node_tree walk.now.clocks.now.node.now)
+        (ticks_on_base walk.now.names.now walk.now.bases.now) q.right) (map equation_tree equations.now)) }
 {
     for equation in equations {
         gather(walk, &equation.right, found)?;
@@ -182,7 +185,8 @@ fn gather_assertions(
     assertions: &[Assertion],
     found: &mut Many<Clock>,
 ) -> Result<(), Memory>
-    ensures { OnOk result (found.new ≡ found.old ++ flat_map (λ a. walked (node_tree walk.now.clocks.now.node.now) (ticks_on_base walk.now.names.now walk.now.bases.now) a.body) (map assertion_tree assertions.now)) }
+    ensures { OnOk result (found.new ≡ found.old ++ flat_map (λ a. walked (node_tree walk.now.clocks.now.node.now)
+        (ticks_on_base walk.now.names.now walk.now.bases.now) a.body) (map assertion_tree assertions.now)) }
 {
     for assertion in assertions {
         gather(walk, &assertion.body, found)?;
@@ -196,7 +200,8 @@ fn gather_assertions(
 #[cycle(gather)]
 fn gather(walk: &Walk, e: &Expr, found: &mut Many<Clock>) -> Result<Pace, Memory>
     ensures pace { IfOk result (λ p. p ≡ pace (node_tree walk.now.clocks.now.node.now) (tree_of e.now)) }
-    ensures found { OnOk result (found.new ≡ found.old ++ walked (node_tree walk.now.clocks.now.node.now) (ticks_on_base walk.now.names.now walk.now.bases.now) (tree_of e.now)) }
+    ensures found { OnOk result (found.new ≡ found.old ++ walked (node_tree walk.now.clocks.now.node.now) (ticks_on_base walk.now.names.now walk.now.bases.now)
+        (tree_of e.now)) }
 {
     match &e.form {
         ExprForm::Binary(op, left, right) => {
@@ -235,7 +240,8 @@ fn gather_right(
     found: &mut Many<Clock>,
 ) -> Result<Pace, Memory>
     ensures pace { IfOk result (λ p. p ≡ binary_pace op (seen left) (seen (pace (node_tree walk.now.clocks.now.node.now) (tree_of right.now)))) }
-    ensures found { OnOk result (found.new ≡ found.old ++ (walked (node_tree walk.now.clocks.now.node.now) (ticks_on_base walk.now.names.now walk.now.bases.now) (tree_of right.now) ++ arrow_clock op (binary_pace op (seen left) (seen (pace (node_tree walk.now.clocks.now.node.now) (tree_of right.now)))))) }
+    ensures found { OnOk result (found.new ≡ found.old ++ (walked (node_tree walk.now.clocks.now.node.now) (ticks_on_base walk.now.names.now walk.now.bases.now)
+        (tree_of right.now) ++ arrow_clock op (binary_pace op (seen left) (seen (pace (node_tree walk.now.clocks.now.node.now) (tree_of right.now)))))) }
 {
     let right = gather(walk, right, found)?;
     add_operator(op, operator_pace(op, left, right), found)
@@ -246,7 +252,8 @@ fn gather_right(
 #[inline(never)]
 fn gather_kept(walk: &Walk, operand: &Expr, found: &mut Many<Clock>) -> Result<Pace, Memory>
     ensures pace { IfOk result (λ p. p ≡ seen (pace (node_tree walk.now.clocks.now.node.now) (tree_of operand.now))) }
-    ensures found { OnOk result (found.new ≡ found.old ++ walked (node_tree walk.now.clocks.now.node.now) (ticks_on_base walk.now.names.now walk.now.bases.now) (tree_of operand.now)) }
+    ensures found { OnOk result (found.new ≡ found.old ++ walked (node_tree walk.now.clocks.now.node.now) (ticks_on_base walk.now.names.now walk.now.bases.now)
+        (tree_of operand.now)) }
 {
     Ok(kept_pace(gather(walk, operand, found)?))
 }
@@ -256,7 +263,8 @@ fn gather_kept(walk: &Walk, operand: &Expr, found: &mut Many<Clock>) -> Result<P
 #[inline(never)]
 fn gather_delayed(walk: &Walk, operand: &Expr, found: &mut Many<Clock>) -> Result<Pace, Memory>
     ensures pace { IfOk result (λ p. p ≡ grounded (seen (pace (node_tree walk.now.clocks.now.node.now) (tree_of operand.now)))) }
-    ensures found { OnOk result (found.new ≡ found.old ++ walked (node_tree walk.now.clocks.now.node.now) (ticks_on_base walk.now.names.now walk.now.bases.now) (tree_of operand.now)) }
+    ensures found { OnOk result (found.new ≡ found.old ++ walked (node_tree walk.now.clocks.now.node.now) (ticks_on_base walk.now.names.now walk.now.bases.now)
+        (tree_of operand.now)) }
 {
     Ok(delayed_pace(gather(walk, operand, found)?))
 }
@@ -265,8 +273,10 @@ fn gather_delayed(walk: &Walk, operand: &Expr, found: &mut Many<Clock>) -> Resul
 #[cycle(gather)]
 #[inline(never)]
 fn gather_current(walk: &Walk, operand: &Expr, found: &mut Many<Clock>) -> Result<Pace, Memory>
-    ensures pace { IfOk result (λ p. p ≡ current_pace (node_tree walk.now.clocks.now.node.now) (seen (pace (node_tree walk.now.clocks.now.node.now) (tree_of operand.now)))) }
-    ensures found { OnOk result (found.new ≡ found.old ++ walked (node_tree walk.now.clocks.now.node.now) (ticks_on_base walk.now.names.now walk.now.bases.now) (tree_of operand.now)) }
+    ensures pace { IfOk result (λ p. p ≡ current_pace (node_tree walk.now.clocks.now.node.now)
+        (seen (pace (node_tree walk.now.clocks.now.node.now) (tree_of operand.now)))) }
+    ensures found { OnOk result (found.new ≡ found.old ++ walked (node_tree walk.now.clocks.now.node.now) (ticks_on_base walk.now.names.now walk.now.bases.now)
+        (tree_of operand.now)) }
 {
     let operand = gather(walk, operand, found)?;
     Ok(walk.clocks.current_pace(operand))
@@ -282,8 +292,10 @@ fn gather_else(
     second: &Expr,
     found: &mut Many<Clock>,
 ) -> Result<Pace, Memory>
-    ensures pace { IfOk result (λ p. p ≡ meet (seen condition) (meet (seen first) (seen (pace (node_tree walk.now.clocks.now.node.now) (tree_of second.now))))) }
-    ensures found { OnOk result (found.new ≡ found.old ++ walked (node_tree walk.now.clocks.now.node.now) (ticks_on_base walk.now.names.now walk.now.bases.now) (tree_of second.now)) }
+    ensures pace { IfOk result (λ p. p ≡ meet (seen condition) (meet (seen first)
+        (seen (pace (node_tree walk.now.clocks.now.node.now) (tree_of second.now))))) }
+    ensures found { OnOk result (found.new ≡ found.old ++ walked (node_tree walk.now.clocks.now.node.now) (ticks_on_base walk.now.names.now walk.now.bases.now)
+        (tree_of second.now)) }
 {
     let second = gather(walk, second, found)?;
     Ok(choice_pace(condition, first, second))
@@ -299,7 +311,10 @@ fn gather_call(
     found: &mut Many<Clock>,
 ) -> Result<Pace, Memory>
     ensures pace { IfOk result (λ p. p ≡ grounded (pace_of_all (node_tree walk.now.clocks.now.node.now) (trees (map tree_of arguments.now)))) }
-    ensures found { OnOk result (found.new ≡ found.old ++ (walked_all (node_tree walk.now.clocks.now.node.now) (ticks_on_base walk.now.names.now walk.now.bases.now) (trees (map tree_of arguments.now)) ++ handed_clock (ticks_on_base walk.now.names.now walk.now.bases.now) callee.now (pace_of_all (node_tree walk.now.clocks.now.node.now) (trees (map tree_of arguments.now))))) }
+    ensures found { OnOk result (found.new ≡ found.old ++ (walked_all (node_tree walk.now.clocks.now.node.now)
+        (ticks_on_base walk.now.names.now walk.now.bases.now) (trees (map tree_of arguments.now))
+        ++ handed_clock (ticks_on_base walk.now.names.now walk.now.bases.now) callee.now
+        (pace_of_all (node_tree walk.now.clocks.now.node.now) (trees (map tree_of arguments.now))))) }
 {
     let together = gather_all(walk, arguments, found)?;
     add_call(walk, callee, together, found)
@@ -310,7 +325,8 @@ fn gather_call(
 #[inline(never)]
 fn gather_all(walk: &Walk, expressions: &[Expr], found: &mut Many<Clock>) -> Result<Pace, Memory>
     ensures pace { IfOk result (λ p. p ≡ pace_of_all (node_tree walk.now.clocks.now.node.now) (trees (map tree_of expressions.now))) }
-    ensures found { OnOk result (found.new ≡ found.old ++ walked_all (node_tree walk.now.clocks.now.node.now) (ticks_on_base walk.now.names.now walk.now.bases.now) (trees (map tree_of expressions.now))) }
+    ensures found { OnOk result (found.new ≡ found.old ++ walked_all (node_tree walk.now.clocks.now.node.now)
+        (ticks_on_base walk.now.names.now walk.now.bases.now) (trees (map tree_of expressions.now))) }
 {
     let mut together = Pace::Free;
     for e in expressions {

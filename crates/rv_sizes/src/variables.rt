@@ -75,7 +75,8 @@ fn memory_bit_total(
     requires named { name_faults (program_tree p.now) ≡ [] }
     requires nodes { AreOrderedNodes (program_tree p.now) nodes.now }
     requires main { main < length (program_tree p.now).nodes }
-    ensures { IfOk result (λ count. count ≡ capped (over_instances (program_tree p.now) (name_at (program_tree p.now) main) (memory_bits (program_tree p.now)))) }
+    ensures { IfOk result (λ count. count ≡ capped (over_instances (program_tree p.now) (name_at (program_tree p.now) main)
+        (memory_bits (program_tree p.now)))) }
 {
     let kinds = memories_of(alloc, p, tables)?;
     let own = memory_bits_of(alloc, p.types.as_slice(), &kinds)?;
@@ -95,7 +96,8 @@ fn order_test_total(
     requires well { AreWell (program_tree p.now) }
     requires nodes { AreOrderedNodes (program_tree p.now) nodes.now }
     requires main { main < length (program_tree p.now).nodes }
-    ensures { IfOk result (λ count. count ≡ capped (over_instances (program_tree p.now) (name_at (program_tree p.now) main) (order_tests (program_tree p.now)))) }
+    ensures { IfOk result (λ count. count ≡ capped (over_instances (program_tree p.now) (name_at (program_tree p.now) main)
+        (order_tests (program_tree p.now)))) }
 {
     let own = order_tests_of(alloc, p, tables)?;
     total_of(alloc, p, main, nodes, &own)

@@ -1,5 +1,6 @@
 -- A constant expression counts as no more than its weight, and as no more than 2^40 + 1 where constants do.
-use Rattle.std.proofs.Common.{◌≡◌, ℕ, ◌+◌, ◌*◌, ◌≤◌, ◌<◌, min, max, Bool, true, false, cond, nat_le, List, [], ◌∷◌, reverse, ℤ, pos, ◌+ℤ◌, ◌-ℤ◌, ◌*ℤ◌, neg_ℤ, nat_abs, Option, Some, refl, arith}
+use Rattle.std.proofs.Common.{◌≡◌, ℕ, ◌+◌, ◌*◌, ◌≤◌, ◌<◌, min, max, Bool, true, false, cond, nat_le, List, [], ◌∷◌, reverse, ℤ, pos, ◌+ℤ◌, ◌-ℤ◌, ◌*ℤ◌, neg_ℤ}
+use Rattle.std.proofs.Common.{nat_abs, Option, Some, refl, arith}
 use Rattle.std.proofs.Common.{None as Nothing}
 use Rattle.std.specs.List.{All}
 use Rattle.std.proofs.lemmas.List.Elements.{All-nil, All-push}
@@ -41,7 +42,8 @@ product_small y z w h = rw (unsigned_abs-mul y z) (mul-le-mul_left (nat_abs y) h
 negated_small : (m : ℕ) (z : ℤ) → nat_abs z ≤ m → nat_abs (neg_ℤ z) ≤ m
 negated_small m z h = omega (arith, ints)
 
-under_small : (o : Op) (x y : Value) (v w : ℕ) → size x ≤ v → size y ≤ w → size (value_under (weight_under o (size x) v w) o x y) ≤ min (weight_under o (size x) v w) too_heavy
+under_small : (o : Op) (x y : Value) (v w : ℕ) → size x ≤ v → size y ≤ w
+    → size (value_under (weight_under o (size x) v w) o x y) ≤ min (weight_under o (size x) v w) too_heavy
 under_small op.Plus x y v w g h = counted_small (v + w) (whole_in x +ℤ whole_in y) (sum_small (whole_in x) (whole_in y) v w g h)
 under_small op.Minus x y v w g h = counted_small (v + w) (whole_in x -ℤ whole_in y) (difference_small (whole_in x) (whole_in y) v w g h)
 under_small op.Times x y v w g h = counted_small (size x * w) (whole_in x *ℤ whole_in y) (product_small (whole_in x) (whole_in y) w h)

@@ -44,7 +44,8 @@ mutual
   form_parts_small (When e c) h = parts_small e h
   form_parts_small (Binary o a b) h = All-append IsSmallPart (parts a) (parts b) (parts_small a h.0) (parts_small b h.1)
   form_parts_small (If a b c) h =
-      All-append IsSmallPart (parts a) (parts b ++ parts c) (parts_small a h.0) (All-append IsSmallPart (parts b) (parts c) (parts_small b h.1) (parts_small c h.2))
+      All-append IsSmallPart (parts a) (parts b ++ parts c) (parts_small a h.0)
+      (All-append IsSmallPart (parts b) (parts c) (parts_small b h.1) (parts_small c h.2))
   form_parts_small (AtMostOne es) h = all_parts_small es h
   form_parts_small (Call f es) h = all_parts_small es h
 

@@ -11,5 +11,6 @@ use Rattle.rv_types.specs.Variables.{parts, node_parts}
 -- Each literal in a node or in the body of a constant, and each integer constant, has a magnitude of at most 2^40 + 1.
 pub record HasSmallNumbers (p : ProgramTree) : Type 0 where
   pub in_nodes : (n : NodeTree) (at v : ℕ) (site : Option ℕ) → Contains p.nodes n → Contains (node_parts n) (Node at site (Number v)) → v ≤ too_heavy
-  pub in_constants : (c : ConstantTree) (at v : ℕ) (site : Option ℕ) → Contains p.constants c → Contains (parts c.body) (Node at site (Number v)) → v ≤ too_heavy
+  pub in_constants : (c : ConstantTree) (at v : ℕ) (site : Option ℕ) → Contains p.constants c → Contains (parts c.body) (Node at site (Number v))
+      → v ≤ too_heavy
   pub constants : (z : ℤ) → Contains (constant_values p) (Whole z) → unsigned_abs z ≤ too_heavy

@@ -5,7 +5,8 @@ ghost use Rattle.rv_base.specs.Limits.{source_limit};
 ghost use Rattle.rv_tree.specs.Tree.{ProgramTree};
 ghost use Rattle.rv_types.specs.declared.typed.Typed.{Typed};
 ghost use Rattle.rv_source.specs.declared.fault.SourceFault.{SourceFault as FaultModel};
-ghost use Rattle.rv_source.specs.Sources.{IsSource, IsSourceOf, IsSourceFault, HasSourceCause, Accepts, RefusesSource, text_refusal, name_refusal, cause_refusal};
+ghost use Rattle.rv_source.specs.Sources.{IsSource, IsSourceOf, IsSourceFault, HasSourceCause, Accepts, RefusesSource, text_refusal, name_refusal};
+ghost use Rattle.rv_source.specs.Sources.{cause_refusal};
 
 use crate::fault::SourceFault;
 use rv_causality::{CauseFault, order, ordered_fits};

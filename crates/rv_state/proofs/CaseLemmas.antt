@@ -1,5 +1,6 @@
 -- Successors by a case of a system, and the answers that hold them.
-use Rattle.std.proofs.Common.{◌≡◌, ◌⊎◌, ℕ, zero, suc, ◌+◌, ◌-◌, ◌^◌, ◌≤◌, ◌<◌, ℤ, List, [], ◌∷◌, ◌++◌, length, All, Option, Some, None, arith, refl, ap, sym, ◌∙◌, subst, inl, inr}
+use Rattle.std.proofs.Common.{◌≡◌, ◌⊎◌, ℕ, zero, suc, ◌+◌, ◌-◌, ◌^◌, ◌≤◌, ◌<◌, ℤ, List, [], ◌∷◌, ◌++◌, length, All, Option, Some, None, arith, refl, ap, sym}
+use Rattle.std.proofs.Common.{◌∙◌, subst, inl, inr}
 use Rattle.std.proofs.lemmas.Bool.{cases_lt}
 use Rattle.std.proofs.lemmas.List.{length-append, length_push, get_or_append_left, get_or_push}
 use Rattle.std.proofs.lemmas.List.Elements.{All-nil, All-push, All-append}
@@ -31,7 +32,8 @@ rows-hold s v point a (suc n) l = All-append (λ r. Holds r point) (rows_among s
     go None e = All-nil (λ r. Holds r point)
     go (Some r) e = All-push (λ q. Holds q point) [] r (All-nil (λ q. Holds q point)) (a.rows n r (omega arith) e)
 
-tests-hold : (s : System) (v : Valuation) (point : List ℤ) (n : ℕ) → HasPoint (rows_among s v n) point → (t : ℕ) (r : Row) → t < n → s.row v t ≡ Some r → Holds r point
+tests-hold : (s : System) (v : Valuation) (point : List ℤ) (n : ℕ) → HasPoint (rows_among s v n) point → (t : ℕ) (r : Row) → t < n → s.row v t ≡ Some r
+    → Holds r point
 tests-hold s v point zero h t r l at = absurd (omega arith)
 tests-hold s v point (suc n) h t r l at = go (λ less. tests-hold s v point n before t r less at) (cases_lt t n)
   where

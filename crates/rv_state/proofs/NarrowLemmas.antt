@@ -1,5 +1,6 @@
 -- Rows with few coefficients.
-use Rattle.std.proofs.Common.{◌≡◌, ◌≢◌, ℕ, zero, suc, ◌+◌, ◌<◌, ◌≤◌, ℤ, pos, negsuc, List, [], ◌∷◌, ◌++◌, length, take, get_or, All, Some, slice_get, arith, refl, sym, ap, ◌∙◌, subst, ◌⊎◌, inl, inr}
+use Rattle.std.proofs.Common.{◌≡◌, ◌≢◌, ℕ, zero, suc, ◌+◌, ◌<◌, ◌≤◌, ℤ, pos, negsuc, List, [], ◌∷◌, ◌++◌, length, take, get_or, All, Some, slice_get, arith}
+use Rattle.std.proofs.Common.{refl, sym, ap, ◌∙◌, subst, ◌⊎◌, inl, inr}
 use Rattle.std.proofs.lemmas.Bool.{cases_lt}
 use Rattle.std.proofs.lemmas.Option.{slice_get_within, get_or_from_slice_get}
 use Rattle.std.proofs.lemmas.List.{take_more, length-take-le, length-append, get_or_append_left, get_or_push}
@@ -98,7 +99,8 @@ narrowed-more most old rows new n r at h noted = go noted
     go (inl (small, same)) = subst (λ (xs : List Row). IsNarrowed most (take (n + 1) old) xs) (sym same) (record {
       few = omega (arith, h.few, size, count, length-append rows (r ∷ []));
       from = λ i d l. from i d l (cases_lt i (length rows));
-      narrow = All-append (λ q. support q.coefficients ≤ most) rows (r ∷ []) h.narrow (All-cons (λ q. support q.coefficients ≤ most) r [] small (All-nil (λ q. support q.coefficients ≤ most)));
+      narrow = All-append (λ q. support q.coefficients ≤ most) rows (r ∷ []) h.narrow
+          (All-cons (λ q. support q.coefficients ≤ most) r [] small (All-nil (λ q. support q.coefficients ≤ most)));
     })
       where
         from : (i : ℕ) (d : Row) → i < length (rows ++ r ∷ []) → (i < length rows) ⊎ (length rows ≤ i)

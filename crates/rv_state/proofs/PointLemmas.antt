@@ -1,5 +1,6 @@
 -- Points with further numbers, and the updated points of moves.
-use Rattle.std.proofs.Common.{◌≡◌, ◌⊎◌, ℕ, zero, suc, ◌+◌, ◌≤◌, ◌<◌, ℤ, pos, ◌+ℤ◌, ◌*ℤ◌, List, [], ◌∷◌, ◌++◌, length, get_or, replicate, All, arith, refl, ap, sym, ◌∙◌, subst, inl, inr}
+use Rattle.std.proofs.Common.{◌≡◌, ◌⊎◌, ℕ, zero, suc, ◌+◌, ◌≤◌, ◌<◌, ℤ, pos, ◌+ℤ◌, ◌*ℤ◌, List, [], ◌∷◌, ◌++◌, length, get_or, replicate, All, arith, refl, ap}
+use Rattle.std.proofs.Common.{sym, ◌∙◌, subst, inl, inr}
 use Rattle.std.proofs.lemmas.Bool.{cases_lt}
 use Rattle.std.proofs.lemmas.List.{length-append, length-replicate, get_or_append_left, get_or-append-add, get_or_past}
 use Rattle.rv_rows.specs.declared.linear.Row.{Row}
@@ -22,7 +23,8 @@ wide-point : (rows : List Row) (width : ℕ) (point further : List ℤ) → All 
     → HasPoint rows (point ++ further)
 wide-point rows width point further widths size h i d l =
     let w = widths i d l in
-    let e : dot (get_or rows i d).coefficients (point ++ further) ≡ dot (get_or rows i d).coefficients point = dot-append (get_or rows i d).coefficients point further (omega arith) in
+    let e : dot (get_or rows i d).coefficients (point ++ further) ≡ dot (get_or rows i d).coefficients point = dot-append (get_or rows i d).coefficients point
+    further (omega arith) in
     rw e (h i d l)
 
 -- what contains each updated point of longer points does so with the inputs apart

@@ -51,7 +51,8 @@ union-holds variables a b f u v = (
     from false y (inr h) = h
 
 -- and of sets of control states it is one
-pub union-control : (s : System) (variables : ℕ) (a b f : Frozen) → variables ≡ s.variables → IsControlSet s a → IsControlSet s b → IsUnion variables a b f → IsControlSet s f
+pub union-control : (s : System) (variables : ℕ) (a b f : Frozen) → variables ≡ s.variables → IsControlSet s a → IsControlSet s b → IsUnion variables a b f
+    → IsControlSet s f
 union-control s variables a b f is left right u =
     control_set s f (either a b) (subst (λ (m : ℕ). IsOrderedOver m f) is u.ordered) u.needed
     (λ v w same. ap (λ x. x || value_of b.nodes b.root v) (control-value s a v w left same)

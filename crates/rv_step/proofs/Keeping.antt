@@ -11,7 +11,8 @@ use Rattle.rv_flat.specs.Filling.{IsKept}
 
 -- what a memory holds after an instant
 abbrev pub next_value : Flat → State → List Value → Row → ℕ → Value
-next_value f now inputs row m = cond (is_on_at row (nth_item (memory_items f) m).clock) (value_at now inputs row (nth_item (memory_items f) m).body) (get_or now.kept m (Flag false))
+next_value f now inputs row m = cond (is_on_at row (nth_item (memory_items f) m).clock) (value_at now inputs row (nth_item (memory_items f) m).body)
+    (get_or now.kept m (Flag false))
 
 -- one memory more
 pub one_kept : (f : Flat) (now : State) (inputs : List Value) (row : Row) (n : ℕ) (kept : List Value) (value : Value) → value ≡ next_value f now inputs row n

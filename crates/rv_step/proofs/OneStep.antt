@@ -1,5 +1,6 @@
 -- What one step answers.
-use Rattle.std.proofs.Common.{◌≡◌, ℕ, zero, suc, ◌+◌, ◌<◌, Bool, true, false, not, ◌||◌, cond, ℤ, List, [], ◌∷◌, length, map, get_or, IsTrue, refl, sym, ◌∙◌, ap, subst, arith, inl, inr}
+use Rattle.std.proofs.Common.{◌≡◌, ℕ, zero, suc, ◌+◌, ◌<◌, Bool, true, false, not, ◌||◌, cond, ℤ, List, [], ◌∷◌, length, map, get_or, IsTrue, refl, sym, ◌∙◌}
+use Rattle.std.proofs.Common.{ap, subst, arith, inl, inr}
 use Rattle.std.proofs.Common.{Option, None as Nothing, Some}
 use Rattle.std.specs.Prelude.{slice_get}
 use Rattle.std.proofs.lemmas.Int.{ints}
@@ -73,7 +74,8 @@ module _ (f : Flat) (now : State) (inputs : List Value) (row : Row) where
   no_truth true e = let bad : false ≡ true = e in absurd (grind arith)
   no_truth false e = refl
 
-  pub broken_places : (p : Option Place) → IsLeastOf (IsPicked (is_broken f now inputs row) (map (λ e. e.at.sites) f.assertions) (length f.assertions)) p → IsLeastOf (IsFlatBroken f now inputs row) p
+  pub broken_places : (p : Option Place) → IsLeastOf (IsPicked (is_broken f now inputs row) (map (λ e. e.at.sites) f.assertions) (length f.assertions)) p
+      → IsLeastOf (IsFlatBroken f now inputs row) p
   broken_places p least =
       least_same (IsPicked (is_broken f now inputs row) (map (λ e. e.at.sites) f.assertions) (length f.assertions)) (IsFlatBroken f now inputs row) p
       (λ q w. (w.0, w.1, sym w.3, no_truth (is_true (value_at now inputs row (get_or (assertion_trees f) w.0 no_assertion))) w.2))
@@ -138,7 +140,8 @@ module _ (f : Flat) (now : State) (inputs : List Value) (row : Row) where
         abbrev fitting : Kind → Value → Type 0
         fitting j v = IsTrue (constant_fits (label_counts f) j v)
 
-        kept_typed : AreTaken f now inputs row → (m : ℕ) (j : Kind) → m < length (memory_kinds f) → slice_get (memory_kinds f) m ≡ Some j → fitting j (get_or kept m (Flag false))
+        kept_typed : AreTaken f now inputs row → (m : ℕ) (j : Kind) → m < length (memory_kinds f) → slice_get (memory_kinds f) m ≡ Some j
+            → fitting j (get_or kept m (Flag false))
         kept_typed typed m j lt is =
             let less : m < length f.memories = omega (arith, length-map f.memories (λ x. x.kind)) in
             subst (fitting j) (sym (are.holds m less)) (chosen (on m) refl less)

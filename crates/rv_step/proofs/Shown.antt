@@ -10,7 +10,8 @@ use Rattle.rv_flat.specs.FlatInstants.{Row, nth}
 use Rattle.rv_flat.specs.Inlined.{table_of}
 use Rattle.rv_flat.proofs.NamedTicks.{over_more, same_value}
 
-pub shown_more : (ms : List FlatMemory) (found : Found Value) (row : Row) (value : Option Value) (shown : List (Option Value)) → AreShown ms found row shown → AreShown ms found (row ++ value ∷ []) shown
+pub shown_more : (ms : List FlatMemory) (found : Found Value) (row : Row) (value : Option Value) (shown : List (Option Value)) → AreShown ms found row shown
+    → AreShown ms found (row ++ value ∷ []) shown
 shown_more ms found row value shown are =
     let longer = row ++ value ∷ [] in
     let agree : (k : ℕ) → k < length row → nth row k ≡ nth longer k = λ k lt. sym (get_or_append_left row (value ∷ []) Nothing k lt) in
@@ -19,6 +20,9 @@ shown_more ms found row value shown are =
       many = are.many;
       each = λ m v is.
           let kept = are.each m v is in
-          let body = (table_of ms m).body in
-          (over_more (length row) (length longer) body (λ k lt. omega (arith, long)) kept.0, kept.1 ∙ same_value found row longer (length row) agree body kept.0);
+          let body = (table_of ms m).body in (
+            over_more (length row) (length longer) body (λ k lt. omega (arith, long)) kept.0,
+            kept.1
+                ∙ same_value found row longer (length row) agree body kept.0,
+          );
     }

@@ -30,7 +30,8 @@ module _ (x : Surroundings) where
 
   -- what the memory with a number takes where its clock is there, and what it holds elsewhere
   abbrev pub current_in : ℕ → Value
-  current_in m = cond (is_on_at x.row.now (table_of x.memories.now m).clock) (value_in (table_of x.memories.now m).body) (slice_index_or x.state.now.kept m (Flag false))
+  current_in m = cond (is_on_at x.row.now (table_of x.memories.now m).clock) (value_in (table_of x.memories.now m).body)
+      (slice_index_or x.state.now.kept m (Flag false))
 
   -- Its integers are small, and it names flows that have been evaluated.
   pub record IsReady (e : FlatTree) : Type 0 where

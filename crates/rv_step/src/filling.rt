@@ -128,7 +128,8 @@ pub fn broken_place<'a>(
     requires inputs { AreValues flat.now (input_kinds flat.now) input.now }
     requires row { instants.IsFlatInstant flat.now now.now input.now row.now }
     requires shown { AreShown flat.now.memories (instants.found_at now.now input.now) row.now shown.old }
-    ensures { IsLeastOf (IsPicked (is_broken flat.now now.now input.now row.now) (map (λ e. e.at.sites) flat.now.assertions) (length flat.now.assertions)) (option_copied result) }
+    ensures { IsLeastOf (IsPicked (is_broken flat.now now.now input.now row.now) (map (λ e. e.at.sites) flat.now.assertions) (length flat.now.assertions))
+        (option_copied result) }
 {
     let around = Surroundings {
         memories: &flat.memories,

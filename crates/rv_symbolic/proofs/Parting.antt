@@ -159,7 +159,8 @@ apart_halves true true h g = cc
 apart_halves true false h g = cc
 apart_halves false o h g = cc
 
-pub parted_both : (s : System) (d : Diagrams) (rel : Relation) (from : Frozen) (cases : List Case) → IsRelationOf s d rel → HasNoIntegers s → IsControlSet s from
+pub parted_both : (s : System) (d : Diagrams) (rel : Relation) (from : Frozen) (cases : List Case) → IsRelationOf s d rel → HasNoIntegers s
+    → IsControlSet s from
     → HasSides d rel.parts from cases → AreCases s from cases
 parted_both s d rel from cases is none control sides =
     let within : Valuation → Bool = λ v. s.allowed v && value_of from.nodes from.root v in

@@ -121,7 +121,8 @@ module _ (s : System) (d : Diagrams) (rel : Relation) (is : IsRelationOf s d rel
 
   pub relation_from : (p : ℕ) (links : List Part) → AreLinks d rel.parts.next p links → (w : Valuation)
       → ((i : ℕ) → i < s.states → w (2 * i + 1) ≡ s.next w (2 * i)) → AreMet d.nodes links w
-  relation_from p links are w linked = ((links_opened d rel.parts.next p links are).exact w).1 (λ i less. let low : i < s.states = omega (arith, same_bits) in linked i low
+  relation_from p links are w linked = ((links_opened d rel.parts.next p links are).exact w).1
+      (λ i less. let low : i < s.states = omega (arith, same_bits) in linked i low
       ∙ sym (is.parts.next i low w))
 
   -- variable 0 is quantified, if it is there
@@ -174,7 +175,12 @@ module _ (s : System) (d : Diagrams) (rel : Relation) (is : IsRelationOf s d rel
         let links : (i : ℕ) → i < s.states → u (2 * i + 1) ≡ s.next u (2 * i) = λ i low.
         ap (λ b. cond b (w (2 * i + 1)) (v (2 * i + 1 - 1))) (copy_left i low) ∙ ap v (let z : 2 * i + 1 - 1 ≡ 2 * i = omega arith in z)
         ∙ sym (same (2 * i) (i, low, refl)) ∙ sym (is.system.next u w like (2 * i) (i, low, refl)) in
-        means v ∙ (p.exact (lowered v)).1 (u, λ x off. sym (ap (λ b. cond b (w x) (v (x - 1))) off), from_parts u (keep u w like h) (relation_from 1 rel.forth is.laid_out.forth u links))
+        means v ∙ (p.exact (lowered v)).1 (
+          u,
+          λ x off. sym (ap (λ b. cond b (w x) (v (x - 1))) off),
+          from_parts u (keep u w like h)
+              (relation_from 1 rel.forth is.laid_out.forth u links),
+        )
 
   pub image_of : (from : Frozen) (c : Case) (f g : Frozen) → IsControlSet s from → IsCase s c
       → IsProjected d.variables (quantified rel.forth) (λ w. IsIn from w × IsIn c.condition w × AreMet d.nodes rel.forth w) f
@@ -273,7 +279,8 @@ module _ (s : System) (d : Diagrams) (rel : Relation) (is : IsRelationOf s d rel
             q.0,
             λ x (i, low, e). ap q.0 e ∙ sym (q.1 (2 * i) (bit_left i low)) ∙ ap v (sym e),
             q.2.1,
-            sym (control-value s to (raised q.0) (s.next q.0) control (λ x (i, low, e). ap (raised q.0) e ∙ relation_to 0 rel.back is.laid_out.back q.0 q.2.2 i low
+            sym (control-value s to (raised q.0) (s.next q.0) control (λ x (i, low, e). ap (raised q.0) e
+                ∙ relation_to 0 rel.back is.laid_out.back q.0 q.2.2 i low
                 ∙ ap (s.next q.0) (sym e))) ∙ sym (copied (raised q.0)) ∙ sym (moved q.0) ∙ q.2.0,
           ),
       λ (w, same, within, into).

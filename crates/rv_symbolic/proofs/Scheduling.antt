@@ -114,7 +114,8 @@ pub scheduled_links : (a d : Diagrams) (next relations : List ℕ) (given : List
     → AreParted a d next 0 (length next) relations → AreScheduled d.nodes relations given links
     → AreAllBut a.variables (length next) p (valuation_of given) → AreLinks d next p links
 scheduled_links a d next relations given p links refs g h but =
-    let of_next : (v : Valuation) (i : ℕ) → i < length next → value_of d.nodes (ref_at next i) v ≡ value_of a.nodes (ref_at next i) v = λ v i low. g.extends.kept
+    let of_next : (v : Valuation) (i : ℕ) → i < length next → value_of d.nodes (ref_at next i) v ≡ value_of a.nodes (ref_at next i) v = λ v i low.
+    g.extends.kept
     (ref_at next i) (refs i low) v in
     let of_part : (v : Valuation) (i : ℕ) → i < length links → value_of d.nodes (part_at links i).relation v ≡ value_of d.nodes (ref_at relations i) v
     = λ v i low. ap (λ (r : ℕ). value_of d.nodes r v) (h.same i low) in

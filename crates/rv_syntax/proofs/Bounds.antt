@@ -1,5 +1,6 @@
 -- How much the parts of a text's tree are at most: each token has an offset of its own, and tokens are no more than bytes.
-use Rattle.std.proofs.Common.{◌≡◌, ℕ, zero, suc, ◌+◌, ◌-◌, ◌<◌, ◌≤◌, Bool, false, cond, ltb, eqb, List, [], ◌∷◌, ◌++◌, map, length, take, get_or, refl, sym, ap, subst, arith, length-append}
+use Rattle.std.proofs.Common.{◌≡◌, ℕ, zero, suc, ◌+◌, ◌-◌, ◌<◌, ◌≤◌, Bool, false, cond, ltb, eqb, List, [], ◌∷◌, ◌++◌, map, length, take, get_or, refl, sym, ap}
+use Rattle.std.proofs.Common.{subst, arith, length-append}
 use Rattle.std.specs.Prelude.{Option, Some, None}
 use Rattle.std.specs.List.{All, Contains}
 use Rattle.std.proofs.lemmas.List.{length-map}
@@ -44,7 +45,8 @@ lex-alone x zero tel at (b ∷ bs) =
       arith,
       lex-alone x ((cut (b ∷ bs)).1 - 1) (ends_in_tel tel (cut (b ∷ bs)).0) (at + 1) bs,
       here x at,
-      emitted-alone x (kind_of tel (cut (b ∷ bs)).0 (take (cut (b ∷ bs)).1 (b ∷ bs))) at (lex ((cut (b ∷ bs)).1 - 1) (ends_in_tel tel (cut (b ∷ bs)).0) (at + 1) bs),
+      emitted-alone x (kind_of tel (cut (b ∷ bs)).0 (take (cut (b ∷ bs)).1 (b ∷ bs))) at
+          (lex ((cut (b ∷ bs)).1 - 1) (ends_in_tel tel (cut (b ∷ bs)).0) (at + 1) bs),
     )
 
 pub tokens-alone : (x : ℕ) (bytes : List ℕ) → of_tokens (alone x) (tokens bytes) ≤ 1
@@ -63,7 +65,8 @@ lex-each zero tel at (b ∷ bs) =
     omega (
       arith,
       lex-each ((cut (b ∷ bs)).1 - 1) (ends_in_tel tel (cut (b ∷ bs)).0) (at + 1) bs,
-      emitted-each (kind_of tel (cut (b ∷ bs)).0 (take (cut (b ∷ bs)).1 (b ∷ bs))) at (lex ((cut (b ∷ bs)).1 - 1) (ends_in_tel tel (cut (b ∷ bs)).0) (at + 1) bs),
+      emitted-each (kind_of tel (cut (b ∷ bs)).0 (take (cut (b ∷ bs)).1 (b ∷ bs))) at
+          (lex ((cut (b ∷ bs)).1 - 1) (ends_in_tel tel (cut (b ∷ bs)).0) (at + 1) bs),
     )
 
 pub program-short : (bytes : List ℕ) (p : ProgramTree) → IsProgram p (tokens bytes) → of_program each p ≤ length bytes

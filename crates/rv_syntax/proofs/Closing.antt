@@ -1,5 +1,6 @@
 -- Where a comment is closed.
-use Rattle.std.proofs.Common.{◌≡◌, ℕ, zero, suc, ◌+◌, ◌<◌, ◌≤◌, Bool, true, false, cond, List, [], ◌∷◌, length, take, drop, get_or, refl, sym, ap, ◌∙◌, subst, inl, inr, arith, drop-cons, add-one}
+use Rattle.std.proofs.Common.{◌≡◌, ℕ, zero, suc, ◌+◌, ◌<◌, ◌≤◌, Bool, true, false, cond, List, [], ◌∷◌, length, take, drop, get_or, refl, sym, ap, ◌∙◌, subst}
+use Rattle.std.proofs.Common.{inl, inr, arith, drop-cons, add-one}
 use Rattle.std.specs.Prelude.{Option, Some, None, ◌==◌, ◌&&◌}
 use Rattle.std.proofs.lemmas.Bool.{cases_Bool, and_left, and_right, ne_eqb}
 use Rattle.std.proofs.lemmas.List.{length-drop}
@@ -45,7 +46,8 @@ goes-on : (c : ℕ) (bytes : List ℕ) (at : ℕ) → at + 1 < length bytes → 
     → later at (close_len c (drop at bytes)) ≡ later (at + 1) (close_len c (drop (at + 1) bytes))
 goes-on c bytes at h e =
     ap (λ l. later at (close_len c l)) (split bytes at h)
-    ∙ ap (later at) (pick-false (get_or bytes at 0 == 42 && get_or bytes (at + 1) 0 == c) (Some 2) (one_later (close_len c (get_or bytes (at + 1) 0 ∷ drop (at + 2) bytes))) e)
+    ∙ ap (later at) (pick-false (get_or bytes at 0 == 42 && get_or bytes (at + 1) 0 == c) (Some 2)
+    (one_later (close_len c (get_or bytes (at + 1) 0 ∷ drop (at + 2) bytes))) e)
     ∙ later-one at (close_len c (get_or bytes (at + 1) 0 ∷ drop (at + 2) bytes))
     ∙ ap (λ l. later (at + 1) (close_len c l)) (after bytes at h)
 
@@ -102,7 +104,8 @@ first-take c b d ds n zero e s h = let two : 2 ≡ n = cc in absurd (omega arith
 first-take c b d ds n (suc zero) e s h = let two : 2 ≡ n = cc in absurd (omega arith)
 first-take c b d ds n (suc (suc m)) e s h = pick-true (b == 42 && d == c) (Some 2) (one_later (close_len c (d ∷ take m ds))) e ∙ s
 
-next-take : (c b d : ℕ) (ds : List ℕ) (p n m : ℕ) → (b == 42 && d == c) ≡ false → close_len c (take m (d ∷ ds)) ≡ Some p → p + 1 ≡ n → close_len c (b ∷ take m (d ∷ ds)) ≡ Some n
+next-take : (c b d : ℕ) (ds : List ℕ) (p n m : ℕ) → (b == 42 && d == c) ≡ false → close_len c (take m (d ∷ ds)) ≡ Some p → p + 1 ≡ n
+    → close_len c (b ∷ take m (d ∷ ds)) ≡ Some n
 next-take c b d ds p n zero e s h = cc
 next-take c b d ds p n (suc m) e s h =
     pick-false (b == 42 && d == c) (Some 2) (one_later (close_len c (d ∷ take m ds))) e ∙ ap one_later s ∙ ap (λ k. Some k) h

@@ -12,8 +12,12 @@ use Rattle.rv_syntax.specs.declared.operator.Prefix.TheVariants as prefixed
 use Rattle.rv_syntax.specs.declared.parser.Start.TheVariants as start
 use Rattle.rv_syntax.specs.declared.parser.Next.{Next}
 use Rattle.rv_syntax.specs.declared.parser.Next.TheVariants as next
-use Rattle.rv_syntax.specs.Grammar.{Leaf, Yes, No, Count, Called, Callee, Function, Hash, Written, Atom, InBrackets, Before, Between, Gated, If, Given, Front, NoneBefore, Then, fixed, leaf_token, name_token, callee_token, prefix_mark, op_mark, spelling, front_spelling, Sampled, syntax_of, front_trees, level_of, Side, ToLeft, ToRight, Alone, side, left_by, right_by, left_level, right_level, level, is_open, IsGrammatical, AreGrammatical}
-use Rattle.rv_syntax.specs.Machine.{start_of, next_of, Frame, Brackets, Under, After, Asked, Answered, Else, Within, need_of, need, Held, held, leaf_held, Want, Have, Ends, accepts, taken, wrapped, awaited, onward, settle, begin, at_end, going, run, following}
+use Rattle.rv_syntax.specs.Grammar.{Leaf, Yes, No, Count, Called, Callee, Function, Hash, Written, Atom, InBrackets, Before, Between, Gated, If, Given, Front}
+use Rattle.rv_syntax.specs.Grammar.{NoneBefore, Then, fixed, leaf_token, name_token, callee_token, prefix_mark, op_mark, spelling, front_spelling, Sampled}
+use Rattle.rv_syntax.specs.Grammar.{syntax_of, front_trees, level_of, Side, ToLeft, ToRight, Alone, side, left_by, right_by, left_level, right_level, level}
+use Rattle.rv_syntax.specs.Grammar.{is_open, IsGrammatical, AreGrammatical}
+use Rattle.rv_syntax.specs.Machine.{start_of, next_of, Frame, Brackets, Under, After, Asked, Answered, Else, Within, need_of, need, Held, held, leaf_held, Want}
+use Rattle.rv_syntax.specs.Machine.{Have, Ends, accepts, taken, wrapped, awaited, onward, settle, begin, at_end, going, run, following}
 
 -- the operand that is written
 abbrev pub operand : Written → Held
@@ -164,11 +168,13 @@ ends-gate up (If i a t b e d) g h c = cc
 ends-gate up (Given f a front w b) g h c = tt
 
 -- An operand that the token does not go on with is left to the frame.
-pub pop : (ts : List Token) (h g : Held) (f : Frame) (s : List Frame) → accepts (following ts) (need_of f) h ≡ false → wrapped f h ≡ Some g → run (Have h (f ∷ s)) ts ≡ run (Have g s) ts
+pub pop : (ts : List Token) (h g : Held) (f : Frame) (s : List Frame) → accepts (following ts) (need_of f) h ≡ false → wrapped f h ≡ Some g
+    → run (Have h (f ∷ s)) ts ≡ run (Have g s) ts
 unfolding run
 pop [] h g f s e w = ap (λ o. at_end (onward o (λ x. settle next.Other x s) (awaited next.Other f h.body s))) w
 pop (x ∷ ts) h g f s e w =
-    ap (λ b. going (cond b (taken (next_of x) h (f ∷ s)) (onward (wrapped f h) (λ y. settle (next_of x) y s) (awaited (next_of x) f h.body s))) (λ q. run q ts) (x ∷ ts)) e
+    ap (λ b. going (cond b (taken (next_of x) h (f ∷ s)) (onward (wrapped f h) (λ y. settle (next_of x) y s) (awaited (next_of x) f h.body s))) (λ q. run q ts)
+    (x ∷ ts)) e
     ∙ ap (λ o. going (onward o (λ y. settle (next_of x) y s) (awaited (next_of x) f h.body s)) (λ q. run q ts) (x ∷ ts)) w
 
 cond-true : {A : Type 0} (b : Bool) (x y : A) → b ≡ true → cond b x y ≡ x
@@ -180,7 +186,8 @@ pub settle-taken : (r : Next) (h : Held) (s : List Frame) → accepts r (need s)
 settle-taken r h [] e = cond-true _ _ _ e
 settle-taken r h (f ∷ s) e = cond-true _ _ _ e
 
-push-after : (ts : List Token) (o : Op) (at : ℕ) (h : Held) (s : List Frame) → accepts (next.Between o at) (need s) h ≡ true → run (Have h s) (fixed (op_mark o) at ∷ ts) ≡ run (Want (After o at h.body ∷ s)) ts
+push-after : (ts : List Token) (o : Op) (at : ℕ) (h : Held) (s : List Frame) → accepts (next.Between o at) (need s) h ≡ true
+    → run (Have h s) (fixed (op_mark o) at ∷ ts) ≡ run (Want (After o at h.body ∷ s)) ts
 unfolding run
 push-after ts o at h s e =
     ap (λ r. going (settle r h s) (λ q. run q ts) (fixed (op_mark o) at ∷ ts)) (next-op o at)
@@ -199,7 +206,8 @@ push-call (Hash at) a ts s = refl
 mutual
   unfolding run
 
-  pub reads : (w : Written) (s : List Frame) (rest : List Token) → IsGrammatical w → need s ≤ level w → Ends-at (following rest) w → run (Want s) (spelling w ++ rest) ≡ run (Have (operand w) s) rest
+  pub reads : (w : Written) (s : List Frame) (rest : List Token) → IsGrammatical w → need s ≤ level w → Ends-at (following rest) w
+      → run (Want s) (spelling w ++ rest) ≡ run (Have (operand w) s) rest
   reads (Atom l at) s rest g h e =
       ap (λ x. going (begin x (leaf_held (leaf_token l at)) s) (λ q. run q rest) (leaf_token l at ∷ rest)) (start-leaf l at)
       ∙ ap (λ x. run (Have x s) rest) (held-leaf l at)
@@ -207,14 +215,16 @@ mutual
       ap (λ ts. run (Want (Brackets ∷ s)) ts) (append_assoc (spelling w) (fixed mark.Close b ∷ []) rest)
       ∙ reads w (Brackets ∷ s) (fixed mark.Close b ∷ rest) g (omega arith) (ends-all next.Closes w tt)
   reads (Before p at w) s rest g h e =
-      ap (λ x. going (begin x (leaf_held (fixed (prefix_mark p) at)) s) (λ q. run q (spelling w ++ rest)) (fixed (prefix_mark p) at ∷ (spelling w ++ rest))) (start-prefix p at)
+      ap (λ x. going (begin x (leaf_held (fixed (prefix_mark p) at)) s) (λ q. run q (spelling w ++ rest)) (fixed (prefix_mark p) at ∷ (spelling w ++ rest)))
+      (start-prefix p at)
       ∙ reads w (Under p at ∷ s) rest g.1 g.0 e.1
       ∙ pop rest (operand w) (operand (Before p at w)) (Under p at) s e.0 refl
   reads (Between o at a b) s rest g h e =
       let low : need s ≤ level a = omega (arith, left_by-le (side (level_of o)) (level_of o)) in
       ap (λ ts. run (Want s) ts) (append_assoc (spelling a) (fixed (op_mark o) at ∷ spelling b) rest)
       ∙ reads a s (fixed (op_mark o) at ∷ (spelling b ++ rest)) g.3 low (subst (λ r. Ends-at r a) (sym (next-op o at)) (ends-left o at a g.3 g.0 g.1))
-      ∙ push-after (spelling b ++ rest) o at (operand a) s (and_from _ _ (ap not g.1) (and_from _ _ (le-leb (need s) (level_of o) h) (le-leb (left_level o) (level a) g.0)))
+      ∙ push-after (spelling b ++ rest) o at (operand a) s (and_from _ _ (ap not g.1)
+      (and_from _ _ (le-leb (need s) (level_of o) h) (le-leb (left_level o) (level a) g.0)))
       ∙ reads b (After o at (syntax_of a) ∷ s) rest g.4 g.2 e.1
       ∙ pop rest (operand b) (operand (Between o at a b)) (After o at (syntax_of a)) s e.0 refl
   reads (Gated w at x) s rest g h e =
@@ -235,7 +245,8 @@ mutual
       ∙ ap (λ ts. run (Want (Within f (front_trees front) ∷ s)) ts) (append_assoc (spelling w) (fixed mark.Close b ∷ []) rest)
       ∙ reads w (Within f (front_trees front) ∷ s) (fixed mark.Close b ∷ rest) g.1 (omega arith) (ends-all next.Closes w tt)
 
-  pub reads-front : (front : Front) (f : Callee) (s : List Frame) (rest : List Token) → AreGrammatical front → run (Want (Within f [] ∷ s)) (front_spelling front ++ rest) ≡ run (Want (Within f (front_trees front) ∷ s)) rest
+  pub reads-front : (front : Front) (f : Callee) (s : List Frame) (rest : List Token) → AreGrammatical front
+      → run (Want (Within f [] ∷ s)) (front_spelling front ++ rest) ≡ run (Want (Within f (front_trees front) ∷ s)) rest
   reads-front NoneBefore f s rest g = refl
   reads-front (Then front w at) f s rest g =
       ap (λ ts. run (Want (Within f [] ∷ s)) ts) (append_assoc (front_spelling front) (spelling w ++ fixed mark.Comma at ∷ []) rest)

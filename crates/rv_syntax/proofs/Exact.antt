@@ -1,5 +1,6 @@
 -- When a reader reads a rule: each rule's law from the laws of its parts.
-use Rattle.std.proofs.Common.{inl, inr, ◌≡◌, ℕ, zero, suc, ◌+◌, ◌<◌, ◌≤◌, Bool, true, false, cond, List, [], ◌∷◌, ◌++◌, length, refl, sym, ap, ◌∙◌, subst, arith, append_assoc, length-append}
+use Rattle.std.proofs.Common.{inl, inr, ◌≡◌, ℕ, zero, suc, ◌+◌, ◌<◌, ◌≤◌, Bool, true, false, cond, List, [], ◌∷◌, ◌++◌, length, refl, sym, ap, ◌∙◌, subst}
+use Rattle.std.proofs.Common.{arith, append_assoc, length-append}
 use Rattle.std.specs.Prelude.{Option, Some, None, ⊤, Ok, Err, ◌⊎◌}
 use Rattle.std.proofs.lemmas.List.{append-nil, append_cancel_right}
 use Rattle.rv_syntax.specs.declared.fault.Why.{Why}
@@ -27,7 +28,8 @@ Sound P K p = (s : Standing) → P s → (ts : List Token) → Answers K s ts (p
 
 -- what is left decides nothing beyond its first token
 abbrev pub Local : {A : Type 0} → Parse A → Type 0
-Local p = (front : List Token) (t : Token) (rest other g : List Token) → left (p (front ++ t ∷ rest)) ≡ g ++ t ∷ rest → p (front ++ t ∷ other) ≡ with_left (g ++ t ∷ other) (p (front ++ t ∷ rest))
+Local p = (front : List Token) (t : Token) (rest other g : List Token) → left (p (front ++ t ∷ rest)) ≡ g ++ t ∷ rest
+    → p (front ++ t ∷ other) ≡ with_left (g ++ t ∷ other) (p (front ++ t ∷ rest))
 
 abbrev pub Complete : {A : Type 0} → (Standing → Type 0) → (A → List Token → Type 0) → (List Token → Type 0) → Parse A → Type 0
 Complete {A = A} P K F p = (s : Standing) → P s → (a : A) (w rest : List Token) → K a w → F rest → ReadsAs s a w rest (p (w ++ rest))
@@ -82,7 +84,8 @@ IsOne f a w = (t : Token) × (w ≡ t ∷ []) × (f t ≡ Some a)
 abbrev pub Steps : {A : Type 0} → (Token → Option A) → (Standing → Type 0) → (Standing → Type 0) → Type 0
 Steps {A = A} f P Q = (s : Standing) → P s → (t : Token) (a : A) → f t ≡ Some a → Q (behind t s) × (depth (behind t s) ≤ limit)
 
-answers-one_of : {A : Type 0} (f : Token → Option A) (u : Token) (b : A) → f u ≡ Some b → (s : Standing) (t : Token) (ts : List Token) → ((a : A) → f t ≡ Some a → depth (behind t s) ≤ limit) → (o : Option A) → f t ≡ o → Answers (IsOne f) s (t ∷ ts) (one_of o t ts)
+answers-one_of : {A : Type 0} (f : Token → Option A) (u : Token) (b : A) → f u ≡ Some b → (s : Standing) (t : Token) (ts : List Token)
+    → ((a : A) → f t ≡ Some a → depth (behind t s) ≤ limit) → (o : Option A) → f t ≡ o → Answers (IsOne f) s (t ∷ ts) (one_of o t ts)
 answers-one_of f u b e s t ts low (Some a) h = (t ∷ [], refl, (t, refl, h), (low a h, tt))
 answers-one_of f u b e s t ts low None h = ([], refl, (u ∷ [], b, (u, refl, e)), tt)
 
@@ -90,11 +93,13 @@ answers-one : {A : Type 0} (f : Token → Option A) (u : Token) (b : A) → f u 
 answers-one f u b e P Q step s h [] = ([], refl, (u ∷ [], b, (u, refl, e)), tt)
 answers-one f u b e P Q step s h (t ∷ ts) = answers-one_of f u b e s t ts (λ a k. (step s h t a k).1) (f t) refl
 
-local-one-here : {A : Type 0} (o : Option A) (t : Token) (rest other g : List Token) → left (one_of o t rest) ≡ g ++ t ∷ rest → one_of o t other ≡ with_left (g ++ t ∷ other) (one_of o t rest)
+local-one-here : {A : Type 0} (o : Option A) (t : Token) (rest other g : List Token) → left (one_of o t rest) ≡ g ++ t ∷ rest
+    → one_of o t other ≡ with_left (g ++ t ∷ other) (one_of o t rest)
 local-one-here (Some a) t rest other g h = absurd (omega (arith, ap length h, length-append g (t ∷ rest)))
 local-one-here None t rest other g h = ap (λ l. Err (Offends, l)) (same-rest [] g t rest other h)
 
-local-one-later : {A : Type 0} (o : Option A) (x : Token) (front : List Token) (t : Token) (rest other g : List Token) → left (one_of o x (front ++ t ∷ rest)) ≡ g ++ t ∷ rest → one_of o x (front ++ t ∷ other) ≡ with_left (g ++ t ∷ other) (one_of o x (front ++ t ∷ rest))
+local-one-later : {A : Type 0} (o : Option A) (x : Token) (front : List Token) (t : Token) (rest other g : List Token)
+    → left (one_of o x (front ++ t ∷ rest)) ≡ g ++ t ∷ rest → one_of o x (front ++ t ∷ other) ≡ with_left (g ++ t ∷ other) (one_of o x (front ++ t ∷ rest))
 local-one-later (Some a) x front t rest other g h = ap (λ l. Ok (a, l)) (same-rest front g t rest other h)
 local-one-later None x front t rest other g h = ap (λ l. Err (Offends, l)) (same-rest (x ∷ front) g t rest other h)
 
@@ -103,7 +108,8 @@ local-one f [] t rest other g h = local-one-here (f t) t rest other g h
 local-one f (x ∷ front) t rest other g h = local-one-later (f x) x front t rest other g h
 
 -- Some token is to be the one.
-pub exact-one : {A : Type 0} (P Q : Standing → Type 0) (f : Token → Option A) (u : Token) (b : A) → f u ≡ Some b → Steps f P Q → (F : List Token → Type 0) → Exact P Q (IsOne f) F (one f)
+pub exact-one : {A : Type 0} (P Q : Standing → Type 0) (f : Token → Option A) (u : Token) (b : A) → f u ≡ Some b → Steps f P Q → (F : List Token → Type 0)
+    → Exact P Q (IsOne f) F (one f)
 exact-one P Q f u b e step F = record {
   some = (b, u ∷ [], (u, refl, e));
   passes = λ s h a w k. subst (λ z. Q (behind_all z s)) (sym k.1) (step s h k.0 a k.2).0;
@@ -114,15 +120,18 @@ exact-one P Q f u b e step F = record {
 
 -- ---- one after the other
 -- What begins a first part begins both, where each first part has some second part.
-begins-both : {A B : Type 0} (K : A → List Token → Type 0) (N : A → B → List Token → Type 0) → ((a : A) → Has (N a)) → (front : List Token) → Begins K front → Begins (Part K N) front
+begins-both : {A B : Type 0} (K : A → List Token → Type 0) (N : A → B → List Token → Type 0) → ((a : A) → Has (N a)) → (front : List Token) → Begins K front
+    → Begins (Part K N) front
 begins-both K N some front b =
     let s = some b.1 in
     (b.0 ++ s.1, s.0, (b.1, front ++ b.0, s.1, sym (append_assoc front b.0 s.1), b.2, s.2))
 
-begins-second : {A B : Type 0} (K : A → List Token → Type 0) (N : A → B → List Token → Type 0) (a : A) (u : List Token) → K a u → (front : List Token) → Begins (N a) front → Begins (Part K N) (u ++ front)
+begins-second : {A B : Type 0} (K : A → List Token → Type 0) (N : A → B → List Token → Type 0) (a : A) (u : List Token) → K a u → (front : List Token)
+    → Begins (N a) front → Begins (Part K N) (u ++ front)
 begins-second K N a u k front b = (b.0, b.1, (a, u, front ++ b.0, append_assoc u front b.0, k, b.2))
 
-answers-second : {A B : Type 0} (K : A → List Token → Type 0) (N : A → B → List Token → Type 0) (s : Standing) (ts : List Token) (a : A) (u rest : List Token) → ts ≡ u ++ rest → K a u → IsShallowText s u
+answers-second : {A B : Type 0} (K : A → List Token → Type 0) (N : A → B → List Token → Type 0) (s : Standing) (ts : List Token) (a : A) (u rest : List Token)
+    → ts ≡ u ++ rest → K a u → IsShallowText s u
     → (r : Reading B) → Answers (N a) (behind_all u s) rest r → Answers (Part K N) s ts r
 answers-second K N s ts a u rest e k h (Ok x) c =
     (u ++ c.0, e ∙ ap (λ z. u ++ z) c.1 ∙ sym (append_assoc u c.0 x.1), (a, u, c.0, refl, k, c.2), shallow-both u c.0 s h c.3)
@@ -139,13 +148,16 @@ answers-second K N s ts a u rest e k h (Err (TooDeep, r)) c = (
   deep-later u c.0 c.1 s c.7,
 )
 
-answers-bind : {A B : Type 0} (P Q : Standing → Type 0) (K : A → List Token → Type 0) (N : A → B → List Token → Type 0) → Passes P Q K → ((a : A) → Has (N a)) → (f : A → Parse B) → ((a : A) → Sound Q (N a) (f a))
+answers-bind : {A B : Type 0} (P Q : Standing → Type 0) (K : A → List Token → Type 0) (N : A → B → List Token → Type 0) → Passes P Q K → ((a : A) → Has (N a))
+    → (f : A → Parse B) → ((a : A) → Sound Q (N a) (f a))
     → (s : Standing) → P s → (ts : List Token) (r : Reading A) → Answers K s ts r → Answers (Part K N) s ts (bind r f)
-answers-bind P Q K N pass some f g s h ts (Ok x) c = answers-second K N s ts x.0 c.0 x.1 c.1 c.2 c.3 (f x.0 x.1) (g x.0 (behind_all c.0 s) (pass s h x.0 c.0 c.2) x.1)
+answers-bind P Q K N pass some f g s h ts (Ok x) c = answers-second K N s ts x.0 c.0 x.1 c.1 c.2 c.3 (f x.0 x.1)
+    (g x.0 (behind_all c.0 s) (pass s h x.0 c.0 c.2) x.1)
 answers-bind P Q K N pass some f g s h ts (Err (Offends, rest)) c = (c.0, c.1, begins-both K N some c.0 c.2, c.3)
 answers-bind P Q K N pass some f g s h ts (Err (TooDeep, rest)) c = (c.0, c.1, c.2, c.3, c.4, begins-both K N some (c.0 ++ c.1 ∷ []) c.5, c.6, c.7)
 
-sound-then : {A B : Type 0} (P Q : Standing → Type 0) (K : A → List Token → Type 0) (N : A → B → List Token → Type 0) → Passes P Q K → ((a : A) → Has (N a)) → (p : Parse A) (f : A → Parse B) → Sound P K p → ((a : A) → Sound Q (N a) (f a)) → Sound P (Part K N) (then p f)
+sound-then : {A B : Type 0} (P Q : Standing → Type 0) (K : A → List Token → Type 0) (N : A → B → List Token → Type 0) → Passes P Q K → ((a : A) → Has (N a))
+    → (p : Parse A) (f : A → Parse B) → Sound P K p → ((a : A) → Sound Q (N a) (f a)) → Sound P (Part K N) (then p f)
 sound-then P Q K N pass some p f sp g s h ts = answers-bind P Q K N pass some f g s h ts (p ts) (sp s h ts)
 
 abbrev Suffix : {A : Type 0} → List Token → Reading A → Type 0
@@ -162,7 +174,8 @@ left-with ts (Err e) = refl
 
 -- p on other tokens, where the second part goes on from what p leaves
 local-bind : {A B : Type 0} (p : Parse A) → Local p → (f : A → Parse B) → ((a : A) → Local (f a)) → ((a : A) (ts : List Token) → Suffix ts (f a ts))
-    → (front : List Token) (t : Token) (rest other g : List Token) (r : Reading A) → p (front ++ t ∷ rest) ≡ r → left (bind r f) ≡ g ++ t ∷ rest → bind (p (front ++ t ∷ other)) f ≡ with_left (g ++ t ∷ other) (bind r f)
+    → (front : List Token) (t : Token) (rest other g : List Token) (r : Reading A) → p (front ++ t ∷ rest) ≡ r → left (bind r f) ≡ g ++ t ∷ rest
+    → bind (p (front ++ t ∷ other)) f ≡ with_left (g ++ t ∷ other) (bind r f)
 local-bind p lp f lf sf front t rest other g (Err e) is h =
     ap (λ z. bind z f) (lp front t rest other g (ap left is ∙ h) ∙ ap (with_left (g ++ t ∷ other)) is)
 local-bind p lp f lf sf front t rest other g (Ok x) is h =
@@ -173,10 +186,12 @@ local-bind p lp f lf sf front t rest other g (Ok x) is h =
     ∙ lf x.0 (s.0 ++ g) t rest other g (ap (λ z. left (f x.0 z)) (sym e) ∙ h)
     ∙ ap (λ z. with_left (g ++ t ∷ other) (f x.0 z)) (sym e)
 
-local-then : {A B : Type 0} (p : Parse A) (f : A → Parse B) → Local p → ((a : A) → Local (f a)) → ((a : A) (ts : List Token) → Suffix ts (f a ts)) → Local (then p f)
+local-then : {A B : Type 0} (p : Parse A) (f : A → Parse B) → Local p → ((a : A) → Local (f a)) → ((a : A) (ts : List Token) → Suffix ts (f a ts))
+    → Local (then p f)
 local-then p f lp lf sf front t rest other g h = local-bind p lp f lf sf front t rest other g (p (front ++ t ∷ rest)) refl h
 
-suffix-bind : {A B : Type 0} (f : A → Parse B) → ((a : A) (ts : List Token) → Suffix ts (f a ts)) → (ts : List Token) (r : Reading A) → Suffix ts r → Suffix ts (bind r f)
+suffix-bind : {A B : Type 0} (f : A → Parse B) → ((a : A) (ts : List Token) → Suffix ts (f a ts)) → (ts : List Token) (r : Reading A) → Suffix ts r
+    → Suffix ts (bind r f)
 suffix-bind f sf ts (Ok x) s = let v = sf x.0 x.1 in (s.0 ++ v.0, s.1 ∙ ap (λ z. s.0 ++ z) v.1 ∙ sym (append_assoc s.0 v.0 (left (f x.0 x.1))))
 suffix-bind f sf ts (Err e) s = s
 
@@ -187,20 +202,26 @@ reads-bind f s a b u v rest (inl e) r (inl h) = inl (ap (λ z. bind z f) h ∙ e
 reads-bind f s a b u v rest (inr e) r (inl h) = inr (e.0, ap (λ z. bind z f) h ∙ e.1, λ k. e.2 (shallow-second u v s k))
 reads-bind f s a b u v rest e r (inr h) = inr (h.0, ap (λ z. bind z f) h.1, λ k. h.2 (shallow-first u v s k))
 
-reads-then : {A B : Type 0} (P Q : Standing → Type 0) (K : A → List Token → Type 0) (N : A → B → List Token → Type 0) (F G : List Token → Type 0) → Passes P Q K → (p : Parse A) (f : A → Parse B)
-    → ((a : A) (b : B) (v rest : List Token) → N a b v → G rest → F (v ++ rest)) → Complete P K F p → ((a : A) → Complete Q (N a) G (f a)) → Complete P (Part K N) G (then p f)
+reads-then : {A B : Type 0} (P Q : Standing → Type 0) (K : A → List Token → Type 0) (N : A → B → List Token → Type 0) (F G : List Token → Type 0) → Passes P Q K
+    → (p : Parse A) (f : A → Parse B)
+    → ((a : A) (b : B) (v rest : List Token) → N a b v → G rest → F (v ++ rest)) → Complete P K F p → ((a : A) → Complete Q (N a) G (f a))
+    → Complete P (Part K N) G (then p f)
 reads-then P Q K N F G pass p f follow c d s h b w rest l g =
-    let whole = reads-bind f s l.0 b l.1 l.2 rest (d l.0 (behind_all l.1 s) (pass s h l.0 l.1 l.4) b l.2 rest l.5 g) (p (l.1 ++ (l.2 ++ rest))) (c s h l.0 l.1 (l.2 ++ rest) l.4 (follow l.0 b l.2 rest l.5 g)) in
+    let whole = reads-bind f s l.0 b l.1 l.2 rest (d l.0 (behind_all l.1 s) (pass s h l.0 l.1 l.4) b l.2 rest l.5 g) (p (l.1 ++ (l.2 ++ rest)))
+    (c s h l.0 l.1 (l.2 ++ rest) l.4 (follow l.0 b l.2 rest l.5 g)) in
     let here = subst (λ z. ReadsAs s b (l.1 ++ l.2) rest (then p f z)) (sym (append_assoc l.1 l.2 rest)) whole in
     subst (λ z. ReadsAs s b z rest (then p f (z ++ rest))) (sym l.3) here
 
-passes-then : {A B : Type 0} (P Q R : Standing → Type 0) (K : A → List Token → Type 0) (N : A → B → List Token → Type 0) → Passes P Q K → ((a : A) → Passes Q R (N a)) → Passes P R (Part K N)
+passes-then : {A B : Type 0} (P Q R : Standing → Type 0) (K : A → List Token → Type 0) (N : A → B → List Token → Type 0) → Passes P Q K
+    → ((a : A) → Passes Q R (N a)) → Passes P R (Part K N)
 passes-then P Q R K N pass later s h b w l =
     subst (λ z. R (behind_all z s)) (sym l.3) (subst R (sym (behind-both l.1 l.2 s)) (later l.0 (behind_all l.1 s) (pass s h l.0 l.1 l.4) b l.2 l.5))
 
 -- The first reader at some standing says that what it leaves is an end of what it was given.
-pub exact-then : {A B : Type 0} (P Q R : Standing → Type 0) (q : Standing) → Q q → (K : A → List Token → Type 0) (N : A → B → List Token → Type 0) (F G : List Token → Type 0) (p : Parse A) (f : A → Parse B)
-    → ((a : A) (b : B) (v rest : List Token) → N a b v → G rest → F (v ++ rest)) → Exact P Q K F p → ((a : A) → Exact Q R (N a) G (f a)) → Exact P R (Part K N) G (then p f)
+pub exact-then : {A B : Type 0} (P Q R : Standing → Type 0) (q : Standing) → Q q
+    → (K : A → List Token → Type 0) (N : A → B → List Token → Type 0) (F G : List Token → Type 0) (p : Parse A) (f : A → Parse B)
+    → ((a : A) (b : B) (v rest : List Token) → N a b v → G rest → F (v ++ rest)) → Exact P Q K F p → ((a : A) → Exact Q R (N a) G (f a))
+    → Exact P R (Part K N) G (then p f)
 exact-then P Q R q hq K N F G p f follow x y =
     let z = (y x.some.0).some in
     record {
@@ -212,12 +233,14 @@ exact-then P Q R q hq K N F G p f follow x y =
     }
 
 -- ---- a language in other words
-answers-to : {A : Type 0} (K N : A → List Token → Type 0) (s : Standing) (ts : List Token) → ((a : A) (w : List Token) → K a w → N a w) → (r : Reading A) → Answers K s ts r → Answers N s ts r
+answers-to : {A : Type 0} (K N : A → List Token → Type 0) (s : Standing) (ts : List Token) → ((a : A) (w : List Token) → K a w → N a w) → (r : Reading A)
+    → Answers K s ts r → Answers N s ts r
 answers-to K N s ts to (Ok x) c = (c.0, c.1, to x.0 c.0 c.2, c.3)
 answers-to K N s ts to (Err (Offends, rest)) c = (c.0, c.1, (c.2.0, c.2.1, to c.2.1 (c.0 ++ c.2.0) c.2.2), c.3)
 answers-to K N s ts to (Err (TooDeep, rest)) c = (c.0, c.1, c.2, c.3, c.4, (c.5.0, c.5.1, to c.5.1 ((c.0 ++ c.1 ∷ []) ++ c.5.0) c.5.2), c.6, c.7)
 
-pub exact-to : {A : Type 0} (P Q : Standing → Type 0) (K N : A → List Token → Type 0) (F : List Token → Type 0) (p : Parse A) → ((a : A) (w : List Token) → K a w → N a w) → ((a : A) (w : List Token) → N a w → K a w) → Exact P Q K F p → Exact P Q N F p
+pub exact-to : {A : Type 0} (P Q : Standing → Type 0) (K N : A → List Token → Type 0) (F : List Token → Type 0) (p : Parse A)
+    → ((a : A) (w : List Token) → K a w → N a w) → ((a : A) (w : List Token) → N a w → K a w) → Exact P Q K F p → Exact P Q N F p
 exact-to P Q K N F p to from x = record {
   some = (x.some.0, x.some.1, to x.some.0 x.some.1 x.some.2);
   passes = λ s h a w n. x.passes s h a w (from a w n);
@@ -227,7 +250,8 @@ exact-to P Q K N F p to from x = record {
 }
 
 -- where less may follow
-pub exact-before : {A : Type 0} (P Q : Standing → Type 0) (K : A → List Token → Type 0) (F G : List Token → Type 0) (p : Parse A) → ((ts : List Token) → G ts → F ts) → Exact P Q K F p → Exact P Q K G p
+pub exact-before : {A : Type 0} (P Q : Standing → Type 0) (K : A → List Token → Type 0) (F G : List Token → Type 0) (p : Parse A)
+    → ((ts : List Token) → G ts → F ts) → Exact P Q K F p → Exact P Q K G p
 exact-before P Q K F G p less x = record {
   some = x.some;
   passes = x.passes;
@@ -237,7 +261,8 @@ exact-before P Q K F G p less x = record {
 }
 
 -- ---- one of two, told apart by the next token
-starts-same : (test : Token → Bool) (front : List Token) (t : Token) (rest other : List Token) → starts test (front ++ t ∷ rest) ≡ starts test (front ++ t ∷ other)
+starts-same : (test : Token → Bool) (front : List Token) (t : Token) (rest other : List Token)
+    → starts test (front ++ t ∷ rest) ≡ starts test (front ++ t ∷ other)
 starts-same test [] t rest other = refl
 starts-same test (x ∷ front) t rest other = refl
 
@@ -250,9 +275,11 @@ local-cond p q lp lq false true e front t rest other g h = cc
 local-cond p q lp lq false false e front t rest other g h = lq front t rest other g h
 
 local-choose : {A : Type 0} (test : Token → Bool) (p q : Parse A) → Local p → Local q → Local (choose test p q)
-local-choose test p q lp lq front t rest other g h = local-cond p q lp lq (starts test (front ++ t ∷ rest)) (starts test (front ++ t ∷ other)) (starts-same test front t rest other) front t rest other g h
+local-choose test p q lp lq front t rest other g h = local-cond p q lp lq (starts test (front ++ t ∷ rest)) (starts test (front ++ t ∷ other))
+    (starts-same test front t rest other) front t rest other g h
 
-answers-cond : {A : Type 0} (K N : A → List Token → Type 0) (s : Standing) (ts : List Token) (x y : Reading A) → Answers K s ts x → Answers N s ts y → (b : Bool) → Answers (OneOf K N) s ts (cond b x y)
+answers-cond : {A : Type 0} (K N : A → List Token → Type 0) (s : Standing) (ts : List Token) (x y : Reading A) → Answers K s ts x → Answers N s ts y
+    → (b : Bool) → Answers (OneOf K N) s ts (cond b x y)
 answers-cond K N s ts x y h k true = answers-to K (OneOf K N) s ts (λ a w l. inl l) x h
 answers-cond K N s ts x y h k false = answers-to N (OneOf K N) s ts (λ a w l. inr l) y k
 
@@ -299,7 +326,8 @@ from-word m K b w r = (tt, fixed m r.0 ∷ [], r.1, r.2, (fixed m r.0, refl, has
 abbrev pub Any : List Token → Type 0
 Any ts = Unit {0}
 
-pub exact-word : {B : Type 0} (m : Mark) (P Q R : Standing → Type 0) (q : Standing) → Q q → (K : B → List Token → Type 0) (G : List Token → Type 0) (p : Parse B) → StepsOver m P Q → Exact Q R K G p → Exact P R (Word m K) G (word m p)
+pub exact-word : {B : Type 0} (m : Mark) (P Q R : Standing → Type 0) (q : Standing) → Q q
+    → (K : B → List Token → Type 0) (G : List Token → Type 0) (p : Parse B) → StepsOver m P Q → Exact Q R K G p → Exact P R (Word m K) G (word m p)
 exact-word m P Q R q hq K G p step x =
     exact-to P R (Part (IsOne (has_mark m)) (λ (u : ⊤). K)) (Word m K) G (word m p) (to-word m K) (from-word m K)
     (exact-then P Q R q hq (IsOne (has_mark m)) (λ (u : ⊤). K) Any G (one (has_mark m)) (λ (u : ⊤). p) (λ u b v rest l g. tt)
@@ -309,8 +337,10 @@ exact-word m P Q R q hq K G p step x =
 abbrev pub Found : {A : Type 0} → (A → List Token → Type 0) → Option A → List Token → Type 0
 Found {A = A} K = Part K (λ a. Gives (Some a))
 
-pub exact-found : {A : Type 0} (P Q : Standing → Type 0) (q : Standing) → Q q → (K : A → List Token → Type 0) (F : List Token → Type 0) (p : Parse A) → Exact P Q K F p → Exact P Q (Found K) F (found p)
-exact-found P Q q hq K F p x = exact-then P Q Q q hq K (λ a. Gives (Some a)) F F p (λ a. done (Some a)) (λ a b v rest m g. subst (λ z. F (z ++ rest)) (sym m.0) g) x (λ a. exact-done Q (Some a) F)
+pub exact-found : {A : Type 0} (P Q : Standing → Type 0) (q : Standing) → Q q → (K : A → List Token → Type 0) (F : List Token → Type 0) (p : Parse A)
+    → Exact P Q K F p → Exact P Q (Found K) F (found p)
+exact-found P Q q hq K F p x = exact-then P Q Q q hq K (λ a. Gives (Some a)) F F p (λ a. done (Some a))
+    (λ a b v rest m g. subst (λ z. F (z ++ rest)) (sym m.0) g) x (λ a. exact-done Q (Some a) F)
 
 to-maybe : {A : Type 0} (K : A → List Token → Type 0) (o : Option A) (w : List Token) → OneOf (Found K) (Gives None) o w → Maybe K o w
 to-maybe K None w (inl p) = cc
@@ -325,8 +355,10 @@ from-maybe : {A : Type 0} (K : A → List Token → Type 0) (o : Option A) (w : 
 from-maybe K None w h = inr (h, refl)
 from-maybe K (Some a) w h = inl (a, w, [], sym (append-nil w), h, (refl, refl))
 
-pub exact-maybe : {A : Type 0} (P : Standing → Type 0) (q : Standing) → P q → (K : A → List Token → Type 0) (test : Token → Bool) (F : List Token → Type 0) (p : Parse A)
-    → ((a : A) (w : List Token) → K a w → starts test w ≡ true) → ((ts : List Token) → F ts → starts test ts ≡ false) → Exact P P K F p → Exact P P (Maybe K) F (maybe test p)
+pub exact-maybe : {A : Type 0} (P : Standing → Type 0) (q : Standing) → P q
+    → (K : A → List Token → Type 0) (test : Token → Bool) (F : List Token → Type 0) (p : Parse A)
+    → ((a : A) (w : List Token) → K a w → starts test w ≡ true) → ((ts : List Token) → F ts → starts test ts ≡ false) → Exact P P K F p
+    → Exact P P (Maybe K) F (maybe test p)
 exact-maybe P q hq K test F p first last x =
     exact-to P P (OneOf (Found K) (Gives None)) (Maybe K) F (maybe test p) (to-maybe K) (from-maybe K)
     (exact-choose P P (Found K) (Gives None) test F (found p) (done None)
@@ -344,7 +376,8 @@ shorter : (test : Token → Bool) (ts w rest : List Token) → ts ≡ w ++ rest 
 shorter test ts [] rest e h = cc
 shorter test ts (t ∷ w) rest e h = omega (arith, ap length e, length-append (t ∷ w) rest)
 
-module _ {A : Type 0} (P : Standing → Type 0) (q : Standing) (hq : P q) (K : Option A → List Token → Type 0) (F : List Token → Type 0) (test : Token → Bool) (p : Parse (Option A)) (x : Exact P P K F p) (first : (o : Option A) (w : List Token) → K o w → starts test w ≡ true) where
+module _ {A : Type 0} (P : Standing → Type 0) (q : Standing) (hq : P q) (K : Option A → List Token → Type 0) (F : List Token → Type 0) (test : Token → Bool)
+    (p : Parse (Option A)) (x : Exact P P K F p) (first : (o : Option A) (w : List Token) → K o w → starts test w ≡ true) where
   -- what comes after a turn
   After : Option A → List A → List Token → Type 0
   After None xs ts = Gives [] xs ts
@@ -370,13 +403,15 @@ module _ {A : Type 0} (P : Standing → Type 0) (q : Standing) (hq : P q) (K : O
   passes-loop s h [] w (inl e) = subst (λ z. P (behind_all z s)) (sym e) h
   passes-loop s h [] w (inr k) = x.passes s h None w k
   passes-loop s h (a ∷ xs) w l =
-      subst (λ z. P (behind_all z s)) (sym l.2) (subst P (sym (behind-both l.0 l.1 s)) (passes-loop (behind_all l.0 s) (x.passes s h (Some a) l.0 l.3) xs l.1 l.4))
+      subst (λ z. P (behind_all z s)) (sym l.2) (subst P (sym (behind-both l.0 l.1 s))
+      (passes-loop (behind_all l.0 s) (x.passes s h (Some a) l.0 l.3) xs l.1 l.4))
 
   sound-after : (r : Parse (List A)) → Sound P (Turns K) r → (o : Option A) → Sound P (After o) (after_turn r o)
   unfolding After
   sound-after r sr None s h ts = ([], refl, (refl, refl), tt)
   sound-after r sr (Some a) s h ts =
-      sound-then P P (Turns K) (λ more. Gives (a ∷ more)) passes-loop (λ more. (a ∷ more, [], (refl, refl))) r (λ more. done (a ∷ more)) sr (λ more l k us. ([], refl, (refl, refl), tt)) s h ts
+      sound-then P P (Turns K) (λ more. Gives (a ∷ more)) passes-loop (λ more. (a ∷ more, [], (refl, refl))) r (λ more. done (a ∷ more)) sr
+      (λ more l k us. ([], refl, (refl, refl), tt)) s h ts
 
   sound-turns : (n : ℕ) → Sound P (Turns K) (turns test p n)
   unfolding turns
@@ -393,7 +428,8 @@ module _ {A : Type 0} (P : Standing → Type 0) (q : Standing) (hq : P q) (K : O
 
   local-after : (r : Parse (List A)) → Local r → (o : Option A) → Local (after_turn r o)
   local-after r lr None front t rest other g h = local-done [] front t rest other g h
-  local-after r lr (Some a) front t rest other g h = local-then r (λ more. done (a ∷ more)) lr (λ more. local-done (a ∷ more)) (λ more l. ([], refl)) front t rest other g h
+  local-after r lr (Some a) front t rest other g h = local-then r (λ more. done (a ∷ more)) lr (λ more. local-done (a ∷ more)) (λ more l. ([], refl)) front t
+      rest other g h
 
   local-turns : (n : ℕ) → Local (turns test p n)
   unfolding turns
@@ -410,7 +446,8 @@ module _ {A : Type 0} (P : Standing → Type 0) (q : Standing) (hq : P q) (K : O
       let c = subst (Answers K q ts) e (x.answers q hq ts) in
       shorter test ts c.0 y.1 c.1 (first y.0 c.0 c.2)
 
-  turn-same : (n m : ℕ) (ts : List Token) → ((rest : List Token) → length rest < length ts → turns test p n rest ≡ turns test p m rest) → (r : Reading (Option A)) → p ts ≡ r
+  turn-same : (n m : ℕ) (ts : List Token) → ((rest : List Token) → length rest < length ts → turns test p n rest ≡ turns test p m rest)
+      → (r : Reading (Option A)) → p ts ≡ r
       → bind r (after_turn (turns test p n)) ≡ bind r (after_turn (turns test p m))
   turn-same n m ts again (Ok (None, rest)) e = refl
   turn-same n m ts again (Ok (Some a, rest)) e = ap (λ r. bind r (λ more. done (a ∷ more))) (again rest (shrinks ts (Some a, rest) e))
@@ -435,7 +472,8 @@ module _ {A : Type 0} (P : Standing → Type 0) (q : Standing) (hq : P q) (K : O
   unfolding turns
   turn-is ts h = ap (λ b. cond b (bind (p ts) (after_turn (turns test p (length ts)))) (Ok ([], ts))) h
 
-  pub loop-more : (ts : List Token) → starts test ts ≡ true → (a : A) (rest : List Token) → p ts ≡ Ok (Some a, rest) → loop test p ts ≡ bind (loop test p rest) (λ more. done (a ∷ more))
+  pub loop-more : (ts : List Token) → starts test ts ≡ true → (a : A) (rest : List Token) → p ts ≡ Ok (Some a, rest)
+      → loop test p ts ≡ bind (loop test p rest) (λ more. done (a ∷ more))
   loop-more ts h a rest e =
       turn-is ts h ∙ ap (λ r. bind r (after_turn (turns test p (length ts)))) e
       ∙ ap (λ r. bind r (λ more. done (a ∷ more))) (turns-enough (length ts) (suc (length rest)) rest (shrinks ts (Some a, rest) e) (omega arith))
@@ -451,17 +489,20 @@ module _ {A : Type 0} (P : Standing → Type 0) (q : Standing) (hq : P q) (K : O
   loop-stops ts h e is = turn-is ts h ∙ ap (λ r. bind r (after_turn (turns test p (length ts)))) is
 
   -- What follows each turn is another turn, or what follows them all.
-  module _ (G : List Token → Type 0) (after : (o : Option A) (w rest : List Token) → K o w → F (w ++ rest)) (last : (ts : List Token) → G ts → F ts × (starts test ts ≡ false)) where
+  module _ (G : List Token → Type 0) (after : (o : Option A) (w rest : List Token) → K o w → F (w ++ rest))
+      (last : (ts : List Token) → G ts → F ts × (starts test ts ≡ false)) where
     follows : (xs : List A) (w rest : List Token) → Turns K xs w → G rest → F (w ++ rest)
     follows [] w rest (inl e) g = subst (λ z. F (z ++ rest)) (sym e) (last rest g).0
     follows [] w rest (inr k) g = after None w rest k
     follows (a ∷ xs) w rest l g = subst (λ z. F (z ++ rest)) (sym l.2) (subst F (sym (append_assoc l.0 l.1 rest)) (after (Some a) l.0 (l.1 ++ rest) l.3))
 
-    reads-last : (s : Standing) (w rest : List Token) → starts test (w ++ rest) ≡ true → ReadsAs s None w rest (p (w ++ rest)) → ReadsAs s [] w rest (loop test p (w ++ rest))
+    reads-last : (s : Standing) (w rest : List Token) → starts test (w ++ rest) ≡ true → ReadsAs s None w rest (p (w ++ rest))
+        → ReadsAs s [] w rest (loop test p (w ++ rest))
     reads-last s w rest h (inl e) = inl (loop-last (w ++ rest) h rest e)
     reads-last s w rest h (inr e) = inr (e.0, loop-stops (w ++ rest) h (TooDeep, e.0) e.1, e.2)
 
-    reads-more : (s : Standing) (a : A) (xs : List A) (u v rest : List Token) → starts test (u ++ (v ++ rest)) ≡ true → ReadsAs s (Some a) u (v ++ rest) (p (u ++ (v ++ rest)))
+    reads-more : (s : Standing) (a : A) (xs : List A) (u v rest : List Token) → starts test (u ++ (v ++ rest)) ≡ true
+        → ReadsAs s (Some a) u (v ++ rest) (p (u ++ (v ++ rest)))
         → ReadsAs (behind_all u s) xs v rest (loop test p (v ++ rest)) → ReadsAs s (a ∷ xs) (u ++ v) rest (loop test p (u ++ (v ++ rest)))
     reads-more s a xs u v rest h (inl e) (inl f) = inl (loop-more (u ++ (v ++ rest)) h a (v ++ rest) e ∙ ap (λ r. bind r (λ more. done (a ∷ more))) f)
     reads-more s a xs u v rest h (inl e) (inr f) =
@@ -497,14 +538,18 @@ turns-each K [] w (inl e) = e
 turns-each K [] w (inr p) = cc
 turns-each K (a ∷ xs) w l = (l.0, l.1, l.2, to-maybe K (Some a) l.0 (inl l.3), turns-each K xs l.1 l.4)
 
-pub starts-found : {A : Type 0} (K : A → List Token → Type 0) (test : Token → Bool) → ((a : A) (w : List Token) → K a w → starts test w ≡ true) → (o : Option A) (w : List Token) → Found K o w → starts test w ≡ true
+pub starts-found : {A : Type 0} (K : A → List Token → Type 0) (test : Token → Bool) → ((a : A) (w : List Token) → K a w → starts test w ≡ true)
+    → (o : Option A) (w : List Token) → Found K o w → starts test w ≡ true
 starts-found K test first o w k = ap (starts test) k.3 ∙ starts-more test k.1 k.2 (first k.0 k.1 k.4)
 
-after-found : {A : Type 0} (K : A → List Token → Type 0) (F : List Token → Type 0) → ((a : A) (w rest : List Token) → K a w → F (w ++ rest)) → (o : Option A) (w rest : List Token) → Found K o w → F (w ++ rest)
+after-found : {A : Type 0} (K : A → List Token → Type 0) (F : List Token → Type 0) → ((a : A) (w rest : List Token) → K a w → F (w ++ rest))
+    → (o : Option A) (w rest : List Token) → Found K o w → F (w ++ rest)
 after-found K F after o w rest k = subst (λ z. F (z ++ rest)) (sym k.3) (subst F (sym (append_assoc k.1 k.2 rest)) (after k.0 k.1 (k.2 ++ rest) k.4))
 
-pub exact-many : {A : Type 0} (P : Standing → Type 0) (q : Standing) → P q → (K : A → List Token → Type 0) (test : Token → Bool) (F G : List Token → Type 0) (p : Parse A)
-    → ((a : A) (w : List Token) → K a w → starts test w ≡ true) → ((a : A) (w rest : List Token) → K a w → F (w ++ rest)) → ((ts : List Token) → G ts → F ts × (starts test ts ≡ false))
+pub exact-many : {A : Type 0} (P : Standing → Type 0) (q : Standing) → P q
+    → (K : A → List Token → Type 0) (test : Token → Bool) (F G : List Token → Type 0) (p : Parse A)
+    → ((a : A) (w : List Token) → K a w → starts test w ≡ true) → ((a : A) (w rest : List Token) → K a w → F (w ++ rest))
+    → ((ts : List Token) → G ts → F ts × (starts test ts ≡ false))
     → Exact P P K F p → Exact P P (Each K) G (many test p)
 exact-many P q hq K test F G p first after last x =
     exact-to P P (Turns (Found K)) (Each K) G (many test p) (turns-each K) (each-turns K)
@@ -515,11 +560,13 @@ swap : {A B : Type 0} → A ⊎ B → B ⊎ A
 swap (inl a) = inr a
 swap (inr b) = inl b
 
-pub exact-or : {A : Type 0} (P Q : Standing → Type 0) (K N : A → List Token → Type 0) (F : List Token → Type 0) (p : Parse A) → Exact P Q (OneOf K N) F p → Exact P Q (OneOf N K) F p
+pub exact-or : {A : Type 0} (P Q : Standing → Type 0) (K N : A → List Token → Type 0) (F : List Token → Type 0) (p : Parse A) → Exact P Q (OneOf K N) F p
+    → Exact P Q (OneOf N K) F p
 exact-or P Q K N F p x = exact-to P Q (OneOf K N) (OneOf N K) F p (λ a w. swap) (λ a w. swap) x
 
 -- ---- A whole text.
-module _ {A : Type 0} (P Q : Standing → Type 0) (s : Standing) (hs : P s) (K : A → List Token → Type 0) (F : List Token → Type 0) (p : Parse A) (x : Exact P Q K F p) (end : F []) where
+module _ {A : Type 0} (P Q : Standing → Type 0) (s : Standing) (hs : P s) (K : A → List Token → Type 0) (F : List Token → Type 0) (p : Parse A)
+    (x : Exact P Q K F p) (end : F []) where
   -- what the language spells is read whole, or it is too deep
   pub reads-whole : (ts : List Token) (a : A) → K a ts → ReadsAs s a ts [] (p ts)
   reads-whole ts a k = subst (λ z. ReadsAs s a ts [] (p z)) (append-nil ts) (x.reads s hs a ts [] k end)

@@ -19,7 +19,10 @@ use Rattle.rv_tree.specs.Tree.{Tree, ConstantTree, NodeTree}
 use Rattle.rv_syntax.specs.Nesting.{Standing, Outside, Inside, opened_by, outside, behind, depth, limit, IsExprOf}
 use Rattle.rv_syntax.specs.Marks.{kind_is, kind_named, is_mark, is_name, mark_at, kind_name, name_of}
 use Rattle.rv_syntax.specs.Rules.{Gives, Word, Only, Marked, Maybe, Part, OneOf, Each}
-use Rattle.rv_syntax.specs.ProgramText.{IsName, IsNames, IsKind, IsEnumeration, IsTypeBody, type_of, IsType, IsTypes, IsRight, constant_of, IsConstant, IsConstants, IsGroup, all_flows, IsDecls, IsClock, IsLocal, joined, IsVar, IsLefts, Item, Equates, Assumes, equation_of, assertion_of, IsItem, IsTitle, IsInputs, IsOutputs, IsBody, node_of, IsNode, Section, Types, Constants, OneNode, IsSection, program_of, IsProgram}
+use Rattle.rv_syntax.specs.ProgramText.{IsName, IsNames, IsKind, IsEnumeration, IsTypeBody, type_of, IsType, IsTypes, IsRight, constant_of, IsConstant}
+use Rattle.rv_syntax.specs.ProgramText.{IsConstants, IsGroup, all_flows, IsDecls, IsClock, IsLocal, joined, IsVar, IsLefts, Item, Equates, Assumes, equation_of}
+use Rattle.rv_syntax.specs.ProgramText.{assertion_of, IsItem, IsTitle, IsInputs, IsOutputs, IsBody, node_of, IsNode, Section, Types, Constants, OneNode}
+use Rattle.rv_syntax.specs.ProgramText.{IsSection, program_of, IsProgram}
 use Rattle.rv_tree.specs.Groups.{Group, flows_of}
 use Rattle.rv_syntax.specs.Parse.{Parse, done, then, one, starts, choose, many, maybe}
 use Rattle.rv_syntax.specs.Reads.{expression}
@@ -27,7 +30,8 @@ use Rattle.rv_syntax.specs.Reading as read
 use Rattle.rv_syntax.specs.Reading.{word}
 use Rattle.rv_syntax.proofs.Marked.{mark-token, token-mark}
 use Rattle.rv_syntax.proofs.Exactly.{Exact}
-use Rattle.rv_syntax.proofs.Exact.{IsOne, Any, StepsOver, exact-one, exact-done, exact-then, exact-to, exact-many, exact-choose, exact-before, exact-word, exact-maybe, exact-or, starts-more, Turns, exact-loop}
+use Rattle.rv_syntax.proofs.Exact.{IsOne, Any, StepsOver, exact-one, exact-done, exact-then, exact-to, exact-many, exact-choose, exact-before, exact-word}
+use Rattle.rv_syntax.proofs.Exact.{exact-maybe, exact-or, starts-more, Turns, exact-loop}
 use Rattle.rv_syntax.proofs.Expressions.{Ended, IsFresh, IsInside, Exact-expression}
 
 -- ---- Standings.
@@ -36,7 +40,8 @@ IsOutside s = s ≡ Outside
 
 -- a word or symbol between two standings
 steps-from : (m : Mark) (s t : Standing) → ((at : ℕ) → behind (fixed m at) s ≡ t) → depth t ≤ limit → StepsOver m (λ z. z ≡ s) (λ z. z ≡ t)
-steps-from m s t e low at z h = subst (λ y. (behind (fixed m at) y ≡ t) × (depth (behind (fixed m at) y) ≤ limit)) (sym h) (e at, subst (λ y. depth y ≤ limit) (sym (e at)) low)
+steps-from m s t e low at z h = subst (λ y. (behind (fixed m at) y ≡ t) × (depth (behind (fixed m at) y) ≤ limit)) (sym h)
+    (e at, subst (λ y. depth y ≤ limit) (sym (e at)) low)
 
 -- one that leaves the standing outside
 plain : (m : Mark) → opened_by m ≡ Outside → StepsOver m IsOutside IsOutside
@@ -72,7 +77,8 @@ word-first m K b w r = (r.0, r.1, r.2)
 starts-name : (test : Token → Bool) (b : Bool) → ((x : Name) → test (name_token x) ≡ b) → (w rest : List Token) → NameFirst w → starts test (w ++ rest) ≡ b
 starts-name test b h w rest f = ap (λ z. starts test (z ++ rest)) f.2 ∙ h f.0
 
-starts-mark : (test : Token → Bool) (b : Bool) (m : Mark) → ((at : ℕ) → test (fixed m at) ≡ b) → (w rest : List Token) → MarkFirst m w → starts test (w ++ rest) ≡ b
+starts-mark : (test : Token → Bool) (b : Bool) (m : Mark) → ((at : ℕ) → test (fixed m at) ≡ b) → (w rest : List Token) → MarkFirst m w
+    → starts test (w ++ rest) ≡ b
 starts-mark test b m h w rest f = ap (λ z. starts test (z ++ rest)) f.2 ∙ h f.0
 
 -- the same of the words alone
@@ -82,10 +88,12 @@ name-starts test b h w f = ap (starts test) f.2 ∙ h f.0
 mark-starts : (test : Token → Bool) (b : Bool) (m : Mark) → ((at : ℕ) → test (fixed m at) ≡ b) → (w : List Token) → MarkFirst m w → starts test w ≡ b
 mark-starts test b m h w f = ap (starts test) f.2 ∙ h f.0
 
-part-name : {A B : Type 0} (K : A → List Token → Type 0) (N : A → B → List Token → Type 0) → ((a : A) (w : List Token) → K a w → NameFirst w) → (b : B) (w : List Token) → Part K N b w → NameFirst w
+part-name : {A B : Type 0} (K : A → List Token → Type 0) (N : A → B → List Token → Type 0) → ((a : A) (w : List Token) → K a w → NameFirst w)
+    → (b : B) (w : List Token) → Part K N b w → NameFirst w
 part-name K N first b w p = let f = first p.0 p.1 p.4 in (f.0, f.1 ++ p.2, p.3 ∙ ap (λ z. z ++ p.2) f.2)
 
-part-mark : {A B : Type 0} (m : Mark) (K : A → List Token → Type 0) (N : A → B → List Token → Type 0) → ((a : A) (w : List Token) → K a w → MarkFirst m w) → (b : B) (w : List Token) → Part K N b w → MarkFirst m w
+part-mark : {A B : Type 0} (m : Mark) (K : A → List Token → Type 0) (N : A → B → List Token → Type 0) → ((a : A) (w : List Token) → K a w → MarkFirst m w)
+    → (b : B) (w : List Token) → Part K N b w → MarkFirst m w
 part-mark m K N first b w p = let f = first p.0 p.1 p.4 in (f.0, f.1 ++ p.2, p.3 ∙ ap (λ z. z ++ p.2) f.2)
 
 -- a word or symbol is no name
@@ -97,7 +105,8 @@ marked-unnamed m kind.LeftOut h = cc
 marked-unnamed m kind.Bad h = cc
 
 -- What begins with a token that one test takes is begun by what another test says of such tokens.
-other-start : (test other : Token → Bool) (b : Bool) → ((t : Token) → test t ≡ true → other t ≡ b) → (ts : List Token) → starts test ts ≡ true → starts other ts ≡ b
+other-start : (test other : Token → Bool) (b : Bool) → ((t : Token) → test t ≡ true → other t ≡ b) → (ts : List Token) → starts test ts ≡ true
+    → starts other ts ≡ b
 other-start test other b h [] k = cc
 other-start test other b h (t ∷ ts) k = h t k
 
@@ -106,25 +115,34 @@ other-start test other b h (t ∷ ts) k = h t k
 abbrev Follows : {A B : Type 0} → (A → B → List Token → Type 0) → (List Token → Type 0) → (List Token → Type 0) → Type 0
 Follows {A = A} {B = B} N F G = (a : A) (b : B) (v rest : List Token) → N a b v → G rest → F (v ++ rest)
 
-chain : {A B : Type 0} {K : A → List Token → Type 0} {N : A → B → List Token → Type 0} {F G : List Token → Type 0} {p : Parse A} {f : A → Parse B} (s : Standing) {R : Standing → Type 0} {P : Standing → Type 0}
+chain : {A B : Type 0} {K : A → List Token → Type 0} {N : A → B → List Token → Type 0} {F G : List Token → Type 0} {p : Parse A} {f : A → Parse B}
+    (s : Standing) {R : Standing → Type 0} {P : Standing → Type 0}
     → Exact P (λ z. z ≡ s) K F p → Follows N F G → ((a : A) → Exact (λ z. z ≡ s) R (N a) G (f a)) → Exact P R (Part K N) G (then p f)
 chain {K = K} {N = N} {F = F} {G = G} {p = p} {f = f} s {R = R} {P = P} x follow y = exact-then P (λ z. z ≡ s) R s refl K N F G p f follow x y
 
-over : {B : Type 0} {K : B → List Token → Type 0} {G : List Token → Type 0} {p : Parse B} {P R : Standing → Type 0} (m : Mark) (s : Standing) → StepsOver m P (λ z. z ≡ s) → Exact (λ z. z ≡ s) R K G p → Exact P R (Word m K) G (word m p)
+over : {B : Type 0} {K : B → List Token → Type 0} {G : List Token → Type 0} {p : Parse B} {P R : Standing → Type 0} (m : Mark) (s : Standing)
+    → StepsOver m P (λ z. z ≡ s) → Exact (λ z. z ≡ s) R K G p → Exact P R (Word m K) G (word m p)
 over {K = K} {G = G} {p = p} {P = P} {R = R} m s step x = exact-word m P (λ z. z ≡ s) R s refl K G p step x
 
-either : {A : Type 0} {P Q : Standing → Type 0} {K N : A → List Token → Type 0} {G : List Token → Type 0} {p q : Parse A} (test : Token → Bool) → Exact P Q K G p → Exact P Q N G q
-    → ((a : A) (w : List Token) → K a w → starts test w ≡ true) → ((a : A) (w rest : List Token) → N a w → G rest → starts test (w ++ rest) ≡ false) → Exact P Q (OneOf K N) G (choose test p q)
+either : {A : Type 0} {P Q : Standing → Type 0} {K N : A → List Token → Type 0} {G : List Token → Type 0} {p q : Parse A} (test : Token → Bool)
+    → Exact P Q K G p → Exact P Q N G q
+    → ((a : A) (w : List Token) → K a w → starts test w ≡ true) → ((a : A) (w rest : List Token) → N a w → G rest → starts test (w ++ rest) ≡ false)
+    → Exact P Q (OneOf K N) G (choose test p q)
 either {P = P} {Q = Q} {K = K} {N = N} {G = G} {p = p} {q = q} test x y first other = exact-choose P Q K N test G p q first other x y
 
-optional : {A : Type 0} {K : A → List Token → Type 0} {p : Parse A} (s : Standing) (test : Token → Bool) (F : List Token → Type 0) → Exact (λ z. z ≡ s) (λ z. z ≡ s) K Any p
-    → ((a : A) (w : List Token) → K a w → starts test w ≡ true) → ((ts : List Token) → F ts → starts test ts ≡ false) → Exact (λ z. z ≡ s) (λ z. z ≡ s) (Maybe K) F (maybe test p)
+optional : {A : Type 0} {K : A → List Token → Type 0} {p : Parse A} (s : Standing) (test : Token → Bool) (F : List Token → Type 0)
+    → Exact (λ z. z ≡ s) (λ z. z ≡ s) K Any p
+    → ((a : A) (w : List Token) → K a w → starts test w ≡ true) → ((ts : List Token) → F ts → starts test ts ≡ false)
+    → Exact (λ z. z ≡ s) (λ z. z ≡ s) (Maybe K) F (maybe test p)
 optional {K = K} {p = p} s test F x first last =
     exact-maybe (λ z. z ≡ s) s refl K test F p first last (exact-before (λ z. z ≡ s) (λ z. z ≡ s) K Any F p (λ ts f. tt) x)
 
-repeated : {A : Type 0} {K : A → List Token → Type 0} {F : List Token → Type 0} {p : Parse A} (s : Standing) (test : Token → Bool) (G : List Token → Type 0) → Exact (λ z. z ≡ s) (λ z. z ≡ s) K F p
-    → ((a : A) (w : List Token) → K a w → starts test w ≡ true) → ((ts : List Token) → starts test ts ≡ true → F ts) → ((ts : List Token) → G ts → F ts × (starts test ts ≡ false)) → Exact (λ z. z ≡ s) (λ z. z ≡ s) (Each K) G (many test p)
-repeated {K = K} {F = F} {p = p} s test G x first after last = exact-many (λ z. z ≡ s) s refl K test F G p first (λ a w rest k. after (w ++ rest) (starts-more test w rest (first a w k))) last x
+repeated : {A : Type 0} {K : A → List Token → Type 0} {F : List Token → Type 0} {p : Parse A} (s : Standing) (test : Token → Bool) (G : List Token → Type 0)
+    → Exact (λ z. z ≡ s) (λ z. z ≡ s) K F p
+    → ((a : A) (w : List Token) → K a w → starts test w ≡ true) → ((ts : List Token) → starts test ts ≡ true → F ts)
+    → ((ts : List Token) → G ts → F ts × (starts test ts ≡ false)) → Exact (λ z. z ≡ s) (λ z. z ≡ s) (Each K) G (many test p)
+repeated {K = K} {F = F} {p = p} s test G x first after last = exact-many (λ z. z ≡ s) s refl K test F G p first
+    (λ a w rest k. after (w ++ rest) (starts-more test w rest (first a w k))) last x
 
 -- what is given at the end of a rule
 gives : {B : Type 0} (s : Standing) (b : B) (G : List Token → Type 0) → Exact (λ z. z ≡ s) (λ z. z ≡ s) (Gives b) G (done b)
@@ -209,21 +227,25 @@ Exact-fresh-names : Exact IsFresh IsFresh IsNames NoComma read.names
 Exact-fresh-names = names-at (Inside outside) Exact-fresh-name (within mark.Comma (λ at. refl))
 
 -- what a word or symbol begins is followed as it has to be
-by-word : {A B : Type 0} (m : Mark) (K : A → B → List Token → Type 0) (F : List Token → Type 0) (G : List Token → Type 0) → ((at : ℕ) (rest : List Token) → F (fixed m at ∷ rest)) → Follows (λ a. Word m (K a)) F G
+by-word : {A B : Type 0} (m : Mark) (K : A → B → List Token → Type 0) (F : List Token → Type 0) (G : List Token → Type 0)
+    → ((at : ℕ) (rest : List Token) → F (fixed m at ∷ rest)) → Follows (λ a. Word m (K a)) F G
 by-word m K F G h a b v rest w g = subst (λ z. F (z ++ rest)) (sym w.2) (h w.0 (w.1 ++ rest))
 
 -- ---- Types.
-kind-other : (k : TypeName) (w rest : List Token) → OneOf (Word mark.Int (Gives type_name.Int)) (Part IsName (λ x. Gives (type_name.Named x))) k w → Any rest → starts (is_mark mark.Bool) (w ++ rest) ≡ false
+kind-other : (k : TypeName) (w rest : List Token) → OneOf (Word mark.Int (Gives type_name.Int)) (Part IsName (λ x. Gives (type_name.Named x))) k w → Any rest
+    → starts (is_mark mark.Bool) (w ++ rest) ≡ false
 kind-other k w rest (inl r) g = starts-mark (is_mark mark.Bool) false mark.Int (λ at. refl) w rest (word-first mark.Int (Gives type_name.Int) k w r)
 kind-other k w rest (inr p) g = starts-name (is_mark mark.Bool) false (λ x. refl) w rest (part-name IsName (λ x. Gives (type_name.Named x)) name-first k w p)
 
-module _ (s : Standing) (name : Exact (λ z. z ≡ s) (λ z. z ≡ s) IsName Any (one name_of)) (bool : StepsOver mark.Bool (λ z. z ≡ s) (λ z. z ≡ s)) (int : StepsOver mark.Int (λ z. z ≡ s) (λ z. z ≡ s)) where
+module _ (s : Standing) (name : Exact (λ z. z ≡ s) (λ z. z ≡ s) IsName Any (one name_of)) (bool : StepsOver mark.Bool (λ z. z ≡ s) (λ z. z ≡ s))
+    (int : StepsOver mark.Int (λ z. z ≡ s) (λ z. z ≡ s)) where
   kind-at : Exact (λ z. z ≡ s) (λ z. z ≡ s) IsKind Any read.kind
   unfolding read.kind
   kind-at =
       either (is_mark mark.Bool) (over mark.Bool s bool (gives s type_name.Bool Any))
       (either (is_mark mark.Int) (over mark.Int s int (gives s type_name.Int Any)) (chain s name (λ a b v rest m g. tt) (λ x. gives s (type_name.Named x) Any))
-      (starts-word mark.Int (Gives type_name.Int)) (λ k w rest p g. starts-name (is_mark mark.Int) false (λ x. refl) w rest (part-name IsName (λ x. Gives (type_name.Named x)) name-first k w p)))
+      (starts-word mark.Int (Gives type_name.Int)) (λ k w rest p g. starts-name (is_mark mark.Int) false (λ x. refl) w rest
+      (part-name IsName (λ x. Gives (type_name.Named x)) name-first k w p)))
       (starts-word mark.Bool (Gives type_name.Bool)) kind-other
 
 Exact-kind : Exact IsOutside IsOutside IsKind Any read.kind
@@ -235,7 +257,8 @@ Exact-fresh-kind = kind-at (Inside outside) Exact-fresh-name (within mark.Bool (
 kind-no-enum : (k : TypeName) (w rest : List Token) → IsKind k w → starts (is_mark mark.Enum) (w ++ rest) ≡ false
 kind-no-enum k w rest (inl r) = starts-mark (is_mark mark.Enum) false mark.Bool (λ at. refl) w rest (word-first mark.Bool (Gives type_name.Bool) k w r)
 kind-no-enum k w rest (inr (inl r)) = starts-mark (is_mark mark.Enum) false mark.Int (λ at. refl) w rest (word-first mark.Int (Gives type_name.Int) k w r)
-kind-no-enum k w rest (inr (inr p)) = starts-name (is_mark mark.Enum) false (λ x. refl) w rest (part-name IsName (λ x. Gives (type_name.Named x)) name-first k w p)
+kind-no-enum k w rest (inr (inr p)) = starts-name (is_mark mark.Enum) false (λ x. refl) w rest
+    (part-name IsName (λ x. Gives (type_name.Named x)) name-first k w p)
 
 Exact-enumeration : Exact IsFresh IsFresh IsEnumeration Any read.enumeration
 unfolding read.enumeration
@@ -245,14 +268,16 @@ Exact-enumeration =
     (chain (Inside outside) Exact-fresh-names (by-word mark.CloseBrace (λ xs. Gives (body_of.Labels xs)) NoComma Any (λ at rest. refl)) (λ xs.
     over mark.CloseBrace (Inside outside) (within mark.CloseBrace (λ at. refl)) (gives (Inside outside) (body_of.Labels xs) Any))))
 
-alias-no-enum : (body : TypeBody) (w rest : List Token) → Part IsKind (λ k. Gives (body_of.Alias k)) body w → Any rest → starts (is_mark mark.Enum) (w ++ rest) ≡ false
+alias-no-enum : (body : TypeBody) (w rest : List Token) → Part IsKind (λ k. Gives (body_of.Alias k)) body w → Any rest
+    → starts (is_mark mark.Enum) (w ++ rest) ≡ false
 alias-no-enum body w rest p g =
     ap (λ z. starts (is_mark mark.Enum) (z ++ rest)) p.3 ∙ ap (starts (is_mark mark.Enum)) (append_assoc p.1 p.2 rest) ∙ kind-no-enum p.0 p.1 (p.2 ++ rest) p.4
 
 Exact-type-body : Exact IsFresh IsFresh IsTypeBody Any read.type_body
 unfolding read.type_body
 Exact-type-body =
-    either (is_mark mark.Enum) Exact-enumeration (chain (Inside outside) Exact-fresh-kind (λ a b v rest m g. tt) (λ k. gives (Inside outside) (body_of.Alias k) Any))
+    either (is_mark mark.Enum) Exact-enumeration (chain (Inside outside) Exact-fresh-kind (λ a b v rest m g. tt)
+    (λ k. gives (Inside outside) (body_of.Alias k) Any))
     (starts-word mark.Enum (Word mark.OpenBrace (Part IsNames (λ xs. Word mark.CloseBrace (Gives (body_of.Labels xs)))))) alias-no-enum
 
 pub Exact-type : Exact IsOutside IsOutside IsType Any read.one_type
@@ -271,7 +296,8 @@ NoName ts = starts is_name ts ≡ false
 
 pub Exact-next-types : Exact IsOutside IsOutside (Each IsType) NoName read.next_types
 unfolding read.next_types
-Exact-next-types = repeated Outside is_name NoName Exact-type (λ d w k. name-starts is_name true (λ x. refl) w (type-first d w k)) (λ ts h. tt) (λ ts h. (tt, h))
+Exact-next-types = repeated Outside is_name NoName Exact-type (λ d w k. name-starts is_name true (λ x. refl) w (type-first d w k)) (λ ts h. tt)
+    (λ ts h. (tt, h))
 
 Exact-types : Exact IsOutside IsOutside IsTypes NoName read.types
 unfolding read.types
@@ -286,7 +312,8 @@ Exact-right : Exact IsOutside IsOutside IsRight Any read.right
 unfolding read.right
 Exact-right =
     over mark.Equal (Inside outside) (opens mark.Equal refl)
-    (exact-then IsFresh IsInside IsOutside (Inside outside) (outside, refl) IsExprOf (λ e. Word mark.Semi (Gives e)) Ended Any expression (λ e. word mark.Semi (done e))
+    (exact-then IsFresh IsInside IsOutside (Inside outside) (outside, refl) IsExprOf (λ e. Word mark.Semi (Gives e)) Ended Any expression
+    (λ e. word mark.Semi (done e))
     (by-word mark.Semi (λ e. Gives e) Ended Any (λ at rest. tt)) Exact-expression (λ e.
     over mark.Semi Outside closes (gives Outside e Any)))
 
@@ -295,10 +322,12 @@ NoColon ts = starts (is_mark mark.Colon) ts ≡ false
 
 Exact-written-kind : Exact IsOutside IsOutside (Maybe (Word mark.Colon IsKind)) NoColon read.written_kind
 unfolding read.written_kind
-Exact-written-kind = optional Outside (is_mark mark.Colon) NoColon (over mark.Colon Outside (plain mark.Colon refl) Exact-kind) (starts-word mark.Colon IsKind) (λ ts h. h)
+Exact-written-kind = optional Outside (is_mark mark.Colon) NoColon (over mark.Colon Outside (plain mark.Colon refl) Exact-kind) (starts-word mark.Colon IsKind)
+    (λ ts h. h)
 
 -- what a part that begins with a word or symbol is followed by
-before-word : {A B C : Type 0} (m : Mark) (K : A → List Token → Type 0) (N : C → A → B → List Token → Type 0) (F G : List Token → Type 0) → ((a : A) (w : List Token) → K a w → MarkFirst m w) → ((at : ℕ) (rest : List Token) → F (fixed m at ∷ rest))
+before-word : {A B C : Type 0} (m : Mark) (K : A → List Token → Type 0) (N : C → A → B → List Token → Type 0) (F G : List Token → Type 0)
+    → ((a : A) (w : List Token) → K a w → MarkFirst m w) → ((at : ℕ) (rest : List Token) → F (fixed m at ∷ rest))
     → Follows (λ c. Part K (N c)) F G
 before-word m K N F G first h c b v rest p g =
     let f = part-mark m K (N c) first b v p in
@@ -320,7 +349,8 @@ constant-first c w p = part-name IsName (λ x. Part (Maybe (Word mark.Colon IsKi
 
 pub Exact-next-constants : Exact IsOutside IsOutside (Each IsConstant) NoName read.next_constants
 unfolding read.next_constants
-Exact-next-constants = repeated Outside is_name NoName Exact-constant (λ c w k. name-starts is_name true (λ x. refl) w (constant-first c w k)) (λ ts h. tt) (λ ts h. (tt, h))
+Exact-next-constants = repeated Outside is_name NoName Exact-constant (λ c w k. name-starts is_name true (λ x. refl) w (constant-first c w k)) (λ ts h. tt)
+    (λ ts h. (tt, h))
 
 Exact-constants : Exact IsOutside IsOutside IsConstants NoName read.constants
 unfolding read.constants
@@ -382,7 +412,8 @@ join-end : (end : Option ⊤) (v : List Token) → Maybe (Only mark.Semi) end v 
 join-end None v e = inl e
 join-end (Some u) v r = inr (r.0, [], r.1, refl)
 
-join-turns : (gs : List Group) (u v : List Token) (end : Option ⊤) → Each (Word mark.Semi IsGroup) gs u → Maybe (Only mark.Semi) end v → Turns IsNextGroup gs (u ++ v)
+join-turns : (gs : List Group) (u v : List Token) (end : Option ⊤) → Each (Word mark.Semi IsGroup) gs u → Maybe (Only mark.Semi) end v
+    → Turns IsNextGroup gs (u ++ v)
 join-turns [] u v end e m = subst (λ z. Turns IsNextGroup [] (z ++ v)) (sym e) (join-end end v m)
 join-turns (g ∷ gs) u v end l m = (l.0, l.1 ++ v, ap (λ z. z ++ v) l.2 ∙ append_assoc l.0 l.1 v, l.3, join-turns gs l.1 v end l.4 m)
 
@@ -392,14 +423,42 @@ As-turns = Part IsGroup (λ group. Part (Turns IsNextGroup) (λ more. Gives (all
 to-decls : (ds : List Decl) (w : List Token) → As-turns ds w → IsDecls ds w
 to-decls ds w l =
     let r = l.5 in
-    let s = split-turns r.0 r.1 r.4 in
-    (l.0, l.1, l.2, l.3, l.4, (r.0, s.1, s.2, r.3 ∙ ap (λ z. r.1 ++ z) r.5.0 ∙ append-nil r.1 ∙ s.3, s.4, (s.0, s.2, [], sym (append-nil s.2), s.5, (refl, r.5.1))))
+    let s = split-turns r.0 r.1 r.4 in (
+      l.0,
+      l.1,
+      l.2,
+      l.3,
+      l.4,
+      (
+        r.0,
+        s.1,
+        s.2,
+        r.3 ∙ ap (λ z. r.1 ++ z) r.5.0 ∙ append-nil r.1
+            ∙ s.3,
+        s.4,
+        (s.0, s.2, [], sym (append-nil s.2), s.5, (refl, r.5.1)),
+      ),
+    )
 
 from-decls : (ds : List Decl) (w : List Token) → IsDecls ds w → As-turns ds w
 from-decls ds w l =
     let r = l.5 in
-    let e = r.5 in
-    (l.0, l.1, l.2, l.3, l.4, (r.0, r.1 ++ e.1, [], r.3 ∙ ap (λ z. r.1 ++ z) (e.3 ∙ ap (λ z. e.1 ++ z) e.5.0 ∙ append-nil e.1) ∙ sym (append-nil (r.1 ++ e.1)), join-turns r.0 r.1 e.1 e.0 r.4 e.4, (refl, e.5.1)))
+    let e = r.5 in (
+      l.0,
+      l.1,
+      l.2,
+      l.3,
+      l.4,
+      (
+        r.0,
+        r.1 ++ e.1,
+        [],
+        r.3 ∙ ap (λ z. r.1 ++ z) (e.3 ∙ ap (λ z. e.1 ++ z) e.5.0 ∙ append-nil e.1)
+            ∙ sym (append-nil (r.1 ++ e.1)),
+        join-turns r.0 r.1 e.1 e.0 r.4 e.4,
+        (refl, e.5.1),
+      ),
+    )
 
 no-turn : (more : List Group) (rest : List Token) → NoGroup rest → (w : List Token) → Turns IsNextGroup more w → Any (w ++ rest)
 no-turn more rest g w t = tt
@@ -419,11 +478,13 @@ Exact-clock = over mark.When Outside (plain mark.When refl) Exact-name
 abbrev NoWhen : List Token → Type 0
 NoWhen ts = starts (is_mark mark.When) ts ≡ false
 
-Exact-plain-local : Exact IsOutside IsOutside (Part IsGroup (λ group. Part (Maybe IsClock) (λ clock. Word mark.Semi (Gives (flows_of group clock))))) Any read.plain_local
+Exact-plain-local : Exact IsOutside IsOutside (Part IsGroup (λ group. Part (Maybe IsClock) (λ clock. Word mark.Semi (Gives (flows_of group clock))))) Any
+    read.plain_local
 unfolding read.plain_local
 Exact-plain-local =
     chain Outside Exact-group (λ a b v rest m g. tt) (λ group.
-    chain Outside (optional Outside (is_mark mark.When) NoWhen Exact-clock (starts-word mark.When IsName) (λ ts h. h)) (by-word mark.Semi (λ clock. Gives (flows_of group clock)) NoWhen Any (λ at rest. refl)) (λ clock.
+    chain Outside (optional Outside (is_mark mark.When) NoWhen Exact-clock (starts-word mark.When IsName) (λ ts h. h))
+    (by-word mark.Semi (λ clock. Gives (flows_of group clock)) NoWhen Any (λ at rest. refl)) (λ clock.
     over mark.Semi Outside (plain mark.Semi refl) (gives Outside (flows_of group clock) Any)))
 
 abbrev Bracketed : Group → List Decl → List Token → Type 0
@@ -438,7 +499,8 @@ Exact-bracketed-local =
     (chain Outside Exact-clock (λ a b v rest m g. tt) (λ clock.
     over mark.Semi Outside (plain mark.Semi refl) (gives Outside (flows_of group (Some clock)) Any)))))
 
-plain-local-first : (ds : List Decl) (w : List Token) → Part IsGroup (λ group. Part (Maybe IsClock) (λ clock. Word mark.Semi (Gives (flows_of group clock)))) ds w → NameFirst w
+plain-local-first : (ds : List Decl) (w : List Token) → Part IsGroup (λ group. Part (Maybe IsClock) (λ clock. Word mark.Semi (Gives (flows_of group clock)))) ds
+    w → NameFirst w
 plain-local-first ds w p = part-name IsGroup (λ group. Part (Maybe IsClock) (λ clock. Word mark.Semi (Gives (flows_of group clock)))) group-first ds w p
 
 pub Exact-local : Exact IsOutside IsOutside IsLocal Any read.local
@@ -525,18 +587,22 @@ Exact-assertion : Exact IsOutside IsOutside IsAssertion Any read.assertion
 unfolding read.assertion
 Exact-assertion =
     chain (Inside outside) Exact-assert (λ a b v rest m g. tt) (λ at.
-    exact-then IsFresh IsInside IsOutside (Inside outside) (outside, refl) IsExprOf (λ e. Word mark.Semi (Gives (Assumes (assertion_of at e)))) Ended Any expression (λ e. word mark.Semi (done (Assumes (assertion_of at e))))
+    exact-then IsFresh IsInside IsOutside (Inside outside) (outside, refl) IsExprOf (λ e. Word mark.Semi (Gives (Assumes (assertion_of at e)))) Ended Any
+    expression (λ e. word mark.Semi (done (Assumes (assertion_of at e))))
     (by-word mark.Semi (λ e. Gives (Assumes (assertion_of at e))) Ended Any (λ up rest. tt)) Exact-expression (λ e.
     over mark.Semi Outside closes (gives Outside (Assumes (assertion_of at e)) Any)))
 
 assertion-first : (i : Item) (w : List Token) → IsAssertion i w → MarkFirst mark.Assert w
-assertion-first i w p = part-mark mark.Assert (Marked mark.Assert) (λ at. Part IsExprOf (λ e. Word mark.Semi (Gives (Assumes (assertion_of at e))))) (λ at u e. (at, [], e)) i w p
+assertion-first i w p = part-mark mark.Assert (Marked mark.Assert) (λ at. Part IsExprOf (λ e. Word mark.Semi (Gives (Assumes (assertion_of at e)))))
+    (λ at u e. (at, [], e)) i w p
 
-lefts-start : (test : Token → Bool) (b : Bool) → ((x : Name) → test (name_token x) ≡ b) → ((at : ℕ) → test (fixed mark.Open at) ≡ b) → (xs : List Name) (w rest : List Token) → IsLefts xs w → starts test (w ++ rest) ≡ b
+lefts-start : (test : Token → Bool) (b : Bool) → ((x : Name) → test (name_token x) ≡ b) → ((at : ℕ) → test (fixed mark.Open at) ≡ b)
+    → (xs : List Name) (w rest : List Token) → IsLefts xs w → starts test (w ++ rest) ≡ b
 lefts-start test b h k xs w rest (inl l) = starts-name test b h w rest (names-first xs w l)
 lefts-start test b h k xs w rest (inr r) = starts-mark test b mark.Open k w rest (word-first mark.Open (Part IsNames (λ xs. Word mark.Close (Gives xs))) xs w r)
 
-equation-start : (test : Token → Bool) (b : Bool) → ((x : Name) → test (name_token x) ≡ b) → ((at : ℕ) → test (fixed mark.Open at) ≡ b) → (i : Item) (w rest : List Token) → IsEquation i w → starts test (w ++ rest) ≡ b
+equation-start : (test : Token → Bool) (b : Bool) → ((x : Name) → test (name_token x) ≡ b) → ((at : ℕ) → test (fixed mark.Open at) ≡ b)
+    → (i : Item) (w rest : List Token) → IsEquation i w → starts test (w ++ rest) ≡ b
 equation-start test b h k i w rest p =
     ap (λ z. starts test (z ++ rest)) p.3 ∙ ap (starts test) (append_assoc p.1 p.2 rest) ∙ lefts-start test b h k p.0 p.1 (p.2 ++ rest) p.4
 
@@ -544,7 +610,8 @@ pub Exact-item : Exact IsOutside IsOutside IsItem Any read.item
 unfolding read.item
 Exact-item =
     exact-or IsOutside IsOutside IsAssertion IsEquation Any read.item
-    (either (is_mark mark.Assert) Exact-assertion Exact-equation (λ i w k. mark-starts (is_mark mark.Assert) true mark.Assert (λ at. refl) w (assertion-first i w k))
+    (either (is_mark mark.Assert) Exact-assertion Exact-equation (λ i w k. mark-starts (is_mark mark.Assert) true mark.Assert (λ at. refl) w
+    (assertion-first i w k))
     (λ i w rest k g. equation-start (is_mark mark.Assert) false (λ x. refl) (λ at. refl) i w rest k))
 
 pub starts-item : (i : Item) (w : List Token) → IsItem i w → starts read.begins_item w ≡ true
@@ -572,7 +639,8 @@ Exact-inputs =
 
 Exact-only : (m : Mark) → opened_by m ≡ Outside → Exact IsOutside IsOutside (Only m) Any (read.only m)
 Exact-only m e =
-    exact-to IsOutside IsOutside (Word m (Gives tt)) (Only m) Any (read.only m) (λ u w r. (r.0, r.2 ∙ ap (λ z. fixed m r.0 ∷ z) r.3.0)) (λ u w r. (r.0, [], r.1, (refl, refl)))
+    exact-to IsOutside IsOutside (Word m (Gives tt)) (Only m) Any (read.only m) (λ u w r. (r.0, r.2 ∙ ap (λ z. fixed m r.0 ∷ z) r.3.0))
+    (λ u w r. (r.0, [], r.1, (refl, refl)))
     (over m Outside (plain m e) (gives Outside tt Any))
 
 starts-only : (m : Mark) (u : ⊤) (w : List Token) → Only m u w → starts (is_mark m) w ≡ true
@@ -586,7 +654,8 @@ unfolding read.outputs
 Exact-outputs =
     over mark.Returns Outside (plain mark.Returns refl)
     (chain Outside Exact-inputs (λ a b v rest m g. tt) (λ ds.
-    chain Outside (optional Outside (is_mark mark.Semi) NoSemi (Exact-only mark.Semi refl) (starts-only mark.Semi) (λ ts h. h)) (at-end (λ end. ds) NoSemi) (λ end.
+    chain Outside (optional Outside (is_mark mark.Semi) NoSemi (Exact-only mark.Semi refl) (starts-only mark.Semi) (λ ts h. h)) (at-end (λ end. ds) NoSemi)
+    (λ end.
     gives Outside ds NoSemi)))
 
 abbrev pub NoEnd : List Token → Type 0
@@ -603,7 +672,8 @@ Exact-node-end : Exact IsOutside IsOutside (Maybe IsEnd) NoEnd read.node_end
 unfolding read.node_end
 Exact-node-end =
     optional Outside read.ends_node NoEnd
-    (either (is_mark mark.Semi) (Exact-only mark.Semi refl) (Exact-only mark.Dot refl) (starts-only mark.Semi) (λ u w rest r g. ap (λ z. starts (is_mark mark.Semi) (z ++ rest)) r.1)) starts-end (λ ts h. h)
+    (either (is_mark mark.Semi) (Exact-only mark.Semi refl) (Exact-only mark.Dot refl) (starts-only mark.Semi)
+    (λ u w rest r g. ap (λ z. starts (is_mark mark.Semi) (z ++ rest)) r.1)) starts-end (λ ts h. h)
 
 Exact-body : Exact IsOutside IsOutside IsBody NoEnd read.body
 unfolding read.body
@@ -622,7 +692,8 @@ vars-no-semi : (vars : List (List Decl)) (u v : List Token) → Each IsVar vars 
 vars-no-semi [] u v e f = subst (λ z. NoSemi (z ++ v)) (sym e) (ap (starts (is_mark mark.Semi)) f.2)
 vars-no-semi (ds ∷ vars) u v l f =
     ap (λ z. starts (is_mark mark.Semi) (z ++ v)) l.2 ∙ ap (starts (is_mark mark.Semi)) (append_assoc l.0 l.1 v)
-    ∙ starts-mark (is_mark mark.Semi) false mark.Var (λ at. refl) l.0 (l.1 ++ v) (word-first mark.Var (Part IsLocal (λ ds. Part (Each IsLocal) (λ more. Gives (joined (ds ∷ more))))) ds l.0 l.3)
+    ∙ starts-mark (is_mark mark.Semi) false mark.Var (λ at. refl) l.0 (l.1 ++ v)
+    (word-first mark.Var (Part IsLocal (λ ds. Part (Each IsLocal) (λ more. Gives (joined (ds ∷ more))))) ds l.0 l.3)
 
 abbrev LastPart : Name → List Decl → List Decl → List (List Decl) → NodeTree → List Token → Type 0
 LastPart x ins outs vars = Part IsBody (λ items. Gives (node_of x ins outs vars items))
@@ -642,7 +713,8 @@ Exact-node =
     chain Outside Exact-title (λ a b v rest m g. tt) (λ x.
     chain Outside Exact-inputs (λ a b v rest m g. tt) (λ ins.
     chain Outside Exact-outputs (after-outputs x ins) (λ outs.
-    chain Outside Exact-vars (before-word mark.Let IsBody (λ vars items. Gives (node_of x ins outs vars items)) NoVar NoEnd body-first (λ at rest. (refl, refl))) (λ vars.
+    chain Outside Exact-vars (before-word mark.Let IsBody (λ vars items. Gives (node_of x ins outs vars items)) NoVar NoEnd body-first
+    (λ at rest. (refl, refl))) (λ vars.
     chain Outside Exact-body (at-end (λ items. node_of x ins outs vars items) NoEnd) (λ items.
     gives Outside (node_of x ins outs vars items) NoEnd)))))
 
@@ -686,13 +758,16 @@ no-types s w rest (inl k) g = starts-mark (is_mark mark.Type) false mark.Const (
 no-types s w rest (inr k) g = starts-mark (is_mark mark.Type) false mark.Node (λ at. refl) w rest (node-section-first s w k)
 
 of-types : Exact IsOutside IsOutside TypeSection NoMore (then read.types (λ ds. done (Types ds)))
-of-types = chain Outside (exact-before IsOutside IsOutside IsTypes NoName NoMore read.types (λ ts g. g.0) Exact-types) (at-end Types NoMore) (λ ds. gives Outside (Types ds) NoMore)
+of-types = chain Outside (exact-before IsOutside IsOutside IsTypes NoName NoMore read.types (λ ts g. g.0) Exact-types) (at-end Types NoMore)
+    (λ ds. gives Outside (Types ds) NoMore)
 
 of-constants : Exact IsOutside IsOutside ConstantSection NoMore (then read.constants (λ cs. done (Constants cs)))
-of-constants = chain Outside (exact-before IsOutside IsOutside IsConstants NoName NoMore read.constants (λ ts g. g.0) Exact-constants) (at-end Constants NoMore) (λ cs. gives Outside (Constants cs) NoMore)
+of-constants = chain Outside (exact-before IsOutside IsOutside IsConstants NoName NoMore read.constants (λ ts g. g.0) Exact-constants) (at-end Constants NoMore)
+    (λ cs. gives Outside (Constants cs) NoMore)
 
 of-node : Exact IsOutside IsOutside NodeSection NoMore (then read.node (λ n. done (OneNode n)))
-of-node = chain Outside (exact-before IsOutside IsOutside IsNode NoEnd NoMore read.node (λ ts g. g.1) Exact-node) (at-end OneNode NoMore) (λ n. gives Outside (OneNode n) NoMore)
+of-node = chain Outside (exact-before IsOutside IsOutside IsNode NoEnd NoMore read.node (λ ts g. g.1) Exact-node) (at-end OneNode NoMore)
+    (λ n. gives Outside (OneNode n) NoMore)
 
 pub Exact-section : Exact IsOutside IsOutside IsSection NoMore read.section
 unfolding read.section
@@ -703,7 +778,8 @@ Exact-section =
     (λ s w rest k g. starts-mark (is_mark mark.Const) false mark.Node (λ at. refl) w rest (node-section-first s w k)))
     (λ s w k. mark-starts (is_mark mark.Type) true mark.Type (λ at. refl) w (type-section-first s w k)) no-types
 
-section-start : (test : Token → Bool) (b : Bool) → ((at : ℕ) → test (fixed mark.Type at) ≡ b) → ((at : ℕ) → test (fixed mark.Const at) ≡ b) → ((at : ℕ) → test (fixed mark.Node at) ≡ b) → (s : Section) (w rest : List Token) → IsSection s w → starts test (w ++ rest) ≡ b
+section-start : (test : Token → Bool) (b : Bool) → ((at : ℕ) → test (fixed mark.Type at) ≡ b) → ((at : ℕ) → test (fixed mark.Const at) ≡ b)
+    → ((at : ℕ) → test (fixed mark.Node at) ≡ b) → (s : Section) (w rest : List Token) → IsSection s w → starts test (w ++ rest) ≡ b
 section-start test b f g h s w rest (inl k) = starts-mark test b mark.Type f w rest (type-section-first s w k)
 section-start test b f g h s w rest (inr (inl k)) = starts-mark test b mark.Const g w rest (constant-section-first s w k)
 section-start test b f g h s w rest (inr (inr k)) = starts-mark test b mark.Node h w rest (node-section-first s w k)
@@ -712,8 +788,11 @@ pub starts-section : (s : Section) (w : List Token) → IsSection s w → starts
 starts-section s w k = ap (starts read.any) (sym (append-nil w)) ∙ section-start read.any true (λ at. refl) (λ at. refl) (λ at. refl) s w [] k
 
 before-section : (s : Section) (w rest : List Token) → IsSection s w → NoMore (w ++ rest)
-before-section s w rest k =
-    (section-start is_name false (λ at. refl) (λ at. refl) (λ at. refl) s w rest k, section-start read.ends_node false (λ at. refl) (λ at. refl) (λ at. refl) s w rest k)
+before-section s w rest k = (
+  section-start is_name false (λ at. refl) (λ at. refl) (λ at. refl) s w rest k,
+  section-start read.ends_node false (λ at. refl) (λ at. refl)
+      (λ at. refl) s w rest k,
+)
 
 -- the end of the text
 abbrev pub IsEndOfText : List Token → Type 0
@@ -722,7 +801,8 @@ IsEndOfText ts = ts ≡ []
 pub Exact-sections : Exact IsOutside IsOutside (Each IsSection) IsEndOfText read.sections
 unfolding read.sections
 Exact-sections =
-    exact-many IsOutside Outside refl IsSection read.any NoMore IsEndOfText read.section starts-section before-section (λ ts g. (subst NoMore (sym g) (refl, refl), ap (starts read.any) g)) Exact-section
+    exact-many IsOutside Outside refl IsSection read.any NoMore IsEndOfText read.section starts-section before-section
+    (λ ts g. (subst NoMore (sym g) (refl, refl), ap (starts read.any) g)) Exact-section
 
 pub Exact-program : Exact IsOutside IsOutside IsProgram IsEndOfText read.program
 unfolding read.program

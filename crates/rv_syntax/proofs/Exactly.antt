@@ -40,5 +40,6 @@ pub record Exact {A : Type 0} (P Q : Standing → Type 0) (K : A → List Token 
   pub passes : (s : Standing) → P s → (a : A) (w : List Token) → K a w → Q (behind_all w s)
   pub answers : (s : Standing) → P s → (ts : List Token) → Answers K s ts (p ts)
   -- what is left decides nothing beyond its first token
-  pub local : (front : List Token) (t : Token) (rest other g : List Token) → left (p (front ++ t ∷ rest)) ≡ g ++ t ∷ rest → p (front ++ t ∷ other) ≡ with_left (g ++ t ∷ other) (p (front ++ t ∷ rest))
+  pub local : (front : List Token) (t : Token) (rest other g : List Token) → left (p (front ++ t ∷ rest)) ≡ g ++ t ∷ rest
+      → p (front ++ t ∷ other) ≡ with_left (g ++ t ∷ other) (p (front ++ t ∷ rest))
   pub reads : (s : Standing) → P s → (a : A) (w rest : List Token) → K a w → F rest → ReadsAs s a w rest (p (w ++ rest))

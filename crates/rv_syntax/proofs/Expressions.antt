@@ -46,7 +46,8 @@ shallow w h s = to-shallow-text w outside h (to-shallow w s)
 within : (w : List Token) → Stay w → IsShallowText (Inside outside) w → IsWithin (counts 0 []) w
 within w h s = from-shallow w (from-shallow-text w outside h s)
 
-too-deep : (front : List Token) (t : Token) → Stay (front ++ t ∷ []) → IsTooDeep (counts 0 []) front t → limit < depth (behind_all (front ++ t ∷ []) (Inside outside))
+too-deep : (front : List Token) (t : Token) → Stay (front ++ t ∷ []) → IsTooDeep (counts 0 []) front t
+    → limit < depth (behind_all (front ++ t ∷ []) (Inside outside))
 too-deep front t h d = to-deep-text (front ++ t ∷ []) outside h (to-deep front t d)
 
 -- the tokens up to a cut are within the limit
@@ -64,8 +65,17 @@ answers ts (Err (Offends, rest)) c a =
 answers ts (Err (TooDeep, rest)) c a =
     let whole = c.0 ++ c.1 ∷ [] in
     let same : a.0 ≡ c.0 = append_cancel_right a.0 c.0 rest (ap (λ z. a.0 ++ z) a.3 ∙ sym a.4 ∙ c.4) in
-    let deep = subst (λ t. IsTooDeep (counts 0 []) c.0 t) (first-same a.1 c.1 a.2 c.2 (sym a.3 ∙ c.3)) (subst (λ z. IsTooDeep (counts 0 []) z a.1) same a.5) in
-    (c.0, c.1, c.2, c.3, c.4, to-begins whole c.5, shallow c.0 (stay-front c.0 (c.1 ∷ []) (stay-begun whole c.5)) (within-before (counts 0 []) c.0 c.1 deep), too-deep c.0 c.1 (stay-begun whole c.5) deep)
+    let deep = subst (λ t. IsTooDeep (counts 0 []) c.0 t) (first-same a.1 c.1 a.2 c.2 (sym a.3 ∙ c.3))
+    (subst (λ z. IsTooDeep (counts 0 []) z a.1) same a.5) in (
+      c.0,
+      c.1,
+      c.2,
+      c.3,
+      c.4,
+      to-begins whole c.5,
+      shallow c.0 (stay-front c.0 (c.1 ∷ []) (stay-begun whole c.5)) (within-before (counts 0 []) c.0 c.1 deep),
+      too-deep c.0 c.1 (stay-begun whole c.5) deep,
+    )
 
 answers-fresh : (ts : List Token) → Answers IsExprOf (Inside outside) ts (expression ts)
 answers-fresh ts = answers ts (limited (counts 0 []) (Want []) ts) (comes ts (counts 0 []) (Wants []) tt) (agrees ts (counts 0 []) (Want []))
@@ -82,7 +92,8 @@ suffix ts (Err (Offends, rest)) c = (c.0, c.1)
 suffix ts (Err (TooDeep, rest)) c = (c.0, c.4)
 
 -- Reading is local, as it is so at the token that is left.
-local : (front : List Token) (t : Token) (rest other g : List Token) → left (expression (front ++ t ∷ rest)) ≡ g ++ t ∷ rest → expression (front ++ t ∷ other) ≡ with_left (g ++ t ∷ other) (expression (front ++ t ∷ rest))
+local : (front : List Token) (t : Token) (rest other g : List Token) → left (expression (front ++ t ∷ rest)) ≡ g ++ t ∷ rest
+    → expression (front ++ t ∷ other) ≡ with_left (g ++ t ∷ other) (expression (front ++ t ∷ rest))
 local front t rest other [] h = one-token front (counts 0 []) (Want []) t rest other h
 local front t rest other (y ∷ g) h =
     let u = suffix (front ++ t ∷ rest) (expression (front ++ t ∷ rest)) (answers-fresh (front ++ t ∷ rest)) in

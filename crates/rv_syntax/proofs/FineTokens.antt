@@ -1,5 +1,6 @@
 -- The tokens of a text: names are words, and numbers are at most 2^40 + 1. And what a rule derives from such tokens.
-use Rattle.std.proofs.Common.{◌≡◌, ℕ, zero, suc, ◌+◌, ◌-◌, ◌<◌, Bool, true, false, cond, nat_le, List, [], ◌∷◌, ◌++◌, length, take, get_or, refl, sym, ap, ◌∙◌, subst, arith, inl, inr, one-add}
+use Rattle.std.proofs.Common.{◌≡◌, ℕ, zero, suc, ◌+◌, ◌-◌, ◌<◌, Bool, true, false, cond, nat_le, List, [], ◌∷◌, ◌++◌, length, take, get_or, refl, sym, ap, ◌∙◌}
+use Rattle.std.proofs.Common.{subst, arith, inl, inr, one-add}
 use Rattle.std.specs.Prelude.{◌&&◌, ◌||◌, ◌==◌, ⊤, Option, Some, slice_index}
 use Rattle.std.specs.Prelude.{None as Nothing}
 use Rattle.std.specs.Char.{is_ascii_digit}
@@ -19,7 +20,8 @@ use Rattle.rv_syntax.specs.declared.token.Kind.TheVariants as kind
 use Rattle.rv_syntax.specs.declared.token.Mark.{Mark}
 use Rattle.rv_syntax.specs.declared.token.Mark.TheVariants as mark
 use Rattle.rv_syntax.specs.declared.token.Token.{Token}
-use Rattle.rv_syntax.specs.Lexing.{bracket, close_len, closed_or, comment_len, comment_or, cut, emitted, ends_in_tel, fixed_or, is_letter, is_space, is_word_byte, kept, kind_of, lex, number_len, opens, operator, or_else, or_single, other, pair, rare, single, word, word_len}
+use Rattle.rv_syntax.specs.Lexing.{bracket, close_len, closed_or, comment_len, comment_or, cut, emitted, ends_in_tel, fixed_or, is_letter, is_space}
+use Rattle.rv_syntax.specs.Lexing.{is_word_byte, kept, kind_of, lex, number_len, opens, operator, or_else, or_single, other, pair, rare, single, word, word_len}
 use Rattle.rv_syntax.specs.Rules.{Each, Gives, OneOf, Part, Word}
 
 -- ---- Tokens.
@@ -62,7 +64,8 @@ word-plain : (bs : List ℕ) → is_name (take (word_len bs) bs) ≡ true
 word-plain [] = refl
 word-plain (b ∷ bs) =
     elim (cases_Bool (is_word_byte b)) [
-      | inl e ↦ subst (λ n. is_name (take n (b ∷ bs)) ≡ true) (sym (word-more b bs e)) (ap (λ c. c && is_name (take (word_len bs) bs)) (byte-plain b e) ∙ word-plain bs)
+      | inl e ↦ subst (λ n. is_name (take n (b ∷ bs)) ≡ true) (sym (word-more b bs e)) (ap (λ c. c && is_name (take (word_len bs) bs)) (byte-plain b e)
+          ∙ word-plain bs)
       | inr e ↦ subst (λ n. is_name (take n (b ∷ bs)) ≡ true) (sym (word-none b bs e)) refl
     ]
 
@@ -88,7 +91,8 @@ fixed-other Nothing s h = h
 fixed-other (Some m) s h = tt
 
 rare-other : (b : ℕ) → IsOther (rare b)
-rare-other b = either (b == 46) shape.Point (cond (b == 91 || b == 93 || b == 94 || b == 124) shape.LeftOut shape.Bad) tt (either (b == 91 || b == 93 || b == 94 || b == 124) shape.LeftOut shape.Bad tt tt)
+rare-other b = either (b == 46) shape.Point (cond (b == 91 || b == 93 || b == 94 || b == 124) shape.LeftOut shape.Bad) tt
+    (either (b == 91 || b == 93 || b == 94 || b == 124) shape.LeftOut shape.Bad tt tt)
 
 single-other : (b : ℕ) → IsOther (single b)
 single-other b = fixed-other (or_else (operator b) (bracket b)) (rare b) (rare-other b)
@@ -104,7 +108,9 @@ comment-other (comment.Until c) bs = closed-other (close_len c bs) (length bs)
 -- of what begins with two bytes, by what they are
 pair-of : (c d e f g h : Bool) → Option Shape
 pair-of c d e f g h =
-    cond c (Some (shape.Fixed mark.Arrow)) (cond d (Some (shape.Fixed mark.Implies)) (cond e (Some (shape.Fixed mark.Differs)) (cond f (Some (shape.Fixed mark.AtMost)) (cond g (Some (shape.Fixed mark.AtLeast)) (cond h (Some shape.LeftOut) Nothing)))))
+    cond c (Some (shape.Fixed mark.Arrow)) (cond d (Some (shape.Fixed mark.Implies))
+    (cond e (Some (shape.Fixed mark.Differs)) (cond f (Some (shape.Fixed mark.AtMost))
+    (cond g (Some (shape.Fixed mark.AtLeast)) (cond h (Some shape.LeftOut) Nothing)))))
 
 single-or : (c d e f g h : Bool) (a : ℕ) → IsOther (or_single (pair-of c d e f g h) a).0
 unfolding pair-of
@@ -118,7 +124,8 @@ single-or false false false false false false a = single-other a
 
 pair-other : (a b : ℕ) → IsOther (or_single (pair a b) a).0
 unfolding pair-of
-pair-other a b = single-or (a == 45 && b == 62) (a == 61 && b == 62) (a == 60 && b == 62) (a == 60 && b == 61) (a == 62 && b == 61) ((a == 60 && b == 60) || (a == 62 && b == 62) || (a == 58 && b == 58)) a
+pair-other a b = single-or (a == 45 && b == 62) (a == 61 && b == 62) (a == 60 && b == 62) (a == 60 && b == 61) (a == 62 && b == 61)
+    ((a == 60 && b == 60) || (a == 62 && b == 62) || (a == 58 && b == 58)) a
 
 comment-or : (o : Option Comment) (a b : ℕ) (bs : List ℕ) → IsOther (comment_or o a b bs).0
 comment-or (Some c) a b bs = comment-other c bs
@@ -152,7 +159,8 @@ plain-fine tel shape.Bad w h = refl
 abbrev pub IsCut : Bool → List ℕ → Shape × ℕ → Type 0
 IsCut tel text k = IsFineOption (kind_of tel k.0 (take k.1 text))
 
-cut-by : (tel : Bool) (text : List ℕ) (c d e : Bool) → IsCut tel text (cond c (shape.Blank, 1) (cond d (word (take (word_len text) text), word_len text) (cond e (shape.Number, number_len text) (other text))))
+cut-by : (tel : Bool) (text : List ℕ) (c d e : Bool) → IsCut tel text (cond c (shape.Blank, 1)
+    (cond d (word (take (word_len text) text), word_len text) (cond e (shape.Number, number_len text) (other text))))
 cut-by tel text true d e = tt
 cut-by tel text false true e = plain-fine tel (word (take (word_len text) text)) (take (word_len text) text) (word-plain text)
 cut-by tel text false false true = kept-fine (digits_value 10 (take (number_len text) text))
@@ -192,7 +200,8 @@ gives b Q q c ts h f = subst Q (sym h.1) q
 pub after-word : {B : Type 0} (m : Mark) (L : B → List Token → Type 0) (Q : B → Type 0) → Keeps L Q → Keeps (Word m L) Q
 after-word m L Q k b ts h f = let g = subst AreFine h.2 f in k b h.1 h.3 g.1
 
-pub parts : {A B : Type 0} (L : A → List Token → Type 0) (M : A → B → List Token → Type 0) (Q : A → Type 0) (R : B → Type 0) → Keeps L Q → ((a : A) → Q a → Keeps (M a) R) → Keeps (Part L M) R
+pub parts : {A B : Type 0} (L : A → List Token → Type 0) (M : A → B → List Token → Type 0) (Q : A → Type 0) (R : B → Type 0) → Keeps L Q
+    → ((a : A) → Q a → Keeps (M a) R) → Keeps (Part L M) R
 parts L M Q R k l b ts h f = let g = subst AreFine h.3 f in l h.0 (k h.0 h.1 h.4 (fine-left h.1 h.2 g)) b h.2 h.5 (fine-right h.1 h.2 g)
 
 pub one-of : {A : Type 0} (L M : A → List Token → Type 0) (Q : A → Type 0) → Keeps L Q → Keeps M Q → Keeps (OneOf L M) Q

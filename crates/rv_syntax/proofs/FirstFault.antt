@@ -1,5 +1,6 @@
 -- A whole text is read as its tree, or its reading stops at the first offending token.
-use Rattle.std.proofs.Common.{inl, inr, ◌≡◌, ℕ, Bool, true, false, cond, List, [], ◌∷◌, ◌++◌, length, refl, sym, ap, ◌∙◌, subst, append_assoc, length-append, arith, ◌≤◌}
+use Rattle.std.proofs.Common.{inl, inr, ◌≡◌, ℕ, Bool, true, false, cond, List, [], ◌∷◌, ◌++◌, length, refl, sym, ap, ◌∙◌, subst, append_assoc, length-append}
+use Rattle.std.proofs.Common.{arith, ◌≤◌}
 use Rattle.std.proofs.lemmas.List.{append-nil, append_cancel_right}
 use Rattle.std.specs.Prelude.{◌⊎◌, Option, Some, None, Ok, Err, ◌<◌, Result, IfOk, IfErr}
 use Rattle.rv_syntax.specs.declared.token.Token.{Token}
@@ -69,7 +70,8 @@ stops-at p ts more (Err x) s (inl e) = cc
 stops-at p ts more r s (inr d) = apart (ap stop-why (sym s) ∙ ap (λ z. stop-why (shortfall z)) d.1)
 
 -- A reading that found something falls short where something is left.
-pub more-left : (r : Reading ProgramTree) (p : ProgramTree) (rest : List Token) → r ≡ Ok (p, rest) → (length rest ≡ 0 → ⊥) → shortfall r ≡ Some (why.Offends, rest)
+pub more-left : (r : Reading ProgramTree) (p : ProgramTree) (rest : List Token) → r ≡ Ok (p, rest) → (length rest ≡ 0 → ⊥)
+    → shortfall r ≡ Some (why.Offends, rest)
 more-left r p [] e n = absurd (n refl)
 more-left r p (t ∷ ts) e n = ap shortfall e
 
@@ -79,7 +81,8 @@ left-of w rest (Ok (q, [])) s = cc
 left-of w rest (Ok (q, x ∷ more)) s = ap stop-rest s
 left-of w rest (Err x) s = ap stop-rest s
 
-shortfall-with : (w : Why) (t : Token) (rest more : List Token) (r : Reading ProgramTree) → shortfall r ≡ Some (w, rest) → shortfall (with_left (t ∷ more) r) ≡ Some (w, t ∷ more)
+shortfall-with : (w : Why) (t : Token) (rest more : List Token) (r : Reading ProgramTree) → shortfall r ≡ Some (w, rest)
+    → shortfall (with_left (t ∷ more) r) ≡ Some (w, t ∷ more)
 shortfall-with w t rest more (Ok (q, [])) s = cc
 shortfall-with w t rest more (Ok (q, x ∷ after)) s = ap (λ z. Some (z, t ∷ more)) (ap stop-why s)
 shortfall-with w t rest more (Err x) s = ap (λ z. Some (z, t ∷ more)) (ap stop-why s)
@@ -115,7 +118,8 @@ tells ts len r (fault.BadText at) h = h
 tells ts len r (fault.TooDeep at) h = h
 tells ts len r (fault.LeftOut at) h = h
 
-module _ (program : Parse ProgramTree) (IsEndOfText : List Token → Type 0) (ended : IsEndOfText []) (exact : Exact IsOutside IsOutside IsProgram IsEndOfText program) where
+module _ (program : Parse ProgramTree) (IsEndOfText : List Token → Type 0) (ended : IsEndOfText [])
+    (exact : Exact IsOutside IsOutside IsProgram IsEndOfText program) where
   -- What is read whole is a program, and shallow.
   pub whole : (ts : List Token) (p : ProgramTree) → program ts ≡ Ok (p, []) → Whole p ts
   whole ts p e = whole-of p ts (program ts) e (exact.answers Outside refl ts)
@@ -135,7 +139,8 @@ module _ (program : Parse ProgramTree) (IsEndOfText : List Token → Type 0) (en
   one-tree bytes t u x y = x.1 ∙ ap program_with_sites (one-program (tokens bytes) x.0 y.0 x.3 x.2 y.2) ∙ sym y.1
 
   -- No program goes on with a token that offends.
-  dead : (front : List Token) (t : Token) (rest : List Token) → shortfall (program (front ++ t ∷ rest)) ≡ Some (why.Offends, t ∷ rest) → IsDead (front ++ t ∷ [])
+  dead : (front : List Token) (t : Token) (rest : List Token) → shortfall (program (front ++ t ∷ rest)) ≡ Some (why.Offends, t ∷ rest)
+      → IsDead (front ++ t ∷ [])
   dead front t rest s b =
       let here = exact.local front t rest b.0 [] (left-of why.Offends (t ∷ rest) (program (front ++ t ∷ rest)) s) in
       stops-at b.1 (front ++ t ∷ b.0) (t ∷ b.0) (program (front ++ t ∷ b.0))
@@ -143,10 +148,16 @@ module _ (program : Parse ProgramTree) (IsEndOfText : List Token → Type 0) (en
       (reads (front ++ t ∷ b.0) b.1 (subst (IsProgram b.1) (append_assoc front (t ∷ []) b.0) b.2))
 
   -- ---- Where a reading of a text falls short.
-  cut-off : (ts : List Token) (w : Why) (rest : List Token) (r : Reading ProgramTree) → shortfall r ≡ Some (w, rest) → Answers IsProgram Outside ts r → Before ts rest
+  cut-off : (ts : List Token) (w : Why) (rest : List Token) (r : Reading ProgramTree) → shortfall r ≡ Some (w, rest) → Answers IsProgram Outside ts r
+      → Before ts rest
   cut-off ts w rest (Ok (q, [])) s a = cc
   cut-off ts w rest (Ok (q, x ∷ more)) s a =
-      record { front = a.0; spelled = a.1 ∙ ap (λ z. a.0 ++ z) (ap stop-rest s); begins = ([], q, subst (IsProgram q) (sym (append-nil a.0)) a.2); shallow = a.3 }
+      record {
+        front = a.0;
+        spelled = a.1 ∙ ap (λ z. a.0 ++ z) (ap stop-rest s);
+        begins = ([], q, subst (IsProgram q) (sym (append-nil a.0)) a.2);
+        shallow = a.3;
+      }
   cut-off ts w rest (Err (why.Offends, more)) s a =
       record { front = a.0; spelled = a.1 ∙ ap (λ z. a.0 ++ z) (ap stop-rest s); begins = a.2; shallow = a.3 }
   cut-off ts w rest (Err (why.TooDeep, more)) s a =
@@ -157,7 +168,16 @@ module _ (program : Parse ProgramTree) (IsEndOfText : List Token → Type 0) (en
   too-far ts rest (Ok (q, x ∷ more)) s a = absurd (apart (ap stop-why s))
   too-far ts rest (Err (why.Offends, more)) s a = absurd (apart (ap stop-why s))
   too-far ts rest (Err (why.TooDeep, more)) s a =
-      record { front = a.0; token = a.1; after = a.2; left = ap stop-rest (sym s) ∙ a.3; spelled = a.4 ∙ ap (λ z. a.0 ++ z) (ap stop-rest s); begins = a.5; deep = a.7 }
+      record {
+        front = a.0;
+        token = a.1;
+        after = a.2;
+        left = ap stop-rest (sym s) ∙ a.3;
+        spelled = a.4
+            ∙ ap (λ z. a.0 ++ z) (ap stop-rest s);
+        begins = a.5;
+        deep = a.7;
+      }
 
   -- No more is left than there is.
   is-cut : (ts : List Token) (w : Why) (rest : List Token) → shortfall (program ts) ≡ Some (w, rest) → (front : List Token) × (ts ≡ front ++ rest)
@@ -177,7 +197,8 @@ module _ (program : Parse ProgramTree) (IsEndOfText : List Token → Type 0) (en
       let b = is-cut ts w rest s in
       tells ts len (program ts) f (b.0, w, rest, b.1, s, e b.0 rest b.1 refl)
 
-  cut : (bytes : List ℕ) (front : List Token) (t : Token) (more : List Token) (w : Why) → tokens bytes ≡ front ++ t ∷ more → shortfall (program (tokens bytes)) ≡ Some (w, t ∷ more) → IsCut bytes front t more
+  cut : (bytes : List ℕ) (front : List Token) (t : Token) (more : List Token) (w : Why) → tokens bytes ≡ front ++ t ∷ more
+      → shortfall (program (tokens bytes)) ≡ Some (w, t ∷ more) → IsCut bytes front t more
   cut bytes front t more w e s =
       let b = cut-off (tokens bytes) w (t ∷ more) (program (tokens bytes)) s (exact.answers Outside refl (tokens bytes)) in
       let same : b.front ≡ front = append_cancel_right b.front front (t ∷ more) (sym b.spelled ∙ e) in
@@ -193,11 +214,13 @@ module _ (program : Parse ProgramTree) (IsEndOfText : List Token → Type 0) (en
         no_program = λ p h. stops-at p (tokens bytes) [] (program (tokens bytes)) s (reads (tokens bytes) p h);
       }
 
-  offends : (bytes : List ℕ) (front : List Token) (t : Token) (more : List Token) → IsCut bytes front t more → IsDead (front ++ t ∷ []) → (b : Bool) → is_left_out front t ≡ b → IsFault bytes (cond b (fault.LeftOut t.at) (fault.BadText t.at))
+  offends : (bytes : List ℕ) (front : List Token) (t : Token) (more : List Token) → IsCut bytes front t more → IsDead (front ++ t ∷ []) → (b : Bool)
+      → is_left_out front t ≡ b → IsFault bytes (cond b (fault.LeftOut t.at) (fault.BadText t.at))
   offends bytes front t more c d true e = record { front = front; token = t; rest = more; cut = c; why = (d, e); place = refl }
   offends bytes front t more c d false e = inl (record { front = front; token = t; rest = more; cut = c; why = (d, e); place = refl })
 
-  nested : (bytes : List ℕ) (front : List Token) (t : Token) (more : List Token) → IsCut bytes front t more → TooFar (tokens bytes) (t ∷ more) → IsFault bytes (fault.TooDeep t.at)
+  nested : (bytes : List ℕ) (front : List Token) (t : Token) (more : List Token) → IsCut bytes front t more → TooFar (tokens bytes) (t ∷ more)
+      → IsFault bytes (fault.TooDeep t.at)
   nested bytes front t more c x =
       let same : x.front ≡ front = append_cancel_right x.front front (t ∷ more) (sym x.spelled ∙ c.whole) in
       let here : x.token ≡ t = sym (head-same t x.token more x.after x.left) in
@@ -212,7 +235,8 @@ module _ (program : Parse ProgramTree) (IsEndOfText : List Token → Type 0) (en
       }
 
   -- Where reading falls short, there is this fault.
-  is-fault : (bytes : List ℕ) (front rest : List Token) (w : Why) → tokens bytes ≡ front ++ rest → shortfall (program (tokens bytes)) ≡ Some (w, rest) → IsFault bytes (fault_at front rest w (length bytes))
+  is-fault : (bytes : List ℕ) (front rest : List Token) (w : Why) → tokens bytes ≡ front ++ rest → shortfall (program (tokens bytes)) ≡ Some (w, rest)
+      → IsFault bytes (fault_at front rest w (length bytes))
   is-fault bytes front [] why.Offends e s = inr (early bytes front e s, refl)
   is-fault bytes front [] why.TooDeep e s =
       absurd (some-left (tokens bytes) (too-far (tokens bytes) [] (program (tokens bytes)) s (exact.answers Outside refl (tokens bytes))))
@@ -220,7 +244,8 @@ module _ (program : Parse ProgramTree) (IsEndOfText : List Token → Type 0) (en
       let c = cut bytes front t more why.Offends e s in
       offends bytes front t more c (dead front t more (ap (λ z. shortfall (program z)) (sym e) ∙ s)) (is_left_out front t) refl
   is-fault bytes front (t ∷ more) why.TooDeep e s =
-      nested bytes front t more (cut bytes front t more why.TooDeep e s) (too-far (tokens bytes) (t ∷ more) (program (tokens bytes)) s (exact.answers Outside refl (tokens bytes)))
+      nested bytes front t more (cut bytes front t more why.TooDeep e s)
+      (too-far (tokens bytes) (t ∷ more) (program (tokens bytes)) s (exact.answers Outside refl (tokens bytes)))
 
   falls-short : (bytes : List ℕ) (f : TextFault) → FallsShort (tokens bytes) (length bytes) (program (tokens bytes)) f → IsFault bytes f
   falls-short bytes f h = subst (IsFault bytes) (sym h.5) (is-fault bytes h.0 h.2 h.1 h.3 h.4)
@@ -254,10 +279,12 @@ module _ (program : Parse ProgramTree) (IsEndOfText : List Token → Type 0) (en
   tree-or-fault bytes = either bytes (program (tokens bytes)) refl
 
   -- ---- An answer that is the tree of the text, or tells its fault.
-  pub answers : (bytes : List ℕ) (ts : List Token) (p : ProgramTree) (q : Program) → ts ≡ tokens bytes → program ts ≡ Ok (p, []) → program_tree q ≡ program_with_sites p → Answered bytes (Ok q)
+  pub answers : (bytes : List ℕ) (ts : List Token) (p : ProgramTree) (q : Program) → ts ≡ tokens bytes → program ts ≡ Ok (p, [])
+      → program_tree q ≡ program_with_sites p → Answered bytes (Ok q)
   answers bytes ts p q is e sites = record { tree = text-of bytes p (program_tree q) (ap program (sym is) ∙ e) sites; told = tt }
 
-  pub refuses : (bytes : List ℕ) (ts : List Token) (f : TextFault) (r : Result Program TextFault) → ts ≡ tokens bytes → Tells ts (length bytes) (program ts) f → r ≡ Err f → Answered bytes r
+  pub refuses : (bytes : List ℕ) (ts : List Token) (f : TextFault) (r : Result Program TextFault) → ts ≡ tokens bytes → Tells ts (length bytes) (program ts) f
+      → r ≡ Err f → Answered bytes r
   refuses bytes ts f r is h e =
       let told = explains bytes f (subst (λ z. Tells z (length bytes) (program z) f) is h) in
       subst (Answered bytes) (sym e) (record { tree = tt; told = told })

@@ -11,7 +11,8 @@ next-of xs i x lt is = drop-cons xs i x lt ∙ ap (λ y. y ∷ drop (suc i) xs) 
 
 -- one more element, where a list's offsets are those of its first element and then those of the others
 pub collected-more : {X : Type 0} (own : X → List ℕ) (all : List X → List ℕ) → ((x : X) (xs : List X) → all (x ∷ xs) ≡ own x ++ all xs)
-    → (xs : List X) (i : ℕ) (x : X) (had now whole : List ℕ) → i < length xs → x ≡ get_or xs i x → now ≡ had ++ own x → had ++ all (drop i xs) ≡ whole → now ++ all (drop (i + 1) xs) ≡ whole
+    → (xs : List X) (i : ℕ) (x : X) (had now whole : List ℕ) → i < length xs → x ≡ get_or xs i x → now ≡ had ++ own x → had ++ all (drop i xs) ≡ whole
+    → now ++ all (drop (i + 1) xs) ≡ whole
 collected-more own all step xs i x had now whole lt is pushed inv =
     ap (λ l. l ++ all (drop (i + 1) xs)) pushed
     ∙ append_assoc had (own x) (all (drop (i + 1) xs))
@@ -19,7 +20,8 @@ collected-more own all step xs i x had now whole lt is pushed inv =
     ∙ ap (λ l. had ++ all l) (sym (next-of xs i x lt is))
     ∙ inv
 
-pub collected-all : {X : Type 0} (all : List X → List ℕ) → all [] ≡ [] → (xs : List X) (i : ℕ) (had whole : List ℕ) → length xs ≤ i → had ++ all (drop i xs) ≡ whole → had ≡ whole
+pub collected-all : {X : Type 0} (all : List X → List ℕ) → all [] ≡ [] → (xs : List X) (i : ℕ) (had whole : List ℕ) → length xs ≤ i
+    → had ++ all (drop i xs) ≡ whole → had ≡ whole
 collected-all all none xs i had whole le inv =
     sym (append-nil had) ∙ ap (λ l. had ++ l) (sym none) ∙ ap (λ l. had ++ all l) (sym (drop_all i xs le)) ∙ inv
 
@@ -52,12 +54,14 @@ one-more f all i e made now new whole lt is with_site pushed inv =
     ∙ ap (λ l. joined (map tree_of made) (sited_trees f (trees (map tree_of l)))) (sym (next-of all i e lt is))
     ∙ inv
 
-pub all-made : (f : ℕ → ℕ) (all made : List Expr) (i : ℕ) (whole : Trees) → length all ≤ i → joined (map tree_of made) (sited_trees f (left all i)) ≡ whole → trees (map tree_of made) ≡ whole
+pub all-made : (f : ℕ → ℕ) (all made : List Expr) (i : ℕ) (whole : Trees) → length all ≤ i → joined (map tree_of made) (sited_trees f (left all i)) ≡ whole
+    → trees (map tree_of made) ≡ whole
 all-made f all made i whole le inv =
     sym (joined-none (map tree_of made)) ∙ ap (λ l. joined (map tree_of made) (sited_trees f (trees (map tree_of l)))) (sym (drop_all i all le)) ∙ inv
 
 -- one more element, where each is turned into another
-pub turned-more : {X Y : Type 0} (view : X → Y) (turned : Y → Y) (made now : List X) (new x : X) (ahead rest : List X) (whole : List Y) → now ≡ made ++ new ∷ [] → view new ≡ turned (view x) → ahead ≡ x ∷ rest
+pub turned-more : {X Y : Type 0} (view : X → Y) (turned : Y → Y) (made now : List X) (new x : X) (ahead rest : List X) (whole : List Y) → now ≡ made ++ new ∷ []
+    → view new ≡ turned (view x) → ahead ≡ x ∷ rest
     → map view made ++ map turned (map view ahead) ≡ whole → map view now ++ map turned (map view rest) ≡ whole
 turned-more view turned made now new x ahead rest whole pushed is next inv =
     let more = map turned (map view rest) in

@@ -33,7 +33,8 @@ piece-at bytes tel at k h e p =
     let some : 0 < length (drop at bytes) = omega (arith, length-drop at bytes) in
     let n : k.1 ≡ suc (k.1 - 1) = omega arith in
     lex-from tel at (drop at bytes) (k.1 - 1) some (ap (λ x. x.1) (sym e) ∙ n)
-    ∙ ap (λ x. emitted (kind_of tel x.0 (take x.1 (drop at bytes))) at ++ lex 0 (ends_in_tel tel x.0) (at + suc (k.1 - 1)) (drop (suc (k.1 - 1)) (drop at bytes))) (sym e)
+    ∙ ap (λ x. emitted (kind_of tel x.0 (take x.1 (drop at bytes))) at ++ lex 0 (ends_in_tel tel x.0) (at + suc (k.1 - 1))
+    (drop (suc (k.1 - 1)) (drop at bytes))) (sym e)
     ∙ ap (λ m. emitted (kind_of tel k.0 (take k.1 (drop at bytes))) at ++ lex 0 (ends_in_tel tel k.0) (at + m) (drop m (drop at bytes))) (sym n)
     ∙ ap (λ l. emitted (kind_of tel k.0 (take k.1 (drop at bytes))) at ++ lex 0 (ends_in_tel tel k.0) (at + k.1) l) (drop-drop k.1 at bytes)
 

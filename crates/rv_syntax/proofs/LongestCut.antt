@@ -1,5 +1,6 @@
 -- A piece of a text is the longest front that is one, and a text is made up of such pieces.
-use Rattle.std.proofs.Common.{◌≡◌, ℕ, zero, suc, ◌+◌, ◌-◌, ◌<◌, ◌≤◌, Bool, true, false, cond, ◌||◌, List, [], ◌∷◌, ◌++◌, length, take, drop, refl, sym, ap, ◌∙◌, subst, inl, inr, arith, one-add}
+use Rattle.std.proofs.Common.{◌≡◌, ℕ, zero, suc, ◌+◌, ◌-◌, ◌<◌, ◌≤◌, Bool, true, false, cond, ◌||◌, List, [], ◌∷◌, ◌++◌, length, take, drop, refl, sym, ap, ◌∙◌}
+use Rattle.std.proofs.Common.{subst, inl, inr, arith, one-add}
 use Rattle.std.specs.Prelude.{Option, Some, None, ◌==◌}
 use Rattle.std.specs.List.{prefix_len}
 use Rattle.std.specs.Int.{is_in_range}
@@ -13,8 +14,10 @@ use Rattle.rv_syntax.specs.declared.lexer.Shape.{Shape}
 use Rattle.rv_syntax.specs.declared.lexer.Shape.TheVariants as shape
 use Rattle.rv_syntax.specs.declared.lexer.Comment.{Comment}
 use Rattle.rv_syntax.specs.declared.lexer.Comment.TheVariants as comment
-use Rattle.rv_syntax.specs.Lexing.{is_space, is_letter, is_word_byte, is_in_line, word_len, number_len, line_len, word, pair, or_single, opens, close_len, closed_or, two_more, comment_or, other, cut, kind_of, emitted, ends_in_tel, lex, tokens}
-use Rattle.rv_syntax.specs.Longest.{every, if_none, if_every, closed_at, comment_of, comment_or_pair, pair_of, other_of, one_piece, IsLongest, flat, AreLongest, or_bad, shape_of, tokens_of, AreTokens}
+use Rattle.rv_syntax.specs.Lexing.{is_space, is_letter, is_word_byte, is_in_line, word_len, number_len, line_len, word, pair, or_single, opens, close_len}
+use Rattle.rv_syntax.specs.Lexing.{closed_or, two_more, comment_or, other, cut, kind_of, emitted, ends_in_tel, lex, tokens}
+use Rattle.rv_syntax.specs.Longest.{every, if_none, if_every, closed_at, comment_of, comment_or_pair, pair_of, other_of, one_piece, IsLongest, flat, AreLongest}
+use Rattle.rv_syntax.specs.Longest.{or_bad, shape_of, tokens_of, AreTokens}
 use Rattle.rv_syntax.proofs.Closing.{pick-true, pick-false, close-fits, close-take}
 use Rattle.rv_syntax.proofs.Lexed.{lex-from, lex-past}
 
@@ -66,12 +69,15 @@ at-space : (b : ℕ) (bs : List ℕ) → is_space b ≡ true → one_piece (b �
 at-space b bs h = pick-true (is_space b) (if_none bs shape.Blank) (no_space b bs) h
 
 at-word : (b : ℕ) (bs : List ℕ) → is_space b ≡ false → is_letter b ≡ true → one_piece (b ∷ bs) ≡ if_every is_word_byte bs (word (b ∷ bs))
-at-word b bs s h = pick-false (is_space b) (if_none bs shape.Blank) (no_space b bs) s ∙ pick-true (is_letter b) (if_every is_word_byte bs (word (b ∷ bs))) (no_word b bs) h
+at-word b bs s h = pick-false (is_space b) (if_none bs shape.Blank) (no_space b bs) s
+    ∙ pick-true (is_letter b) (if_every is_word_byte bs (word (b ∷ bs))) (no_word b bs) h
 
 no-word : (b : ℕ) (bs : List ℕ) → is_space b ≡ false → is_letter b ≡ false → one_piece (b ∷ bs) ≡ no_word b bs
-no-word b bs s h = pick-false (is_space b) (if_none bs shape.Blank) (no_space b bs) s ∙ pick-false (is_letter b) (if_every is_word_byte bs (word (b ∷ bs))) (no_word b bs) h
+no-word b bs s h = pick-false (is_space b) (if_none bs shape.Blank) (no_space b bs) s
+    ∙ pick-false (is_letter b) (if_every is_word_byte bs (word (b ∷ bs))) (no_word b bs) h
 
-at-number : (b : ℕ) (bs : List ℕ) → is_space b ≡ false → is_letter b ≡ false → is_ascii_digit b ≡ true → one_piece (b ∷ bs) ≡ if_every is_ascii_digit bs shape.Number
+at-number : (b : ℕ) (bs : List ℕ) → is_space b ≡ false → is_letter b ≡ false → is_ascii_digit b ≡ true
+    → one_piece (b ∷ bs) ≡ if_every is_ascii_digit bs shape.Number
 at-number b bs s e h = no-word b bs s e ∙ pick-true (is_ascii_digit b) (if_every is_ascii_digit bs shape.Number) (other_of b bs) h
 
 at-other : (b : ℕ) (bs : List ℕ) → is_space b ≡ false → is_letter b ≡ false → is_ascii_digit b ≡ false → one_piece (b ∷ bs) ≡ other_of b bs
@@ -88,7 +94,8 @@ longest-space : (b : ℕ) (bs : List ℕ) → is_space b ≡ true → IsLongest 
 longest-space b bs e = (omega arith, at-space b [] e, longer-space b bs e)
 
 -- words
-longer-word : (b : ℕ) (bs : List ℕ) → is_space b ≡ false → is_letter b ≡ true → (m : ℕ) → word_len (b ∷ bs) < m → m ≤ length (b ∷ bs) → one_piece (take m (b ∷ bs)) ≡ None
+longer-word : (b : ℕ) (bs : List ℕ) → is_space b ≡ false → is_letter b ≡ true → (m : ℕ) → word_len (b ∷ bs) < m → m ≤ length (b ∷ bs)
+    → one_piece (take m (b ∷ bs)) ≡ None
 longer-word b bs s e zero h l = absurd (omega arith)
 longer-word b bs s e (suc m) h l =
     let more : word_len (b ∷ bs) ≡ suc (word_len bs) = len-more is_word_byte b bs (letter-word b e) in
@@ -96,7 +103,8 @@ longer-word b bs s e (suc m) h l =
     let to : m ≤ length bs = omega arith in
     at-word b (take m bs) s e ∙ longer-is is_word_byte bs (word (b ∷ take m bs)) m from to
 
-longest-word : (b : ℕ) (bs : List ℕ) → is_space b ≡ false → is_letter b ≡ true → IsLongest (b ∷ bs) (word (take (word_len (b ∷ bs)) (b ∷ bs)), word_len (b ∷ bs))
+longest-word : (b : ℕ) (bs : List ℕ) → is_space b ≡ false → is_letter b ≡ true
+    → IsLongest (b ∷ bs) (word (take (word_len (b ∷ bs)) (b ∷ bs)), word_len (b ∷ bs))
 longest-word b bs s e =
     let n : word_len (b ∷ bs) ≡ suc (word_len bs) = len-more is_word_byte b bs (letter-word b e) in (
       prefix_len-le-length is_word_byte (b ∷ bs),
@@ -108,7 +116,8 @@ longest-word b bs s e =
     )
 
 -- numbers
-longer-number : (b : ℕ) (bs : List ℕ) → is_space b ≡ false → is_letter b ≡ false → is_ascii_digit b ≡ true → (m : ℕ) → number_len (b ∷ bs) < m → m ≤ length (b ∷ bs) → one_piece (take m (b ∷ bs)) ≡ None
+longer-number : (b : ℕ) (bs : List ℕ) → is_space b ≡ false → is_letter b ≡ false → is_ascii_digit b ≡ true → (m : ℕ) → number_len (b ∷ bs) < m
+    → m ≤ length (b ∷ bs) → one_piece (take m (b ∷ bs)) ≡ None
 longer-number b bs s e d zero h l = absurd (omega arith)
 longer-number b bs s e d (suc m) h l =
     let more : number_len (b ∷ bs) ≡ suc (number_len bs) = len-more is_ascii_digit b bs d in
@@ -116,15 +125,18 @@ longer-number b bs s e d (suc m) h l =
     let to : m ≤ length bs = omega arith in
     at-number b (take m bs) s e d ∙ longer-is is_ascii_digit bs shape.Number m from to
 
-longest-number : (b : ℕ) (bs : List ℕ) → is_space b ≡ false → is_letter b ≡ false → is_ascii_digit b ≡ true → IsLongest (b ∷ bs) (shape.Number, number_len (b ∷ bs))
+longest-number : (b : ℕ) (bs : List ℕ) → is_space b ≡ false → is_letter b ≡ false → is_ascii_digit b ≡ true
+    → IsLongest (b ∷ bs) (shape.Number, number_len (b ∷ bs))
 longest-number b bs s e d = (
   prefix_len-le-length is_ascii_digit (b ∷ bs),
-  ap (λ k. one_piece (take k (b ∷ bs))) (len-more is_ascii_digit b bs d) ∙ at-number b (take (number_len bs) bs) s e d ∙ front-is is_ascii_digit bs shape.Number,
+  ap (λ k. one_piece (take k (b ∷ bs))) (len-more is_ascii_digit b bs d) ∙ at-number b (take (number_len bs) bs) s e d
+      ∙ front-is is_ascii_digit bs shape.Number,
   longer-number b bs s e d,
 )
 
 -- comments
-at-comment : (b c : ℕ) (bs : List ℕ) (o : Comment) → is_space b ≡ false → is_letter b ≡ false → is_ascii_digit b ≡ false → opens b c ≡ Some o → one_piece (b ∷ c ∷ bs) ≡ comment_of o bs
+at-comment : (b c : ℕ) (bs : List ℕ) (o : Comment) → is_space b ≡ false → is_letter b ≡ false → is_ascii_digit b ≡ false → opens b c ≡ Some o
+    → one_piece (b ∷ c ∷ bs) ≡ comment_of o bs
 at-comment b c bs o s e d h = at-other b (c ∷ bs) s e d ∙ ap (λ x. comment_or_pair x b c bs) h
 
 longer-comment : (b c : ℕ) (cs : List ℕ) (o : Comment) (n : ℕ) → is_space b ≡ false → is_letter b ≡ false → is_ascii_digit b ≡ false → opens b c ≡ Some o
@@ -137,7 +149,8 @@ longer-comment b c cs o n s e d h f (suc (suc m)) a l =
     let to : m ≤ length cs = omega arith in
     at-comment b c (take m cs) o s e d h ∙ f m from to
 
-longest-comment : (b c : ℕ) (cs : List ℕ) (o : Comment) (k : Shape × ℕ) → is_space b ≡ false → is_letter b ≡ false → is_ascii_digit b ≡ false → opens b c ≡ Some o
+longest-comment : (b c : ℕ) (cs : List ℕ) (o : Comment) (k : Shape × ℕ) → is_space b ≡ false → is_letter b ≡ false → is_ascii_digit b ≡ false
+    → opens b c ≡ Some o
     → k.1 ≤ length cs → comment_of o (take k.1 cs) ≡ Some k.0 → ((m : ℕ) → k.1 < m → m ≤ length cs → comment_of o (take m cs) ≡ None)
     → IsLongest (b ∷ c ∷ cs) (two_more k)
 longest-comment b c cs o k s e d h within is f =
@@ -162,7 +175,8 @@ closed-longer x cs n h m a l =
     ∙ ap (λ k. closed_at (Some n) k) (length-take-le m cs l)
     ∙ pick-false (n == m) (Some shape.Blank) None (ne_eqb n m differ)
 
-longest-until : (b c x : ℕ) (cs : List ℕ) (o : Option ℕ) → is_space b ≡ false → is_letter b ≡ false → is_ascii_digit b ≡ false → opens b c ≡ Some (comment.Until x) → close_len x cs ≡ o
+longest-until : (b c x : ℕ) (cs : List ℕ) (o : Option ℕ) → is_space b ≡ false → is_letter b ≡ false → is_ascii_digit b ≡ false
+    → opens b c ≡ Some (comment.Until x) → close_len x cs ≡ o
     → IsLongest (b ∷ c ∷ cs) (two_more (closed_or o (length cs)))
 longest-until b c x cs (Some n) s e d h p =
     longest-comment b c cs (comment.Until x) (shape.Blank, n) s e d h (close-fits x cs n p) (closed-is x cs n p) (closed-longer x cs n p)
@@ -171,16 +185,20 @@ longest-until b c x cs None s e d h p =
     (ap (λ l. closed_at (close_len x l) (length l)) (take-length cs) ∙ ap (λ o. closed_at o (length cs)) p)
     (λ m a l. absurd (omega arith))
 
-longest-opened : (b c : ℕ) (cs : List ℕ) (o : Comment) → is_space b ≡ false → is_letter b ≡ false → is_ascii_digit b ≡ false → opens b c ≡ Some o → IsLongest (b ∷ c ∷ cs) (comment_or (Some o) b c cs)
+longest-opened : (b c : ℕ) (cs : List ℕ) (o : Comment) → is_space b ≡ false → is_letter b ≡ false → is_ascii_digit b ≡ false → opens b c ≡ Some o
+    → IsLongest (b ∷ c ∷ cs) (comment_or (Some o) b c cs)
 longest-opened b c cs comment.Line s e d h =
-    longest-comment b c cs comment.Line (shape.Blank, line_len cs) s e d h (prefix_len-le-length is_in_line cs) (front-is is_in_line cs shape.Blank) (longer-is is_in_line cs shape.Blank)
+    longest-comment b c cs comment.Line (shape.Blank, line_len cs) s e d h (prefix_len-le-length is_in_line cs) (front-is is_in_line cs shape.Blank)
+    (longer-is is_in_line cs shape.Blank)
 longest-opened b c cs (comment.Until x) s e d h = longest-until b c x cs (close_len x cs) s e d h refl
 
 -- symbols
-at-pair : (b c : ℕ) (bs : List ℕ) → is_space b ≡ false → is_letter b ≡ false → is_ascii_digit b ≡ false → opens b c ≡ None → one_piece (b ∷ c ∷ bs) ≡ pair_of (pair b c) bs
+at-pair : (b c : ℕ) (bs : List ℕ) → is_space b ≡ false → is_letter b ≡ false → is_ascii_digit b ≡ false → opens b c ≡ None
+    → one_piece (b ∷ c ∷ bs) ≡ pair_of (pair b c) bs
 at-pair b c bs s e d h = at-other b (c ∷ bs) s e d ∙ ap (λ x. comment_or_pair x b c bs) h
 
-beyond-two : (b c : ℕ) (cs : List ℕ) → is_space b ≡ false → is_letter b ≡ false → is_ascii_digit b ≡ false → opens b c ≡ None → (m : ℕ) → 2 < m → m ≤ length (b ∷ c ∷ cs) → one_piece (take m (b ∷ c ∷ cs)) ≡ None
+beyond-two : (b c : ℕ) (cs : List ℕ) → is_space b ≡ false → is_letter b ≡ false → is_ascii_digit b ≡ false → opens b c ≡ None → (m : ℕ) → 2 < m
+    → m ≤ length (b ∷ c ∷ cs) → one_piece (take m (b ∷ c ∷ cs)) ≡ None
 beyond-two b c [] s e d o m h l = absurd (omega arith)
 beyond-two b c (x ∷ xs) s e d o zero h l = absurd (omega arith)
 beyond-two b c (x ∷ xs) s e d o (suc zero) h l = absurd (omega arith)
@@ -194,11 +212,13 @@ beyond-one b c cs s e d o p (suc zero) h l = absurd (omega arith)
 beyond-one b c cs s e d o p (suc (suc zero)) h l = at-pair b c [] s e d o ∙ p
 beyond-one b c cs s e d o p (suc (suc (suc k))) h l = beyond-two b c cs s e d o (suc (suc (suc k))) (omega arith) l
 
-longest-pair : (b c : ℕ) (cs : List ℕ) → is_space b ≡ false → is_letter b ≡ false → is_ascii_digit b ≡ false → opens b c ≡ None → (p : Option Shape) → pair b c ≡ p → IsLongest (b ∷ c ∷ cs) (or_single p b)
+longest-pair : (b c : ℕ) (cs : List ℕ) → is_space b ≡ false → is_letter b ≡ false → is_ascii_digit b ≡ false → opens b c ≡ None → (p : Option Shape)
+    → pair b c ≡ p → IsLongest (b ∷ c ∷ cs) (or_single p b)
 longest-pair b c cs s e d o (Some k) p = (omega arith, at-pair b c [] s e d o ∙ p, beyond-two b c cs s e d o)
 longest-pair b c cs s e d o None p = (omega arith, at-other b [] s e d, beyond-one b c cs s e d o p)
 
-longest-two : (b c : ℕ) (cs : List ℕ) → is_space b ≡ false → is_letter b ≡ false → is_ascii_digit b ≡ false → (o : Option Comment) → opens b c ≡ o → IsLongest (b ∷ c ∷ cs) (comment_or o b c cs)
+longest-two : (b c : ℕ) (cs : List ℕ) → is_space b ≡ false → is_letter b ≡ false → is_ascii_digit b ≡ false → (o : Option Comment) → opens b c ≡ o
+    → IsLongest (b ∷ c ∷ cs) (comment_or o b c cs)
 longest-two b c cs s e d (Some o) h = longest-opened b c cs o s e d h
 longest-two b c cs s e d None h = longest-pair b c cs s e d h (pair b c) refl
 
@@ -208,7 +228,8 @@ longest-other b (c ∷ cs) s e d = longest-two b c cs s e d (opens b c) refl
 
 -- what begins a text is cut by longest match
 longest-cut : (b : ℕ) (bs : List ℕ) (s l d : Bool) → is_space b ≡ s → is_letter b ≡ l → is_ascii_digit b ≡ d
-    → IsLongest (b ∷ bs) (cond s (shape.Blank, 1) (cond l (word (take (word_len (b ∷ bs)) (b ∷ bs)), word_len (b ∷ bs)) (cond d (shape.Number, number_len (b ∷ bs)) (other (b ∷ bs)))))
+    → IsLongest (b ∷ bs) (cond s (shape.Blank, 1) (cond l (word (take (word_len (b ∷ bs)) (b ∷ bs)), word_len (b ∷ bs))
+    (cond d (shape.Number, number_len (b ∷ bs)) (other (b ∷ bs)))))
 longest-cut b bs true l d s e f = longest-space b bs s
 longest-cut b bs false true d s e f = longest-word b bs s e
 longest-cut b bs false false true s e f = longest-number b bs s e f
@@ -228,7 +249,8 @@ longest-some text k (suc n) e h = omega arith
 abbrev Pieces : Bool → ℕ → List ℕ → Type 0
 Pieces tel at text = (ws : List (List ℕ)) × (flat ws ≡ text) × AreLongest ws × (lex 0 tel at text ≡ tokens_of tel at ws)
 
-first-piece : (tel : Bool) (at : ℕ) (text : List ℕ) (k : Shape × ℕ) → 0 < length text → k ≡ cut text → IsLongest text k → 0 < k.1 → Pieces (ends_in_tel tel k.0) (at + k.1) (drop k.1 text) → Pieces tel at text
+first-piece : (tel : Bool) (at : ℕ) (text : List ℕ) (k : Shape × ℕ) → 0 < length text → k ≡ cut text → IsLongest text k → 0 < k.1
+    → Pieces (ends_in_tel tel k.0) (at + k.1) (drop k.1 text) → Pieces tel at text
 first-piece tel at text k some is longest more rest =
     let w : List ℕ = take k.1 text in
     let len : length w ≡ k.1 = length-take-le k.1 text longest.0 in
@@ -286,7 +308,8 @@ one-list (w ∷ ws) [] x y e = let none : length (w ++ flat ws) ≡ 0 = ap lengt
 one-list (w ∷ ws) (v ∷ vs) x y e =
     let n : length w ≡ length v = longest-same (v ++ flat vs) (length w) (length v) x.0.0 y.0.0 (subst (λ t. IsLongest t (x.0.0, length w)) e x.0.1) y.0.1 in
     let here : w ≡ v = sym (take-append_seam w (flat ws)) ∙ ap (take (length w)) e ∙ ap (λ k. take k (v ++ flat vs)) n ∙ take-append_seam v (flat vs) in
-    let more : flat ws ≡ flat vs = sym (drop-append_seam w (flat ws)) ∙ ap (drop (length w)) e ∙ ap (λ k. drop k (v ++ flat vs)) n ∙ drop-append_seam v (flat vs) in
+    let more : flat ws ≡ flat vs = sym (drop-append_seam w (flat ws)) ∙ ap (drop (length w)) e ∙ ap (λ k. drop k (v ++ flat vs)) n
+    ∙ drop-append_seam v (flat vs) in
     ap (λ l. l ∷ ws) here ∙ ap (λ l. v ∷ l) (one-list ws vs x.1 y.1 more)
 
 pub only-pieces : (text : List ℕ) (ts : List Token) → AreTokens text ts → ts ≡ tokens text

@@ -19,7 +19,8 @@ use Rattle.rv_syntax.specs.declared.fault.Stop.TheVariants as stop
 use Rattle.rv_syntax.specs.Nesting.{Outside}
 use Rattle.rv_syntax.specs.Marks.{is_mark, is_name, has_mark}
 use Rattle.rv_syntax.specs.Rules.{Word}
-use Rattle.rv_syntax.specs.ProgramText.{IsName, IsType, IsConstant, all_flows, joined, IsLocal, IsVar, Item, Equates, Assumes, equations_of, assertions_of, IsItem, node_of, Section, Types, Constants, OneNode, types_of, constants_of, nodes_of, program_of, IsSection}
+use Rattle.rv_syntax.specs.ProgramText.{IsName, IsType, IsConstant, all_flows, joined, IsLocal, IsVar, Item, Equates, Assumes, equations_of, assertions_of}
+use Rattle.rv_syntax.specs.ProgramText.{IsItem, node_of, Section, Types, Constants, OneNode, types_of, constants_of, nodes_of, program_of, IsSection}
 use Rattle.rv_tree.specs.Groups.{Group, flows_of}
 use Rattle.rv_syntax.specs.Parse.{Reading, Parse, bind, then, done, one, starts, choose, many, found}
 use Rattle.rv_syntax.specs.Reads.{Reads}
@@ -27,7 +28,9 @@ use Rattle.rv_syntax.specs.Reading as read
 use Rattle.rv_syntax.specs.Reading.{mapped}
 use Rattle.rv_syntax.proofs.Exactly.{Exact, left}
 use Rattle.rv_syntax.proofs.Exact.{Any, exact-found, starts-found, Found, shrinks, loop-more, loop-last, loop-none, loop-stops}
-use Rattle.rv_syntax.proofs.ExactRules.{IsOutside, NoName, NoLocal, NoMore, Exact-next-name, starts-word, Exact-type, type-first, name-starts, Exact-constant, constant-first, IsNextGroup, Exact-next-group, starts-next-group, Exact-local, starts-local, Exact-var, starts-var, Exact-item, starts-item, Exact-section, starts-section}
+use Rattle.rv_syntax.proofs.ExactRules.{IsOutside, NoName, NoLocal, NoMore, Exact-next-name, starts-word, Exact-type, type-first, name-starts, Exact-constant}
+use Rattle.rv_syntax.proofs.ExactRules.{constant-first, IsNextGroup, Exact-next-group, starts-next-group, Exact-local, starts-local, Exact-var, starts-var}
+use Rattle.rv_syntax.proofs.ExactRules.{Exact-item, starts-item, Exact-section, starts-section}
 
 -- What is read as long as there is a token to begin with, by its first turn.
 pub record IsLoop {A : Type 0} (test : Token → Bool) (p : Parse A) (all : Parse (List A)) : Type 0 where
@@ -36,7 +39,8 @@ pub record IsLoop {A : Type 0} (test : Token → Bool) (p : Parse A) (all : Pars
   pub stops : (ts : List Token) (e : Why × List Token) → starts test ts ≡ true → p ts ≡ Err e → all ts ≡ Err e
   pub less : (ts new : List Token) (a : A) → p ts ≡ Ok (a, new) → length new < length ts
 
-is-loop : {A : Type 0} (K : A → List Token → Type 0) (F : List Token → Type 0) (test : Token → Bool) (p : Parse A) → Exact IsOutside IsOutside K F p → ((a : A) (w : List Token) → K a w → starts test w ≡ true) → IsLoop test p (many test p)
+is-loop : {A : Type 0} (K : A → List Token → Type 0) (F : List Token → Type 0) (test : Token → Bool) (p : Parse A) → Exact IsOutside IsOutside K F p
+    → ((a : A) (w : List Token) → K a w → starts test w ≡ true) → IsLoop test p (many test p)
 is-loop K F test p x first =
     let y = exact-found IsOutside IsOutside Outside refl K F p x in
     let h = starts-found K test first in
@@ -76,28 +80,33 @@ unfolding read.sections
 sections-loop = is-loop IsSection NoMore read.any read.section Exact-section starts-section
 
 -- ---- A value that is made of the parts, with those that were found before.
-made-more : {A B : Type 0} (into now : List A → B) (a : A) → ((xs : List A) → into (a ∷ xs) ≡ now xs) → (r : Reading (List A)) → mapped now r ≡ mapped into (bind r (λ xs. done (a ∷ xs)))
+made-more : {A B : Type 0} (into now : List A → B) (a : A) → ((xs : List A) → into (a ∷ xs) ≡ now xs) → (r : Reading (List A))
+    → mapped now r ≡ mapped into (bind r (λ xs. done (a ∷ xs)))
 made-more into now a same (Ok y) = ap (λ b. Ok (b, y.1)) (sym (same y.0))
 made-more into now a same (Err e) = refl
 
 -- One part more has been found.
-pub goes-on : {A B : Type 0} {test : Token → Bool} {p : Parse A} {all : Parse (List A)} → IsLoop test p all → (into now : List A → B) (a : A) → ((xs : List A) → into (a ∷ xs) ≡ now xs)
+pub goes-on : {A B : Type 0} {test : Token → Bool} {p : Parse A} {all : Parse (List A)} → IsLoop test p all → (into now : List A → B) (a : A)
+    → ((xs : List A) → into (a ∷ xs) ≡ now xs)
     → (whole : Reading B) (ts new : List Token) → true ≡ starts test ts → p ts ≡ Ok (a, new) → mapped into (all ts) ≡ whole → mapped now (all new) ≡ whole
 goes-on {all = all} l into now a same whole ts new h e inv = made-more into now a same (all new) ∙ ap (mapped into) (sym (l.more ts new a (sym h) e)) ∙ inv
 
 -- There is no part more.
-pub ends : {A B : Type 0} {test : Token → Bool} {p : Parse A} {all : Parse (List A)} → IsLoop test p all → (into : List A → B) (whole : Reading B) (ts : List Token) → false ≡ starts test ts → mapped into (all ts) ≡ whole → whole ≡ Ok (into [], ts)
+pub ends : {A B : Type 0} {test : Token → Bool} {p : Parse A} {all : Parse (List A)} → IsLoop test p all
+    → (into : List A → B) (whole : Reading B) (ts : List Token) → false ≡ starts test ts → mapped into (all ts) ≡ whole → whole ≡ Ok (into [], ts)
 ends l into whole ts h inv = sym inv ∙ ap (mapped into) (l.none ts (sym h))
 
 -- The stop of a part is that of all.
-pub stops-with : {A B X Y : Type 0} {test : Token → Bool} {p : Parse A} {all : Parse (List A)} → IsLoop test p all → (into : List A → B) (view : X → B) (seen : Y → A) (e : Stop) (whole : Reading B) (ts new : List Token) → true ≡ starts test ts
+pub stops-with : {A B X Y : Type 0} {test : Token → Bool} {p : Parse A} {all : Parse (List A)} → IsLoop test p all
+    → (into : List A → B) (view : X → B) (seen : Y → A) (e : Stop) (whole : Reading B) (ts new : List Token) → true ≡ starts test ts
     → mapped into (all ts) ≡ whole → Reads seen (p ts) (Err e) new → Reads view whole (Err e) new
 stops-with l into view seen stop.Memory whole ts new h inv r = tt
 stops-with l into view seen (stop.Token why left) whole ts new h inv r = (r.0, sym inv ∙ ap (mapped into) (l.stops ts (why, new) (sym h) r.1))
 
 -- ---- Groups behind semicolons.
 pub record IsGroupLoop : Type 0 where
-  pub more : (ts new : List Token) (g : Group) → starts (is_mark mark.Semi) ts ≡ true → read.next_group ts ≡ Ok (Some g, new) → read.next_groups ts ≡ bind (read.next_groups new) (λ xs. done (g ∷ xs))
+  pub more : (ts new : List Token) (g : Group) → starts (is_mark mark.Semi) ts ≡ true → read.next_group ts ≡ Ok (Some g, new)
+      → read.next_groups ts ≡ bind (read.next_groups new) (λ xs. done (g ∷ xs))
   pub last : (ts new : List Token) → starts (is_mark mark.Semi) ts ≡ true → read.next_group ts ≡ Ok (None, new) → read.next_groups ts ≡ Ok ([], new)
   pub none : (ts : List Token) → starts (is_mark mark.Semi) ts ≡ false → read.next_groups ts ≡ Ok ([], ts)
   pub stops : (ts : List Token) (e : Why × List Token) → starts (is_mark mark.Semi) ts ≡ true → read.next_group ts ≡ Err e → read.next_groups ts ≡ Err e
@@ -106,7 +115,8 @@ pub record IsGroupLoop : Type 0 where
 pub groups-loop : IsGroupLoop
 unfolding read.next_groups
 groups-loop = record {
-  more = λ ts new g s e. loop-more IsOutside Outside refl IsNextGroup NoName (is_mark mark.Semi) read.next_group Exact-next-group starts-next-group ts s g new e;
+  more = λ ts new g s e. loop-more IsOutside Outside refl IsNextGroup NoName (is_mark mark.Semi) read.next_group Exact-next-group starts-next-group ts s g new
+      e;
   last = λ ts new s e. loop-last IsOutside Outside refl IsNextGroup NoName (is_mark mark.Semi) read.next_group Exact-next-group starts-next-group ts s new e;
   none = λ ts s. loop-none IsOutside Outside refl IsNextGroup NoName (is_mark mark.Semi) read.next_group Exact-next-group starts-next-group ts s;
   stops = λ ts e s is. loop-stops IsOutside Outside refl IsNextGroup NoName (is_mark mark.Semi) read.next_group Exact-next-group starts-next-group ts s e is;
@@ -115,7 +125,8 @@ groups-loop = record {
 
 -- ---- Values that are found, before others that were found first.
 -- Found one after the other, or together.
-pub regroup : {A B : Type 0} (front now : List A) (f : B → List A) (r : Reading B) → mapped (λ b. (front ++ now) ++ f b) r ≡ mapped (λ l. front ++ l) (mapped (λ b. now ++ f b) r)
+pub regroup : {A B : Type 0} (front now : List A) (f : B → List A) (r : Reading B)
+    → mapped (λ b. (front ++ now) ++ f b) r ≡ mapped (λ l. front ++ l) (mapped (λ b. now ++ f b) r)
 regroup front now f (Ok y) = ap (λ l. Ok (l, y.1)) (append_assoc front now (f y.0))
 regroup front now f (Err e) = refl
 
@@ -124,7 +135,8 @@ twice f g (Ok y) = refl
 twice f g (Err e) = refl
 
 -- What is read behind a word, its first part and all that come after it, from what was found before and what the first part adds.
-from-first : {A B C : Type 0} (m : Mark) (p : Parse A) (all : Parse B) (give : A → List C) (later : B → List C) (before now : List C) (ts one-on two-on : List Token) (a : A)
+from-first : {A B C : Type 0} (m : Mark) (p : Parse A) (all : Parse B) (give : A → List C) (later : B → List C) (before now : List C)
+    (ts one-on two-on : List Token) (a : A)
     → one (has_mark m) ts ≡ Ok (tt, one-on) → p one-on ≡ Ok (a, two-on) → now ≡ before ++ give a
     → mapped (λ b. now ++ later b) (all two-on) ≡ mapped (λ l. before ++ l) (read.word m (then p (λ x. then all (λ b. done (give x ++ later b)))) ts)
 from-first m p all give later before now ts one-on two-on a e f g =
@@ -132,17 +144,21 @@ from-first m p all give later before now ts one-on two-on a e f g =
     ∙ ap (λ r. mapped (λ l. before ++ l) (bind r (λ x. then all (λ b. done (give x ++ later b))))) (sym f)
     ∙ ap (λ r. mapped (λ l. before ++ l) (bind r (λ u. then p (λ x. then all (λ b. done (give x ++ later b)))))) (sym e)
 
-pub from-types : (before now : List TypeDecl) (ts one-on two-on : List Token) (d : TypeDecl) → one (has_mark mark.Type) ts ≡ Ok (tt, one-on) → read.one_type one-on ≡ Ok (d, two-on) → now ≡ before ++ d ∷ []
+pub from-types : (before now : List TypeDecl) (ts one-on two-on : List Token) (d : TypeDecl) → one (has_mark mark.Type) ts ≡ Ok (tt, one-on)
+    → read.one_type one-on ≡ Ok (d, two-on) → now ≡ before ++ d ∷ []
     → read.with_front now (read.next_types two-on) ≡ read.with_front before (read.types ts)
 unfolding read.types
 from-types before now ts one-on two-on d e f g = from-first mark.Type read.one_type read.next_types (λ x. x ∷ []) (λ b. b) before now ts one-on two-on d e f g
 
-pub from-constants : (before now : List ConstantTree) (ts one-on two-on : List Token) (c : ConstantTree) → one (has_mark mark.Const) ts ≡ Ok (tt, one-on) → read.constant one-on ≡ Ok (c, two-on) → now ≡ before ++ c ∷ []
+pub from-constants : (before now : List ConstantTree) (ts one-on two-on : List Token) (c : ConstantTree) → one (has_mark mark.Const) ts ≡ Ok (tt, one-on)
+    → read.constant one-on ≡ Ok (c, two-on) → now ≡ before ++ c ∷ []
     → read.with_front now (read.next_constants two-on) ≡ read.with_front before (read.constants ts)
 unfolding read.constants
-from-constants before now ts one-on two-on c e f g = from-first mark.Const read.constant read.next_constants (λ x. x ∷ []) (λ b. b) before now ts one-on two-on c e f g
+from-constants before now ts one-on two-on c e f g = from-first mark.Const read.constant read.next_constants (λ x. x ∷ []) (λ b. b) before now ts one-on two-on
+    c e f g
 
-pub from-var : (before now : List Decl) (ts one-on two-on : List Token) (ds : List Decl) → one (has_mark mark.Var) ts ≡ Ok (tt, one-on) → read.local one-on ≡ Ok (ds, two-on) → now ≡ before ++ ds
+pub from-var : (before now : List Decl) (ts one-on two-on : List Token) (ds : List Decl) → one (has_mark mark.Var) ts ≡ Ok (tt, one-on)
+    → read.local one-on ≡ Ok (ds, two-on) → now ≡ before ++ ds
     → mapped (λ more. now ++ joined more) (read.next_locals two-on) ≡ read.with_front before (read.var ts)
 unfolding read.var
 from-var before now ts one-on two-on ds e f g = from-first mark.Var read.local read.next_locals (λ x. x) joined before now ts one-on two-on ds e f g
@@ -169,36 +185,51 @@ stop-of f (Err x) e h = ap Err (ap (why-or e) h)
 abbrev pub behind : List Decl → List Group → List Decl
 behind front more = front ++ all_flows more
 
-pub groups-go-on : (front now : List Decl) (g : Group) → now ≡ front ++ flows_of g None → (whole : Reading (List Decl)) (ts new : List Token) → true ≡ starts (is_mark mark.Semi) ts → read.next_group ts ≡ Ok (Some g, new)
+pub groups-go-on : (front now : List Decl) (g : Group) → now ≡ front ++ flows_of g None → (whole : Reading (List Decl)) (ts new : List Token)
+    → true ≡ starts (is_mark mark.Semi) ts → read.next_group ts ≡ Ok (Some g, new)
     → mapped (behind front) (read.next_groups ts) ≡ whole → mapped (behind now) (read.next_groups new) ≡ whole
 groups-go-on front now g is whole ts new h e inv =
-    made-more (behind front) (behind now) g (λ xs. sym (append_assoc front (flows_of g None) (all_flows xs)) ∙ ap (λ l. l ++ all_flows xs) (sym is)) (read.next_groups new)
+    made-more (behind front) (behind now) g (λ xs. sym (append_assoc front (flows_of g None) (all_flows xs)) ∙ ap (λ l. l ++ all_flows xs) (sym is))
+    (read.next_groups new)
     ∙ ap (mapped (behind front)) (sym (groups-loop.more ts new g (sym h) e)) ∙ inv
 
-pub groups-last : (front : List Decl) (whole : Reading (List Decl)) (ts new : List Token) → true ≡ starts (is_mark mark.Semi) ts → read.next_group ts ≡ Ok (None, new) → mapped (behind front) (read.next_groups ts) ≡ whole → whole ≡ Ok (front, new)
+pub groups-last : (front : List Decl) (whole : Reading (List Decl)) (ts new : List Token) → true ≡ starts (is_mark mark.Semi) ts
+    → read.next_group ts ≡ Ok (None, new) → mapped (behind front) (read.next_groups ts) ≡ whole → whole ≡ Ok (front, new)
 groups-last front whole ts new h e inv = sym inv ∙ ap (mapped (behind front)) (groups-loop.last ts new (sym h) e) ∙ ap (λ l. Ok (l, new)) (append-nil front)
 
-pub groups-end : (front : List Decl) (whole : Reading (List Decl)) (ts : List Token) → false ≡ starts (is_mark mark.Semi) ts → mapped (behind front) (read.next_groups ts) ≡ whole → whole ≡ Ok (front, ts)
+pub groups-end : (front : List Decl) (whole : Reading (List Decl)) (ts : List Token) → false ≡ starts (is_mark mark.Semi) ts
+    → mapped (behind front) (read.next_groups ts) ≡ whole → whole ≡ Ok (front, ts)
 groups-end front whole ts h inv = sym inv ∙ ap (mapped (behind front)) (groups-loop.none ts (sym h)) ∙ ap (λ l. Ok (l, ts)) (append-nil front)
 
-pub groups-stop : {X Y : Type 0} (front : List Decl) (view : X → List Decl) (seen : Y → Option Group) (e : Stop) (whole : Reading (List Decl)) (ts new : List Token) → true ≡ starts (is_mark mark.Semi) ts
+pub groups-stop : {X Y : Type 0} (front : List Decl) (view : X → List Decl) (seen : Y → Option Group) (e : Stop) (whole : Reading (List Decl))
+    (ts new : List Token) → true ≡ starts (is_mark mark.Semi) ts
     → mapped (behind front) (read.next_groups ts) ≡ whole → Reads seen (read.next_group ts) (Err e) new → Reads view whole (Err e) new
 groups-stop front view seen stop.Memory whole ts new h inv r = tt
-groups-stop front view seen (stop.Token why left) whole ts new h inv r = (r.0, sym inv ∙ ap (mapped (behind front)) (groups-loop.stops ts (why, new) (sym h) r.1))
+groups-stop front view seen (stop.Token why left) whole ts new h inv r = (
+  r.0,
+  sym inv
+      ∙ ap (mapped (behind front)) (groups-loop.stops ts (why, new) (sym h) r.1),
+)
 
 -- ---- A node's statements and a program's sections, one after the other.
 pub made-same : {A B : Type 0} (f g : A → B) → ((a : A) → f a ≡ g a) → (r : Reading A) → mapped f r ≡ mapped g r
 made-same f g h (Ok y) = ap (λ b. Ok (b, y.1)) (h y.0)
 made-same f g h (Err e) = refl
 
-pub with-items : (s : read.Statements) (items : List Item) → read.with_items s items ≡ record { equations = s.equations ++ equations_of items; assertions = s.assertions ++ assertions_of items }
-with-items s [] = ap (λ l. record { equations = l; assertions = s.assertions }) (sym (append-nil s.equations)) ∙ ap (λ l. record { equations = s.equations ++ []; assertions = l }) (sym (append-nil s.assertions))
-with-items s (Equates q ∷ more) = with-items (read.with_item s (Equates q)) more ∙ ap (λ l. record { equations = l; assertions = s.assertions ++ assertions_of more }) (append_assoc s.equations (q ∷ []) (equations_of more))
-with-items s (Assumes a ∷ more) = with-items (read.with_item s (Assumes a)) more ∙ ap (λ l. record { equations = s.equations ++ equations_of more; assertions = l }) (append_assoc s.assertions (a ∷ []) (assertions_of more))
+pub with-items : (s : read.Statements) (items : List Item) → read.with_items s items ≡ record
+    { equations = s.equations ++ equations_of items; assertions = s.assertions ++ assertions_of items }
+with-items s [] = ap (λ l. record { equations = l; assertions = s.assertions }) (sym (append-nil s.equations))
+    ∙ ap (λ l. record { equations = s.equations ++ []; assertions = l }) (sym (append-nil s.assertions))
+with-items s (Equates q ∷ more) = with-items (read.with_item s (Equates q)) more
+    ∙ ap (λ l. record { equations = l; assertions = s.assertions ++ assertions_of more }) (append_assoc s.equations (q ∷ []) (equations_of more))
+with-items s (Assumes a ∷ more) = with-items (read.with_item s (Assumes a)) more
+    ∙ ap (λ l. record { equations = s.equations ++ equations_of more; assertions = l }) (append_assoc s.assertions (a ∷ []) (assertions_of more))
 
 -- from no statement on
-pub all-items : (s : read.Statements) → s ≡ record { equations = []; assertions = [] } → (r : Reading (List Item)) → mapped (read.with_items s) r ≡ mapped read.statements_of r
-all-items s h r = made-same (read.with_items s) read.statements_of (λ items. ap (λ z. read.with_items z items) h ∙ with-items (record { equations = []; assertions = [] }) items) r
+pub all-items : (s : read.Statements) → s ≡ record { equations = []; assertions = [] } → (r : Reading (List Item))
+    → mapped (read.with_items s) r ≡ mapped read.statements_of r
+all-items s h r = made-same (read.with_items s) read.statements_of (λ items. ap (λ z. read.with_items z items) h
+    ∙ with-items (record { equations = []; assertions = [] }) items) r
 
 abbrev pub made-program : List TypeDecl → List ConstantTree → List NodeTree → ProgramTree
 made-program types constants nodes = record { types = types; constants = constants; nodes = nodes }
@@ -220,7 +251,8 @@ with-sections p (Constants cs ∷ more) =
     ∙ ap (λ l. record { types = p.types ++ types_of more; constants = l; nodes = p.nodes ++ nodes_of more }) (append_assoc p.constants cs (constants_of more))
 with-sections p (OneNode n ∷ more) =
     with-sections (read.with_section p (OneNode n)) more
-    ∙ ap (λ l. record { types = p.types ++ types_of more; constants = p.constants ++ constants_of more; nodes = l }) (append_assoc p.nodes (n ∷ []) (nodes_of more))
+    ∙ ap (λ l. record { types = p.types ++ types_of more; constants = p.constants ++ constants_of more; nodes = l })
+    (append_assoc p.nodes (n ∷ []) (nodes_of more))
 
 abbrev pub nothing : ProgramTree
 nothing = record { types = []; constants = []; nodes = [] }
@@ -233,7 +265,8 @@ all-sections p h r = made-same (read.with_sections p) program_of (λ sections. a
 abbrev pub of-statements : Name → List Decl → List Decl → List Decl → read.Statements → NodeTree
 of-statements x ins outs locals s = record { name = x; inputs = ins; outputs = outs; locals = locals; equations = s.equations; assertions = s.assertions }
 
-module _ (ts one-on two-on three-on : List Token) (x : Name) (ins outs : List Decl) (t : read.title ts ≡ Ok (x, one-on)) (i : read.inputs one-on ≡ Ok (ins, two-on)) (o : read.outputs two-on ≡ Ok (outs, three-on)) where
+module _ (ts one-on two-on three-on : List Token) (x : Name) (ins outs : List Decl) (t : read.title ts ≡ Ok (x, one-on))
+    (i : read.inputs one-on ≡ Ok (ins, two-on)) (o : read.outputs two-on ≡ Ok (outs, three-on)) where
   up-to-vars : read.node ts ≡ bind (read.vars three-on) (λ vs. then read.body (λ is. done (node_of x ins outs vs is)))
   unfolding read.node
   up-to-vars =
@@ -242,7 +275,8 @@ module _ (ts one-on two-on three-on : List Token) (x : Name) (ins outs : List De
       ∙ ap (λ r. bind r (λ b. then read.vars (λ vs. then read.body (λ is. done (node_of x ins b vs is))))) o
 
   pub node-stops-at-vars : (e : Why × List Token) → mapped joined (read.vars three-on) ≡ Err e → read.node ts ≡ Err e
-  node-stops-at-vars e h = up-to-vars ∙ ap (λ r. bind r (λ vs. then read.body (λ is. done (node_of x ins outs vs is)))) (stop-of joined (read.vars three-on) e h)
+  node-stops-at-vars e h = up-to-vars ∙ ap (λ r. bind r (λ vs. then read.body (λ is. done (node_of x ins outs vs is))))
+      (stop-of joined (read.vars three-on) e h)
 
   module _ (locals : List Decl) (four-on : List Token) (v : mapped joined (read.vars three-on) ≡ Ok (locals, four-on)) where
     up-to-body : (vs : List (List Decl)) × (joined vs ≡ locals) × (read.node ts ≡ bind (read.body four-on) (λ is. done (node_of x ins outs vs is)))
@@ -251,9 +285,11 @@ module _ (ts one-on two-on three-on : List Token) (x : Name) (ins outs : List De
         (m.0, m.2, up-to-vars ∙ ap (λ r. bind r (λ vs. then read.body (λ is. done (node_of x ins outs vs is)))) m.1)
 
     pub node-stops-at-body : (e : Why × List Token) → mapped read.statements_of (read.body four-on) ≡ Err e → read.node ts ≡ Err e
-    node-stops-at-body e h = let u = up-to-body in u.2 ∙ ap (λ r. bind r (λ is. done (node_of x ins outs u.0 is))) (stop-of read.statements_of (read.body four-on) e h)
+    node-stops-at-body e h = let u = up-to-body in u.2 ∙ ap (λ r. bind r (λ is. done (node_of x ins outs u.0 is)))
+        (stop-of read.statements_of (read.body four-on) e h)
 
-    pub whole-node : (s : read.Statements) (five-on : List Token) → mapped read.statements_of (read.body four-on) ≡ Ok (s, five-on) → read.node ts ≡ Ok (of-statements x ins outs locals s, five-on)
+    pub whole-node : (s : read.Statements) (five-on : List Token) → mapped read.statements_of (read.body four-on) ≡ Ok (s, five-on)
+        → read.node ts ≡ Ok (of-statements x ins outs locals s, five-on)
     whole-node s five-on h =
         let u = up-to-body in
         let m = made-of read.statements_of (read.body four-on) s five-on h in
@@ -263,46 +299,58 @@ module _ (ts one-on two-on three-on : List Token) (x : Name) (ins outs : List De
 
 -- ---- The local flows of a node.
 -- The stop of a section of locals is that of all.
-pub front-stops : (front : List Decl) (e : Stop) (whole : Reading (List Decl)) (ts new : List Token) → true ≡ starts (is_mark mark.Var) ts → mapped (λ more. front ++ joined more) (read.vars ts) ≡ whole
+pub front-stops : (front : List Decl) (e : Stop) (whole : Reading (List Decl)) (ts new : List Token) → true ≡ starts (is_mark mark.Var) ts
+    → mapped (λ more. front ++ joined more) (read.vars ts) ≡ whole
     → Reads {X = List Decl} (λ l. l) (read.with_front front (read.var ts)) (Err e) new → Reads {X = List Decl} (λ l. l) whole (Err e) new
 front-stops front stop.Memory whole ts new h inv r = tt
 front-stops front (stop.Token why left) whole ts new h inv r =
     (r.0, sym inv ∙ ap (mapped (λ more. front ++ joined more)) (vars-loop.stops ts (why, new) (sym h) (stop-of (λ l. front ++ l) (read.var ts) (why, new) r.1)))
 
 -- ---- Where nothing has been found.
-pub no-statements : (es : List Equation) (bs : List Assertion) → es ≡ [] → bs ≡ [] → read.statements (record { equations = es; assertions = bs }) ≡ record { equations = []; assertions = [] }
-no-statements es bs e f = ap (λ l. read.statements (record { equations = l; assertions = bs })) e ∙ ap (λ l. read.statements (record { equations = []; assertions = l })) f
+pub no-statements : (es : List Equation) (bs : List Assertion) → es ≡ [] → bs ≡ []
+    → read.statements (record { equations = es; assertions = bs }) ≡ record { equations = []; assertions = [] }
+no-statements es bs e f = ap (λ l. read.statements (record { equations = l; assertions = bs })) e
+    ∙ ap (λ l. read.statements (record { equations = []; assertions = l })) f
 
-pub no-sections : (types : List TypeDecl) (constants : List ConstDecl) (nodes : List Node) → types ≡ [] → constants ≡ [] → nodes ≡ [] → program_tree (record { types = types; constants = constants; nodes = nodes }) ≡ nothing
+pub no-sections : (types : List TypeDecl) (constants : List ConstDecl) (nodes : List Node) → types ≡ [] → constants ≡ [] → nodes ≡ []
+    → program_tree (record { types = types; constants = constants; nodes = nodes }) ≡ nothing
 no-sections types constants nodes e f g =
     ap (λ l. program_tree (record { types = l; constants = constants; nodes = nodes })) e
     ∙ ap (λ l. program_tree (record { types = []; constants = l; nodes = nodes })) f
     ∙ ap (λ l. program_tree (record { types = []; constants = []; nodes = l })) g
 
 -- Where a part's stop is that of the whole.
-pub stop-through : {X Y A B : Type 0} (view : X → A) (seen : Y → B) (whole : Reading A) (part : Reading B) (e : Stop) (new : List Token) → ((x : Why × List Token) → part ≡ Err x → whole ≡ Err x) → Reads seen part (Err e) new → Reads view whole (Err e) new
+pub stop-through : {X Y A B : Type 0} (view : X → A) (seen : Y → B) (whole : Reading A) (part : Reading B) (e : Stop) (new : List Token)
+    → ((x : Why × List Token) → part ≡ Err x → whole ≡ Err x) → Reads seen part (Err e) new → Reads view whole (Err e) new
 stop-through view seen whole part stop.Memory new h r = tt
 stop-through view seen whole part (stop.Token why left) new h r = (r.0, h (why, new) r.1)
 
 -- ---- One section more.
 -- The stop of a section is that of the program.
-pub section-stops : (p : ProgramTree) (e : Stop) (whole : Reading ProgramTree) (ts new : List Token) → true ≡ starts read.any ts → mapped (read.with_sections p) (read.sections ts) ≡ whole
+pub section-stops : (p : ProgramTree) (e : Stop) (whole : Reading ProgramTree) (ts new : List Token) → true ≡ starts read.any ts
+    → mapped (read.with_sections p) (read.sections ts) ≡ whole
     → Reads program_tree (mapped (read.with_section p) (read.section ts)) (Err e) new → Reads program_tree whole (Err e) new
 section-stops p stop.Memory whole ts new h inv r = tt
-section-stops p (stop.Token why left) whole ts new h inv r =
-    (r.0, sym inv ∙ ap (mapped (read.with_sections p)) (sections-loop.stops ts (why, new) (sym h) (stop-of (read.with_section p) (read.section ts) (why, new) r.1)))
+section-stops p (stop.Token why left) whole ts new h inv r = (
+  r.0,
+  sym inv ∙ ap (mapped (read.with_sections p)) (sections-loop.stops ts (why, new) (sym h)
+      (stop-of (read.with_section p) (read.section ts) (why, new) r.1)),
+)
 
-pub section-types : (p : ProgramTree) (ts : List Token) → true ≡ starts (is_mark mark.Type) ts → mapped (read.with_section p) (read.section ts) ≡ mapped (λ l. made-program l p.constants p.nodes) (read.with_front p.types (read.types ts))
+pub section-types : (p : ProgramTree) (ts : List Token) → true ≡ starts (is_mark mark.Type) ts
+    → mapped (read.with_section p) (read.section ts) ≡ mapped (λ l. made-program l p.constants p.nodes) (read.with_front p.types (read.types ts))
 unfolding read.section
 section-types p ts h =
-    ap (λ b. mapped (read.with_section p) (cond b (then read.types (λ ds. done (Types ds)) ts) (choose (is_mark mark.Const) (then read.constants (λ cs. done (Constants cs))) (then read.node (λ n. done (OneNode n))) ts))) (sym h)
+    ap (λ b. mapped (read.with_section p) (cond b (then read.types (λ ds. done (Types ds)) ts)
+    (choose (is_mark mark.Const) (then read.constants (λ cs. done (Constants cs))) (then read.node (λ n. done (OneNode n))) ts))) (sym h)
     ∙ twice Types (read.with_section p) (read.types ts) ∙ sym (twice (λ l. p.types ++ l) (λ l. made-program l p.constants p.nodes) (read.types ts))
 
 pub section-constants : (p : ProgramTree) (ts : List Token) → false ≡ starts (is_mark mark.Type) ts → true ≡ starts (is_mark mark.Const) ts
     → mapped (read.with_section p) (read.section ts) ≡ mapped (λ l. made-program p.types l p.nodes) (read.with_front p.constants (read.constants ts))
 unfolding read.section
 section-constants p ts h k =
-    ap (λ b. mapped (read.with_section p) (cond b (then read.types (λ ds. done (Types ds)) ts) (choose (is_mark mark.Const) (then read.constants (λ cs. done (Constants cs))) (then read.node (λ n. done (OneNode n))) ts))) (sym h)
+    ap (λ b. mapped (read.with_section p) (cond b (then read.types (λ ds. done (Types ds)) ts)
+    (choose (is_mark mark.Const) (then read.constants (λ cs. done (Constants cs))) (then read.node (λ n. done (OneNode n))) ts))) (sym h)
     ∙ ap (λ b. mapped (read.with_section p) (cond b (then read.constants (λ cs. done (Constants cs)) ts) (then read.node (λ n. done (OneNode n)) ts))) (sym k)
     ∙ twice Constants (read.with_section p) (read.constants ts) ∙ sym (twice (λ l. p.constants ++ l) (λ l. made-program p.types l p.nodes) (read.constants ts))
 
@@ -310,7 +358,8 @@ pub section-node : (p : ProgramTree) (ts : List Token) → false ≡ starts (is_
     → mapped (read.with_section p) (read.section ts) ≡ mapped (λ n. made-program p.types p.constants (p.nodes ++ n ∷ [])) (read.node ts)
 unfolding read.section
 section-node p ts h k =
-    ap (λ b. mapped (read.with_section p) (cond b (then read.types (λ ds. done (Types ds)) ts) (choose (is_mark mark.Const) (then read.constants (λ cs. done (Constants cs))) (then read.node (λ n. done (OneNode n))) ts))) (sym h)
+    ap (λ b. mapped (read.with_section p) (cond b (then read.types (λ ds. done (Types ds)) ts)
+    (choose (is_mark mark.Const) (then read.constants (λ cs. done (Constants cs))) (then read.node (λ n. done (OneNode n))) ts))) (sym h)
     ∙ ap (λ b. mapped (read.with_section p) (cond b (then read.constants (λ cs. done (Constants cs)) ts) (then read.node (λ n. done (OneNode n)) ts))) (sym k)
     ∙ twice OneNode (read.with_section p) (read.node ts)
 

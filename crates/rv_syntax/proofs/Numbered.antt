@@ -1,5 +1,6 @@
 -- The sites of a node of a text are numbered.
-use Rattle.std.proofs.Common.{◌≡◌, ℕ, zero, suc, ◌+◌, ◌<◌, ◌≤◌, cond, ltb, List, [], ◌∷◌, ◌++◌, map, length, get_or, refl, sym, ap, ◌∙◌, subst, inl, inr, ◌⊎◌, arith}
+use Rattle.std.proofs.Common.{◌≡◌, ℕ, zero, suc, ◌+◌, ◌<◌, ◌≤◌, cond, ltb, List, [], ◌∷◌, ◌++◌, map, length, get_or, refl, sym, ap, ◌∙◌, subst, inl, inr, ◌⊎◌}
+use Rattle.std.proofs.Common.{arith}
 use Rattle.std.specs.Prelude.{Option, Some}
 use Rattle.std.specs.List.{Contains}
 use Rattle.std.proofs.lemmas.List.{length-map, map-append, get_or_default}
@@ -8,10 +9,12 @@ use Rattle.std.proofs.lemmas.Bool.Decides.{nat_tests}
 use Rattle.rv_base.specs.Limits.{source_limit}
 use Rattle.rv_tree.specs.declared.tree.Op.{Op}
 use Rattle.rv_tree.specs.declared.tree.Op.TheVariants as op
-use Rattle.rv_tree.specs.Tree.{Tree, Node, Form, True, False, Number, Named, Not, Minus, Pre, Current, When, Binary, If, AtMostOne, Call, Trees, None, More, EquationTree, AssertionTree, NodeTree, ProgramTree}
+use Rattle.rv_tree.specs.Tree.{Tree, Node, Form, True, False, Number, Named, Not, Minus, Pre, Current, When, Binary, If, AtMostOne, Call, Trees, None, More}
+use Rattle.rv_tree.specs.Tree.{EquationTree, AssertionTree, NodeTree, ProgramTree}
 use Rattle.rv_tree.specs.Places.{flows}
 use Rattle.rv_tree.specs.Delays.{Delay, delays, delays_of_all, delays_in_equations, delays_in_assertions, node_delays, IsNumbered}
-use Rattle.rv_tree.specs.Sites.{compared, offsets, form_offsets, trees_offsets, equation_offsets, assertion_offsets, node_offsets, earlier, numbered_from, site_at, compared_site, sited, sited_node, sited_trees, sited_equation, sited_assertion, with_sites}
+use Rattle.rv_tree.specs.Sites.{compared, offsets, form_offsets, trees_offsets, equation_offsets, assertion_offsets, node_offsets, earlier, numbered_from}
+use Rattle.rv_tree.specs.Sites.{site_at, compared_site, sited, sited_node, sited_trees, sited_equation, sited_assertion, with_sites}
 use Rattle.rv_tree.specs.SitedParts.{SitedPart, part, comparison, parts, trees_parts, equation_parts, assertion_parts, node_parts}
 use Rattle.rv_syntax.specs.ProgramText.{IsTextOf}
 use Rattle.rv_syntax.specs.Lexing.{tokens}
@@ -50,8 +53,10 @@ mutual
   form-numbered f at (Current t) = ap (λ l. numbered f at ∷ l) (parts-numbered f t)
   form-numbered f at (When t c) = parts-numbered f t
   form-numbered f at (Binary o a b) =
-      both (numbered f) (parts (sited f a)) (comparison o at (compared_site o (f at)) ++ parts (sited f b)) (offsets a) (compared o at ++ offsets b) (parts-numbered f a)
-      (both (numbered f) (comparison o at (compared_site o (f at))) (parts (sited f b)) (compared o at) (offsets b) (comparison-numbered f o at) (parts-numbered f b))
+      both (numbered f) (parts (sited f a)) (comparison o at (compared_site o (f at)) ++ parts (sited f b)) (offsets a) (compared o at ++ offsets b)
+      (parts-numbered f a)
+      (both (numbered f) (comparison o at (compared_site o (f at))) (parts (sited f b)) (compared o at) (offsets b) (comparison-numbered f o at)
+      (parts-numbered f b))
   form-numbered f at (If a b c) =
       both (numbered f) (parts (sited f a)) (parts (sited f b) ++ parts (sited f c)) (offsets a) (offsets b ++ offsets c) (parts-numbered f a)
       (both (numbered f) (parts (sited f b)) (parts (sited f c)) (offsets b) (offsets c) (parts-numbered f b) (parts-numbered f c))
@@ -60,22 +65,26 @@ mutual
 
   trees-numbered : (f : ℕ → ℕ) (ts : Trees) → trees_parts (sited_trees f ts) ≡ map (numbered f) (trees_offsets ts)
   trees-numbered f None = refl
-  trees-numbered f (More t ts) = both (numbered f) (parts (sited f t)) (trees_parts (sited_trees f ts)) (offsets t) (trees_offsets ts) (parts-numbered f t) (trees-numbered f ts)
+  trees-numbered f (More t ts) = both (numbered f) (parts (sited f t)) (trees_parts (sited_trees f ts)) (offsets t) (trees_offsets ts) (parts-numbered f t)
+      (trees-numbered f ts)
 
 equations-numbered : (f : ℕ → ℕ) (qs : List EquationTree) → equation_parts (map (sited_equation f) qs) ≡ map (numbered f) (equation_offsets qs)
 equations-numbered f [] = refl
 equations-numbered f (q ∷ qs) =
-    both (numbered f) (parts (sited f q.right)) (equation_parts (map (sited_equation f) qs)) (offsets q.right) (equation_offsets qs) (parts-numbered f q.right) (equations-numbered f qs)
+    both (numbered f) (parts (sited f q.right)) (equation_parts (map (sited_equation f) qs)) (offsets q.right) (equation_offsets qs) (parts-numbered f q.right)
+    (equations-numbered f qs)
 
 assertions-numbered : (f : ℕ → ℕ) (more : List AssertionTree) → assertion_parts (map (sited_assertion f) more) ≡ map (numbered f) (assertion_offsets more)
 assertions-numbered f [] = refl
 assertions-numbered f (a ∷ more) =
     ap (λ l. numbered f a.at ∷ l)
-    (both (numbered f) (parts (sited f a.body)) (assertion_parts (map (sited_assertion f) more)) (offsets a.body) (assertion_offsets more) (parts-numbered f a.body) (assertions-numbered f more))
+    (both (numbered f) (parts (sited f a.body)) (assertion_parts (map (sited_assertion f) more)) (offsets a.body) (assertion_offsets more)
+    (parts-numbered f a.body) (assertions-numbered f more))
 
 node-numbered : (n : NodeTree) → node_parts (with_sites n) ≡ map (numbered (site_at n)) (node_offsets n)
 node-numbered n =
-    both (numbered (site_at n)) (equation_parts (map (sited_equation (site_at n)) n.equations)) (assertion_parts (map (sited_assertion (site_at n)) n.assertions))
+    both (numbered (site_at n)) (equation_parts (map (sited_equation (site_at n)) n.equations))
+    (assertion_parts (map (sited_assertion (site_at n)) n.assertions))
     (equation_offsets n.equations) (assertion_offsets n.assertions) (equations-numbered (site_at n) n.equations) (assertions-numbered (site_at n) n.assertions)
 
 -- ---- The `pre` and `current` among them.
@@ -119,7 +128,8 @@ site_had d = d.site
 abbrev site_given : (ℕ → ℕ) → ℕ → Option ℕ
 site_given f at = Some (f at)
 
-both-given : (f : ℕ → ℕ) (ds es : List Delay) (xs ys : List ℕ) → map site_had ds ≡ map (site_given f) xs → map site_had es ≡ map (site_given f) ys → map site_had (ds ++ es) ≡ map (site_given f) (xs ++ ys)
+both-given : (f : ℕ → ℕ) (ds es : List Delay) (xs ys : List ℕ) → map site_had ds ≡ map (site_given f) xs → map site_had es ≡ map (site_given f) ys
+    → map site_had (ds ++ es) ≡ map (site_given f) (xs ++ ys)
 both-given f ds es xs ys p q =
     map-append site_had ds es ∙ ap (λ l. l ++ map site_had es) p ∙ ap (λ l. map (site_given f) xs ++ l) q ∙ sym (map-append (site_given f) xs ys)
 
@@ -149,19 +159,24 @@ mutual
   trees-given f None = refl
   trees-given f (More t ts) = both-given f (delays (sited f t)) (delays_of_all (sited_trees f ts)) (delayed t) (trees_delayed ts) (given f t) (trees-given f ts)
 
-equations-given : (f : ℕ → ℕ) (qs : List EquationTree) → map site_had (delays_in_equations (map (sited_equation f) qs)) ≡ map (site_given f) (equations_delayed qs)
+equations-given : (f : ℕ → ℕ) (qs : List EquationTree) → map site_had (delays_in_equations (map (sited_equation f) qs)) ≡ map (site_given f)
+    (equations_delayed qs)
 equations-given f [] = refl
 equations-given f (q ∷ qs) =
-    both-given f (delays (sited f q.right)) (delays_in_equations (map (sited_equation f) qs)) (delayed q.right) (equations_delayed qs) (given f q.right) (equations-given f qs)
+    both-given f (delays (sited f q.right)) (delays_in_equations (map (sited_equation f) qs)) (delayed q.right) (equations_delayed qs) (given f q.right)
+    (equations-given f qs)
 
-assertions-given : (f : ℕ → ℕ) (more : List AssertionTree) → map site_had (delays_in_assertions (map (sited_assertion f) more)) ≡ map (site_given f) (assertions_delayed more)
+assertions-given : (f : ℕ → ℕ) (more : List AssertionTree) → map site_had (delays_in_assertions (map (sited_assertion f) more)) ≡ map (site_given f)
+    (assertions_delayed more)
 assertions-given f [] = refl
 assertions-given f (a ∷ more) =
-    both-given f (delays (sited f a.body)) (delays_in_assertions (map (sited_assertion f) more)) (delayed a.body) (assertions_delayed more) (given f a.body) (assertions-given f more)
+    both-given f (delays (sited f a.body)) (delays_in_assertions (map (sited_assertion f) more)) (delayed a.body) (assertions_delayed more) (given f a.body)
+    (assertions-given f more)
 
 node-given : (n : NodeTree) → map site_had (node_delays (with_sites n)) ≡ map (site_given (site_at n)) (node_delayed n)
 node-given n =
-    both-given (site_at n) (delays_in_equations (map (sited_equation (site_at n)) n.equations)) (delays_in_assertions (map (sited_assertion (site_at n)) n.assertions))
+    both-given (site_at n) (delays_in_equations (map (sited_equation (site_at n)) n.equations))
+    (delays_in_assertions (map (sited_assertion (site_at n)) n.assertions))
     (equations_delayed n.equations) (assertions_delayed n.assertions) (equations-given (site_at n) n.equations) (assertions-given (site_at n) n.assertions)
 
 -- they are some of all
@@ -186,8 +201,10 @@ module _ (f : ℕ → ℕ) where
     form-fewer at (Pre t) = omega (arith, fewer t)
     form-fewer at (Current t) = omega (arith, fewer t)
     form-fewer at (When t c) = fewer t
-    form-fewer at (Binary o a b) = fewer-both (delayed a) (delayed b) (offsets a) (compared o at ++ offsets b) (fewer a) (fewer-with (delayed b) (compared o at) (offsets b) (fewer b))
-    form-fewer at (If a b c) = fewer-both (delayed a) (delayed b ++ delayed c) (offsets a) (offsets b ++ offsets c) (fewer a) (fewer-both (delayed b) (delayed c) (offsets b) (offsets c) (fewer b) (fewer c))
+    form-fewer at (Binary o a b) = fewer-both (delayed a) (delayed b) (offsets a) (compared o at ++ offsets b) (fewer a)
+        (fewer-with (delayed b) (compared o at) (offsets b) (fewer b))
+    form-fewer at (If a b c) = fewer-both (delayed a) (delayed b ++ delayed c) (offsets a) (offsets b ++ offsets c) (fewer a)
+        (fewer-both (delayed b) (delayed c) (offsets b) (offsets c) (fewer b) (fewer c))
     form-fewer at (AtMostOne ts) = trees-fewer ts
     form-fewer at (Call g ts) = omega (arith, trees-fewer ts)
 
@@ -208,7 +225,8 @@ module _ (f : ℕ → ℕ) where
 
   node-fewer : (n : NodeTree) → all_of f (node_delayed n) ≤ all_of f (node_offsets n)
   node-fewer n =
-      fewer-both (equations_delayed n.equations) (assertions_delayed n.assertions) (equation_offsets n.equations) (assertion_offsets n.assertions) (equations-fewer n.equations) (assertions-fewer n.assertions)
+      fewer-both (equations_delayed n.equations) (assertions_delayed n.assertions) (equation_offsets n.equations) (assertion_offsets n.assertions)
+      (equations-fewer n.equations) (assertions-fewer n.assertions)
 
 -- ---- Offsets, and how many are less.
 less-step : (x y z : ℕ) → x < y → cond (ltb z x) 1 0 + alone x z ≤ cond (ltb z y) 1 0
@@ -244,7 +262,8 @@ alone-twice (x ∷ xs) zero (suc j) d less lt same =
 alone-twice (x ∷ xs) (suc i) (suc j) d less lt same = omega (arith, alone-twice xs i j d (omega arith) (omega arith) same)
 
 -- two that are there have the same number only where they are the same
-same-offset : (first : ℕ) (xs : List ℕ) (x y : ℕ) → 1 ≤ all_of (alone x) xs → 1 ≤ all_of (alone y) xs → numbered_from first xs x ≡ numbered_from first xs y → x ≡ y
+same-offset : (first : ℕ) (xs : List ℕ) (x y : ℕ) → 1 ≤ all_of (alone x) xs → 1 ≤ all_of (alone y) xs → numbered_from first xs x ≡ numbered_from first xs y
+    → x ≡ y
 same-offset first xs x y p q same = equal (cases_order x y)
   where
     equal : (x ≡ y) ⊎ ((x < y) ⊎ (y < x)) → x ≡ y
@@ -269,13 +288,15 @@ module _ (m : NodeTree) (once : (x : ℕ) → all_of (alone x) (node_offsets m) 
   length-parts : length (node_parts (with_sites m)) ≡ length (node_offsets m)
   length-parts = ap length (node-numbered m) ∙ length-map (node_offsets m) (numbered (site_at m))
 
-  next-site : (p : SitedPart) → Contains (node_parts (with_sites m)) p → (s : ℕ) × (p.site ≡ Some s) × (length (flows m) ≤ s) × (s < length (flows m) + length (node_parts (with_sites m)))
+  next-site : (p : SitedPart) → Contains (node_parts (with_sites m)) p
+      → (s : ℕ) × (p.site ≡ Some s) × (length (flows m) ≤ s) × (s < length (flows m) + length (node_parts (with_sites m)))
   next-site p h =
       let from = part-from p h in
       let most : earlier from.0 (node_offsets m) + all_of (alone from.0) (node_offsets m) ≤ length (node_offsets m) = earlier-most from.0 (node_offsets m) in
       (site_at m from.0, ap (λ (q : SitedPart). q.site) (sym from.2), omega arith, omega (arith, length-parts, most, from.1))
 
-  rising-sites : (p q : SitedPart) (s t : ℕ) → Contains (node_parts (with_sites m)) p → Contains (node_parts (with_sites m)) q → p.at < q.at → p.site ≡ Some s → q.site ≡ Some t → s < t
+  rising-sites : (p q : SitedPart) (s t : ℕ) → Contains (node_parts (with_sites m)) p → Contains (node_parts (with_sites m)) q → p.at < q.at → p.site ≡ Some s
+      → q.site ≡ Some t → s < t
   rising-sites p q s t hp hq less sp sq =
       let one = part-from p hp in
       let two = part-from q hq in
@@ -286,21 +307,26 @@ module _ (m : NodeTree) (once : (x : ℕ) → all_of (alone x) (node_offsets m) 
       let some_two : Some (site_at m two.0) ≡ Some t = ap (λ (r : SitedPart). r.site) two.2 ∙ sq in
       let is_one : site_at m one.0 ≡ s = cc in
       let is_two : site_at m two.0 ≡ t = cc in
-      let step : earlier one.0 (node_offsets m) + all_of (alone one.0) (node_offsets m) ≤ earlier two.0 (node_offsets m) = earlier-less one.0 two.0 (node_offsets m) lt in
+      let step : earlier one.0 (node_offsets m) + all_of (alone one.0) (node_offsets m) ≤ earlier two.0 (node_offsets m) = earlier-less one.0 two.0
+      (node_offsets m) lt in
       omega (arith, is_one, is_two, step, one.1)
 
-  part-site : (i : ℕ) (p : SitedPart) → i < length (node_offsets m) → (get_or (node_parts (with_sites m)) i p).site ≡ Some (site_at m (get_or (node_offsets m) i 0))
+  part-site : (i : ℕ) (p : SitedPart) → i < length (node_offsets m) → (get_or (node_parts (with_sites m)) i p).site ≡ Some
+      (site_at m (get_or (node_offsets m) i 0))
   part-site i p lt =
-      ap (λ (l : List SitedPart). (get_or l i p).site) (node-numbered m) ∙ ap (λ (r : SitedPart). r.site) (get-map (numbered (site_at m)) (node_offsets m) i 0 p lt)
+      ap (λ (l : List SitedPart). (get_or l i p).site) (node-numbered m)
+      ∙ ap (λ (r : SitedPart). r.site) (get-map (numbered (site_at m)) (node_offsets m) i 0 p lt)
 
-  apart-sites : (i j : ℕ) (p : SitedPart) → i < j → j < length (node_parts (with_sites m)) → (get_or (node_parts (with_sites m)) i p).site ≡ (get_or (node_parts (with_sites m)) j p).site → ⊥
+  apart-sites : (i j : ℕ) (p : SitedPart) → i < j → j < length (node_parts (with_sites m))
+      → (get_or (node_parts (with_sites m)) i p).site ≡ (get_or (node_parts (with_sites m)) j p).site → ⊥
   apart-sites i j p less lt same =
       let xs : List ℕ = node_offsets m in
       let lt_j : j < length xs = omega (arith, length-parts) in
       let lt_i : i < length xs = omega arith in
       let there : Some (site_at m (get_or xs i 0)) ≡ Some (site_at m (get_or xs j 0)) = sym (part-site i p lt_i) ∙ same ∙ part-site j p lt_j in
       let numbers : site_at m (get_or xs i 0) ≡ site_at m (get_or xs j 0) = cc in
-      let is : get_or xs i 0 ≡ get_or xs j 0 = same-offset (length (flows m)) xs (get_or xs i 0) (get_or xs j 0) (alone-at xs i 0 lt_i) (alone-at xs j 0 lt_j) numbers in
+      let is : get_or xs i 0 ≡ get_or xs j 0 = same-offset (length (flows m)) xs (get_or xs i 0) (get_or xs j 0) (alone-at xs i 0 lt_i)
+      (alone-at xs j 0 lt_j) numbers in
       omega (arith, alone-twice xs i j 0 less lt_j is, once (get_or xs j 0))
 
   -- the same of each `pre` and `current`
@@ -316,7 +342,8 @@ module _ (m : NodeTree) (once : (x : ℕ) → all_of (alone x) (node_offsets m) 
       ∙ ap (λ l. get_or l h.0 d.site) (node-given m)
       ∙ get-map (site_given (site_at m)) (node_delayed m) h.0 0 d.site lt
 
-  one-place : (i j : ℕ) → i < length (node_delayed m) → j < length (node_delayed m) → site_at m (get_or (node_delayed m) i 0) ≡ site_at m (get_or (node_delayed m) j 0) → i ≡ j
+  one-place : (i j : ℕ) → i < length (node_delayed m) → j < length (node_delayed m)
+      → site_at m (get_or (node_delayed m) i 0) ≡ site_at m (get_or (node_delayed m) j 0) → i ≡ j
   one-place i j lt_i lt_j numbers = equal (cases_order i j)
     where
       is : get_or (node_delayed m) i 0 ≡ get_or (node_delayed m) j 0
@@ -324,7 +351,8 @@ module _ (m : NodeTree) (once : (x : ℕ) → all_of (alone x) (node_offsets m) 
           let x : ℕ = get_or (node_delayed m) i 0 in
           let y : ℕ = get_or (node_delayed m) j 0 in
           same-offset (length (flows m)) (node_offsets m) x y
-          (omega (arith, alone-at (node_delayed m) i 0 lt_i, node-fewer (alone x) m)) (omega (arith, alone-at (node_delayed m) j 0 lt_j, node-fewer (alone y) m)) numbers
+          (omega (arith, alone-at (node_delayed m) i 0 lt_i, node-fewer (alone x) m))
+          (omega (arith, alone-at (node_delayed m) j 0 lt_j, node-fewer (alone y) m)) numbers
 
       equal : (i ≡ j) ⊎ ((i < j) ⊎ (j < i)) → i ≡ j
       equal (inl e) = e
@@ -337,7 +365,8 @@ module _ (m : NodeTree) (once : (x : ℕ) → all_of (alone x) (node_offsets m) 
 
   own-site : (d e : Delay) → Contains (node_delays (with_sites m)) d → Contains (node_delays (with_sites m)) e → d.site ≡ e.site → d ≡ e
   own-site d e h g same =
-      let there : Some (site_at m (get_or (node_delayed m) h.0 0)) ≡ Some (site_at m (get_or (node_delayed m) g.0 0)) = sym (delay-site d h) ∙ same ∙ delay-site e g in
+      let there : Some (site_at m (get_or (node_delayed m) h.0 0)) ≡ Some (site_at m (get_or (node_delayed m) g.0 0)) = sym (delay-site d h) ∙ same
+      ∙ delay-site e g in
       let numbers : site_at m (get_or (node_delayed m) h.0 0) ≡ site_at m (get_or (node_delayed m) g.0 0) = cc in
       let place : h.0 ≡ g.0 = one-place h.0 g.0 (omega (arith, length-delays, h.1)) (omega (arith, length-delays, g.1)) numbers in
       sym h.2 ∙ get_or_default (node_delays (with_sites m)) h.0 d e h.1 ∙ ap (λ i. get_or (node_delays (with_sites m)) i e) place ∙ g.2

@@ -111,7 +111,8 @@ case text (fault.LeftOut at) h = AtToken LeftOut at refl h
 case text (fault.BadText at) h = bad-case text at h
 case text (fault.TooDeep at) h = AtToken Deep at refl h
 
-one-place : (text : List ℕ) (at up : ℕ) (k l : Kind) (o : Offends text at (Why k)) (p : Offends text up (Why l)) → Place o.front o.token p.front p.token → fault_of k at ≡ fault_of l up
+one-place : (text : List ℕ) (at up : ℕ) (k l : Kind) (o : Offends text at (Why k)) (p : Offends text up (Why l)) → Place o.front o.token p.front p.token
+    → fault_of k at ≡ fault_of l up
 one-place text at up k l o p (Same e d) =
     let here : Why l o.front o.token = subst (λ t. Why l o.front t) (sym d) (subst (λ z. Why l z p.token) (sym e) p.why) in
     ap (λ n. fault_of k n) (sym o.place ∙ ap (λ (t : Token). t.at) d ∙ p.place) ∙ ap (λ z. fault_of z up) (one-kind k l o.front o.token o.why here)

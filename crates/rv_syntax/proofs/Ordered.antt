@@ -1,5 +1,6 @@
 -- The constants of a text stand in the order of their offsets: tokens do, and each constant has that of its name's token.
-use Rattle.std.proofs.Common.{◌≡◌, ℕ, zero, suc, ◌+◌, ◌-◌, ◌<◌, ◌≤◌, Bool, false, List, [], ◌∷◌, ◌++◌, length, take, get_or, refl, sym, ap, ◌∙◌, subst, inl, inr, arith}
+use Rattle.std.proofs.Common.{◌≡◌, ℕ, zero, suc, ◌+◌, ◌-◌, ◌<◌, ◌≤◌, Bool, false, List, [], ◌∷◌, ◌++◌, length, take, get_or, refl, sym, ap, ◌∙◌, subst, inl}
+use Rattle.std.proofs.Common.{inr, arith}
 use Rattle.std.specs.Prelude.{Option, Some, None}
 use Rattle.std.specs.List.{All}
 use Rattle.rv_syntax.specs.declared.token.Mark.TheVariants as mark
@@ -62,9 +63,11 @@ emitted-rising (Some k) at to ts h = (omega arith, h)
 lex-rising : (skip : ℕ) (tel : Bool) (at to : ℕ) (bs : List ℕ) → at + length bs ≤ to → Rising token_at at (lex skip tel at bs) to
 unfolding lex
 lex-rising skip tel at to [] le = omega arith
-lex-rising (suc skip) tel at to (b ∷ bs) le = rising-lower token_at at (at + 1) to (lex skip tel (at + 1) bs) (omega arith) (lex-rising skip tel (at + 1) to bs (omega arith))
+lex-rising (suc skip) tel at to (b ∷ bs) le = rising-lower token_at at (at + 1) to (lex skip tel (at + 1) bs) (omega arith)
+    (lex-rising skip tel (at + 1) to bs (omega arith))
 lex-rising zero tel at to (b ∷ bs) le =
-    emitted-rising (kind_of tel (cut (b ∷ bs)).0 (take (cut (b ∷ bs)).1 (b ∷ bs))) at to (lex ((cut (b ∷ bs)).1 - 1) (ends_in_tel tel (cut (b ∷ bs)).0) (at + 1) bs)
+    emitted-rising (kind_of tel (cut (b ∷ bs)).0 (take (cut (b ∷ bs)).1 (b ∷ bs))) at to
+    (lex ((cut (b ∷ bs)).1 - 1) (ends_in_tel tel (cut (b ∷ bs)).0) (at + 1) bs)
     (lex-rising ((cut (b ∷ bs)).1 - 1) (ends_in_tel tel (cut (b ∷ bs)).0) (at + 1) to bs (omega arith))
 
 tokens-rising : (bytes : List ℕ) → Rising token_at 0 (tokens bytes) (length bytes)
@@ -102,7 +105,8 @@ orders-constants cs ts h from to rising =
     subst (λ l. Rising constant_at from l to) (sym many.5.1)
     (rising-both constant_at from parts.0 to (one.0 ∷ []) many.0
     (orders-constant one.0 one.1 one.4 from parts.0 parts.1)
-    (rising-upper constant_at parts.0 later.0 to many.0 (rising-some token_at later.0 to many.2 later.2) (orders-each many.0 many.1 many.4 parts.0 later.0 later.1)))
+    (rising-upper constant_at parts.0 later.0 to many.0 (rising-some token_at later.0 to many.2 later.2)
+    (orders-each many.0 many.1 many.4 parts.0 later.0 later.1)))
 
 abbrev constants_in : Section → List ConstantTree
 constants_in (Types ds) = []
@@ -115,7 +119,8 @@ orders-section s ts (inr (inl h)) from to rising =
     let parts = rising-parts token_at from to h.1 h.2 (subst (λ l. Rising token_at from l to) h.3 rising) in
     subst (λ l. Rising constant_at from l to) (sym (ap constants_in h.5.1))
     (rising-upper constant_at from parts.0 to h.0 (rising-some token_at parts.0 to h.2 parts.2) (orders-constants h.0 h.1 h.4 from parts.0 parts.1))
-orders-section s ts (inr (inr h)) from to rising = subst (λ l. Rising constant_at from l to) (sym (ap constants_in h.5.1)) (rising-some token_at from to ts rising)
+orders-section s ts (inr (inr h)) from to rising = subst (λ l. Rising constant_at from l to) (sym (ap constants_in h.5.1))
+    (rising-some token_at from to ts rising)
 
 constants-more : (s : Section) (more : List Section) → constants_of (s ∷ more) ≡ constants_in s ++ constants_of more
 constants-more (Types ds) more = refl
@@ -135,7 +140,8 @@ orders-program : Orders IsProgram (λ p. p.constants)
 orders-program p ts h from to rising =
     let parts = rising-parts token_at from to h.1 h.2 (subst (λ l. Rising token_at from l to) h.3 rising) in
     subst (λ l. Rising constant_at from l to) (sym (ap (λ (q : ProgramTree). q.constants) h.5.1))
-    (rising-upper constant_at from parts.0 to (constants_of h.0) (rising-some token_at parts.0 to h.2 parts.2) (orders-sections h.0 h.1 h.4 from parts.0 parts.1))
+    (rising-upper constant_at from parts.0 to (constants_of h.0) (rising-some token_at parts.0 to h.2 parts.2)
+    (orders-sections h.0 h.1 h.4 from parts.0 parts.1))
 
 -- ---- The tree of a text.
 rising-constants : (t : ProgramTree) (h : IsTreeOfText t) → Rising constant_at 0 t.constants (length h.0)
@@ -146,15 +152,18 @@ rising-constants t h =
 -- what stands before a constant, and what stands after it
 sides : (t : ProgramTree) (front back : List ConstantTree) (c : ConstantTree) (h : IsTreeOfText t) → t.constants ≡ front ++ c ∷ back
     → (mid : ℕ) × Rising constant_at 0 front mid × Rising constant_at mid (c ∷ back) (length h.0)
-sides t front back c h is = rising-parts constant_at 0 (length h.0) front (c ∷ back) (subst (λ l. Rising constant_at 0 l (length h.0)) is (rising-constants t h))
+sides t front back c h is = rising-parts constant_at 0 (length h.0) front (c ∷ back)
+    (subst (λ l. Rising constant_at 0 l (length h.0)) is (rising-constants t h))
 
-pub constants-before : (t : ProgramTree) (front back : List ConstantTree) (c : ConstantTree) → IsTreeOfText t → t.constants ≡ front ++ c ∷ back → All (λ d. d.name.at < c.name.at) front
+pub constants-before : (t : ProgramTree) (front back : List ConstantTree) (c : ConstantTree) → IsTreeOfText t → t.constants ≡ front ++ c ∷ back
+    → All (λ d. d.name.at < c.name.at) front
 constants-before t front back c h is i d lt =
     let both = sides t front back c h is in
     let less : (get_or front i d).name.at < both.0 = all-below constant_at 0 both.0 front both.1 i d lt in
     omega (arith, less, both.2.0)
 
-pub constants-after : (t : ProgramTree) (front back : List ConstantTree) (c : ConstantTree) → IsTreeOfText t → t.constants ≡ front ++ c ∷ back → All (λ d. c.name.at < d.name.at) back
+pub constants-after : (t : ProgramTree) (front back : List ConstantTree) (c : ConstantTree) → IsTreeOfText t → t.constants ≡ front ++ c ∷ back
+    → All (λ d. c.name.at < d.name.at) back
 constants-after t front back c h is i d lt =
     let both = sides t front back c h is in
     let more : c.name.at + 1 ≤ (get_or back i d).name.at = all-from constant_at (c.name.at + 1) (length h.0) back both.2.1 i d lt in

@@ -13,12 +13,15 @@ use Rattle.rv_tree.specs.declared.tree.Op.TheVariants as op
 use Rattle.rv_syntax.specs.declared.operator.Prefix.{Prefix}
 use Rattle.rv_syntax.specs.declared.operator.Prefix.TheVariants as prefixed
 use Rattle.rv_tree.specs.declared.tree.Decl.{Decl}
-use Rattle.rv_syntax.specs.Grammar.{Leaf, Yes, No, Count, Called, Callee, Function, Hash, Written, Atom, InBrackets, Before, Between, Gated, If, Given, Front, NoneBefore, Then, fixed, name_token, leaf_token, callee_token, prefix_mark, op_mark, spelling, front_spelling}
+use Rattle.rv_syntax.specs.Grammar.{Leaf, Yes, No, Count, Called, Callee, Function, Hash, Written, Atom, InBrackets, Before, Between, Gated, If, Given, Front}
+use Rattle.rv_syntax.specs.Grammar.{NoneBefore, Then, fixed, name_token, leaf_token, callee_token, prefix_mark, op_mark, spelling, front_spelling}
 use Rattle.rv_syntax.specs.Nesting.{IsExprOf}
 use Rattle.rv_syntax.specs.Rules.{Gives, Word, Only, Marked, Maybe, Part, OneOf, Each}
-use Rattle.rv_syntax.specs.ProgramText.{IsName, IsNames, IsKind, IsEnumeration, IsTypeBody, IsType, IsTypes, IsRight, IsConstant, IsConstants, IsGroup, IsDecls, IsClock, IsLocal, IsVar, IsLefts, IsItem, IsInputs, IsOutputs, IsBody, IsNode, IsSection, IsProgram}
+use Rattle.rv_syntax.specs.ProgramText.{IsName, IsNames, IsKind, IsEnumeration, IsTypeBody, IsType, IsTypes, IsRight, IsConstant, IsConstants, IsGroup, IsDecls}
+use Rattle.rv_syntax.specs.ProgramText.{IsClock, IsLocal, IsVar, IsLefts, IsItem, IsInputs, IsOutputs, IsBody, IsNode, IsSection, IsProgram}
 use Rattle.rv_syntax.specs.Faults as fault
-use Rattle.rv_syntax.specs.Faults.{IsDead, kind_is, is_name, is_when, is_open, is_close, is_not, is_node, headed, still_headed, nothing_before, one_later, looked_back, kind_left_out, negates_clock, calls_clock, has_no_inputs, clocks_port, is_left_out}
+use Rattle.rv_syntax.specs.Faults.{IsDead, kind_is, is_name, is_when, is_open, is_close, is_not, is_node, headed, still_headed, nothing_before, one_later}
+use Rattle.rv_syntax.specs.Faults.{looked_back, kind_left_out, negates_clock, calls_clock, has_no_inputs, clocks_port, is_left_out}
 
 -- ---- What follows a `when` and the word `node`.
 abbrev Unopened : List Token → Type 0
@@ -178,32 +181,43 @@ Ready ts = (us : List Token) → Placed us → Unopened us → Placed (ts ++ us)
 mutual
   ready : (w : Written) → Ready (spelling w)
   ready (Atom l at) us h n = (eased (leaf_token l at) us (eases-leaf l at), h)
-  ready (InBrackets a w b) us h n =
-      (eased (fixed mark.Open a) _ (refl, refl, refl), subst Placed (sym (append_assoc (spelling w) (fixed mark.Close b ∷ []) us)) (ready w (fixed mark.Close b ∷ us) (eased (fixed mark.Close b) us (refl, refl, refl), h) refl))
+  ready (InBrackets a w b) us h n = (
+    eased (fixed mark.Open a) _ (refl, refl, refl),
+    subst Placed (sym (append_assoc (spelling w) (fixed mark.Close b ∷ []) us))
+        (ready w (fixed mark.Close b ∷ us) (eased (fixed mark.Close b) us (refl, refl, refl), h) refl),
+  )
   ready (Before p at w) us h n = (eased (fixed (prefix_mark p) at) (spelling w ++ us) (eases-prefix p at), ready w us h n)
   ready (Between o at a b) us h n =
       subst Placed (sym (append_assoc (spelling a) (fixed (op_mark o) at ∷ spelling b) us))
-      (ready a (fixed (op_mark o) at ∷ (spelling b ++ us)) (eased (fixed (op_mark o) at) (spelling b ++ us) (eases-op o at), ready b us h n) (op-unopened o at (spelling b ++ us)))
+      (ready a (fixed (op_mark o) at ∷ (spelling b ++ us)) (eased (fixed (op_mark o) at) (spelling b ++ us) (eases-op o at), ready b us h n)
+      (op-unopened o at (spelling b ++ us)))
   ready (Gated w at x) us h n =
       let gate : Fits (fixed mark.When at) (name_token x ∷ us) = record { known = refl; clock = λ e. (refl, n); inputs = λ e. cc; header = λ e. cc } in
       subst Placed (sym (append_assoc (spelling w) (fixed mark.When at ∷ name_token x ∷ []) us))
       (ready w (fixed mark.When at ∷ name_token x ∷ us) (gate, (eased (name_token x) us (refl, refl, refl), h)) refl)
   ready (If i a t b e c) us h n =
       let third : Placed (fixed mark.Else e ∷ (spelling c ++ us)) = (eased (fixed mark.Else e) (spelling c ++ us) (refl, refl, refl), ready c us h n) in
-      let second : Placed ((spelling b ++ fixed mark.Else e ∷ spelling c) ++ us) = subst Placed (sym (append_assoc (spelling b) (fixed mark.Else e ∷ spelling c) us)) (ready b (fixed mark.Else e ∷ (spelling c ++ us)) third refl) in
-      let rest = spelling b ++ fixed mark.Else e ∷ spelling c in
-      (eased (fixed mark.If i) _ (refl, refl, refl), subst Placed (sym (append_assoc (spelling a) (fixed mark.Then t ∷ rest) us)) (ready a (fixed mark.Then t ∷ (rest ++ us)) (eased (fixed mark.Then t) (rest ++ us) (refl, refl, refl), second) refl))
+      let second : Placed ((spelling b ++ fixed mark.Else e ∷ spelling c) ++ us) = subst Placed
+      (sym (append_assoc (spelling b) (fixed mark.Else e ∷ spelling c) us)) (ready b (fixed mark.Else e ∷ (spelling c ++ us)) third refl) in
+      let rest = spelling b ++ fixed mark.Else e ∷ spelling c in (
+        eased (fixed mark.If i) _ (refl, refl, refl),
+        subst Placed (sym (append_assoc (spelling a) (fixed mark.Then t ∷ rest) us))
+            (ready a (fixed mark.Then t ∷ (rest ++ us)) (eased (fixed mark.Then t) (rest ++ us) (refl, refl, refl), second) refl),
+      )
   ready (Given f a front w b) us h n =
-      let closed : Placed ((spelling w ++ fixed mark.Close b ∷ []) ++ us) = subst Placed (sym (append_assoc (spelling w) (fixed mark.Close b ∷ []) us)) (ready w (fixed mark.Close b ∷ us) (eased (fixed mark.Close b) us (refl, refl, refl), h) refl) in
+      let closed : Placed ((spelling w ++ fixed mark.Close b ∷ []) ++ us) = subst Placed (sym (append_assoc (spelling w) (fixed mark.Close b ∷ []) us))
+      (ready w (fixed mark.Close b ∷ us) (eased (fixed mark.Close b) us (refl, refl, refl), h) refl) in
       let rest = spelling w ++ fixed mark.Close b ∷ [] in
-      let inner : Placed ((front_spelling front ++ rest) ++ us) = subst Placed (sym (append_assoc (front_spelling front) rest us)) (ready-front front (rest ++ us) closed) in
+      let inner : Placed ((front_spelling front ++ rest) ++ us) = subst Placed (sym (append_assoc (front_spelling front) rest us))
+      (ready-front front (rest ++ us) closed) in
       (eased (callee_token f) _ (eases-callee f), (eased (fixed mark.Open a) _ (refl, refl, refl), inner))
 
   ready-front : (front : Front) (us : List Token) → Placed us → Placed (front_spelling front ++ us)
   ready-front NoneBefore us h = h
   ready-front (Then front w at) us h =
       let rest = spelling w ++ fixed mark.Comma at ∷ [] in
-      let last : Placed (rest ++ us) = subst Placed (sym (append_assoc (spelling w) (fixed mark.Comma at ∷ []) us)) (ready w (fixed mark.Comma at ∷ us) (eased (fixed mark.Comma at) us (refl, refl, refl), h) refl) in
+      let last : Placed (rest ++ us) = subst Placed (sym (append_assoc (spelling w) (fixed mark.Comma at ∷ []) us))
+      (ready w (fixed mark.Comma at ∷ us) (eased (fixed mark.Comma at) us (refl, refl, refl), h) refl) in
       subst Placed (sym (append_assoc (front_spelling front) rest us)) (ready-front front (rest ++ us) last)
 
 -- ---- What holds of all that a rule spells, where it holds of what is put together.
@@ -374,7 +388,8 @@ placed-types = says mark.Type refl (joins placed-type (λ d. joins (repeats plac
 abbrev AllReady : {A : Type 0} → (A → List Token → Type 0) → Type 0
 AllReady {A = A} K = (a : A) (w : List Token) → K a w → Ready w
 
-before : {A B : Type 0} {K : A → List Token → Type 0} {M : A → B → List Token → Type 0} → AllReady K → ((a : A) → All Placed (M a)) → ((a : A) → All Unopened (M a)) → All Placed (Part K M)
+before : {A B : Type 0} {K : A → List Token → Type 0} {M : A → B → List Token → Type 0} → AllReady K → ((a : A) → All Placed (M a))
+    → ((a : A) → All Unopened (M a)) → All Placed (Part K M)
 before f g n b w h = subst Placed (sym h.3) (f h.0 h.1 h.4 h.2 (g h.0 b h.2 h.5) (n h.0 b h.2 h.5))
 
 semi-first : {B : Type 0} (L : B → List Token → Type 0) → All Unopened (Word mark.Semi L)
@@ -407,7 +422,8 @@ placed-local = either Placed placed
     (says mark.Open refl (joins placed-group (λ g. says mark.Close refl (before ready-clock (λ c. says mark.Semi refl (ends _)) (λ c. semi-first _)))))
 
 placed-var : All Placed IsVar
-placed-var = word Placed placed mark.Var (λ at. one-placed (fixed mark.Var at) (refl, refl, refl)) (joins placed-local (λ ds. joins (repeats placed-local) (λ more. ends _)))
+placed-var = word Placed placed mark.Var (λ at. one-placed (fixed mark.Var at) (refl, refl, refl))
+    (joins placed-local (λ ds. joins (repeats placed-local) (λ more. ends _)))
 
 placed-lefts : All Placed IsLefts
 placed-lefts = either Placed placed placed-names (says mark.Open refl (joins placed-names (λ xs. says mark.Close refl (ends _))))
@@ -456,12 +472,15 @@ placed-node n w h =
     let outs_heads : Heads ins.2 = subst Heads (sym outs.3) (calm-heads outs.1 outs.2 (calm-outputs outs.0 outs.1 outs.4) vars_heads) in
     let ins_heads : Heads h.2 = subst Heads (sym ins.3) (calm-heads ins.1 ins.2 (calm-inputs ins.0 ins.1 ins.4) outs_heads) in
     let after : AfterName h.2 = subst AfterName (sym ins.3) (name-more ins.1 ins.2 (after-name ins.0 ins.1 ins.4)) in
-    let rest : Placed h.2 = joins placed-inputs (λ is. joins placed-outputs (λ os. joins (repeats placed-var) (λ vs. joins placed-body (λ bs. ends _)))) n h.2 ins in
-    let first : Fits (fixed mark.Node h.4.0) (name_token h.0 ∷ h.2) = record { known = refl; clock = λ e. cc; inputs = λ e. after; header = λ e. inr (refl, ins_heads) } in
+    let rest : Placed h.2 = joins placed-inputs (λ is. joins placed-outputs (λ os. joins (repeats placed-var) (λ vs. joins placed-body (λ bs. ends _)))) n h.2
+    ins in
+    let first : Fits (fixed mark.Node h.4.0) (name_token h.0 ∷ h.2) = record
+    { known = refl; clock = λ e. cc; inputs = λ e. after; header = λ e. inr (refl, ins_heads) } in
     subst Placed (sym (h.3 ∙ ap (λ z. z ++ h.2) title)) (first, (eased (name_token h.0) h.2 (refl, refl, refl), rest))
 
 placed-section : All Placed IsSection
-placed-section = either Placed placed (joins placed-types (λ ds. ends _)) (either Placed placed (joins placed-constants (λ cs. ends _)) (joins placed-node (λ n. ends _)))
+placed-section = either Placed placed (joins placed-types (λ ds. ends _))
+    (either Placed placed (joins placed-constants (λ cs. ends _)) (joins placed-node (λ n. ends _)))
 
 placed-program : All Placed IsProgram
 placed-program = joins (repeats placed-section) (λ ss. ends _)
@@ -493,7 +512,8 @@ heads-rest : (t : Token) (ts : List Token) → kind_is ends_header t.kind ≡ fa
 heads-rest t ts e (inl h) = absurd (both-ways (kind_is ends_header t.kind) h e)
 heads-rest t ts e (inr h) = h.1
 
-header-later : (b : fault.Before) (t : Token) (ts : List Token) → Asks b (t ∷ ts) → Fits t ts → (kind_is is_node t.kind ≡ true) ⊎ ((b.in_header ≡ true) × (kind_is ends_header t.kind ≡ false)) → Heads ts
+header-later : (b : fault.Before) (t : Token) (ts : List Token) → Asks b (t ∷ ts) → Fits t ts
+    → (kind_is is_node t.kind ≡ true) ⊎ ((b.in_header ≡ true) × (kind_is ends_header t.kind ≡ false)) → Heads ts
 header-later b t ts a f (inl e) = f.header e
 header-later b t ts a f (inr e) = heads-rest t ts e.1 (a.header e.0)
 
@@ -559,7 +579,8 @@ stays-in b t ts a f =
     (fourth-false b.in_header (kind_is fault.is_colon b.second) (fault.is_type b.last) (kind_is is_when t.kind) (λ e. no-when t ts (a.header e)))
 
 stay-in : (b : fault.Before) (front : List Token) (t : Token) (more : List Token) → Asks b (front ++ t ∷ more) → Placed (front ++ t ∷ more)
-    → (let c = looked_back b front in kind_left_out t.kind || negates_clock c t.kind || calls_clock c t.kind || has_no_inputs c t.kind || clocks_port c t.kind) ≡ false
+    → (let c = looked_back b front in kind_left_out t.kind || negates_clock c t.kind || calls_clock c t.kind || has_no_inputs c t.kind || clocks_port c t.kind)
+    ≡ false
 stay-in b [] t more a p = stays-in b t more a p.0
 stay-in b (x ∷ front) t more a p = stay-in (one_later b x) front t more (asks-later b x (front ++ t ∷ more) a p.0) p.1
 

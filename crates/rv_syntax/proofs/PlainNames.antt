@@ -14,7 +14,9 @@ use Rattle.rv_tree.specs.Tree.{NodeTree, ProgramTree}
 use Rattle.rv_tree.specs.Words.{is_name, HasPlainNames}
 use Rattle.rv_syntax.specs.declared.token.Mark.TheVariants as mark
 use Rattle.rv_syntax.specs.Lexing.{tokens}
-use Rattle.rv_syntax.specs.ProgramText.{IsBody, IsConstants, IsDecls, IsEnumeration, IsGroup, IsInputs, IsKind, IsName, IsNames, IsNode, IsOutputs, IsProgram, IsSection, IsTextOf, IsTitle, IsType, IsTypeBody, IsTypes, IsVar, Section, Types, Constants, OneNode, all_flows, node_of, nodes_of, program_of, type_of, types_of}
+use Rattle.rv_syntax.specs.ProgramText.{IsBody, IsConstants, IsDecls, IsEnumeration, IsGroup, IsInputs, IsKind, IsName, IsNames, IsNode, IsOutputs, IsProgram}
+use Rattle.rv_syntax.specs.ProgramText.{IsSection, IsTextOf, IsTitle, IsType, IsTypeBody, IsTypes, IsVar, Section, Types, Constants, OneNode, all_flows}
+use Rattle.rv_syntax.specs.ProgramText.{node_of, nodes_of, program_of, type_of, types_of}
 use Rattle.rv_syntax.specs.Rules.{Each, Gives, Maybe, OneOf, Only, Part, Word}
 use Rattle.rv_syntax.proofs.Bounds.{from-map}
 use Rattle.rv_syntax.proofs.FineTokens.{AreFine, Keeps, Every, any, gives, after-word, parts, one-of, each, lex-fine, joined-every, every-of}
@@ -29,7 +31,8 @@ name x ts h f = let g = subst AreFine h f in g.0
 names : Keeps IsNames (Every IsPlainName)
 names =
     parts IsName (λ x. Part (Each (Word mark.Comma IsName)) (λ more. Gives (x ∷ more))) IsPlainName (Every IsPlainName) name
-    (λ x p. parts (Each (Word mark.Comma IsName)) (λ more. Gives (x ∷ more)) (Every IsPlainName) (Every IsPlainName) (each (Word mark.Comma IsName) IsPlainName (after-word mark.Comma IsName IsPlainName name))
+    (λ x p. parts (Each (Word mark.Comma IsName)) (λ more. Gives (x ∷ more)) (Every IsPlainName) (Every IsPlainName)
+    (each (Word mark.Comma IsName) IsPlainName (after-word mark.Comma IsName IsPlainName name))
     (λ more q. gives (x ∷ more) (Every IsPlainName) (p, q)))
 
 -- ---- Types.
@@ -63,7 +66,8 @@ types : Keeps IsTypes (Every IsPlainType)
 types =
     after-word mark.Type (Part IsType (λ d. Part (Each IsType) (λ more. Gives (d ∷ more)))) (Every IsPlainType)
     (parts IsType (λ d. Part (Each IsType) (λ more. Gives (d ∷ more))) IsPlainType (Every IsPlainType) one-type
-    (λ d p. parts (Each IsType) (λ more. Gives (d ∷ more)) (Every IsPlainType) (Every IsPlainType) (each IsType IsPlainType one-type) (λ more q. gives (d ∷ more) (Every IsPlainType) (p, q))))
+    (λ d p. parts (Each IsType) (λ more. Gives (d ∷ more)) (Every IsPlainType) (Every IsPlainType) (each IsType IsPlainType one-type)
+    (λ more q. gives (d ∷ more) (Every IsPlainType) (p, q))))
 
 -- ---- Nodes.
 abbrev pub IsPlainDecl : Decl → Type 0
@@ -88,24 +92,30 @@ group =
 
 decls : Keeps IsDecls (Every IsPlainDecl)
 decls =
-    parts IsGroup (λ g. Part (Each (Word mark.Semi IsGroup)) (λ more. Part (Maybe (Only mark.Semi)) (λ end. Gives (all_flows (g ∷ more))))) IsPlainGroup (Every IsPlainDecl) group
-    (λ g p. parts (Each (Word mark.Semi IsGroup)) (λ more. Part (Maybe (Only mark.Semi)) (λ end. Gives (all_flows (g ∷ more)))) (Every IsPlainGroup) (Every IsPlainDecl) (each (Word mark.Semi IsGroup) IsPlainGroup (after-word mark.Semi IsGroup IsPlainGroup group))
+    parts IsGroup (λ g. Part (Each (Word mark.Semi IsGroup)) (λ more. Part (Maybe (Only mark.Semi)) (λ end. Gives (all_flows (g ∷ more))))) IsPlainGroup
+    (Every IsPlainDecl) group
+    (λ g p. parts (Each (Word mark.Semi IsGroup)) (λ more. Part (Maybe (Only mark.Semi)) (λ end. Gives (all_flows (g ∷ more)))) (Every IsPlainGroup)
+    (Every IsPlainDecl) (each (Word mark.Semi IsGroup) IsPlainGroup (after-word mark.Semi IsGroup IsPlainGroup group))
     (λ more q. parts (Maybe (Only mark.Semi)) (λ end. Gives (all_flows (g ∷ more))) (λ end. ⊤) (Every IsPlainDecl) (any (Maybe (Only mark.Semi)))
     (λ end u. gives (all_flows (g ∷ more)) (Every IsPlainDecl) (all-plain (g ∷ more) (p, q)))))
 
 inputs : Keeps IsInputs (Every IsPlainDecl)
 inputs =
     after-word mark.Open (Part IsDecls (λ ds. Word mark.Close (Gives ds))) (Every IsPlainDecl)
-    (parts IsDecls (λ ds. Word mark.Close (Gives ds)) (Every IsPlainDecl) (Every IsPlainDecl) decls (λ ds p. after-word mark.Close (Gives ds) (Every IsPlainDecl) (gives ds (Every IsPlainDecl) p)))
+    (parts IsDecls (λ ds. Word mark.Close (Gives ds)) (Every IsPlainDecl) (Every IsPlainDecl) decls
+    (λ ds p. after-word mark.Close (Gives ds) (Every IsPlainDecl) (gives ds (Every IsPlainDecl) p)))
 
 abbrev pub IsPlainNode : NodeTree → Type 0
 IsPlainNode n = IsPlainName n.name × Every IsPlainDecl n.inputs
 
 node : Keeps IsNode IsPlainNode
 node =
-    parts IsTitle (λ x. Part IsInputs (λ ins. Part IsOutputs (λ outs. Part (Each IsVar) (λ vars. Part IsBody (λ items. Gives (node_of x ins outs vars items)))))) IsPlainName IsPlainNode (after-word mark.Node IsName IsPlainName name)
-    (λ x p. parts IsInputs (λ ins. Part IsOutputs (λ outs. Part (Each IsVar) (λ vars. Part IsBody (λ items. Gives (node_of x ins outs vars items))))) (Every IsPlainDecl) IsPlainNode inputs
-    (λ ins q. parts IsOutputs (λ outs. Part (Each IsVar) (λ vars. Part IsBody (λ items. Gives (node_of x ins outs vars items)))) (λ outs. ⊤) IsPlainNode (any IsOutputs)
+    parts IsTitle (λ x. Part IsInputs (λ ins. Part IsOutputs (λ outs. Part (Each IsVar)
+    (λ vars. Part IsBody (λ items. Gives (node_of x ins outs vars items)))))) IsPlainName IsPlainNode (after-word mark.Node IsName IsPlainName name)
+    (λ x p. parts IsInputs (λ ins. Part IsOutputs (λ outs. Part (Each IsVar) (λ vars. Part IsBody (λ items. Gives (node_of x ins outs vars items)))))
+    (Every IsPlainDecl) IsPlainNode inputs
+    (λ ins q. parts IsOutputs (λ outs. Part (Each IsVar) (λ vars. Part IsBody (λ items. Gives (node_of x ins outs vars items)))) (λ outs. ⊤) IsPlainNode
+    (any IsOutputs)
     (λ outs u. parts (Each IsVar) (λ vars. Part IsBody (λ items. Gives (node_of x ins outs vars items))) (λ vars. ⊤) IsPlainNode (any (Each IsVar))
     (λ vars v. parts IsBody (λ items. Gives (node_of x ins outs vars items)) (λ items. ⊤) IsPlainNode (any IsBody)
     (λ items w. gives (node_of x ins outs vars items) IsPlainNode (p, q))))))
@@ -155,5 +165,6 @@ plain-text bytes t h =
           subst (λ (m : NodeTree). is_name m.name.text ≡ true) from.2 (every-of IsPlainNode p.nodes from.0 from.1 plain.1).0;
       inputs = λ n d inside at.
           let from = from-map with_sites p.nodes n inside in
-          every-of IsPlainDecl n.inputs d at (subst (λ (m : NodeTree). Every IsPlainDecl m.inputs) from.2 (every-of IsPlainNode p.nodes from.0 from.1 plain.1).1);
+          every-of IsPlainDecl n.inputs d at (subst (λ (m : NodeTree). Every IsPlainDecl m.inputs) from.2
+          (every-of IsPlainNode p.nodes from.0 from.1 plain.1).1);
     }

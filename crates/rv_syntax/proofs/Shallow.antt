@@ -29,7 +29,8 @@ short-end (To st) = omega arith
 short-end (Ends e) = omega arith
 short-end Fails = omega arith
 
-short-going : (m : Move) (t : Token) (ts : List Token) → ((st : State) → length (left (run st ts)) ≤ length ts) → length (left (free.going m (λ q. run q ts) (t ∷ ts))) ≤ length (t ∷ ts)
+short-going : (m : Move) (t : Token) (ts : List Token) → ((st : State) → length (left (run st ts)) ≤ length ts)
+    → length (left (free.going m (λ q. run q ts) (t ∷ ts))) ≤ length (t ∷ ts)
 short-going (To st) t ts again = let h = again st in omega arith
 short-going (Ends e) t ts again = omega arith
 short-going Fails t ts again = omega arith
@@ -44,25 +45,30 @@ abbrev pub Agrees : Counts → List Token → Reading → Limited → Type 0
 Agrees c ts r (Ok x) = (r ≡ Ok x) × ((front : List Token) × (ts ≡ front ++ x.1) × IsWithin c front)
 Agrees c ts r (Err (Offends, rest)) = (r ≡ Err rest) × ((front : List Token) × (ts ≡ front ++ rest) × IsWithin c front)
 Agrees c ts r (Err (TooDeep, rest)) =
-    (front : List Token) × (t : Token) × (after : List Token) × (rest ≡ t ∷ after) × (ts ≡ front ++ t ∷ after) × IsTooDeep c front t × (length (left r) ≤ length after)
+    (front : List Token) × (t : Token) × (after : List Token) × (rest ≡ t ∷ after) × (ts ≡ front ++ t ∷ after) × IsTooDeep c front t
+    × (length (left r) ≤ length after)
 
 agrees-end : (c : Counts) (m : Move) → Agrees c [] (free.at_end m) (at_end m)
 agrees-end c (To st) = (refl, ([], refl, tt))
 agrees-end c (Ends t) = (refl, ([], refl, tt))
 agrees-end c Fails = (refl, ([], refl, tt))
 
-agrees-later : (c : Counts) (t : Token) (ts : List Token) (r : Reading) → (count (weight t) c).now ≤ limit → (l : Limited) → Agrees (count (weight t) c) ts r l → Agrees c (t ∷ ts) r l
+agrees-later : (c : Counts) (t : Token) (ts : List Token) (r : Reading) → (count (weight t) c).now ≤ limit → (l : Limited) → Agrees (count (weight t) c) ts r l
+    → Agrees c (t ∷ ts) r l
 agrees-later c t ts r h (Ok x) a = (a.0, (t ∷ a.1.0, ap (λ l. t ∷ l) a.1.1, (h, a.1.2)))
 agrees-later c t ts r h (Err (Offends, rest)) a = (a.0, (t ∷ a.1.0, ap (λ l. t ∷ l) a.1.1, (h, a.1.2)))
 agrees-later c t ts r h (Err (TooDeep, rest)) a = (t ∷ a.0, a.1, a.2, a.3, ap (λ l. t ∷ l) a.4, (h, a.5), a.6)
 
-agrees-choice : (c : Counts) (t : Token) (ts : List Token) (r : Reading) (l : Limited) → length (left r) ≤ length ts → (b : Bool) → nat_le (count (weight t) c).now limit ≡ b → Agrees (count (weight t) c) ts r l → Agrees c (t ∷ ts) r (cond b l (Err (TooDeep, t ∷ ts)))
+agrees-choice : (c : Counts) (t : Token) (ts : List Token) (r : Reading) (l : Limited) → length (left r) ≤ length ts → (b : Bool)
+    → nat_le (count (weight t) c).now limit ≡ b → Agrees (count (weight t) c) ts r l → Agrees c (t ∷ ts) r (cond b l (Err (TooDeep, t ∷ ts)))
 agrees-choice c t ts r l s true e a = agrees-later c t ts r (leb-true _ _ e) l a
 agrees-choice c t ts r l s false e a = ([], t, ts, refl, refl, leb-false _ _ e, s)
 
-agrees-going : (c : Counts) (t : Token) (ts : List Token) → ((st : State) → Agrees (count (weight t) c) ts (run st ts) (limited (count (weight t) c) st ts)) → (m : Move)
+agrees-going : (c : Counts) (t : Token) (ts : List Token) → ((st : State) → Agrees (count (weight t) c) ts (run st ts) (limited (count (weight t) c) st ts))
+    → (m : Move)
     → Agrees c (t ∷ ts) (free.going m (λ q. run q ts) (t ∷ ts)) (going m (count (weight t) c) (λ q. limited (count (weight t) c) q ts) (t ∷ ts))
-agrees-going c t ts again (To st) = agrees-choice c t ts (run st ts) (limited (count (weight t) c) st ts) (left-short ts st) (nat_le (count (weight t) c).now limit) refl (again st)
+agrees-going c t ts again (To st) = agrees-choice c t ts (run st ts) (limited (count (weight t) c) st ts) (left-short ts st)
+    (nat_le (count (weight t) c).now limit) refl (again st)
 agrees-going c t ts again (Ends e) = (refl, ([], refl, tt))
 agrees-going c t ts again Fails = (refl, ([], refl, tt))
 
@@ -91,7 +97,8 @@ to-limited (Ok x) = Ok x
 to-limited (Err rest) = Err (Offends, rest)
 
 -- two ways to cut a list, the second one further on
-further : (w rest front : List Token) (t : Token) (after : List Token) → w ++ rest ≡ front ++ t ∷ after → length rest ≤ length after → (more : List Token) × (w ≡ front ++ t ∷ more)
+further : (w rest front : List Token) (t : Token) (after : List Token) → w ++ rest ≡ front ++ t ∷ after → length rest ≤ length after
+    → (more : List Token) × (w ≡ front ++ t ∷ more)
 further [] rest front t after e h = absurd (omega (arith, ap length e, length-append front (t ∷ after)))
 further (y ∷ w) rest [] t after e h = (w, ap (λ z. z ∷ w) (first-same y t (w ++ rest) after e))
 further (y ∷ w) rest (x ∷ front) t after e h =
@@ -113,5 +120,6 @@ or-deep c w rest x r e (Err (TooDeep, gone)) a =
     inr (gone, refl, λ s. deep-front c a.0 a.1 more.0 a.5 (subst (IsWithin c) more.1 s))
 
 -- What the free machine reads, the limited machine reads or finds too deep.
-pub reads-or-deep : (c : Counts) (st : State) (w rest : List Token) (x : Tree) → run st (w ++ rest) ≡ Ok (x, rest) → OrDeep c w (x, rest) (limited c st (w ++ rest))
+pub reads-or-deep : (c : Counts) (st : State) (w rest : List Token) (x : Tree) → run st (w ++ rest) ≡ Ok (x, rest)
+    → OrDeep c w (x, rest) (limited c st (w ++ rest))
 reads-or-deep c st w rest x e = or-deep c w rest x (run st (w ++ rest)) e (limited c st (w ++ rest)) (agrees (w ++ rest) c st)

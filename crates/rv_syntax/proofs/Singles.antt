@@ -13,7 +13,8 @@ use Rattle.rv_syntax.specs.Marks.{is_mark, is_name, has_mark, kind_named, kind_n
 use Rattle.rv_syntax.specs.Parse.{one_of, one, starts}
 use Rattle.rv_syntax.specs.Reads.{Ahead, tail, same, Reads, TakesName, Passes}
 
-none-named : (k : Kind) (at : ℕ) (ts : List Token) → kind_named k ≡ false → one_of (kind_name k at) (record { kind = k; at = at }) ts ≡ Err (Offends, record { kind = k; at = at } ∷ ts)
+none-named : (k : Kind) (at : ℕ) (ts : List Token) → kind_named k ≡ false
+    → one_of (kind_name k at) (record { kind = k; at = at }) ts ≡ Err (Offends, record { kind = k; at = at } ∷ ts)
 none-named (kind.Name x) at ts h = cc
 none-named (kind.Fixed m) at ts h = refl
 none-named (kind.Number n) at ts h = refl
@@ -27,7 +28,11 @@ no-name (t ∷ ts) h = none-named t.kind t.at ts h
 pub named : (old new : Ahead) (r : Result Name Stop) → TakesName old r new → Reads (same {A = Name}) (one name_of old.rest) r new.rest
 named old new (Ok x) p = ap (one name_of) p.0
 named old new (Err stop.Memory) p = tt
-named old new (Err (stop.Token why left)) p = (p.0 ∙ ap (λ a. length a.rest) (sym p.2), no-name old.rest p.3 ∙ ap (λ a. Err (Offends, a.rest)) (sym p.2) ∙ ap (λ w. Err (w, new.rest)) (sym p.1))
+named old new (Err (stop.Token why left)) p = (
+  p.0 ∙ ap (λ a. length a.rest) (sym p.2),
+  no-name old.rest p.3 ∙ ap (λ a. Err (Offends, a.rest)) (sym p.2)
+      ∙ ap (λ w. Err (w, new.rest)) (sym p.1),
+)
 
 is-one : (m : Mark) (ts : List Token) → starts (is_mark m) ts ≡ true → one (has_mark m) ts ≡ Ok (tt, tail ts)
 is-one m [] h = cc
@@ -40,4 +45,8 @@ not-one m (t ∷ ts) h = ap (λ b. one_of (cond b (Some tt) None) t ts) h
 pub passed : (m : Mark) (old new : Ahead) (r : Result ⊤ Stop) → Passes m old r new → Reads (same {A = ⊤}) (one (has_mark m) old.rest) r new.rest
 passed m old new (Ok u) p = is-one m old.rest p.0 ∙ ap (λ l. Ok (tt, l)) (sym p.1)
 passed m old new (Err stop.Memory) p = tt
-passed m old new (Err (stop.Token why left)) p = (p.0 ∙ ap (λ a. length a.rest) (sym p.2), not-one m old.rest p.3 ∙ ap (λ a. Err (Offends, a.rest)) (sym p.2) ∙ ap (λ w. Err (w, new.rest)) (sym p.1))
+passed m old new (Err (stop.Token why left)) p = (
+  p.0 ∙ ap (λ a. length a.rest) (sym p.2),
+  not-one m old.rest p.3 ∙ ap (λ a. Err (Offends, a.rest)) (sym p.2)
+      ∙ ap (λ w. Err (w, new.rest)) (sym p.1),
+)

@@ -10,14 +10,19 @@ use Rattle.rv_tree.specs.Tree as tree
 use Rattle.rv_syntax.specs.declared.operator.Prefix.{Prefix}
 use Rattle.rv_syntax.specs.declared.operator.Prefix.TheVariants as prefixed
 use Rattle.rv_syntax.specs.declared.token.Mark.TheVariants as mark
-use Rattle.rv_syntax.specs.Grammar.{Leaf, Yes, No, Count, Called, Callee, Function, Hash, Written, Atom, InBrackets, Before, Between, Gated, If, Given, Front, NoneBefore, Then, fixed, leaf_token, op_mark, name_token, spelling, front_spelling, syntax_of, front_trees, Just, Applied, Invoked}
+use Rattle.rv_syntax.specs.Grammar.{Leaf, Yes, No, Count, Called, Callee, Function, Hash, Written, Atom, InBrackets, Before, Between, Gated, If, Given, Front}
+use Rattle.rv_syntax.specs.Grammar.{NoneBefore, Then, fixed, leaf_token, op_mark, name_token, spelling, front_spelling, syntax_of, front_trees, Just, Applied}
+use Rattle.rv_syntax.specs.Grammar.{Invoked}
 use Rattle.rv_syntax.specs.Lexing.{tokens}
 use Rattle.rv_syntax.specs.Literals.{IsSmall, IsSmallForm, AreSmall, HasSmallLiterals}
 use Rattle.rv_syntax.specs.Nesting.{IsExprOf}
-use Rattle.rv_syntax.specs.ProgramText.{IsBody, IsConstant, IsConstants, IsInputs, IsItem, IsKind, IsLefts, IsName, IsNode, IsOutputs, IsProgram, IsRight, IsSection, IsTextOf, IsTitle, IsTypes, IsVar, Item, Equates, Assumes, Section, Types, Constants, OneNode, equation_of, equations_of, assertion_of, assertions_of, constant_of, constants_of, node_of, nodes_of, program_of}
+use Rattle.rv_syntax.specs.ProgramText.{IsBody, IsConstant, IsConstants, IsInputs, IsItem, IsKind, IsLefts, IsName, IsNode, IsOutputs, IsProgram, IsRight}
+use Rattle.rv_syntax.specs.ProgramText.{IsSection, IsTextOf, IsTitle, IsTypes, IsVar, Item, Equates, Assumes, Section, Types, Constants, OneNode, equation_of}
+use Rattle.rv_syntax.specs.ProgramText.{equations_of, assertion_of, assertions_of, constant_of, constants_of, node_of, nodes_of, program_of}
 use Rattle.rv_syntax.specs.Rules.{Each, Gives, Marked, Maybe, OneOf, Only, Part, Word}
 use Rattle.rv_syntax.proofs.Bounds.{from-map}
-use Rattle.rv_syntax.proofs.FineTokens.{AreFine, fine-left, fine-right, Keeps, Every, any, gives, after-word, parts, one-of, each, lex-fine, joined-every, every-of}
+use Rattle.rv_syntax.proofs.FineTokens.{AreFine, fine-left, fine-right, Keeps, Every, any, gives, after-word, parts, one-of, each, lex-fine, joined-every}
+use Rattle.rv_syntax.proofs.FineTokens.{every-of}
 
 -- ---- Expressions.
 number-small : (n : ℕ) → nat_le n too_heavy ≡ true → n ≤ too_heavy
@@ -89,7 +94,8 @@ IsSmallConstant c = IsSmall c.body
 constant : Keeps IsConstant IsSmallConstant
 constant =
     parts IsName (λ x. Part (Maybe (Word mark.Colon IsKind)) (λ k. Part IsRight (λ e. Gives (constant_of x k e)))) (λ x. ⊤) IsSmallConstant (any IsName)
-    (λ x u. parts (Maybe (Word mark.Colon IsKind)) (λ k. Part IsRight (λ e. Gives (constant_of x k e))) (λ k. ⊤) IsSmallConstant (any (Maybe (Word mark.Colon IsKind)))
+    (λ x u. parts (Maybe (Word mark.Colon IsKind)) (λ k. Part IsRight (λ e. Gives (constant_of x k e))) (λ k. ⊤) IsSmallConstant
+    (any (Maybe (Word mark.Colon IsKind)))
     (λ k v. parts IsRight (λ e. Gives (constant_of x k e)) IsSmall IsSmallConstant right (λ e p. gives (constant_of x k e) IsSmallConstant p)))
 
 constants : Keeps IsConstants (Every IsSmallConstant)
@@ -112,19 +118,24 @@ IsSmallItem (Assumes a) = IsSmallAssertion a
 
 item : Keeps IsItem IsSmallItem
 item =
-    one-of (Part IsLefts (λ xs. Part IsRight (λ e. Gives (Equates (equation_of xs e))))) (Part (Marked mark.Assert) (λ at. Part IsExprOf (λ e. Word mark.Semi (Gives (Assumes (assertion_of at e)))))) IsSmallItem
+    one-of (Part IsLefts (λ xs. Part IsRight (λ e. Gives (Equates (equation_of xs e)))))
+    (Part (Marked mark.Assert) (λ at. Part IsExprOf (λ e. Word mark.Semi (Gives (Assumes (assertion_of at e)))))) IsSmallItem
     (parts IsLefts (λ xs. Part IsRight (λ e. Gives (Equates (equation_of xs e)))) (λ xs. ⊤) IsSmallItem (any IsLefts)
     (λ xs u. parts IsRight (λ e. Gives (Equates (equation_of xs e))) IsSmall IsSmallItem right (λ e p. gives (Equates (equation_of xs e)) IsSmallItem p)))
-    (parts (Marked mark.Assert) (λ at. Part IsExprOf (λ e. Word mark.Semi (Gives (Assumes (assertion_of at e))))) (λ at. ⊤) IsSmallItem (any (Marked mark.Assert))
+    (parts (Marked mark.Assert) (λ at. Part IsExprOf (λ e. Word mark.Semi (Gives (Assumes (assertion_of at e))))) (λ at. ⊤) IsSmallItem
+    (any (Marked mark.Assert))
     (λ at u. parts IsExprOf (λ e. Word mark.Semi (Gives (Assumes (assertion_of at e)))) IsSmall IsSmallItem expression
     (λ e p. after-word mark.Semi (Gives (Assumes (assertion_of at e))) IsSmallItem (gives (Assumes (assertion_of at e)) IsSmallItem p))))
 
 body : Keeps IsBody (Every IsSmallItem)
 body =
-    after-word mark.Let (Part (Each IsItem) (λ items. Word mark.Tel (Part (Maybe (OneOf (Only mark.Semi) (Only mark.Dot))) (λ end. Gives items)))) (Every IsSmallItem)
-    (parts (Each IsItem) (λ items. Word mark.Tel (Part (Maybe (OneOf (Only mark.Semi) (Only mark.Dot))) (λ end. Gives items))) (Every IsSmallItem) (Every IsSmallItem) (each IsItem IsSmallItem item)
+    after-word mark.Let (Part (Each IsItem) (λ items. Word mark.Tel (Part (Maybe (OneOf (Only mark.Semi) (Only mark.Dot))) (λ end. Gives items))))
+    (Every IsSmallItem)
+    (parts (Each IsItem) (λ items. Word mark.Tel (Part (Maybe (OneOf (Only mark.Semi) (Only mark.Dot))) (λ end. Gives items))) (Every IsSmallItem)
+    (Every IsSmallItem) (each IsItem IsSmallItem item)
     (λ items p. after-word mark.Tel (Part (Maybe (OneOf (Only mark.Semi) (Only mark.Dot))) (λ end. Gives items)) (Every IsSmallItem)
-    (parts (Maybe (OneOf (Only mark.Semi) (Only mark.Dot))) (λ end. Gives items) (λ end. ⊤) (Every IsSmallItem) (any (Maybe (OneOf (Only mark.Semi) (Only mark.Dot))))
+    (parts (Maybe (OneOf (Only mark.Semi) (Only mark.Dot))) (λ end. Gives items) (λ end. ⊤) (Every IsSmallItem)
+    (any (Maybe (OneOf (Only mark.Semi) (Only mark.Dot))))
     (λ end u. gives items (Every IsSmallItem) p))))
 
 equations-small : (items : List Item) → Every IsSmallItem items → Every IsSmallEquation (equations_of items)
@@ -142,9 +153,12 @@ IsSmallNode n = Every IsSmallEquation n.equations × Every IsSmallAssertion n.as
 
 node : Keeps IsNode IsSmallNode
 node =
-    parts IsTitle (λ x. Part IsInputs (λ ins. Part IsOutputs (λ outs. Part (Each IsVar) (λ vars. Part IsBody (λ items. Gives (node_of x ins outs vars items)))))) (λ x. ⊤) IsSmallNode (any IsTitle)
-    (λ x u. parts IsInputs (λ ins. Part IsOutputs (λ outs. Part (Each IsVar) (λ vars. Part IsBody (λ items. Gives (node_of x ins outs vars items))))) (λ ins. ⊤) IsSmallNode (any IsInputs)
-    (λ ins v. parts IsOutputs (λ outs. Part (Each IsVar) (λ vars. Part IsBody (λ items. Gives (node_of x ins outs vars items)))) (λ outs. ⊤) IsSmallNode (any IsOutputs)
+    parts IsTitle (λ x. Part IsInputs (λ ins. Part IsOutputs (λ outs. Part (Each IsVar)
+    (λ vars. Part IsBody (λ items. Gives (node_of x ins outs vars items)))))) (λ x. ⊤) IsSmallNode (any IsTitle)
+    (λ x u. parts IsInputs (λ ins. Part IsOutputs (λ outs. Part (Each IsVar) (λ vars. Part IsBody (λ items. Gives (node_of x ins outs vars items)))))
+    (λ ins. ⊤) IsSmallNode (any IsInputs)
+    (λ ins v. parts IsOutputs (λ outs. Part (Each IsVar) (λ vars. Part IsBody (λ items. Gives (node_of x ins outs vars items)))) (λ outs. ⊤) IsSmallNode
+    (any IsOutputs)
     (λ outs w. parts (Each IsVar) (λ vars. Part IsBody (λ items. Gives (node_of x ins outs vars items))) (λ vars. ⊤) IsSmallNode (any (Each IsVar))
     (λ vars z. parts IsBody (λ items. Gives (node_of x ins outs vars items)) (Every IsSmallItem) IsSmallNode body
     (λ items p. gives (node_of x ins outs vars items) IsSmallNode (equations-small items p, assertions-small items p))))))

@@ -17,10 +17,14 @@ use Rattle.rv_syntax.specs.declared.parser.Start.TheVariants as start
 use Rattle.rv_syntax.specs.declared.parser.Next.{Next}
 use Rattle.rv_syntax.specs.declared.parser.Next.TheVariants as next
 use Rattle.rv_syntax.specs.declared.fault.Why.TheVariants.{Offends, TooDeep}
-use Rattle.rv_syntax.specs.Grammar.{Leaf, Yes, No, Count, Called, Callee, Hash, Written, Atom, InBrackets, Before, Between, Gated, If, Given, Front, NoneBefore, Then, fixed, leaf_token, callee_token, prefix_mark, op_mark, spelling, front_spelling, syntax_of, front_trees, level_of, left_level, right_level, leaf_level, level, is_open, IsGrammatical, AreGrammatical}
+use Rattle.rv_syntax.specs.Grammar.{Leaf, Yes, No, Count, Called, Callee, Hash, Written, Atom, InBrackets, Before, Between, Gated, If, Given, Front, NoneBefore}
+use Rattle.rv_syntax.specs.Grammar.{Then, fixed, leaf_token, callee_token, prefix_mark, op_mark, spelling, front_spelling, syntax_of, front_trees, level_of}
+use Rattle.rv_syntax.specs.Grammar.{left_level, right_level, leaf_level, level, is_open, IsGrammatical, AreGrammatical}
 use Rattle.rv_syntax.specs.Nesting.{weight, limit}
 use Rattle.rv_syntax.specs.Marks.{kind_name}
-use Rattle.rv_syntax.specs.Machine.{start_of, next_of, Frame, Brackets, Under, After, Asked, Answered, Else, Within, need, leaf_held, State, Want, Have, Clock, Hashed, Move, To, Ends, Fails, callee_of, accepts, taken, closed, answered, otherwise, argued, settle, begin, clocked, opened, step, finish}
+use Rattle.rv_syntax.specs.Machine.{start_of, next_of, Frame, Brackets, Under, After, Asked, Answered, Else, Within, need, leaf_held, State, Want, Have, Clock}
+use Rattle.rv_syntax.specs.Machine.{Hashed, Move, To, Ends, Fails, callee_of, accepts, taken, closed, answered, otherwise, argued, settle, begin, clocked}
+use Rattle.rv_syntax.specs.Machine.{opened, step, finish}
 use Rattle.rv_syntax.specs.Limited.{Counts, count, Limited, at_end, going, limited}
 use Rattle.rv_syntax.proofs.Complete.{operand, below-eight}
 use Rattle.rv_syntax.proofs.Exactly.{left, with_left}
@@ -103,7 +107,13 @@ pub record Begins (ts : List Token) : Type 0 where
   pub spelled : spelling whole ≡ ts ++ more
 
 shorten : (ts us after : List Token) → Begins us → us ≡ ts ++ after → Begins ts
-shorten ts us after b e = record { more = after ++ b.more; whole = b.whole; fine = b.fine; spelled = b.spelled ∙ ap (λ l. l ++ b.more) e ∙ append_assoc ts after b.more }
+shorten ts us after b e = record {
+  more = after ++ b.more;
+  whole = b.whole;
+  fine = b.fine;
+  spelled = b.spelled ∙ ap (λ l. l ++ b.more) e
+      ∙ append_assoc ts after b.more;
+}
 
 atom-high : (l : Leaf) (h : List Item) → need (frames h) ≤ leaf_level l
 atom-high Yes h = omega (arith, need-low h)
@@ -121,9 +131,12 @@ begins-has (Cond i ∷ h) w f g n =
     shorten _ _ (fixed mark.Then 0 ∷ leaf_token Yes 0 ∷ fixed mark.Else 0 ∷ leaf_token Yes 0 ∷ [])
     (begins-has h (If i w 0 (Atom Yes 0) 0 (Atom Yes 0)) f (g, tt, tt) (omega (arith, need-low h))) (simp append_assoc)
 begins-has (Chose i a t ∷ h) w f g n =
-    shorten _ _ (fixed mark.Else 0 ∷ leaf_token Yes 0 ∷ []) (begins-has h (If i a t w 0 (Atom Yes 0)) f.1 (f.0, g, tt) (omega (arith, need-low h))) (simp append_assoc)
-begins-has (Other i a t b e ∷ h) w f g n = shorten _ _ [] (begins-has h (If i a t b e w) f.2 (f.0, f.1, g) (omega (arith, need-low h))) (simp (append_assoc, append-nil))
-begins-has (Args c o front ∷ h) w f g n = shorten _ _ (fixed mark.Close 0 ∷ []) (begins-has h (Given c o front w 0) f.1 (f.0, g) (omega (arith, need-low h))) (simp append_assoc)
+    shorten _ _ (fixed mark.Else 0 ∷ leaf_token Yes 0 ∷ []) (begins-has h (If i a t w 0 (Atom Yes 0)) f.1 (f.0, g, tt) (omega (arith, need-low h)))
+    (simp append_assoc)
+begins-has (Other i a t b e ∷ h) w f g n = shorten _ _ [] (begins-has h (If i a t b e w) f.2 (f.0, f.1, g) (omega (arith, need-low h)))
+    (simp (append_assoc, append-nil))
+begins-has (Args c o front ∷ h) w f g n = shorten _ _ (fixed mark.Close 0 ∷ []) (begins-has h (Given c o front w 0) f.1 (f.0, g) (omega (arith, need-low h)))
+    (simp append_assoc)
 
 -- a state, with what has been read
 pub data Place : Type 0 where
@@ -156,7 +169,8 @@ begins (Has w h) f = begins-has h w f.0 f.1 f.2
 begins (Clocks at w h) f =
     shorten _ _ (leaf_token (Called []) 0 ∷ []) (begins-has h (Gated w at (record { text = []; at = 0 })) f.0 (f.3, f.4, f.1) f.2) (simp append_assoc)
 begins (Hashes at h) f =
-    shorten _ _ (fixed mark.Open 0 ∷ leaf_token Yes 0 ∷ fixed mark.Close 0 ∷ []) (begins-has h (Given (Hash at) 0 NoneBefore (Atom Yes 0) 0) f (tt, tt) (omega (arith, need-low h))) (simp append_assoc)
+    shorten _ _ (fixed mark.Open 0 ∷ leaf_token Yes 0 ∷ fixed mark.Close 0 ∷ [])
+    (begins-has h (Given (Hash at) 0 NoneBefore (Atom Yes 0) 0) f (tt, tt) (omega (arith, need-low h))) (simp append_assoc)
 
 -- what a move does with a token after those that were read
 abbrev Leads : List Token → Token → Move → Type 0
@@ -253,7 +267,8 @@ named (Gated w at x) e = absurd (omega arith)
 named (If i a t b x c) e = absurd (omega arith)
 named (Given f a front w b) e = absurd (omega arith)
 
-leads-call : (at : ℕ) (w : Written) (h : List Item) → IsFine (Has w h) → level w ≡ 11 → Leads (read (Has w h)) (fixed mark.Open at) (To (Want (Within (callee_of (syntax_of w)) [] ∷ frames h)))
+leads-call : (at : ℕ) (w : Written) (h : List Item) → IsFine (Has w h) → level w ≡ 11
+    → Leads (read (Has w h)) (fixed mark.Open at) (To (Want (Within (callee_of (syntax_of w)) [] ∷ frames h)))
 leads-call at w h f e =
     let c = callee_of (syntax_of w) in (
       Wants (Args c at NoneBefore ∷ h),
@@ -262,7 +277,8 @@ leads-call at w h f e =
       sym (append_assoc (before h) (callee_token c ∷ []) (fixed mark.Open at ∷ [])) ∙ ap (λ x. (before h ++ x) ++ fixed mark.Open at ∷ []) (sym (named w e)),
     )
 
-leads-taken : (t : Token) (r : Next) → Follows r t → (w : Written) (h : List Item) → IsFine (Has w h) → accepts r (need (frames h)) (operand w) ≡ true → Leads (read (Has w h)) t (taken r (operand w) (frames h))
+leads-taken : (t : Token) (r : Next) → Follows r t → (w : Written) (h : List Item) → IsFine (Has w h) → accepts r (need (frames h)) (operand w) ≡ true
+    → Leads (read (Has w h)) t (taken r (operand w) (frames h))
 leads-taken t (next.Between o at) e w h f a =
     let both = and_parts _ _ a in
     let parts = and_parts _ _ both.1 in (
@@ -291,26 +307,37 @@ leads-taken t next.Other e w h f a = tt
 one-more : (ts us : List Token) (x t : Token) → t ≡ x → ts ≡ us ++ x ∷ [] → ts ≡ us ++ t ∷ []
 one-more ts us x t e h = h ∙ ap (λ y. us ++ y ∷ []) (sym e)
 
-leads-closed : (t : Token) (r : Next) → Follows r t → (at : ℕ) (w : Written) (h : List Item) → AreFine h → IsGrammatical w → Leads (read (Has w (Open at ∷ h))) t (closed r (syntax_of w) (frames h))
+leads-closed : (t : Token) (r : Next) → Follows r t → (at : ℕ) (w : Written) (h : List Item) → AreFine h → IsGrammatical w
+    → Leads (read (Has w (Open at ∷ h))) t (closed r (syntax_of w) (frames h))
 leads-closed t next.Closes e at w h f g = (Has (InBrackets at w t.at) h, (f, g, omega (arith, need-low h)), refl, one-more _ _ _ t e (simp append_assoc))
 leads-closed t _ e at w h f g = tt
 
-leads-answered : (t : Token) (r : Next) → Follows r t → (i : ℕ) (w : Written) (h : List Item) → AreFine h → IsGrammatical w → Leads (read (Has w (Cond i ∷ h))) t (answered r i (syntax_of w) (frames h))
+leads-answered : (t : Token) (r : Next) → Follows r t → (i : ℕ) (w : Written) (h : List Item) → AreFine h → IsGrammatical w
+    → Leads (read (Has w (Cond i ∷ h))) t (answered r i (syntax_of w) (frames h))
 leads-answered t next.Answers e i w h f g = (Wants (Chose i w t.at ∷ h), (g, f), refl, one-more _ _ _ t e (simp append_assoc))
 leads-answered t _ e i w h f g = tt
 
-leads-otherwise : (t : Token) (r : Next) → Follows r t → (i : ℕ) (a : Written) (n : ℕ) (w : Written) (h : List Item) → AreFine (Chose i a n ∷ h) → IsGrammatical w
+leads-otherwise : (t : Token) (r : Next) → Follows r t → (i : ℕ) (a : Written) (n : ℕ) (w : Written) (h : List Item) → AreFine (Chose i a n ∷ h)
+    → IsGrammatical w
     → Leads (read (Has w (Chose i a n ∷ h))) t (otherwise r i (syntax_of a) (syntax_of w) (frames h))
 leads-otherwise t next.Otherwise e i a n w h f g = (Wants (Other i a n w t.at ∷ h), (f.0, g, f.1), refl, one-more _ _ _ t e (simp append_assoc))
 leads-otherwise t _ e i a n w h f g = tt
 
-leads-argued : (t : Token) (r : Next) → Follows r t → (c : Callee) (o : ℕ) (front : Front) (w : Written) (h : List Item) → AreFine (Args c o front ∷ h) → IsGrammatical w
+leads-argued : (t : Token) (r : Next) → Follows r t → (c : Callee) (o : ℕ) (front : Front) (w : Written) (h : List Item) → AreFine (Args c o front ∷ h)
+    → IsGrammatical w
     → Leads (read (Has w (Args c o front ∷ h))) t (argued r c (front_trees front) (syntax_of w) (frames h))
 leads-argued t next.Separates e c o front w h f g = (Wants (Args c o (Then front w t.at) ∷ h), ((f.0, g), f.1), refl, one-more _ _ _ t e (simp append_assoc))
-leads-argued t next.Closes e c o front w h f g = (Has (Given c o front w t.at) h, (f.1, (f.0, g), omega (arith, need-low h)), refl, one-more _ _ _ t e (simp append_assoc))
+leads-argued t next.Closes e c o front w h f g = (
+  Has (Given c o front w t.at) h,
+  (f.1, (f.0, g), omega (arith, need-low h)),
+  refl,
+  one-more _ _ _ t e
+      (simp append_assoc),
+)
 leads-argued t _ e c o front w h f g = tt
 
-leads-settle : (t : Token) (r : Next) → Follows r t → (h : List Item) (w : Written) → IsFine (Has w h) → Leads (read (Has w h)) t (settle r (operand w) (frames h))
+leads-settle : (t : Token) (r : Next) → Follows r t → (h : List Item) (w : Written) → IsFine (Has w h)
+    → Leads (read (Has w h)) t (settle r (operand w) (frames h))
 leads-settle t r e [] w f =
     pick (Leads (read (Has w [])) t) (accepts r 0 (operand w)) _ _ (leads-taken t r e w [] f) (λ _. (w, f.1, refl, refl))
 leads-settle t r e (Open at ∷ h) w f =
@@ -322,17 +349,21 @@ leads-settle t r e (Over p at ∷ h) w f =
 leads-settle t r e (Left o at l ∷ h) w f =
     let same : read (Has (Between o at l w) h) ≡ read (Has w (Left o at l ∷ h)) = simp append_assoc in
     pick (Leads (read (Has w (Left o at l ∷ h))) t) (accepts r (right_level o) (operand w)) _ _ (leads-taken t r e w (Left o at l ∷ h) f)
-    (λ _. subst (λ ts. Leads ts t (settle r (operand (Between o at l w)) (frames h))) same (leads-settle t r e h (Between o at l w) (f.0.4, (f.0.1, f.0.2, f.2, f.0.0, f.1), f.0.3)))
+    (λ _. subst (λ ts. Leads ts t (settle r (operand (Between o at l w)) (frames h))) same
+    (leads-settle t r e h (Between o at l w) (f.0.4, (f.0.1, f.0.2, f.2, f.0.0, f.1), f.0.3)))
 leads-settle t r e (Cond i ∷ h) w f =
     pick (Leads (read (Has w (Cond i ∷ h))) t) (accepts r 0 (operand w)) _ _ (leads-taken t r e w (Cond i ∷ h) f) (λ _. leads-answered t r e i w h f.0 f.1)
 leads-settle t r e (Chose i a n ∷ h) w f =
-    pick (Leads (read (Has w (Chose i a n ∷ h))) t) (accepts r 0 (operand w)) _ _ (leads-taken t r e w (Chose i a n ∷ h) f) (λ _. leads-otherwise t r e i a n w h f.0 f.1)
+    pick (Leads (read (Has w (Chose i a n ∷ h))) t) (accepts r 0 (operand w)) _ _ (leads-taken t r e w (Chose i a n ∷ h) f)
+    (λ _. leads-otherwise t r e i a n w h f.0 f.1)
 leads-settle t r e (Other i a n b m ∷ h) w f =
     let same : read (Has (If i a n b m w) h) ≡ read (Has w (Other i a n b m ∷ h)) = simp append_assoc in
     pick (Leads (read (Has w (Other i a n b m ∷ h))) t) (accepts r 0 (operand w)) _ _ (leads-taken t r e w (Other i a n b m ∷ h) f)
-    (λ _. subst (λ ts. Leads ts t (settle r (operand (If i a n b m w)) (frames h))) same (leads-settle t r e h (If i a n b m w) (f.0.2, (f.0.0, f.0.1, f.1), omega (arith, need-low h))))
+    (λ _. subst (λ ts. Leads ts t (settle r (operand (If i a n b m w)) (frames h))) same
+    (leads-settle t r e h (If i a n b m w) (f.0.2, (f.0.0, f.0.1, f.1), omega (arith, need-low h))))
 leads-settle t r e (Args c o front ∷ h) w f =
-    pick (Leads (read (Has w (Args c o front ∷ h))) t) (accepts r 0 (operand w)) _ _ (leads-taken t r e w (Args c o front ∷ h) f) (λ _. leads-argued t r e c o front w h f.0 f.1)
+    pick (Leads (read (Has w (Args c o front ∷ h))) t) (accepts r 0 (operand w)) _ _ (leads-taken t r e w (Args c o front ∷ h) f)
+    (λ _. leads-argued t r e c o front w h f.0 f.1)
 
 leads-begin : (t : Token) (r : Start) → Starts r t → (h : List Item) → AreFine h → Leads (before h) t (begin r (leaf_held t) (frames h))
 leads-begin t start.Operand e h f =
@@ -343,7 +374,8 @@ leads-begin t (start.Asks at) e h f = (Wants (Cond at ∷ h), f, refl, ap (λ x.
 leads-begin t (start.Counts at) e h f = (Hashes at h, f, refl, ap (λ x. before h ++ x ∷ []) (sym e))
 leads-begin t start.Other e h f = tt
 
-leads-clocked : (k : Kind) (up at : ℕ) (w : Written) (h : List Item) → IsFine (Clocks at w h) → Leads (read (Clocks at w h)) (record { kind = k; at = up }) (clocked (kind_name k up) at (syntax_of w) (frames h))
+leads-clocked : (k : Kind) (up at : ℕ) (w : Written) (h : List Item) → IsFine (Clocks at w h)
+    → Leads (read (Clocks at w h)) (record { kind = k; at = up }) (clocked (kind_name k up) at (syntax_of w) (frames h))
 leads-clocked (kind.Name x) up at w h f = (Has (Gated w at (record { text = x; at = up })) h, (f.0, (f.3, f.4, f.1), f.2), refl, simp append_assoc)
 leads-clocked (kind.Fixed m) up at w h f = tt
 leads-clocked (kind.Number n) up at w h f = tt
@@ -370,7 +402,8 @@ leads-finish (Hashes at h) f = tt
 abbrev pub Comes : List Token → List Token → Limited → Type 0
 Comes pre ts (Ok x) = (w : Written) × IsGrammatical w × (syntax_of w ≡ x.0) × (pre ++ ts ≡ spelling w ++ x.1)
 Comes pre ts (Err (Offends, rest)) = (front : List Token) × (ts ≡ front ++ rest) × Begins (pre ++ front)
-Comes pre ts (Err (TooDeep, rest)) = (front : List Token) × (t : Token) × (after : List Token) × (rest ≡ t ∷ after) × (ts ≡ front ++ rest) × Begins (pre ++ (front ++ t ∷ []))
+Comes pre ts (Err (TooDeep, rest)) = (front : List Token) × (t : Token) × (after : List Token) × (rest ≡ t ∷ after) × (ts ≡ front ++ rest)
+    × Begins (pre ++ (front ++ t ∷ []))
 
 comes-later : (pre : List Token) (t : Token) (ts : List Token) (r : Limited) → Comes (pre ++ t ∷ []) ts r → Comes pre (t ∷ ts) r
 comes-later pre t ts (Ok x) c = (c.0, c.1, c.2, sym (append_assoc pre (t ∷ []) ts) ∙ c.3)
@@ -386,11 +419,13 @@ comes-end x f (To st) l = ([], refl, begins-here x f)
 comes-end x f (Ends e) l = (l.0, l.1, l.2, ap (λ ts. ts ++ []) (sym l.3))
 comes-end x f Fails l = ([], refl, begins-here x f)
 
-comes-going : (x : Place) → IsFine x → (c : Counts) (t : Token) (ts : List Token) → ((y : Place) → IsFine y → Comes (read y) ts (limited c (state_of y) ts)) → (m : Move) → Leads (read x) t m
+comes-going : (x : Place) → IsFine x → (c : Counts) (t : Token) (ts : List Token) → ((y : Place) → IsFine y → Comes (read y) ts (limited c (state_of y) ts))
+    → (m : Move) → Leads (read x) t m
     → Comes (read x) (t ∷ ts) (going m c (λ next. limited c next ts) (t ∷ ts))
 comes-going x f c t ts again (To st) l =
     pick (Comes (read x) (t ∷ ts)) (nat_le c.now limit) (limited c st ts) (Err (TooDeep, t ∷ ts))
-    (λ _. comes-later (read x) t ts (limited c st ts) (subst (λ s. Comes (read x ++ t ∷ []) ts (limited c s ts)) l.2 (subst (λ pre. Comes pre ts (limited c (state_of l.0) ts)) l.3 (again l.0 l.1))))
+    (λ _. comes-later (read x) t ts (limited c st ts) (subst (λ s. Comes (read x ++ t ∷ []) ts (limited c s ts)) l.2
+    (subst (λ pre. Comes pre ts (limited c (state_of l.0) ts)) l.3 (again l.0 l.1))))
     (λ _. ([], t, ts, refl, refl, subst Begins l.3 (begins l.0 l.1)))
 comes-going x f c t ts again (Ends e) l = (l.0, l.1, l.2, ap (λ pre. pre ++ t ∷ ts) (sym l.3))
 comes-going x f c t ts again Fails l = ([], refl, begins-here x f)
@@ -406,11 +441,13 @@ short-end (To st) = omega arith
 short-end (Ends e) = omega arith
 short-end Fails = omega arith
 
-short-choice : (b : Bool) (t : Token) (ts : List Token) (r : Limited) → length (left r) ≤ length ts → length (left (cond b r (Err (TooDeep, t ∷ ts)))) ≤ length (t ∷ ts)
+short-choice : (b : Bool) (t : Token) (ts : List Token) (r : Limited) → length (left r) ≤ length ts
+    → length (left (cond b r (Err (TooDeep, t ∷ ts)))) ≤ length (t ∷ ts)
 short-choice true t ts r h = omega arith
 short-choice false t ts r h = omega arith
 
-short-going : (m : Move) (c : Counts) (t : Token) (ts : List Token) → ((st : State) → length (left (limited c st ts)) ≤ length ts) → length (left (going m c (λ next. limited c next ts) (t ∷ ts))) ≤ length (t ∷ ts)
+short-going : (m : Move) (c : Counts) (t : Token) (ts : List Token) → ((st : State) → length (left (limited c st ts)) ≤ length ts)
+    → length (left (going m c (λ next. limited c next ts) (t ∷ ts))) ≤ length (t ∷ ts)
 short-going (To st) c t ts again = short-choice (nat_le c.now limit) t ts (limited c st ts) (again st)
 short-going (Ends e) c t ts again = omega arith
 short-going Fails c t ts again = omega arith
@@ -420,7 +457,8 @@ unfolding limited
 left-short [] c st = short-end (finish st)
 left-short (t ∷ ts) c st = short-going (step st t) (count (weight t) c) t ts (left-short ts (count (weight t) c))
 
-choice-here : (b : Bool) (t : Token) (rest other : List Token) (r q : Limited) → length (left r) ≤ length rest → left (cond b r (Err (TooDeep, t ∷ rest))) ≡ t ∷ rest
+choice-here : (b : Bool) (t : Token) (rest other : List Token) (r q : Limited) → length (left r) ≤ length rest
+    → left (cond b r (Err (TooDeep, t ∷ rest))) ≡ t ∷ rest
     → cond b q (Err (TooDeep, t ∷ other)) ≡ with_left (t ∷ other) (cond b r (Err (TooDeep, t ∷ rest)))
 choice-here true t rest other r q le h = absurd (omega (arith, ap length h))
 choice-here false t rest other r q le h = refl
@@ -441,9 +479,11 @@ choice-later true x front t rest other r q again h = again h
 choice-later false x front t rest other r q again h = absurd (too-long front x t rest h)
 
 one-later : (m : Move) (c : Counts) (x : Token) (front : List Token) (t : Token) (rest other : List Token)
-    → ((st : State) → left (limited c st (front ++ t ∷ rest)) ≡ t ∷ rest → limited c st (front ++ t ∷ other) ≡ with_left (t ∷ other) (limited c st (front ++ t ∷ rest)))
+    → ((st : State) → left (limited c st (front ++ t ∷ rest)) ≡ t ∷ rest
+    → limited c st (front ++ t ∷ other) ≡ with_left (t ∷ other) (limited c st (front ++ t ∷ rest)))
     → left (going m c (λ next. limited c next (front ++ t ∷ rest)) (x ∷ (front ++ t ∷ rest))) ≡ t ∷ rest
-    → going m c (λ next. limited c next (front ++ t ∷ other)) (x ∷ (front ++ t ∷ other)) ≡ with_left (t ∷ other) (going m c (λ next. limited c next (front ++ t ∷ rest)) (x ∷ (front ++ t ∷ rest)))
+    → going m c (λ next. limited c next (front ++ t ∷ other)) (x ∷ (front ++ t ∷ other)) ≡ with_left (t ∷ other)
+    (going m c (λ next. limited c next (front ++ t ∷ rest)) (x ∷ (front ++ t ∷ rest)))
 one-later (To st) c x front t rest other again h =
     choice-later (nat_le c.now limit) x front t rest other (limited c st (front ++ t ∷ rest)) (limited c st (front ++ t ∷ other)) (again st) h
 one-later (Ends e) c x front t rest other again h = absurd (too-long front x t rest h)

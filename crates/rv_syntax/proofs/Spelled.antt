@@ -15,10 +15,14 @@ use Rattle.rv_tree.specs.declared.tree.TypeBody.TheVariants as type_body
 use Rattle.rv_tree.specs.declared.tree.TypeDecl.{TypeDecl}
 use Rattle.rv_tree.specs.Tree.{Tree, trees, EquationTree, AssertionTree, ConstantTree, NodeTree, ProgramTree}
 use Rattle.rv_tree.specs.Sites.{compared, offsets, trees_offsets, equation_offsets, assertion_offsets}
-use Rattle.rv_syntax.specs.Grammar.{Leaf, Yes, No, Count, Called, Callee, Function, Hash, Written, Atom, InBrackets, Before, Between, Gated, If, Given, Front, NoneBefore, Then, fixed, spelling, front_spelling, Invoked, syntax_of, front_trees, callee_token, name_token, op_mark}
+use Rattle.rv_syntax.specs.Grammar.{Leaf, Yes, No, Count, Called, Callee, Function, Hash, Written, Atom, InBrackets, Before, Between, Gated, If, Given, Front}
+use Rattle.rv_syntax.specs.Grammar.{NoneBefore, Then, fixed, spelling, front_spelling, Invoked, syntax_of, front_trees, callee_token, name_token, op_mark}
 use Rattle.rv_syntax.specs.Nesting.{IsExprOf}
 use Rattle.rv_syntax.specs.Rules.{Gives, Word, Only, Marked, Maybe, Part, OneOf, Each}
-use Rattle.rv_syntax.specs.ProgramText.{IsName, IsNames, IsKind, IsEnumeration, IsTypeBody, type_of, IsType, IsTypes, IsRight, constant_of, IsConstant, IsConstants, IsGroup, all_flows, IsDecls, IsClock, IsLocal, joined, IsVar, IsLefts, Item, Equates, Assumes, equation_of, assertion_of, IsItem, equations_of, assertions_of, IsTitle, IsInputs, IsOutputs, IsBody, node_of, IsNode, Section, Types, Constants, OneNode, IsSection, types_of, constants_of, program_of, IsProgram}
+use Rattle.rv_syntax.specs.ProgramText.{IsName, IsNames, IsKind, IsEnumeration, IsTypeBody, type_of, IsType, IsTypes, IsRight, constant_of, IsConstant}
+use Rattle.rv_syntax.specs.ProgramText.{IsConstants, IsGroup, all_flows, IsDecls, IsClock, IsLocal, joined, IsVar, IsLefts, Item, Equates, Assumes, equation_of}
+use Rattle.rv_syntax.specs.ProgramText.{assertion_of, IsItem, equations_of, assertions_of, IsTitle, IsInputs, IsOutputs, IsBody, node_of, IsNode, Section}
+use Rattle.rv_syntax.specs.ProgramText.{Types, Constants, OneNode, IsSection, types_of, constants_of, program_of, IsProgram}
 use Rattle.rv_tree.specs.Groups.{flow, Group, flows_of}
 
 -- what all of them weigh
@@ -63,7 +67,8 @@ module _ (f : ℕ → ℕ) where
   of_assertions more = all_of f (assertion_offsets more)
 
   abbrev pub of_node : NodeTree → ℕ
-  of_node n = of_name n.name + (all_of of_flow n.inputs + (all_of of_flow n.outputs + (all_of of_flow n.locals + (of_equations n.equations + of_assertions n.assertions))))
+  of_node n = of_name n.name + (all_of of_flow n.inputs + (all_of of_flow n.outputs
+      + (all_of of_flow n.locals + (of_equations n.equations + of_assertions n.assertions))))
 
   abbrev pub of_program : ProgramTree → ℕ
   of_program p = all_of of_type p.types + (all_of of_constant p.constants + all_of of_node p.nodes)
@@ -97,7 +102,13 @@ module _ (f : ℕ → ℕ) where
 
   one-last : (ts : List Tree) (t : Tree) → all_of f (trees_offsets (trees (ts ++ t ∷ []))) ≡ all_of f (trees_offsets (trees ts)) + of_tree t
   one-last [] t = omega (arith, all_of-append f (offsets t) [])
-  one-last (x ∷ ts) t = omega (arith, one-last ts t, all_of-append f (offsets x) (trees_offsets (trees (ts ++ t ∷ []))), all_of-append f (offsets x) (trees_offsets (trees ts)))
+  one-last (x ∷ ts) t = omega (
+    arith,
+    one-last ts t,
+    all_of-append f (offsets x) (trees_offsets (trees (ts ++ t ∷ []))),
+    all_of-append f (offsets x)
+        (trees_offsets (trees ts)),
+  )
 
   -- what is written
   mutual
@@ -110,7 +121,15 @@ module _ (f : ℕ → ℕ) where
     spelled (Before prefixed.Current at w) = omega (arith, spelled w)
     spelled (Between o at a b) =
         let after : List ℕ = offsets (syntax_of b) in
-        omega (arith, spelled a, spelled b, compared-some o at, all_of-append f (offsets (syntax_of a)) (compared o at ++ after), all_of-append f (compared o at) after, all_of-append of_token (spelling a) (fixed (op_mark o) at ∷ spelling b))
+        omega (
+          arith,
+          spelled a,
+          spelled b,
+          compared-some o at,
+          all_of-append f (offsets (syntax_of a)) (compared o at ++ after),
+          all_of-append f (compared o at) after,
+          all_of-append of_token (spelling a) (fixed (op_mark o) at ∷ spelling b),
+        )
     spelled (Gated w at x) = omega (arith, spelled w, all_of-append of_token (spelling w) (fixed mark.When at ∷ name_token x ∷ []))
     spelled (If i a t b e c) =
         let second : List ℕ = offsets (syntax_of b) in
@@ -175,7 +194,8 @@ module _ (f : ℕ → ℕ) where
       let all : of_tokens ts ≡ of_tokens (h.1 ++ h.2) = ap of_tokens h.3 in
       omega (arith, one, more, all, all_of-append of_token h.1 h.2)
 
-  tells-choice : {A : Type 0} (L M : A → List Token → Type 0) (own : A → ℕ) (before : ℕ) → Tells L own before → Tells M own before → Tells (OneOf L M) own before
+  tells-choice : {A : Type 0} (L M : A → List Token → Type 0) (own : A → ℕ) (before : ℕ) → Tells L own before → Tells M own before
+      → Tells (OneOf L M) own before
   tells-choice L M own before first second a ts (inl h) = first a ts h
   tells-choice L M own before first second a ts (inr h) = second a ts h
 
@@ -188,14 +208,16 @@ module _ (f : ℕ → ℕ) where
       omega (arith, first, others, all, all_of-append of_token h.0 h.1)
 
   -- a value that weighs no more than another
-  tells-less : {A : Type 0} (L : A → List Token → Type 0) (own less : A → ℕ) (before : ℕ) → ((a : A) → less a ≤ own a) → Tells L own before → Tells L less before
+  tells-less : {A : Type 0} (L : A → List Token → Type 0) (own less : A → ℕ) (before : ℕ) → ((a : A) → less a ≤ own a) → Tells L own before
+      → Tells L less before
   tells-less L own less before le h a ts x = let known : own a ≤ before + of_tokens ts = h a ts x in omega (arith, known, le a)
 
   tells-name : Tells IsName of_name 0
   tells-name x ts h = let all : of_tokens ts ≡ of_tokens (name_token x ∷ []) = ap of_tokens h in omega (arith, all)
 
   -- one such part, and any number of them
-  tells-more : {A : Type 0} (a : A) (L : A → List Token → Type 0) (own : A → ℕ) → Tells L own 0 → Tells (Part (Each L) (λ more. Gives (a ∷ more))) (all_of own) (0 + own a)
+  tells-more : {A : Type 0} (a : A) (L : A → List Token → Type 0) (own : A → ℕ) → Tells L own 0
+      → Tells (Part (Each L) (λ more. Gives (a ∷ more))) (all_of own) (0 + own a)
   tells-more a L own one =
       tells-part (Each L) (λ more. Gives (a ∷ more)) (all_of own) (all_of own) (0 + own a) (tells-each L own one) (λ more.
       tells-gives (a ∷ more) (all_of own) (0 + own a + all_of own more) (omega arith))
@@ -250,7 +272,8 @@ module _ (f : ℕ → ℕ) where
   tells-constant : Tells IsConstant of_constant 0
   tells-constant =
       tells-part IsName (λ x. Part (Maybe (Word mark.Colon IsKind)) (λ k. Part IsRight (λ e. Gives (constant_of x k e)))) of_name of_constant 0 tells-name (λ x.
-      tells-part (Maybe (Word mark.Colon IsKind)) (λ k. Part IsRight (λ e. Gives (constant_of x k e))) (λ k. 0) of_constant (0 + of_name x) (tells-nothing (Maybe (Word mark.Colon IsKind)) 0) (λ k.
+      tells-part (Maybe (Word mark.Colon IsKind)) (λ k. Part IsRight (λ e. Gives (constant_of x k e))) (λ k. 0) of_constant (0 + of_name x)
+      (tells-nothing (Maybe (Word mark.Colon IsKind)) 0) (λ k.
       tells-part IsRight (λ e. Gives (constant_of x k e)) (λ e. 0) of_constant (0 + of_name x + 0) (tells-nothing IsRight 0) (λ e.
       tells-gives (constant_of x k e) of_constant (0 + of_name x + 0 + 0) (omega arith))))
 
@@ -280,32 +303,42 @@ module _ (f : ℕ → ℕ) where
 
   tells-decls : Tells IsDecls (all_of of_flow) 0
   tells-decls =
-      tells-part IsGroup (λ group. Part (Each (Word mark.Semi IsGroup)) (λ more. Part (Maybe (Only mark.Semi)) (λ end. Gives (all_flows (group ∷ more))))) of_group (all_of of_flow) 0 tells-group (λ group.
-      tells-part (Each (Word mark.Semi IsGroup)) (λ more. Part (Maybe (Only mark.Semi)) (λ end. Gives (all_flows (group ∷ more)))) (all_of of_group) (all_of of_flow) (0 + of_group group)
+      tells-part IsGroup (λ group. Part (Each (Word mark.Semi IsGroup)) (λ more. Part (Maybe (Only mark.Semi)) (λ end. Gives (all_flows (group ∷ more)))))
+      of_group (all_of of_flow) 0 tells-group (λ group.
+      tells-part (Each (Word mark.Semi IsGroup)) (λ more. Part (Maybe (Only mark.Semi)) (λ end. Gives (all_flows (group ∷ more)))) (all_of of_group)
+      (all_of of_flow) (0 + of_group group)
       (tells-each (Word mark.Semi IsGroup) of_group (tells-word mark.Semi IsGroup of_group 0 tells-group)) (λ more.
-      tells-part (Maybe (Only mark.Semi)) (λ end. Gives (all_flows (group ∷ more))) (λ end. 0) (all_of of_flow) (0 + of_group group + all_of of_group more) (tells-nothing (Maybe (Only mark.Semi)) 0) (λ end.
+      tells-part (Maybe (Only mark.Semi)) (λ end. Gives (all_flows (group ∷ more))) (λ end. 0) (all_of of_flow) (0 + of_group group + all_of of_group more)
+      (tells-nothing (Maybe (Only mark.Semi)) 0) (λ end.
       tells-gives (all_flows (group ∷ more)) (all_of of_flow) (0 + of_group group + all_of of_group more + 0) (omega (arith, of-all_flows (group ∷ more))))))
 
   tells-plain : Tells (Part IsGroup (λ group. Part (Maybe IsClock) (λ clock. Word mark.Semi (Gives (flows_of group clock))))) (all_of of_flow) 0
   tells-plain =
-      tells-part IsGroup (λ group. Part (Maybe IsClock) (λ clock. Word mark.Semi (Gives (flows_of group clock)))) of_group (all_of of_flow) 0 tells-group (λ group.
-      tells-part (Maybe IsClock) (λ clock. Word mark.Semi (Gives (flows_of group clock))) (λ clock. 0) (all_of of_flow) (0 + of_group group) (tells-nothing (Maybe IsClock) 0) (λ clock.
+      tells-part IsGroup (λ group. Part (Maybe IsClock) (λ clock. Word mark.Semi (Gives (flows_of group clock)))) of_group (all_of of_flow) 0 tells-group
+      (λ group.
+      tells-part (Maybe IsClock) (λ clock. Word mark.Semi (Gives (flows_of group clock))) (λ clock. 0) (all_of of_flow) (0 + of_group group)
+      (tells-nothing (Maybe IsClock) 0) (λ clock.
       tells-word mark.Semi (Gives (flows_of group clock)) (all_of of_flow) (0 + of_group group + 0)
       (tells-gives (flows_of group clock) (all_of of_flow) (0 + of_group group + 0) (omega (arith, of-flows group clock)))))
 
-  tells-clocked : Tells (Word mark.Open (Part IsGroup (λ group. Word mark.Close (Part IsClock (λ clock. Word mark.Semi (Gives (flows_of group (Some clock)))))))) (all_of of_flow) 0
+  tells-clocked : Tells (Word mark.Open (Part IsGroup (λ group. Word mark.Close
+      (Part IsClock (λ clock. Word mark.Semi (Gives (flows_of group (Some clock)))))))) (all_of of_flow) 0
   tells-clocked =
-      tells-word mark.Open (Part IsGroup (λ group. Word mark.Close (Part IsClock (λ clock. Word mark.Semi (Gives (flows_of group (Some clock))))))) (all_of of_flow) 0
-      (tells-part IsGroup (λ group. Word mark.Close (Part IsClock (λ clock. Word mark.Semi (Gives (flows_of group (Some clock)))))) of_group (all_of of_flow) 0 tells-group (λ group.
+      tells-word mark.Open (Part IsGroup (λ group. Word mark.Close (Part IsClock (λ clock. Word mark.Semi (Gives (flows_of group (Some clock)))))))
+      (all_of of_flow) 0
+      (tells-part IsGroup (λ group. Word mark.Close (Part IsClock (λ clock. Word mark.Semi (Gives (flows_of group (Some clock)))))) of_group
+      (all_of of_flow) 0 tells-group (λ group.
       tells-word mark.Close (Part IsClock (λ clock. Word mark.Semi (Gives (flows_of group (Some clock))))) (all_of of_flow) (0 + of_group group)
-      (tells-part IsClock (λ clock. Word mark.Semi (Gives (flows_of group (Some clock)))) (λ clock. 0) (all_of of_flow) (0 + of_group group) (tells-nothing IsClock 0) (λ clock.
+      (tells-part IsClock (λ clock. Word mark.Semi (Gives (flows_of group (Some clock)))) (λ clock. 0) (all_of of_flow) (0 + of_group group)
+      (tells-nothing IsClock 0) (λ clock.
       tells-word mark.Semi (Gives (flows_of group (Some clock))) (all_of of_flow) (0 + of_group group + 0)
       (tells-gives (flows_of group (Some clock)) (all_of of_flow) (0 + of_group group + 0) (omega (arith, of-flows group (Some clock))))))))
 
   tells-local : Tells IsLocal (all_of of_flow) 0
   tells-local =
       tells-choice (Part IsGroup (λ group. Part (Maybe IsClock) (λ clock. Word mark.Semi (Gives (flows_of group clock)))))
-      (Word mark.Open (Part IsGroup (λ group. Word mark.Close (Part IsClock (λ clock. Word mark.Semi (Gives (flows_of group (Some clock)))))))) (all_of of_flow) 0 tells-plain tells-clocked
+      (Word mark.Open (Part IsGroup (λ group. Word mark.Close (Part IsClock (λ clock. Word mark.Semi (Gives (flows_of group (Some clock))))))))
+      (all_of of_flow) 0 tells-plain tells-clocked
 
   of-joined : (dss : List (List Decl)) → all_of of_flow (joined dss) ≡ all_of (all_of of_flow) dss
   of-joined [] = refl
@@ -315,7 +348,8 @@ module _ (f : ℕ → ℕ) where
   tells-var =
       tells-word mark.Var (Part IsLocal (λ ds. Part (Each IsLocal) (λ more. Gives (joined (ds ∷ more))))) (all_of of_flow) 0
       (tells-part IsLocal (λ ds. Part (Each IsLocal) (λ more. Gives (joined (ds ∷ more)))) (all_of of_flow) (all_of of_flow) 0 tells-local (λ ds.
-      tells-part (Each IsLocal) (λ more. Gives (joined (ds ∷ more))) (all_of (all_of of_flow)) (all_of of_flow) (0 + all_of of_flow ds) (tells-each IsLocal (all_of of_flow) tells-local) (λ more.
+      tells-part (Each IsLocal) (λ more. Gives (joined (ds ∷ more))) (all_of (all_of of_flow)) (all_of of_flow) (0 + all_of of_flow ds)
+      (tells-each IsLocal (all_of of_flow) tells-local) (λ more.
       tells-gives (joined (ds ∷ more)) (all_of of_flow) (0 + all_of of_flow ds + all_of (all_of of_flow) more) (omega (arith, of-joined (ds ∷ more))))))
 
   tells-inputs : Tells IsInputs (all_of of_flow) 0
@@ -328,7 +362,8 @@ module _ (f : ℕ → ℕ) where
   tells-outputs =
       tells-word mark.Returns (Part IsInputs (λ ds. Part (Maybe (Only mark.Semi)) (λ end. Gives ds))) (all_of of_flow) 0
       (tells-part IsInputs (λ ds. Part (Maybe (Only mark.Semi)) (λ end. Gives ds)) (all_of of_flow) (all_of of_flow) 0 tells-inputs (λ ds.
-      tells-part (Maybe (Only mark.Semi)) (λ end. Gives ds) (λ end. 0) (all_of of_flow) (0 + all_of of_flow ds) (tells-nothing (Maybe (Only mark.Semi)) 0) (λ end.
+      tells-part (Maybe (Only mark.Semi)) (λ end. Gives ds) (λ end. 0) (all_of of_flow) (0 + all_of of_flow ds) (tells-nothing (Maybe (Only mark.Semi)) 0)
+      (λ end.
       tells-gives ds (all_of of_flow) (0 + all_of of_flow ds + 0) (omega arith))))
 
   -- ---- Equations and assertions.
@@ -344,7 +379,8 @@ module _ (f : ℕ → ℕ) where
 
   tells-assertion : Tells (Part (Marked mark.Assert) (λ at. Part IsExprOf (λ e. Word mark.Semi (Gives (Assumes (assertion_of at e)))))) of_item 0
   tells-assertion =
-      tells-part (Marked mark.Assert) (λ at. Part IsExprOf (λ e. Word mark.Semi (Gives (Assumes (assertion_of at e))))) f of_item 0 (tells-marked mark.Assert) (λ at.
+      tells-part (Marked mark.Assert) (λ at. Part IsExprOf (λ e. Word mark.Semi (Gives (Assumes (assertion_of at e))))) f of_item 0 (tells-marked mark.Assert)
+      (λ at.
       tells-part IsExprOf (λ e. Word mark.Semi (Gives (Assumes (assertion_of at e)))) of_tree of_item (0 + f at) tells-expr (λ e.
       tells-word mark.Semi (Gives (Assumes (assertion_of at e))) of_item (0 + f at + of_tree e)
       (tells-gives (Assumes (assertion_of at e)) of_item (0 + f at + of_tree e) (omega arith))))
@@ -361,23 +397,32 @@ module _ (f : ℕ → ℕ) where
 
   tells-items : Tells IsBody (all_of of_item) 0
   tells-items =
-      tells-word mark.Let (Part (Each IsItem) (λ items. Word mark.Tel (Part (Maybe (OneOf (Only mark.Semi) (Only mark.Dot))) (λ end. Gives items)))) (all_of of_item) 0
-      (tells-part (Each IsItem) (λ items. Word mark.Tel (Part (Maybe (OneOf (Only mark.Semi) (Only mark.Dot))) (λ end. Gives items))) (all_of of_item) (all_of of_item) 0 (tells-each IsItem of_item tells-item) (λ items.
+      tells-word mark.Let (Part (Each IsItem) (λ items. Word mark.Tel (Part (Maybe (OneOf (Only mark.Semi) (Only mark.Dot))) (λ end. Gives items))))
+      (all_of of_item) 0
+      (tells-part (Each IsItem) (λ items. Word mark.Tel (Part (Maybe (OneOf (Only mark.Semi) (Only mark.Dot))) (λ end. Gives items))) (all_of of_item)
+      (all_of of_item) 0 (tells-each IsItem of_item tells-item) (λ items.
       tells-word mark.Tel (Part (Maybe (OneOf (Only mark.Semi) (Only mark.Dot))) (λ end. Gives items)) (all_of of_item) (0 + all_of of_item items)
-      (tells-part (Maybe (OneOf (Only mark.Semi) (Only mark.Dot))) (λ end. Gives items) (λ end. 0) (all_of of_item) (0 + all_of of_item items) (tells-nothing (Maybe (OneOf (Only mark.Semi) (Only mark.Dot))) 0) (λ end.
+      (tells-part (Maybe (OneOf (Only mark.Semi) (Only mark.Dot))) (λ end. Gives items) (λ end. 0) (all_of of_item) (0 + all_of of_item items)
+      (tells-nothing (Maybe (OneOf (Only mark.Semi) (Only mark.Dot))) 0) (λ end.
       tells-gives items (all_of of_item) (0 + all_of of_item items + 0) (omega arith)))))
 
   -- ---- Nodes and programs.
   tells-node : Tells IsNode of_node 0
   tells-node =
-      tells-part IsTitle (λ x. Part IsInputs (λ ins. Part IsOutputs (λ outs. Part (Each IsVar) (λ vars. Part IsBody (λ items. Gives (node_of x ins outs vars items)))))) of_name of_node 0
+      tells-part IsTitle (λ x. Part IsInputs (λ ins. Part IsOutputs (λ outs. Part (Each IsVar)
+      (λ vars. Part IsBody (λ items. Gives (node_of x ins outs vars items)))))) of_name of_node 0
       (tells-word mark.Node IsName of_name 0 tells-name) (λ x.
-      tells-part IsInputs (λ ins. Part IsOutputs (λ outs. Part (Each IsVar) (λ vars. Part IsBody (λ items. Gives (node_of x ins outs vars items))))) (all_of of_flow) of_node (0 + of_name x) tells-inputs (λ ins.
-      tells-part IsOutputs (λ outs. Part (Each IsVar) (λ vars. Part IsBody (λ items. Gives (node_of x ins outs vars items)))) (all_of of_flow) of_node (0 + of_name x + all_of of_flow ins) tells-outputs (λ outs.
-      tells-part (Each IsVar) (λ vars. Part IsBody (λ items. Gives (node_of x ins outs vars items))) (all_of (all_of of_flow)) of_node (0 + of_name x + all_of of_flow ins + all_of of_flow outs)
+      tells-part IsInputs (λ ins. Part IsOutputs (λ outs. Part (Each IsVar) (λ vars. Part IsBody (λ items. Gives (node_of x ins outs vars items)))))
+      (all_of of_flow) of_node (0 + of_name x) tells-inputs (λ ins.
+      tells-part IsOutputs (λ outs. Part (Each IsVar) (λ vars. Part IsBody (λ items. Gives (node_of x ins outs vars items)))) (all_of of_flow) of_node
+      (0 + of_name x + all_of of_flow ins) tells-outputs (λ outs.
+      tells-part (Each IsVar) (λ vars. Part IsBody (λ items. Gives (node_of x ins outs vars items))) (all_of (all_of of_flow)) of_node
+      (0 + of_name x + all_of of_flow ins + all_of of_flow outs)
       (tells-each IsVar (all_of of_flow) tells-var) (λ vars.
-      tells-part IsBody (λ items. Gives (node_of x ins outs vars items)) (all_of of_item) of_node (0 + of_name x + all_of of_flow ins + all_of of_flow outs + all_of (all_of of_flow) vars) tells-items (λ items.
-      tells-gives (node_of x ins outs vars items) of_node (0 + of_name x + all_of of_flow ins + all_of of_flow outs + all_of (all_of of_flow) vars + all_of of_item items)
+      tells-part IsBody (λ items. Gives (node_of x ins outs vars items)) (all_of of_item) of_node
+      (0 + of_name x + all_of of_flow ins + all_of of_flow outs + all_of (all_of of_flow) vars) tells-items (λ items.
+      tells-gives (node_of x ins outs vars items) of_node (0 + of_name x + all_of of_flow ins + all_of of_flow outs + all_of (all_of of_flow) vars + all_of
+      of_item items)
       (omega (arith, of-joined vars, of-items items)))))))
 
   abbrev of_section : Section → ℕ
@@ -387,10 +432,13 @@ module _ (f : ℕ → ℕ) where
 
   tells-section : Tells IsSection of_section 0
   tells-section =
-      tells-choice (Part IsTypes (λ ds. Gives (Types ds))) (OneOf (Part IsConstants (λ cs. Gives (Constants cs))) (Part IsNode (λ n. Gives (OneNode n)))) of_section 0
-      (tells-part IsTypes (λ ds. Gives (Types ds)) (all_of of_type) of_section 0 tells-types (λ ds. tells-gives (Types ds) of_section (0 + all_of of_type ds) (omega arith)))
+      tells-choice (Part IsTypes (λ ds. Gives (Types ds))) (OneOf (Part IsConstants (λ cs. Gives (Constants cs))) (Part IsNode (λ n. Gives (OneNode n))))
+      of_section 0
+      (tells-part IsTypes (λ ds. Gives (Types ds)) (all_of of_type) of_section 0 tells-types
+      (λ ds. tells-gives (Types ds) of_section (0 + all_of of_type ds) (omega arith)))
       (tells-choice (Part IsConstants (λ cs. Gives (Constants cs))) (Part IsNode (λ n. Gives (OneNode n))) of_section 0
-      (tells-part IsConstants (λ cs. Gives (Constants cs)) (all_of of_constant) of_section 0 tells-constants (λ cs. tells-gives (Constants cs) of_section (0 + all_of of_constant cs) (omega arith)))
+      (tells-part IsConstants (λ cs. Gives (Constants cs)) (all_of of_constant) of_section 0 tells-constants
+      (λ cs. tells-gives (Constants cs) of_section (0 + all_of of_constant cs) (omega arith)))
       (tells-part IsNode (λ n. Gives (OneNode n)) of_node of_section 0 tells-node (λ n. tells-gives (OneNode n) of_section (0 + of_node n) (omega arith))))
 
   of-sections : (sections : List Section) → of_program (program_of sections) ≡ all_of of_section sections
@@ -402,6 +450,7 @@ module _ (f : ℕ → ℕ) where
   pub tells-program : (p : ProgramTree) (ts : List Token) → IsProgram p ts → of_program p ≤ of_tokens ts
   tells-program p ts h =
       let known : of_program p ≤ 0 + of_tokens ts =
-      tells-part (Each IsSection) (λ sections. Gives (program_of sections)) (all_of of_section) of_program 0 (tells-each IsSection of_section tells-section) (λ sections.
+      tells-part (Each IsSection) (λ sections. Gives (program_of sections)) (all_of of_section) of_program 0 (tells-each IsSection of_section tells-section)
+      (λ sections.
       tells-gives (program_of sections) of_program (0 + all_of of_section sections) (omega (arith, of-sections sections))) p ts h in
       omega (arith, known)

@@ -7,7 +7,8 @@ use Rattle.rv_tree.specs.declared.tree.Op.{Op}
 use Rattle.rv_tree.specs.declared.tree.Op.TheVariants as op
 use Rattle.rv_syntax.specs.declared.operator.Prefix.{Prefix}
 use Rattle.rv_syntax.specs.declared.operator.Prefix.TheVariants as prefixed
-use Rattle.rv_syntax.specs.Grammar.{Leaf, Yes, No, Count, Called, Callee, Function, Hash, Written, Atom, InBrackets, Before, Between, Gated, If, Given, Front, NoneBefore, Then, fixed, leaf_token, callee_token, prefix_mark, op_mark, spelling, front_spelling}
+use Rattle.rv_syntax.specs.Grammar.{Leaf, Yes, No, Count, Called, Callee, Function, Hash, Written, Atom, InBrackets, Before, Between, Gated, If, Given, Front}
+use Rattle.rv_syntax.specs.Grammar.{NoneBefore, Then, fixed, leaf_token, callee_token, prefix_mark, op_mark, spelling, front_spelling}
 use Rattle.rv_syntax.specs.Nesting.{Parts, past, limit, nesting, IsShallow, Inside, behind, behind_all, depth, IsShallowText}
 use Rattle.rv_syntax.proofs.Nested.{past_all}
 
@@ -69,15 +70,25 @@ mutual
   stay-spelled (Before p at w) = (stays-prefix p at, stay-spelled w)
   stay-spelled (Between o at a b) = stay-both (spelling a) (fixed (op_mark o) at ∷ spelling b) (stay-spelled a) (stays-op o at, stay-spelled b)
   stay-spelled (Gated w at x) = stay-both (spelling w) (fixed mark.When at ∷ _ ∷ []) (stay-spelled w) (λ ns. refl, (λ ns. refl, tt))
-  stay-spelled (If i a t b e c) =
-      (λ ns. refl, stay-both (spelling a) (fixed mark.Then t ∷ (spelling b ++ fixed mark.Else e ∷ spelling c)) (stay-spelled a) (λ ns. refl, stay-both (spelling b) (fixed mark.Else e ∷ spelling c) (stay-spelled b) (λ ns. refl, stay-spelled c)))
-  stay-spelled (Given f a front w b) =
-      (stays-callee f, (λ ns. refl, stay-both (front_spelling front) (spelling w ++ fixed mark.Close b ∷ []) (stay-fronts front) (stay-both (spelling w) (fixed mark.Close b ∷ []) (stay-spelled w) (λ ns. refl, tt))))
+  stay-spelled (If i a t b e c) = (
+    λ ns. refl,
+    stay-both (spelling a) (fixed mark.Then t ∷ (spelling b ++ fixed mark.Else e ∷ spelling c)) (stay-spelled a)
+        (λ ns. refl, stay-both (spelling b) (fixed mark.Else e ∷ spelling c) (stay-spelled b) (λ ns. refl, stay-spelled c)),
+  )
+  stay-spelled (Given f a front w b) = (
+    stays-callee f,
+    (
+      λ ns. refl,
+      stay-both (front_spelling front) (spelling w ++ fixed mark.Close b ∷ []) (stay-fronts front)
+          (stay-both (spelling w) (fixed mark.Close b ∷ []) (stay-spelled w) (λ ns. refl, tt)),
+    ),
+  )
 
   stay-fronts : (front : Front) → Stay (front_spelling front)
   stay-fronts NoneBefore = tt
   stay-fronts (Then front w at) =
-      stay-both (front_spelling front) (spelling w ++ fixed mark.Comma at ∷ []) (stay-fronts front) (stay-both (spelling w) (fixed mark.Comma at ∷ []) (stay-spelled w) (λ ns. refl, tt))
+      stay-both (front_spelling front) (spelling w ++ fixed mark.Comma at ∷ []) (stay-fronts front)
+      (stay-both (spelling w) (fixed mark.Comma at ∷ []) (stay-spelled w) (λ ns. refl, tt))
 
 -- behind such tokens one is inside
 pub behind-inside : (ts : List Token) (ns : Parts) → Stay ts → behind_all ts (Inside ns) ≡ Inside (past_all ts ns)

@@ -22,10 +22,13 @@ use Rattle.rv_tree.specs.Tree.{Tree}
 use Rattle.rv_syntax.specs.Grammar.{Yes, Called, Callee, Function, Hash, fixed, name_token, Just, Sampled, Invoked}
 use Rattle.rv_syntax.specs.Nesting.{Weight, Operator, Opening, Plain, mark_weight, weight, limit}
 use Rattle.rv_syntax.specs.Marks.{is_mark, is_name, kind_is, kind_name}
-use Rattle.rv_syntax.specs.Machine.{mark_start, start_of, mark_next, kind_next, next_of, leaf_tree, Frame, Brackets, Under, After, Asked, Answered, Else, Within, need_of, need, Held, held, whole, leaf_held, State, Want, Have, Clock, Hashed, To, Ends, Fails, accepts, taken, wrapped, closed, answered, otherwise, argued, awaited, onward, settle, begin, clocked, opened, step, starting, following}
+use Rattle.rv_syntax.specs.Machine.{mark_start, start_of, mark_next, kind_next, next_of, leaf_tree, Frame, Brackets, Under, After, Asked, Answered, Else}
+use Rattle.rv_syntax.specs.Machine.{Within, need_of, need, Held, held, whole, leaf_held, State, Want, Have, Clock, Hashed, To, Ends, Fails, accepts, taken}
+use Rattle.rv_syntax.specs.Machine.{wrapped, closed, answered, otherwise, argued, awaited, onward, settle, begin, clocked, opened, step, starting, following}
 use Rattle.rv_syntax.specs.Limited.{Counts, counts, count, at_end, going, limited, Limited, meets, left_to, leave}
 use Rattle.rv_syntax.specs.Parse.{starts}
-use Rattle.rv_syntax.specs.Reads.{Ahead, tail, Stops, Around, from, Wanting, Calling, argued_from, TakesLeaf, starts_call, link_next, linked, SeesLink, Enters, TakesName, Passes, TakesMark}
+use Rattle.rv_syntax.specs.Reads.{Ahead, tail, Stops, Around, from, Wanting, Calling, argued_from, TakesLeaf, starts_call, link_next, linked, SeesLink, Enters}
+use Rattle.rv_syntax.specs.Reads.{TakesName, Passes, TakesMark}
 use Rattle.rv_syntax.proofs.Marked.{token-mark}
 use Rattle.rv_syntax.proofs.Complete.{settle-taken}
 
@@ -115,10 +118,12 @@ moves t ts c d st q e w =
     ap (λ m. going m (count (weight t) c) (λ z. limited (count (weight t) c) z ts) (t ∷ ts)) e
     ∙ ap (λ x. cond (nat_le x.now limit) (limited x q ts) (Err (TooDeep, t ∷ ts))) w
 
-goes : (t : Token) (ts : List Token) (c d : Counts) (st q : State) → step st t ≡ To q → count (weight t) c ≡ d → d.now ≤ limit → limited c st (t ∷ ts) ≡ limited d q ts
+goes : (t : Token) (ts : List Token) (c d : Counts) (st q : State) → step st t ≡ To q → count (weight t) c ≡ d → d.now ≤ limit
+    → limited c st (t ∷ ts) ≡ limited d q ts
 goes t ts c d st q e w le = moves t ts c d st q e w ∙ within d.now (limited d q ts) (Err (TooDeep, t ∷ ts)) le
 
-deep : (t : Token) (ts : List Token) (c d : Counts) (st q : State) → step st t ≡ To q → count (weight t) c ≡ d → limit < d.now → limited c st (t ∷ ts) ≡ Err (TooDeep, t ∷ ts)
+deep : (t : Token) (ts : List Token) (c d : Counts) (st q : State) → step st t ≡ To q → count (weight t) c ≡ d → limit < d.now
+    → limited c st (t ∷ ts) ≡ Err (TooDeep, t ∷ ts)
 deep t ts c d st q e w lt = moves t ts c d st q e w ∙ beyond d.now (limited d q ts) (Err (TooDeep, t ∷ ts)) lt
 
 fails : (t : Token) (ts : List Token) (c : Counts) (st : State) → step st t ≡ Fails → limited c st (t ∷ ts) ≡ Err (Offends, t ∷ ts)
@@ -128,7 +133,8 @@ fails t ts c st e = ap (λ m. going m (count (weight t) c) (λ z. limited (count
 fails-to : (q : State) → Fails ≡ To q → ⊥
 fails-to q h = cc
 
-pub moved : (st : State) (ss : List ℕ) (old new : Ahead) (d : ℕ) (ts : List Token) → new.rest ≡ ts → new.depth ≡ d → limited (counts d ss) st ts ≡ limited (counts new.depth ss) st new.rest
+pub moved : (st : State) (ss : List ℕ) (old new : Ahead) (d : ℕ) (ts : List Token) → new.rest ≡ ts → new.depth ≡ d
+    → limited (counts d ss) st ts ≡ limited (counts new.depth ss) st new.rest
 moved st ss old new d ts h k = ap (λ x. limited (counts x ss) st ts) (sym k) ∙ ap (λ l. limited (counts new.depth ss) st l) (sym h)
 
 -- ---- Where an operand is wanted.
@@ -141,18 +147,21 @@ weighed t r v c h f = ap (λ w. count w c) (f (weight t) (weighs-as t r h))
 none-here : (r : Start) (s : List Frame) (q : State) → start.Other ≡ r → ((h : Held) → begin r h s ≡ To q) → ⊥
 none-here r s q h b = fails-to q (ap (λ x. begin x (whole (Just Yes 0)) s) h ∙ b (whole (Just Yes 0)))
 
-start-goes : (ts : List Token) (c : Counts) (s : List Frame) (r : Start) (q : State) (v : Weight) → starting ts ≡ r → ((h : Held) → begin r h s ≡ To q) → ((w : Weight) → Weighs r w → w ≡ v)
+start-goes : (ts : List Token) (c : Counts) (s : List Frame) (r : Start) (q : State) (v : Weight) → starting ts ≡ r → ((h : Held) → begin r h s ≡ To q)
+    → ((w : Weight) → Weighs r w → w ≡ v)
     → (count v c).now ≤ limit → limited c (Want s) ts ≡ limited (count v c) q (tail ts)
 start-goes [] c s r q v h b f le = absurd (none-here r s q h b)
 start-goes (t ∷ ts) c s r q v h b f le = goes t ts c (count v c) (Want s) q (begins-so t r s q h b) (weighed t r v c h f) le
 
-start-deep : (ts : List Token) (c : Counts) (s : List Frame) (r : Start) (q : State) (v : Weight) → starting ts ≡ r → ((h : Held) → begin r h s ≡ To q) → ((w : Weight) → Weighs r w → w ≡ v)
+start-deep : (ts : List Token) (c : Counts) (s : List Frame) (r : Start) (q : State) (v : Weight) → starting ts ≡ r → ((h : Held) → begin r h s ≡ To q)
+    → ((w : Weight) → Weighs r w → w ≡ v)
     → limit < (count v c).now → limited c (Want s) ts ≡ Err (TooDeep, ts)
 start-deep [] c s r q v h b f lt = absurd (none-here r s q h b)
 start-deep (t ∷ ts) c s r q v h b f lt = deep t ts c (count v c) (Want s) q (begins-so t r s q h b) (weighed t r v c h f) lt
 
 -- an operator token, before and behind it
-module _ (old : Ahead) (r : Start) (q : List Frame → State) (is : starting old.rest ≡ r) (b : (h : Held) (s : List Frame) → begin r h s ≡ To (q s)) (f : (w : Weight) → Weighs r w → w ≡ Operator) where
+module _ (old : Ahead) (r : Start) (q : List Frame → State) (is : starting old.rest ≡ r) (b : (h : Held) (s : List Frame) → begin r h s ≡ To (q s))
+    (f : (w : Weight) → Weighs r w → w ≡ Operator) where
   pub operator-goes : (mid : Ahead) → Enters old (Ok tt) mid → (x : Around) → from old Want x ≡ from mid q x
   operator-goes mid n x =
       start-goes old.rest (counts old.depth x.outside) x.frames r (q x.frames) Operator is (λ h. b h x.frames) f (omega (arith, n.0))
@@ -169,7 +178,8 @@ bracket-goes old mid is n x =
     ∙ moved (Want (Brackets ∷ x.frames)) (old.depth ∷ x.outside) old mid (old.depth + 1) (tail old.rest) n.1 n.2
 
 pub bracket-deep : (old : Ahead) → starting old.rest ≡ start.Opens → limit ≤ old.depth → (x : Around) → from old Want x ≡ Err (TooDeep, old.rest)
-bracket-deep old is le x = start-deep old.rest (counts old.depth x.outside) x.frames start.Opens (Want (Brackets ∷ x.frames)) Opening is (λ h. refl) (λ w e. e) (omega arith)
+bracket-deep old is le x = start-deep old.rest (counts old.depth x.outside) x.frames start.Opens (Want (Brackets ∷ x.frames)) Opening is (λ h. refl) (λ w e. e)
+    (omega arith)
 
 -- a token that begins no operand
 none-at : (ts : List Token) (c : Counts) (s : List Frame) → starting ts ≡ start.Other → limited c (Want s) ts ≡ Err (Offends, ts)
@@ -222,16 +232,19 @@ wrapped-name (Within g ts) b e = refl
 
 settle-name : (r : Next) (b : Bool) (e : Tree) (s : List Frame) → (r ≡ next.Opens → ⊥) → settle r (held 11 b e) s ≡ settle r (held 10 b e) s
 settle-name r b e [] h =
-    ap (λ a. cond a (taken r (held 11 b e) []) (Ends e)) (accepts-name r 0 b e h) ∙ ap (λ m. cond (accepts r 0 (held 10 b e)) m (Ends e)) (taken-name r b e [] h)
+    ap (λ a. cond a (taken r (held 11 b e) []) (Ends e)) (accepts-name r 0 b e h)
+    ∙ ap (λ m. cond (accepts r 0 (held 10 b e)) m (Ends e)) (taken-name r b e [] h)
 settle-name r b e (f ∷ s) h =
     ap (λ a. cond a (taken r (held 11 b e) (f ∷ s)) (onward (wrapped f (held 11 b e)) (λ g. settle r g s) (awaited r f e s))) (accepts-name r (need_of f) b e h)
-    ∙ ap (λ m. cond (accepts r (need_of f) (held 10 b e)) m (onward (wrapped f (held 11 b e)) (λ g. settle r g s) (awaited r f e s))) (taken-name r b e (f ∷ s) h)
+    ∙ ap (λ m. cond (accepts r (need_of f) (held 10 b e)) m (onward (wrapped f (held 11 b e)) (λ g. settle r g s) (awaited r f e s)))
+    (taken-name r b e (f ∷ s) h)
     ∙ ap (λ o. cond (accepts r (need_of f) (held 10 b e)) (taken r (held 10 b e) (f ∷ s)) (onward o (λ g. settle r g s) (awaited r f e s))) (wrapped-name f b e)
 
 other-opens : next.Other ≡ next.Opens → ⊥
 other-opens h = cc
 
-as-name : (ts : List Token) (c : Counts) (e : Tree) (s : List Frame) → (following ts ≡ next.Opens → ⊥) → limited c (Have (held 11 false e) s) ts ≡ limited c (Have (held 10 false e) s) ts
+as-name : (ts : List Token) (c : Counts) (e : Tree) (s : List Frame) → (following ts ≡ next.Opens → ⊥)
+    → limited c (Have (held 11 false e) s) ts ≡ limited c (Have (held 10 false e) s) ts
 unfolding limited
 as-name [] c e s h = ap at_end (settle-name next.Other false e s other-opens)
 as-name (t ∷ ts) c e s h = ap (λ m. going m (count (weight t) c) (λ z. limited (count (weight t) c) z ts) (t ∷ ts)) (settle-name (next_of t) false e s h)
@@ -254,7 +267,8 @@ opens-list (t ∷ ts) h = opens-kind t.kind t.at h
 both-false : (b : Bool) → b ≡ true → b ≡ false → ⊥
 both-false b h k = cc
 
-leaf-mark : (m : Mark) (at : ℕ) (ts : List Token) (c : Counts) (s : List Frame) → limited c (Have (leaf_held (fixed m at)) s) ts ≡ limited c (Have (held 10 false (leaf_tree (fixed m at))) s) ts
+leaf-mark : (m : Mark) (at : ℕ) (ts : List Token) (c : Counts) (s : List Frame)
+    → limited c (Have (leaf_held (fixed m at)) s) ts ≡ limited c (Have (held 10 false (leaf_tree (fixed m at))) s) ts
 leaf-mark mark.True at ts c s = refl
 leaf-mark _ at ts c s = refl
 
@@ -266,12 +280,14 @@ leaf-at (kind.Fixed m) at ts c s h = leaf-mark m at ts c s
 leaf-at kind.LeftOut at ts c s h = refl
 leaf-at kind.Bad at ts c s h = refl
 
-pub leaf-goes : (old new : Ahead) (t : Token) (e : Tree) → starting old.rest ≡ start.Operand → starts_call old.rest ≡ false → old.rest ≡ t ∷ new.rest → new.depth ≡ old.depth → old.depth ≤ limit → e ≡ leaf_tree t
+pub leaf-goes : (old new : Ahead) (t : Token) (e : Tree) → starting old.rest ≡ start.Operand → starts_call old.rest ≡ false → old.rest ≡ t ∷ new.rest
+    → new.depth ≡ old.depth → old.depth ≤ limit → e ≡ leaf_tree t
     → (x : Around) → from old Want x ≡ from new (Have (held 10 false e)) x
 leaf-goes old new t e is n r d le v x =
     let h : start_of t ≡ start.Operand = sym (ap starting r) ∙ is in
     ap (λ ts. limited (counts old.depth x.outside) (Want x.frames) ts) r
-    ∙ goes t new.rest (counts old.depth x.outside) (counts old.depth x.outside) (Want x.frames) (Have (leaf_held t) x.frames) (ap (λ q. begin q (leaf_held t) x.frames) h)
+    ∙ goes t new.rest (counts old.depth x.outside) (counts old.depth x.outside) (Want x.frames) (Have (leaf_held t) x.frames)
+    (ap (λ q. begin q (leaf_held t) x.frames) h)
     (ap (λ w. count w (counts old.depth x.outside)) (weighs-as t start.Operand h)) le
     ∙ leaf-at t.kind t.at new.rest (counts old.depth x.outside) x.frames (sym (ap starts_call r) ∙ n)
     ∙ ap (λ y. limited (counts old.depth x.outside) (Have (held 10 false y) x.frames) new.rest) (sym v)
@@ -286,33 +302,39 @@ taken-link : (l : Link) (h : Held) (s : List Frame) → taken (link_next l) h s 
 taken-link (link.Between o at) h s = refl
 taken-link (link.When at) h s = refl
 
-link-so : (t : Token) (l : Link) (h : Held) (s : List Frame) → accepts (link_next l) (need s) h ≡ true → next_of t ≡ link_next l → step (Have h s) t ≡ To (linked l h s)
+link-so : (t : Token) (l : Link) (h : Held) (s : List Frame) → accepts (link_next l) (need s) h ≡ true → next_of t ≡ link_next l
+    → step (Have h s) t ≡ To (linked l h s)
 link-so t l h s a e = ap (λ r. settle r h s) e ∙ settle-taken (link_next l) h s a ∙ taken-link l h s
 
-link-goes-at : (ts : List Token) (d : ℕ) (ss : List ℕ) (l : Link) (h : Held) (s : List Frame) → accepts (link_next l) (need s) h ≡ true → following ts ≡ link_next l → d < limit
+link-goes-at : (ts : List Token) (d : ℕ) (ss : List ℕ) (l : Link) (h : Held) (s : List Frame) → accepts (link_next l) (need s) h ≡ true
+    → following ts ≡ link_next l → d < limit
     → limited (counts d ss) (Have h s) ts ≡ limited (counts (d + 1) ss) (linked l h s) (tail ts)
 link-goes-at [] d ss l h s a e lt = absurd (no-link l e)
 link-goes-at (t ∷ ts) d ss l h s a e lt =
     goes t ts (counts d ss) (counts (d + 1) ss) (Have h s) (linked l h s) (link-so t l h s a e) (ap (λ w. count w (counts d ss)) (heavy-as t l e)) (omega arith)
 
-link-deep-at : (ts : List Token) (d : ℕ) (ss : List ℕ) (l : Link) (h : Held) (s : List Frame) → accepts (link_next l) (need s) h ≡ true → following ts ≡ link_next l → limit ≤ d
+link-deep-at : (ts : List Token) (d : ℕ) (ss : List ℕ) (l : Link) (h : Held) (s : List Frame) → accepts (link_next l) (need s) h ≡ true
+    → following ts ≡ link_next l → limit ≤ d
     → limited (counts d ss) (Have h s) ts ≡ Err (TooDeep, ts)
 link-deep-at [] d ss l h s a e le = absurd (no-link l e)
 link-deep-at (t ∷ ts) d ss l h s a e le =
     deep t ts (counts d ss) (counts (d + 1) ss) (Have h s) (linked l h s) (link-so t l h s a e) (ap (λ w. count w (counts d ss)) (heavy-as t l e)) (omega arith)
 
 -- what goes on with an operand
-pub link-goes : (old mid : Ahead) (k : ℕ) (l : Link) (h : Held) → SeesLink k h old (Some l) → Enters old (Ok tt) mid → (x : Around) → need x.frames ≡ k → from old (Have h) x ≡ from mid (linked l h) x
+pub link-goes : (old mid : Ahead) (k : ℕ) (l : Link) (h : Held) → SeesLink k h old (Some l) → Enters old (Ok tt) mid → (x : Around) → need x.frames ≡ k
+    → from old (Have h) x ≡ from mid (linked l h) x
 link-goes old mid k l h i n x e =
     link-goes-at old.rest old.depth x.outside l h x.frames (subst (λ j. accepts (link_next l) j h ≡ true) (sym e) i.0) i.1 n.0
     ∙ moved (linked l h x.frames) x.outside old mid (old.depth + 1) (tail old.rest) n.1 n.2
 
-pub link-deep : (old : Ahead) (k : ℕ) (l : Link) (h : Held) → SeesLink k h old (Some l) → limit ≤ old.depth → (x : Around) → need x.frames ≡ k → from old (Have h) x ≡ Err (TooDeep, old.rest)
+pub link-deep : (old : Ahead) (k : ℕ) (l : Link) (h : Held) → SeesLink k h old (Some l) → limit ≤ old.depth → (x : Around) → need x.frames ≡ k
+    → from old (Have h) x ≡ Err (TooDeep, old.rest)
 link-deep old k l h i le x e = link-deep-at old.rest old.depth x.outside l h x.frames (subst (λ j. accepts (link_next l) j h ≡ true) (sym e) i.0) i.1 le
 
 -- an operand that nothing goes on with is left to the frames
 onward-left : (t : Token) (ts : List Token) (c : Counts) (h : Held) (f : Frame) (s : List Frame)
-    → going (onward (wrapped f h) (λ g. settle (next_of t) g s) (awaited (next_of t) f h.body s)) (count (weight t) c) (λ q. limited (count (weight t) c) q ts) (t ∷ ts) ≡ left_to (wrapped f h) c f h.body s (t ∷ ts)
+    → going (onward (wrapped f h) (λ g. settle (next_of t) g s) (awaited (next_of t) f h.body s)) (count (weight t) c) (λ q. limited (count (weight t) c) q ts)
+    (t ∷ ts) ≡ left_to (wrapped f h) c f h.body s (t ∷ ts)
 unfolding limited
 onward-left t ts c h Brackets s = refl
 onward-left t ts c h (Under p at) s = refl
@@ -322,7 +344,8 @@ onward-left t ts c h (Answered at a) s = refl
 onward-left t ts c h (Else at a b) s = refl
 onward-left t ts c h (Within g es) s = refl
 
-end-left : (c : Counts) (h : Held) (f : Frame) (s : List Frame) → at_end (onward (wrapped f h) (λ g. settle next.Other g s) (awaited next.Other f h.body s)) ≡ left_to (wrapped f h) c f h.body s []
+end-left : (c : Counts) (h : Held) (f : Frame) (s : List Frame) → at_end (onward (wrapped f h) (λ g. settle next.Other g s) (awaited next.Other f h.body s))
+    ≡ left_to (wrapped f h) c f h.body s []
 unfolding limited
 end-left c h Brackets s = refl
 end-left c h (Under p at) s = refl
@@ -336,33 +359,40 @@ leaves-at : (ts : List Token) (c : Counts) (h : Held) (s : List Frame) → accep
 unfolding limited
 leaves-at [] c h [] e = refl
 leaves-at [] c h (f ∷ s) e = end-left c h f s
-leaves-at (t ∷ ts) c h [] e = ap (λ b. going (cond b (taken (next_of t) h []) (Ends h.body)) (count (weight t) c) (λ q. limited (count (weight t) c) q ts) (t ∷ ts)) e
+leaves-at (t ∷ ts) c h [] e = ap (λ b. going (cond b (taken (next_of t) h []) (Ends h.body)) (count (weight t) c) (λ q. limited (count (weight t) c) q ts)
+    (t ∷ ts)) e
 leaves-at (t ∷ ts) c h (f ∷ s) e =
-    ap (λ b. going (cond b (taken (next_of t) h (f ∷ s)) (onward (wrapped f h) (λ g. settle (next_of t) g s) (awaited (next_of t) f h.body s))) (count (weight t) c) (λ q. limited (count (weight t) c) q ts) (t ∷ ts)) e
+    ap (λ b. going (cond b (taken (next_of t) h (f ∷ s)) (onward (wrapped f h) (λ g. settle (next_of t) g s) (awaited (next_of t) f h.body s)))
+    (count (weight t) c) (λ q. limited (count (weight t) c) q ts) (t ∷ ts)) e
     ∙ onward-left t ts c h f s
 
-pub leaves : (old : Ahead) (k : ℕ) (h : Held) → h.grade ≤ 10 → SeesLink k h old None → (x : Around) → need x.frames ≡ k → from old (Have h) x ≡ leave (counts old.depth x.outside) h x.frames old.rest
+pub leaves : (old : Ahead) (k : ℕ) (h : Held) → h.grade ≤ 10 → SeesLink k h old None → (x : Around) → need x.frames ≡ k
+    → from old (Have h) x ≡ leave (counts old.depth x.outside) h x.frames old.rest
 leaves old k h low i x e = leaves-at old.rest (counts old.depth x.outside) h x.frames (subst (λ j. accepts (following old.rest) j h ≡ false) (sym e) (i low))
 
 -- ---- A word or symbol that a frame waits for.
-meets-goes : (t : Token) (ts : List Token) (c d : Counts) (f : Frame) (e : Tree) (s : List Frame) (q : State) → awaited (next_of t) f e s ≡ To q → count (weight t) c ≡ d → d.now ≤ limit → meets c f e s (t ∷ ts) ≡ limited d q ts
+meets-goes : (t : Token) (ts : List Token) (c d : Counts) (f : Frame) (e : Tree) (s : List Frame) (q : State) → awaited (next_of t) f e s ≡ To q
+    → count (weight t) c ≡ d → d.now ≤ limit → meets c f e s (t ∷ ts) ≡ limited d q ts
 meets-goes t ts c d f e s q a w le =
     ap (λ m. going m (count (weight t) c) (λ z. limited (count (weight t) c) z ts) (t ∷ ts)) a
     ∙ ap (λ x. cond (nat_le x.now limit) (limited x q ts) (Err (TooDeep, t ∷ ts))) w
     ∙ within d.now (limited d q ts) (Err (TooDeep, t ∷ ts)) le
 
-mark-met : (m : Mark) (ts : List Token) (c d : Counts) (f : Frame) (e : Tree) (s : List Frame) (q : State) → starts (is_mark m) ts ≡ true → ((at : ℕ) → awaited (mark_next m at) f e s ≡ To q) → count (mark_weight m) c ≡ d → d.now ≤ limit
+mark-met : (m : Mark) (ts : List Token) (c d : Counts) (f : Frame) (e : Tree) (s : List Frame) (q : State) → starts (is_mark m) ts ≡ true
+    → ((at : ℕ) → awaited (mark_next m at) f e s ≡ To q) → count (mark_weight m) c ≡ d → d.now ≤ limit
     → meets c f e s ts ≡ limited d q (tail ts)
 mark-met m [] c d f e s q h a w le = cc
 mark-met m (t ∷ ts) c d f e s q h a w le = ap (λ x. meets c f e s (x ∷ ts)) (token-mark m t h) ∙ meets-goes (fixed m t.at) ts c d f e s q (a t.at) w le
 
-pub then-goes : (old new : Ahead) (i : ℕ) (h : Held) → Passes mark.Then old (Ok tt) new → (x : Around) → leave (counts old.depth x.outside) h (Asked i ∷ x.frames) old.rest ≡ from new (λ s. Want (Answered i h.body ∷ s)) x
+pub then-goes : (old new : Ahead) (i : ℕ) (h : Held) → Passes mark.Then old (Ok tt) new → (x : Around)
+    → leave (counts old.depth x.outside) h (Asked i ∷ x.frames) old.rest ≡ from new (λ s. Want (Answered i h.body ∷ s)) x
 then-goes old new i h p x =
     let c = counts old.depth x.outside in
     mark-met mark.Then old.rest c c (Asked i) h.body x.frames (Want (Answered i h.body ∷ x.frames)) p.0 (λ at. refl) refl p.3
     ∙ moved (Want (Answered i h.body ∷ x.frames)) x.outside old new old.depth (tail old.rest) p.1 p.2
 
-pub else-goes : (old new : Ahead) (i : ℕ) (a : Tree) (h : Held) → Passes mark.Else old (Ok tt) new → (x : Around) → leave (counts old.depth x.outside) h (Answered i a ∷ x.frames) old.rest ≡ from new (λ s. Want (Else i a h.body ∷ s)) x
+pub else-goes : (old new : Ahead) (i : ℕ) (a : Tree) (h : Held) → Passes mark.Else old (Ok tt) new → (x : Around)
+    → leave (counts old.depth x.outside) h (Answered i a ∷ x.frames) old.rest ≡ from new (λ s. Want (Else i a h.body ∷ s)) x
 else-goes old new i a h p x =
     let c = counts old.depth x.outside in
     mark-met mark.Else old.rest c c (Answered i a) h.body x.frames (Want (Else i a h.body ∷ x.frames)) p.0 (λ at. refl) refl p.3
@@ -371,7 +401,8 @@ else-goes old new i a h p x =
 pub close-goes : (n : ℕ) (old new : Ahead) (h : Held) → n ≤ limit → TakesMark mark.Close n old true new → (x : Around)
     → leave (counts old.depth (n ∷ x.outside)) h (Brackets ∷ x.frames) old.rest ≡ from new (Have (whole h.body)) x
 close-goes n old new h le p x =
-    mark-met mark.Close old.rest (counts old.depth (n ∷ x.outside)) (counts n x.outside) Brackets h.body x.frames (Have (whole h.body) x.frames) p.0 (λ at. refl) refl le
+    mark-met mark.Close old.rest (counts old.depth (n ∷ x.outside)) (counts n x.outside) Brackets h.body x.frames (Have (whole h.body) x.frames) p.0
+    (λ at. refl) refl le
     ∙ moved (Have (whole h.body) x.frames) x.outside old new n (tail old.rest) p.1 p.2
 
 pub comma-goes : (n : ℕ) (old new : Ahead) (h : Held) (es : List Tree) → n < limit → TakesMark mark.Comma (n + 1) old true new → (x : Calling)
@@ -383,10 +414,12 @@ comma-goes n old new h es lt p x =
     ∙ moved q ss old new (n + 1) (tail old.rest) p.1 p.2
 
 pub last-goes : (n : ℕ) (old new : Ahead) (h : Held) (es : List Tree) → n ≤ limit → TakesMark mark.Close n old true new → (x : Calling)
-    → leave (counts old.depth (n ∷ x.around.outside)) h (Within x.callee es ∷ x.around.frames) old.rest ≡ from new (Have (whole (Invoked x.callee (es ++ h.body ∷ [])))) x.around
+    → leave (counts old.depth (n ∷ x.around.outside)) h (Within x.callee es ∷ x.around.frames) old.rest ≡ from new
+    (Have (whole (Invoked x.callee (es ++ h.body ∷ [])))) x.around
 last-goes n old new h es le p x =
     let q = Have (whole (Invoked x.callee (es ++ h.body ∷ []))) x.around.frames in
-    mark-met mark.Close old.rest (counts old.depth (n ∷ x.around.outside)) (counts n x.around.outside) (Within x.callee es) h.body x.around.frames q p.0 (λ at. refl) refl le
+    mark-met mark.Close old.rest (counts old.depth (n ∷ x.around.outside)) (counts n x.around.outside) (Within x.callee es) h.body x.around.frames q p.0
+    (λ at. refl) refl le
     ∙ moved q x.around.outside old new n (tail old.rest) p.1 p.2
 
 -- ---- Where it is missing.
@@ -423,46 +456,55 @@ close-kind (kind.Number n) at e s h = refl
 close-kind kind.LeftOut at e s h = refl
 close-kind kind.Bad at e s h = refl
 
-argued-not : (m : Mark) (at : ℕ) (f : Callee) (es : List Tree) (e : Tree) (s : List Frame) → kind_is mark.Comma (kind.Fixed m) ≡ false → kind_is mark.Close (kind.Fixed m) ≡ false → argued (mark_next m at) f es e s ≡ Fails
+argued-not : (m : Mark) (at : ℕ) (f : Callee) (es : List Tree) (e : Tree) (s : List Frame) → kind_is mark.Comma (kind.Fixed m) ≡ false
+    → kind_is mark.Close (kind.Fixed m) ≡ false → argued (mark_next m at) f es e s ≡ Fails
 argued-not mark.Comma at f es e s h k = cc
 argued-not mark.Close at f es e s h k = cc
 argued-not _ at f es e s h k = refl
 
-argued-kind : (q : Kind) (at : ℕ) (f : Callee) (es : List Tree) (e : Tree) (s : List Frame) → kind_is mark.Comma q ≡ false → kind_is mark.Close q ≡ false → argued (kind_next q at) f es e s ≡ Fails
+argued-kind : (q : Kind) (at : ℕ) (f : Callee) (es : List Tree) (e : Tree) (s : List Frame) → kind_is mark.Comma q ≡ false → kind_is mark.Close q ≡ false
+    → argued (kind_next q at) f es e s ≡ Fails
 argued-kind (kind.Fixed m) at f es e s h k = argued-not m at f es e s h k
 argued-kind (kind.Name x) at f es e s h k = refl
 argued-kind (kind.Number n) at f es e s h k = refl
 argued-kind kind.LeftOut at f es e s h k = refl
 argued-kind kind.Bad at f es e s h k = refl
 
-unmet : (t : Token) (ts : List Token) (c : Counts) (f : Frame) (e : Tree) (s : List Frame) → awaited (next_of t) f e s ≡ Fails → meets c f e s (t ∷ ts) ≡ Err (Offends, t ∷ ts)
+unmet : (t : Token) (ts : List Token) (c : Counts) (f : Frame) (e : Tree) (s : List Frame) → awaited (next_of t) f e s ≡ Fails
+    → meets c f e s (t ∷ ts) ≡ Err (Offends, t ∷ ts)
 unmet t ts c f e s a = ap (λ m. going m (count (weight t) c) (λ z. limited (count (weight t) c) z ts) (t ∷ ts)) a
 
-pub then-missing : (ts : List Token) (c : Counts) (i : ℕ) (h : Held) (s : List Frame) → starts (is_mark mark.Then) ts ≡ false → leave c h (Asked i ∷ s) ts ≡ Err (Offends, ts)
+pub then-missing : (ts : List Token) (c : Counts) (i : ℕ) (h : Held) (s : List Frame) → starts (is_mark mark.Then) ts ≡ false
+    → leave c h (Asked i ∷ s) ts ≡ Err (Offends, ts)
 then-missing [] c i h s n = refl
 then-missing (t ∷ ts) c i h s n = unmet t ts c (Asked i) h.body s (then-kind t.kind t.at i h.body s n)
 
-pub else-missing : (ts : List Token) (c : Counts) (i : ℕ) (a : Tree) (h : Held) (s : List Frame) → starts (is_mark mark.Else) ts ≡ false → leave c h (Answered i a ∷ s) ts ≡ Err (Offends, ts)
+pub else-missing : (ts : List Token) (c : Counts) (i : ℕ) (a : Tree) (h : Held) (s : List Frame) → starts (is_mark mark.Else) ts ≡ false
+    → leave c h (Answered i a ∷ s) ts ≡ Err (Offends, ts)
 else-missing [] c i a h s n = refl
 else-missing (t ∷ ts) c i a h s n = unmet t ts c (Answered i a) h.body s (else-kind t.kind t.at i a h.body s n)
 
-pub close-missing : (ts : List Token) (c : Counts) (h : Held) (s : List Frame) → starts (is_mark mark.Close) ts ≡ false → leave c h (Brackets ∷ s) ts ≡ Err (Offends, ts)
+pub close-missing : (ts : List Token) (c : Counts) (h : Held) (s : List Frame) → starts (is_mark mark.Close) ts ≡ false
+    → leave c h (Brackets ∷ s) ts ≡ Err (Offends, ts)
 close-missing [] c h s n = refl
 close-missing (t ∷ ts) c h s n = unmet t ts c Brackets h.body s (close-kind t.kind t.at h.body s n)
 
-pub last-missing : (ts : List Token) (c : Counts) (f : Callee) (es : List Tree) (h : Held) (s : List Frame) → starts (is_mark mark.Comma) ts ≡ false → starts (is_mark mark.Close) ts ≡ false → leave c h (Within f es ∷ s) ts ≡ Err (Offends, ts)
+pub last-missing : (ts : List Token) (c : Counts) (f : Callee) (es : List Tree) (h : Held) (s : List Frame) → starts (is_mark mark.Comma) ts ≡ false
+    → starts (is_mark mark.Close) ts ≡ false → leave c h (Within f es ∷ s) ts ≡ Err (Offends, ts)
 last-missing [] c f es h s n m = refl
 last-missing (t ∷ ts) c f es h s n m = unmet t ts c (Within f es) h.body s (argued-kind t.kind t.at f es h.body s n m)
 
 -- ---- The name of a clock, and the bracket of a call.
-clocked-not : (k : Kind) (up at : ℕ) (e : Tree) (s : List Frame) → starts is_name (record { kind = k; at = up } ∷ []) ≡ false → clocked (kind_name k up) at e s ≡ Fails
+clocked-not : (k : Kind) (up at : ℕ) (e : Tree) (s : List Frame) → starts is_name (record { kind = k; at = up } ∷ []) ≡ false
+    → clocked (kind_name k up) at e s ≡ Fails
 clocked-not (kind.Name x) up at e s h = cc
 clocked-not (kind.Fixed m) up at e s h = refl
 clocked-not (kind.Number n) up at e s h = refl
 clocked-not kind.LeftOut up at e s h = refl
 clocked-not kind.Bad up at e s h = refl
 
-pub clock-missing : (ts : List Token) (c : Counts) (at : ℕ) (e : Tree) (s : List Frame) → starts is_name ts ≡ false → limited c (Clock at e s) ts ≡ Err (Offends, ts)
+pub clock-missing : (ts : List Token) (c : Counts) (at : ℕ) (e : Tree) (s : List Frame) → starts is_name ts ≡ false
+    → limited c (Clock at e s) ts ≡ Err (Offends, ts)
 unfolding limited
 clock-missing [] c at e s h = refl
 clock-missing (t ∷ ts) c at e s h = fails t ts c (Clock at e s) (clocked-not t.kind t.at at e s h)
@@ -482,22 +524,27 @@ call-opens [] d ss n s h lt = cc
 call-opens (t ∷ ts) d ss n s h lt =
     let h0 = leaf_held (name_token n) in
     ap (λ y. limited (counts d ss) (Have h0 s) (y ∷ ts)) (token-mark mark.Open t h)
-    ∙ goes (fixed mark.Open t.at) ts (counts d ss) (counts (d + 1) (d ∷ ss)) (Have h0 s) (Want (Within (Function n) [] ∷ s)) (settle-taken next.Opens h0 s refl) refl (omega arith)
+    ∙ goes (fixed mark.Open t.at) ts (counts d ss) (counts (d + 1) (d ∷ ss)) (Have h0 s) (Want (Within (Function n) [] ∷ s)) (settle-taken next.Opens h0 s refl)
+    refl (omega arith)
 
-call-opens-deep : (ts : List Token) (d : ℕ) (ss : List ℕ) (n : Name) (s : List Frame) → starts (is_mark mark.Open) ts ≡ true → limit ≤ d → limited (counts d ss) (Have (leaf_held (name_token n)) s) ts ≡ Err (TooDeep, ts)
+call-opens-deep : (ts : List Token) (d : ℕ) (ss : List ℕ) (n : Name) (s : List Frame) → starts (is_mark mark.Open) ts ≡ true → limit ≤ d
+    → limited (counts d ss) (Have (leaf_held (name_token n)) s) ts ≡ Err (TooDeep, ts)
 call-opens-deep [] d ss n s h le = cc
 call-opens-deep (t ∷ ts) d ss n s h le =
     let h0 = leaf_held (name_token n) in
     let is = token-mark mark.Open t h in
     ap (λ y. limited (counts d ss) (Have h0 s) (y ∷ ts)) is
-    ∙ deep (fixed mark.Open t.at) ts (counts d ss) (counts (d + 1) (d ∷ ss)) (Have h0 s) (Want (Within (Function n) [] ∷ s)) (settle-taken next.Opens h0 s refl) refl (omega arith)
+    ∙ deep (fixed mark.Open t.at) ts (counts d ss) (counts (d + 1) (d ∷ ss)) (Have h0 s) (Want (Within (Function n) [] ∷ s)) (settle-taken next.Opens h0 s refl)
+    refl (omega arith)
     ∙ ap (λ y. Err (TooDeep, y ∷ ts)) (sym is)
 
-call-named : (old mid : Ahead) (n : Name) → old.rest ≡ name_token n ∷ mid.rest → mid.depth ≡ old.depth → old.depth ≤ limit → (x : Around) → from old Want x ≡ from mid (Have (leaf_held (name_token n))) x
+call-named : (old mid : Ahead) (n : Name) → old.rest ≡ name_token n ∷ mid.rest → mid.depth ≡ old.depth → old.depth ≤ limit → (x : Around)
+    → from old Want x ≡ from mid (Have (leaf_held (name_token n))) x
 call-named old mid n r d le x =
     let c = counts old.depth x.outside in
     let q = Have (leaf_held (name_token n)) x.frames in
-    ap (λ ts. limited c (Want x.frames) ts) r ∙ goes (name_token n) mid.rest c c (Want x.frames) q refl refl le ∙ moved q x.outside old mid old.depth mid.rest refl d
+    ap (λ ts. limited c (Want x.frames) ts) r ∙ goes (name_token n) mid.rest c c (Want x.frames) q refl refl le
+    ∙ moved q x.outside old mid old.depth mid.rest refl d
 
 call-bracket : (old mid : Ahead) (n : Name) → old.rest ≡ name_token n ∷ mid.rest → starts_call old.rest ≡ true → starts (is_mark mark.Open) mid.rest ≡ true
 call-bracket old mid n r h = sym (ap starts_call r) ∙ h
@@ -505,14 +552,16 @@ call-bracket old mid n r h = sym (ap starts_call r) ∙ h
 abbrev pub calling : Callee → Around → Calling
 calling f x = record { callee = f; around = x }
 
-pub call-goes : (old mid new : Ahead) (n : Name) → starts_call old.rest ≡ true → TakesName old (Ok n) mid → Enters mid (Ok tt) new → (x : Around) → from old Want x ≡ argued_from mid.depth [] new (calling (Function n) x)
+pub call-goes : (old mid new : Ahead) (n : Name) → starts_call old.rest ≡ true → TakesName old (Ok n) mid → Enters mid (Ok tt) new → (x : Around)
+    → from old Want x ≡ argued_from mid.depth [] new (calling (Function n) x)
 call-goes old mid new n h p e x =
     let q = Want (Within (Function n) [] ∷ x.frames) in
     call-named old mid n p.0 p.1 p.2 x
     ∙ call-opens mid.rest mid.depth x.outside n x.frames (call-bracket old mid n p.0 h) e.0
     ∙ moved q (mid.depth ∷ x.outside) mid new (mid.depth + 1) (tail mid.rest) e.1 e.2
 
-pub call-deep : (old mid : Ahead) (n : Name) → starts_call old.rest ≡ true → TakesName old (Ok n) mid → limit ≤ mid.depth → (x : Around) → from old Want x ≡ Err (TooDeep, mid.rest)
+pub call-deep : (old mid : Ahead) (n : Name) → starts_call old.rest ≡ true → TakesName old (Ok n) mid → limit ≤ mid.depth → (x : Around)
+    → from old Want x ≡ Err (TooDeep, mid.rest)
 call-deep old mid n h p le x = call-named old mid n p.0 p.1 p.2 x ∙ call-opens-deep mid.rest mid.depth x.outside n x.frames (call-bracket old mid n p.0 h) le
 
 call-name : (ts : List Token) → starts_call ts ≡ true → starts is_name ts ≡ true
@@ -531,7 +580,8 @@ hash-opens (t ∷ ts) d ss at s h lt =
     ap (λ y. limited (counts d ss) (Hashed at s) (y ∷ ts)) (token-mark mark.Open t h)
     ∙ goes (fixed mark.Open t.at) ts (counts d ss) (counts (d + 1) (d ∷ ss)) (Hashed at s) (Want (Within (Hash at) [] ∷ s)) refl refl (omega arith)
 
-hash-opens-deep : (ts : List Token) (d : ℕ) (ss : List ℕ) (at : ℕ) (s : List Frame) → starts (is_mark mark.Open) ts ≡ true → limit ≤ d → limited (counts d ss) (Hashed at s) ts ≡ Err (TooDeep, ts)
+hash-opens-deep : (ts : List Token) (d : ℕ) (ss : List ℕ) (at : ℕ) (s : List Frame) → starts (is_mark mark.Open) ts ≡ true → limit ≤ d
+    → limited (counts d ss) (Hashed at s) ts ≡ Err (TooDeep, ts)
 hash-opens-deep [] d ss at s h le = cc
 hash-opens-deep (t ∷ ts) d ss at s h le =
     let is = token-mark mark.Open t h in
@@ -539,12 +589,14 @@ hash-opens-deep (t ∷ ts) d ss at s h le =
     ∙ deep (fixed mark.Open t.at) ts (counts d ss) (counts (d + 1) (d ∷ ss)) (Hashed at s) (Want (Within (Hash at) [] ∷ s)) refl refl (omega arith)
     ∙ ap (λ y. Err (TooDeep, y ∷ ts)) (sym is)
 
-pub hash-goes : (old new : Ahead) (at : ℕ) → starts (is_mark mark.Open) old.rest ≡ true → Enters old (Ok tt) new → (x : Around) → from old (Hashed at) x ≡ argued_from old.depth [] new (calling (Hash at) x)
+pub hash-goes : (old new : Ahead) (at : ℕ) → starts (is_mark mark.Open) old.rest ≡ true → Enters old (Ok tt) new → (x : Around)
+    → from old (Hashed at) x ≡ argued_from old.depth [] new (calling (Hash at) x)
 hash-goes old new at h e x =
     hash-opens old.rest old.depth x.outside at x.frames h e.0
     ∙ moved (Want (Within (Hash at) [] ∷ x.frames)) (old.depth ∷ x.outside) old new (old.depth + 1) (tail old.rest) e.1 e.2
 
-pub hash-deep : (old : Ahead) (at : ℕ) → starts (is_mark mark.Open) old.rest ≡ true → limit ≤ old.depth → (x : Around) → from old (Hashed at) x ≡ Err (TooDeep, old.rest)
+pub hash-deep : (old : Ahead) (at : ℕ) → starts (is_mark mark.Open) old.rest ≡ true → limit ≤ old.depth → (x : Around)
+    → from old (Hashed at) x ≡ Err (TooDeep, old.rest)
 hash-deep old at h le x = hash-opens-deep old.rest old.depth x.outside at x.frames h le
 
 opened-not : (m : Mark) (up at : ℕ) (s : List Frame) → kind_is mark.Open (kind.Fixed m) ≡ false → opened (mark_start m up) at s ≡ Fails
@@ -558,31 +610,36 @@ opened-kind (kind.Number n) up at s h = refl
 opened-kind kind.LeftOut up at s h = refl
 opened-kind kind.Bad up at s h = refl
 
-pub hash-missing : (ts : List Token) (c : Counts) (at : ℕ) (s : List Frame) → starts (is_mark mark.Open) ts ≡ false → limited c (Hashed at s) ts ≡ Err (Offends, ts)
+pub hash-missing : (ts : List Token) (c : Counts) (at : ℕ) (s : List Frame) → starts (is_mark mark.Open) ts ≡ false
+    → limited c (Hashed at s) ts ≡ Err (Offends, ts)
 unfolding limited
 hash-missing [] c at s h = refl
 hash-missing (t ∷ ts) c at s h = fails t ts c (Hashed at s) (opened-kind t.kind t.at at s h)
 
 -- ---- Stops.
 -- a token that is too deep stops what leads there
-pub deep-stop : (X : Type 0) (f : X → Limited) (e : Stop) (mid new : Ahead) → Enters mid (Err e) new → (limit ≤ mid.depth → (x : X) → f x ≡ Err (TooDeep, mid.rest)) → Stops X f e new
+pub deep-stop : (X : Type 0) (f : X → Limited) (e : Stop) (mid new : Ahead) → Enters mid (Err e) new
+    → (limit ≤ mid.depth → (x : X) → f x ≡ Err (TooDeep, mid.rest)) → Stops X f e new
 deep-stop X f stop.Memory mid new n g = tt
 deep-stop X f (stop.Token why left) mid new n g =
     (n.3 ∙ ap (λ a. length a.rest) (sym n.2), λ x. g n.0 x ∙ ap (λ w. Err (w, mid.rest)) (sym n.1) ∙ ap (λ a. Err (why, a.rest)) (sym n.2))
 
 -- a word that is missing does
-pub pass-stop : (X : Type 0) (f : X → Limited) (m : Mark) (e : Stop) (mid new : Ahead) → Passes m mid (Err e) new → (starts (is_mark m) mid.rest ≡ false → (x : X) → f x ≡ Err (Offends, mid.rest)) → Stops X f e new
+pub pass-stop : (X : Type 0) (f : X → Limited) (m : Mark) (e : Stop) (mid new : Ahead) → Passes m mid (Err e) new
+    → (starts (is_mark m) mid.rest ≡ false → (x : X) → f x ≡ Err (Offends, mid.rest)) → Stops X f e new
 pass-stop X f m stop.Memory mid new p g = tt
 pass-stop X f m (stop.Token why left) mid new p g =
     (p.0 ∙ ap (λ a. length a.rest) (sym p.2), λ x. g p.3 x ∙ ap (λ w. Err (w, mid.rest)) (sym p.1) ∙ ap (λ a. Err (why, a.rest)) (sym p.2))
 
-pub name-stop : (X : Type 0) (f : X → Limited) (e : Stop) (mid new : Ahead) → TakesName mid (Err e) new → (starts is_name mid.rest ≡ false → (x : X) → f x ≡ Err (Offends, mid.rest)) → Stops X f e new
+pub name-stop : (X : Type 0) (f : X → Limited) (e : Stop) (mid new : Ahead) → TakesName mid (Err e) new
+    → (starts is_name mid.rest ≡ false → (x : X) → f x ≡ Err (Offends, mid.rest)) → Stops X f e new
 name-stop X f stop.Memory mid new p g = tt
 name-stop X f (stop.Token why left) mid new p g =
     (p.0 ∙ ap (λ a. length a.rest) (sym p.2), λ x. g p.3 x ∙ ap (λ w. Err (w, mid.rest)) (sym p.1) ∙ ap (λ a. Err (why, a.rest)) (sym p.2))
 
 -- a stop further on is a stop of what leads there
-pub stop-from : (X Y : Type 0) (f : X → Limited) (g : Y → Limited) (e : Stop) (new : Ahead) → ((x : X) → (y : Y) × (f x ≡ g y)) → Stops Y g e new → Stops X f e new
+pub stop-from : (X Y : Type 0) (f : X → Limited) (g : Y → Limited) (e : Stop) (new : Ahead) → ((x : X) → (y : Y) × (f x ≡ g y)) → Stops Y g e new
+    → Stops X f e new
 stop-from X Y f g stop.Memory new link s = tt
 stop-from X Y f g (stop.Token why left) new link s = (s.0, λ x. let l = link x in l.1 ∙ s.1 l.0)
 

@@ -1,5 +1,6 @@
 -- The bytes of a word.
-use Rattle.std.proofs.Common.{◌≡◌, ℕ, zero, suc, ◌+◌, ◌<◌, ◌≤◌, true, false, cond, ◌||◌, List, [], ◌∷◌, take, refl, sym, ap, ◌∙◌, subst, inl, inr, arith, one-add, lit<}
+use Rattle.std.proofs.Common.{◌≡◌, ℕ, zero, suc, ◌+◌, ◌<◌, ◌≤◌, true, false, cond, ◌||◌, List, [], ◌∷◌, take, refl, sym, ap, ◌∙◌, subst, inl, inr, arith}
+use Rattle.std.proofs.Common.{one-add, lit<}
 use Rattle.std.specs.List.{prefix_len}
 use Rattle.std.specs.Str.{IsAscii}
 use Rattle.std.specs.Char.{is_ascii_alphanumeric, is_ascii_digit}
@@ -52,7 +53,8 @@ pub ascii_word : (bs : List ℕ) → IsAscii (take (prefix_len is_word_byte bs) 
 ascii_word [] = ascii-none
 ascii_word (b ∷ bs) =
     elim (cases_Bool (is_word_byte b)) [
-      | inl e ↦ subst (λ n. IsAscii (take n (b ∷ bs))) (sym (word-more b bs e)) (ascii-more b (take (prefix_len is_word_byte bs) bs) (below b e) (ascii_word bs))
+      | inl e ↦ subst (λ n. IsAscii (take n (b ∷ bs))) (sym (word-more b bs e))
+          (ascii-more b (take (prefix_len is_word_byte bs) bs) (below b e) (ascii_word bs))
       | inr e ↦ subst (λ n. IsAscii (take n (b ∷ bs))) (sym (word-none b bs e)) ascii-none
     ]
 

@@ -2,7 +2,8 @@
 use Rattle.std.specs.Prelude.{⊤, ◌≤◌}
 use Rattle.std.specs.List.{Contains}
 use Rattle.rv_base.specs.Limits.{too_heavy}
-use Rattle.rv_tree.specs.Tree.{Tree, Node, Form, True, False, Number, Named, Not, Minus, Pre, Current, When, Binary, If, AtMostOne, Call, Trees, None, More, EquationTree, AssertionTree, ConstantTree, NodeTree, ProgramTree}
+use Rattle.rv_tree.specs.Tree.{Tree, Node, Form, True, False, Number, Named, Not, Minus, Pre, Current, When, Binary, If, AtMostOne, Call, Trees, None, More}
+use Rattle.rv_tree.specs.Tree.{EquationTree, AssertionTree, ConstantTree, NodeTree, ProgramTree}
 
 -- Each literal of an expression is at most 2^40 + 1.
 abbrev mutual

@@ -17,7 +17,8 @@ use Rattle.rv_syntax.specs.declared.parser.Next.TheVariants as next
 use Rattle.rv_tree.specs.Tree.{Tree, Node, Form}
 use Rattle.rv_tree.specs.Tree as tree
 use Rattle.rv_syntax.specs.Marks.{name_of}
-use Rattle.rv_syntax.specs.Grammar.{Leaf, Yes, No, Count, Called, Callee, Function, Hash, Just, Applied, Joined, Sampled, Chosen, Invoked, leaf_level, level_of, left_level, right_level}
+use Rattle.rv_syntax.specs.Grammar.{Leaf, Yes, No, Count, Called, Callee, Function, Hash, Just, Applied, Joined, Sampled, Chosen, Invoked, leaf_level, level_of}
+use Rattle.rv_syntax.specs.Grammar.{left_level, right_level}
 
 -- what a token is where an operand is wanted
 abbrev pub mark_start : Mark → ℕ → Start

@@ -166,7 +166,8 @@ node_of x inputs outputs locals items = record {
 
 -- node = 'node' NAME '(' decls ')' 'returns' '(' decls ')' [ ';' ] { 'var' local { local } } 'let' { equation } 'tel' [ ';' | '.' ]
 abbrev pub IsNode : NodeTree → List Token → Type 0
-IsNode = Part IsTitle (λ x. Part IsInputs (λ ins. Part IsOutputs (λ outs. Part (Each IsVar) (λ vars. Part IsBody (λ items. Gives (node_of x ins outs vars items))))))
+IsNode = Part IsTitle (λ x. Part IsInputs (λ ins. Part IsOutputs (λ outs. Part (Each IsVar)
+    (λ vars. Part IsBody (λ items. Gives (node_of x ins outs vars items))))))
 
 -- one of the three that a program is made of
 pub data Section : Type 0 where

@@ -20,7 +20,8 @@ use Rattle.rv_tree.specs.Tree.{equation_tree, assertion_tree, Tree, EquationTree
 use Rattle.rv_syntax.specs.Marks.{is_mark, is_name, has_mark, mark_at, name_of}
 use Rattle.rv_syntax.specs.Parse.{Reading, Parse, bind, then, done, one, choose, loop, many, maybe}
 use Rattle.rv_syntax.specs.Reads.{expression}
-use Rattle.rv_syntax.specs.ProgramText.{type_of, constant_of, all_flows, joined, Item, Equates, Assumes, equation_of, assertion_of, equations_of, assertions_of, node_of, Section, Types, Constants, OneNode, program_of}
+use Rattle.rv_syntax.specs.ProgramText.{type_of, constant_of, all_flows, joined, Item, Equates, Assumes, equation_of, assertion_of, equations_of, assertions_of}
+use Rattle.rv_syntax.specs.ProgramText.{node_of, Section, Types, Constants, OneNode, program_of}
 use Rattle.rv_tree.specs.Groups.{Group, flows_of}
 
 -- this word or symbol, and then the rest
@@ -43,7 +44,8 @@ names = then (one name_of) (λ x. then next_names (λ more. done (x ∷ more)))
 
 -- types
 unfoldable pub kind : Parse TypeName
-kind = choose (is_mark mark.Bool) (word mark.Bool (done type_name.Bool)) (choose (is_mark mark.Int) (word mark.Int (done type_name.Int)) (then (one name_of) (λ x. done (type_name.Named x))))
+kind = choose (is_mark mark.Bool) (word mark.Bool (done type_name.Bool))
+    (choose (is_mark mark.Int) (word mark.Int (done type_name.Int)) (then (one name_of) (λ x. done (type_name.Named x))))
 
 unfoldable pub enumeration : Parse TypeBody
 enumeration = word mark.Enum (word mark.OpenBrace (then names (λ xs. word mark.CloseBrace (done (body_of.Labels xs)))))
@@ -158,7 +160,8 @@ node = then title (λ x. then inputs (λ ins. then outputs (λ outs. then vars (
 
 -- a program
 unfoldable pub section : Parse Section
-section = choose (is_mark mark.Type) (then types (λ ds. done (Types ds))) (choose (is_mark mark.Const) (then constants (λ cs. done (Constants cs))) (then node (λ n. done (OneNode n))))
+section = choose (is_mark mark.Type) (then types (λ ds. done (Types ds)))
+    (choose (is_mark mark.Const) (then constants (λ cs. done (Constants cs))) (then node (λ n. done (OneNode n))))
 
 abbrev pub any : Token → Bool
 any t = true

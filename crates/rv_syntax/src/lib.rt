@@ -107,8 +107,10 @@ pub fn bounded_tree()
 /// In the tree of a text within the limit the constants stand in the order of their offsets: each has a later one than
 /// all that come before it, and an earlier one than all that come after it.
 pub fn ordered_constants()
-    ensures before { (t : ProgramTree) (front back : List ConstantTree) (c : ConstantTree) → IsTreeOfText t → t.constants ≡ front ++ c ∷ back → All (λ d. d.name.at < c.name.at) front }
-    ensures after { (t : ProgramTree) (front back : List ConstantTree) (c : ConstantTree) → IsTreeOfText t → t.constants ≡ front ++ c ∷ back → All (λ d. c.name.at < d.name.at) back }
+    ensures before { (t : ProgramTree) (front back : List ConstantTree) (c : ConstantTree) → IsTreeOfText t → t.constants ≡ front ++ c ∷ back
+        → All (λ d. d.name.at < c.name.at) front }
+    ensures after { (t : ProgramTree) (front back : List ConstantTree) (c : ConstantTree) → IsTreeOfText t → t.constants ≡ front ++ c ∷ back
+        → All (λ d. c.name.at < d.name.at) back }
 {}
 
 /// The tree of a text within the limit has no list longer than the text may be, numbered sites, and constants in the order of
@@ -138,7 +140,8 @@ pub fn one_expression()
 
 /// The name of a clock is no call: no expression begins with two names that `when` joins and a bracket.
 pub fn clock_is_no_call()
-    ensures { (a b : NameAt) (at up : ℕ) (more : List TokenModel) (t : Tree) → IsExprOf t (name_token a ∷ fixed mark.When at ∷ name_token b ∷ fixed mark.Open up ∷ more) → ⊥ }
+    ensures { (a b : NameAt) (at up : ℕ) (more : List TokenModel) (t : Tree)
+        → IsExprOf t (name_token a ∷ fixed mark.When at ∷ name_token b ∷ fixed mark.Open up ∷ more) → ⊥ }
 {}
 
 /// Text is cut by longest match: what begins it is one byte of white space, one comment or one token, and no

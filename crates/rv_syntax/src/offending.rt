@@ -162,7 +162,8 @@ impl<'a> Before<'a> {
 
     /// Whether a token of this kind is left out, as a word or symbol or in its place.
     fn leaves_out(&self, kind: &Kind) -> bool
-        ensures { result ≡ (spec.kind_left_out kind.now || spec.negates_clock self.now kind.now || spec.calls_clock self.now kind.now || spec.has_no_inputs self.now kind.now || spec.clocks_port self.now kind.now) }
+        ensures { result ≡ (spec.kind_left_out kind.now || spec.negates_clock self.now kind.now || spec.calls_clock self.now kind.now || spec.has_no_inputs
+            self.now kind.now || spec.clocks_port self.now kind.now) }
     {
         is_left_out_word(kind)
             || self.negates_clock(kind)

@@ -293,7 +293,8 @@ fn sited(alloc: Global, expr: &Expr, sites: &Sites) -> Result<Box<Expr>, AllocEr
 /// The same of some expressions, in their order.
 #[cycle(sited)]
 fn sited_all(alloc: Global, all: &[Expr], sites: &Sites) -> Result<Many<Expr>, AllocError>
-    ensures { IfOk result (λ es. trees (map tree_of es) ≡ spec.sited_trees (spec.numbered_from sites.now.first sites.now.offsets.items) (trees (map tree_of all.now))) }
+    ensures { IfOk result (λ es. trees (map tree_of es) ≡ spec.sited_trees (spec.numbered_from sites.now.first sites.now.offsets.items)
+        (trees (map tree_of all.now))) }
 {
     let mut made = Many::new(alloc);
     'each: for expr in all {
@@ -308,7 +309,8 @@ fn sited_equations(
     equations: Many<Equation>,
     sites: &Sites,
 ) -> Result<Many<Equation>, AllocError>
-    ensures { IfOk result (λ qs. map equation_tree qs ≡ map (spec.sited_equation (spec.numbered_from sites.now.first sites.now.offsets.items)) (map equation_tree equations)) }
+    ensures { IfOk result (λ qs. map equation_tree qs ≡ map (spec.sited_equation (spec.numbered_from sites.now.first sites.now.offsets.items))
+        (map equation_tree equations)) }
 {
     let mut made = Many::new(alloc);
     'each: for equation in equations.into_vec() {
@@ -325,7 +327,8 @@ fn sited_assertions(
     assertions: Many<Assertion>,
     sites: &Sites,
 ) -> Result<Many<Assertion>, AllocError>
-    ensures { IfOk result (λ found. map assertion_tree found ≡ map (spec.sited_assertion (spec.numbered_from sites.now.first sites.now.offsets.items)) (map assertion_tree assertions)) }
+    ensures { IfOk result (λ found. map assertion_tree found ≡ map (spec.sited_assertion (spec.numbered_from sites.now.first sites.now.offsets.items))
+        (map assertion_tree assertions)) }
 {
     let mut made = Many::new(alloc);
     'each: for assertion in assertions.into_vec() {

@@ -1,5 +1,6 @@
 -- Questions whose answers are exact are those of their system.
-use Rattle.std.proofs.Common.{◌≡◌, ◌⊎◌, inl, inr, ◌↔◌, ℕ, zero, suc, ◌+◌, ◌-◌, ◌<◌, ◌≤◌, Bool, true, false, List, [], ◌∷◌, length, refl, sym, ◌∙◌, ap, subst, arith, Option, Some}
+use Rattle.std.proofs.Common.{◌≡◌, ◌⊎◌, inl, inr, ◌↔◌, ℕ, zero, suc, ◌+◌, ◌-◌, ◌<◌, ◌≤◌, Bool, true, false, List, [], ◌∷◌, length, refl, sym, ◌∙◌, ap, subst}
+use Rattle.std.proofs.Common.{arith, Option, Some}
 use Rattle.std.proofs.Common.{None as Nothing}
 use Rattle.std.specs.Prelude.{slice_get, slice_index_or}
 use Rattle.std.proofs.lemmas.Bool.{cases_lt, cases_eq, cases_Bool, false≢true}
@@ -16,7 +17,8 @@ use Rattle.rv_symbolic.specs.Growing.{Extends}
 use Rattle.rv_terms.specs.Parts.{no_form}
 use Rattle.rv_cases.specs.declared.asking.Questions.{Questions}
 use Rattle.rv_cases.specs.Conditions.{is_in, list_at, AreRefs, AreAnswers}
-use Rattle.rv_cases.specs.Questions.{rows_at, forms_at, memory_answers, observer_answers, HaveAnswers, AreTestAnswers, AreUpdateAnswers, AreSides, AreQuestions, AreDistinct}
+use Rattle.rv_cases.specs.Questions.{rows_at, forms_at, memory_answers, observer_answers, HaveAnswers, AreTestAnswers, AreUpdateAnswers, AreSides, AreQuestions}
+use Rattle.rv_cases.specs.Questions.{AreDistinct}
 use Rattle.rv_tested.specs.Exact.{AreExact, row_answer, form_answer, side_answer, IsTestRead, IsMemoryRead, AreAsked}
 
 both_true : (a b : Bool) → (a ≡ true → b ≡ true) → (b ≡ true → a ≡ true) → a ≡ b
@@ -129,7 +131,8 @@ module _ (s : System) (d : Diagrams) (q : Questions) (asked : AreAsked s d q) wh
       → is_in d.nodes (list_at q.questions i) b v ≡ is_in d.nodes (list_at q.questions i) b w
   unread system i b v w lt low same = by (kinds s.tests s.memories i (omega (arith, lt, asked.many))) low
     where
-      by : Kinds s.tests s.memories i → b < length (list_at q.questions i) → is_in d.nodes (list_at q.questions i) b v ≡ is_in d.nodes (list_at q.questions i) b w
+      by : Kinds s.tests s.memories i → b < length (list_at q.questions i)
+          → is_in d.nodes (list_at q.questions i) b v ≡ is_in d.nodes (list_at q.questions i) b w
       by (a_test less) low = exact_same (Option Row) d.nodes (λ u. s.row u i) (length (rows_at q.rows i) + 1) (row_answer (rows_at q.rows i))
           (list_at q.questions i) (asked.tests i less) b v w (omega (arith, low, (asked.tests i less).size)) (system.row v w i same)
       by (a_memory k less e) low =

@@ -1,5 +1,6 @@
 -- What a comparison of a flat system compares.
-use Rattle.std.proofs.Common.{◌≡◌, ◌≢◌, inl, inr, ℕ, zero, suc, ◌<◌, ◌≤◌, Bool, true, false, ◌&&◌, cond, nat_eq, List, [], ◌∷◌, ◌++◌, length, map, refl, sym, ◌∙◌, ap, subst, arith, get_or, Option, Some}
+use Rattle.std.proofs.Common.{◌≡◌, ◌≢◌, inl, inr, ℕ, zero, suc, ◌<◌, ◌≤◌, Bool, true, false, ◌&&◌, cond, nat_eq, List, [], ◌∷◌, ◌++◌, length, map, refl, sym}
+use Rattle.std.proofs.Common.{◌∙◌, ap, subst, arith, get_or, Option, Some}
 use Rattle.std.proofs.Common.{None as Nothing}
 use Rattle.std.specs.Prelude.{nat_abs, nat_le}
 use Rattle.std.specs.List.{Contains}
@@ -14,8 +15,10 @@ use Rattle.rv_types.specs.declared.typed.Kind.{Kind}
 use Rattle.rv_types.specs.declared.typed.Kind.TheVariants as kind
 use Rattle.rv_types.specs.Lists.{Side, sides_of}
 use Rattle.rv_types.specs.Variables.{is_integer}
-use Rattle.rv_agreement.specs.Trees.{FlatTree, Node, TreeForm, FlatTrees, Constant, Flow, Memory, Ticked, Input, Not, Binary, Scale, If, AtMostOne, When, Current, None, More, Item, nth_item, Kept as KeptMemory, System, memory_items, memory_kinds, kind_at}
-use Rattle.rv_agreement.specs.Valuations.{Comparison, is_placed, own, comparisons, form_comparisons, comparisons_of, item_comparisons, all_items, all_comparisons}
+use Rattle.rv_agreement.specs.Trees.{FlatTree, Node, TreeForm, FlatTrees, Constant, Flow, Memory, Ticked, Input, Not, Binary, Scale, If, AtMostOne, When}
+use Rattle.rv_agreement.specs.Trees.{Current, None, More, Item, nth_item, Kept as KeptMemory, System, memory_items, memory_kinds, kind_at}
+use Rattle.rv_agreement.specs.Valuations.{Comparison, is_placed, own, comparisons, form_comparisons, comparisons_of, item_comparisons, all_items}
+use Rattle.rv_agreement.specs.Valuations.{all_comparisons}
 use Rattle.rv_agreement.specs.Agreement.{IsNamed, IsPlaced, Fits, FormFits, AllFit, ItemFits, IsWell}
 use Rattle.rv_agreement.proofs.Matching.{none_in, in_own, only_one, read_in, from_flat_map, wider_item}
 use Rattle.rv_flat.specs.declared.flat.Flat.{Flat}

@@ -1,5 +1,6 @@
 -- The row of a test among comparisons, one after another.
-use Rattle.std.proofs.Common.{◌≡◌, ◌⊎◌, inl, inr, ◌↔◌, ℕ, zero, suc, ◌+◌, ◌<◌, Bool, true, false, ◌&&◌, cond, List, [], ◌∷◌, ◌++◌, length, map, take, refl, sym, ◌∙◌, ap, subst, arith, Option, Some}
+use Rattle.std.proofs.Common.{◌≡◌, ◌⊎◌, inl, inr, ◌↔◌, ℕ, zero, suc, ◌+◌, ◌<◌, Bool, true, false, ◌&&◌, cond, List, [], ◌∷◌, ◌++◌, length, map, take, refl, sym}
+use Rattle.std.proofs.Common.{◌∙◌, ap, subst, arith, Option, Some}
 use Rattle.std.proofs.Common.{None as Nothing}
 use Rattle.std.specs.Prelude.{slice_get, slice_index_or, is_none}
 use Rattle.std.specs.List.{Contains}
@@ -22,7 +23,8 @@ use Rattle.rv_agreement.specs.Agreement.{IsWell}
 use Rattle.rv_agreement.specs.Trees.{System}
 use Rattle.rv_agreement.specs.Evaluation.{is_there}
 use Rattle.rv_agreement.specs.Checks.{same_sites}
-use Rattle.rv_agreement.specs.Valuations.{Valuation, Reading, Linear, Comparison, Tested, is_of_integers, reads_at, read, side_form, tested, tested_form, width, IsSymbolic}
+use Rattle.rv_agreement.specs.Valuations.{Valuation, Reading, Linear, Comparison, Tested, is_of_integers, reads_at, read, side_form, tested, tested_form, width}
+use Rattle.rv_agreement.specs.Valuations.{IsSymbolic}
 use Rattle.rv_agreement.proofs.Chosen.{sites_itself}
 use Rattle.rv_flat.specs.declared.flat.Flat.{Flat}
 use Rattle.rv_flat.specs.FlatInstants.{system_of}
@@ -161,7 +163,8 @@ pub sites_apart : (p q : Sites) → (p ≡ q → ⊥) → same_sites p q ≡ fal
 sites_apart p q off = elim (cases_Bool (same_sites p q)) [ inl t ↦ absurd (off (sites_told p q t)) | inr e ↦ e ]
 
 -- answers of an equal function
-pub answered_as : (nodes : List Triple) (f g : Numbered → Option Row) (a : Answered) → ((v : Numbered) → f v ≡ g v) → IsAnswered nodes f a → IsAnswered nodes g a
+pub answered_as : (nodes : List Triple) (f g : Numbered → Option Row) (a : Answered) → ((v : Numbered) → f v ≡ g v) → IsAnswered nodes f a
+    → IsAnswered nodes g a
 answered_as nodes f g a same is = record {
   laid = is.laid;
   absent = λ v. is.absent v ∙ ap (λ (o : Option Row). is_none o) (same v);

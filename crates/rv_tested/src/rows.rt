@@ -1,6 +1,7 @@
 //! The rows of an order test, each under a reference that is true exactly where the test has it.
 
-ghost use Rattle.std.specs.Prelude.{◌≡◌, ◌≢◌, negsuc, ◌↔◌, ℕ, ◌+◌, ◌<◌, ◌^◌, ◌&&◌, true, false, cond, Some, None, Option, length, IfOk, OnOk, IsErrOf, IsTrue, MatchOption};
+ghost use Rattle.std.specs.Prelude.{◌≡◌, ◌≢◌, negsuc, ◌↔◌, ℕ, ◌+◌, ◌<◌, ◌^◌, ◌&&◌, true, false, cond, Some, None, Option, length, IfOk, OnOk, IsErrOf, IsTrue};
+ghost use Rattle.std.specs.Prelude.{MatchOption};
 ghost use Rattle.rv_rows.specs.Arithmetic.{test_row, times};
 ghost use Rattle.rv_rows.specs.Forms.{FormWithin};
 ghost use Rattle.rv_rows.specs.Rows.{row_at};

@@ -1,5 +1,6 @@
 -- The sites of the memories of a node are those of its delays, each once and in rising order.
-use Rattle.std.proofs.Common.{◌≡◌, ◌⊎◌, inl, inr, ℕ, zero, suc, ◌<◌, ◌≤◌, Bool, true, false, cond, List, [], ◌∷◌, length, get_or, refl, sym, ◌∙◌, ap, subst, arith}
+use Rattle.std.proofs.Common.{◌≡◌, ◌⊎◌, inl, inr, ℕ, zero, suc, ◌<◌, ◌≤◌, Bool, true, false, cond, List, [], ◌∷◌, length, get_or, refl, sym, ◌∙◌, ap, subst}
+use Rattle.std.proofs.Common.{arith}
 use Rattle.std.proofs.lemmas.Bool.{ltb-true, ltb-false}
 use Rattle.std.proofs.lemmas.List.{length-map, get_or-map}
 use Rattle.std.specs.Prelude.{nat_eq, nat_lt}
@@ -43,7 +44,8 @@ rising_placed : (t : ℕ) (xs : List ℕ) → AreRising xs → AreRising (placed
 rising_placed t [] rising = (tt, tt)
 rising_placed t (x ∷ xs) rising = tested (nat_eq t x) (nat_lt t x) refl refl (rising_placed t xs rising.1)
   where
-    tested : (same less : Bool) → nat_eq t x ≡ same → nat_lt t x ≡ less → AreRising (placed t xs) → AreRising (cond same (x ∷ xs) (cond less (t ∷ x ∷ xs) (x ∷ placed t xs)))
+    tested : (same less : Bool) → nat_eq t x ≡ same → nat_lt t x ≡ less → AreRising (placed t xs)
+        → AreRising (cond same (x ∷ xs) (cond less (t ∷ x ∷ xs) (x ∷ placed t xs)))
     tested true less e l later = rising
     tested false true e l later = let lt : t < x = ltb-true t x l in ((lt, above_less t x xs lt rising.0), rising)
     tested false false e l later =
@@ -92,7 +94,8 @@ placed_keeps : (s : ℕ) (xs : List ℕ) (t : ℕ) → Contains xs t → Contain
 placed_keeps s [] t w = absurd (let lt = w.1 in omega (arith, lt))
 placed_keeps s (x ∷ xs) t w = tested (nat_eq s x) (nat_lt s x) w.0 w.1 w.2 (placed_keeps s xs t)
   where
-    tested : (b c : Bool) (k : ℕ) → k < length (x ∷ xs) → get_or (x ∷ xs) k t ≡ t → (Contains xs t → Contains (placed s xs) t) → Contains (cond b (x ∷ xs) (cond c (s ∷ x ∷ xs) (x ∷ placed s xs))) t
+    tested : (b c : Bool) (k : ℕ) → k < length (x ∷ xs) → get_or (x ∷ xs) k t ≡ t → (Contains xs t → Contains (placed s xs) t)
+        → Contains (cond b (x ∷ xs) (cond c (s ∷ x ∷ xs) (x ∷ placed s xs))) t
     tested true c k lt is again = (k, lt, is)
     tested false true k lt is again = in_tail s (x ∷ xs) t (k, lt, is)
     tested false false zero lt is again = at_head x (placed s xs) t is
@@ -107,7 +110,8 @@ gathered_there : (xs ss : List ℕ) (t : ℕ) → Contains ss t → Contains (ga
 gathered_there xs [] t w = absurd (let lt = w.1 in omega (arith, lt))
 gathered_there xs (s ∷ ss) t w = at w.0 w.1 w.2 (gathered_there (placed s xs) ss t)
   where
-    at : (k : ℕ) → k < length (s ∷ ss) → get_or (s ∷ ss) k t ≡ t → (Contains ss t → Contains (gathered (placed s xs) ss) t) → Contains (gathered (placed s xs) ss) t
+    at : (k : ℕ) → k < length (s ∷ ss) → get_or (s ∷ ss) k t ≡ t → (Contains ss t → Contains (gathered (placed s xs) ss) t)
+        → Contains (gathered (placed s xs) ss) t
     at zero lt is again = gathered_keeps (placed s xs) ss t (subst (Contains (placed s xs)) is (placed_there s xs))
     at (suc k) lt is again = again (k, omega arith, is)
 
@@ -134,7 +138,8 @@ placed_only s (x ∷ xs) t w = tested (nat_eq s x) (nat_lt s x) (placed_only s x
     kept (inl is) = inl is
     kept (inr there) = inr (in_tail x xs t there)
 
-    later : (Contains (placed s xs) t → (s ≡ t) ⊎ Contains xs t) → (k : ℕ) → k < length (x ∷ placed s xs) → get_or (x ∷ placed s xs) k t ≡ t → (s ≡ t) ⊎ Contains (x ∷ xs) t
+    later : (Contains (placed s xs) t → (s ≡ t) ⊎ Contains xs t) → (k : ℕ) → k < length (x ∷ placed s xs) → get_or (x ∷ placed s xs) k t ≡ t
+        → (s ≡ t) ⊎ Contains (x ∷ xs) t
     later again zero lt is = inr (at_head x xs t is)
     later again (suc k) lt is = kept (again (k, omega arith, is))
 
@@ -142,7 +147,8 @@ placed_only s (x ∷ xs) t w = tested (nat_eq s x) (nat_lt s x) (placed_only s x
     first zero lt is = inl is
     first (suc k) lt is = inr (k, omega arith, is)
 
-    tested : (same less : Bool) → (Contains (placed s xs) t → (s ≡ t) ⊎ Contains xs t) → Contains (cond same (x ∷ xs) (cond less (s ∷ x ∷ xs) (x ∷ placed s xs))) t → (s ≡ t) ⊎ Contains (x ∷ xs) t
+    tested : (same less : Bool) → (Contains (placed s xs) t → (s ≡ t) ⊎ Contains xs t)
+        → Contains (cond same (x ∷ xs) (cond less (s ∷ x ∷ xs) (x ∷ placed s xs))) t → (s ≡ t) ⊎ Contains (x ∷ xs) t
     tested true less again w = inr w
     tested false true again w = first w.0 w.1 w.2
     tested false false again w = later again w.0 w.1 w.2
@@ -167,7 +173,8 @@ site_only n s w = cases (gathered_only [] (delay_sites n (node_delays n)) s w)
     of_delay [] w = absurd (let lt = w.1 in omega (arith, lt))
     of_delay (d ∷ ds) w = at w.0 w.1 w.2 (of_delay ds)
       where
-        at : (k : ℕ) → k < length (delay_sites n (d ∷ ds)) → get_or (delay_sites n (d ∷ ds)) k s ≡ s → (Contains (delay_sites n ds) s → (e : Delay) × Contains ds e × (memory_site n e.site e.operand ≡ s))
+        at : (k : ℕ) → k < length (delay_sites n (d ∷ ds)) → get_or (delay_sites n (d ∷ ds)) k s ≡ s
+            → (Contains (delay_sites n ds) s → (e : Delay) × Contains ds e × (memory_site n e.site e.operand ≡ s))
             → (e : Delay) × Contains (d ∷ ds) e × (memory_site n e.site e.operand ≡ s)
         at zero lt is again = (d, (0, omega arith, refl), is)
         at (suc k) lt is again = let r = again (k, omega arith, is) in (r.0, (suc r.1.0, omega (arith, r.1.1), r.1.2), r.2)

@@ -2,7 +2,8 @@
 use Rattle.std.specs.Prelude.{◌≡◌, ℕ, ◌+◌, ◌<◌, ◌≤◌, cond, nat_lt, nat_eq, List, [], ◌∷◌, ◌++◌, map, length, slice_index_or, Option, Some}
 use Rattle.std.specs.List.{Contains}
 use Rattle.rv_base.specs.Limits.{source_limit}
-use Rattle.rv_tree.specs.Tree.{Tree, Node, Form, True, False, Number, Named, Not, Minus, Pre, Current, When, Binary, If, AtMostOne, Call, Trees, None, More, EquationTree, AssertionTree, NodeTree}
+use Rattle.rv_tree.specs.Tree.{Tree, Node, Form, True, False, Number, Named, Not, Minus, Pre, Current, When, Binary, If, AtMostOne, Call, Trees, None, More}
+use Rattle.rv_tree.specs.Tree.{EquationTree, AssertionTree, NodeTree}
 use Rattle.rv_tree.specs.Places.{flows, memory_site}
 use Rattle.rv_tree.specs.SitedParts.{SitedPart, node_parts}
 
@@ -76,4 +77,5 @@ pub record IsNumbered (n : NodeTree) : Type 0 where
   pub own : (d e : Delay) → Contains (node_delays n) d → Contains (node_delays n) e → d.site ≡ e.site → d ≡ e
   pub next : (p : SitedPart) → Contains (node_parts n) p → (s : ℕ) × (p.site ≡ Some s) × (length (flows n) ≤ s) × (s < length (flows n) + length (node_parts n))
   pub in_order : (p q : SitedPart) (s t : ℕ) → Contains (node_parts n) p → Contains (node_parts n) q → p.at < q.at → p.site ≡ Some s → q.site ≡ Some t → s < t
-  pub apart : (i j : ℕ) (p : SitedPart) → i < j → j < length (node_parts n) → (slice_index_or (node_parts n) i p).site ≡ (slice_index_or (node_parts n) j p).site → ⊥
+  pub apart : (i j : ℕ) (p : SitedPart) → i < j → j < length (node_parts n)
+      → (slice_index_or (node_parts n) i p).site ≡ (slice_index_or (node_parts n) j p).site → ⊥

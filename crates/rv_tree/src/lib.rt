@@ -23,7 +23,8 @@ pub use tree::{
 
 /// The memories of a node stand at the sites that its `pre` and `current` read, each once and in rising order.
 pub fn memories_in_order()
-    ensures rising { (n : NodeTree) (j k : ℕ) → j < k → k < length (memory_sites n) → slice_index_or (memory_sites n) j 0 < slice_index_or (memory_sites n) k 0 }
+    ensures rising { (n : NodeTree) (j k : ℕ) → j < k → k < length (memory_sites n)
+        → slice_index_or (memory_sites n) j 0 < slice_index_or (memory_sites n) k 0 }
     ensures all { (n : NodeTree) (d : Delay) → Contains (node_delays n) d → Contains (memory_sites n) (memory_site n d.site d.operand) }
     ensures only { (n : NodeTree) (s : ℕ) → Contains (memory_sites n) s → (d : Delay) × Contains (node_delays n) d × (memory_site n d.site d.operand ≡ s) }
 {}

@@ -3,7 +3,8 @@ use Rattle.std.proofs.Common.{◌≡◌, ◌⊎◌, inl, inr, cond, IsTrue, List
 use Rattle.rv_tree.specs.Tree.{ProgramTree}
 use Rattle.rv_tree.specs.Places.{Identifier}
 use Rattle.rv_types.specs.declared.fault.NameFault.{NameFault}
-use Rattle.rv_types.specs.declared.fault.NameFault.TheVariants.{NoNode, UnknownName, DefinedTwice, Undefined, TypeClash, Nonlinear, ClockClash, NotObserver, Memory}
+use Rattle.rv_types.specs.declared.fault.NameFault.TheVariants.{NoNode, UnknownName, DefinedTwice, Undefined, TypeClash, Nonlinear, ClockClash, NotObserver}
+use Rattle.rv_types.specs.declared.fault.NameFault.TheVariants.{Memory}
 use Rattle.rv_types.specs.declared.typed.Typed.{Typed}
 use Rattle.rv_types.specs.Names.{is_declared, node_names, name_faults}
 use Rattle.rv_types.specs.Scopes.{type_faults, observer_faults}
@@ -61,9 +62,11 @@ cause p main (NotObserver at) h = inr h
 pub only_answer : (p : ProgramTree) (main : Identifier) (r : Result Typed NameFault) → IfOk r (λ t. IsSettled p main t) → IfErr r (HasCause p main)
     → (t : Typed) → IsSettled p main t → Answers t r
 only_answer p main (Ok u) found refused t settled = one_way p main u t found settled
-only_answer p main (Err f) found refused t settled = elim (cause p main f refused) as (λ _. f ≡ Memory) [ inl e ↦ e | inr h ↦ absurd (not_both p main t f settled h) ]
+only_answer p main (Err f) found refused t settled = elim (cause p main f refused) as
+    (λ _. f ≡ Memory) [ inl e ↦ e | inr h ↦ absurd (not_both p main t f settled h) ]
 
 pub only_refusal : (p : ProgramTree) (main : Identifier) (r : Result Typed NameFault) → IfOk r (λ t. IsSettled p main t) → IfErr r (HasCause p main)
     → (f : NameFault) → IsFirstFault p main f → Refuses f r
 only_refusal p main (Ok u) found refused f first = not_both p main u f found first
-only_refusal p main (Err g) found refused f first = elim (cause p main g refused) as (λ _. (g ≡ Memory) ⊎ (g ≡ f)) [ inl e ↦ inl e | inr h ↦ inr (one_of_groups (groups p main) g f h first) ]
+only_refusal p main (Err g) found refused f first = elim (cause p main g refused) as (λ _. (g ≡ Memory) ⊎ (g ≡ f))
+    [ inl e ↦ inl e | inr h ↦ inr (one_of_groups (groups p main) g f h first) ]

@@ -4,7 +4,8 @@ use Rattle.std.proofs.Common.{unwrap_or}
 use Rattle.std.specs.List.{Contains}
 use Rattle.std.proofs.lemmas.Bool.{cases_order}
 use Rattle.std.proofs.lemmas.List.Elements.{Contains-get_or, Contains-append_left, Contains-append_right}
-use Rattle.rv_tree.specs.Tree.{Tree, Node, Form, True, False, Number, Named, Not, Minus, Pre, Current, When, Binary, If, AtMostOne, Call, Trees, None, More, EquationTree, AssertionTree, NodeTree}
+use Rattle.rv_tree.specs.Tree.{Tree, Node, Form, True, False, Number, Named, Not, Minus, Pre, Current, When, Binary, If, AtMostOne, Call, Trees, None, More}
+use Rattle.rv_tree.specs.Tree.{EquationTree, AssertionTree, NodeTree}
 use Rattle.rv_tree.specs.Places.{flows}
 use Rattle.rv_tree.specs.SitedParts.{SitedPart, part, comparison, parts, form_parts, trees_parts, equation_parts, assertion_parts, node_parts}
 use Rattle.rv_tree.specs.Delays.{IsNumbered}
@@ -83,7 +84,8 @@ place_within (kept e w) zero lt = omega arith
 place_within (kept e w) (suc i) lt = let h = place_within w i (omega (arith, lt)) in omega (arith, h)
 place_within (left_out w) i lt = let h = place_within w i lt in omega (arith, h)
 
-place_site : {cs : List CallTree} {ps : List SitedPart} (w : AreAmong cs ps) (i : ℕ) (c : CallTree) (p : SitedPart) → i < length cs → unwrap_or (get_or ps (place w i) p).site 0 ≡ (get_or cs i c).site
+place_site : {cs : List CallTree} {ps : List SitedPart} (w : AreAmong cs ps) (i : ℕ) (c : CallTree) (p : SitedPart) → i < length cs
+    → unwrap_or (get_or ps (place w i) p).site 0 ≡ (get_or cs i c).site
 unfolding place
 place_site none i c p lt = absurd (omega (arith, lt))
 place_site (kept e w) zero c p lt = e
@@ -98,7 +100,8 @@ module _ (n : NodeTree) (numbered : IsNumbered n) where
   at_place i = get_or (node_parts n) (place (node_among n) i) no_part
 
   -- the site of the part that a call is
-  part_site : (i : ℕ) (c : CallTree) → i < length (calls n) → (s : ℕ) × ((at_place i).site ≡ Some s) × (length (flows n) ≤ s) × (s ≡ (get_or (calls n) i c).site)
+  part_site : (i : ℕ) (c : CallTree) → i < length (calls n) → (s : ℕ) × ((at_place i).site ≡ Some s) × (length (flows n) ≤ s)
+      × (s ≡ (get_or (calls n) i c).site)
   part_site i c lt =
       let w = numbered.next (at_place i) (there i lt) in
       (w.0, w.1, w.2, ap (λ o. unwrap_or o 0) (sym w.1) ∙ site_is i c lt)
@@ -133,7 +136,8 @@ one_call n has c d w v same =
     let k = w.0 in
     let m = v.0 in
     let at_m : get_or (calls n) m c ≡ d = stands_at (calls n) d c v in
-    let sites : (get_or (calls n) k c).site ≡ (get_or (calls n) m c).site = ap (λ (c : CallTree). c.site) w.2 ∙ same ∙ sym (ap (λ (c : CallTree). c.site) at_m) in
+    let sites : (get_or (calls n) k c).site ≡ (get_or (calls n) m c).site = ap (λ (c : CallTree). c.site) w.2 ∙ same
+    ∙ sym (ap (λ (c : CallTree). c.site) at_m) in
     elim (cases_order k m) [
       | inl here ↦ sym w.2 ∙ ap (λ i. get_or (calls n) i c) here ∙ at_m
       | inr (inl less) ↦ absurd (has.apart k m c less v.1 sites)
@@ -148,8 +152,10 @@ in_equations (r ∷ qs) q s w v = elim (cons_cases r qs q w) [
   | inr rest ↦ Contains-append_right (parts r.right) (equation_parts qs) s (in_equations qs q s rest v)
 ]
 
-pub right_site : (n : NodeTree) → IsNumbered n → (q : EquationTree) (at : ℕ) (site : Option ℕ) (f : List ℕ) (es : Trees) → Contains n.equations q → q.right ≡ Node at site (Call f es) → (s : ℕ) × (site ≡ Some s)
+pub right_site : (n : NodeTree) → IsNumbered n → (q : EquationTree) (at : ℕ) (site : Option ℕ) (f : List ℕ) (es : Trees) → Contains n.equations q
+    → q.right ≡ Node at site (Call f es) → (s : ℕ) × (site ≡ Some s)
 right_site n numbered q at site f es w is =
-    let there = in_equations n.equations q (part at site) w (subst (λ (t : Tree). Contains (parts t) (part at site)) (sym is) (at_head (part at site) (trees_parts es))) in
+    let there = in_equations n.equations q (part at site) w (subst (λ (t : Tree). Contains (parts t) (part at site)) (sym is)
+    (at_head (part at site) (trees_parts es))) in
     let h = numbered.next (part at site) (Contains-append_left (equation_parts n.equations) (assertion_parts n.assertions) (part at site) there) in
     (h.0, h.1)

@@ -1,5 +1,6 @@
 -- Chains of clocks end within a number of steps or not at all.
-use Rattle.std.proofs.Common.{◌≡◌, ℕ, zero, suc, ◌+◌, ◌-◌, ◌<◌, ◌≤◌, ◌⊎◌, inl, inr, Bool, true, false, cond, List, [], ◌∷◌, length, map, slice_index_or, zero-add, add-zero, refl, sym, ap, subst, ◌∙◌, arith}
+use Rattle.std.proofs.Common.{◌≡◌, ℕ, zero, suc, ◌+◌, ◌-◌, ◌<◌, ◌≤◌, ◌⊎◌, inl, inr, Bool, true, false, cond, List, [], ◌∷◌, length, map, slice_index_or}
+use Rattle.std.proofs.Common.{zero-add, add-zero, refl, sym, ap, subst, ◌∙◌, arith}
 use Rattle.std.proofs.lemmas.Bool.{cases_lt}
 use Rattle.std.proofs.Math.Nat.{suc-add, add-suc}
 use Rattle.std.proofs.Math.ListN.{get_or-map}
@@ -39,7 +40,10 @@ bits false false h = omega arith
 
 -- what holds below a number and at it holds below the next
 up_to : (f g : ℕ → Bool) (m : ℕ) → ((i : ℕ) → i < m → f i ≡ g i) → f m ≡ g m → (i : ℕ) → i < suc m → f i ≡ g i
-up_to f g m same here i h = elim (cases_lt i m) as (λ _. f i ≡ g i) [ inl l ↦ same i l | inr l ↦ (let e : m ≡ i = omega arith in subst (λ k. f k ≡ g k) e here) ]
+up_to f g m same here i h = elim (cases_lt i m) as (λ _. f i ≡ g i) [
+  | inl l ↦ same i l
+  | inr l ↦ (let e : m ≡ i = omega arith in subst (λ k. f k ≡ g k) e here)
+]
 
 -- a test that more numbers pass is the same below the bound, or is passed by more of them
 grows : (f g : ℕ → Bool) → ((i : ℕ) → f i ≡ true → g i ≡ true) → (m : ℕ) → ((i : ℕ) → i < m → f i ≡ g i) ⊎ (count f m + 1 ≤ count g m)
@@ -47,7 +51,8 @@ unfolding count
 grows f g more zero = inl (λ i h. absurd (omega arith))
 grows f g more (suc m) = by (grows f g more m)
   where
-    here : (b c : Bool) → f m ≡ b → g m ≡ c → ((i : ℕ) → i < m → f i ≡ g i) → ((i : ℕ) → i < suc m → f i ≡ g i) ⊎ (count f m + cond b 1 0 + 1 ≤ count g m + cond c 1 0)
+    here : (b c : Bool) → f m ≡ b → g m ≡ c → ((i : ℕ) → i < m → f i ≡ g i)
+        → ((i : ℕ) → i < suc m → f i ≡ g i) ⊎ (count f m + cond b 1 0 + 1 ≤ count g m + cond c 1 0)
     here true true e d same = inl (up_to f g m same (e ∙ sym d))
     here false false e d same = inl (up_to f g m same (e ∙ sym d))
     here true false e d same = absurd (no_flag (sym d ∙ more m e))
@@ -120,7 +125,8 @@ progress cs (suc k) = by (progress cs k)
   where
     by : Stable cs k ⊎ (k ≤ count (reached cs k) (suc (length cs))) → Stable cs (suc k) ⊎ (suc k ≤ count (reached cs (suc k)) (suc (length cs)))
     by (inl stable) = inl (stable_next cs k stable)
-    by (inr many) = elim (grows (reached cs k) (reached cs (suc k)) (λ i h. still_base cs k (On i) h) (suc (length cs))) as (λ _. Stable cs (suc k) ⊎ (suc k ≤ count (reached cs (suc k)) (suc (length cs))))
+    by (inr many) = elim (grows (reached cs k) (reached cs (suc k)) (λ i h. still_base cs k (On i) h) (suc (length cs))) as
+        (λ _. Stable cs (suc k) ⊎ (suc k ≤ count (reached cs (suc k)) (suc (length cs))))
         [ inl same ↦ inl (stable_next cs k (stable_from cs k same)) | inr more ↦ inr (omega arith) ]
 
 pub stable_end : (cs : List Clock) → Stable cs (suc (length cs))
@@ -128,10 +134,11 @@ stable_end cs = by (progress cs (suc (length cs)))
   where
     by : Stable cs (suc (length cs)) ⊎ (suc (length cs) ≤ count (reached cs (suc (length cs))) (suc (length cs))) → Stable cs (suc (length cs))
     by (inl stable) = stable
-    by (inr many) = elim (grows (reached cs (suc (length cs))) (reached cs (suc (suc (length cs)))) (λ i h. still_base cs (suc (length cs)) (On i) h) (suc (length cs))) as (λ _. Stable cs (suc (length cs))) [
-      | inl same ↦ stable_from cs (suc (length cs)) same
-      | inr more ↦ absurd (omega (arith, count_small (reached cs (suc (suc (length cs)))) (suc (length cs))))
-    ]
+    by (inr many) = elim (grows (reached cs (suc (length cs))) (reached cs (suc (suc (length cs)))) (λ i h. still_base cs (suc (length cs)) (On i) h)
+        (suc (length cs))) as (λ _. Stable cs (suc (length cs))) [
+          | inl same ↦ stable_from cs (suc (length cs)) same
+          | inr more ↦ absurd (omega (arith, count_small (reached cs (suc (suc (length cs)))) (suc (length cs))))
+        ]
 
 pub grounded_ends : (n : NodeTree) (c : Clock) → IsGrounded n c → is_base (after (flow_clocks n) (suc (length (flow_clocks n))) c) ≡ true
 grounded_ends n _ at_base = ap is_base (after_base (flow_clocks n) (suc (length (flow_clocks n))))
@@ -148,11 +155,13 @@ pub follow_twice : (cs : List Clock) (c : Clock) → follow (map (follow cs) cs)
 follow_twice cs Base = refl
 follow_twice cs (On i) = get_or-map (follow cs) cs i Base
 
-pub twice_as_far : (cs js ks : List Clock) (m : ℕ) → ks ≡ map (follow js) js → ((c : Clock) → follow js c ≡ after cs m c) → (c : Clock) → follow ks c ≡ after cs (m + m) c
+pub twice_as_far : (cs js ks : List Clock) (m : ℕ) → ks ≡ map (follow js) js → ((c : Clock) → follow js c ≡ after cs m c) → (c : Clock)
+    → follow ks c ≡ after cs (m + m) c
 twice_as_far cs js ks m e far c =
     ap (λ l. follow l c) e ∙ follow_twice js c ∙ far (follow js c) ∙ ap (after cs m) (far c) ∙ sym (after_add cs m m c)
 
-pub far_enough : (cs js : List Clock) (m : ℕ) → length cs < m → ((c : Clock) → follow js c ≡ after cs m c) → (c : Clock) → is_base (follow js c) ≡ is_base (after cs (suc (length cs)) c)
+pub far_enough : (cs js : List Clock) (m : ℕ) → length cs < m → ((c : Clock) → follow js c ≡ after cs m c) → (c : Clock)
+    → is_base (follow js c) ≡ is_base (after cs (suc (length cs)) c)
 far_enough cs js m h far c =
     let e : suc (length cs) + (m - suc (length cs)) ≡ m = omega arith in
     ap is_base (far c) ∙ sym (stable_more cs (suc (length cs)) (m - suc (length cs)) (stable_end cs) c ∙ ap (λ k. is_base (after cs k c)) e)

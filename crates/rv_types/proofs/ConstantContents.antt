@@ -1,5 +1,6 @@
 -- A constant expression that has a type has a value of that type.
-use Rattle.std.proofs.Common.{◌≡◌, ℕ, suc, ◌+◌, ◌<◌, max, Bool, true, false, cond, ◌&&◌, ◌||◌, List, [], ◌∷◌, reverse, length, nat_abs, Option, Some, refl, sym, ◌∙◌, ap, subst, arith}
+use Rattle.std.proofs.Common.{◌≡◌, ℕ, suc, ◌+◌, ◌<◌, max, Bool, true, false, cond, ◌&&◌, ◌||◌, List, [], ◌∷◌, reverse, length, nat_abs, Option, Some, refl, sym}
+use Rattle.std.proofs.Common.{◌∙◌, ap, subst, arith}
 use Rattle.std.proofs.Common.{None as Nothing}
 use Rattle.std.specs.Prelude.{ℤ, pos, nat_le}
 use Rattle.std.proofs.lemmas.Bool.{eqb-true}
@@ -11,7 +12,8 @@ use Rattle.rv_tree.specs.declared.tree.Op.{Op}
 use Rattle.rv_tree.specs.declared.tree.Op.TheVariants as op
 use Rattle.rv_tree.specs.declared.tree.TypeDecl.{TypeDecl}
 use Rattle.rv_tree.specs.declared.tree.TypeName.{TypeName}
-use Rattle.rv_tree.specs.Tree.{Tree, Node, Form, True, False, Number, Named, Not, Minus, Pre, Current, When, Binary, If, AtMostOne, Call, ConstantTree, ProgramTree}
+use Rattle.rv_tree.specs.Tree.{Tree, Node, Form, True, False, Number, Named, Not, Minus, Pre, Current, When, Binary, If, AtMostOne, Call, ConstantTree}
+use Rattle.rv_tree.specs.Tree.{ProgramTree}
 use Rattle.rv_tree.specs.Places.{Identifier, is_same}
 use Rattle.rv_types.specs.declared.typed.Kind.{Kind}
 use Rattle.rv_types.specs.declared.typed.Kind.TheVariants as kind
@@ -19,9 +21,11 @@ use Rattle.rv_types.specs.declared.fault.Verdict.{Verdict}
 use Rattle.rv_types.specs.declared.fault.Verdict.TheVariants.{Has, Silent, Clashes, Multiplies}
 use Rattle.rv_types.specs.Names.{labels_of}
 use Rattle.rv_types.specs.Kinds.{LabelPlace, number_from, label_from, label_of, kind_in_program}
-use Rattle.rv_types.specs.Types.{same_kind, where_met, one_of, two_of, three_of, binary_rule, memory_rule, if_rule, all_typed, all_suit, at_most_one_of, kind_in, kind_of, form_verdict, kinds_of_all, is_constant}
+use Rattle.rv_types.specs.Types.{same_kind, where_met, one_of, two_of, three_of, binary_rule, memory_rule, if_rule, all_typed, all_suit, at_most_one_of}
+use Rattle.rv_types.specs.Types.{kind_in, kind_of, form_verdict, kinds_of_all, is_constant}
 use Rattle.rv_types.specs.Constants.{counted, counted_part, value_under, weight_under, value_of, form_value, weight_of, flag_in, whole_in}
-use Rattle.rv_types.specs.Scopes.{constant_scope, label_kind, label_value, as_declared, constant_kind_after, constant_value_after, constant_kind, constant_value}
+use Rattle.rv_types.specs.Scopes.{constant_scope, label_kind, label_value, as_declared, constant_kind_after, constant_value_after, constant_kind}
+use Rattle.rv_types.specs.Scopes.{constant_value}
 use Rattle.rv_types.specs.Values.{HasKind, labels_at}
 
 -- what a rule gives where it is met, and nothing otherwise
@@ -70,12 +74,14 @@ module _ (p : ProgramTree) where
   chosen_kind k true v w g h = g
   chosen_kind k false v w g h = h
 
-  product_kind : (b scaled : Bool) (k : Kind) (weight : ℕ) (z : ℤ) → kind_in (cond b (cond scaled (Has kind.Int) Multiplies) Clashes) ≡ Some k → HasKind p k (counted weight z)
+  product_kind : (b scaled : Bool) (k : Kind) (weight : ℕ) (z : ℤ) → kind_in (cond b (cond scaled (Has kind.Int) Multiplies) Clashes) ≡ Some k
+      → HasKind p k (counted weight z)
   product_kind true true k weight z e = counted_kind weight z k (let same : kind.Int ≡ k = cc in same)
   product_kind true false k weight z e = cc
   product_kind false scaled k weight z e = cc
 
-  under_kind : (scaled : Bool) (o : Op) (i j k : Kind) (weight : ℕ) (v w : Value) → kind_in (binary_rule false scaled o i j) ≡ Some k → HasKind p k (value_under weight o v w)
+  under_kind : (scaled : Bool) (o : Op) (i j k : Kind) (weight : ℕ) (v w : Value) → kind_in (binary_rule false scaled o i j) ≡ Some k
+      → HasKind p k (value_under weight o v w)
   under_kind scaled op.Arrow i j k weight v w e = cc
   under_kind scaled op.Implies i j k weight v w e = flag_kind _ k (met_kind _ kind.Bool k e)
   under_kind scaled op.Or i j k weight v w e = flag_kind _ k (met_kind _ kind.Bool k e)
@@ -95,7 +101,8 @@ module _ (p : ProgramTree) where
   under_kind scaled op.Mod i j k weight v w e = cc
 
   -- a verdict on two operands that has a type comes from a rule on two types
-  two_kind : (rule : Kind → Kind → Verdict) (a b : Option Kind) (k : Kind) (G : Type 0) → kind_in (two_of rule a b) ≡ Some k → ((i j : Kind) → kind_in (rule i j) ≡ Some k → G) → G
+  two_kind : (rule : Kind → Kind → Verdict) (a b : Option Kind) (k : Kind) (G : Type 0) → kind_in (two_of rule a b) ≡ Some k
+      → ((i j : Kind) → kind_in (rule i j) ≡ Some k → G) → G
   two_kind rule Nothing b k G e then = cc
   two_kind rule (Some i) Nothing k G e then = cc
   two_kind rule (Some i) (Some j) k G e then = then i j e
@@ -137,35 +144,38 @@ module _ (p : ProgramTree) where
       by false e = cc
 
   -- where each name's value is of its type, so is that of each expression
-  module _ (kinds : Identifier → Option Kind) (values : Identifier → Value) (known : (x : Identifier) (k : Kind) → kinds x ≡ Some k → HasKind p k (values x)) where
-    mutual
-      value_kind : (e : Tree) (k : Kind) → kind_of (constant_scope kinds) e ≡ Some k → HasKind p k (value_of values e)
-      value_kind (Node at site form) k e = form_kind form k e
+  module _ (kinds : Identifier → Option Kind) (values : Identifier → Value) (known : (x : Identifier) (k : Kind) → kinds x ≡ Some k → HasKind p k (values x))
+    where
+      mutual
+        value_kind : (e : Tree) (k : Kind) → kind_of (constant_scope kinds) e ≡ Some k → HasKind p k (value_of values e)
+        value_kind (Node at site form) k e = form_kind form k e
 
-      form_kind : (form : Form) (k : Kind) → kind_in (form_verdict (constant_scope kinds) form) ≡ Some k → HasKind p k (form_value values form)
-      form_kind True k e = flag_kind true k (let same : kind.Bool ≡ k = cc in same)
-      form_kind False k e = flag_kind false k (let same : kind.Bool ≡ k = cc in same)
-      form_kind (Number n) k e = counted_kind n (pos n) k (let same : kind.Int ≡ k = cc in same)
-      form_kind (Named x) k e = known x k (has (kinds x) e)
-        where
-          has : (o : Option Kind) → kind_in (one_of Has o) ≡ Some k → o ≡ Some k
-          has Nothing e = cc
-          has (Some j) e = e
-      form_kind (Not t) k e = flag_kind _ k (one_kind (λ j. same_kind j kind.Bool) kind.Bool (kind_of (constant_scope kinds) t) k e)
-      form_kind (Minus t) k e = counted_kind _ _ k (one_kind (λ j. same_kind j kind.Int) kind.Int (kind_of (constant_scope kinds) t) k e)
-      form_kind (Pre t) k e = none_moves (kind_of (constant_scope kinds) t) k e
-      form_kind (Current t) k e = none_moves (kind_of (constant_scope kinds) t) k e
-      form_kind (When t c) k e = one_clash (kind_of (constant_scope kinds) t) k e
-      form_kind (Binary o a b) k e =
-          two_kind (binary_rule false (is_constant (constant_scope kinds) a || is_constant (constant_scope kinds) b) o) (kind_of (constant_scope kinds) a) (kind_of (constant_scope kinds) b) k
-          (HasKind p k (form_value values (Binary o a b))) e
-          (λ i j h. under_kind (is_constant (constant_scope kinds) a || is_constant (constant_scope kinds) b) o i j k (weight_under o (nat_abs (whole_in (value_of values a))) (weight_of values a) (weight_of values b)) (value_of values a) (value_of values b) h)
-      form_kind (If a b c) k e =
-          let h = three_kind (kind_of (constant_scope kinds) a) (kind_of (constant_scope kinds) b) (kind_of (constant_scope kinds) c) k e in
-          part_kind (max (weight_of values b) (weight_of values c)) k (cond (flag_in (value_of values a)) (value_of values b) (value_of values c))
-          (chosen_kind k (flag_in (value_of values a)) (value_of values b) (value_of values c) (value_kind b k h.0) (value_kind c k h.1))
-      form_kind (AtMostOne es) k e = flag_kind _ k (all_kind (kinds_of_all (constant_scope kinds) es) k e)
-      form_kind (Call f es) k e = no_call (all_typed (kinds_of_all (constant_scope kinds) es)) k e
+        form_kind : (form : Form) (k : Kind) → kind_in (form_verdict (constant_scope kinds) form) ≡ Some k → HasKind p k (form_value values form)
+        form_kind True k e = flag_kind true k (let same : kind.Bool ≡ k = cc in same)
+        form_kind False k e = flag_kind false k (let same : kind.Bool ≡ k = cc in same)
+        form_kind (Number n) k e = counted_kind n (pos n) k (let same : kind.Int ≡ k = cc in same)
+        form_kind (Named x) k e = known x k (has (kinds x) e)
+          where
+            has : (o : Option Kind) → kind_in (one_of Has o) ≡ Some k → o ≡ Some k
+            has Nothing e = cc
+            has (Some j) e = e
+        form_kind (Not t) k e = flag_kind _ k (one_kind (λ j. same_kind j kind.Bool) kind.Bool (kind_of (constant_scope kinds) t) k e)
+        form_kind (Minus t) k e = counted_kind _ _ k (one_kind (λ j. same_kind j kind.Int) kind.Int (kind_of (constant_scope kinds) t) k e)
+        form_kind (Pre t) k e = none_moves (kind_of (constant_scope kinds) t) k e
+        form_kind (Current t) k e = none_moves (kind_of (constant_scope kinds) t) k e
+        form_kind (When t c) k e = one_clash (kind_of (constant_scope kinds) t) k e
+        form_kind (Binary o a b) k e =
+            two_kind (binary_rule false (is_constant (constant_scope kinds) a || is_constant (constant_scope kinds) b) o) (kind_of (constant_scope kinds) a)
+            (kind_of (constant_scope kinds) b) k
+            (HasKind p k (form_value values (Binary o a b))) e
+            (λ i j h. under_kind (is_constant (constant_scope kinds) a || is_constant (constant_scope kinds) b) o i j k
+            (weight_under o (nat_abs (whole_in (value_of values a))) (weight_of values a) (weight_of values b)) (value_of values a) (value_of values b) h)
+        form_kind (If a b c) k e =
+            let h = three_kind (kind_of (constant_scope kinds) a) (kind_of (constant_scope kinds) b) (kind_of (constant_scope kinds) c) k e in
+            part_kind (max (weight_of values b) (weight_of values c)) k (cond (flag_in (value_of values a)) (value_of values b) (value_of values c))
+            (chosen_kind k (flag_in (value_of values a)) (value_of values b) (value_of values c) (value_kind b k h.0) (value_kind c k h.1))
+        form_kind (AtMostOne es) k e = flag_kind _ k (all_kind (kinds_of_all (constant_scope kinds) es) k e)
+        form_kind (Call f es) k e = no_call (all_typed (kinds_of_all (constant_scope kinds) es)) k e
 
   -- Labels.
 
@@ -173,15 +183,18 @@ module _ (p : ProgramTree) where
   number_below k [] x n e = cc
   number_below k (y ∷ ys) x n e = by (is_same y.text x) e (number_below (k + 1) ys x n)
     where
-      by : (b : Bool) → cond b (Some k) (number_from (k + 1) ys x) ≡ Some n → (number_from (k + 1) ys x ≡ Some n → n < k + 1 + length ys) → n < k + suc (length ys)
+      by : (b : Bool) → cond b (Some k) (number_from (k + 1) ys x) ≡ Some n → (number_from (k + 1) ys x ≡ Some n → n < k + 1 + length ys)
+          → n < k + suc (length ys)
       by true e more = let same : k ≡ n = cc in omega (arith, same)
       by false e more = let lt = more e in omega (arith, lt)
 
   -- a label among the declarations of a program from a number on
-  label_below : (all ds : List TypeDecl) (i : ℕ) → ((j : ℕ) → labels_at all (i + j) ≡ labels_at ds j) → (x : Identifier) (l : LabelPlace) → label_from i ds x ≡ Some l → l.number < labels_at all l.declaration
+  label_below : (all ds : List TypeDecl) (i : ℕ) → ((j : ℕ) → labels_at all (i + j) ≡ labels_at ds j) → (x : Identifier) (l : LabelPlace)
+      → label_from i ds x ≡ Some l → l.number < labels_at all l.declaration
   label_below all [] i at x l e = cc
   label_below all (d ∷ ds) i at x l e =
-      by (number_from 0 (labels_of d) x) refl e (label_below all ds (i + 1) (λ j. ap (labels_at all) (let n : i + 1 + j ≡ i + suc j = omega arith in n) ∙ at (suc j)) x l)
+      by (number_from 0 (labels_of d) x) refl e (label_below all ds (i + 1) (λ j. ap (labels_at all) (let n : i + 1 + j ≡ i + suc j = omega arith in n)
+      ∙ at (suc j)) x l)
     where
       by : (o : Option ℕ) → number_from 0 (labels_of d) x ≡ o
           → elim o as (λ _. Option LabelPlace) [ Nothing ↦ label_from (i + 1) ds x | Some k ↦ Some (record { declaration = i; number = k }) ] ≡ Some l
@@ -219,7 +232,8 @@ module _ (p : ProgramTree) where
   contents_after (c ∷ before) x k e = by (is_same c.name.text x) e (contents_after before)
     where
       by : (b : Bool) → cond b (as_declared p c.kind (kind_of (constant_scope (constant_kind_after p before)) c.body)) (constant_kind_after p before x) ≡ Some k
-          → ((y : Identifier) (j : Kind) → constant_kind_after p before y ≡ Some j → HasKind p j (constant_value_after p before y)) → HasKind p k (cond b (value_of (constant_value_after p before) c.body) (constant_value_after p before x))
+          → ((y : Identifier) (j : Kind) → constant_kind_after p before y ≡ Some j → HasKind p j (constant_value_after p before y))
+          → HasKind p k (cond b (value_of (constant_value_after p before) c.body) (constant_value_after p before x))
       by true e earlier =
           value_kind (constant_kind_after p before) (constant_value_after p before) earlier c.body k
           (declared_kind c.kind (kind_of (constant_scope (constant_kind_after p before)) c.body) k e)

@@ -1,5 +1,6 @@
 -- Where no rule of names and types is broken, each constant and label has a type.
-use Rattle.std.proofs.Common.{◌≡◌, inl, inr, ℕ, zero, suc, ◌+◌, ◌<◌, ◌≤◌, Bool, true, false, cond, ◌||◌, List, [], ◌∷◌, ◌++◌, map, flat_map, reverse, length, get_or, nat_lt, refl, sym, ◌∙◌, ap, subst, arith, Option, Some, is_some, append-nil, append_assoc}
+use Rattle.std.proofs.Common.{◌≡◌, inl, inr, ℕ, zero, suc, ◌+◌, ◌<◌, ◌≤◌, Bool, true, false, cond, ◌||◌, List, [], ◌∷◌, ◌++◌, map, flat_map, reverse, length}
+use Rattle.std.proofs.Common.{get_or, nat_lt, refl, sym, ◌∙◌, ap, subst, arith, Option, Some, is_some, append-nil, append_assoc}
 use Rattle.std.proofs.Common.{None as Nothing}
 use Rattle.std.specs.List.{Contains}
 use Rattle.std.proofs.lemmas.Bool.{le-ltb, or_cases, or_left, or_right}
@@ -15,10 +16,12 @@ use Rattle.rv_types.specs.declared.typed.Kind.TheVariants.{Labels}
 use Rattle.rv_types.specs.declared.fault.NameFault.{NameFault}
 use Rattle.rv_types.specs.declared.fault.NameFault.TheVariants.{TypeClash}
 use Rattle.rv_types.specs.Parts.{offset_of}
-use Rattle.rv_types.specs.Names.{texts, is_declared, stands_before, labels_of, constant_names, label_names, node_names, type_names, type_use, uses, is_value_before, is_clock_anyhow, constant_uses}
+use Rattle.rv_types.specs.Names.{texts, is_declared, stands_before, labels_of, constant_names, label_names, node_names, type_names, type_use, uses}
+use Rattle.rv_types.specs.Names.{is_value_before, is_clock_anyhow, constant_uses}
 use Rattle.rv_types.specs.Kinds.{LabelPlace, number_from, label_from, label_of, kind_in_program}
 use Rattle.rv_types.specs.Types.{same_kind, kind_of, expression_types}
-use Rattle.rv_types.specs.Scopes.{constant_scope, label_kind, as_declared, constant_kind_after, constant_kind, constant_types_after, constant_types, clash_unless}
+use Rattle.rv_types.specs.Scopes.{constant_scope, label_kind, as_declared, constant_kind_after, constant_kind, constant_types_after, constant_types}
+use Rattle.rv_types.specs.Scopes.{clash_unless}
 use Rattle.rv_types.proofs.FirstNames.{declared_append, before_append}
 use Rattle.rv_types.proofs.Turned.{twice}
 use Rattle.rv_types.proofs.RightNames.{both_empty}
@@ -45,12 +48,14 @@ abbrev constant_name : ConstantTree → Name
 constant_name c = c.name
 
 -- some constants declare a name, in whatever order
-declared_by : (cs ds : List ConstantTree) → ((c : ConstantTree) → Contains cs c → Contains ds c) → (x : Identifier) → is_declared (map constant_name cs) x ≡ true → is_declared (map constant_name ds) x ≡ true
+declared_by : (cs ds : List ConstantTree) → ((c : ConstantTree) → Contains cs c → Contains ds c) → (x : Identifier)
+    → is_declared (map constant_name cs) x ≡ true → is_declared (map constant_name ds) x ≡ true
 declared_by cs ds within x e =
     let a = of_map (λ (y : Name). y.text) (map constant_name cs) x (among_contains (texts (map constant_name cs)) x e) in
     let b = of_map constant_name cs a.0 a.1 in
     among_from (texts (map constant_name ds)) x
-    (subst (Contains (texts (map constant_name ds))) (ap (λ (y : Name). y.text) b.2 ∙ a.2) (in_map (λ (y : Name). y.text) (map constant_name ds) b.0.name (in_map constant_name ds b.0 (within b.0 b.1))))
+    (subst (Contains (texts (map constant_name ds))) (ap (λ (y : Name). y.text) b.2 ∙ a.2)
+    (in_map (λ (y : Name). y.text) (map constant_name ds) b.0.name (in_map constant_name ds b.0 (within b.0 b.1))))
 
 -- Names before an offset.
 
@@ -58,7 +63,8 @@ before_declared : (at : ℕ) (xs : List Name) (x : Identifier) → stands_before
 before_declared at [] x e = e
 before_declared at (y ∷ ys) x e = by (is_same y.text x) e (before_declared at ys x)
   where
-    by : (b : Bool) → cond b (nat_lt y.at at) (stands_before at ys x) ≡ true → (stands_before at ys x ≡ true → is_declared ys x ≡ true) → (b || is_declared ys x) ≡ true
+    by : (b : Bool) → cond b (nat_lt y.at at) (stands_before at ys x) ≡ true → (stands_before at ys x ≡ true → is_declared ys x ≡ true)
+        → (b || is_declared ys x) ≡ true
     by true e more = refl
     by false e more = more e
 
@@ -76,16 +82,19 @@ number_known : (k : ℕ) (xs : List Name) (x : Identifier) → is_declared xs x 
 number_known k [] x e = cc
 number_known k (y ∷ ys) x e = by (is_same y.text x) e (number_known (k + 1) ys x)
   where
-    by : (b : Bool) → (b || is_declared ys x) ≡ true → (is_declared ys x ≡ true → is_some (number_from (k + 1) ys x) ≡ true) → is_some (cond b (Some k) (number_from (k + 1) ys x)) ≡ true
+    by : (b : Bool) → (b || is_declared ys x) ≡ true → (is_declared ys x ≡ true → is_some (number_from (k + 1) ys x) ≡ true)
+        → is_some (cond b (Some k) (number_from (k + 1) ys x)) ≡ true
     by true e more = refl
     by false e more = more e
 
 label_known : (i : ℕ) (ds : List TypeDecl) (x : Identifier) → is_declared (flat_map labels_of ds) x ≡ true → is_some (label_from i ds x) ≡ true
 label_known i [] x e = cc
 label_known i (d ∷ ds) x e =
-    by (number_from 0 (labels_of d) x) (is_declared (labels_of d) x) (number_known 0 (labels_of d) x) (sym (declared_append (labels_of d) (flat_map labels_of ds) x) ∙ e) (label_known (i + 1) ds x)
+    by (number_from 0 (labels_of d) x) (is_declared (labels_of d) x) (number_known 0 (labels_of d) x)
+    (sym (declared_append (labels_of d) (flat_map labels_of ds) x) ∙ e) (label_known (i + 1) ds x)
   where
-    by : (o : Option ℕ) (b : Bool) → (b ≡ true → is_some o ≡ true) → (b || is_declared (flat_map labels_of ds) x) ≡ true → (is_declared (flat_map labels_of ds) x ≡ true → is_some (label_from (i + 1) ds x) ≡ true)
+    by : (o : Option ℕ) (b : Bool) → (b ≡ true → is_some o ≡ true) → (b || is_declared (flat_map labels_of ds) x) ≡ true
+        → (is_declared (flat_map labels_of ds) x ≡ true → is_some (label_from (i + 1) ds x) ≡ true)
         → is_some (elim o as (λ _. Option LabelPlace) [ Nothing ↦ label_from (i + 1) ds x | Some k ↦ Some (record { declaration = i; number = k }) ]) ≡ true
     by (Some k) b here e more = refl
     by Nothing true here e more = absurd (let no : false ≡ true = here refl in let f : ⊥ = cc in f)
@@ -134,10 +143,12 @@ module _ (p : ProgramTree) (rising : IsRising p) (used : flat_map (constant_uses
           omega (arith, less, first, second)
 
   -- what a constant may refer to is a constant before it or a label
-  known_before : (before rest : List ConstantTree) (c : ConstantTree) (x : Identifier) → p.constants ≡ reverse before ++ c ∷ rest → is_value_before p c.name.at x ≡ true
+  known_before : (before rest : List ConstantTree) (c : ConstantTree) (x : Identifier) → p.constants ≡ reverse before ++ c ∷ rest
+      → is_value_before p c.name.at x ≡ true
       → (is_declared (map constant_name before) x || is_declared (label_names p) x) ≡ true
   known_before before rest c x whole e = elim (or_cases (stands_before c.name.at (constant_names p) x) (stands_before c.name.at (label_names p) x) e) [
-    | inl constant ↦ or_left (is_declared (map constant_name before) x) (is_declared (label_names p) x) (declared_by (reverse before) before (of_reverse before) x (in_front constant))
+    | inl constant ↦ or_left (is_declared (map constant_name before) x) (is_declared (label_names p) x)
+        (declared_by (reverse before) before (of_reverse before) x (in_front constant))
     | inr label ↦ or_right (is_declared (map constant_name before) x) (is_declared (label_names p) x) (before_declared c.name.at (label_names p) x label)
   ]
     where
@@ -145,7 +156,8 @@ module _ (p : ProgramTree) (rising : IsRising p) (used : flat_map (constant_uses
       split = ap (map constant_name) whole ∙ map-append constant_name (reverse before) (c ∷ rest)
 
       none : stands_before c.name.at (map constant_name (c ∷ rest)) x ≡ false
-      none = none_before c.name.at (map constant_name (c ∷ rest)) x (λ y w. let d = of_map constant_name (c ∷ rest) y w in subst (λ (z : Name). c.name.at ≤ z.at) d.2 (later (reverse before) rest c d.0 whole d.1))
+      none = none_before c.name.at (map constant_name (c ∷ rest)) x (λ y w. let d = of_map constant_name (c ∷ rest) y w in
+          subst (λ (z : Name). c.name.at ≤ z.at) d.2 (later (reverse before) rest c d.0 whole d.1))
 
       told : (b l r : Bool) → cond b l r ≡ true → r ≡ false → b ≡ true
       told true l r e f = refl
@@ -153,12 +165,15 @@ module _ (p : ProgramTree) (rising : IsRising p) (used : flat_map (constant_uses
 
       in_front : stands_before c.name.at (constant_names p) x ≡ true → is_declared (map constant_name (reverse before)) x ≡ true
       in_front e =
-          told (is_declared (map constant_name (reverse before)) x) (stands_before c.name.at (map constant_name (reverse before)) x) (stands_before c.name.at (map constant_name (c ∷ rest)) x)
-          (sym (before_append c.name.at (map constant_name (reverse before)) (map constant_name (c ∷ rest)) x) ∙ sym (ap (λ l. stands_before c.name.at l x) split) ∙ e) none
+          told (is_declared (map constant_name (reverse before)) x) (stands_before c.name.at (map constant_name (reverse before)) x)
+          (stands_before c.name.at (map constant_name (c ∷ rest)) x)
+          (sym (before_append c.name.at (map constant_name (reverse before)) (map constant_name (c ∷ rest)) x)
+          ∙ sym (ap (λ l. stands_before c.name.at l x) split) ∙ e) none
 
   -- the body of a constant has a type, and so has the constant
   constant_typed : (before rest : List ConstantTree) (c : ConstantTree) → p.constants ≡ reverse before ++ c ∷ rest → constant_types_after p before c ≡ []
-      → ((x : Identifier) → (is_declared (map constant_name before) x || is_declared (label_names p) x) ≡ true → is_some (constant_kind_after p before x) ≡ true)
+      → ((x : Identifier) → (is_declared (map constant_name before) x || is_declared (label_names p) x) ≡ true
+      → is_some (constant_kind_after p before x) ≡ true)
       → is_some (as_declared p c.kind (kind_of (constant_scope (constant_kind_after p before)) c.body)) ≡ true
   constant_typed before rest c whole right earlier =
       as_declared_known p (offset_of c.body) c.kind (kind_of (constant_scope (constant_kind_after p before)) c.body)
@@ -168,7 +183,11 @@ module _ (p : ProgramTree) (rising : IsRising p) (used : flat_map (constant_uses
       parts.1
     where
       parts : (expression_types (constant_scope (constant_kind_after p before)) c.body ≡ [])
-          × (elim c.kind as (λ _. List NameFault) [ Nothing ↦ [] | Some t ↦ clash_unless (offset_of c.body) (kind_in_program p t) (kind_of (constant_scope (constant_kind_after p before)) c.body) ] ≡ [])
+          × (elim c.kind as (λ _. List NameFault) [
+            | Nothing ↦ []
+            | Some t ↦ clash_unless (offset_of c.body) (kind_in_program p t)
+                (kind_of (constant_scope (constant_kind_after p before)) c.body)
+          ] ≡ [])
       parts = both_empty _ _ right
 
       there : Contains p.constants c
@@ -183,7 +202,8 @@ module _ (p : ProgramTree) (rising : IsRising p) (used : flat_map (constant_uses
       → (is_declared (map constant_name cs) x || is_declared (label_names p) x) ≡ true → is_some (constant_kind_after p cs x) ≡ true
   kinds_known [] rest whole right x e = label_typed p x e
   kinds_known (c ∷ before) rest whole right x e =
-      by (is_same c.name.text x) e (constant_typed before rest c next parts.1 (kinds_known before (c ∷ rest) next parts.0)) (kinds_known before (c ∷ rest) next parts.0 x)
+      by (is_same c.name.text x) e (constant_typed before rest c next parts.1 (kinds_known before (c ∷ rest) next parts.0))
+      (kinds_known before (c ∷ rest) next parts.0 x)
     where
       next : p.constants ≡ reverse before ++ c ∷ rest
       next = whole ∙ ap (λ l. l ++ rest) (turned_more c before) ∙ append_assoc (reverse before) (c ∷ []) rest
@@ -199,10 +219,12 @@ module _ (p : ProgramTree) (rising : IsRising p) (used : flat_map (constant_uses
       by false e here more = more e
 
   -- each name of a constant or label has a type
-  pub constants_known : constant_types p (reverse p.constants) ≡ [] → (x : Identifier) → (is_declared (constant_names p) x || is_declared (label_names p) x) ≡ true → is_some (constant_kind p x) ≡ true
+  pub constants_known : constant_types p (reverse p.constants) ≡ [] → (x : Identifier)
+      → (is_declared (constant_names p) x || is_declared (label_names p) x) ≡ true → is_some (constant_kind p x) ≡ true
   constants_known right x e =
       kinds_known (reverse p.constants) [] (sym (append-nil (reverse (reverse p.constants)) ∙ twice p.constants)) right x
       (elim (or_cases (is_declared (constant_names p) x) (is_declared (label_names p) x) e) [
-        | inl constant ↦ or_left (is_declared (map constant_name (reverse p.constants)) x) (is_declared (label_names p) x) (declared_by p.constants (reverse p.constants) (in_reverse p.constants) x constant)
+        | inl constant ↦ or_left (is_declared (map constant_name (reverse p.constants)) x) (is_declared (label_names p) x)
+            (declared_by p.constants (reverse p.constants) (in_reverse p.constants) x constant)
         | inr label ↦ or_right (is_declared (map constant_name (reverse p.constants)) x) (is_declared (label_names p) x) label
       ])

@@ -1,5 +1,6 @@
 -- What is known of constant expressions.
-use Rattle.std.proofs.Common.{◌≡◌, ℕ, ◌≤◌, min, max, Bool, true, false, not, ◌&&◌, ◌||◌, cond, List, [], ◌∷◌, reverse, ℤ, pos, neg_ℤ, nat_abs, Option, Some, refl, sym, ap, ◌∙◌, arith}
+use Rattle.std.proofs.Common.{◌≡◌, ℕ, ◌≤◌, min, max, Bool, true, false, not, ◌&&◌, ◌||◌, cond, List, [], ◌∷◌, reverse, ℤ, pos, neg_ℤ, nat_abs, Option, Some}
+use Rattle.std.proofs.Common.{refl, sym, ap, ◌∙◌, arith}
 use Rattle.std.proofs.Common.{None as Nothing}
 use Rattle.std.specs.Option.{option_map}
 use Rattle.std.proofs.lemmas.Int.{ints}
@@ -8,7 +9,8 @@ use Rattle.rv_base.specs.declared.value.Value.TheVariants.{Flag, Whole}
 use Rattle.rv_base.specs.declared.value.Value.TheVariants as value
 use Rattle.rv_tree.specs.declared.tree.Op.{Op}
 use Rattle.rv_tree.specs.declared.tree.Op.TheVariants as op
-use Rattle.rv_tree.specs.Tree.{Tree, Form, Trees, Node, True, False, Number, Named, Not, Minus, Pre, Current, When, Binary, If, AtMostOne, Call, None, More, ConstantTree, ProgramTree}
+use Rattle.rv_tree.specs.Tree.{Tree, Form, Trees, Node, True, False, Number, Named, Not, Minus, Pre, Current, When, Binary, If, AtMostOne, Call, None, More}
+use Rattle.rv_tree.specs.Tree.{ConstantTree, ProgramTree}
 use Rattle.rv_tree.specs.Places.{Identifier, is_same}
 use Rattle.rv_types.specs.declared.weighing.Weighed.{Weighed}
 use Rattle.rv_types.specs.declared.reading_values.Trues.{Trues}
@@ -49,7 +51,9 @@ module _ (known : Identifier → Value) (small : AreSmall known) where
     form_small (Number n) = counted_small n (pos n) (omega (arith, ints))
     form_small (Named x) = let h = small x in omega (arith, h)
     form_small (Not e) = omega arith
-    form_small (Minus e) = counted_small (weight_of known e) (neg_ℤ (whole_in (value_of known e))) (negated_small (weight_of known e) (whole_in (value_of known e)) (capped_less (nat_abs (whole_in (value_of known e))) (weight_of known e) (value_small e)))
+    form_small (Minus e) = counted_small (weight_of known e) (neg_ℤ (whole_in (value_of known e)))
+        (negated_small (weight_of known e) (whole_in (value_of known e))
+        (capped_less (nat_abs (whole_in (value_of known e))) (weight_of known e) (value_small e)))
     form_small (Pre e) = omega arith
     form_small (Current e) = omega arith
     form_small (When e c) = omega arith
@@ -73,7 +77,8 @@ pub small_after : (p : ProgramTree) (before : List ConstantTree) → AreSmall (c
 small_after p [] x = label_small (label_of p x)
 small_after p (c ∷ before) x = tested (is_same c.name.text x) (small_after p before)
   where
-    tested : (b : Bool) → AreSmall (constant_value_after p before) → nat_abs (whole_in (cond b (value_of (constant_value_after p before) c.body) (constant_value_after p before x))) ≤ too_heavy
+    tested : (b : Bool) → AreSmall (constant_value_after p before) → nat_abs
+        (whole_in (cond b (value_of (constant_value_after p before) c.body) (constant_value_after p before x))) ≤ too_heavy
     tested true small = let h = value_small (constant_value_after p before) small c.body in omega (arith, h)
     tested false small = small x
 
@@ -117,9 +122,11 @@ is_part s known (Node at site form) w e =
     let v = known_at (is_constant_form s form) (record { value = form_value known form; weight = min (form_weight known form) too_heavy }) w e in
     record { constant = v.0; value = ap (λ (w : Weighed). w.value) v.1; weight = ap (λ (w : Weighed). w.weight) v.1 }
 
-pub makes_form : (s : Scope) (known : Identifier → Value) (form : Form) (w : Weighed) → is_constant_form s form ≡ true → w.value ≡ form_value known form → w.weight ≡ min (form_weight known form) too_heavy → Some w ≡ constant_form s known form
+pub makes_form : (s : Scope) (known : Identifier → Value) (form : Form) (w : Weighed) → is_constant_form s form ≡ true → w.value ≡ form_value known form
+    → w.weight ≡ min (form_weight known form) too_heavy → Some w ≡ constant_form s known form
 makes_form s known form w c v m =
-    (λ i. Some (record { value = v i; weight = m i })) ∙ ap (λ b. cond b (Some (record { value = form_value known form; weight = min (form_weight known form) too_heavy })) Nothing) (sym c)
+    (λ i. Some (record { value = v i; weight = m i })) ∙ ap (λ b. cond b
+    (Some (record { value = form_value known form; weight = min (form_weight known form) too_heavy })) Nothing) (sym c)
 
 -- The operands of a `#`.
 
@@ -127,7 +134,8 @@ module _ (s : Scope) (known : Identifier → Value) where
   abbrev told : Trues → Option Bool
   told t = cond t.constant (Some (not t.several)) Nothing
 
-  trues_law : (t : Trues) (es : Trees) → told (trues_over s known t es) ≡ cond (t.constant && are_constant s es) (Some (not t.several && at_most_after t.some (flags_of_all known es))) Nothing
+  trues_law : (t : Trues) (es : Trees) → told (trues_over s known t es) ≡ cond (t.constant && are_constant s es)
+      (Some (not t.several && at_most_after t.some (flags_of_all known es))) Nothing
   trues_law t None = base t.constant t.some t.several
     where
       base : (c some several : Bool) → cond c (Some (not several)) Nothing ≡ cond (c && true) (Some (not several && at_most_after some [])) Nothing
@@ -138,7 +146,8 @@ module _ (s : Scope) (known : Identifier → Value) where
       base false some several = refl
   trues_law t (More (Node at site form) es) = step (is_constant_form s form) (λ t. trues_law t es)
     where
-      joined : (c k some several f : Bool) (fs : List Bool) → cond (c && k) (Some (not (several || (some && f)) && at_most_after (some || f) fs)) Nothing ≡ cond (c && k) (Some (not several && at_most_after some (f ∷ fs))) Nothing
+      joined : (c k some several f : Bool) (fs : List Bool) → cond (c && k) (Some (not (several || (some && f)) && at_most_after (some || f) fs)) Nothing ≡ cond
+          (c && k) (Some (not several && at_most_after some (f ∷ fs))) Nothing
       joined true true true true true fs = refl
       joined true true true true false fs = refl
       joined true true true false true fs = refl
@@ -154,11 +163,19 @@ module _ (s : Scope) (known : Identifier → Value) where
       never true b = refl
       never false b = refl
 
-      step : (b : Bool) → ((t : Trues) → told (trues_over s known t es) ≡ cond (t.constant && are_constant s es) (Some (not t.several && at_most_after t.some (flags_of_all known es))) Nothing)
-          → told (trues_over s known (trues_after t (cond b (Some (record { value = form_value known form; weight = min (form_weight known form) too_heavy })) Nothing)) es)
-          ≡ cond (t.constant && (b && are_constant s es)) (Some (not t.several && at_most_after t.some (flag_in (form_value known form) ∷ flags_of_all known es))) Nothing
+      step : (b : Bool) → ((t : Trues) → told (trues_over s known t es) ≡ cond (t.constant && are_constant s es)
+          (Some (not t.several && at_most_after t.some (flags_of_all known es))) Nothing)
+          → told (trues_over s known (trues_after t (cond b (Some (record { value = form_value known form; weight = min (form_weight known form) too_heavy }))
+          Nothing)) es)
+          ≡ cond (t.constant && (b && are_constant s es)) (Some (not t.several && at_most_after t.some
+          (flag_in (form_value known form) ∷ flags_of_all known es))) Nothing
       step true again =
-          again (record { constant = t.constant; some = t.some || flag_in (form_value known form); several = t.several || (t.some && flag_in (form_value known form)) })
+          again (record {
+            constant = t.constant;
+            some = t.some || flag_in (form_value known form);
+            several = t.several ||
+                (t.some && flag_in (form_value known form));
+          })
           ∙ joined t.constant (are_constant s es) t.some t.several (flag_in (form_value known form)) (flags_of_all known es)
       step false again =
           again (record { constant = false; some = t.some; several = t.several })

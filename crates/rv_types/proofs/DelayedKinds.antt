@@ -2,7 +2,8 @@
 use Rattle.std.proofs.Common.{◌≡◌, ℕ, List, [], ◌∷◌, ◌++◌, flat_map, unwrap_or, Option, refl, sym, ◌∙◌, ap}
 use Rattle.std.proofs.lemmas.List.{map-append}
 use Rattle.rv_tree.specs.Delays.{Delay, delays, form_delays, delays_of_all, delays_in_equations, delays_in_assertions, node_delays}
-use Rattle.rv_tree.specs.Tree.{Tree, Node, Form, True, False, Number, Named, Not, Minus, Pre, Current, When, Binary, If, AtMostOne, Call, Trees, None, More, EquationTree, AssertionTree, NodeTree}
+use Rattle.rv_tree.specs.Tree.{Tree, Node, Form, True, False, Number, Named, Not, Minus, Pre, Current, When, Binary, If, AtMostOne, Call, Trees, None, More}
+use Rattle.rv_tree.specs.Tree.{EquationTree, AssertionTree, NodeTree}
 use Rattle.rv_types.specs.declared.typed.Kind.{Kind}
 use Rattle.rv_types.specs.declared.typed.Kind.TheVariants as kind
 use Rattle.rv_types.specs.Delayed.{delayed_kind, delayed_kinds, delayed_in, form_delayed, delayed_in_all, node_delayed}
@@ -39,13 +40,16 @@ module _ (s : Scope) where
 
   in_equations : (qs : List EquationTree) → flat_map (λ (q : EquationTree). delayed_in s q.right) qs ≡ delayed_kinds s (delays_in_equations qs)
   in_equations [] = refl
-  in_equations (q ∷ qs) = both (delays q.right) (delays_in_equations qs) (delayed_in s q.right) (flat_map (λ (q : EquationTree). delayed_in s q.right) qs) (in_expression q.right) (in_equations qs)
+  in_equations (q ∷ qs) = both (delays q.right) (delays_in_equations qs) (delayed_in s q.right) (flat_map (λ (q : EquationTree). delayed_in s q.right) qs)
+      (in_expression q.right) (in_equations qs)
 
   in_assertions : (qs : List AssertionTree) → flat_map (λ (a : AssertionTree). delayed_in s a.body) qs ≡ delayed_kinds s (delays_in_assertions qs)
   in_assertions [] = refl
-  in_assertions (a ∷ rest) = both (delays a.body) (delays_in_assertions rest) (delayed_in s a.body) (flat_map (λ (a : AssertionTree). delayed_in s a.body) rest) (in_expression a.body) (in_assertions rest)
+  in_assertions (a ∷ rest) = both (delays a.body) (delays_in_assertions rest) (delayed_in s a.body) (flat_map (λ (a : AssertionTree). delayed_in s a.body) rest)
+      (in_expression a.body) (in_assertions rest)
 
   pub in_node : (n : NodeTree) → node_delayed s n ≡ delayed_kinds s (node_delays n)
   in_node n =
-      both (delays_in_equations n.equations) (delays_in_assertions n.assertions) (flat_map (λ (q : EquationTree). delayed_in s q.right) n.equations) (flat_map (λ (a : AssertionTree). delayed_in s a.body) n.assertions)
+      both (delays_in_equations n.equations) (delays_in_assertions n.assertions) (flat_map (λ (q : EquationTree). delayed_in s q.right) n.equations)
+      (flat_map (λ (a : AssertionTree). delayed_in s a.body) n.assertions)
       (in_equations n.equations) (in_assertions n.assertions)

@@ -11,7 +11,9 @@ use Rattle.rv_types.specs.declared.fault.Verdict.{Verdict}
 use Rattle.rv_types.specs.declared.fault.Verdict.TheVariants.{Has, Silent, Clashes, Multiplies}
 use Rattle.rv_types.specs.Names.{own_uses, uses, use_at}
 use Rattle.rv_types.specs.Parts.{faults, faults_below, faults_of_all}
-use Rattle.rv_types.specs.Types.{Scope, Signature, kind_in, fault_in, same_kind, where_met, one_of, two_of, three_of, all_typed, all_suit, fit, binary_rule, both_are, not_rule, minus_rule, memory_rule, when_rule, when_of, if_rule, at_most_one_of, sole, call_of, form_verdict, kind_of, kinds_of_all, own_type_fault, expression_types, is_constant}
+use Rattle.rv_types.specs.Types.{Scope, Signature, kind_in, fault_in, same_kind, where_met, one_of, two_of, three_of, all_typed, all_suit, fit, binary_rule}
+use Rattle.rv_types.specs.Types.{both_are, not_rule, minus_rule, memory_rule, when_rule, when_of, if_rule, at_most_one_of, sole, call_of, form_verdict, kind_of}
+use Rattle.rv_types.specs.Types.{kinds_of_all, own_type_fault, expression_types, is_constant}
 use Rattle.rv_types.proofs.RightNames.{both_empty}
 
 -- a rule that is not broken gives a type
@@ -46,11 +48,13 @@ binary_typed at moves scaled op.Slash j k e = cc
 binary_typed at moves scaled op.Div j k e = cc
 binary_typed at moves scaled op.Mod j k e = cc
 
-one_typed : (at : ℕ) (rule : Kind → Verdict) → ((k : Kind) → IsTypedUnless at (rule k)) → (a : Option Kind) → is_some a ≡ true → IsTypedUnless at (one_of rule a)
+one_typed : (at : ℕ) (rule : Kind → Verdict) → ((k : Kind) → IsTypedUnless at (rule k)) → (a : Option Kind) → is_some a ≡ true
+    → IsTypedUnless at (one_of rule a)
 one_typed at rule each Nothing h e = cc
 one_typed at rule each (Some k) h e = each k e
 
-two_typed : (at : ℕ) (rule : Kind → Kind → Verdict) → ((j k : Kind) → IsTypedUnless at (rule j k)) → (a b : Option Kind) → is_some a ≡ true → is_some b ≡ true → IsTypedUnless at (two_of rule a b)
+two_typed : (at : ℕ) (rule : Kind → Kind → Verdict) → ((j k : Kind) → IsTypedUnless at (rule j k)) → (a b : Option Kind) → is_some a ≡ true → is_some b ≡ true
+    → IsTypedUnless at (two_of rule a b)
 two_typed at rule each Nothing b g h e = cc
 two_typed at rule each (Some j) Nothing g h e = cc
 two_typed at rule each (Some j) (Some k) g h e = each j k e
@@ -84,7 +88,8 @@ sole_typed at [] e = cc
 sole_typed at (k ∷ []) e = refl
 sole_typed at (k ∷ j ∷ ks) e = cc
 
-called_typed : (at : ℕ) (b c : Bool) (gives : List Kind) → b ≡ true → fault_in at (cond b (cond c (sole gives) Clashes) Silent) ≡ [] → (c ≡ true) × (is_some (kind_in (cond b (cond c (sole gives) Clashes) Silent)) ≡ true)
+called_typed : (at : ℕ) (b c : Bool) (gives : List Kind) → b ≡ true → fault_in at (cond b (cond c (sole gives) Clashes) Silent) ≡ []
+    → (c ≡ true) × (is_some (kind_in (cond b (cond c (sole gives) Clashes) Silent)) ≡ true)
 called_typed at true true gives h e = (refl, sole_typed at gives e)
 called_typed at true false gives h e = cc
 called_typed at false c gives h e = cc
@@ -93,7 +98,8 @@ no_call : {G : Type 0} (at : ℕ) (b : Bool) → b ≡ true → fault_in at (con
 no_call at true h e = cc
 no_call at false h e = cc
 
-pub call_fits : (at : ℕ) (moves : Bool) (g : Option Signature) (ks : List (Option Kind)) → all_typed ks ≡ true → (moves ≡ true → is_some g ≡ true) → fault_in at (call_of moves g ks) ≡ []
+pub call_fits : (at : ℕ) (moves : Bool) (g : Option Signature) (ks : List (Option Kind)) → all_typed ks ≡ true → (moves ≡ true → is_some g ≡ true)
+    → fault_in at (call_of moves g ks) ≡ []
     → IsFitting g ks × (is_some (kind_in (call_of moves g ks)) ≡ true)
 call_fits at false g ks typed known e = no_call at (all_typed ks) typed e
 call_fits at true Nothing ks typed known e = let no : false ≡ true = known refl in cc
@@ -126,7 +132,8 @@ module _ (s : Scope) (values clocks nodes : Identifier → Bool)
           (both_empty (own_uses values clocks nodes (Node at site form)) (faults_below (own_uses values clocks nodes) form) u).1
 
       form_typed : (at : ℕ) (site : Option ℕ) (form : Form) → fault_in at (form_verdict s form) ≡ [] → faults_below (own_type_fault s) form ≡ []
-          → own_uses values clocks nodes (Node at site form) ≡ [] → faults_below (own_uses values clocks nodes) form ≡ [] → is_some (kind_in (form_verdict s form)) ≡ true
+          → own_uses values clocks nodes (Node at site form) ≡ [] → faults_below (own_uses values clocks nodes) form ≡ []
+          → is_some (kind_in (form_verdict s form)) ≡ true
       form_typed at site True o e p u = refl
       form_typed at site False o e p u = refl
       form_typed at site (Number n) o e p u = refl
@@ -135,11 +142,13 @@ module _ (s : Scope) (values clocks nodes : Identifier → Bool)
       form_typed at site (Minus t) o e p u = one_typed at minus_rule (λ k. where_typed at (same_kind k kind.Int) kind.Int) (kind_of s t) (typed t e u) o
       form_typed at site (Pre t) o e p u = one_typed at (memory_rule s.moves) (λ k. where_typed at s.moves k) (kind_of s t) (typed t e u) o
       form_typed at site (Current t) o e p u = one_typed at (memory_rule s.moves) (λ k. where_typed at s.moves k) (kind_of s t) (typed t e u) o
-      form_typed at site (When t c) o e p u = when_typed at s.moves (kind_of s t) (s.clock c.text) (typed t e u) (λ m. known_clock c.text m (use_known (clocks c.text) c.at p)) o
+      form_typed at site (When t c) o e p u = when_typed at s.moves (kind_of s t) (s.clock c.text) (typed t e u)
+          (λ m. known_clock c.text m (use_known (clocks c.text) c.at p)) o
       form_typed at site (Binary q a b) o e p u =
           let t = both_empty (faults (own_type_fault s) a) (faults (own_type_fault s) b) e in
           let v = both_empty (faults (own_uses values clocks nodes) a) (faults (own_uses values clocks nodes) b) u in
-          two_typed at (binary_rule s.moves (is_constant s a || is_constant s b) q) (binary_typed at s.moves (is_constant s a || is_constant s b) q) (kind_of s a) (kind_of s b) (typed a t.0 v.0) (typed b t.1 v.1) o
+          two_typed at (binary_rule s.moves (is_constant s a || is_constant s b) q) (binary_typed at s.moves (is_constant s a || is_constant s b) q)
+          (kind_of s a) (kind_of s b) (typed a t.0 v.0) (typed b t.1 v.1) o
       form_typed at site (If i a b) o e p u =
           let t = both_empty (faults (own_type_fault s) i) (faults (own_type_fault s) a ++ faults (own_type_fault s) b) e in
           let f = both_empty (faults (own_type_fault s) a) (faults (own_type_fault s) b) t.1 in
@@ -147,9 +156,11 @@ module _ (s : Scope) (values clocks nodes : Identifier → Bool)
           let w = both_empty (faults (own_uses values clocks nodes) a) (faults (own_uses values clocks nodes) b) v.1 in
           three_typed at (kind_of s i) (kind_of s a) (kind_of s b) (typed i t.0 v.0) (typed a f.0 w.0) (typed b f.1 w.1) o
       form_typed at site (AtMostOne es) o e p u = most_typed at (kinds_of_all s es) (arguments_typed es e u) o
-      form_typed at site (Call f es) o e p u = (call_fits at s.moves (s.callee f) (kinds_of_all s es) (arguments_typed es e u) (λ m. known_node f m (use_known (nodes f) at p)) o).1
+      form_typed at site (Call f es) o e p u = (call_fits at s.moves (s.callee f) (kinds_of_all s es) (arguments_typed es e u)
+          (λ m. known_node f m (use_known (nodes f) at p)) o).1
 
-      pub arguments_typed : (es : Trees) → faults_of_all (own_type_fault s) es ≡ [] → faults_of_all (own_uses values clocks nodes) es ≡ [] → all_typed (kinds_of_all s es) ≡ true
+      pub arguments_typed : (es : Trees) → faults_of_all (own_type_fault s) es ≡ [] → faults_of_all (own_uses values clocks nodes) es ≡ []
+          → all_typed (kinds_of_all s es) ≡ true
       arguments_typed None e u = refl
       arguments_typed (More t ts) e u =
           let f = both_empty (faults (own_type_fault s) t) (faults_of_all (own_type_fault s) ts) e in

@@ -1,10 +1,12 @@
 -- What the first fault of a list is.
-use Rattle.std.proofs.Common.{◌≡◌, ℕ, ◌+◌, ◌*◌, ◌<◌, ◌≤◌, ◌⊎◌, inl, inr, Bool, true, false, cond, nat_le, List, [], ◌∷◌, Option, Some, None, Contains, refl, sym, ap, subst, arith, length, get_or, zero, suc}
+use Rattle.std.proofs.Common.{◌≡◌, ℕ, ◌+◌, ◌*◌, ◌<◌, ◌≤◌, ◌⊎◌, inl, inr, Bool, true, false, cond, nat_le, List, [], ◌∷◌, Option, Some, None, Contains, refl}
+use Rattle.std.proofs.Common.{sym, ap, subst, arith, length, get_or, zero, suc}
 use Rattle.std.proofs.lemmas.Bool.{cases_lt}
 use Rattle.std.proofs.lemmas.List.Elements.{Contains-get_or, Contains-append_right}
 use Rattle.std.proofs.lemmas.Bool.Decides.{nat_tests}
 use Rattle.rv_types.specs.declared.fault.NameFault.{NameFault}
-use Rattle.rv_types.specs.declared.fault.NameFault.TheVariants.{NoNode, UnknownName, DefinedTwice, Undefined, TypeClash, Nonlinear, ClockClash, NotObserver, Memory}
+use Rattle.rv_types.specs.declared.fault.NameFault.TheVariants.{NoNode, UnknownName, DefinedTwice, Undefined, TypeClash, Nonlinear, ClockClash, NotObserver}
+use Rattle.rv_types.specs.declared.fault.NameFault.TheVariants.{Memory}
 use Rattle.rv_types.specs.Faults.{offset, number, ComesBefore, IsFirst}
 use Rattle.rv_types.specs.Earliest.{rank, sooner, first}
 
@@ -57,7 +59,8 @@ nothing_first fs e = ap first e
 pub Least : NameFault → List NameFault → Type 0
 Least f fs = Contains fs f × ((g : NameFault) → Contains fs g → rank f ≤ rank g)
 
-least_cons : (x : NameFault) (xs : List NameFault) (f : NameFault) → Contains (x ∷ xs) f → rank f ≤ rank x → ((g : NameFault) → Contains xs g → rank f ≤ rank g) → Least f (x ∷ xs)
+least_cons : (x : NameFault) (xs : List NameFault) (f : NameFault) → Contains (x ∷ xs) f → rank f ≤ rank x → ((g : NameFault) → Contains xs g → rank f ≤ rank g)
+    → Least f (x ∷ xs)
 unfolding Least
 least_cons x xs f m h below = (
   m,
@@ -65,7 +68,8 @@ least_cons x xs f m h below = (
       [ inl e ↦ subst (λ y. rank f ≤ rank y) e h | inr k ↦ below g k ],
 )
 
-mutual_step : (x : NameFault) (xs : List NameFault) (f : NameFault) (o : Option NameFault) → first xs ≡ o → ((g : NameFault) → first xs ≡ Some g → Least g xs) → sooner (Some x) o ≡ Some f → Least f (x ∷ xs)
+mutual_step : (x : NameFault) (xs : List NameFault) (f : NameFault) (o : Option NameFault) → first xs ≡ o → ((g : NameFault) → first xs ≡ Some g → Least g xs)
+    → sooner (Some x) o ≡ Some f → Least f (x ∷ xs)
 unfolding Least
 mutual_step x xs f None e rest h =
     let s : x ≡ f = cc in

@@ -36,13 +36,16 @@ declared_alike (y ∷ ys) t x h =
 
 pub declared_append : (xs ys : List Name) (x : Identifier) → is_declared (xs ++ ys) x ≡ (is_declared xs x || is_declared ys x)
 declared_append [] ys x = refl
-declared_append (z ∷ xs) ys x = ap (λ b. is_same z.text x || b) (declared_append xs ys x) ∙ sym (or_assoc (is_same z.text x) (is_declared xs x) (is_declared ys x))
+declared_append (z ∷ xs) ys x = ap (λ b. is_same z.text x || b) (declared_append xs ys x)
+    ∙ sym (or_assoc (is_same z.text x) (is_declared xs x) (is_declared ys x))
 
-pub before_append : (at : ℕ) (xs ys : List Name) (x : Identifier) → stands_before at (xs ++ ys) x ≡ cond (is_declared xs x) (stands_before at xs x) (stands_before at ys x)
+pub before_append : (at : ℕ) (xs ys : List Name) (x : Identifier) → stands_before at (xs ++ ys) x ≡ cond (is_declared xs x) (stands_before at xs x)
+    (stands_before at ys x)
 before_append at [] ys x = refl
 before_append at (z ∷ xs) ys x = tested (is_same z.text x) (is_declared xs x) (stands_before at xs x) (stands_before at ys x) (before_append at xs ys x)
   where
-    tested : (b d l r : Bool) → stands_before at (xs ++ ys) x ≡ cond d l r → cond b (nat_lt z.at at) (stands_before at (xs ++ ys) x) ≡ cond (b || d) (cond b (nat_lt z.at at) l) r
+    tested : (b d l r : Bool) → stands_before at (xs ++ ys) x ≡ cond d l r
+        → cond b (nat_lt z.at at) (stands_before at (xs ++ ys) x) ≡ cond (b || d) (cond b (nat_lt z.at at) l) r
     tested true d l r e = refl
     tested false d l r e = e
 
@@ -56,10 +59,12 @@ again_declared xs ys y x there = declared_append xs ys x ∙ tested (is_same y.t
         ap (λ b. b || is_declared ys x) declared ∙ sym (ap (λ b. b || true) declared)
     tested false e = refl
 
-again_before : (at : ℕ) (xs ys : List Name) (y : Name) (x : Identifier) → is_declared xs y.text ≡ true → stands_before at (xs ++ ys) x ≡ stands_before at (xs ++ y ∷ ys) x
+again_before : (at : ℕ) (xs ys : List Name) (y : Name) (x : Identifier) → is_declared xs y.text ≡ true
+    → stands_before at (xs ++ ys) x ≡ stands_before at (xs ++ y ∷ ys) x
 again_before at xs ys y x there = before_append at xs ys x ∙ tested (is_same y.text x) refl ∙ sym (before_append at xs (y ∷ ys) x)
   where
-    tested : (b : Bool) → is_same y.text x ≡ b → cond (is_declared xs x) (stands_before at xs x) (stands_before at ys x) ≡ cond (is_declared xs x) (stands_before at xs x) (cond b (nat_lt y.at at) (stands_before at ys x))
+    tested : (b : Bool) → is_same y.text x ≡ b → cond (is_declared xs x) (stands_before at xs x) (stands_before at ys x) ≡ cond (is_declared xs x)
+        (stands_before at xs x) (cond b (nat_lt y.at at) (stands_before at ys x))
     tested true e =
         let declared : is_declared xs x ≡ true = sym (declared_alike xs y.text x e) ∙ there in
         ap (λ b. cond b (stands_before at xs x) (stands_before at ys x)) declared ∙ sym (ap (λ b. cond b (stands_before at xs x) (nat_lt y.at at)) declared)
@@ -105,7 +110,8 @@ with_alike before x t = tested (is_declared before x.text) refl
 
     tested : (b : Bool) → is_declared before x.text ≡ b → is_declared (x ∷ before) t ≡ is_declared (cond b before (before ++ x ∷ [])) t
     tested true e = again (is_same x.text t) refl e
-    tested false e = or_swap (is_same x.text t) (is_declared before t) ∙ ap (λ b. is_declared before t || b) (sym (or_false (is_same x.text t))) ∙ sym (declared_append before (x ∷ []) t)
+    tested false e = or_swap (is_same x.text t) (is_declared before t) ∙ ap (λ b. is_declared before t || b) (sym (or_false (is_same x.text t)))
+        ∙ sym (declared_append before (x ∷ []) t)
 
 pub repeated_next : (before xs : List Name) (x : Name) → repeated (x ∷ before) xs ≡ repeated (with_name before x) xs
 repeated_next before xs x = repeated_alike (x ∷ before) (with_name before x) xs (with_alike before x)
@@ -118,7 +124,8 @@ repeated_append before (x ∷ xs) ys =
     let head = repeated_next before xs x in
     ap (λ l. cond (is_declared before x.text) (DefinedTwice x.at ∷ []) [] ++ l)
     (next ∙ rest ∙ (λ i. sym head i ++ repeated (firsts_after (with_name before x) xs) ys))
-    ∙ sym (append_assoc (cond (is_declared before x.text) (DefinedTwice x.at ∷ []) []) (repeated (x ∷ before) xs) (repeated (firsts_after (with_name before x) xs) ys))
+    ∙ sym (append_assoc (cond (is_declared before x.text) (DefinedTwice x.at ∷ []) []) (repeated (x ∷ before) xs)
+    (repeated (firsts_after (with_name before x) xs) ys))
 
 pub firsts_append : (before xs ys : List Name) → firsts_after before (xs ++ ys) ≡ firsts_after (firsts_after before xs) ys
 firsts_append before [] ys = refl
@@ -127,10 +134,12 @@ firsts_append before (x ∷ xs) ys = firsts_append (with_name before x) xs ys
 -- where no name is repeated all are the first
 all_first_after : (before xs : List Name) → repeated before xs ≡ [] → firsts_after before xs ≡ before ++ xs
 all_first_after before [] none = sym (append-nil before)
-all_first_after before (x ∷ xs) none = tested (is_declared before x.text) refl none (λ again. all_first_after (with_name before x) xs (sym (repeated_next before xs x) ∙ again))
+all_first_after before (x ∷ xs) none = tested (is_declared before x.text) refl none
+    (λ again. all_first_after (with_name before x) xs (sym (repeated_next before xs x) ∙ again))
   where
     tested : (b : Bool) → is_declared before x.text ≡ b → cond b (DefinedTwice x.at ∷ []) [] ++ repeated (x ∷ before) xs ≡ []
-        → (repeated (x ∷ before) xs ≡ [] → firsts_after (with_name before x) xs ≡ with_name before x ++ xs) → firsts_after (with_name before x) xs ≡ before ++ x ∷ xs
+        → (repeated (x ∷ before) xs ≡ [] → firsts_after (with_name before x) xs ≡ with_name before x ++ xs)
+        → firsts_after (with_name before x) xs ≡ before ++ x ∷ xs
     tested true e none rest = cc
     tested false e none rest =
         let new : with_name before x ≡ before ++ x ∷ [] = ap (λ b. cond b before (before ++ x ∷ [])) e in

@@ -26,7 +26,8 @@ pub three_seconds : (a b c : List Decl) (s t : List Name) (o p q r : Option Name
     → o ≡ first (repeated [] (decl_names a)) → p ≡ first (repeated s (decl_names b)) → q ≡ first (repeated t (decl_names c)) → r ≡ sooner (sooner o p) q
     → r ≡ first (repeated [] (decl_names ((a ++ b) ++ c)))
 three_seconds a b c s t o p q r e f h j k done =
-    let two : firsts_after s (decl_names b) ≡ firsts (decl_names a ++ decl_names b) = ap (λ l. firsts_after l (decl_names b)) e ∙ sym (firsts_append [] (decl_names a) (decl_names b)) in
+    let two : firsts_after s (decl_names b) ≡ firsts (decl_names a ++ decl_names b) = ap (λ l. firsts_after l (decl_names b)) e
+    ∙ sym (firsts_append [] (decl_names a) (decl_names b)) in
     let pair : sooner o p ≡ first (repeated [] (decl_names a ++ decl_names b)) =
     (λ i. sooner (h i) (j i)) ∙ (λ i. sooner (first (repeated [] (decl_names a))) (first (repeated (e i) (decl_names b))))
     ∙ sym (first_append (repeated [] (decl_names a)) (repeated (firsts (decl_names a)) (decl_names b)))
@@ -37,7 +38,8 @@ three_seconds a b c s t o p q r e f h j k done =
     ∙ sym (ap (λ l. first (repeated [] l)) (three_names a b c))
 
 -- the faults of the flows of two parts
-pub two_parts : (f : Name → List NameFault) (a b : List Decl) (o p r : Option NameFault) → o ≡ first (flat_map f (decl_names a)) → p ≡ first (flat_map f (decl_names b))
+pub two_parts : (f : Name → List NameFault) (a b : List Decl) (o p r : Option NameFault) → o ≡ first (flat_map f (decl_names a))
+    → p ≡ first (flat_map f (decl_names b))
     → r ≡ sooner o p → r ≡ first (flat_map f (decl_names (a ++ b)))
 two_parts f a b o p r h j done =
     done ∙ (λ i. sooner (h i) (j i)) ∙ sym (first_append (flat_map f (decl_names a)) (flat_map f (decl_names b)))

@@ -9,7 +9,9 @@ use Rattle.rv_types.specs.declared.typed.Kind.{Kind}
 use Rattle.rv_types.specs.declared.typed.Kind.TheVariants.{Bool as Boolean, Int}
 use Rattle.rv_types.specs.declared.fault.Verdict.TheVariants.{Has, Silent, Clashes, Multiplies}
 use Rattle.rv_types.specs.Heads.{kind_given, first_kind, first_output, head_kind, form_head}
-use Rattle.rv_types.specs.Types.{Scope, Signature, same_kind, kind_in, where_met, one_of, two_of, three_of, both_are, all_typed, all_suit, fit, binary_rule, not_rule, minus_rule, memory_rule, when_of, if_rule, at_most_one_of, sole, call_of, is_constant, kind_of, form_verdict, kinds_of_all}
+use Rattle.rv_types.specs.Types.{Scope, Signature, same_kind, kind_in, where_met, one_of, two_of, three_of, both_are, all_typed, all_suit, fit, binary_rule}
+use Rattle.rv_types.specs.Types.{not_rule, minus_rule, memory_rule, when_of, if_rule, at_most_one_of, sole, call_of, is_constant, kind_of, form_verdict}
+use Rattle.rv_types.specs.Types.{kinds_of_all}
 
 -- a rule that is met gives its type
 met : (b : Bool) (j k : Kind) → kind_in (where_met b j) ≡ Some k → j ≡ k
@@ -77,7 +79,8 @@ rule_is moves scaled op.Slash h i j k left e = absurd (none-some k e)
 rule_is moves scaled op.Div h i j k left e = absurd (none-some k e)
 rule_is moves scaled op.Mod h i j k left e = absurd (none-some k e)
 
-operator_is : (moves scaled : Bool) (o : Op) (a b : Option Kind) (h k : Kind) → ((i : Kind) → a ≡ Some i → h ≡ i) → kind_in (two_of (binary_rule moves scaled o) a b) ≡ Some k → unwrap_or (kind_given o) h ≡ k
+operator_is : (moves scaled : Bool) (o : Op) (a b : Option Kind) (h k : Kind) → ((i : Kind) → a ≡ Some i → h ≡ i)
+    → kind_in (two_of (binary_rule moves scaled o) a b) ≡ Some k → unwrap_or (kind_given o) h ≡ k
 operator_is moves scaled o Nothing b h k left e = absurd (none-some k e)
 operator_is moves scaled o (Some i) Nothing h k left e = absurd (none-some k e)
 operator_is moves scaled o (Some i) (Some j) h k left e = rule_is moves scaled o h i j k (left i refl) e

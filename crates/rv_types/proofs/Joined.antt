@@ -1,5 +1,6 @@
 -- The first fault of two lists joined.
-use Rattle.std.proofs.Common.{◌≡◌, ℕ, ◌+◌, ◌<◌, Bool, true, false, List, [], ◌∷◌, ◌++◌, Option, Some, None, refl, sym, ap, ◌∙◌, arith, ◌&&◌, length, drop, get_or, drop-cons, suc, add-one, take, map, flat_map}
+use Rattle.std.proofs.Common.{◌≡◌, ℕ, ◌+◌, ◌<◌, Bool, true, false, List, [], ◌∷◌, ◌++◌, Option, Some, None, refl, sym, ap, ◌∙◌, arith, ◌&&◌, length, drop}
+use Rattle.std.proofs.Common.{get_or, drop-cons, suc, add-one, take, map, flat_map}
 use Rattle.rv_types.specs.declared.fault.NameFault.{NameFault}
 use Rattle.rv_types.specs.Earliest.{sooner, first}
 use Rattle.std.proofs.lemmas.Bool.Decides.{nat_tests}
@@ -38,7 +39,8 @@ and_assoc true b c = refl
 and_assoc false b c = refl
 
 -- the faults of one element more
-pub mapped_step : {X Y : Type 0} (f : Y → List NameFault) (t : X → Y) (xs : List X) (k : ℕ) (x : X) (fault one both : Option NameFault) → k < length xs → x ≡ get_or xs k x
+pub mapped_step : {X Y : Type 0} (f : Y → List NameFault) (t : X → Y) (xs : List X) (k : ℕ) (x : X) (fault one both : Option NameFault) → k < length xs
+    → x ≡ get_or xs k x
     → fault ≡ first (flat_map f (map t (take k xs))) → one ≡ first (f (t x)) → both ≡ sooner fault one → both ≡ first (flat_map f (map t (take (k + 1) xs)))
 mapped_step f t xs k x fault one both h is so_far here joined =
     let longer : take (k + 1) xs ≡ take k xs ++ x ∷ [] = take_more xs k x h ∙ ap (λ y. take k xs ++ y ∷ []) (sym is) in

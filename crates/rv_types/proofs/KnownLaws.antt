@@ -11,9 +11,12 @@ use Rattle.rv_tree.specs.Places.{names, flows, is_among, is_flow}
 use Rattle.rv_types.specs.declared.fault.NameFault.{NameFault}
 use Rattle.rv_types.specs.declared.fault.NameFault.TheVariants.{Undefined}
 use Rattle.rv_types.specs.declared.uses.Reach.TheVariants.{Before, Everywhere}
-use Rattle.rv_types.specs.Names.{texts, is_declared, stands_before, type_names, constant_names, label_names, node_names, decls, decl_names, lefts, repeated, type_use, use_of, uses, undefined_unless, alias_use, flow_use, is_value_before, is_clock_anyhow, constant_uses, is_value, node_uses, equation_uses, assertion_uses, clock_use, names_in_node, name_faults}
+use Rattle.rv_types.specs.Names.{texts, is_declared, stands_before, type_names, constant_names, label_names, node_names, decls, decl_names, lefts, repeated}
+use Rattle.rv_types.specs.Names.{type_use, use_of, uses, undefined_unless, alias_use, flow_use, is_value_before, is_clock_anyhow, constant_uses, is_value}
+use Rattle.rv_types.specs.Names.{node_uses, equation_uses, assertion_uses, clock_use, names_in_node, name_faults}
 use Rattle.rv_types.specs.Firsts.{firsts}
-use Rattle.rv_types.specs.Known.{first_spaces, second_declarations, knows_value, unknown_in, alias_use_in, type_use_before, constant_use_in, flow_names, undefined_in, uses_in, names_in}
+use Rattle.rv_types.specs.Known.{first_spaces, second_declarations, knows_value, unknown_in, alias_use_in, type_use_before, constant_use_in, flow_names}
+use Rattle.rv_types.specs.Known.{undefined_in, uses_in, names_in}
 use Rattle.rv_types.proofs.FirstNames.{declared_firsts, before_firsts}
 
 texts_of : (ds : List Decl) → texts (decl_names ds) ≡ names ds
@@ -55,12 +58,14 @@ everywhere_known p n = λ i x. flow_known n i x || (declared_firsts (constant_na
 node_same : (p : ProgramTree) (n : NodeTree) → unknown_in (first_spaces p) (firsts (flow_names n)) Everywhere ≡ node_uses p n
 node_same p n = λ i e. uses (everywhere_known p n i) (flow_known n i) (declared_all (node_names p) i) e
 
-uses_same : (p : ProgramTree) (n : NodeTree) → uses_in (first_spaces p) (firsts (flow_names n)) n ≡ (flat_map (flow_use p) (decls n) ++ flat_map (clock_use n) n.locals)
+uses_same : (p : ProgramTree) (n : NodeTree) → uses_in (first_spaces p)
+    (firsts (flow_names n)) n ≡ (flat_map (flow_use p) (decls n) ++ flat_map (clock_use n) n.locals)
     ++ (flat_map (equation_uses p n) n.equations ++ flat_map (assertion_uses p n) n.assertions)
 uses_same p n = λ i.
     (flat_map (λ d. type_use (declared_all (type_names p) i) d.kind) (decls n)
     ++ flat_map (λ d. elim d.clock as (λ _. List NameFault) [ Nothing ↦ [] | Some c ↦ use_of (flow_known n i) c ]) n.locals)
-    ++ (flat_map (λ q. flat_map (use_of (flow_known n i)) q.lefts ++ node_same p n i q.right) n.equations ++ flat_map (λ a. node_same p n i a.body) n.assertions)
+    ++ (flat_map (λ q. flat_map (use_of (flow_known n i)) q.lefts ++ node_same p n i q.right) n.equations
+    ++ flat_map (λ a. node_same p n i a.body) n.assertions)
 
 undefined_same : (n : NodeTree) → undefined_in n ≡ flat_map (undefined_unless (lefts n)) (decl_names (n.outputs ++ n.locals))
 undefined_same n = λ i. flat_map (λ x. cond (declared_firsts (lefts n) x.text i) [] (Undefined x.at ∷ [])) (decl_names (n.outputs ++ n.locals))
@@ -69,5 +74,8 @@ names_same : (p : ProgramTree) → names_in (first_spaces p) ≡ names_in_node p
 names_same p = λ i n. (repeated [] (decl_names (decls n)) ++ repeated (decl_names n.inputs) (lefts n)) ++ (undefined_same n i ++ uses_same p n i)
 
 -- all that is wrong of names
-pub all_names : (p : ProgramTree) (flows : List Name) → second_declarations p ++ ((flat_map (alias_use_in (first_spaces p).types) p.types ++ flat_map (constant_use_in (first_spaces p) flows) p.constants) ++ flat_map (names_in (first_spaces p)) p.nodes) ≡ name_faults p
-all_names p flows = λ i. second_declarations p ++ ((flat_map (alias_same p i) p.types ++ flat_map (constant_same p flows i) p.constants) ++ flat_map (names_same p i) p.nodes)
+pub all_names : (p : ProgramTree) (flows : List Name) → second_declarations p
+    ++ ((flat_map (alias_use_in (first_spaces p).types) p.types ++ flat_map (constant_use_in (first_spaces p) flows) p.constants)
+    ++ flat_map (names_in (first_spaces p)) p.nodes) ≡ name_faults p
+all_names p flows = λ i. second_declarations p ++ ((flat_map (alias_same p i) p.types ++ flat_map (constant_same p flows i) p.constants)
+    ++ flat_map (names_same p i) p.nodes)

@@ -1,5 +1,6 @@
 -- What a name means after some declarations of different names, the last of them first, is what stands at its number.
-use Rattle.std.proofs.Common.{◌≡◌, ℕ, ◌+◌, zero, suc, Bool, true, false, ◌||◌, cond, List, [], ◌∷◌, ◌++◌, map, reverse, length, Option, Some, refl, sym, ap, ◌∙◌, arith, slice_get, append_assoc}
+use Rattle.std.proofs.Common.{◌≡◌, ℕ, ◌+◌, zero, suc, Bool, true, false, ◌||◌, cond, List, [], ◌∷◌, ◌++◌, map, reverse, length, Option, Some, refl, sym, ap}
+use Rattle.std.proofs.Common.{◌∙◌, arith, slice_get, append_assoc}
 use Rattle.std.proofs.Common.{None as Nothing}
 use Rattle.std.specs.Cmp.Lexicographic.{same_text}
 use Rattle.std.proofs.lemmas.List.{reverse-append, map-append}
@@ -38,7 +39,8 @@ declared_there (z ∷ xs) y rest x e = tested (is_same z.text x) (declared_there
     tested true h = refl
     tested false h = h
 
-index_there : (xs : List Name) (y : Name) (rest : List Name) (x : Identifier) → is_declared xs x ≡ false → is_same y.text x ≡ true → index_of (texts (xs ++ y ∷ rest)) x ≡ length xs
+index_there : (xs : List Name) (y : Name) (rest : List Name) (x : Identifier) → is_declared xs x ≡ false → is_same y.text x ≡ true
+    → index_of (texts (xs ++ y ∷ rest)) x ≡ length xs
 index_there [] y rest x none e = ap (λ b. cond b 0 (index_of (texts rest) x + 1)) e
 index_there (z ∷ xs) y rest x none e = tested (is_same z.text x) none (λ h. index_there xs y rest x h e)
   where
@@ -46,7 +48,8 @@ index_there (z ∷ xs) y rest x none e = tested (is_same z.text x) none (λ h. i
     tested true h i = cc
     tested false h i = let e = i h in omega arith
 
-index_elsewhere : (xs : List Name) (y : Name) (rest : List Name) (x : Identifier) → is_same y.text x ≡ false → index_of (texts (xs ++ y ∷ rest)) x ≡ length xs → ⊥
+index_elsewhere : (xs : List Name) (y : Name) (rest : List Name) (x : Identifier) → is_same y.text x ≡ false → index_of (texts (xs ++ y ∷ rest)) x ≡ length xs
+    → ⊥
 index_elsewhere [] y rest x e h = tested (is_same y.text x) (index_of (texts rest) x) e h
   where
     tested : (a : Bool) (k : ℕ) → a ≡ false → cond a 0 (k + 1) ≡ 0 → ⊥
@@ -67,7 +70,8 @@ neither true b h = absurd (let x : ⊥ = cc in x)
 neither false b h = (refl, h)
 
 -- where no name is declared twice, each is new among those before it
-pub fresh : (before xs : List Name) (y : Name) (rest : List Name) → repeated before (xs ++ y ∷ rest) ≡ [] → (is_declared before y.text ≡ false) × (is_declared xs y.text ≡ false)
+pub fresh : (before xs : List Name) (y : Name) (rest : List Name) → repeated before (xs ++ y ∷ rest) ≡ []
+    → (is_declared before y.text ≡ false) × (is_declared xs y.text ≡ false)
 fresh before [] y rest h = ((no_fault _ _ _ h).0, refl)
 fresh before (x ∷ xs) y rest h =
     let later = fresh (x ∷ before) xs y rest (no_fault _ _ _ h).1 in
@@ -88,7 +92,8 @@ get_elsewhere (x ∷ xs) v (suc k) h = get_elsewhere xs v k (λ e. h (ap suc e))
 abbrev pub front_of : {A : Type 0} → (A → Name) → List A → List Name
 front_of name cs = all_of (λ before c. name c) cs
 
-here : {A B : Type 0} (name : A → Name) (mean : List A → A → B) (names rest : List Name) (c : A) (cs : List A) → names ≡ front_of name cs ++ name c ∷ rest → repeated [] names ≡ [] → (x : Identifier) → is_same (name c).text x ≡ true → Some (mean cs c) ≡ entry_in names (all_of mean cs ++ mean cs c ∷ []) x
+here : {A B : Type 0} (name : A → Name) (mean : List A → A → B) (names rest : List Name) (c : A) (cs : List A) → names ≡ front_of name cs ++ name c ∷ rest
+    → repeated [] names ≡ [] → (x : Identifier) → is_same (name c).text x ≡ true → Some (mean cs c) ≡ entry_in names (all_of mean cs ++ mean cs c ∷ []) x
 here name mean names rest c cs e different x s =
     let text = same_text (name c).text x (sym s) in
     let new = (fresh [] (front_of name cs) (name c) rest (sym (ap (repeated []) e) ∙ different)).1 in
@@ -100,7 +105,8 @@ here name mean names rest c cs e different x s =
     sym (ap (λ b. cond b (slice_get (all_of mean cs ++ mean cs c ∷ []) (index_of (texts names) x)) Nothing) declared
     ∙ ap (slice_get (all_of mean cs ++ mean cs c ∷ [])) at ∙ get_last (all_of mean cs) (mean cs c))
 
-elsewhere : {A B : Type 0} (name : A → Name) (mean : List A → A → B) (names rest : List Name) (c : A) (cs : List A) → names ≡ front_of name cs ++ name c ∷ rest → (x : Identifier) → is_same (name c).text x ≡ false → entry_in names (all_of mean cs) x ≡ entry_in names (all_of mean cs ++ mean cs c ∷ []) x
+elsewhere : {A B : Type 0} (name : A → Name) (mean : List A → A → B) (names rest : List Name) (c : A) (cs : List A) → names ≡ front_of name cs ++ name c ∷ rest
+    → (x : Identifier) → is_same (name c).text x ≡ false → entry_in names (all_of mean cs) x ≡ entry_in names (all_of mean cs ++ mean cs c ∷ []) x
 elsewhere name mean names rest c cs e x s =
     let not_at : (index_of (texts names) x ≡ length (all_of mean cs)) → ⊥ = λ at.
     index_elsewhere (front_of name cs) (name c) rest x s
@@ -111,13 +117,15 @@ nothing_at : {B : Type 0} (b : Bool) (k : ℕ) → cond b (slice_get {X = B} [] 
 nothing_at true k = slice_get_past [] k (omega arith)
 nothing_at false k = refl
 
-pub last_is : {A B : Type 0} (name : A → Name) (mean : List A → A → B) (names rest : List Name) (cs : List A) → names ≡ front_of name cs ++ rest → repeated [] names ≡ [] → (x : Identifier) → last_of name mean cs x ≡ entry_in names (all_of mean cs) x
+pub last_is : {A B : Type 0} (name : A → Name) (mean : List A → A → B) (names rest : List Name) (cs : List A) → names ≡ front_of name cs ++ rest
+    → repeated [] names ≡ [] → (x : Identifier) → last_of name mean cs x ≡ entry_in names (all_of mean cs) x
 last_is name mean names rest [] e different x = sym (nothing_at (is_declared names x) (index_of (texts names) x))
 last_is name mean names rest (c ∷ cs) e different x = tested (is_same (name c).text x) refl (last_is name mean names (name c ∷ rest) cs whole different x)
   where
     whole : names ≡ front_of name cs ++ name c ∷ rest
     whole = e ∙ append_assoc (front_of name cs) (name c ∷ []) rest
 
-    tested : (b : Bool) → is_same (name c).text x ≡ b → last_of name mean cs x ≡ entry_in names (all_of mean cs) x → cond b (Some (mean cs c)) (last_of name mean cs x) ≡ entry_in names (all_of mean cs ++ mean cs c ∷ []) x
+    tested : (b : Bool) → is_same (name c).text x ≡ b → last_of name mean cs x ≡ entry_in names (all_of mean cs) x
+        → cond b (Some (mean cs c)) (last_of name mean cs x) ≡ entry_in names (all_of mean cs ++ mean cs c ∷ []) x
     tested true s before = here name mean names rest c cs whole different x s
     tested false s before = before ∙ elsewhere name mean names rest c cs whole x s

@@ -1,5 +1,6 @@
 -- What stands in lists, and names among names.
-use Rattle.std.proofs.Common.{◌≡◌, ℕ, zero, suc, ◌+◌, ◌<◌, ◌⊎◌, inl, inr, Bool, true, false, cond, ◌||◌, List, [], ◌∷◌, map, flat_map, length, get_or, refl, sym, ◌∙◌, ap, subst, arith}
+use Rattle.std.proofs.Common.{◌≡◌, ℕ, zero, suc, ◌+◌, ◌<◌, ◌⊎◌, inl, inr, Bool, true, false, cond, ◌||◌, List, [], ◌∷◌, map, flat_map, length, get_or, refl}
+use Rattle.std.proofs.Common.{sym, ◌∙◌, ap, subst, arith}
 use Rattle.std.specs.List.{Contains}
 use Rattle.std.specs.Cmp.Lexicographic.{same_text}
 use Rattle.std.proofs.lemmas.Bool.{or_left, or_right}
@@ -76,7 +77,8 @@ pub index_there : (xs : List Identifier) (x : Identifier) → is_among xs x ≡ 
 index_there [] x e = cc
 index_there (y ∷ ys) x e = tested (is_same y x) refl e (index_there ys x)
   where
-    tested : (b : Bool) → is_same y x ≡ b → (b || is_among ys x) ≡ true → (is_among ys x ≡ true → (index_of ys x < length ys) × (get_or ys (index_of ys x) [] ≡ x))
+    tested : (b : Bool) → is_same y x ≡ b → (b || is_among ys x) ≡ true
+        → (is_among ys x ≡ true → (index_of ys x < length ys) × (get_or ys (index_of ys x) [] ≡ x))
         → (cond b 0 (index_of ys x + 1) < suc (length ys)) × (get_or (y ∷ ys) (cond b 0 (index_of ys x + 1)) [] ≡ x)
     tested true same e again = (omega arith, same_text y x (sym same))
     tested false other e again =
@@ -109,11 +111,13 @@ not_before before (y ∷ ys) e x w = elim (cons_cases y.text (texts ys) x w) [
     other false b e = e
 
 -- no two of different names are the same
-pub names_apart : (before xs : List Name) → repeated before xs ≡ [] → (j k : ℕ) → j < k → k < length (texts xs) → get_or (texts xs) j [] ≡ get_or (texts xs) k [] → ⊥
+pub names_apart : (before xs : List Name) → repeated before xs ≡ [] → (j k : ℕ) → j < k → k < length (texts xs)
+    → get_or (texts xs) j [] ≡ get_or (texts xs) k [] → ⊥
 names_apart before [] e j k less lt same = absurd (omega (arith, lt))
 names_apart before (x ∷ xs) e j zero less lt same = absurd (omega (arith, less))
 names_apart before (x ∷ xs) e (suc j) (suc k) less lt same =
-    names_apart (x ∷ before) xs (both_empty (cond (is_declared before x.text) (DefinedTwice x.at ∷ []) []) (repeated (x ∷ before) xs) e).1 j k (omega (arith, less)) (omega (arith, lt)) same
+    names_apart (x ∷ before) xs (both_empty (cond (is_declared before x.text) (DefinedTwice x.at ∷ []) []) (repeated (x ∷ before) xs) e).1 j k
+    (omega (arith, less)) (omega (arith, lt)) same
 names_apart before (x ∷ xs) e zero (suc k) less lt same =
     first (is_same x.text x.text) (is_declared before x.text) (text_itself x.text)
     (not_before (x ∷ before) xs (both_empty (cond (is_declared before x.text) (DefinedTwice x.at ∷ []) []) (repeated (x ∷ before) xs) e).1 x.text
@@ -124,10 +128,12 @@ names_apart before (x ∷ xs) e zero (suc k) less lt same =
     first false b e f = cc
 
 -- and so a name has one number
-pub one_number : (before xs : List Name) → repeated before xs ≡ [] → (j k : ℕ) → j < length (texts xs) → k < length (texts xs) → get_or (texts xs) j [] ≡ get_or (texts xs) k [] → j ≡ k
+pub one_number : (before xs : List Name) → repeated before xs ≡ [] → (j k : ℕ) → j < length (texts xs) → k < length (texts xs)
+    → get_or (texts xs) j [] ≡ get_or (texts xs) k [] → j ≡ k
 one_number before [] e j k lj lk same = absurd (omega (arith, lj))
 one_number before (x ∷ xs) e zero zero lj lk same = refl
 one_number before (x ∷ xs) e zero (suc k) lj lk same = absurd (names_apart before (x ∷ xs) e zero (suc k) (omega arith) lk same)
 one_number before (x ∷ xs) e (suc j) zero lj lk same = absurd (names_apart before (x ∷ xs) e zero (suc j) (omega arith) lj (sym same))
 one_number before (x ∷ xs) e (suc j) (suc k) lj lk same =
-    ap suc (one_number (x ∷ before) xs (both_empty (cond (is_declared before x.text) (DefinedTwice x.at ∷ []) []) (repeated (x ∷ before) xs) e).1 j k (omega (arith, lj)) (omega (arith, lk)) same)
+    ap suc (one_number (x ∷ before) xs (both_empty (cond (is_declared before x.text) (DefinedTwice x.at ∷ []) []) (repeated (x ∷ before) xs) e).1 j k
+    (omega (arith, lj)) (omega (arith, lk)) same)

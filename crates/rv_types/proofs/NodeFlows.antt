@@ -33,7 +33,8 @@ flow_space n different = ap texts (all_first (flow_names n) different) ∙ flows
 -- and whose names are few
 pub space_few : (n : NodeTree) → repeated [] (flow_names n) ≡ [] → length (flows n) < 2 ^ 32 → length (firsts (flow_names n)) < 2 ^ 32
 space_few n different few =
-    let long : length (firsts (flow_names n)) ≡ length (flows n) = sym (length-map (firsts (flow_names n)) (λ x. x.text)) ∙ ap length (flow_space n different) in
+    let long : length (firsts (flow_names n)) ≡ length (flows n) = sym (length-map (firsts (flow_names n)) (λ x. x.text))
+    ∙ ap length (flow_space n different) in
     omega arith
 
 -- an element's image is among the images

@@ -1,6 +1,7 @@
 -- Where no rule of names and types is broken, the right sides, arguments and assertions of a node have the types that
 -- are wanted of them.
-use Rattle.std.proofs.Common.{◌≡◌, inl, inr, ℕ, zero, suc, ◌<◌, Bool, true, false, not, cond, ◌&&◌, ◌||◌, List, [], ◌∷◌, ◌++◌, map, flat_map, length, get_or, refl, sym, ◌∙◌, ap, subst, arith, Option, Some, is_some, slice_get}
+use Rattle.std.proofs.Common.{◌≡◌, inl, inr, ℕ, zero, suc, ◌<◌, Bool, true, false, not, cond, ◌&&◌, ◌||◌, List, [], ◌∷◌, ◌++◌, map, flat_map, length, get_or}
+use Rattle.std.proofs.Common.{refl, sym, ◌∙◌, ap, subst, arith, Option, Some, is_some, slice_get}
 use Rattle.std.proofs.Common.{None as Nothing, unwrap_or}
 use Rattle.std.specs.Option.{option_map}
 use Rattle.std.specs.List.{Contains}
@@ -18,10 +19,12 @@ use Rattle.rv_types.specs.declared.typed.Kind.TheVariants as kind
 use Rattle.rv_types.specs.declared.fault.NameFault.{NameFault}
 use Rattle.rv_types.specs.declared.fault.NameFault.TheVariants.{TypeClash}
 use Rattle.rv_types.specs.Parts.{offset_of, faults_of_all}
-use Rattle.rv_types.specs.Names.{texts, is_declared, constant_names, label_names, node_names, own_uses, uses, use_of, is_value, node_uses, clock_use, assertion_uses}
+use Rattle.rv_types.specs.Names.{texts, is_declared, constant_names, label_names, node_names, own_uses, uses, use_of, is_value, node_uses, clock_use}
+use Rattle.rv_types.specs.Names.{assertion_uses}
 use Rattle.rv_types.specs.Kinds.{decl_kinds, flow_kinds, flow_kind, node_among, node_named}
 use Rattle.rv_types.specs.Types.{Scope, Signature, suits, all_typed, fit, kind_of, kinds_of_all, own_type_fault, expression_types}
-use Rattle.rv_types.specs.Scopes.{constant_kind, value_kind, signature_of, signature_named, node_scope, clash_unless, left_kinds, sides_clash, several_clash, several_types, sides_types, equation_types, assertion_types, clock_types, types_in_node}
+use Rattle.rv_types.specs.Scopes.{constant_kind, value_kind, signature_of, signature_named, node_scope, clash_unless, left_kinds, sides_clash, several_clash}
+use Rattle.rv_types.specs.Scopes.{several_types, sides_types, equation_types, assertion_types, clock_types, types_in_node}
 use Rattle.rv_types.specs.Instances.{CallTree, calls_in, calls_in_all, calls_in_equations, calls_in_assertions, calls, IsArgument, head, tail, node_of, no_node}
 use Rattle.rv_types.proofs.RightNames.{both_empty}
 use Rattle.rv_types.proofs.NodeFlows.{none_of}
@@ -56,7 +59,8 @@ fit_long [] (k ∷ ks) e = cc
 fit_long (w ∷ ws) [] e = cc
 fit_long (w ∷ ws) (k ∷ ks) e = ap suc (fit_long ws ks (and_parts (suits w k) (fit ws ks) e).1)
 
-pub fit_at : (ws : List Kind) (ks : List (Option Kind)) (j : ℕ) (k : Kind) → fit ws ks ≡ true → j < length ks → get_or ks j Nothing ≡ Some k → slice_get ws j ≡ Some k
+pub fit_at : (ws : List Kind) (ks : List (Option Kind)) (j : ℕ) (k : Kind) → fit ws ks ≡ true → j < length ks → get_or ks j Nothing ≡ Some k
+    → slice_get ws j ≡ Some k
 fit_at [] [] j k e lt is = absurd (omega (arith, lt))
 fit_at [] (o ∷ ks) j k e lt is = cc
 fit_at (w ∷ ws) [] j k e lt is = cc
@@ -77,7 +81,8 @@ module _ (s : Scope) where
   argument_there (More e es) zero lt = (e, head)
   argument_there (More e es) (suc j) lt = let a = argument_there es j (omega (arith, lt)) in (a.0, tail a.1)
 
-  pub argument_kind : (es : Trees) (j : ℕ) (e : Tree) → IsArgument es j e → (j < length (kinds_of_all s es)) × (get_or (kinds_of_all s es) j Nothing ≡ kind_of s e)
+  pub argument_kind : (es : Trees) (j : ℕ) (e : Tree) → IsArgument es j e
+      → (j < length (kinds_of_all s es)) × (get_or (kinds_of_all s es) j Nothing ≡ kind_of s e)
   argument_kind _ _ e head = (omega arith, refl)
   argument_kind _ _ e (tail {es} {j} w) = let h = argument_kind es j e w in let lt = h.0 in (omega (arith, lt), h.1)
 
@@ -85,7 +90,8 @@ module _ (s : Scope) where
 
 -- a call with a fault neither in its arguments nor of its own, or an expression without one that has no type
 pub data IsSeveral (s : Scope) (left : List (Option Kind)) : Tree → Type 0 where
-  called : (at : ℕ) (site : Option ℕ) (f : Identifier) (es : Trees) → faults_of_all (own_type_fault s) es ≡ [] → several_clash at (s.callee f) left (kinds_of_all s es) ≡ [] → IsSeveral s left (Node at site (Call f es))
+  called : (at : ℕ) (site : Option ℕ) (f : Identifier) (es : Trees) → faults_of_all (own_type_fault s) es ≡ []
+      → several_clash at (s.callee f) left (kinds_of_all s es) ≡ [] → IsSeveral s left (Node at site (Call f es))
   untyped : {e : Tree} → expression_types s e ≡ [] → (is_some (kind_of s e) ≡ true → ⊥) → IsSeveral s left e
 
 no_type : (at : ℕ) (b : Bool) → cond b (TypeClash at ∷ []) [] ≡ [] → b ≡ true → ⊥
@@ -118,7 +124,9 @@ node_known : (ns : List NodeTree) (f : Identifier) → is_among (texts (map (λ 
 node_known [] f e = cc
 node_known (m ∷ ns) f e = by (is_same m.name.text f) e (node_known ns f)
   where
-    by : (b : Bool) → (b || is_among (texts (map (λ (m : NodeTree). m.name) ns)) f) ≡ true → (is_among (texts (map (λ (m : NodeTree). m.name) ns)) f ≡ true → is_some (node_among ns f) ≡ true) → is_some (cond b (Some m) (node_among ns f)) ≡ true
+    by : (b : Bool) → (b || is_among (texts (map (λ (m : NodeTree). m.name) ns)) f) ≡ true
+        → (is_among (texts (map (λ (m : NodeTree). m.name) ns)) f ≡ true → is_some (node_among ns f) ≡ true)
+        → is_some (cond b (Some m) (node_among ns f)) ≡ true
     by true e more = refl
     by false e more = more e
 
@@ -143,7 +151,8 @@ typed_node p n e =
     let b = both_empty (flat_map (equation_types p n) n.equations) (flat_map (assertion_types p n) n.assertions) a.1 in
     record { clocks = a.0; equations = b.0; assertions = b.1 }
 
-module _ (p : ProgramTree) (constants : (x : Identifier) → (is_declared (constant_names p) x || is_declared (label_names p) x) ≡ true → is_some (constant_kind p x) ≡ true)
+module _ (p : ProgramTree) (constants : (x : Identifier) → (is_declared (constant_names p) x || is_declared (label_names p) x) ≡ true
+    → is_some (constant_kind p x) ≡ true)
     (n : NodeTree) (named : IsNamedNode p n) (right : IsTypedNode p n)
   where
     -- Names.
@@ -161,7 +170,8 @@ module _ (p : ProgramTree) (constants : (x : Identifier) → (is_declared (const
     name_typed : (x : Identifier) → is_value p n x ≡ true → is_some (value_kind p n x) ≡ true
     name_typed x e = by (is_flow n x) e (flow_typed x)
       where
-        by : (b : Bool) → (b || (is_declared (constant_names p) x || is_declared (label_names p) x)) ≡ true → (b ≡ true → is_some (flow_kind p n x) ≡ true) → is_some (cond b (flow_kind p n x) (constant_kind p x)) ≡ true
+        by : (b : Bool) → (b || (is_declared (constant_names p) x || is_declared (label_names p) x)) ≡ true → (b ≡ true → is_some (flow_kind p n x) ≡ true)
+            → is_some (cond b (flow_kind p n x) (constant_kind p x)) ≡ true
         by true e flow = flow refl
         by false e flow = constants x e
 
@@ -170,10 +180,13 @@ module _ (p : ProgramTree) (constants : (x : Identifier) → (is_declared (const
 
     -- an expression whose names are known
     pub expression_typed : (e : Tree) → expression_types (node_scope p n) e ≡ [] → node_uses p n e ≡ [] → is_some (kind_of (node_scope p n) e) ≡ true
-    expression_typed e t u = typed (node_scope p n) (is_value p n) (is_flow n) (is_declared (node_names p)) name_typed (λ x m. flow_typed x) (λ f m. callee_known f) e t u
+    expression_typed e t u = typed (node_scope p n) (is_value p n) (is_flow n) (is_declared (node_names p)) name_typed (λ x m. flow_typed x)
+        (λ f m. callee_known f) e t u
 
-    all_expressions_typed : (es : Trees) → faults_of_all (own_type_fault (node_scope p n)) es ≡ [] → faults_of_all (own_uses (is_value p n) (is_flow n) (is_declared (node_names p))) es ≡ [] → all_typed (kinds_of_all (node_scope p n) es) ≡ true
-    all_expressions_typed es t u = arguments_typed (node_scope p n) (is_value p n) (is_flow n) (is_declared (node_names p)) name_typed (λ x m. flow_typed x) (λ f m. callee_known f) es t u
+    all_expressions_typed : (es : Trees) → faults_of_all (own_type_fault (node_scope p n)) es ≡ []
+        → faults_of_all (own_uses (is_value p n) (is_flow n) (is_declared (node_names p))) es ≡ [] → all_typed (kinds_of_all (node_scope p n) es) ≡ true
+    all_expressions_typed es t u = arguments_typed (node_scope p n) (is_value p n) (is_flow n) (is_declared (node_names p)) name_typed (λ x m. flow_typed x)
+        (λ f m. callee_known f) es t u
 
     -- Calls.
 
@@ -188,28 +201,37 @@ module _ (p : ProgramTree) (constants : (x : Identifier) → (is_declared (const
         let s = signature_is (node_named p c.name) (signature_of p) h.signature h.known in
         record { known = s.0; fits = subst (λ (g : Signature). fit g.takes (kinds_of_all (node_scope p n) c.args) ≡ true) s.1 h.fits; typed = h.typed }
 
-    right_call : (c : CallTree) → IsRightCall (own_type_fault (node_scope p n)) c → IsRightCall (own_uses (is_value p n) (is_flow n) (is_declared (node_names p))) c → IsFittingCall c
+    right_call : (c : CallTree) → IsRightCall (own_type_fault (node_scope p n)) c
+        → IsRightCall (own_uses (is_value p n) (is_flow n) (is_declared (node_names p))) c → IsFittingCall c
     right_call c t u =
         fitting_call c
         (call_fits c.at true (signature_named p c.name) (kinds_of_all (node_scope p n) c.args) (all_expressions_typed c.args t.below u.below)
         (λ m. callee_known c.name (use_known (is_declared (node_names p) c.name) c.at u.here)) t.here).0
 
     calls_fit_in : (t : Tree) → expression_types (node_scope p n) t ≡ [] → node_uses p n t ≡ [] → (c : CallTree) → Contains (calls_in t) c → IsFittingCall c
-    calls_fit_in t e u c w = right_call c (calls_right (own_type_fault (node_scope p n)) t e c w) (calls_right (own_uses (is_value p n) (is_flow n) (is_declared (node_names p))) t u c w)
+    calls_fit_in t e u c w = right_call c (calls_right (own_type_fault (node_scope p n)) t e c w)
+        (calls_right (own_uses (is_value p n) (is_flow n) (is_declared (node_names p))) t u c w)
 
-    calls_fit_in_all : (es : Trees) → faults_of_all (own_type_fault (node_scope p n)) es ≡ [] → faults_of_all (own_uses (is_value p n) (is_flow n) (is_declared (node_names p))) es ≡ [] → (c : CallTree) → Contains (calls_in_all es) c → IsFittingCall c
-    calls_fit_in_all es e u c w = right_call c (calls_of_all_right (own_type_fault (node_scope p n)) es e c w) (calls_of_all_right (own_uses (is_value p n) (is_flow n) (is_declared (node_names p))) es u c w)
+    calls_fit_in_all : (es : Trees) → faults_of_all (own_type_fault (node_scope p n)) es ≡ []
+        → faults_of_all (own_uses (is_value p n) (is_flow n) (is_declared (node_names p))) es ≡ [] → (c : CallTree) → Contains (calls_in_all es) c
+        → IsFittingCall c
+    calls_fit_in_all es e u c w = right_call c (calls_of_all_right (own_type_fault (node_scope p n)) es e c w)
+        (calls_of_all_right (own_uses (is_value p n) (is_flow n) (is_declared (node_names p))) es u c w)
 
-    delays_typed_in : (t : Tree) → expression_types (node_scope p n) t ≡ [] → node_uses p n t ≡ [] → (d : Delay) → Contains (delays t) d → is_some (kind_of (node_scope p n) d.operand) ≡ true
-    delays_typed_in t e u d w = expression_typed d.operand (delays_right (own_type_fault (node_scope p n)) t e d w) (delays_right (own_uses (is_value p n) (is_flow n) (is_declared (node_names p))) t u d w)
+    delays_typed_in : (t : Tree) → expression_types (node_scope p n) t ≡ [] → node_uses p n t ≡ [] → (d : Delay) → Contains (delays t) d
+        → is_some (kind_of (node_scope p n) d.operand) ≡ true
+    delays_typed_in t e u d w = expression_typed d.operand (delays_right (own_type_fault (node_scope p n)) t e d w)
+        (delays_right (own_uses (is_value p n) (is_flow n) (is_declared (node_names p))) t u d w)
 
     -- Equations.
 
     -- an equation with one left side, or with another number of them
     pub data IsSided (xs : List Name) (e : Tree) : Type 0 where
-      single : (x : Name) → xs ≡ x ∷ [] → expression_types (node_scope p n) e ≡ [] → sides_clash (offset_of e) (flow_kind p n x.text) (kind_of (node_scope p n) e) ≡ [] → IsSided xs e
+      single : (x : Name) → xs ≡ x ∷ [] → expression_types (node_scope p n) e ≡ []
+          → sides_clash (offset_of e) (flow_kind p n x.text) (kind_of (node_scope p n) e) ≡ [] → IsSided xs e
       several : (at : ℕ) (site : Option ℕ) (f : Identifier) (es : Trees) → (length xs ≡ 1 → ⊥) → e ≡ Node at site (Call f es)
-          → faults_of_all (own_type_fault (node_scope p n)) es ≡ [] → several_clash at (signature_named p f) (left_kinds p n xs) (kinds_of_all (node_scope p n) es) ≡ [] → IsSided xs e
+          → faults_of_all (own_type_fault (node_scope p n)) es ≡ [] → several_clash at (signature_named p f) (left_kinds p n xs)
+          (kinds_of_all (node_scope p n) es) ≡ [] → IsSided xs e
 
     many_sided : (xs : List Name) (e : Tree) → (length xs ≡ 1 → ⊥) → node_uses p n e ≡ [] → IsSeveral (node_scope p n) (left_kinds p n xs) e → IsSided xs e
     many_sided xs _ other u (called at site f es below own) = several at site f es other refl below own
@@ -229,13 +251,16 @@ module _ (p : ProgramTree) (constants : (x : Identifier) → (is_declared (const
     several_uses : (q : EquationTree) (at : ℕ) (site : Option ℕ) (f : Identifier) (es : Trees) → Contains n.equations q → q.right ≡ Node at site (Call f es)
         → (is_declared (node_names p) f ≡ true) × (faults_of_all (own_uses (is_value p n) (is_flow n) (is_declared (node_names p))) es ≡ [])
     several_uses q at site f es w is =
-        let u = both_empty (own_uses (is_value p n) (is_flow n) (is_declared (node_names p)) (Node at site (Call f es))) (faults_of_all (own_uses (is_value p n) (is_flow n) (is_declared (node_names p))) es)
+        let u = both_empty (own_uses (is_value p n) (is_flow n) (is_declared (node_names p)) (Node at site (Call f es)))
+        (faults_of_all (own_uses (is_value p n) (is_flow n) (is_declared (node_names p))) es)
         (subst (λ t. node_uses p n t ≡ []) is (sides_known p n named q w).1) in
         (use_known (is_declared (node_names p) f) at u.0, u.1)
 
-    pub several_call : (q : EquationTree) (at : ℕ) (site : Option ℕ) (f : Identifier) (es : Trees) → Contains n.equations q → q.right ≡ Node at site (Call f es) → faults_of_all (own_type_fault (node_scope p n)) es ≡ []
+    pub several_call : (q : EquationTree) (at : ℕ) (site : Option ℕ) (f : Identifier) (es : Trees) → Contains n.equations q → q.right ≡ Node at site (Call f es)
+        → faults_of_all (own_type_fault (node_scope p n)) es ≡ []
         → several_clash at (signature_named p f) (left_kinds p n q.lefts) (kinds_of_all (node_scope p n) es) ≡ []
-        → IsFittingCall (record { at = at; site = unwrap_or site 0; name = f; args = es }) × (fit (decl_kinds p (node_of p f).outputs) (left_kinds p n q.lefts) ≡ true)
+        → IsFittingCall (record { at = at; site = unwrap_or site 0; name = f; args = es })
+        × (fit (decl_kinds p (node_of p f).outputs) (left_kinds p n q.lefts) ≡ true)
     several_call q at site f es w is below own =
         let u = several_uses q at site f es w is in
         let typed = all_expressions_typed es below u.1 in
@@ -253,7 +278,8 @@ module _ (p : ProgramTree) (constants : (x : Identifier) → (is_declared (const
           | inr rest ↦ calls_fit_in_all es below (several_uses q at site f es w is).1 c rest
         ]
 
-    side_delays_typed : (q : EquationTree) → Contains n.equations q → IsSided q.lefts q.right → (d : Delay) → Contains (delays q.right) d → is_some (kind_of (node_scope p n) d.operand) ≡ true
+    side_delays_typed : (q : EquationTree) → Contains n.equations q → IsSided q.lefts q.right → (d : Delay) → Contains (delays q.right) d
+        → is_some (kind_of (node_scope p n) d.operand) ≡ true
     side_delays_typed q w (single x is types clash) d v = delays_typed_in q.right types (sides_known p n named q w).1 d v
     side_delays_typed q w (several at site f es other is below own) d v =
         let there = subst (λ t. Contains (delays t) d) is v in
@@ -262,9 +288,11 @@ module _ (p : ProgramTree) (constants : (x : Identifier) → (is_declared (const
 
     -- Assertions.
 
-    assertion_right : (a : AssertionTree) → Contains n.assertions a → (expression_types (node_scope p n) a.body ≡ []) × (clash_unless (offset_of a.body) kind.Bool (kind_of (node_scope p n) a.body) ≡ [])
+    assertion_right : (a : AssertionTree) → Contains n.assertions a → (expression_types (node_scope p n) a.body ≡ [])
+        × (clash_unless (offset_of a.body) kind.Bool (kind_of (node_scope p n) a.body) ≡ [])
     assertion_right a w =
-        both_empty (expression_types (node_scope p n) a.body) (clash_unless (offset_of a.body) kind.Bool (kind_of (node_scope p n) a.body)) (none_of (assertion_types p n) n.assertions a right.assertions w)
+        both_empty (expression_types (node_scope p n) a.body) (clash_unless (offset_of a.body) kind.Bool (kind_of (node_scope p n) a.body))
+        (none_of (assertion_types p n) n.assertions a right.assertions w)
 
     assertion_uses_nil : (a : AssertionTree) → Contains n.assertions a → node_uses p n a.body ≡ []
     assertion_uses_nil a w = none_of (assertion_uses p n) n.assertions a named.assertions w
@@ -274,18 +302,21 @@ module _ (p : ProgramTree) (constants : (x : Identifier) → (is_declared (const
     assertion_typed a w =
         let r = assertion_right a w in
         let k = the_some (kind_of (node_scope p n) a.body) (expression_typed a.body r.0 (assertion_uses_nil a w)) in
-        k.1 ∙ ap Some (sym (suits_same kind.Bool (kind_of (node_scope p n) a.body) k.0 (unless_met (offset_of a.body) kind.Bool (kind_of (node_scope p n) a.body) r.1) k.1))
+        k.1 ∙ ap Some (sym (suits_same kind.Bool (kind_of (node_scope p n) a.body) k.0
+        (unless_met (offset_of a.body) kind.Bool (kind_of (node_scope p n) a.body) r.1) k.1))
 
     -- All calls and delays of the node.
 
-    in_equations : (qs : List EquationTree) → ((q : EquationTree) → Contains qs q → Contains n.equations q) → (c : CallTree) → Contains (calls_in_equations qs) c → IsFittingCall c
+    in_equations : (qs : List EquationTree) → ((q : EquationTree) → Contains qs q → Contains n.equations q) → (c : CallTree)
+        → Contains (calls_in_equations qs) c → IsFittingCall c
     in_equations [] within c w = nothing_in c w
     in_equations (q ∷ qs) within c w = elim (Contains-append_cases (calls_in q.right) (calls_in_equations qs) c w) [
       | inl here ↦ side_calls_fit q (within q (at_head q qs)) (equation_sided q (within q (at_head q qs))) c here
       | inr rest ↦ in_equations qs (λ r v. within r (in_tail q qs r v)) c rest
     ]
 
-    in_assertions : (qs : List AssertionTree) → ((a : AssertionTree) → Contains qs a → Contains n.assertions a) → (c : CallTree) → Contains (calls_in_assertions qs) c → IsFittingCall c
+    in_assertions : (qs : List AssertionTree) → ((a : AssertionTree) → Contains qs a → Contains n.assertions a) → (c : CallTree)
+        → Contains (calls_in_assertions qs) c → IsFittingCall c
     in_assertions [] within c w = nothing_in c w
     in_assertions (a ∷ rest) within c w = elim (Contains-append_cases (calls_in a.body) (calls_in_assertions rest) c w) [
       | inl here ↦ calls_fit_in a.body (assertion_right a (within a (at_head a rest))).0 (assertion_uses_nil a (within a (at_head a rest))) c here
@@ -299,14 +330,16 @@ module _ (p : ProgramTree) (constants : (x : Identifier) → (is_declared (const
       | inr v ↦ in_assertions n.assertions (λ a u. u) c v
     ]
 
-    delays_of_equations : (qs : List EquationTree) → ((q : EquationTree) → Contains qs q → Contains n.equations q) → (d : Delay) → Contains (delays_in_equations qs) d → is_some (kind_of (node_scope p n) d.operand) ≡ true
+    delays_of_equations : (qs : List EquationTree) → ((q : EquationTree) → Contains qs q → Contains n.equations q) → (d : Delay)
+        → Contains (delays_in_equations qs) d → is_some (kind_of (node_scope p n) d.operand) ≡ true
     delays_of_equations [] within d w = nothing_in d w
     delays_of_equations (q ∷ qs) within d w = elim (Contains-append_cases (delays q.right) (delays_in_equations qs) d w) [
       | inl here ↦ side_delays_typed q (within q (at_head q qs)) (equation_sided q (within q (at_head q qs))) d here
       | inr rest ↦ delays_of_equations qs (λ r v. within r (in_tail q qs r v)) d rest
     ]
 
-    delays_of_assertions : (qs : List AssertionTree) → ((a : AssertionTree) → Contains qs a → Contains n.assertions a) → (d : Delay) → Contains (delays_in_assertions qs) d → is_some (kind_of (node_scope p n) d.operand) ≡ true
+    delays_of_assertions : (qs : List AssertionTree) → ((a : AssertionTree) → Contains qs a → Contains n.assertions a) → (d : Delay)
+        → Contains (delays_in_assertions qs) d → is_some (kind_of (node_scope p n) d.operand) ≡ true
     delays_of_assertions [] within d w = nothing_in d w
     delays_of_assertions (a ∷ rest) within d w = elim (Contains-append_cases (delays a.body) (delays_in_assertions rest) d w) [
       | inl here ↦ delays_typed_in a.body (assertion_right a (within a (at_head a rest))).0 (assertion_uses_nil a (within a (at_head a rest))) d here
@@ -323,16 +356,20 @@ module _ (p : ProgramTree) (constants : (x : Identifier) → (is_declared (const
     -- the flow of a declared clock is Boolean
     pub clock_typed : (d : Decl) (c : Name) → Contains n.locals d → d.clock ≡ Some c → flow_kind p n c.text ≡ Some kind.Bool
     clock_typed d c w is =
-        let clash = subst (λ (o : Option Name). elim o as (λ _. List NameFault) [ Nothing ↦ [] | Some c ↦ clash_unless c.at kind.Bool (flow_kind p n c.text) ] ≡ []) is (none_of (clock_types p n) n.locals d right.clocks w) in
-        let uses = subst (λ (o : Option Name). elim o as (λ _. List NameFault) [ Nothing ↦ [] | Some c ↦ use_of (is_flow n) c ] ≡ []) is (none_of (clock_use n) n.locals d named.clocks w) in
+        let clash = subst (λ (o : Option Name). elim o as (λ _. List NameFault) [ Nothing ↦ [] | Some c ↦ clash_unless c.at kind.Bool (flow_kind p n c.text) ]
+        ≡ []) is (none_of (clock_types p n) n.locals d right.clocks w) in
+        let uses = subst (λ (o : Option Name). elim o as (λ _. List NameFault) [ Nothing ↦ [] | Some c ↦ use_of (is_flow n) c ] ≡ []) is
+        (none_of (clock_use n) n.locals d named.clocks w) in
         let k = the_some (flow_kind p n c.text) (flow_typed c.text (use_known (is_flow n c.text) c.at uses)) in
         k.1 ∙ ap Some (sym (suits_same kind.Bool (flow_kind p n c.text) k.0 (unless_met c.at kind.Bool (flow_kind p n c.text) clash) k.1))
 
     -- the two sides of an equation with one left side
-    pub sides_typed : (at : ℕ) (x : Identifier) (e : Tree) → is_flow n x ≡ true → expression_types (node_scope p n) e ≡ [] → node_uses p n e ≡ [] → sides_clash at (flow_kind p n x) (kind_of (node_scope p n) e) ≡ []
+    pub sides_typed : (at : ℕ) (x : Identifier) (e : Tree) → is_flow n x ≡ true → expression_types (node_scope p n) e ≡ [] → node_uses p n e ≡ []
+        → sides_clash at (flow_kind p n x) (kind_of (node_scope p n) e) ≡ []
         → (k : Kind) × (kind_of (node_scope p n) e ≡ Some k) × (flow_kind p n x ≡ Some k)
     sides_typed at x e flow types uses clash =
         let k = the_some (flow_kind p n x) (flow_typed x flow) in
         let j = the_some (kind_of (node_scope p n) e) (expression_typed e types uses) in
-        let same : k.0 ≡ j.0 = suits_same k.0 (kind_of (node_scope p n) e) j.0 (unless_met at k.0 (kind_of (node_scope p n) e) (subst (λ (o : Option Kind). sides_clash at o (kind_of (node_scope p n) e) ≡ []) k.1 clash)) j.1 in
+        let same : k.0 ≡ j.0 = suits_same k.0 (kind_of (node_scope p n) e) j.0
+        (unless_met at k.0 (kind_of (node_scope p n) e) (subst (λ (o : Option Kind). sides_clash at o (kind_of (node_scope p n) e) ≡ []) k.1 clash)) j.1 in
         (k.0, j.1 ∙ ap Some (sym same), k.1)

@@ -1,5 +1,6 @@
 -- The scope that the tables of a node stand for.
-use Rattle.std.proofs.Common.{◌≡◌, ℕ, ◌+◌, ◌<◌, zero, suc, Bool, true, false, not, ◌||◌, cond, List, [], ◌∷◌, ◌++◌, map, flat_map, reverse, length, get_or, Option, Some, refl, sym, ap, ◌∙◌, arith, slice_get, append-nil}
+use Rattle.std.proofs.Common.{◌≡◌, ℕ, ◌+◌, ◌<◌, zero, suc, Bool, true, false, not, ◌||◌, cond, List, [], ◌∷◌, ◌++◌, map, flat_map, reverse, length, get_or}
+use Rattle.std.proofs.Common.{Option, Some, refl, sym, ap, ◌∙◌, arith, slice_get, append-nil}
 use Rattle.std.proofs.lemmas.List.{length-map, map-append, get_or-map}
 use Rattle.std.proofs.lemmas.Grind.{flat_map-append}
 use Rattle.std.proofs.Math.Seq.{take-suc}
@@ -33,7 +34,8 @@ use Rattle.rv_types.proofs.Turned.{twice}
 use Rattle.rv_types.proofs.RightNames.{both_empty}
 
 -- where each flow has an entry, the rest is only for other names
-found_or : (names : List Name) (kinds : List Kind) (x : Identifier) (other : Option Kind) → length kinds ≡ length names → flow_or (found_in names kinds x) other ≡ cond (is_declared names x) (found_in names kinds x) other
+found_or : (names : List Name) (kinds : List Kind) (x : Identifier) (other : Option Kind) → length kinds ≡ length names
+    → flow_or (found_in names kinds x) other ≡ cond (is_declared names x) (found_in names kinds x) other
 found_or [] [] x other h = refl
 found_or [] (k ∷ kinds) x other h = absurd (omega (arith, h))
 found_or (n ∷ names) [] x other h = absurd (omega (arith, h))
@@ -44,9 +46,11 @@ found_or (n ∷ names) (k ∷ kinds) x other h = tested (is_same n.text x) (foun
     tested true e = refl
     tested false e = e
 
-entry_or : (names : List Name) (kinds : List Kind) (x : Identifier) (other : Option Kind) → length kinds ≡ length names → flow_or (entry_in names kinds x) other ≡ cond (is_declared names x) (entry_in names kinds x) other
+entry_or : (names : List Name) (kinds : List Kind) (x : Identifier) (other : Option Kind) → length kinds ≡ length names
+    → flow_or (entry_in names kinds x) other ≡ cond (is_declared names x) (entry_in names kinds x) other
 entry_or names kinds x other h =
-    ap (λ o. flow_or o other) (entry_found names kinds x) ∙ found_or names kinds x other h ∙ ap (λ o. cond (is_declared names x) o other) (sym (entry_found names kinds x))
+    ap (λ o. flow_or o other) (entry_found names kinds x) ∙ found_or names kinds x other h
+    ∙ ap (λ o. cond (is_declared names x) o other) (sym (entry_found names kinds x))
 
 kinds_long : (p : ProgramTree) (n : NodeTree) → length (flow_kinds p n) ≡ length (flow_names n)
 kinds_long p n = length-map (decls n) _ ∙ sym (length-map (decls n) _)
@@ -58,15 +62,27 @@ declared_is : (n : NodeTree) (x : Identifier) → is_declared (flow_names n) x �
 declared_is n x = ap (λ fs. is_among fs x) (flows_are n)
 
 kind_is : (p : ProgramTree) (n : NodeTree) (x : Identifier) → flow_or (entry_in (flow_names n) (flow_kinds p n) x) (constant_kind p x) ≡ value_kind p n x
-kind_is p n x = entry_or (flow_names n) (flow_kinds p n) x (constant_kind p x) (kinds_long p n) ∙ (λ i. cond (declared_is n x i) (clock_is p n x i) (constant_kind p x))
+kind_is p n x = entry_or (flow_names n) (flow_kinds p n) x (constant_kind p x) (kinds_long p n)
+    ∙ (λ i. cond (declared_is n x i) (clock_is p n x i) (constant_kind p x))
 
 pub all_before : (p : ProgramTree) → p.constants ≡ reverse (reverse p.constants) ++ []
 all_before p = sym (append-nil (reverse (reverse p.constants)) ∙ twice p.constants)
 
-pub scope_is : (p : ProgramTree) (n : NodeTree) (types : List Name) (kinds : List Kind) (constants labels : List Name) (places : List Label) (constant_kinds : List (Option Kind)) (nodes : List Name) (signatures : List Signature) (known : List Name) (own : List Kind)
+pub scope_is : (p : ProgramTree) (n : NodeTree) (types : List Name) (kinds : List Kind) (constants labels : List Name) (places : List Label)
+    (constant_kinds : List (Option Kind)) (nodes : List Name) (signatures : List Signature) (known : List Name) (own : List Kind)
     → AreTablesOf p types kinds constants labels places → AreNodeTablesOf p constant_kinds nodes signatures → repeated [] (flow_names n) ≡ []
     → known ≡ firsts (flow_names n) → own ≡ flow_kinds_by (entry_in types kinds) n
-    → scope_of (record { flows = known; flow_kinds = own; constants = constants; constant_kinds = constant_kinds; labels = labels; places = places; nodes = nodes; signatures = signatures; moves = true })
+    → scope_of (record {
+      flows = known;
+      flow_kinds = own;
+      constants = constants;
+      constant_kinds = constant_kinds;
+      labels = labels;
+      places = places;
+      nodes = nodes;
+      signatures = signatures;
+      moves = true;
+    })
     ≡ node_scope p n
 scope_is p n types kinds constants labels places constant_kinds nodes signatures known own t s different f k =
     let flows_full : known ≡ flow_names n = f ∙ all_first (flow_names n) different in
@@ -88,7 +104,8 @@ sides_same p n (x ∷ []) e = refl
 sides_same p n (x ∷ y ∷ xs) e = refl
 
 pub types_are : (p : ProgramTree) (n : NodeTree) → types_by (node_scope p n) n ≡ types_in_node p n
-types_are p n = λ i. flat_map (local_by (node_scope p n)) n.locals ++ (flat_map (λ q. sides_same p n q.lefts q.right i) n.equations ++ flat_map (assertion_by (node_scope p n)) n.assertions)
+types_are p n = λ i. flat_map (local_by (node_scope p n)) n.locals ++ (flat_map (λ q. sides_same p n q.lefts q.right i) n.equations
+    ++ flat_map (assertion_by (node_scope p n)) n.assertions)
 
 -- What has no fault of names declares nothing twice.
 
@@ -99,21 +116,27 @@ each_empty f (y ∷ xs) (suc k) x e h is = each_empty f xs k x (both_empty (f y)
 
 -- One node more.
 
-taken : (xs : List Node) (k : ℕ) (x : Node) → k < length xs → x ≡ get_or xs k x → map node_tree (take (k + 1) xs) ≡ map node_tree (take k xs) ++ node_tree x ∷ []
+taken : (xs : List Node) (k : ℕ) (x : Node) → k < length xs → x ≡ get_or xs k x → map node_tree (take (k + 1) xs) ≡ map node_tree (take k xs) ++ node_tree x
+    ∷ []
 taken xs k x h e = rw (add-one k) (ap (map node_tree) (take-suc xs k x h ∙ ap (λ y. take k xs ++ y ∷ []) (sym e)) ∙ map-append node_tree (take k xs) (x ∷ []))
 
-pub one_node : {B : Type 0} (f : NodeTree → B) (xs : List Node) (k : ℕ) (x : Node) (ys : List B) (y : B) → ys ≡ map f (map node_tree (take k xs)) → y ≡ f (node_tree x) → k < length xs → x ≡ get_or xs k x
+pub one_node : {B : Type 0} (f : NodeTree → B) (xs : List Node) (k : ℕ) (x : Node) (ys : List B) (y : B) → ys ≡ map f (map node_tree (take k xs))
+    → y ≡ f (node_tree x) → k < length xs → x ≡ get_or xs k x
     → ys ++ y ∷ [] ≡ map f (map node_tree (take (k + 1) xs))
-one_node f xs k x ys y so_far is h e = (λ i. so_far i ++ is i ∷ []) ∙ sym (map-append f (map node_tree (take k xs)) (node_tree x ∷ [])) ∙ ap (map f) (sym (taken xs k x h e))
+one_node f xs k x ys y so_far is h e = (λ i. so_far i ++ is i ∷ []) ∙ sym (map-append f (map node_tree (take k xs)) (node_tree x ∷ []))
+    ∙ ap (map f) (sym (taken xs k x h e))
 
-pub one_fault_more : (f : NodeTree → List NameFault) (xs : List Node) (k : ℕ) (x : Node) (o q : Option NameFault) → o ≡ first (flat_map f (map node_tree (take k xs))) → q ≡ first (f (node_tree x)) → k < length xs → x ≡ get_or xs k x
+pub one_fault_more : (f : NodeTree → List NameFault) (xs : List Node) (k : ℕ) (x : Node) (o q : Option NameFault)
+    → o ≡ first (flat_map f (map node_tree (take k xs))) → q ≡ first (f (node_tree x)) → k < length xs → x ≡ get_or xs k x
     → sooner o q ≡ first (flat_map f (map node_tree (take (k + 1) xs)))
 one_fault_more f xs k x o q so_far is h e =
     (λ i. sooner (so_far i) (is i)) ∙ sym (first_append (flat_map f (map node_tree (take k xs))) (f (node_tree x)))
-    ∙ ap first (sym (flat_map-append f (map node_tree (take k xs)) (node_tree x ∷ []) ∙ ap (λ fs. flat_map f (map node_tree (take k xs)) ++ fs) (append-nil (f (node_tree x)))) ∙ ap (flat_map f) (sym (taken xs k x h e)))
+    ∙ ap first (sym (flat_map-append f (map node_tree (take k xs)) (node_tree x ∷ [])
+    ∙ ap (λ fs. flat_map f (map node_tree (take k xs)) ++ fs) (append-nil (f (node_tree x)))) ∙ ap (flat_map f) (sym (taken xs k x h e)))
 
 -- what holds of all nodes holds of one
-pub node_here : (p : ProgramTree) (xs ns : List Node) (k : ℕ) (x : Node) → flat_map (names_in_node p) (map node_tree ns) ≡ [] → xs ≡ ns → k < length xs → x ≡ get_or xs k x → names_in_node p (node_tree x) ≡ []
+pub node_here : (p : ProgramTree) (xs ns : List Node) (k : ℕ) (x : Node) → flat_map (names_in_node p) (map node_tree ns) ≡ [] → xs ≡ ns → k < length xs
+    → x ≡ get_or xs k x → names_in_node p (node_tree x) ≡ []
 node_here p xs ns k x none all h e =
     each_empty (names_in_node p) (map node_tree xs) k (node_tree x) (ap (λ l. flat_map (names_in_node p) (map node_tree l)) all ∙ none)
     (let n = length-map xs node_tree in omega (arith, n, h)) (ap node_tree e ∙ sym (get_or-map node_tree xs k x (node_tree x) h))

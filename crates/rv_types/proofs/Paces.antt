@@ -5,7 +5,8 @@ use Rattle.std.proofs.lemmas.Bool.{eqb-true}
 use Rattle.rv_tree.specs.declared.tree.Name.{Name}
 use Rattle.rv_tree.specs.declared.tree.Op.{Op}
 use Rattle.rv_tree.specs.declared.tree.Op.TheVariants as op
-use Rattle.rv_tree.specs.Tree.{Tree, Node, Form, True, False, Number, Named, Not, Minus, Pre, Current, When, Binary, If, AtMostOne, Call, Trees, None, More, NodeTree}
+use Rattle.rv_tree.specs.Tree.{Tree, Node, Form, True, False, Number, Named, Not, Minus, Pre, Current, When, Binary, If, AtMostOne, Call, Trees, None, More}
+use Rattle.rv_tree.specs.Tree.{NodeTree}
 use Rattle.rv_tree.specs.Places.{Identifier, is_flow, site_of}
 use Rattle.rv_types.specs.declared.typed.Clock.{Clock}
 use Rattle.rv_types.specs.declared.typed.Clock.TheVariants.{Base, On}
@@ -13,7 +14,8 @@ use Rattle.rv_types.specs.declared.fault.Pace.{Pace}
 use Rattle.rv_types.specs.declared.fault.Pace.TheVariants.{Free, At, Mute, Differ}
 use Rattle.rv_types.specs.Parts.{faults, faults_below, faults_of_all}
 use Rattle.rv_types.specs.Names.{texts}
-use Rattle.rv_types.specs.Clocks.{same_clock, seen, meet, grounded, clash_in, clock_at, binary_pace, when_pace, current_pace, name_pace, pace, form_pace, pace_of_all, own_clash, expression_clocks, left_pace}
+use Rattle.rv_types.specs.Clocks.{same_clock, seen, meet, grounded, clash_in, clock_at, binary_pace, when_pace, current_pace, name_pace, pace, form_pace}
+use Rattle.rv_types.specs.Clocks.{pace_of_all, own_clash, expression_clocks, left_pace}
 use Rattle.rv_types.specs.ToldPaces.{IsTimed}
 use Rattle.rv_types.specs.Instances.{IsArgument, head, tail, clock_of, taken, clock_of_args}
 use Rattle.rv_types.proofs.RightNames.{both_empty}
@@ -148,7 +150,8 @@ clock_same (On i) (On j) e = ap On (eqb-true i j e)
 abbrev Agrees : Pace → Pace → Type 0
 Agrees p whole = (p ≡ Free) ⊎ (p ≡ whole)
 
-chosen_agree : (b : Bool) (c d : Clock) → (b ≡ true → c ≡ d) → IsTimed (cond b (At c) Differ) → Agrees (At c) (cond b (At c) Differ) × Agrees (At d) (cond b (At c) Differ)
+chosen_agree : (b : Bool) (c d : Clock) → (b ≡ true → c ≡ d) → IsTimed (cond b (At c) Differ)
+    → Agrees (At c) (cond b (At c) Differ) × Agrees (At d) (cond b (At c) Differ)
 chosen_agree true c d same h = (inr refl, inr (ap At (sym (same refl))))
 chosen_agree false c d same h = absurd h
 
@@ -194,14 +197,17 @@ on_agrees c d p (inr same) (inr on) = ap (taken c) (on ∙ sym same)
 
 module _ (n : NodeTree) where
   -- the clock of the arguments of a call is that of each
-  argument_agrees : (es : Trees) (j : ℕ) (t : Tree) → faults_of_all (own_clash n) es ≡ [] → IsTimed (pace_of_all n es) → IsArgument es j t → Agrees (pace n t) (pace_of_all n es)
+  argument_agrees : (es : Trees) (j : ℕ) (t : Tree) → faults_of_all (own_clash n) es ≡ [] → IsTimed (pace_of_all n es) → IsArgument es j t
+      → Agrees (pace n t) (pace_of_all n es)
   argument_agrees _ _ t e h (head {es}) =
       let s = both_empty (faults (own_clash n) t) (faults_of_all (own_clash n) es) e in
-      subst (λ p. Agrees p (meet (seen (pace n t)) (pace_of_all n es))) (seen_timed (pace n t) (paced n t s.0)) (meet_agree (seen (pace n t)) (pace_of_all n es) h).0
+      subst (λ p. Agrees p (meet (seen (pace n t)) (pace_of_all n es))) (seen_timed (pace n t) (paced n t s.0))
+      (meet_agree (seen (pace n t)) (pace_of_all n es) h).0
   argument_agrees _ _ t e h (tail {e = b} {es} w) =
       let s = both_empty (faults (own_clash n) b) (faults_of_all (own_clash n) es) e in
       let m = (meet_agree (seen (pace n b)) (pace_of_all n es) h).1 in
-      agrees_through (pace n t) (pace_of_all n es) (meet (seen (pace n b)) (pace_of_all n es)) (argument_agrees es _ t s.1 (agrees_timed (pace_of_all n es) (meet (seen (pace n b)) (pace_of_all n es)) m h) w) m
+      agrees_through (pace n t) (pace_of_all n es) (meet (seen (pace n b)) (pace_of_all n es))
+      (argument_agrees es _ t s.1 (agrees_timed (pace_of_all n es) (meet (seen (pace n b)) (pace_of_all n es)) m h) w) m
 
   -- the arguments of a call without a clash are free or on a clock
   arguments_timed : (at : ℕ) (es : Trees) → faults_of_all (own_clash n) es ≡ [] → clash_in at (grounded (pace_of_all n es)) ≡ [] → IsTimed (pace_of_all n es)
@@ -214,7 +220,8 @@ module _ (n : NodeTree) where
       by Differ h e = cc
 
   -- an argument takes the clock of them all
-  pub argument_takes : (at : ℕ) (es : Trees) (j : ℕ) (t : Tree) → clash_in at (grounded (pace_of_all n es)) ≡ [] → faults_of_all (own_clash n) es ≡ [] → IsArgument es j t
+  pub argument_takes : (at : ℕ) (es : Trees) (j : ℕ) (t : Tree) → clash_in at (grounded (pace_of_all n es)) ≡ [] → faults_of_all (own_clash n) es ≡ []
+      → IsArgument es j t
       → taken (clock_of_args n es) (pace n t) ≡ clock_of_args n es
   argument_takes at es j t own below w =
       taken_agrees (pace n t) (pace_of_all n es) (argument_agrees es j t below (arguments_timed at es below own) w)
@@ -239,7 +246,8 @@ module _ (n : NodeTree) where
       ]
 
   -- the two sides of an equation
-  module _ (at : ℕ) (xs : List Name) (x : Identifier) (p : Pace) (is : is_flow n x ≡ true) (there : Contains (texts xs) x) (timed_right : IsTimed p) (own : clash_in at (meet (left_pace n xs) (seen p)) ≡ []) where
+  module _ (at : ℕ) (xs : List Name) (x : Identifier) (p : Pace) (is : is_flow n x ≡ true) (there : Contains (texts xs) x) (timed_right : IsTimed p)
+      (own : clash_in at (meet (left_pace n xs) (seen p)) ≡ []) where
     sides_timed : IsTimed (meet (left_pace n xs) (seen p))
     sides_timed = timed at (meet (left_pace n xs) (seen p)) (meet_heard (left_pace n xs) (seen p) (lefts_heard xs) (seen_heard p timed_right)) own
 
@@ -265,11 +273,14 @@ module _ (n : NodeTree) where
         by Differ h u v = absurd h
 
 -- the same where the right side is a call
-pub call_takes : (n : NodeTree) (at : ℕ) (xs : List Name) (x : Identifier) (es : Trees) → is_flow n x ≡ true → Contains (texts xs) x → faults_of_all (own_clash n) es ≡ []
-    → clash_in at (grounded (pace_of_all n es)) ≡ [] → clash_in at (meet (left_pace n xs) (seen (grounded (pace_of_all n es)))) ≡ [] → clock_of_args n es ≡ clock_of n x
+pub call_takes : (n : NodeTree) (at : ℕ) (xs : List Name) (x : Identifier) (es : Trees) → is_flow n x ≡ true → Contains (texts xs) x
+    → faults_of_all (own_clash n) es ≡ []
+    → clash_in at (grounded (pace_of_all n es)) ≡ [] → clash_in at (meet (left_pace n xs) (seen (grounded (pace_of_all n es)))) ≡ []
+    → clock_of_args n es ≡ clock_of n x
 call_takes n at xs x es is there below own sides =
     let h = arguments_timed n at es below own in
-    by (pace_of_all n es) h (sides_take n at xs x (grounded (pace_of_all n es)) is there (timed at (grounded (pace_of_all n es)) (grounded_heard (pace_of_all n es) (heard (pace_of_all n es) h)) own) sides)
+    by (pace_of_all n es) h (sides_take n at xs x (grounded (pace_of_all n es)) is there
+    (timed at (grounded (pace_of_all n es)) (grounded_heard (pace_of_all n es) (heard (pace_of_all n es) h)) own) sides)
   where
     by : (p : Pace) → IsTimed p → taken (clock_of n x) (grounded p) ≡ clock_of n x → taken Base p ≡ clock_of n x
     by Free h e = e

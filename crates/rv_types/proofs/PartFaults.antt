@@ -25,7 +25,8 @@ module _ (own : Tree → List NameFault) where
     pub calls_right : (t : Tree) → faults own t ≡ [] → (c : CallTree) → Contains (calls_in t) c → IsRightCall c
     calls_right (Node at site form) e c w = let s = both_empty (own (Node at site form)) (faults_below own form) e in calls_of_form at site form s.0 s.1 c w
 
-    calls_of_form : (at : ℕ) (site : Option ℕ) (form : Form) → own (Node at site form) ≡ [] → faults_below own form ≡ [] → (c : CallTree) → Contains (form_calls at site form) c → IsRightCall c
+    calls_of_form : (at : ℕ) (site : Option ℕ) (form : Form) → own (Node at site form) ≡ [] → faults_below own form ≡ [] → (c : CallTree)
+        → Contains (form_calls at site form) c → IsRightCall c
     calls_of_form at site True o e c w = nothing_in c w
     calls_of_form at site False o e c w = nothing_in c w
     calls_of_form at site (Number v) o e c w = nothing_in c w

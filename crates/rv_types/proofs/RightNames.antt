@@ -42,12 +42,14 @@ flows_different p n e = (both_empty _ _ (both_empty _ _ e).0).0
 pub few_labels : (d : TypeDecl) → ((xs : List Name) → d.body ≡ Labels xs → length xs ≤ source_limit) → length (labels_of d) ≤ source_limit
 few_labels d h = tested d.body h
   where
-    tested : (b : TypeBody) → ((xs : List Name) → b ≡ Labels xs → length xs ≤ source_limit) → length (elim b as (λ _. List Name) [ Alias t ↦ [] | Labels xs ↦ xs ]) ≤ source_limit
+    tested : (b : TypeBody) → ((xs : List Name) → b ≡ Labels xs → length xs ≤ source_limit)
+        → length (elim b as (λ _. List Name) [ Alias t ↦ [] | Labels xs ↦ xs ]) ≤ source_limit
     tested (Alias t) h = omega arith
     tested (Labels xs) h = h xs refl
 
 -- the tables of what a program declares, by its spaces
-pub tables_are : (p : ProgramTree) (s : Spaces) (kinds : List Kind) (places : List Label) → name_faults p ≡ [] → s ≡ first_spaces p → kinds ≡ declared_kinds (reverse p.types) → places ≡ places_from 0 p.types
+pub tables_are : (p : ProgramTree) (s : Spaces) (kinds : List Kind) (places : List Label) → name_faults p ≡ [] → s ≡ first_spaces p
+    → kinds ≡ declared_kinds (reverse p.types) → places ≡ places_from 0 p.types
     → AreTablesOf p s.types kinds s.constants s.labels places
 tables_are p s kinds places names e k l =
     let d = all_different p names in

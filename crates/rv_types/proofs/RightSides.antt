@@ -1,6 +1,7 @@
 -- Where no rule of names is broken, a node's flows differ, and each left side of its equations is a flow with one
 -- right side that is no input.
-use Rattle.std.proofs.Common.{◌≡◌, ◌⊎◌, inl, inr, ℕ, ◌<◌, Bool, true, false, cond, List, [], ◌∷◌, ◌++◌, flat_map, length, get_or, refl, sym, ◌∙◌, ap, subst, arith, Some}
+use Rattle.std.proofs.Common.{◌≡◌, ◌⊎◌, inl, inr, ℕ, ◌<◌, Bool, true, false, cond, List, [], ◌∷◌, ◌++◌, flat_map, length, get_or, refl, sym, ◌∙◌, ap, subst}
+use Rattle.std.proofs.Common.{arith, Some}
 use Rattle.std.specs.List.{Contains}
 use Rattle.std.proofs.lemmas.Bool.{or_right}
 use Rattle.std.proofs.lemmas.List.{length-map, get_or_default}
@@ -9,7 +10,8 @@ use Rattle.rv_tree.specs.declared.tree.Name.{Name}
 use Rattle.rv_tree.specs.declared.tree.Decl.{Decl}
 use Rattle.rv_tree.specs.Tree.{Tree, Node, Call, Trees, EquationTree, NodeTree, ProgramTree}
 use Rattle.rv_tree.specs.Places.{Identifier, names, flows, is_flow}
-use Rattle.rv_types.specs.Names.{texts, is_declared, decls, decl_names, lefts, repeated, undefined_unless, flow_use, clock_use, use_of, node_uses, equation_uses, assertion_uses, names_in_node}
+use Rattle.rv_types.specs.Names.{texts, is_declared, decls, decl_names, lefts, repeated, undefined_unless, flow_use, clock_use, use_of, node_uses}
+use Rattle.rv_types.specs.Names.{equation_uses, assertion_uses, names_in_node}
 use Rattle.rv_types.specs.declared.fault.NameFault.TheVariants.{Undefined}
 use Rattle.rv_types.specs.Firsts.{firsts_after}
 use Rattle.rv_types.specs.Known.{flow_names}
@@ -19,7 +21,8 @@ use Rattle.rv_types.proofs.KnownLaws.{flows_are}
 use Rattle.rv_types.proofs.RightNames.{both_empty}
 use Rattle.rv_types.proofs.NodeFlows.{none_of}
 use Rattle.rv_types.proofs.ExpressionKinds.{use_known}
-use Rattle.rv_types.proofs.Members.{nothing_in, cons_cases, at_head, in_map, of_map, in_flat_map, of_flat_map, among_from, among_contains, not_before, names_apart, one_number}
+use Rattle.rv_types.proofs.Members.{nothing_in, cons_cases, at_head, in_map, of_map, in_flat_map, of_flat_map, among_from, among_contains, not_before}
+use Rattle.rv_types.proofs.Members.{names_apart, one_number}
 
 -- the groups of faults of a node, of which each is empty
 pub record IsNamedNode (p : ProgramTree) (n : NodeTree) : Type 0 where
@@ -55,7 +58,8 @@ in_lefts qs q x w v =
     let y = of_map (λ (y : Name). y.text) q.lefts x v in
     subst (Contains (texts (flat_map lefts_of qs))) y.2 (in_map (λ (y : Name). y.text) (flat_map lefts_of qs) y.0 (in_flat_map lefts_of qs q y.0 w y.1))
 
-of_lefts : (qs : List EquationTree) (x : Identifier) → Contains (texts (flat_map lefts_of qs)) x → (q : EquationTree) × Contains qs q × Contains (texts q.lefts) x
+of_lefts : (qs : List EquationTree) (x : Identifier) → Contains (texts (flat_map lefts_of qs)) x
+    → (q : EquationTree) × Contains qs q × Contains (texts q.lefts) x
 of_lefts qs x w =
     let y = of_map (λ (y : Name). y.text) (flat_map lefts_of qs) x w in
     let q = of_flat_map lefts_of qs y.0 y.1 in
@@ -64,7 +68,8 @@ of_lefts qs x w =
 -- where left sides differ, one equation has a name
 different_lefts : (before : List Name) (q : EquationTree) (qs : List EquationTree) → repeated before (flat_map lefts_of (q ∷ qs)) ≡ []
     → (repeated before q.lefts ≡ []) × (repeated (firsts_after before q.lefts) (flat_map lefts_of qs) ≡ [])
-different_lefts before q qs e = both_empty (repeated before q.lefts) (repeated (firsts_after before q.lefts) (flat_map lefts_of qs)) (sym (repeated_append before q.lefts (flat_map lefts_of qs)) ∙ e)
+different_lefts before q qs e = both_empty (repeated before q.lefts) (repeated (firsts_after before q.lefts) (flat_map lefts_of qs))
+    (sym (repeated_append before q.lefts (flat_map lefts_of qs)) ∙ e)
 
 -- a name of the first equation is no left side of the others
 not_again : (before : List Name) (q r : EquationTree) (qs : List EquationTree) (x : Identifier) → repeated before (flat_map lefts_of (q ∷ qs)) ≡ []
@@ -72,7 +77,8 @@ not_again : (before : List Name) (q r : EquationTree) (qs : List EquationTree) (
 not_again before q r qs x e here w there =
     let absent = not_before (firsts_after before q.lefts) (flat_map lefts_of qs) (different_lefts before q qs e).1 x (in_lefts qs r x w there) in
     let present : is_declared (firsts_after before q.lefts) x ≡ true =
-    declared_after before q.lefts x ∙ declared_append before q.lefts x ∙ or_right (is_declared before x) (is_declared q.lefts x) (among_from (texts q.lefts) x here) in
+    declared_after before q.lefts x ∙ declared_append before q.lefts x
+    ∙ or_right (is_declared before x) (is_declared q.lefts x) (among_from (texts q.lefts) x here) in
     cc
 
 one_equation : (before : List Name) (qs : List EquationTree) → repeated before (flat_map lefts_of qs) ≡ []
@@ -90,7 +96,8 @@ one_equation before (s ∷ qs) e q r x w v here there = elim (cons_cases s qs q 
 ]
 
 -- and the left sides of each differ
-each_different : (before : List Name) (qs : List EquationTree) → repeated before (flat_map lefts_of qs) ≡ [] → (q : EquationTree) → Contains qs q → (names : List Name) × (repeated names q.lefts ≡ [])
+each_different : (before : List Name) (qs : List EquationTree) → repeated before (flat_map lefts_of qs) ≡ [] → (q : EquationTree) → Contains qs q
+    → (names : List Name) × (repeated names q.lefts ≡ [])
 each_different before [] e q w = nothing_in q w
 each_different before (s ∷ qs) e q w = elim (cons_cases s qs q w) [
   | inl same ↦ (before, subst (λ (t : EquationTree). repeated before t.lefts ≡ []) same (different_lefts before s qs e).0)
@@ -130,7 +137,8 @@ same_output a b c d f g es fs i j e same =
 module _ (p : ProgramTree) (n : NodeTree) (named : IsNamedNode p n) where
   -- the flows of a node are different
   pub flows_apart : (j k : ℕ) → j < k → k < length (flows n) → get_or (flows n) j [] ≡ get_or (flows n) k [] → ⊥
-  flows_apart = subst (λ (l : List Identifier). (j k : ℕ) → j < k → k < length l → get_or l j [] ≡ get_or l k [] → ⊥) (flows_are n) (names_apart [] (flow_names n) named.different)
+  flows_apart = subst (λ (l : List Identifier). (j k : ℕ) → j < k → k < length l → get_or l j [] ≡ get_or l k [] → ⊥) (flows_are n)
+      (names_apart [] (flow_names n) named.different)
 
   -- the uses in an equation
   pub sides_known : (q : EquationTree) → Contains n.equations q → (flat_map (use_of (is_flow n)) q.lefts ≡ []) × (node_uses p n q.right ≡ [])
@@ -153,25 +161,30 @@ module _ (p : ProgramTree) (n : NodeTree) (named : IsNamedNode p n) where
       let d = of_map (λ (d : Decl). d.name.text) n.inputs x input in
       let present : is_declared (decl_names n.inputs) x ≡ true =
       among_from (texts (decl_names n.inputs)) x
-      (subst (Contains (texts (decl_names n.inputs))) d.2 (in_map (λ (y : Name). y.text) (decl_names n.inputs) d.0.name (in_map (λ (d : Decl). d.name) n.inputs d.0 d.1))) in
+      (subst (Contains (texts (decl_names n.inputs))) d.2 (in_map (λ (y : Name). y.text) (decl_names n.inputs) d.0.name
+      (in_map (λ (d : Decl). d.name) n.inputs d.0 d.1))) in
       cc
 
   pub left_is : (x : Identifier) (r : Right) → IsRight n x r → Contains (flows n) x × (Contains (names n.inputs) x → ⊥)
   left_is x r w = (among_contains (flows n) x (left_flow x r w), left_no_input x r w)
 
   -- a flow that is no input is a left side
-  defined_by : (ds : List Decl) (x : Identifier) → ((d : Decl) → Contains ds d → Contains (n.outputs ++ n.locals) d) → Contains (names ds) x → (q : EquationTree) × Contains n.equations q × Contains (texts q.lefts) x
+  defined_by : (ds : List Decl) (x : Identifier) → ((d : Decl) → Contains ds d → Contains (n.outputs ++ n.locals) d) → Contains (names ds) x
+      → (q : EquationTree) × Contains n.equations q × Contains (texts q.lefts) x
   defined_by ds x within w =
       let d = of_map (λ (d : Decl). d.name.text) ds x w in
       let y = in_map (λ (d : Decl). d.name) (n.outputs ++ n.locals) d.0 (within d.0 d.1) in
       of_lefts n.equations x
-      (among_contains (texts (lefts n)) x (subst (λ z. is_declared (lefts n) z ≡ true) d.2 (told (is_declared (lefts n) d.0.name.text) d.0.name.at (none_of (undefined_unless (lefts n)) (decl_names (n.outputs ++ n.locals)) d.0.name named.defined y))))
+      (among_contains (texts (lefts n)) x (subst (λ z. is_declared (lefts n) z ≡ true) d.2
+      (told (is_declared (lefts n) d.0.name.text) d.0.name.at (none_of (undefined_unless (lefts n)) (decl_names (n.outputs ++ n.locals)) d.0.name
+      named.defined y))))
     where
       told : (b : Bool) (at : ℕ) → cond b [] (Undefined at ∷ []) ≡ [] → b ≡ true
       told true at e = refl
       told false at e = cc
 
-  pub given_or_left : (x : Identifier) → Contains (flows n) x → Contains (names n.inputs) x ⊎ ((q : EquationTree) × Contains n.equations q × Contains (texts q.lefts) x)
+  pub given_or_left : (x : Identifier) → Contains (flows n) x → Contains (names n.inputs) x
+      ⊎ ((q : EquationTree) × Contains n.equations q × Contains (texts q.lefts) x)
   given_or_left x w = elim (Contains-append_cases (names n.inputs ++ names n.outputs) (names n.locals) x w) [
     | inl front ↦ elim (Contains-append_cases (names n.inputs) (names n.outputs) x front) [
       | inl input ↦ inl input
@@ -180,7 +193,8 @@ module _ (p : ProgramTree) (n : NodeTree) (named : IsNamedNode p n) where
     | inr local ↦ inr (defined_by n.locals x (λ d v. Contains-append_right n.outputs n.locals d v) local)
   ]
 
-  same_equation : (q r : EquationTree) (x : Identifier) → Contains n.equations q → Contains n.equations r → Contains (texts q.lefts) x → Contains (texts r.lefts) x → q ≡ r
+  same_equation : (q r : EquationTree) (x : Identifier) → Contains n.equations q → Contains n.equations r → Contains (texts q.lefts) x
+      → Contains (texts r.lefts) x → q ≡ r
   same_equation = one_equation (decl_names n.inputs) n.equations named.once
 
   alone_not_many : (q : EquationTree) (x : Identifier) → texts q.lefts ≡ x ∷ [] → 1 < length q.lefts → ⊥
@@ -211,4 +225,5 @@ module _ (p : ProgramTree) (n : NodeTree) (named : IsNamedNode p n) where
       let size = texts_long q.lefts in
       let sides = ap (λ (t : EquationTree). length t.lefts) same in
       same_output a b c d f g es fs i j (sym right ∙ ap (λ (t : EquationTree). t.right) same ∙ other)
-      (one_number names.0 q.lefts names.1 i j (omega (arith, size, lt)) (omega (arith, size, sides, less)) (is ∙ sym also ∙ sym (ap (λ (t : EquationTree). get_or (texts t.lefts) j []) same)))
+      (one_number names.0 q.lefts names.1 i j (omega (arith, size, lt)) (omega (arith, size, sides, less))
+      (is ∙ sym also ∙ sym (ap (λ (t : EquationTree). get_or (texts t.lefts) j []) same)))

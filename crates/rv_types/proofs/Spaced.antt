@@ -1,5 +1,6 @@
 -- What a map of names to offsets answers, in the words of lists of names.
-use Rattle.std.proofs.Common.{◌≡◌, ℕ, ◌+◌, Bool, true, false, not, cond, ◌||◌, List, [], ◌∷◌, ◌++◌, map, length, refl, sym, ap, ◌∙◌, nat_lt, position, Option, Some, IfSome, is_some, arith}
+use Rattle.std.proofs.Common.{◌≡◌, ℕ, ◌+◌, Bool, true, false, not, cond, ◌||◌, List, [], ◌∷◌, ◌++◌, map, length, refl, sym, ap, ◌∙◌, nat_lt, position, Option}
+use Rattle.std.proofs.Common.{Some, IfSome, is_some, arith}
 use Rattle.std.proofs.Common.{None as Nothing}
 use Rattle.std.specs.List.{position_or_len}
 use Rattle.std.specs.Cmp.{nat_eq_equiv, partial_equiv_from_equiv}
@@ -22,7 +23,8 @@ same_back x y = (lists_per (partial_equiv_from_equiv nat_eq_equiv)).symm x y
 -- a name is declared where one of the keys has its bytes
 pub declared_looked : (es : List Entry) (x : Identifier) → is_some (lookup (is_same x) es) ≡ is_declared (map named es) x
 declared_looked [] x = refl
-declared_looked (e ∷ es) x = tested (is_same x e.0) (is_same e.0 x) (same_back x e.0) (lookup (is_same x) es) (is_declared (map named es) x) (declared_looked es x)
+declared_looked (e ∷ es) x = tested (is_same x e.0) (is_same e.0 x) (same_back x e.0) (lookup (is_same x) es) (is_declared (map named es) x)
+    (declared_looked es x)
   where
     tested : (a b : Bool) → a ≡ b → (o : Option ℕ) (d : Bool) → is_some o ≡ d → is_some (cond a (Some e.1) o) ≡ (b || d)
     tested true true p o d q = refl
@@ -37,7 +39,8 @@ is_less at (Some k) = nat_lt k at
 
 pub before_looked : (at : ℕ) (es : List Entry) (x : Identifier) → is_less at (lookup (is_same x) es) ≡ stands_before at (map named es) x
 before_looked at [] x = refl
-before_looked at (e ∷ es) x = tested (is_same x e.0) (is_same e.0 x) (same_back x e.0) (lookup (is_same x) es) (stands_before at (map named es) x) (before_looked at es x)
+before_looked at (e ∷ es) x = tested (is_same x e.0) (is_same e.0 x) (same_back x e.0) (lookup (is_same x) es) (stands_before at (map named es) x)
+    (before_looked at es x)
   where
     tested : (a b : Bool) → a ≡ b → (o : Option ℕ) (d : Bool) → is_less at o ≡ d → is_less at (cond a (Some e.1) o) ≡ cond b (nat_lt e.1 at) d
     tested true true p o d q = refl
@@ -64,7 +67,8 @@ position_index es x = tested (nat_lt (position_or_len (is_same x) (keys_of es)) 
     tested false e = tt
 
 -- an entry at the end is one name more, where it is not there
-pub entry_added : (es fs : List Entry) (x : Name) → lookup (is_same x.text) es ≡ Nothing → fs ≡ es ++ (x.text, x.at) ∷ [] → map named fs ≡ with_name (map named es) x
+pub entry_added : (es fs : List Entry) (x : Name) → lookup (is_same x.text) es ≡ Nothing → fs ≡ es ++ (x.text, x.at) ∷ []
+    → map named fs ≡ with_name (map named es) x
 entry_added es fs x none added =
     let absent : is_declared (map named es) x.text ≡ false = sym (declared_looked es x.text) ∙ ap is_some none in
     ap (map named) added ∙ map-append named es ((x.text, x.at) ∷ [])
@@ -75,6 +79,7 @@ pub index_absent : (xs : List Name) (x : Identifier) → is_declared xs x ≡ fa
 index_absent [] x h = refl
 index_absent (y ∷ ys) x h = tested (is_same y.text x) h (index_absent ys x)
   where
-    tested : (b : Bool) → (b || is_declared ys x) ≡ false → (is_declared ys x ≡ false → index_of (texts ys) x ≡ length ys) → cond b 0 (index_of (texts ys) x + 1) ≡ length (y ∷ ys)
+    tested : (b : Bool) → (b || is_declared ys x) ≡ false → (is_declared ys x ≡ false → index_of (texts ys) x ≡ length ys)
+        → cond b 0 (index_of (texts ys) x + 1) ≡ length (y ∷ ys)
     tested true e again = cc
     tested false e again = omega (arith, again e)

@@ -17,14 +17,20 @@ use Rattle.rv_types.specs.Timings.{IsTiming, clock_by, EndsAt}
 use Rattle.rv_types.proofs.ChainLaws.{ends_after}
 
 -- the chain of a declared clock
-pub chain_known : (n : NodeTree) (jumps : List Clock) (d : Decl) (c : Name) (b : Bool) → EndsAt n jumps → d.clock ≡ Some c → is_base (follow jumps (On (site_of n c.text))) ≡ b
+pub chain_known : (n : NodeTree) (jumps : List Clock) (d : Decl) (c : Name) (b : Bool) → EndsAt n jumps → d.clock ≡ Some c
+    → is_base (follow jumps (On (site_of n c.text))) ≡ b
     → chain_clash n d ≡ cond b [] (ClockClash c.at ∷ [])
 chain_known n jumps d c b known is e =
-    (λ i. elim (is i) as (λ _. List NameFault) [ Nothing ↦ [] | Some c ↦ cond (ends n (suc (length (flow_clocks n))) (On (site_of n c.text))) [] (ClockClash c.at ∷ []) ])
+    (λ i. elim (is i) as (λ _. List NameFault) [
+      | Nothing ↦ []
+      | Some c ↦ cond (ends n (suc (length (flow_clocks n))) (On (site_of n c.text))) []
+          (ClockClash c.at ∷ [])
+    ])
     ∙ (λ i. cond (sym (known (On (site_of n c.text))) i) [] (ClockClash c.at ∷ []))
     ∙ (λ i. cond (e i) [] (ClockClash c.at ∷ []))
 
-pub ends_known : (n : NodeTree) (cs jumps : List Clock) → cs ≡ flow_clocks n → ((c : Clock) → is_base (follow jumps c) ≡ is_base (after cs (suc (length cs)) c)) → EndsAt n jumps
+pub ends_known : (n : NodeTree) (cs jumps : List Clock) → cs ≡ flow_clocks n → ((c : Clock) → is_base (follow jumps c) ≡ is_base (after cs (suc (length cs)) c))
+    → EndsAt n jumps
 ends_known n cs jumps is far c = far c ∙ (λ i. is_base (after (is i) (suc (length (is i))) c)) ∙ sym (ends_after n (suc (length (flow_clocks n))) c)
 
 by_sites : (n : NodeTree) (xs : List Name) → texts xs ≡ flows n → (c : Option Name) → clock_by xs c ≡ declared_clock n c

@@ -10,7 +10,8 @@ twice (x ∷ xs) = ap reverse (reverse-append (x ∷ []) xs) ∙ reverse-append 
 
 -- one more of them
 pub one_turned : {A : Type 0} (xs : List A) (k : ℕ) (x : A) → k < length xs → x ≡ get_or xs k x → reverse (take (k + 1) xs) ≡ x ∷ reverse (take k xs)
-one_turned xs k x h e = rw (add-one) (ap reverse (take-suc xs k x h) ∙ reverse-append (take k xs) (get_or xs k x ∷ []) ∙ ap (λ y. y ∷ reverse (take k xs)) (sym e))
+one_turned xs k x h e = rw (add-one) (ap reverse (take-suc xs k x h) ∙ reverse-append (take k xs) (get_or xs k x ∷ [])
+    ∙ ap (λ y. y ∷ reverse (take k xs)) (sym e))
 
 -- those so far and those to come are all
 pub all_turned : {A : Type 0} (xs : List A) (k : ℕ) → xs ≡ reverse (reverse (take k xs)) ++ drop k xs
@@ -20,5 +21,6 @@ pub turned-length : {A : Type 0} (xs : List A) (k : ℕ) → k ≤ length xs →
 turned-length xs k h = length-reverse (take k xs) ∙ length-take-le k xs h
 
 -- one more of what is made of them
-pub one_mapped : {A B : Type 0} (f : A → B) (xs : List A) (k : ℕ) (x : A) → k < length xs → x ≡ get_or xs k x → reverse (take (k + 1) (map f xs)) ≡ f x ∷ reverse (take k (map f xs))
+pub one_mapped : {A B : Type 0} (f : A → B) (xs : List A) (k : ℕ) (x : A) → k < length xs → x ≡ get_or xs k x
+    → reverse (take (k + 1) (map f xs)) ≡ f x ∷ reverse (take k (map f xs))
 one_mapped f xs k x h e = one_turned (map f xs) k (f x) (let n = length-map xs f in omega (arith, n, h)) (ap f e ∙ sym (get_or-map f xs k x (f x) h))

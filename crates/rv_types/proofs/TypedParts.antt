@@ -1,6 +1,7 @@
 -- The parts of an expression that has a type have types, and so have the operands of each operator of a node that keeps
 -- the rules.
-use Rattle.std.proofs.Common.{◌≡◌, ℕ, suc, inl, inr, Bool, true, false, ◌&&◌, ◌||◌, cond, List, [], ◌∷◌, ◌++◌, flat_map, length, refl, sym, ◌∙◌, ap, subst, arith, Option, Some, None as Nothing, unwrap_or}
+use Rattle.std.proofs.Common.{◌≡◌, ℕ, suc, inl, inr, Bool, true, false, ◌&&◌, ◌||◌, cond, List, [], ◌∷◌, ◌++◌, flat_map, length, refl, sym, ◌∙◌, ap, subst}
+use Rattle.std.proofs.Common.{arith, Option, Some, None as Nothing, unwrap_or}
 use Rattle.std.specs.List.{Contains}
 use Rattle.std.specs.Option.{option_map}
 use Rattle.std.proofs.lemmas.List.{length-map}
@@ -9,16 +10,19 @@ use Rattle.rv_tree.specs.declared.tree.Decl.{Decl}
 use Rattle.rv_tree.specs.declared.tree.Name.{Name}
 use Rattle.rv_tree.specs.declared.tree.Op.{Op}
 use Rattle.rv_tree.specs.declared.tree.Op.TheVariants as op
-use Rattle.rv_tree.specs.Tree.{Tree, Node, Form, True, False, Number, Named, Not, Minus, Pre, Current, When, Binary, If, AtMostOne, Call, Trees, None, More, EquationTree, AssertionTree, NodeTree, ProgramTree}
+use Rattle.rv_tree.specs.Tree.{Tree, Node, Form, True, False, Number, Named, Not, Minus, Pre, Current, When, Binary, If, AtMostOne, Call, Trees, None, More}
+use Rattle.rv_tree.specs.Tree.{EquationTree, AssertionTree, NodeTree, ProgramTree}
 use Rattle.rv_tree.specs.Places.{Identifier}
 use Rattle.rv_types.specs.declared.typed.Kind.{Kind}
 use Rattle.rv_types.specs.declared.typed.Kind.TheVariants.{Bool as Boolean, Int}
 use Rattle.rv_types.specs.declared.fault.Verdict.{Verdict}
 use Rattle.rv_types.specs.declared.fault.Verdict.TheVariants.{Silent, Clashes, Multiplies}
-use Rattle.rv_types.specs.Instances.{CallTree, calls_in, calls_in_all, calls_in_equations, calls_in_assertions, calls, alone, IsArgument, head, tail, no_node, node_of}
+use Rattle.rv_types.specs.Instances.{CallTree, calls_in, calls_in_all, calls_in_equations, calls_in_assertions, calls, alone, IsArgument, head, tail, no_node}
+use Rattle.rv_types.specs.Instances.{node_of}
 use Rattle.rv_types.specs.Kinds.{kind_in_program, node_named}
 use Rattle.rv_types.specs.Names.{texts}
-use Rattle.rv_types.specs.Types.{Signature, Scope, kind_in, where_met, one_of, two_of, three_of, binary_rule, not_rule, minus_rule, memory_rule, when_rule, when_of, if_rule, all_typed, all_suit, at_most_one_of, fit, sole, call_of, both_are, is_constant, kinds_of_all, kind_of}
+use Rattle.rv_types.specs.Types.{Signature, Scope, kind_in, where_met, one_of, two_of, three_of, binary_rule, not_rule, minus_rule, memory_rule, when_rule}
+use Rattle.rv_types.specs.Types.{when_of, if_rule, all_typed, all_suit, at_most_one_of, fit, sole, call_of, both_are, is_constant, kinds_of_all, kind_of}
 use Rattle.rv_types.specs.Scopes.{node_scope, signature_of, signature_named}
 use Rattle.rv_types.specs.Variables.{parts, form_parts, parts_of_all, node_parts}
 use Rattle.rv_types.specs.WellFormed.{IsWellFormed, IsWellTyped}
@@ -166,7 +170,8 @@ module _ (s : Scope) where
   when_typed at site e c w = of_when s.moves (kind_of s e) (s.clock c.text) w
 
 -- a call that has a type gives one output
-pub call_output : (p : ProgramTree) (n : NodeTree) (at : ℕ) (site : Option ℕ) (f : Identifier) (es : Trees) → IsTyped (node_scope p n) (Node at site (Call f es)) → length (node_of p f).outputs ≡ 1
+pub call_output : (p : ProgramTree) (n : NodeTree) (at : ℕ) (site : Option ℕ) (f : Identifier) (es : Trees)
+    → IsTyped (node_scope p n) (Node at site (Call f es)) → length (node_of p f).outputs ≡ 1
 call_output p n at site f es w = named (node_named p f) (of_call true (signature_named p f) (kinds_of_all (node_scope p n) es) w)
   where
     named : (o : Option NodeTree) → IsCalled (option_map (signature_of p) o) (kinds_of_all (node_scope p n) es) → length (unwrap_or o no_node).outputs ≡ 1
@@ -192,7 +197,8 @@ right_calls (p ∷ qs) q c w v = elim (cons_cases p qs q w) [
 ]
 
 -- a call is no operator
-not_operator : (at : ℕ) (site : Option ℕ) (f : Identifier) (es : Trees) (k : ℕ) (s : Option ℕ) (o : Op) (a b : Tree) → ◌≡◌ {A = Tree} (Node at site (Call f es)) (Node k s (Binary o a b)) → ⊥
+not_operator : (at : ℕ) (site : Option ℕ) (f : Identifier) (es : Trees) (k : ℕ) (s : Option ℕ) (o : Op) (a b : Tree)
+    → ◌≡◌ {A = Tree} (Node at site (Call f es)) (Node k s (Binary o a b)) → ⊥
 not_operator at site f es k s o a b e = cc
 
 module _ (p : ProgramTree) (n : NodeTree) (formed : IsWellFormed p n) (typed : IsWellTyped p n) (at : ℕ) (site : Option ℕ) (o : Op) (a b : Tree) where
@@ -207,7 +213,8 @@ module _ (p : ProgramTree) (n : NodeTree) (formed : IsWellFormed p n) (typed : I
       let call = formed.sides q w other in
       let c : CallTree = record { at = call.0; site = unwrap_or call.1 0; name = call.2; args = call.3 } in
       let of_right : Contains (calls_in q.right) c = subst (λ (e : Tree). Contains (calls_in e) c) (sym call.4) (at_head c (calls_in_all call.3)) in
-      let there : Contains (calls n) c = Contains-append_left (calls_in_equations n.equations) (calls_in_assertions n.assertions) c (right_calls n.equations q c w of_right) in
+      let there : Contains (calls n) c = Contains-append_left (calls_in_equations n.equations) (calls_in_assertions n.assertions) c
+      (right_calls n.equations q c w of_right) in
       let part : Contains (parts (Node call.0 call.1 (Call call.2 call.3))) it = subst (λ (e : Tree). Contains (parts e) it) call.4 v in
       elim (cons_cases (Node call.0 call.1 (Call call.2 call.3)) (parts_of_all call.3) it part) [
         | inl same ↦ absurd (not_operator call.0 call.1 call.2 call.3 at site o a b same)
@@ -224,7 +231,8 @@ module _ (p : ProgramTree) (n : NodeTree) (formed : IsWellFormed p n) (typed : I
 
   -- the left operand of an operator of a node has a type
   pub left_typed : Contains (node_parts n) it → IsTyped (node_scope p n) a
-  left_typed w = elim (Contains-append_cases (flat_map (λ (q : EquationTree). parts q.right) n.equations) (flat_map (λ (r : AssertionTree). parts r.body) n.assertions) it w) [
-    | inl v ↦ let q = of_flat_map (λ (q : EquationTree). parts q.right) n.equations it v in in_equation q.0 q.1 q.2
-    | inr v ↦ let r = of_flat_map (λ (r : AssertionTree). parts r.body) n.assertions it v in in_typed r.0.body (Boolean, typed.assertion r.0 r.1) r.2
-  ]
+  left_typed w = elim (Contains-append_cases (flat_map (λ (q : EquationTree). parts q.right) n.equations)
+      (flat_map (λ (r : AssertionTree). parts r.body) n.assertions) it w) [
+        | inl v ↦ let q = of_flat_map (λ (q : EquationTree). parts q.right) n.equations it v in in_equation q.0 q.1 q.2
+        | inr v ↦ let r = of_flat_map (λ (r : AssertionTree). parts r.body) n.assertions it v in in_typed r.0.body (Boolean, typed.assertion r.0 r.1) r.2
+      ]

@@ -26,7 +26,8 @@ difference_small y z v w g h = omega (arith, ints)
 product_small : (y z : ℤ) (w : ℕ) → nat_abs z ≤ w → nat_abs (y *ℤ z) ≤ nat_abs y * w
 product_small y z w h = rw (unsigned_abs-mul y z) (mul-le-mul_left (nat_abs y) h)
 
-pub under_small : (o : Op) (x y : Value) (v w : ℕ) → nat_abs (whole_in x) ≤ v → nat_abs (whole_in y) ≤ w → nat_abs (whole_in (value_under (weight_under o (nat_abs (whole_in x)) v w) o x y)) ≤ min (weight_under o (nat_abs (whole_in x)) v w) too_heavy
+pub under_small : (o : Op) (x y : Value) (v w : ℕ) → nat_abs (whole_in x) ≤ v → nat_abs (whole_in y) ≤ w
+    → nat_abs (whole_in (value_under (weight_under o (nat_abs (whole_in x)) v w) o x y)) ≤ min (weight_under o (nat_abs (whole_in x)) v w) too_heavy
 under_small op.Plus x y v w g h = counted_small (v + w) (whole_in x +ℤ whole_in y) (sum_small (whole_in x) (whole_in y) v w g h)
 under_small op.Minus x y v w g h = counted_small (v + w) (whole_in x -ℤ whole_in y) (difference_small (whole_in x) (whole_in y) v w g h)
 under_small op.Times x y v w g h = counted_small (nat_abs (whole_in x) * w) (whole_in x *ℤ whole_in y) (product_small (whole_in x) (whole_in y) w h)
@@ -45,5 +46,7 @@ under_small op.Slash x y v w g h = omega arith
 under_small op.Div x y v w g h = omega arith
 under_small op.Mod x y v w g h = omega arith
 
-pub no_larger : (o : Op) (x y : Value) (v w : ℕ) (result : Value) (weight : ℕ) → nat_abs (whole_in x) ≤ v → nat_abs (whole_in y) ≤ w → weight ≡ min (weight_under o (nat_abs (whole_in x)) v w) too_heavy → result ≡ value_under (weight_under o (nat_abs (whole_in x)) v w) o x y → nat_abs (whole_in result) ≤ weight
+pub no_larger : (o : Op) (x y : Value) (v w : ℕ) (result : Value) (weight : ℕ) → nat_abs (whole_in x) ≤ v → nat_abs (whole_in y) ≤ w
+    → weight ≡ min (weight_under o (nat_abs (whole_in x)) v w) too_heavy → result ≡ value_under (weight_under o (nat_abs (whole_in x)) v w) o x y
+    → nat_abs (whole_in result) ≤ weight
 no_larger o x y v w result weight g h e f = rw (e, f) (under_small o x y v w g h)

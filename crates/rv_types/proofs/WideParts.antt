@@ -1,5 +1,6 @@
 -- A walk over some expressions of a constant, and the values of the first constants.
-use Rattle.std.proofs.Common.{◌≡◌, ℕ, suc, ◌+◌, ◌<◌, ◌≤◌, min, Bool, true, false, not, ◌&&◌, ◌||◌, List, [], ◌∷◌, ◌++◌, length, map, reverse, take, drop, get_or, append-nil, append_assoc, length-append, Option, Some, refl, sym, ap, ◌∙◌, add-one, arith}
+use Rattle.std.proofs.Common.{◌≡◌, ℕ, suc, ◌+◌, ◌<◌, ◌≤◌, min, Bool, true, false, not, ◌&&◌, ◌||◌, List, [], ◌∷◌, ◌++◌, length, map, reverse, take, drop}
+use Rattle.std.proofs.Common.{get_or, append-nil, append_assoc, length-append, Option, Some, refl, sym, ap, ◌∙◌, add-one, arith}
 use Rattle.std.proofs.Common.{None as Nothing}
 use Rattle.std.proofs.Math.Seq.{drop-cons, take-append_seam}
 use Rattle.std.proofs.lemmas.List.{length-reverse, reverse-append, take-append-drop}
@@ -13,14 +14,16 @@ use Rattle.rv_types.specs.WideConstants.{lesser}
 use Rattle.rv_types.proofs.Turned.{turned-length}
 
 -- the rest of some expressions from one on
-pub rest_is : (es : List Expr) (i : ℕ) (e : Expr) → i < length es → e ≡ get_or es i e → trees (map tree_of (drop i es)) ≡ More (tree_of e) (trees (map tree_of (drop (i + 1) es)))
+pub rest_is : (es : List Expr) (i : ℕ) (e : Expr) → i < length es → e ≡ get_or es i e
+    → trees (map tree_of (drop i es)) ≡ More (tree_of e) (trees (map tree_of (drop (i + 1) es)))
 rest_is es i e lt is =
     ap (λ l. trees (map tree_of l)) (drop-cons es i e lt)
     ∙ ap (λ x. More (tree_of x) (trees (map tree_of (drop (suc i) es)))) (sym is)
     ∙ ap (λ k. More (tree_of e) (trees (map tree_of (drop k es)))) (sym (add-one i))
 
 -- one flag more
-pub seen_more : (some several f : Bool) (fs : List Bool) → (not (several || (some && f)) && at_most_after (some || f) fs) ≡ (not several && at_most_after some (f ∷ fs))
+pub seen_more : (some several f : Bool) (fs : List Bool) → (not (several || (some && f)) && at_most_after (some || f) fs)
+    ≡ (not several && at_most_after some (f ∷ fs))
 seen_more true true true fs = refl
 seen_more true true false fs = refl
 seen_more true false true fs = refl

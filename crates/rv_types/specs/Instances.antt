@@ -4,7 +4,8 @@
 use Rattle.std.specs.Prelude.{◌≡◌, ℕ, zero, suc, ◌+◌, ◌<◌, List, [], ◌∷◌, ◌++◌, map, flat_map, length, unwrap_or, Option, Some, IsTrue, slice_index_or}
 use Rattle.std.specs.Prelude.{None as Nothing}
 use Rattle.std.specs.List.{Contains}
-use Rattle.rv_tree.specs.Tree.{Tree, Node, Form, True, False, Number, Named, Not, Minus, Pre, Current, When, Binary, If, AtMostOne, Call, Trees, None, More, EquationTree, AssertionTree, NodeTree, ProgramTree}
+use Rattle.rv_tree.specs.Tree.{Tree, Node, Form, True, False, Number, Named, Not, Minus, Pre, Current, When, Binary, If, AtMostOne, Call, Trees, None, More}
+use Rattle.rv_tree.specs.Tree.{EquationTree, AssertionTree, NodeTree, ProgramTree}
 use Rattle.rv_tree.specs.Places.{Identifier, Sites, flows, flow_place, site_of, is_among}
 use Rattle.rv_types.specs.declared.typed.Clock.{Clock}
 use Rattle.rv_types.specs.declared.typed.Clock.TheVariants.{Base, On}
@@ -68,7 +69,8 @@ pub data Right : Type 0 where
 pub data IsRight (n : NodeTree) (x : Identifier) : Right → Type 0 where
   alone : (q : EquationTree) → Contains n.equations q → texts q.lefts ≡ x ∷ [] → IsRight n x (Body q.right)
   in_order : (q : EquationTree) (at site : ℕ) (f : Identifier) (args : Trees) (j : ℕ) → Contains n.equations q → q.right ≡ Node at (Some site) (Call f args)
-      → 1 < length q.lefts → j < length q.lefts → slice_index_or (texts q.lefts) j [] ≡ x → IsRight n x (Output (record { at = at; site = site; name = f; args = args }) j)
+      → 1 < length q.lefts → j < length q.lefts → slice_index_or (texts q.lefts) j [] ≡ x
+      → IsRight n x (Output (record { at = at; site = site; name = f; args = args }) j)
 
 -- the argument of a callee's input
 pub data IsArgument : Trees → ℕ → Tree → Type 0 where

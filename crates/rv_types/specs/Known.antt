@@ -13,7 +13,8 @@ use Rattle.rv_types.specs.declared.fault.NameFault.{NameFault}
 use Rattle.rv_types.specs.declared.spaces.Spaces.{Spaces}
 use Rattle.rv_types.specs.declared.uses.Reach.{Reach}
 use Rattle.rv_types.specs.declared.uses.Reach.TheVariants.{Before, Everywhere}
-use Rattle.rv_types.specs.Names.{is_declared, stands_before, type_names, constant_names, label_names, node_names, decls, decl_names, lefts, repeated, repeated_values, undefined_unless, type_use, use_of, own_uses, uses}
+use Rattle.rv_types.specs.Names.{is_declared, stands_before, type_names, constant_names, label_names, node_names, decls, decl_names, lefts, repeated}
+use Rattle.rv_types.specs.Names.{repeated_values, undefined_unless, type_use, use_of, own_uses, uses}
 use Rattle.rv_types.specs.Firsts.{firsts}
 
 abbrev pub first_spaces : ProgramTree → Spaces

@@ -42,7 +42,8 @@ memory_places ms = map (λ m. m.place) ms
 pub record AreMemories (p : ProgramTree) (main : Identifier) (IsTaken : Instance → Type 0) (ms : List MemoryAt) : Type 0 where
   pub rising : AreRising (memory_places ms)
   pub all : (i : Instance) (d : Delay) → IsInstance p main i → IsTaken i → Contains (node_delays i.node) d → Contains ms (memory_at p i d)
-  pub only : (m : MemoryAt) → Contains ms m → (i : Instance) × (d : Delay) × IsInstance p main i × IsTaken i × Contains (node_delays i.node) d × (m ≡ memory_at p i d)
+  pub only : (m : MemoryAt) → Contains ms m → (i : Instance) × (d : Delay) × IsInstance p main i × IsTaken i × Contains (node_delays i.node) d
+      × (m ≡ memory_at p i d)
 
 -- all instances
 abbrev pub IsAny : Instance → Type 0
@@ -51,8 +52,10 @@ IsAny i = Unit {0}
 -- The flows of the clocks, main's base clock left out, on which a `->` stands.
 pub record AreTicks (p : ProgramTree) (main : Identifier) (ps : List Sites) : Type 0 where
   pub rising : AreRising ps
-  pub all : (i : Instance) (e : Tree) (q : Sites) → IsInstance p main i → Contains (node_parts i.node) e → is_arrow e ≡ true → clock_in i Base e ≡ Some q → Contains ps q
-  pub only : (q : Sites) → Contains ps q → (i : Instance) × (e : Tree) × IsInstance p main i × Contains (node_parts i.node) e × (is_arrow e ≡ true) × (clock_in i Base e ≡ Some q)
+  pub all : (i : Instance) (e : Tree) (q : Sites) → IsInstance p main i → Contains (node_parts i.node) e → is_arrow e ≡ true → clock_in i Base e ≡ Some q
+      → Contains ps q
+  pub only : (q : Sites) → Contains ps q → (i : Instance) × (e : Tree) × IsInstance p main i × Contains (node_parts i.node) e × (is_arrow e ≡ true)
+      × (clock_in i Base e ≡ Some q)
 
 -- An order test tells whether `a - b <= 0`, or whether `b - a <= 0`.
 pub data Side : Type 0 where

@@ -2,11 +2,13 @@
 use Rattle.std.specs.Prelude.{◌≡◌, ℕ, ◌<◌, ◌⊎◌, cond, List, [], ◌∷◌, ◌++◌, length, unwrap_or, Option, Some, slice_index_or}
 use Rattle.std.specs.Prelude.{None as Nothing}
 use Rattle.std.specs.List.{Contains, All}
-use Rattle.rv_tree.specs.Tree.{Tree, Node, Form, True, False, Number, Named, Not, Minus, Pre, Current, When, Binary, If, AtMostOne, Call, Trees, None, More, ProgramTree}
+use Rattle.rv_tree.specs.Tree.{Tree, Node, Form, True, False, Number, Named, Not, Minus, Pre, Current, When, Binary, If, AtMostOne, Call, Trees, None, More}
+use Rattle.rv_tree.specs.Tree.{ProgramTree}
 use Rattle.rv_tree.specs.Places.{Identifier, Sites, is_flow}
 use Rattle.rv_types.specs.declared.typed.Clock.{Clock}
 use Rattle.rv_types.specs.declared.typed.Clock.TheVariants.{Base}
-use Rattle.rv_types.specs.Instances.{CallTree, Right, Body, Output, IsRight, IsArgument, calls, Instance, place, absolute, clock_of, clock_taken, clock_of_arguments, output_place, node_of, IsInstance, IsFlow}
+use Rattle.rv_types.specs.Instances.{CallTree, Right, Body, Output, IsRight, IsArgument, calls, Instance, place, absolute, clock_of, clock_taken}
+use Rattle.rv_types.specs.Instances.{clock_of_arguments, output_place, node_of, IsInstance, IsFlow}
 
 -- the flow of a clock, if it is not that of main
 abbrev pub flow_of : Option Sites → List Sites
@@ -59,8 +61,10 @@ module _ (program : ProgramTree) (main : Identifier) where
   -- an input, an equation or an argument of an instance gives the flow at this place its value
   pub data Gives (p : Sites) : Giver → Type 0 where
     given : (j : ℕ) → j < length (node_of program main).inputs → j ∷ [] ≡ p → Gives p (Given j)
-    by_equation : (i : Instance) (x : Identifier) (r : Right) → IsInstance program main i → IsRight i.node x r → place i x ≡ p → Gives p (Of i (clock_of i.node x) r)
-    by_call : (i : Instance) (c : CallTree) (j : ℕ) (e : Tree) → IsInstance program main i → Contains (calls i.node) c → IsArgument c.args j e → i.path ++ c.site ∷ j ∷ [] ≡ p → Gives p (Of i (clock_of_arguments i c.args) (Body e))
+    by_equation : (i : Instance) (x : Identifier) (r : Right) → IsInstance program main i → IsRight i.node x r → place i x ≡ p
+        → Gives p (Of i (clock_of i.node x) r)
+    by_call : (i : Instance) (c : CallTree) (j : ℕ) (e : Tree) → IsInstance program main i → Contains (calls i.node) c → IsArgument c.args j e
+        → i.path ++ c.site ∷ j ∷ [] ≡ p → Gives p (Of i (clock_of_arguments i c.args) (Body e))
 
   -- q is among the first k of the sequence
   abbrev pub IsAmongFirst : List Sites → ℕ → Sites → Type 0

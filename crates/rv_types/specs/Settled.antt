@@ -4,7 +4,8 @@ use Rattle.std.specs.Prelude.{◌≡◌, ◌⊎◌, ◌<◌, ℕ, cond, IsTrue, 
 use Rattle.rv_tree.specs.Tree.{ProgramTree}
 use Rattle.rv_tree.specs.Places.{Identifier, index_of}
 use Rattle.rv_types.specs.declared.fault.NameFault.{NameFault}
-use Rattle.rv_types.specs.declared.fault.NameFault.TheVariants.{NoNode, UnknownName, DefinedTwice, Undefined, TypeClash, Nonlinear, ClockClash, NotObserver, Memory}
+use Rattle.rv_types.specs.declared.fault.NameFault.TheVariants.{NoNode, UnknownName, DefinedTwice, Undefined, TypeClash, Nonlinear, ClockClash, NotObserver}
+use Rattle.rv_types.specs.declared.fault.NameFault.TheVariants.{Memory}
 use Rattle.rv_types.specs.declared.typed.Typed.{Typed}
 use Rattle.rv_types.specs.Names.{texts, is_declared, node_names, name_faults}
 use Rattle.rv_types.specs.Kinds.{flow_kinds}

@@ -43,7 +43,8 @@ pub record IsWellFormed (program : ProgramTree) (n : NodeTree) : Type 0 where
   pub given_or_defined : (x : Identifier) → Contains (flows n) x → Contains (names n.inputs) x ⊎ ((r : Right) × IsRight n x r)
   pub left : (x : Identifier) (r : Right) → IsRight n x r → Contains (flows n) x × (Contains (names n.inputs) x → ⊥)
   pub one_right : (x : Identifier) (r s : Right) → IsRight n x r → IsRight n x s → r ≡ s
-  pub sides : (q : EquationTree) → Contains n.equations q → (length q.lefts ≡ 1 → ⊥) → (at : ℕ) × (site : Option ℕ) × (f : Identifier) × (es : Trees) × (q.right ≡ Node at site (Call f es))
+  pub sides : (q : EquationTree) → Contains n.equations q → (length q.lefts ≡ 1 → ⊥)
+      → (at : ℕ) × (site : Option ℕ) × (f : Identifier) × (es : Trees) × (q.right ≡ Node at site (Call f es))
   -- calls
   pub known : (c : CallTree) → Contains (calls n) c → IsSome (node_named program c.name)
   pub sites : (c d : CallTree) → Contains (calls n) c → Contains (calls n) d → c.site ≡ d.site → c ≡ d

@@ -2,7 +2,8 @@
 use Rattle.std.specs.Prelude.{ℕ, min, cond, nat_lt, List, [], ◌∷◌, Option, Some}
 use Rattle.std.specs.Prelude.{None as Nothing}
 use Rattle.rv_base.specs.declared.value.Value.{Value}
-use Rattle.rv_tree.specs.Tree.{Tree, Node, Form, True, False, Number, Named, Not, Minus, Pre, Current, When, Binary, If, AtMostOne, Call, Trees, None, More, ConstantTree, ProgramTree}
+use Rattle.rv_tree.specs.Tree.{Tree, Node, Form, True, False, Number, Named, Not, Minus, Pre, Current, When, Binary, If, AtMostOne, Call, Trees, None, More}
+use Rattle.rv_tree.specs.Tree.{ConstantTree, ProgramTree}
 use Rattle.rv_tree.specs.Places.{Identifier}
 use Rattle.rv_base.specs.Limits.{heaviest}
 use Rattle.rv_types.specs.Constants.{form_weight}

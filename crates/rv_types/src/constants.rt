@@ -111,7 +111,8 @@ fn declared_fault(
 
 /// The type of a constant, and the first fault of types in it, by the tables of its body.
 fn typed(globals: &Globals, view: &View, c: &ConstDecl) -> (Option<Kind>, Option<NameFault>)
-    ensures kind { result.0 ≡ as_declared_by (entry_in globals.now.types.now globals.now.type_kinds.now) c.now.kind (kind_of (scope_of view.now) (tree_of c.now.body)) }
+    ensures kind { result.0 ≡ as_declared_by (entry_in globals.now.types.now globals.now.type_kinds.now) c.now.kind
+        (kind_of (scope_of view.now) (tree_of c.now.body)) }
     ensures fault { result.1 ≡ first (constant_types_by (entry_in globals.now.types.now globals.now.type_kinds.now) (scope_of view.now) (constant_tree c.now)) }
 {
     let body = judge(view, &c.body);
@@ -127,10 +128,13 @@ fn typed(globals: &Globals, view: &View, c: &ConstDecl) -> (Option<Kind>, Option
 fn constant_after(globals: &Globals, none: &Space, before: &Constants, c: &ConstDecl) -> Constant
     requires none { none.now ≡ [] }
     requires small { AreSmall (known_in globals.now.constants.now before.now.values globals.now.labels.now globals.now.places.now) }
-    ensures kind { result.kind ≡ as_declared_by (entry_in globals.now.types.now globals.now.type_kinds.now) c.now.kind (kind_of (constant_scope (value_in globals.now.constants.now before.now.kinds globals.now.labels.now globals.now.places.now)) (tree_of c.now.body)) }
-    ensures value { result.value ≡ value_of (known_in globals.now.constants.now before.now.values globals.now.labels.now globals.now.places.now) (tree_of c.now.body) }
+    ensures kind { result.kind ≡ as_declared_by (entry_in globals.now.types.now globals.now.type_kinds.now) c.now.kind
+        (kind_of (constant_scope (value_in globals.now.constants.now before.now.kinds globals.now.labels.now globals.now.places.now)) (tree_of c.now.body)) }
+    ensures value { result.value ≡ value_of (known_in globals.now.constants.now before.now.values globals.now.labels.now globals.now.places.now)
+        (tree_of c.now.body) }
     ensures bound { nat_abs (whole_in result.value) ≤ too_heavy }
-    ensures fault { result.fault ≡ first (constant_types_by (entry_in globals.now.types.now globals.now.type_kinds.now) (constant_scope (value_in globals.now.constants.now before.now.kinds globals.now.labels.now globals.now.places.now)) (constant_tree c.now)) }
+    ensures fault { result.fault ≡ first (constant_types_by (entry_in globals.now.types.now globals.now.type_kinds.now)
+        (constant_scope (value_in globals.now.constants.now before.now.kinds globals.now.labels.now globals.now.places.now)) (constant_tree c.now)) }
 {
     let view = View {
         flows: none,
@@ -158,7 +162,8 @@ fn constant_after(globals: &Globals, none: &Space, before: &Constants, c: &Const
 
 /// The types and values of all constants, and the first fault of types in them.
 pub fn constants_of(alloc: Global, globals: &Globals, p: &Program) -> Result<Constants, Memory>
-    requires { AreTablesOf (program_tree p.now) globals.now.types.now globals.now.type_kinds.now globals.now.constants.now globals.now.labels.now globals.now.places.now }
+    requires { AreTablesOf (program_tree p.now) globals.now.types.now globals.now.type_kinds.now globals.now.constants.now globals.now.labels.now
+        globals.now.places.now }
     ensures kinds { IfOk result (λ c. c.kinds ≡ constant_kinds_of (program_tree p.now) (reverse (program_tree p.now).constants)) }
     ensures values { IfOk result (λ c. c.values ≡ constant_values (program_tree p.now)) }
     ensures fault { IfOk result (λ c. c.fault ≡ first (constant_types (program_tree p.now) (reverse (program_tree p.now).constants))) }

@@ -7,7 +7,8 @@ ghost use Rattle.rv_tree.specs.Delays.{node_delays};
 ghost use Rattle.rv_types.specs.Delayed.{delayed_kinds, delayed_in, delayed_in_all, node_delayed};
 ghost use Rattle.rv_types.specs.Readings.{view_of};
 ghost use Rattle.rv_types.specs.Tables.{scope_of, stays_constant};
-ghost use Rattle.rv_types.specs.Types.{is_constant, is_constant_form, are_constant, form_verdict, kind_of, kinds_of_all, all_typed, all_suit, fit, kind_in, two_of, three_of, binary_rule, if_rule, when_of};
+ghost use Rattle.rv_types.specs.Types.{is_constant, is_constant_form, are_constant, form_verdict, kind_of, kinds_of_all, all_typed, all_suit, fit, kind_in};
+ghost use Rattle.rv_types.specs.Types.{two_of, three_of, binary_rule, if_rule, when_of};
 ghost use Rattle.rv_types.specs.declared.typed.Kind.{Kind as AnyKind};
 ghost use Rattle.rv_types.specs.declared.typed.Kind.TheVariants as kind;
 
@@ -231,7 +232,8 @@ fn told_of_name(view: &View, name: &Text) -> Told
 /// Puts a type in the place of the one with a number; `Bool` where there is none.
 #[tactic(auto, using(crate::proofs::PutKinds::put_between, crate::proofs::PutKinds::there))]
 fn put(number: usize, one: Option<Kind>, found: &mut Many<Kind>)
-    ensures { (before after : List AnyKind) (k : AnyKind) → number ≡ length before → found.old ≡ before ++ k ∷ after → found.new ≡ before ++ unwrap_or one kind.Bool ∷ after }
+    ensures { (before after : List AnyKind) (k : AnyKind) → number ≡ length before → found.old ≡ before ++ k ∷ after
+        → found.new ≡ before ++ unwrap_or one kind.Bool ∷ after }
 {
     if number < found.len() {
         found.set(number, one.unwrap_or(Kind::Bool));

@@ -5,7 +5,8 @@ ghost use Rattle.rv_tree.specs.declared.tree.Decl.{Decl as AnyDecl};
 ghost use Rattle.rv_tree.specs.Tree.{program_tree, constant_tree, node_tree, equation_tree, assertion_tree};
 ghost use Rattle.rv_types.specs.Names.{is_declared, stands_before, decls, decl_names, lefts, repeated, type_use, use_of, undefined_unless, name_faults};
 ghost use Rattle.rv_types.specs.Firsts.{firsts_after, firsts};
-ghost use Rattle.rv_types.specs.Known.{first_spaces, alias_use_in, type_use_before, constant_use_in, flow_use_in, clock_use_in, equation_use_in, assertion_use_in, flow_names, undefined_in, uses_in, names_in};
+ghost use Rattle.rv_types.specs.Known.{first_spaces, alias_use_in, type_use_before, constant_use_in, flow_use_in, clock_use_in, equation_use_in};
+ghost use Rattle.rv_types.specs.Known.{assertion_use_in, flow_names, undefined_in, uses_in, names_in};
 ghost use Rattle.rv_types.specs.Earliest.{first};
 
 use crate::fault::NameFault;

@@ -41,7 +41,8 @@ fn node_fault(node: &Node, kinds: &[Kind]) -> Option<NameFault>
 /// The fault of the main node, by its number and the types of all flows.
 pub fn observer_fault(p: &Program, kinds: &Many<Many<Kind>>, main: usize) -> Option<NameFault>
     requires { main < length p.now.nodes }
-    ensures { (x : Identifier) → main ≡ index_of (texts (node_names (program_tree p.now))) x → kinds.now ≡ map (flow_kinds (program_tree p.now)) (program_tree p.now).nodes → result ≡ first (observer_faults (program_tree p.now) x) }
+    ensures { (x : Identifier) → main ≡ index_of (texts (node_names (program_tree p.now))) x
+        → kinds.now ≡ map (flow_kinds (program_tree p.now)) (program_tree p.now).nodes → result ≡ first (observer_faults (program_tree p.now) x) }
 {
     let node = p.nodes.at(main);
     match kinds.get(main) {

@@ -147,7 +147,8 @@ fn made_name(timing: &Timing, at: u32, name: &Text) -> Paced
 #[inline(never)]
 fn made_binary(at: u32, op: Op, a: &Paced, b: &Paced) -> Paced
     ensures pace { result.pace ≡ clocking.binary_pace op (seen a.now.pace) (seen b.now.pace) }
-    ensures fault { (xs ys : List NameFault) → a.now.fault ≡ first xs → b.now.fault ≡ first ys → result.fault ≡ first (clash_in at (clocking.binary_pace op (seen a.now.pace) (seen b.now.pace)) ++ (xs ++ ys)) }
+    ensures fault { (xs ys : List NameFault) → a.now.fault ≡ first xs → b.now.fault ≡ first ys
+        → result.fault ≡ first (clash_in at (clocking.binary_pace op (seen a.now.pace) (seen b.now.pace)) ++ (xs ++ ys)) }
 {
     let pace = of_binary(op, as_seen(a.pace), as_seen(b.pace));
     made(at, pace, sooner_of(a.fault, b.fault))
@@ -157,7 +158,8 @@ fn made_binary(at: u32, op: Op, a: &Paced, b: &Paced) -> Paced
 #[inline(never)]
 fn made_if(at: u32, a: &Paced, b: &Paced, c: &Paced) -> Paced
     ensures pace { result.pace ≡ meet (seen a.now.pace) (meet (seen b.now.pace) (seen c.now.pace)) }
-    ensures fault { (xs ys zs : List NameFault) → a.now.fault ≡ first xs → b.now.fault ≡ first ys → c.now.fault ≡ first zs → result.fault ≡ first (clash_in at (meet (seen a.now.pace) (meet (seen b.now.pace) (seen c.now.pace))) ++ (xs ++ (ys ++ zs))) }
+    ensures fault { (xs ys zs : List NameFault) → a.now.fault ≡ first xs → b.now.fault ≡ first ys → c.now.fault ≡ first zs
+        → result.fault ≡ first (clash_in at (meet (seen a.now.pace) (meet (seen b.now.pace) (seen c.now.pace))) ++ (xs ++ (ys ++ zs))) }
 {
     let pace = met(as_seen(a.pace), met(as_seen(b.pace), as_seen(c.pace)));
     made(at, pace, sooner_of(a.fault, sooner_of(b.fault, c.fault)))
@@ -167,7 +169,8 @@ fn made_if(at: u32, a: &Paced, b: &Paced, c: &Paced) -> Paced
 #[inline(never)]
 fn made_when(timing: &Timing, at: u32, a: &Paced, clock: &Text) -> Paced
     ensures pace { result.pace ≡ clocking.when_pace (node_tree timing.now.node.now) (seen a.now.pace) (site_of (node_tree timing.now.node.now) clock.now) }
-    ensures fault { (xs : List NameFault) → a.now.fault ≡ first xs → result.fault ≡ first (clash_in at (clocking.when_pace (node_tree timing.now.node.now) (seen a.now.pace) (site_of (node_tree timing.now.node.now) clock.now)) ++ xs) }
+    ensures fault { (xs : List NameFault) → a.now.fault ≡ first xs → result.fault ≡ first
+        (clash_in at (clocking.when_pace (node_tree timing.now.node.now) (seen a.now.pace) (site_of (node_tree timing.now.node.now) clock.now)) ++ xs) }
 {
     made(at, of_when(timing, as_seen(a.pace), clock), a.fault)
 }
@@ -212,7 +215,8 @@ pub fn pace_of(timing: &Timing, e: &Expr) -> Paced
 #[inline(never)]
 fn pace_of_kept(timing: &Timing, at: u32, a: &Expr) -> Paced
     ensures pace { result.pace ≡ seen (clocking.pace (node_tree timing.now.node.now) (tree_of a.now)) }
-    ensures fault { result.fault ≡ first (clash_in at (seen (clocking.pace (node_tree timing.now.node.now) (tree_of a.now))) ++ expression_clocks (node_tree timing.now.node.now) (tree_of a.now)) }
+    ensures fault { result.fault ≡ first (clash_in at (seen (clocking.pace (node_tree timing.now.node.now) (tree_of a.now)))
+        ++ expression_clocks (node_tree timing.now.node.now) (tree_of a.now)) }
 {
     let a = pace_of(timing, a);
     made(at, as_seen(a.pace), a.fault)
@@ -223,7 +227,8 @@ fn pace_of_kept(timing: &Timing, at: u32, a: &Expr) -> Paced
 #[inline(never)]
 fn pace_of_pre(timing: &Timing, at: u32, a: &Expr) -> Paced
     ensures pace { result.pace ≡ grounded (seen (clocking.pace (node_tree timing.now.node.now) (tree_of a.now))) }
-    ensures fault { result.fault ≡ first (clash_in at (grounded (seen (clocking.pace (node_tree timing.now.node.now) (tree_of a.now)))) ++ expression_clocks (node_tree timing.now.node.now) (tree_of a.now)) }
+    ensures fault { result.fault ≡ first (clash_in at (grounded (seen (clocking.pace (node_tree timing.now.node.now) (tree_of a.now))))
+        ++ expression_clocks (node_tree timing.now.node.now) (tree_of a.now)) }
 {
     let a = pace_of(timing, a);
     made(at, on_ground(as_seen(a.pace)), a.fault)
@@ -234,7 +239,8 @@ fn pace_of_pre(timing: &Timing, at: u32, a: &Expr) -> Paced
 #[inline(never)]
 fn pace_of_current(timing: &Timing, at: u32, a: &Expr) -> Paced
     ensures pace { result.pace ≡ clocking.current_pace (node_tree timing.now.node.now) (seen (clocking.pace (node_tree timing.now.node.now) (tree_of a.now))) }
-    ensures fault { result.fault ≡ first (clash_in at (clocking.current_pace (node_tree timing.now.node.now) (seen (clocking.pace (node_tree timing.now.node.now) (tree_of a.now)))) ++ expression_clocks (node_tree timing.now.node.now) (tree_of a.now)) }
+    ensures fault { result.fault ≡ first (clash_in at (clocking.current_pace (node_tree timing.now.node.now)
+        (seen (clocking.pace (node_tree timing.now.node.now) (tree_of a.now)))) ++ expression_clocks (node_tree timing.now.node.now) (tree_of a.now)) }
 {
     let a = pace_of(timing, a);
     made(at, of_current(timing, as_seen(a.pace)), a.fault)
@@ -245,7 +251,8 @@ fn pace_of_current(timing: &Timing, at: u32, a: &Expr) -> Paced
 #[inline(never)]
 fn pace_of_operands(timing: &Timing, at: u32, es: &[Expr]) -> Paced
     ensures pace { result.pace ≡ clocking.pace_of_all (node_tree timing.now.node.now) (trees (map tree_of es.now)) }
-    ensures fault { result.fault ≡ first (clash_in at (clocking.pace_of_all (node_tree timing.now.node.now) (trees (map tree_of es.now))) ++ faults_of_all (own_clash (node_tree timing.now.node.now)) (trees (map tree_of es.now))) }
+    ensures fault { result.fault ≡ first (clash_in at (clocking.pace_of_all (node_tree timing.now.node.now) (trees (map tree_of es.now)))
+        ++ faults_of_all (own_clash (node_tree timing.now.node.now)) (trees (map tree_of es.now))) }
 {
     let all = pace_of_all(timing, es);
     made(at, all.pace, all.fault)
@@ -256,7 +263,8 @@ fn pace_of_operands(timing: &Timing, at: u32, es: &[Expr]) -> Paced
 #[inline(never)]
 fn pace_of_call(timing: &Timing, at: u32, es: &[Expr]) -> Paced
     ensures pace { result.pace ≡ grounded (clocking.pace_of_all (node_tree timing.now.node.now) (trees (map tree_of es.now))) }
-    ensures fault { result.fault ≡ first (clash_in at (grounded (clocking.pace_of_all (node_tree timing.now.node.now) (trees (map tree_of es.now)))) ++ faults_of_all (own_clash (node_tree timing.now.node.now)) (trees (map tree_of es.now))) }
+    ensures fault { result.fault ≡ first (clash_in at (grounded (clocking.pace_of_all (node_tree timing.now.node.now) (trees (map tree_of es.now))))
+        ++ faults_of_all (own_clash (node_tree timing.now.node.now)) (trees (map tree_of es.now))) }
 {
     let all = pace_of_all(timing, es);
     made(at, on_ground(all.pace), all.fault)

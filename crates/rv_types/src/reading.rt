@@ -71,7 +71,8 @@ pub fn program_tables(alloc: Global, p: &Program) -> Result<ProgramTables, Memor
 
 /// The tables of a node, whose flows have different names.
 pub fn node_tables(alloc: Global, tables: &ProgramTables, node: &Node) -> Result<NodeTables, Memory>
-    ensures scope { (p : ProgramTree) → AreTables p tables.now → repeated [] (flow_names (node_tree node.now)) ≡ [] → IfOk result (λ n. scope_of (view_of tables.now n) ≡ node_scope p (node_tree node.now)) }
+    ensures scope { (p : ProgramTree) → AreTables p tables.now → repeated [] (flow_names (node_tree node.now)) ≡ []
+        → IfOk result (λ n. scope_of (view_of tables.now n) ≡ node_scope p (node_tree node.now)) }
     ensures flows { repeated [] (flow_names (node_tree node.now)) ≡ [] → IfOk result (λ n. texts n.flows ≡ flows (node_tree node.now)) }
 {
     let flows = flows_of(alloc, node)?.space;

@@ -93,7 +93,8 @@ impl<'a> NodeClocks<'a> {
 
     /// The same of the arguments of a call together.
     pub fn told_pace_of_arguments(&self, arguments: &[Expr]) -> Pace
-        ensures whole { IsTimed (pace_of_all (node_tree self.now.node.now) (trees (map tree_of arguments.now))) → result ≡ pace_of_all (node_tree self.now.node.now) (trees (map tree_of arguments.now)) }
+        ensures whole { IsTimed (pace_of_all (node_tree self.now.node.now) (trees (map tree_of arguments.now)))
+            → result ≡ pace_of_all (node_tree self.now.node.now) (trees (map tree_of arguments.now)) }
         ensures told { result ≡ told.told_pace_of_all (node_tree self.now.node.now) (trees (map tree_of arguments.now)) }
     {
         told_by_all(&self.timing(), arguments)

@@ -145,7 +145,8 @@ pub fn constant_binary(op: Op, a: &Option<Weighed>, b: &Option<Weighed>) -> Opti
     requires a { IsKnownBound a.now }
     requires b { IsKnownBound b.now }
     ensures bound { IsKnownBound result }
-    ensures value { (s : Scope) (known : Identifier → AnyValue) (x y : Tree) → a.now ≡ constant_part s known x → b.now ≡ constant_part s known y → result ≡ constant_form s known (Binary op x y) }
+    ensures value { (s : Scope) (known : Identifier → AnyValue) (x y : Tree) → a.now ≡ constant_part s known x → b.now ≡ constant_part s known y
+        → result ≡ constant_form s known (Binary op x y) }
 {
     match op {
         Op::Arrow => None,
@@ -169,7 +170,8 @@ pub fn constant_if(
     requires a { IsKnownBound a.now }
     requires b { IsKnownBound b.now }
     ensures bound { IsKnownBound result }
-    ensures value { (s : Scope) (known : Identifier → AnyValue) (i x y : Tree) → condition.now ≡ constant_part s known i → a.now ≡ constant_part s known x → b.now ≡ constant_part s known y → result ≡ constant_form s known (If i x y) }
+    ensures value { (s : Scope) (known : Identifier → AnyValue) (i x y : Tree) → condition.now ≡ constant_part s known i → a.now ≡ constant_part s known x
+        → b.now ≡ constant_part s known y → result ≡ constant_form s known (If i x y) }
 {
     match condition {
         None => None,
@@ -232,7 +234,8 @@ impl Trues {
     #[inline(never)]
     pub fn at_most_one(self) -> Option<Weighed>
         ensures bound { IsKnownBound result }
-        ensures value { (s : Scope) (known : Identifier → AnyValue) (es : Trees) → self ≡ trues_over s known no_trues es → result ≡ constant_form s known (AtMostOne es) }
+        ensures value { (s : Scope) (known : Identifier → AnyValue) (es : Trees) → self ≡ trues_over s known no_trues es
+            → result ≡ constant_form s known (AtMostOne es) }
     {
         if self.constant {
             Some(of_flag(!self.several))

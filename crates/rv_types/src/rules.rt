@@ -1,7 +1,8 @@
 //! The rules of types, one function for each.
 
 ghost use Rattle.std.specs.Prelude.{◌≡◌, ◌&&◌, cond, Some, None};
-ghost use Rattle.rv_types.specs.Types.{same_kind, where_met, one_of, two_of, three_of, both_are, binary_rule, not_rule, minus_rule, memory_rule, when_of, if_rule, suits, sole, kind_in, fault_in};
+ghost use Rattle.rv_types.specs.Types.{same_kind, where_met, one_of, two_of, three_of, both_are, binary_rule, not_rule, minus_rule, memory_rule, when_of};
+ghost use Rattle.rv_types.specs.Types.{if_rule, suits, sole, kind_in, fault_in};
 ghost use Rattle.rv_types.specs.Scopes.{clash_unless};
 ghost use Rattle.rv_types.specs.Earliest.{first};
 ghost use Rattle.rv_types.specs.declared.fault.Verdict.TheVariants.{Has, Silent, Clashes, Multiplies};

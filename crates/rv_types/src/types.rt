@@ -47,8 +47,11 @@ fn node_types(
     nodes: &Nodes,
     node: &Node,
 ) -> Result<NodeTypes, Memory>
-    ensures kinds { (p : ProgramTree) → AreTablesOf p globals.now.types.now globals.now.type_kinds.now globals.now.constants.now globals.now.labels.now globals.now.places.now → IfOk result (λ t. t.kinds ≡ flow_kinds p (node_tree node.now)) }
-    ensures fault { (p : ProgramTree) → AreTablesOf p globals.now.types.now globals.now.type_kinds.now globals.now.constants.now globals.now.labels.now globals.now.places.now → AreNodeTablesOf p nodes.now.constant_kinds.now nodes.now.names.now nodes.now.signatures.now → repeated [] (flow_names (node_tree node.now)) ≡ [] → IfOk result (λ t. t.fault ≡ first (types_in_node p (node_tree node.now))) }
+    ensures kinds { (p : ProgramTree) → AreTablesOf p globals.now.types.now globals.now.type_kinds.now globals.now.constants.now globals.now.labels.now
+        globals.now.places.now → IfOk result (λ t. t.kinds ≡ flow_kinds p (node_tree node.now)) }
+    ensures fault { (p : ProgramTree) → AreTablesOf p globals.now.types.now globals.now.type_kinds.now globals.now.constants.now globals.now.labels.now
+        globals.now.places.now → AreNodeTablesOf p nodes.now.constant_kinds.now nodes.now.names.now nodes.now.signatures.now
+        → repeated [] (flow_names (node_tree node.now)) ≡ [] → IfOk result (λ t. t.fault ≡ first (types_in_node p (node_tree node.now))) }
 {
     let Flows { space, fault: _ } = flows_of(alloc, node)?;
     let kinds = flow_kinds(alloc, globals.types, globals.type_kinds, node)?;
@@ -82,7 +85,8 @@ fn flow_types(
     globals: &Globals,
     nodes: &Nodes,
 ) -> Result<FlowTypes, Memory>
-    requires tables { AreTablesOf (program_tree p.now) globals.now.types.now globals.now.type_kinds.now globals.now.constants.now globals.now.labels.now globals.now.places.now }
+    requires tables { AreTablesOf (program_tree p.now) globals.now.types.now globals.now.type_kinds.now globals.now.constants.now globals.now.labels.now
+        globals.now.places.now }
     requires node_tables { AreNodeTablesOf (program_tree p.now) nodes.now.constant_kinds.now nodes.now.names.now nodes.now.signatures.now }
     requires names { name_faults (program_tree p.now) ≡ [] }
     ensures kinds { IfOk result (λ t. t.kinds ≡ map (flow_kinds (program_tree p.now)) (program_tree p.now).nodes) }

@@ -3,7 +3,8 @@
 ghost use Rattle.std.specs.Prelude.{◌≡◌, ◌||◌, ◌&&◌, ◌++◌, ◌+◌, ◌<◌, List, Option, map, [], true, false, is_some, length, nat_le, ◌^◌};
 ghost use Rattle.std.specs.Option.{option_copied};
 ghost use Rattle.rv_tree.specs.Tree.{tree_of, trees};
-ghost use Rattle.rv_types.specs.Types.{verdict, is_constant, is_constant_form, are_constant, form_verdict, when_of, expression_types, own_type_fault, kinds_of_all, all_typed, all_suit, fit, suits, kind_in, fault_in, two_of, three_of, binary_rule, if_rule, call_of};
+ghost use Rattle.rv_types.specs.Types.{verdict, is_constant, is_constant_form, are_constant, form_verdict, when_of, expression_types, own_type_fault};
+ghost use Rattle.rv_types.specs.Types.{kinds_of_all, all_typed, all_suit, fit, suits, kind_in, fault_in, two_of, three_of, binary_rule, if_rule, call_of};
 ghost use Rattle.rv_types.specs.Parts.{faults_of_all, faults_below};
 ghost use Rattle.rv_tree.specs.Tree.{Named, Not, Minus, Pre, AtMostOne, Call};
 ghost use Rattle.rv_types.specs.Tables.{scope_of, takes_in, suits_at, stays_constant};
@@ -75,7 +76,8 @@ fn made(at: u32, verdict: Verdict, constant: bool, below: Option<NameFault>) -> 
 fn made_binary(at: u32, moves: bool, op: Op, a: &Judged, b: &Judged) -> Judged
     ensures verdict { result.verdict ≡ two_of (binary_rule moves (a.now.constant || b.now.constant) op) (kind_in a.now.verdict) (kind_in b.now.verdict) }
     ensures constant { result.constant ≡ stays_constant op a.now.constant b.now.constant }
-    ensures fault { (xs ys : List NameFault) → a.now.fault ≡ first xs → b.now.fault ≡ first ys → result.fault ≡ first (fault_in at result.verdict ++ (xs ++ ys)) }
+    ensures fault { (xs ys : List NameFault) → a.now.fault ≡ first xs → b.now.fault ≡ first ys
+        → result.fault ≡ first (fault_in at result.verdict ++ (xs ++ ys)) }
 {
     let scaled = a.constant || b.constant;
     let constant = match op {
@@ -90,7 +92,8 @@ fn made_binary(at: u32, moves: bool, op: Op, a: &Judged, b: &Judged) -> Judged
 fn made_if(at: u32, a: &Judged, b: &Judged, c: &Judged) -> Judged
     ensures verdict { result.verdict ≡ three_of if_rule (kind_in a.now.verdict) (kind_in b.now.verdict) (kind_in c.now.verdict) }
     ensures constant { result.constant ≡ (a.now.constant && (b.now.constant && c.now.constant)) }
-    ensures fault { (xs ys zs : List NameFault) → a.now.fault ≡ first xs → b.now.fault ≡ first ys → c.now.fault ≡ first zs → result.fault ≡ first (fault_in at result.verdict ++ (xs ++ (ys ++ zs))) }
+    ensures fault { (xs ys zs : List NameFault) → a.now.fault ≡ first xs → b.now.fault ≡ first ys → c.now.fault ≡ first zs
+        → result.fault ≡ first (fault_in at result.verdict ++ (xs ++ (ys ++ zs))) }
 {
     let verdict = of_if(a.kind(), b.kind(), c.kind());
     let constant = a.constant && (b.constant && c.constant);
@@ -104,7 +107,8 @@ fn made_if(at: u32, a: &Judged, b: &Judged, c: &Judged) -> Judged
 
 /// The rule of a call, of what is found of its arguments. In a constant it always clashes.
 pub fn of_call(moves: bool, signature: Option<&Signature>, arguments: &Operands) -> Verdict
-    ensures { (ks : List (Option AnyKind)) → arguments.now.typed ≡ all_typed ks → arguments.now.fit ≡ fit (takes_in (option_copied signature.entry)) ks → result ≡ call_of moves (option_copied signature.entry) ks }
+    ensures { (ks : List (Option AnyKind)) → arguments.now.typed ≡ all_typed ks → arguments.now.fit ≡ fit (takes_in (option_copied signature.entry)) ks
+        → result ≡ call_of moves (option_copied signature.entry) ks }
 {
     if !moves {
         return if arguments.typed {
@@ -130,7 +134,9 @@ pub fn of_call(moves: bool, signature: Option<&Signature>, arguments: &Operands)
 #[inline(never)]
 fn made_call(at: u32, view: &View, name: &Text, arguments: &Operands) -> Judged
     ensures constant { result.constant ≡ false }
-    ensures verdict { (ks : List (Option AnyKind)) → arguments.now.typed ≡ all_typed ks → arguments.now.fit ≡ fit (takes_in ((scope_of view.now).callee name.now)) ks → result.verdict ≡ call_of (scope_of view.now).moves ((scope_of view.now).callee name.now) ks }
+    ensures verdict { (ks : List (Option AnyKind)) → arguments.now.typed ≡ all_typed ks
+        → arguments.now.fit ≡ fit (takes_in ((scope_of view.now).callee name.now)) ks
+        → result.verdict ≡ call_of (scope_of view.now).moves ((scope_of view.now).callee name.now) ks }
     ensures fault { (xs : List NameFault) → arguments.now.fault ≡ first xs → result.fault ≡ first (fault_in at result.verdict ++ xs) }
 {
     let verdict = of_call(view.moves(), view.callee(name), arguments);
@@ -214,7 +220,8 @@ fn judge_memory(view: &View, at: u32, a: &Expr) -> Judged
 fn judge_at_most_one(view: &View, at: u32, es: &[Expr]) -> Judged
     ensures verdict { result.verdict ≡ form_verdict (scope_of view.now) (AtMostOne (trees (map tree_of es.now))) }
     ensures constant { result.constant ≡ is_constant_form (scope_of view.now) (AtMostOne (trees (map tree_of es.now))) }
-    ensures fault { result.fault ≡ first (fault_in at result.verdict ++ faults_below (own_type_fault (scope_of view.now)) (AtMostOne (trees (map tree_of es.now)))) }
+    ensures fault { result.fault ≡ first (fault_in at result.verdict ++ faults_below (own_type_fault (scope_of view.now))
+        (AtMostOne (trees (map tree_of es.now)))) }
 {
     let all = judge_all(view, &[], es);
     made(
@@ -230,7 +237,8 @@ fn judge_at_most_one(view: &View, at: u32, es: &[Expr]) -> Judged
 fn judge_call(view: &View, at: u32, name: &Text, es: &[Expr]) -> Judged
     ensures verdict { result.verdict ≡ form_verdict (scope_of view.now) (Call name.now (trees (map tree_of es.now))) }
     ensures constant { result.constant ≡ is_constant_form (scope_of view.now) (Call name.now (trees (map tree_of es.now))) }
-    ensures fault { result.fault ≡ first (fault_in at result.verdict ++ faults_below (own_type_fault (scope_of view.now)) (Call name.now (trees (map tree_of es.now)))) }
+    ensures fault { result.fault ≡ first (fault_in at result.verdict ++ faults_below (own_type_fault (scope_of view.now))
+        (Call name.now (trees (map tree_of es.now)))) }
 {
     let arguments = judge_all(view, wanted_by(view, name), es);
     made_call(at, view, name, &arguments)

@@ -2,7 +2,8 @@
 
 ghost use Rattle.std.specs.Prelude.{◌≡◌, ◌≤◌, ◌&&◌, ◌||◌, min, max, cond, ℕ, nat_abs, map};
 ghost use Rattle.rv_tree.specs.Tree.{tree_of, trees, Named, Not, Minus};
-ghost use Rattle.rv_types.specs.Constants.{flag_in, whole_in, weight_of, form_weight, value_of, form_value, value_under, weight_under, counted_part, flags_of_all, at_most_one};
+ghost use Rattle.rv_types.specs.Constants.{flag_in, whole_in, weight_of, form_weight, value_of, form_value, value_under, weight_under, counted_part};
+ghost use Rattle.rv_types.specs.Constants.{flags_of_all, at_most_one};
 ghost use Rattle.rv_types.specs.Tables.{entry_in};
 ghost use Rattle.rv_base.specs.Limits.{too_heavy};
 ghost use Rattle.rv_types.specs.ValueTables.{value_of_label, value_or, known_in, AreSmall};
@@ -52,8 +53,10 @@ pub fn value_named(known: &Known, name: &Text) -> Value
 #[inline(never)]
 fn of_name(known: &Known, name: &Text) -> Weighed
     requires { AreSmall (known_in known.now.constants.now known.now.values.now known.now.labels.now known.now.places.now) }
-    ensures value { result.value ≡ form_value (known_in known.now.constants.now known.now.values.now known.now.labels.now known.now.places.now) (Named name.now) }
-    ensures weight { result.weight ≡ min (form_weight (known_in known.now.constants.now known.now.values.now known.now.labels.now known.now.places.now) (Named name.now)) too_heavy }
+    ensures value { result.value ≡ form_value (known_in known.now.constants.now known.now.values.now known.now.labels.now known.now.places.now)
+        (Named name.now) }
+    ensures weight { result.weight ≡ min (form_weight (known_in known.now.constants.now known.now.values.now known.now.labels.now known.now.places.now)
+        (Named name.now)) too_heavy }
     ensures bound { nat_abs (whole_in result.value) ≤ result.weight }
 {
     of_known(value_named(known, name))
@@ -73,8 +76,10 @@ fn is_true(known: &Known, e: &Expr) -> bool
 #[inline(never)]
 fn evaluate_not(known: &Known, a: &Expr) -> Weighed
     requires { AreSmall (known_in known.now.constants.now known.now.values.now known.now.labels.now known.now.places.now) }
-    ensures value { result.value ≡ form_value (known_in known.now.constants.now known.now.values.now known.now.labels.now known.now.places.now) (Not (tree_of a.now)) }
-    ensures weight { result.weight ≡ min (form_weight (known_in known.now.constants.now known.now.values.now known.now.labels.now known.now.places.now) (Not (tree_of a.now))) too_heavy }
+    ensures value { result.value ≡ form_value (known_in known.now.constants.now known.now.values.now known.now.labels.now known.now.places.now)
+        (Not (tree_of a.now)) }
+    ensures weight { result.weight ≡ min (form_weight (known_in known.now.constants.now known.now.values.now known.now.labels.now known.now.places.now)
+        (Not (tree_of a.now))) too_heavy }
     ensures bound { nat_abs (whole_in result.value) ≤ result.weight }
 {
     of_flag(!is_true(known, a))
@@ -84,8 +89,10 @@ fn evaluate_not(known: &Known, a: &Expr) -> Weighed
 #[inline(never)]
 fn evaluate_minus(known: &Known, a: &Expr) -> Weighed
     requires { AreSmall (known_in known.now.constants.now known.now.values.now known.now.labels.now known.now.places.now) }
-    ensures value { result.value ≡ form_value (known_in known.now.constants.now known.now.values.now known.now.labels.now known.now.places.now) (Minus (tree_of a.now)) }
-    ensures weight { result.weight ≡ min (form_weight (known_in known.now.constants.now known.now.values.now known.now.labels.now known.now.places.now) (Minus (tree_of a.now))) too_heavy }
+    ensures value { result.value ≡ form_value (known_in known.now.constants.now known.now.values.now known.now.labels.now known.now.places.now)
+        (Minus (tree_of a.now)) }
+    ensures weight { result.weight ≡ min (form_weight (known_in known.now.constants.now known.now.values.now known.now.labels.now known.now.places.now)
+        (Minus (tree_of a.now))) too_heavy }
     ensures bound { nat_abs (whole_in result.value) ≤ result.weight }
 {
     let a = evaluate(known, a);
@@ -99,8 +106,13 @@ fn with_right(known: &Known, op: Op, left: &Weighed, right: &Expr) -> Weighed
     requires small { AreSmall (known_in known.now.constants.now known.now.values.now known.now.labels.now known.now.places.now) }
     requires left { nat_abs (whole_in left.now.value) ≤ left.now.weight }
     requires left_small { left.now.weight ≤ too_heavy }
-    ensures value { (v : ℕ) → left.now.weight ≡ min v too_heavy → result.value ≡ value_under (weight_under op (nat_abs (whole_in left.now.value)) v (weight_of (known_in known.now.constants.now known.now.values.now known.now.labels.now known.now.places.now) (tree_of right.now))) op left.now.value (value_of (known_in known.now.constants.now known.now.values.now known.now.labels.now known.now.places.now) (tree_of right.now)) }
-    ensures weight { (v : ℕ) → left.now.weight ≡ min v too_heavy → result.weight ≡ min (weight_under op (nat_abs (whole_in left.now.value)) v (weight_of (known_in known.now.constants.now known.now.values.now known.now.labels.now known.now.places.now) (tree_of right.now))) too_heavy }
+    ensures value { (v : ℕ) → left.now.weight ≡ min v too_heavy → result.value ≡ value_under
+        (weight_under op (nat_abs (whole_in left.now.value)) v (weight_of
+        (known_in known.now.constants.now known.now.values.now known.now.labels.now known.now.places.now) (tree_of right.now))) op left.now.value
+        (value_of (known_in known.now.constants.now known.now.values.now known.now.labels.now known.now.places.now) (tree_of right.now)) }
+    ensures weight { (v : ℕ) → left.now.weight ≡ min v too_heavy → result.weight ≡ min
+        (weight_under op (nat_abs (whole_in left.now.value)) v (weight_of
+        (known_in known.now.constants.now known.now.values.now known.now.labels.now known.now.places.now) (tree_of right.now))) too_heavy }
     ensures bound { nat_abs (whole_in result.value) ≤ result.weight }
 {
     let right = evaluate(known, right);
@@ -114,8 +126,12 @@ fn with_else(known: &Known, condition: bool, yes: &Weighed, no: &Expr) -> Weighe
     requires small { AreSmall (known_in known.now.constants.now known.now.values.now known.now.labels.now known.now.places.now) }
     requires yes { nat_abs (whole_in yes.now.value) ≤ yes.now.weight }
     requires yes_small { yes.now.weight ≤ too_heavy }
-    ensures value { (v : ℕ) → yes.now.weight ≡ min v too_heavy → result.value ≡ counted_part (max v (weight_of (known_in known.now.constants.now known.now.values.now known.now.labels.now known.now.places.now) (tree_of no.now))) (cond condition yes.now.value (value_of (known_in known.now.constants.now known.now.values.now known.now.labels.now known.now.places.now) (tree_of no.now))) }
-    ensures weight { (v : ℕ) → yes.now.weight ≡ min v too_heavy → result.weight ≡ min (max v (weight_of (known_in known.now.constants.now known.now.values.now known.now.labels.now known.now.places.now) (tree_of no.now))) too_heavy }
+    ensures value { (v : ℕ) → yes.now.weight ≡ min v too_heavy → result.value ≡ counted_part
+        (max v (weight_of (known_in known.now.constants.now known.now.values.now known.now.labels.now known.now.places.now) (tree_of no.now)))
+        (cond condition yes.now.value (value_of (known_in known.now.constants.now known.now.values.now known.now.labels.now known.now.places.now)
+        (tree_of no.now))) }
+    ensures weight { (v : ℕ) → yes.now.weight ≡ min v too_heavy → result.weight ≡ min
+        (max v (weight_of (known_in known.now.constants.now known.now.values.now known.now.labels.now known.now.places.now) (tree_of no.now))) too_heavy }
     ensures bound { nat_abs (whole_in result.value) ≤ result.weight }
 {
     let no = evaluate(known, no);
@@ -130,7 +146,8 @@ fn with_else(known: &Known, condition: bool, yes: &Weighed, no: &Expr) -> Weighe
 pub fn evaluate(known: &Known, e: &Expr) -> Weighed
     requires { AreSmall (known_in known.now.constants.now known.now.values.now known.now.labels.now known.now.places.now) }
     ensures value { result.value ≡ value_of (known_in known.now.constants.now known.now.values.now known.now.labels.now known.now.places.now) (tree_of e.now) }
-    ensures weight { result.weight ≡ min (weight_of (known_in known.now.constants.now known.now.values.now known.now.labels.now known.now.places.now) (tree_of e.now)) too_heavy }
+    ensures weight { result.weight ≡ min (weight_of (known_in known.now.constants.now known.now.values.now known.now.labels.now known.now.places.now)
+        (tree_of e.now)) too_heavy }
     ensures bound { nat_abs (whole_in result.value) ≤ result.weight }
 {
     match &e.form {
@@ -181,7 +198,8 @@ pub fn seen_after(seen: Seen, flag: bool) -> Seen
 #[cycle(evaluate)]
 fn is_at_most_one(known: &Known, es: &[Expr]) -> bool
     requires { AreSmall (known_in known.now.constants.now known.now.values.now known.now.labels.now known.now.places.now) }
-    ensures { result ≡ at_most_one (flags_of_all (known_in known.now.constants.now known.now.values.now known.now.labels.now known.now.places.now) (trees (map tree_of es.now))) }
+    ensures { result ≡ at_most_one (flags_of_all (known_in known.now.constants.now known.now.values.now known.now.labels.now known.now.places.now)
+        (trees (map tree_of es.now))) }
 {
     let mut seen = Seen {
         some: false,

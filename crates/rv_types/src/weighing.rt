@@ -179,8 +179,10 @@ pub fn of_operator(op: Op, a: &Weighed, b: &Weighed) -> Weighed
     requires b { nat_abs (whole_in b.now.value) ≤ b.now.weight }
     requires a_small { a.now.weight ≤ too_heavy }
     requires b_small { b.now.weight ≤ too_heavy }
-    ensures weight { (v w : ℕ) → a.now.weight ≡ min v too_heavy → b.now.weight ≡ min w too_heavy → result.weight ≡ min (weight_under op (nat_abs (whole_in a.now.value)) v w) too_heavy }
-    ensures value { (v w : ℕ) → a.now.weight ≡ min v too_heavy → b.now.weight ≡ min w too_heavy → result.value ≡ value_under (weight_under op (nat_abs (whole_in a.now.value)) v w) op a.now.value b.now.value }
+    ensures weight { (v w : ℕ) → a.now.weight ≡ min v too_heavy → b.now.weight ≡ min w too_heavy
+        → result.weight ≡ min (weight_under op (nat_abs (whole_in a.now.value)) v w) too_heavy }
+    ensures value { (v w : ℕ) → a.now.weight ≡ min v too_heavy → b.now.weight ≡ min w too_heavy
+        → result.value ≡ value_under (weight_under op (nat_abs (whole_in a.now.value)) v w) op a.now.value b.now.value }
     ensures bound { nat_abs (whole_in result.value) ≤ result.weight }
 {
     let weight = weight_of(op, size_of_whole(whole(a.value)), a.weight, b.weight);
@@ -221,7 +223,8 @@ pub fn of_if(condition: bool, b: &Weighed, c: &Weighed) -> Weighed
     requires b_small { b.now.weight ≤ too_heavy }
     requires c_small { c.now.weight ≤ too_heavy }
     ensures weight { (v w : ℕ) → b.now.weight ≡ min v too_heavy → c.now.weight ≡ min w too_heavy → result.weight ≡ min (max v w) too_heavy }
-    ensures value { (v w : ℕ) → b.now.weight ≡ min v too_heavy → c.now.weight ≡ min w too_heavy → result.value ≡ counted_part (max v w) (cond condition b.now.value c.now.value) }
+    ensures value { (v w : ℕ) → b.now.weight ≡ min v too_heavy → c.now.weight ≡ min w too_heavy
+        → result.value ≡ counted_part (max v w) (cond condition b.now.value c.now.value) }
     ensures bound { nat_abs (whole_in result.value) ≤ result.weight }
 {
     let weight = b.weight.max(c.weight);

@@ -2,7 +2,8 @@
 
 ghost use Rattle.std.specs.Prelude.{◌≡◌, ℕ, min, max, pos, cond, not, map, reverse, nat_abs, false};
 ghost use Rattle.rv_tree.specs.Tree.{Tree, tree_of, trees, Named, Not, Minus, Binary, If, AtMostOne, program_tree};
-ghost use Rattle.rv_types.specs.Constants.{flag_in, whole_in, counted, counted_part, value_under, weight_under, value_of, weight_of, form_value, form_weight, flags_of_all, at_most_one};
+ghost use Rattle.rv_types.specs.Constants.{flag_in, whole_in, counted, counted_part, value_under, weight_under, value_of, weight_of, form_value, form_weight};
+ghost use Rattle.rv_types.specs.Constants.{flags_of_all, at_most_one};
 ghost use Rattle.rv_types.specs.ConstantParts.{IsBound};
 ghost use Rattle.rv_types.specs.Readings.{AreTables};
 ghost use Rattle.rv_types.specs.Scopes.{constant_values};
@@ -105,9 +106,12 @@ fn of_name(known: &NamedValues, at: u32, name: &Text) -> CountedPart
 /// An operator between two operands.
 #[inline(never)]
 fn of_both(at: u32, op: Op, a: &CountedPart, b: &CountedPart) -> CountedPart
-    ensures value { (v w : ℕ) → a.now.weighed.weight ≡ min v too_heavy → b.now.weighed.weight ≡ min w too_heavy → result.weighed.value ≡ value_under (weight_under op (nat_abs (whole_in a.now.weighed.value)) v w) op a.now.weighed.value b.now.weighed.value }
-    ensures weight { (v w : ℕ) → a.now.weighed.weight ≡ min v too_heavy → b.now.weighed.weight ≡ min w too_heavy → result.weighed.weight ≡ min (weight_under op (nat_abs (whole_in a.now.weighed.value)) v w) too_heavy }
-    ensures first { (v w : ℕ) → a.now.weighed.weight ≡ min v too_heavy → b.now.weighed.weight ≡ min w too_heavy → result.first ≡ lesser (wide_at at (weight_under op (nat_abs (whole_in a.now.weighed.value)) v w)) (lesser a.now.first b.now.first) }
+    ensures value { (v w : ℕ) → a.now.weighed.weight ≡ min v too_heavy → b.now.weighed.weight ≡ min w too_heavy
+        → result.weighed.value ≡ value_under (weight_under op (nat_abs (whole_in a.now.weighed.value)) v w) op a.now.weighed.value b.now.weighed.value }
+    ensures weight { (v w : ℕ) → a.now.weighed.weight ≡ min v too_heavy → b.now.weighed.weight ≡ min w too_heavy
+        → result.weighed.weight ≡ min (weight_under op (nat_abs (whole_in a.now.weighed.value)) v w) too_heavy }
+    ensures first { (v w : ℕ) → a.now.weighed.weight ≡ min v too_heavy → b.now.weighed.weight ≡ min w too_heavy
+        → result.first ≡ lesser (wide_at at (weight_under op (nat_abs (whole_in a.now.weighed.value)) v w)) (lesser a.now.first b.now.first) }
 {
     let weighed = of_operator(op, &a.weighed, &b.weighed);
     part_of(at, weighed, lesser_of(a.first, b.first))
@@ -116,9 +120,12 @@ fn of_both(at: u32, op: Op, a: &CountedPart, b: &CountedPart) -> CountedPart
 /// An `if`, of its condition and its two parts.
 #[inline(never)]
 fn of_three(at: u32, condition: &CountedPart, a: &CountedPart, b: &CountedPart) -> CountedPart
-    ensures value { (v w : ℕ) → a.now.weighed.weight ≡ min v too_heavy → b.now.weighed.weight ≡ min w too_heavy → result.weighed.value ≡ counted_part (max v w) (cond (flag_in condition.now.weighed.value) a.now.weighed.value b.now.weighed.value) }
-    ensures weight { (v w : ℕ) → a.now.weighed.weight ≡ min v too_heavy → b.now.weighed.weight ≡ min w too_heavy → result.weighed.weight ≡ min (max v w) too_heavy }
-    ensures first { (v w : ℕ) → a.now.weighed.weight ≡ min v too_heavy → b.now.weighed.weight ≡ min w too_heavy → result.first ≡ lesser (wide_at at (max v w)) (lesser condition.now.first (lesser a.now.first b.now.first)) }
+    ensures value { (v w : ℕ) → a.now.weighed.weight ≡ min v too_heavy → b.now.weighed.weight ≡ min w too_heavy
+        → result.weighed.value ≡ counted_part (max v w) (cond (flag_in condition.now.weighed.value) a.now.weighed.value b.now.weighed.value) }
+    ensures weight { (v w : ℕ) → a.now.weighed.weight ≡ min v too_heavy → b.now.weighed.weight ≡ min w too_heavy
+        → result.weighed.weight ≡ min (max v w) too_heavy }
+    ensures first { (v w : ℕ) → a.now.weighed.weight ≡ min v too_heavy → b.now.weighed.weight ≡ min w too_heavy
+        → result.first ≡ lesser (wide_at at (max v w)) (lesser condition.now.first (lesser a.now.first b.now.first)) }
 {
     let weighed = of_if(flag(condition.weighed.value), &a.weighed, &b.weighed);
     let parts = lesser_of(a.first, b.first);
@@ -129,9 +136,16 @@ fn of_three(at: u32, condition: &CountedPart, a: &CountedPart, b: &CountedPart) 
 #[cycle(count)]
 #[inline(never)]
 fn with_right(known: &NamedValues, at: u32, op: Op, left: &CountedPart, right: &Expr) -> CountedPart
-    ensures value { (x : Tree) → left.now.weighed.value ≡ value_of (value_by known.now) x → left.now.weighed.weight ≡ min (weight_of (value_by known.now) x) too_heavy → result.weighed.value ≡ form_value (value_by known.now) (Binary op x (tree_of right.now)) }
-    ensures weight { (x : Tree) → left.now.weighed.value ≡ value_of (value_by known.now) x → left.now.weighed.weight ≡ min (weight_of (value_by known.now) x) too_heavy → result.weighed.weight ≡ min (form_weight (value_by known.now) (Binary op x (tree_of right.now))) too_heavy }
-    ensures first { (x : Tree) → left.now.weighed.value ≡ value_of (value_by known.now) x → left.now.weighed.weight ≡ min (weight_of (value_by known.now) x) too_heavy → left.now.first ≡ first_wide (value_by known.now) x → result.first ≡ lesser (wide_at at (form_weight (value_by known.now) (Binary op x (tree_of right.now)))) (wide_below (value_by known.now) (Binary op x (tree_of right.now))) }
+    ensures value { (x : Tree) → left.now.weighed.value ≡ value_of (value_by known.now) x
+        → left.now.weighed.weight ≡ min (weight_of (value_by known.now) x) too_heavy
+        → result.weighed.value ≡ form_value (value_by known.now) (Binary op x (tree_of right.now)) }
+    ensures weight { (x : Tree) → left.now.weighed.value ≡ value_of (value_by known.now) x
+        → left.now.weighed.weight ≡ min (weight_of (value_by known.now) x) too_heavy
+        → result.weighed.weight ≡ min (form_weight (value_by known.now) (Binary op x (tree_of right.now))) too_heavy }
+    ensures first { (x : Tree) → left.now.weighed.value ≡ value_of (value_by known.now) x
+        → left.now.weighed.weight ≡ min (weight_of (value_by known.now) x) too_heavy → left.now.first ≡ first_wide (value_by known.now) x
+        → result.first ≡ lesser (wide_at at (form_weight (value_by known.now) (Binary op x (tree_of right.now))))
+        (wide_below (value_by known.now) (Binary op x (tree_of right.now))) }
 {
     let right = count(known, right);
     of_both(at, op, left, &right)
@@ -155,7 +169,8 @@ fn count_not(known: &NamedValues, operand: &Expr) -> CountedPart
 fn count_minus(known: &NamedValues, at: u32, operand: &Expr) -> CountedPart
     ensures value { result.weighed.value ≡ form_value (value_by known.now) (Minus (tree_of operand.now)) }
     ensures weight { result.weighed.weight ≡ min (form_weight (value_by known.now) (Minus (tree_of operand.now))) too_heavy }
-    ensures first { result.first ≡ lesser (wide_at at (form_weight (value_by known.now) (Minus (tree_of operand.now)))) (wide_below (value_by known.now) (Minus (tree_of operand.now))) }
+    ensures first { result.first ≡ lesser (wide_at at (form_weight (value_by known.now) (Minus (tree_of operand.now))))
+        (wide_below (value_by known.now) (Minus (tree_of operand.now))) }
 {
     let a = count(known, operand);
     part_of(at, of_minus(&a.weighed), a.first)
@@ -167,7 +182,8 @@ fn count_minus(known: &NamedValues, at: u32, operand: &Expr) -> CountedPart
 fn count_if(known: &NamedValues, at: u32, condition: &Expr, yes: &Expr, no: &Expr) -> CountedPart
     ensures value { result.weighed.value ≡ form_value (value_by known.now) (If (tree_of condition.now) (tree_of yes.now) (tree_of no.now)) }
     ensures weight { result.weighed.weight ≡ min (form_weight (value_by known.now) (If (tree_of condition.now) (tree_of yes.now) (tree_of no.now))) too_heavy }
-    ensures first { result.first ≡ lesser (wide_at at (form_weight (value_by known.now) (If (tree_of condition.now) (tree_of yes.now) (tree_of no.now)))) (wide_below (value_by known.now) (If (tree_of condition.now) (tree_of yes.now) (tree_of no.now))) }
+    ensures first { result.first ≡ lesser (wide_at at (form_weight (value_by known.now) (If (tree_of condition.now) (tree_of yes.now) (tree_of no.now))))
+        (wide_below (value_by known.now) (If (tree_of condition.now) (tree_of yes.now) (tree_of no.now))) }
 {
     let condition = count(known, condition);
     let yes = count(known, yes);

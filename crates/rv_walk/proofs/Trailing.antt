@@ -64,7 +64,8 @@ module _ (s : System) (first : Frozen) (sets : List Frozen) (last back : ℕ) (w
       let more : List (List Bool) = words ++ word ∷ [] in
       let longer : length more ≡ length words + 1 = length-append words (word ∷ []) in
       let old : (k : ℕ) → k < length words → get_or more k [] ≡ get_or words k [] = λ k less. get_or_append_left words (word ∷ []) [] k less in
-      let new : (k : ℕ) → length words ≡ k → get_or more k [] ≡ word = λ k e. subst (λ (n : ℕ). get_or more n [] ≡ word) e (get_or-append_seam words word [] []) in
+      let new : (k : ℕ) → length words ≡ k → get_or more k [] ≡ word = λ k e. subst (λ (n : ℕ). get_or more n [] ≡ word) e
+      (get_or-append_seam words word [] []) in
       let at_old : (k : ℕ) → k < length words → at_instant words k ≡ at_instant more k = λ k less. sym (ap valuation_of (old k less)) in
       let at_new : (k : ℕ) → length words ≡ k → valuation_of word ≡ at_instant more k = λ k e. sym (ap valuation_of (new k e)) in
       record {
@@ -93,7 +94,8 @@ module _ (s : System) (first : Frozen) (sets : List Frozen) (last back : ℕ) (w
         fails = subst (λ (v : Valuation). s.observer v ≡ false) (at_old 0 (omega arith)) t.fails;
       }
 
-  pub trail_broken : last < length sets → ((v : Valuation) → ¬ LeadsTo s (layer_at first sets (last - 1 - back)) (get_or words back []) v) → IsBroken s first sets
+  pub trail_broken : last < length sets → ((v : Valuation) → ¬ LeadsTo s (layer_at first sets (last - 1 - back)) (get_or words back []) v)
+      → IsBroken s first sets
   trail_broken within none = record {
     at = last - 1 - back;
     low = omega arith;
@@ -148,7 +150,8 @@ module _ (s : System) (first : Frozen) (sets : List Frozen) (without : HasNoInte
         };
         before = λ k less. ⊎_elim
             (λ on. on)
-            (λ off. absurd (r.failing.before k less (at_instant words k) (record { allowed = allowed k (omega arith); inside = inside k (omega arith); fails = off })))
+            (λ off. absurd (r.failing.before k less (at_instant words k)
+            (record { allowed = allowed k (omega arith); inside = inside k (omega arith); fails = off })))
             (cases_Bool (s.observer (at_instant words k)));
       }
 

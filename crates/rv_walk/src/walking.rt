@@ -200,7 +200,8 @@ fn end_of(alloc: Global, store: &mut Store, relation: &Relation) -> Result<BoxEn
 /// which is exactly where the observer is true along each run. Bad has the layers.
 pub fn walk(alloc: Global, store: &mut Store, relation: &Relation) -> Result<BoxEnd, StoreFault>
     requires { (s : System) × IsRelationOf s store.old relation.now × HasNoIntegers s }
-    ensures good { (s : System) (c : Certificate) → IsRelationOf s store.old relation.now → HasNoIntegers s → result ≡ Ok (BoxEnd.Good c) → IsGoodCertificate s c }
+    ensures good { (s : System) (c : Certificate) → IsRelationOf s store.old relation.now → HasNoIntegers s → result ≡ Ok (BoxEnd.Good c)
+        → IsGoodCertificate s c }
     ensures plain { (c : Certificate) → result ≡ Ok (BoxEnd.Good c) → ArePlain c }
     ensures bad { (s : System) (l : Layers) → IsRelationOf s store.old relation.now → HasNoIntegers s → result ≡ Ok (BoxEnd.Bad l) → AreBadLayers s l }
     ensures exactly { (s : System) (thresholds : List ℤ) → IsRelationOf s store.old relation.now → HasNoIntegers s

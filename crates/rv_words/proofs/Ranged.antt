@@ -11,7 +11,8 @@ use Rattle.clap.specs.Walk.{is_empty}
 use Rattle.rv_words.specs.Asked.{Asked, prove, check, replay, make, tour}
 use Rattle.rv_words.specs.Ranges.{HasRanges, IsUpTo}
 use Rattle.rv_words.specs.Reaver.{reaver}
-use Rattle.rv_words.specs.Words.{acceleration_of, asked_by, checking, command, count_of, digits_of, is_numeral, locations_of, names_of, nodes_of, proving, replaying}
+use Rattle.rv_words.specs.Words.{acceleration_of, asked_by, checking, command, count_of, digits_of, is_numeral, locations_of, names_of, nodes_of, proving}
+use Rattle.rv_words.specs.Words.{replaying}
 
 -- what a choice between something and none gives
 chosen : {X : Type 0} (b : Bool) (o : Option X) (x : X) → (if b then o else None) ≡ Some x → (b ≡ true) × (o ≡ Some x)
@@ -79,7 +80,8 @@ module _ (rows : List Row) (a : Asked) where
   touring-in_range e = mapped tour (count_of rows) a e (λ count there is. subst HasRanges is (count-in_range rows count there))
 
   -- one of the five, or none
-  five : (p c r m t : Bool) → (if p then proving rows else (if c then checking rows else (if r then replaying rows else (if m then option_map make (count_of rows)
+  five : (p c r m t : Bool) → (if p then proving rows else (if c then checking rows else
+      (if r then replaying rows else (if m then option_map make (count_of rows)
       else (if t then option_map tour (count_of rows) else None))))) ≡ Some a → HasRanges a
   five true c r m t e = proving-in_range e
   five false true r m t e = checking-in_range e
@@ -90,10 +92,12 @@ module _ (rows : List Row) (a : Asked) where
 
   pub asked-in_range : (name : Text) → asked_by name rows ≡ Some a → HasRanges a
   asked-in_range name e =
-      five (bytes_eq name (codes "prove")) (bytes_eq name (codes "check")) (bytes_eq name (codes "replay")) (bytes_eq name (codes "make")) (bytes_eq name (codes "tour")) e
+      five (bytes_eq name (codes "prove")) (bytes_eq name (codes "check")) (bytes_eq name (codes "replay")) (bytes_eq name (codes "make"))
+      (bytes_eq name (codes "tour")) e
 
 pub command-in_range : (words : List Text) (a : Asked) → command words ≡ Some a → HasRanges a
 command-in_range words a e =
-    let parts = chosen (is_empty (fault_of reaver words)) (option_and_then (λ (found : Text × List Row). asked_by found.0 found.1) (subcommand_of reaver words)) a e in
+    let parts = chosen (is_empty (fault_of reaver words)) (option_and_then (λ (found : Text × List Row). asked_by found.0 found.1) (subcommand_of reaver words))
+    a e in
     option_and_then_some (λ (found : Text × List Row). asked_by found.0 found.1) (subcommand_of reaver words) a parts.1
     (λ found there is. asked-in_range found.1 a found.0 is)

@@ -9,7 +9,8 @@ use Rattle.rv_syntax.proofs.Shallow.{left}
 use Rattle.rv_syntax.proofs.Expressions.{read-whole}
 use Rattle.rv_syntax.proofs.clock_is_no_call.Goals as goal
 
-stops : (a b : Name) (at up : ℕ) (more : List Token) → run (Want []) (name_token a ∷ fixed mark.When at ∷ name_token b ∷ fixed mark.Open up ∷ more) ≡ Ok (Sampled at (Just (Called a.text) a.at) b, fixed mark.Open up ∷ more)
+stops : (a b : Name) (at up : ℕ) (more : List Token) → run (Want []) (name_token a ∷ fixed mark.When at ∷ name_token b ∷ fixed mark.Open up ∷ more) ≡ Ok
+    (Sampled at (Just (Called a.text) a.at) b, fixed mark.Open up ∷ more)
 unfolding run
 stops a b at up more = refl
 

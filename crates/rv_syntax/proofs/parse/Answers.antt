@@ -22,7 +22,8 @@ pub returns-in_err-program-clause-only : goal.returns-in_err-program-clause-only
 returns-in_err-program-clause-only c = only-tree program IsEndOfText refl Exact-program c.args.bytes.now c.from_residual-in_err-program.result (refused c)
 
 pub returns-in_err-program-clause-only_offending : goal.returns-in_err-program-clause-only_offending
-returns-in_err-program-clause-only_offending c = only-fault program IsEndOfText refl Exact-program c.args.bytes.now c.from_residual-in_err-program.result (refused c)
+returns-in_err-program-clause-only_offending c = only-fault program IsEndOfText refl Exact-program c.args.bytes.now c.from_residual-in_err-program.result
+    (refused c)
 
 pub with_program_sites-requires : goal.with_program_sites-requires
 with_program_sites-requires c =

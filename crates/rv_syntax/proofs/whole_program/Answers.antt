@@ -15,7 +15,8 @@ fault_of-requires c =
     omega (arith, e.0, c.in-Err-Token.left-is, h)
 
 pub returns-in-Ok-clause-found : goal.returns-in-Ok-clause-found
-returns-in-Ok-clause-found c = ap program (sym c.new-parser.ensures) ∙ c.in-Ok.ensures.reads ∙ ap (λ rest. Ok (program_tree c.in-Ok.program, rest)) c.in-Ok.ensures.whole
+returns-in-Ok-clause-found c = ap program (sym c.new-parser.ensures) ∙ c.in-Ok.ensures.reads
+    ∙ ap (λ rest. Ok (program_tree c.in-Ok.program, rest)) c.in-Ok.ensures.whole
 
 pub returns-in-Err-Token-clause-refused : goal.returns-in-Err-Token-clause-refused
 returns-in-Err-Token-clause-refused c =
@@ -23,4 +24,5 @@ returns-in-Err-Token-clause-refused c =
     let e = rw c.in-Err-Token.field-0-is at c.in-Err-Token.ensures.reads in
     let short = ap (λ r. shortfall (program r)) (sym c.new-parser.ensures) ∙ ap shortfall e.1 in
     told program IsEndOfText refl Exact-program c.args.tokens.now c.args.len c.in-Err-Token.why rest c.fault_of.result short
-    (λ front after spelled n. c.fault_of.ensures front after spelled (n ∙ sym e.0 ∙ sym c.in-Err-Token.left-is) ∙ ap (λ w. fault_at front after w c.args.len) c.in-Err-Token.why-is)
+    (λ front after spelled n. c.fault_of.ensures front after spelled (n ∙ sym e.0 ∙ sym c.in-Err-Token.left-is)
+    ∙ ap (λ w. fault_at front after w c.args.len) c.in-Err-Token.why-is)

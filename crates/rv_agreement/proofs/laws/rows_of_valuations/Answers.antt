@@ -8,7 +8,8 @@ returns-clause-some c = λ columns test t side present.
     (tight.0, (present, tight.1))
 
 pub returns-clause-one : goal.returns-clause-one
-returns-clause-one c = λ columns test t side a b one other. c.tightened_rows.ensures.one (test_row (test t.at side) (tested_form columns test t side)) a b one.1 other.1
+returns-clause-one c = λ columns test t side a b one other. c.tightened_rows.ensures.one (test_row (test t.at side) (tested_form columns test t side)) a b one.1
+    other.1
 
 pub returns-clause-tight : goal.returns-clause-tight
 returns-clause-tight c = λ columns test t side r is. c.tightened_rows.ensures.tight (test_row (test t.at side) (tested_form columns test t side)) r is.1

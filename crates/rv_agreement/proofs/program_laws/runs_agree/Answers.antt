@@ -35,7 +35,8 @@ returns-clause-alike c = λ program main numbers s starts inputs n h t state v w
   instant = c.run_is_instants.ensures.instant;
   typed = c.typed_instants.ensures.memories;
 })
-    program main numbers s system (c.defined_flows.ensures program main well node) well node starts inputs n h run keeps t lt state is v w first second one other
+    program main numbers s system (c.defined_flows.ensures program main well node) well node starts inputs n h run keeps t lt state is v w first second one
+    other
 
 pub returns-clause-gives : goal.returns-clause-gives
 returns-clause-gives c = λ program main numbers s starts inputs n h t state next v symbolic well node system keeps run lt is next_is agreed. gives_at (record {
@@ -53,43 +54,48 @@ returns-clause-gives c = λ program main numbers s starts inputs n h t state nex
   instant = c.run_is_instants.ensures.instant;
   typed = c.typed_instants.ensures.memories;
 })
-    program main numbers s system (c.defined_flows.ensures program main well node) well node starts inputs n h run keeps t lt state is next next_is v symbolic agreed
+    program main numbers s system (c.defined_flows.ensures program main well node) well node starts inputs n h run keeps t lt state is next next_is v symbolic
+    agreed
 
 pub returns-clause-leads : goal.returns-clause-leads
-returns-clause-leads c = λ program main numbers s starts inputs n h t state next later v w symbolic after well node system keeps run lt is next_is agreed other. leads_at (record {
-  constants = c.forms_at_points.ensures.constants;
-  columns = c.forms_at_points.ensures.columns;
-  sums = c.forms_at_points.ensures.sums;
-  multiples = c.forms_at_points.ensures.multiples;
-  tests = c.rows_of_tests.ensures;
-  some_tightened = c.tightened_rows.ensures.some;
-  same_points = c.tightened_rows.ensures.same_points;
-}) (record {
-  some = c.states_of_run.ensures.some;
-  start = c.states_of_run.ensures.start;
-  next = c.states_of_run.ensures.next;
-  instant = c.run_is_instants.ensures.instant;
-  typed = c.typed_instants.ensures.memories;
-})
-    program main numbers s system (c.defined_flows.ensures program main well node) well node starts inputs n h run keeps t lt state is next next_is v symbolic agreed w after later other
+returns-clause-leads c = λ program main numbers s starts inputs n h t state next later v w symbolic after well node system keeps run lt is next_is agreed other.
+    leads_at (record {
+      constants = c.forms_at_points.ensures.constants;
+      columns = c.forms_at_points.ensures.columns;
+      sums = c.forms_at_points.ensures.sums;
+      multiples = c.forms_at_points.ensures.multiples;
+      tests = c.rows_of_tests.ensures;
+      some_tightened = c.tightened_rows.ensures.some;
+      same_points = c.tightened_rows.ensures.same_points;
+    }) (record {
+      some = c.states_of_run.ensures.some;
+      start = c.states_of_run.ensures.start;
+      next = c.states_of_run.ensures.next;
+      instant = c.run_is_instants.ensures.instant;
+      typed = c.typed_instants.ensures.memories;
+    })
+    program main numbers s system (c.defined_flows.ensures program main well node) well node starts inputs n h run keeps t lt state is next next_is v symbolic
+    agreed w after later other
 
 pub returns-clause-updates : goal.returns-clause-updates
-returns-clause-updates c = λ program main numbers s starts inputs n h t state next v symbolic after well node system keeps run lt is next_is agreed updated. updates_at (record {
-  constants = c.forms_at_points.ensures.constants;
-  columns = c.forms_at_points.ensures.columns;
-  sums = c.forms_at_points.ensures.sums;
-  multiples = c.forms_at_points.ensures.multiples;
-  tests = c.rows_of_tests.ensures;
-  some_tightened = c.tightened_rows.ensures.some;
-  same_points = c.tightened_rows.ensures.same_points;
-}) (record {
-  some = c.states_of_run.ensures.some;
-  start = c.states_of_run.ensures.start;
-  next = c.states_of_run.ensures.next;
-  instant = c.run_is_instants.ensures.instant;
-  typed = c.typed_instants.ensures.memories;
-})
-    program main numbers s system (c.defined_flows.ensures program main well node) well node starts inputs n h run keeps t lt state is next next_is v symbolic agreed after updated
+returns-clause-updates c = λ program main numbers s starts inputs n h t state next v symbolic after well node system keeps run lt is next_is agreed updated.
+    updates_at (record {
+      constants = c.forms_at_points.ensures.constants;
+      columns = c.forms_at_points.ensures.columns;
+      sums = c.forms_at_points.ensures.sums;
+      multiples = c.forms_at_points.ensures.multiples;
+      tests = c.rows_of_tests.ensures;
+      some_tightened = c.tightened_rows.ensures.some;
+      same_points = c.tightened_rows.ensures.same_points;
+    }) (record {
+      some = c.states_of_run.ensures.some;
+      start = c.states_of_run.ensures.start;
+      next = c.states_of_run.ensures.next;
+      instant = c.run_is_instants.ensures.instant;
+      typed = c.typed_instants.ensures.memories;
+    })
+    program main numbers s system (c.defined_flows.ensures program main well node) well node starts inputs n h run keeps t lt state is next next_is v symbolic
+    agreed after updated
 
 pub returns-clause-allowed : goal.returns-clause-allowed
 returns-clause-allowed c = λ program main numbers s starts inputs n h t state v symbolic well node system keeps run lt is hold agreed. allowed_of (record {
@@ -107,7 +113,8 @@ returns-clause-allowed c = λ program main numbers s starts inputs n h t state v
   instant = c.run_is_instants.ensures.instant;
   typed = c.typed_instants.ensures.memories;
 })
-    program main numbers s system (c.defined_flows.ensures program main well node) well node starts inputs n h run t lt state is v symbolic (products_here (record {
+    program main numbers s system (c.defined_flows.ensures program main well node) well node starts inputs n h run t lt state is v symbolic
+    (products_here (record {
       constants = c.forms_at_points.ensures.constants;
       columns = c.forms_at_points.ensures.columns;
       sums = c.forms_at_points.ensures.sums;

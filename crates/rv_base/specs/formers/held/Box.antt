@@ -31,7 +31,8 @@ abbrev boxed : {X : Type 0} → Ptr → Global → X → Inside X
 boxed p g x = record { inner = record { ptr = p; alloc = g; value = x } }
 
 abbrev In : Former {0}
-In = via (pair (const (Ptr × Global)) this) Inside (λ X b. ((b.inner.ptr, b.inner.alloc), b.inner.value)) (λ X s. boxed s.0.0 s.0.1 s.1) (λ X b. refl) (λ X s. refl)
+In = via (pair (const (Ptr × Global)) this) Inside (λ X b. ((b.inner.ptr, b.inner.alloc), b.inner.value)) (λ X s. boxed s.0.0 s.0.1 s.1) (λ X b. refl)
+    (λ X s. refl)
 
 module _ (R R' : RattleType) (h : R.Denot → R'.Denot) where
   module _ (a : Alike R R' h) where

@@ -15,6 +15,7 @@ invariant-loop-e l = record {
   shown : AreAfter l.around.flat.now l.store.nodes l.shown;
   is_ref : IsRef l.store.nodes l.all;
   means : (v : Valuation) (row : List (Option Reading)) → IsSymbolic (system_of l.around.flat.now) (named l.around.flat.now v) row
-      → (value_of l.store.nodes l.all v && all_met (system_of l.around.flat.now) (named l.around.flat.now v) row (drop l.e-index (system_of l.around.flat.now).assertions))
+      → (value_of l.store.nodes l.all v && all_met (system_of l.around.flat.now) (named l.around.flat.now v) row
+      (drop l.e-index (system_of l.around.flat.now).assertions))
       ≡ all_met (system_of l.around.flat.now) (named l.around.flat.now v) row (system_of l.around.flat.now).assertions;
 }

@@ -13,11 +13,14 @@ loop-rest-preserved c =
     let same : c.push.new.self ≡ more = c.in_ok-push.ensures.ok in
     let long : length c.push.new.self ≡ length refs + 1 = ap (λ (l : List ℕ). length l) same ∙ length-append refs (c.constant.result ∷ []) in
     record {
-      found = subst (AreRefs c.args.store.now.nodes) (sym same) (refs_more c.args.store.now.nodes refs c.constant.result c.loop-rest.invariant.found c.constant.ensures.found);
+      found = subst (AreRefs c.args.store.now.nodes) (sym same) (refs_more c.args.store.now.nodes refs c.constant.result c.loop-rest.invariant.found
+          c.constant.ensures.found);
       rest = next_rest c.args.number c.loop-rest.rest (length refs) (length c.push.new.self) c.loop-rest.invariant.rest long;
       means = λ b v lt. ap (λ (l : List ℕ). bit c.args.store.now.nodes l v b) same
-          ∙ means_more c.args.store.now c.args.store.now refs c.constant.result (length refs) (λ n w. bit_of c.args.number n) refl (extends_refl c.args.store.now) c.loop-rest.invariant.found
-          (λ n w low. c.loop-rest.invariant.means n w low) (λ w. c.constant.ensures.means w ∙ next_bit c.args.number c.loop-rest.rest (length refs) c.loop-rest.invariant.rest) b v (omega arith);
+          ∙ means_more c.args.store.now c.args.store.now refs c.constant.result (length refs) (λ n w. bit_of c.args.number n) refl
+          (extends_refl c.args.store.now) c.loop-rest.invariant.found
+          (λ n w low. c.loop-rest.invariant.means n w low) (λ w. c.constant.ensures.means w
+          ∙ next_bit c.args.number c.loop-rest.rest (length refs) c.loop-rest.invariant.rest) b v (omega arith);
     }
 
 pub returns-clause-means : goal.returns-clause-means

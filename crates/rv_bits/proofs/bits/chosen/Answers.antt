@@ -30,5 +30,6 @@ loop-number-preserved c =
       extends = extends_trans a s new before.extends step;
       size = ap (λ (l : List ℕ). length l) same ∙ long ∙ (λ i. before.size i + 1);
       found = subst (AreRefs new.nodes) (sym same) (refs_more new.nodes refs r (refs_kept s new refs step before.found) c.in_ok-ite.ensures.ok.found);
-      means = λ b v lt. ap (λ (l : List ℕ). bit new.nodes l v b) same ∙ means_more s new refs r k meaning before.size step before.found before.means last b v lt;
+      means = λ b v lt. ap (λ (l : List ℕ). bit new.nodes l v b) same ∙ means_more s new refs r k meaning before.size step before.found before.means last b v
+          lt;
     }

@@ -11,5 +11,6 @@ invariant-loop-number l = record {
   size : length l.refs ≡ l.number;
   found : AreRefs l.store.nodes l.refs;
   means : (b : ℕ) (v : Valuation) → b < l.number
-      → bit l.store.nodes l.refs v b ≡ cond (value_of l.initial.store.nodes l.condition v) (bit l.initial.store.nodes l.first v b) (bit l.initial.store.nodes l.second v b);
+      → bit l.store.nodes l.refs v b ≡ cond (value_of l.initial.store.nodes l.condition v) (bit l.initial.store.nodes l.first v b)
+      (bit l.initial.store.nodes l.second v b);
 }

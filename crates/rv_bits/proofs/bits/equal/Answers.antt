@@ -5,5 +5,6 @@ use Rattle.rv_bits.proofs.bits.equal.Goals as goal
 
 pub returns-clause-ok : goal.returns-clause-ok
 returns-clause-ok c = map_ok c.ite.result (Answers c.not.new.self c.ite.new.self (choice c.not.new.self.nodes c.args.a c.args.b c.in_ok-not_b.not_b)) _
-    (λ r t. equal_made c.args.store.now c.not.new.self c.ite.new.self c.args.a c.args.b c.in_ok-not_b.not_b r c.requires.a c.requires.b c.in_ok-not_b.ensures.ok t)
+    (λ r t. equal_made c.args.store.now c.not.new.self c.ite.new.self c.args.a c.args.b c.in_ok-not_b.not_b r c.requires.a c.requires.b c.in_ok-not_b.ensures.ok
+    t)
     c.ite.ensures.ok

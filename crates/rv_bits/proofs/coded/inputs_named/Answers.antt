@@ -35,17 +35,21 @@ loop-number-preserved c =
     let long = ap (λ (l : List FlatInput). length l) c.as_slice-input-items.ensures in
     let low : i < length f.inputs = omega (arith, long) in
     let inside : i < length ks = omega (arith, low, length-map f.inputs (λ (y : FlatInput). y.kind)) in
-    let same_kind : kind_at ks i ≡ item.kind = item_in (λ (y : FlatInput). y.kind) f.inputs items i item kind.Bool c.as_slice-input-items.ensures c.loop-number-test.true c.input-item.is in
-    let left : drop i ks ≡ item.kind ∷ drop (i + 1) ks = drop-cons ks i kind.Bool inside ∙ (λ k. same_kind k ∷ drop (let z : suc i ≡ i + 1 = omega arith in z k) ks) in
+    let same_kind : kind_at ks i ≡ item.kind = item_in (λ (y : FlatInput). y.kind) f.inputs items i item kind.Bool c.as_slice-input-items.ensures
+    c.loop-number-test.true c.input-item.is in
+    let left : drop i ks ≡ item.kind ∷ drop (i + 1) ks = drop-cons ks i kind.Bool inside
+    ∙ (λ k. same_kind k ∷ drop (let z : suc i ≡ i + 1 = omega arith in z k) ks) in
     let bits : (v : Valuation) (b : ℕ) → b < bit_count labels item.kind → bit s.nodes c.list_at.result.now v b ≡ (named f v).input i b =
     λ v b lt. ap (λ (l : List ℕ). bit s.nodes l v b) c.list_at.ensures ∙ bits_kept a s (refs_at c.args.given.now i) before.extends (c.requires i low).found v b
     ∙ (c.requires i low).means b v (subst (λ (k : Kind). b < bit_count labels k) (sym same_kind) lt) in
-    let made = makes_to s s mid (λ v. names_label labels item.kind (bit s.nodes c.list_at.result.now v)) (λ v. names_label labels item.kind ((named f v).input i)) c.in_ok-one.one (extends_refl s) c.in_ok-one.ensures.ok
+    let made = makes_to s s mid (λ v. names_label labels item.kind (bit s.nodes c.list_at.result.now v))
+    (λ v. names_label labels item.kind ((named f v).input i)) c.in_ok-one.one (extends_refl s) c.in_ok-one.ensures.ok
     (λ v. label_same labels item.kind (bit s.nodes c.list_at.result.now v) ((named f v).input i) (bits v)) in
     record {
       extends = extends_trans a s new before.extends (extends_trans s mid new made.extends (grows_extends mid new c.in_ok-all.ensures.ok.grows));
       is_ref = c.in_ok-all.ensures.ok.found;
-      means = and_more s mid new c.loop-number.all c.in_ok-one.one c.in_ok-all.all (λ v. names_label labels item.kind ((named f v).input i)) (λ v. inputs_named labels (named f v) (i + 1) (drop (i + 1) ks))
+      means = and_more s mid new c.loop-number.all c.in_ok-one.one c.in_ok-all.all (λ v. names_label labels item.kind ((named f v).input i))
+          (λ v. inputs_named labels (named f v) (i + 1) (drop (i + 1) ks))
           (λ v. inputs_named labels (named f v) 0 ks) before.is_ref made c.in_ok-all.ensures.ok
           (λ v. (λ k. value_of s.nodes c.loop-number.all v && sym (inputs_split labels (named f v) ks i item.kind left) k) ∙ before.means v);
     }
@@ -58,4 +62,5 @@ returns-clause-ok c =
     let long = ap (λ (l : List FlatInput). length l) c.as_slice-input-items.ensures in
     let before = c.loop-number.invariant in
     and_all c.args.store.now s c.loop-number.all (λ v. inputs_named (label_counts f) (named f v) 0 ks) before.extends before.is_ref
-    (λ v. (λ k. value_of s.nodes c.loop-number.all v && sym (inputs_done (label_counts f) (named f v) ks c.loop-number.number (omega (arith, long, length-map f.inputs (λ (y : FlatInput). y.kind)))) k) ∙ before.means v)
+    (λ v. (λ k. value_of s.nodes c.loop-number.all v && sym (inputs_done (label_counts f) (named f v) ks c.loop-number.number
+    (omega (arith, long, length-map f.inputs (λ (y : FlatInput). y.kind)))) k) ∙ before.means v)

@@ -11,6 +11,7 @@ abbrev pub invariant-loop-number : goal.invariant-loop-number
 invariant-loop-number l = record {
   extends : Extends l.initial.store l.store;
   is_ref : IsRef l.store.nodes l.all;
-  means : (v : Valuation) → (value_of l.store.nodes l.all v && inputs_named (label_counts l.flat) (named l.flat v) l.number (drop l.number (system_of l.flat).inputs))
+  means : (v : Valuation) → (value_of l.store.nodes l.all v && inputs_named (label_counts l.flat) (named l.flat v) l.number
+      (drop l.number (system_of l.flat).inputs))
       ≡ inputs_named (label_counts l.flat) (named l.flat v) 0 (system_of l.flat).inputs;
 }

@@ -14,7 +14,12 @@ use Rattle.rv_bits.proofs.Labels.{constant_made}
 use Rattle.rv_bits.proofs.coded.label_named.Goals as goal
 
 pub names_label-requires-clause-few : goal.names_label-requires-clause-few
-names_label-requires-clause-few c = omega (arith, c.len.ensures, few_at 256 c.args.labels.now c.in-Labels.number c.in-Some.own.now c.requires.few (sym c.in-Some.ensures.value))
+names_label-requires-clause-few c = omega (
+  arith,
+  c.len.ensures,
+  few_at 256 c.args.labels.now c.in-Labels.number c.in-Some.own.now c.requires.few
+      (sym c.in-Some.ensures.value),
+)
 
 pub returns-in-Some-clause-ok : goal.returns-in-Some-clause-ok
 returns-in-Some-clause-ok c =
@@ -22,17 +27,22 @@ returns-in-Some-clause-ok c =
     let b = c.names_label.new.store in
     let labels = map (λ (ls : List (List ℕ)). length ls) c.args.labels.now in
     let count : c.len.result ≡ slice_index_or labels c.in-Labels.number 0 =
-    c.len.ensures ∙ sym (mapped_at (λ (ls : List (List ℕ)). length ls) c.args.labels.now c.in-Labels.number 0 c.in-Some.own.now (sym c.in-Some.ensures.value)) in
+    c.len.ensures ∙ sym (mapped_at (λ (ls : List (List ℕ)). length ls) c.args.labels.now c.in-Labels.number 0 c.in-Some.own.now (sym c.in-Some.ensures.value))
+    in
     map_ok c.names_label.result (Makes a b (λ v. nat_lt (code (bits_for c.len.result) (bit a.nodes c.args.bits.now v)) c.len.result)) _
-    (λ r made. makes_to a a b (λ v. nat_lt (code (bits_for c.len.result) (bit a.nodes c.args.bits.now v)) c.len.result) (λ v. names_label labels c.args.kind (bit a.nodes c.args.bits.now v)) r (extends_refl a) made
-    (λ v. (λ i. nat_lt (code (bits_for (count i)) (bit a.nodes c.args.bits.now v)) (count i)) ∙ ap (λ (k : Kind). names_label labels k (bit a.nodes c.args.bits.now v)) (sym c.in-Labels.is)))
+    (λ r made. makes_to a a b (λ v. nat_lt (code (bits_for c.len.result) (bit a.nodes c.args.bits.now v)) c.len.result)
+    (λ v. names_label labels c.args.kind (bit a.nodes c.args.bits.now v)) r (extends_refl a) made
+    (λ v. (λ i. nat_lt (code (bits_for (count i)) (bit a.nodes c.args.bits.now v)) (count i))
+    ∙ ap (λ (k : Kind). names_label labels k (bit a.nodes c.args.bits.now v)) (sym c.in-Labels.is)))
     c.names_label.ensures.ok
 
 pub returns-in-None-clause-ok : goal.returns-in-None-clause-ok
 returns-in-None-clause-ok c =
     let a = c.args.store.now in
     let labels = map (λ (ls : List (List ℕ)). length ls) c.args.labels.now in
-    let count : 0 ≡ slice_index_or labels c.in-Labels.number 0 = sym (mapped_past (λ (ls : List (List ℕ)). length ls) c.args.labels.now c.in-Labels.number 0 (sym c.in-None.ensures.value)) in
+    let count : 0 ≡ slice_index_or labels c.in-Labels.number 0 = sym (mapped_past (λ (ls : List (List ℕ)). length ls) c.args.labels.now c.in-Labels.number 0
+    (sym c.in-None.ensures.value)) in
     constant_made a (λ v. names_label labels c.args.kind (bit a.nodes c.args.bits.now v)) c.constant-in-None.result c.constant-in-None.ensures.found
     (λ v. c.constant-in-None.ensures.means v ∙ sym (le-ltb (code (bits_for 0) (bit a.nodes c.args.bits.now v)) 0 (omega arith))
-    ∙ (λ i. nat_lt (code (bits_for (count i)) (bit a.nodes c.args.bits.now v)) (count i)) ∙ ap (λ (k : Kind). names_label labels k (bit a.nodes c.args.bits.now v)) (sym c.in-Labels.is))
+    ∙ (λ i. nat_lt (code (bits_for (count i)) (bit a.nodes c.args.bits.now v)) (count i))
+    ∙ ap (λ (k : Kind). names_label labels k (bit a.nodes c.args.bits.now v)) (sym c.in-Labels.is))

@@ -11,6 +11,7 @@ abbrev pub invariant-loop-number : goal.invariant-loop-number
 invariant-loop-number l = record {
   extends : Extends l.initial.store l.store;
   is_ref : IsRef l.store.nodes l.all;
-  means : (v : Valuation) → (value_of l.store.nodes l.all v && memories_named (label_counts l.flat) (named l.flat v) (drop l.number (system_of l.flat).memories))
+  means : (v : Valuation) → (value_of l.store.nodes l.all v && memories_named (label_counts l.flat) (named l.flat v)
+      (drop l.number (system_of l.flat).memories))
       ≡ memories_named (label_counts l.flat) (named l.flat v) (system_of l.flat).memories;
 }

@@ -25,14 +25,17 @@ loop-tick-preserved c =
     let refs = c.args.tables.now.ticks in
     let long = ap (λ (l : List ℕ). length l) c.as_slice-tick-items.ensures in
     let low : i < length ts = omega (arith, long, c.requires.size) in
-    let left : drop i ts ≡ slice_index_or ts i Nothing ∷ drop (i + 1) ts = drop-cons ts i Nothing low ∙ (λ k. slice_index_or ts i Nothing ∷ drop (let z : suc i ≡ i + 1 = omega arith in z k) ts) in
+    let left : drop i ts ≡ slice_index_or ts i Nothing ∷ drop (i + 1) ts = drop-cons ts i Nothing low
+    ∙ (λ k. slice_index_or ts i Nothing ∷ drop (let z : suc i ≡ i + 1 = omega arith in z k) ts) in
     let tick : (v : Valuation) → value_of s.nodes (slice_index_or c.as_slice-tick-items.result.now i 0) v ≡ (named f v).ticked (slice_index_or ts i Nothing) =
-    λ v. ap (λ (l : List ℕ). value_of s.nodes (ref_at l i) v) c.as_slice-tick-items.ensures ∙ before.extends.kept (ref_at refs i) (any_ref a.nodes refs c.requires.tables.tick_refs i) v ∙ c.requires.tables.ticks i v low in
+    λ v. ap (λ (l : List ℕ). value_of s.nodes (ref_at l i) v) c.as_slice-tick-items.ensures
+    ∙ before.extends.kept (ref_at refs i) (any_ref a.nodes refs c.requires.tables.tick_refs i) v ∙ c.requires.tables.ticks i v low in
     record {
       extends = extends_trans a s new before.extends made.extends;
       is_ref = made.found;
       means = λ v. (λ k. (made.means v ∙ (λ j. value_of s.nodes c.loop-tick.all v && not (tick v j))) k && none_ticked (named f v) (drop (i + 1) ts))
-          ∙ and_step (value_of s.nodes c.loop-tick.all v) (not ((named f v).ticked (slice_index_or ts i Nothing))) (none_ticked (named f v) (drop (i + 1) ts)) (none_ticked (named f v) ts)
+          ∙ and_step (value_of s.nodes c.loop-tick.all v) (not ((named f v).ticked (slice_index_or ts i Nothing))) (none_ticked (named f v) (drop (i + 1) ts))
+          (none_ticked (named f v) ts)
           ((λ k. value_of s.nodes c.loop-tick.all v && sym (ticks_split (named f v) ts i (slice_index_or ts i Nothing) left) k) ∙ before.means v);
     }
 

@@ -10,5 +10,6 @@ abbrev pub invariant-loop-tick : goal.invariant-loop-tick
 invariant-loop-tick l = record {
   extends : Extends l.initial.store l.store;
   is_ref : IsRef l.store.nodes l.all;
-  means : (v : Valuation) → (value_of l.store.nodes l.all v && none_ticked (named l.flat v) (drop l.tick-index (system_of l.flat).ticks)) ≡ none_ticked (named l.flat v) (system_of l.flat).ticks;
+  means : (v : Valuation) → (value_of l.store.nodes l.all v && none_ticked (named l.flat v) (drop l.tick-index (system_of l.flat).ticks)) ≡ none_ticked
+      (named l.flat v) (system_of l.flat).ticks;
 }

@@ -24,4 +24,5 @@ returns-clause-ok c =
     }
 
 pub returns-clause-shown : goal.returns-clause-shown
-returns-clause-shown c = after_kept c.args.around.now.flat.now c.read_expr.new.store c.on_ref.new.store c.read_expr.new.shown c.in_ok-on.ensures.ok.extends c.in_ok-bits.ensures.shown
+returns-clause-shown c = after_kept c.args.around.now.flat.now c.read_expr.new.store c.on_ref.new.store c.read_expr.new.shown c.in_ok-on.ensures.ok.extends
+    c.in_ok-bits.ensures.shown

@@ -35,10 +35,12 @@ read_flow-requires-clause-over c =
     let item = c.flow-item.result in
     let long = ap (λ (l : List FlatFlow). length l) c.as_slice-flow-items.ensures in
     let many = length-map f.flows (flow_item f.memories) in
-    let here : nth_item (system_of f).flows n ≡ flow_item f.memories item = item_in (flow_item f.memories) f.flows items n item no_item c.as_slice-flow-items.ensures c.loop-flow-test.true c.flow-item.is in
+    let here : nth_item (system_of f).flows n ≡ flow_item f.memories item = item_in (flow_item f.memories) f.flows items n item no_item
+    c.as_slice-flow-items.ensures c.loop-flow-test.true c.flow-item.is in
     let fits : Fits (system_of f) n item.clock (kind_at (system_of f).kinds n) (tree_among f.memories item.body) =
     subst (λ (x : Item). Fits (system_of f) n x.clock (kind_at (system_of f).kinds n) x.body) here (c.requires.well.flows n (omega (arith, long, many))).1 in
-    subst (λ k. IsOver k (tree_among f.memories item.body)) (sym c.loop-flow.invariant.read.size) (over_fits (system_of f) n item.clock (kind_at (system_of f).kinds n) (tree_among f.memories item.body) fits)
+    subst (λ k. IsOver k (tree_among f.memories item.body)) (sym c.loop-flow.invariant.read.size)
+    (over_fits (system_of f) n item.clock (kind_at (system_of f).kinds n) (tree_among f.memories item.body) fits)
 
 pub loop-flow-preserved : goal.loop-flow-preserved
 loop-flow-preserved c =
@@ -52,11 +54,14 @@ loop-flow-preserved c =
     let item = c.flow-item.result in
     let long = ap (λ (l : List FlatFlow). length l) c.as_slice-flow-items.ensures in
     let many = length-map f.flows (flow_item f.memories) in
-    let here : nth_item (system_of f).flows n ≡ flow_item f.memories item = item_in (flow_item f.memories) f.flows items n item no_item c.as_slice-flow-items.ensures c.loop-flow-test.true c.flow-item.is in
-    let same_kind : kind_at (system_of f).kinds n ≡ item.kind = item_in (λ (g : FlatFlow). g.kind) f.flows items n item kind.Bool c.as_slice-flow-items.ensures c.loop-flow-test.true c.flow-item.is in
+    let here : nth_item (system_of f).flows n ≡ flow_item f.memories item = item_in (flow_item f.memories) f.flows items n item no_item
+    c.as_slice-flow-items.ensures c.loop-flow-test.true c.flow-item.is in
+    let same_kind : kind_at (system_of f).kinds n ≡ item.kind = item_in (λ (g : FlatFlow). g.kind) f.flows items n item kind.Bool c.as_slice-flow-items.ensures
+    c.loop-flow-test.true c.flow-item.is in
     let one = c.in_ok-on.ensures.ok in
     let pushed : AreFlowRefs f new.nodes (record { on = r.on ++ c.in_ok-on.field-0.on ∷ []; bits = r.bits ++ c.in_ok-on.field-0.bits ∷ [] }) =
-    flow_pushed f c.requires.well s new r n (omega (arith, long, many)) before.size before.flows item.clock (tree_among f.memories item.body) item.kind here same_kind
+    flow_pushed f c.requires.well s new r n (omega (arith, long, many)) before.size before.flows item.clock (tree_among f.memories item.body) item.kind here
+    same_kind
     c.in_ok-on.field-0.on c.in_ok-on.field-0.bits one.reads one.is_ref one.means in
     let on : c.push.new.self ≡ r.on ++ c.in_ok-on.field-0.on ∷ [] = c.in_ok-push.ensures.ok in
     let bits : c.push-in-loop-flow.new.self ≡ r.bits ++ c.in_ok-on.field-0.bits ∷ [] = c.in_ok-push-2.ensures.ok in

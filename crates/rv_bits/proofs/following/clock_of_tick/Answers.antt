@@ -13,7 +13,8 @@ returns-in-Some c =
     let f = c.args.flat.now in
     let m = c.args.number - 1 in
     let g : Sites → ℕ = index_of (places_of f.flows) in
-    let same : f.tick_flows ≡ map g (tick_places f.variables) = numbers_told f.tick_flows (numbers_among (places_of f.flows) (tick_places f.variables)) f.tick_numbers in
+    let same : f.tick_flows ≡ map g (tick_places f.variables) = numbers_told f.tick_flows (numbers_among (places_of f.flows) (tick_places f.variables))
+    f.tick_numbers in
     let next : suc (c.args.number - 1) ≡ c.args.number = omega arith in
     subst (λ n. Some c.in-Some.flow.now ≡ slice_index_or (tick_clocks_of f.flows f.variables) n Nothing) next
     (sym (clock_some g (tick_places f.variables) m c.in-Some.flow.now (ap (λ (l : List ℕ). slice_get l m) (sym same) ∙ sym c.in-Some.ensures.value)))
@@ -23,7 +24,8 @@ returns-in-None c =
     let f = c.args.flat.now in
     let m = c.args.number - 1 in
     let g : Sites → ℕ = index_of (places_of f.flows) in
-    let same : f.tick_flows ≡ map g (tick_places f.variables) = numbers_told f.tick_flows (numbers_among (places_of f.flows) (tick_places f.variables)) f.tick_numbers in
+    let same : f.tick_flows ≡ map g (tick_places f.variables) = numbers_told f.tick_flows (numbers_among (places_of f.flows) (tick_places f.variables))
+    f.tick_numbers in
     let next : suc (c.args.number - 1) ≡ c.args.number = omega arith in
     subst (λ n. Nothing ≡ slice_index_or (tick_clocks_of f.flows f.variables) n Nothing) next
     (sym (clock_none g (tick_places f.variables) m (ap (λ (l : List ℕ). slice_get l m) (sym same) ∙ sym c.in-None.ensures.value)))

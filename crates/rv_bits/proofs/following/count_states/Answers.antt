@@ -8,7 +8,8 @@ loop-variable-preserved c =
     let vs = c.args.variables.now in
     let i = c.loop-variable.variable-index in
     let x = c.variable-item.result in
-    let left : drop i vs ≡ x ∷ drop (i + 1) vs = drop-cons vs i x c.loop-variable-test.true ∙ (λ k. sym c.variable-item.is k ∷ drop (let z : suc i ≡ i + 1 = omega arith in z k) vs) in
+    let left : drop i vs ≡ x ∷ drop (i + 1) vs = drop-cons vs i x c.loop-variable-test.true
+    ∙ (λ k. sym c.variable-item.is k ∷ drop (let z : suc i ≡ i + 1 = omega arith in z k) vs) in
     let more = copies_more vs i x left in
     let few = copies_few x in
     record { within = omega (arith, c.one_copy-count.ensures); counted = omega (arith, c.one_copy-count.ensures, more, c.loop-variable.invariant.counted) }

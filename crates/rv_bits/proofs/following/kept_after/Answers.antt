@@ -21,7 +21,8 @@ returns-in-Some c = λ old new are.
     let is = sym c.in-Some.ensures.value in
     let refs = refs_at c.args.after.now m in
     let after = are.each m (memory_within f m kept is) in
-    let number : m ≡ index_of (memory_places f) c.args.place.now.sites = c.memory_number-memory.ensures ∙ ap (λ (l : List FlatMemory). index_of (memory_places_of l) c.args.place.now.sites) c.as_slice.ensures in
+    let number : m ≡ index_of (memory_places f) c.args.place.now.sites = c.memory_number-memory.ensures
+    ∙ ap (λ (l : List FlatMemory). index_of (memory_places_of l) c.args.place.now.sites) c.as_slice.ensures in
     let found : c.bit_after.result ≡ kept_ref kept.kind refs b = c.bit_after.ensures ∙ ap (λ (l : List ℕ). kept_ref kept.kind l b) c.list_at.ensures in
     subst (IsKeptBit f new.nodes c.args.place.now.sites b) (sym found)
     (record {
@@ -34,8 +35,10 @@ returns-in-None c = λ old new are.
     let f = c.args.flat.now in
     let m = c.memory_number-memory.result in
     let b = c.args.number in
-    let number : m ≡ index_of (memory_places f) c.args.place.now.sites = c.memory_number-memory.ensures ∙ ap (λ (l : List FlatMemory). index_of (memory_places_of l) c.args.place.now.sites) c.as_slice.ensures in
+    let number : m ≡ index_of (memory_places f) c.args.place.now.sites = c.memory_number-memory.ensures
+    ∙ ap (λ (l : List FlatMemory). index_of (memory_places_of l) c.args.place.now.sites) c.as_slice.ensures in
     record {
       is_ref = omega arith;
-      means = λ v row instant. bit_past_all f new.nodes m b (sym c.in-None.ensures.value) v row ∙ ap (λ n. bit_of (updated (system_of f) (named f v) row n) b) number;
+      means = λ v row instant. bit_past_all f new.nodes m b (sym c.in-None.ensures.value) v row
+          ∙ ap (λ n. bit_of (updated (system_of f) (named f v) row n) b) number;
     }

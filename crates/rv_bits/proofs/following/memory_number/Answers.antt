@@ -16,7 +16,8 @@ returns-then-is_place c =
     let item = c.index-memories-number.result in
     let p = c.args.place.now.sites in
     let low : i < length ps = omega (arith, length-map ms (λ (m : FlatMemory). m.place.sites)) in
-    let here : slice_index_or ps i [] ≡ item.place.sites = get_or-map (λ (m : FlatMemory). m.place.sites) ms i item [] c.loop-number-test.true ∙ ap (λ (m : FlatMemory). m.place.sites) (sym c.index-memories-number.is) in
+    let here : slice_index_or ps i [] ≡ item.place.sites = get_or-map (λ (m : FlatMemory). m.place.sites) ms i item [] c.loop-number-test.true
+    ∙ ap (λ (m : FlatMemory). m.place.sites) (sym c.index-memories-number.is) in
     let left : drop i ps ≡ item.place.sites ∷ drop (i + 1) ps = drop-cons ps i [] low ∙ (λ k. here k ∷ drop (let z : suc i ≡ i + 1 = omega arith in z k) ps) in
     let is : is_same item.place.sites p ≡ true = sym c.is_place.ensures ∙ c.if-is_place.true in
     let none : index_of (drop i ps) p ≡ 0 = index_step ps i item.place.sites p left ∙ ap (λ b. cond b 0 (index_of (drop (i + 1) ps) p + 1)) is in
@@ -30,8 +31,10 @@ loop-number-preserved c =
     let item = c.index-memories-number.result in
     let p = c.args.place.now.sites in
     let low : i < length ps = omega (arith, length-map ms (λ (m : FlatMemory). m.place.sites)) in
-    let here : slice_index_or ps i [] ≡ item.place.sites = get_or-map (λ (m : FlatMemory). m.place.sites) ms i item [] c.loop-number-test.true ∙ ap (λ (m : FlatMemory). m.place.sites) (sym c.index-memories-number.is) in
+    let here : slice_index_or ps i [] ≡ item.place.sites = get_or-map (λ (m : FlatMemory). m.place.sites) ms i item [] c.loop-number-test.true
+    ∙ ap (λ (m : FlatMemory). m.place.sites) (sym c.index-memories-number.is) in
     let left : drop i ps ≡ item.place.sites ∷ drop (i + 1) ps = drop-cons ps i [] low ∙ (λ k. here k ∷ drop (let z : suc i ≡ i + 1 = omega arith in z k) ps) in
     let is : is_same item.place.sites p ≡ false = sym c.is_place.ensures ∙ c.if-is_place.false in
-    let more : index_of (drop i ps) p ≡ index_of (drop (i + 1) ps) p + 1 = index_step ps i item.place.sites p left ∙ ap (λ b. cond b 0 (index_of (drop (i + 1) ps) p + 1)) is in
+    let more : index_of (drop i ps) p ≡ index_of (drop (i + 1) ps) p + 1 = index_step ps i item.place.sites p left
+    ∙ ap (λ b. cond b 0 (index_of (drop (i + 1) ps) p + 1)) is in
     record { counted = omega (arith, more, c.loop-number.invariant.counted) }

@@ -19,7 +19,12 @@ returns-in-MainTick-clause-ok c =
     let b = c.tick_after.new.store in
     map_ok c.tick_after.result (IsTickRead f a b 0) _
     (λ r t. subst (λ (x : Variable). IsNextRead f a b x r) (sym (ap variable_of c.in-MainTick.is))
-    (record { extends = t.extends; is_ref = t.is_ref; means = λ v row instant. t.means v row instant ∙ ap (next_tick (system_of f) (named f v) row) (sym (tick_main _)) }))
+    (record {
+      extends = t.extends;
+      is_ref = t.is_ref;
+      means = λ v row instant. t.means v row instant
+          ∙ ap (next_tick (system_of f) (named f v) row) (sym (tick_main _));
+    }))
     c.tick_after.ensures.ok
 
 pub returns-in-Kept-clause-ok : goal.returns-in-Kept-clause-ok
@@ -33,5 +38,6 @@ returns-in-Kept-clause-ok c =
       extends = extends_refl a;
       is_ref = kept.is_ref;
       means = λ v row instant. kept.means v row instant
-          ∙ ap (λ (l : List Sites). bit_of (updated (system_of f) (named f v) row (index_of l c.in-Kept.place.sites)) c.in-Kept.number) (places_same f.memories f.memories);
+          ∙ ap (λ (l : List Sites). bit_of (updated (system_of f) (named f v) row (index_of l c.in-Kept.place.sites)) c.in-Kept.number)
+          (places_same f.memories f.memories);
     })

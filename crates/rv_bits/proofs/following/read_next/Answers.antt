@@ -6,8 +6,11 @@ use Rattle.rv_bits.proofs.following.read_next.Goals as goal
 
 pub next_at-requires-clause-after : goal.next_at-requires-clause-after
 next_at-requires-clause-after c =
-    let f = c.args.around.now.flat.now in
-    (c.requires.after.0, afters_kept f c.requires.after.0 c.args.store.now c.loop-bit.store (length f.memories) c.args.after.now c.loop-bit.invariant.read.extends c.requires.after.1)
+    let f = c.args.around.now.flat.now in (
+      c.requires.after.0,
+      afters_kept f c.requires.after.0 c.args.store.now c.loop-bit.store (length f.memories) c.args.after.now
+          c.loop-bit.invariant.read.extends c.requires.after.1,
+    )
 
 pub loop-bit-preserved : goal.loop-bit-preserved
 loop-bit-preserved c =

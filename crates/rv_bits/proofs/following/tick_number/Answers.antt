@@ -14,7 +14,8 @@ returns-then-is_named c =
     let vs = c.args.variables.now in
     let i = c.loop-variable.variable-index in
     let x = c.variable-item.result in
-    let left : drop i vs ≡ x ∷ drop (i + 1) vs = drop-cons vs i x c.loop-variable-test.true ∙ (λ k. sym c.variable-item.is k ∷ drop (let z : suc i ≡ i + 1 = omega arith in z k) vs) in
+    let left : drop i vs ≡ x ∷ drop (i + 1) vs = drop-cons vs i x c.loop-variable-test.true
+    ∙ (λ k. sym c.variable-item.is k ∷ drop (let z : suc i ≡ i + 1 = omega arith in z k) vs) in
     let is : same_variable (variable_of x) (Tick c.args.place.now.sites) ≡ true = sym c.is_named.ensures ∙ c.if-is_named.true in
     let here = tick_here vs i x c.args.place.now.sites left is in
     omega (arith, here, c.loop-variable.invariant.counted)
@@ -24,7 +25,8 @@ loop-variable-preserved c =
     let vs = c.args.variables.now in
     let i = c.loop-variable.variable-index in
     let x = c.variable-item.result in
-    let left : drop i vs ≡ x ∷ drop (i + 1) vs = drop-cons vs i x c.loop-variable-test.true ∙ (λ k. sym c.variable-item.is k ∷ drop (let z : suc i ≡ i + 1 = omega arith in z k) vs) in
+    let left : drop i vs ≡ x ∷ drop (i + 1) vs = drop-cons vs i x c.loop-variable-test.true
+    ∙ (λ k. sym c.variable-item.is k ∷ drop (let z : suc i ≡ i + 1 = omega arith in z k) vs) in
     let is : same_variable (variable_of x) (Tick c.args.place.now.sites) ≡ false = sym c.is_named.ensures ∙ c.if-is_named.false in
     let later = tick_later vs i x c.args.place.now.sites left is in
     let few = ticks_few x in

@@ -15,7 +15,8 @@ returns-then-is_named c =
     let k = c.loop-number.number in
     let low : k < length vs = c.loop-number-test.true in
     let long : length (map variable_of vs) ≡ length vs = length-map vs variable_of in
-    let here : get_or (map variable_of vs) k Next ≡ variable_of c.index-variables-number.result = get_or-map variable_of vs k c.index-variables-number.result Next low ∙ ap variable_of (sym c.index-variables-number.is) in
+    let here : get_or (map variable_of vs) k Next ≡ variable_of c.index-variables-number.result = get_or-map variable_of vs k c.index-variables-number.result
+    Next low ∙ ap variable_of (sym c.index-variables-number.is) in
     let found : same_variable (get_or (map variable_of vs) k Next) (variable_named c.args.name.now) ≡ true =
     ap (λ y. same_variable y (variable_named c.args.name.now)) here ∙ sym c.is_named.ensures ∙ c.if-is_named.true in
     (low, truth_first (map variable_of vs) (variable_named c.args.name.now) k (omega arith) c.loop-number.invariant.none found)
@@ -31,7 +32,8 @@ loop-number-preserved c =
     record {
       none = λ j lt. elim (cases_lt j k) [
         | inl below ↦ c.loop-number.invariant.none j below
-        | inr le ↦ let same : k ≡ j = omega arith in subst (λ n. same_variable (get_or (map variable_of vs) n Next) (variable_named c.args.name.now) ≡ false) same other
+        | inr le ↦ let same : k ≡ j = omega arith in subst (λ n. same_variable (get_or (map variable_of vs) n Next) (variable_named c.args.name.now) ≡ false)
+            same other
       ];
     }
 

@@ -11,7 +11,8 @@ pub returns-clause-ok : goal.returns-clause-ok
 returns-clause-ok c =
     let truth : ℕ → Valuation → Bool = λ b v. truth_at (map variable_of c.args.variables.now) v (owned c.args.owner.now b) in
     let is : c.loop-number.number ≡ c.args.count = omega arith in
-    spells_all c.args.store.now c.loop-number.store c.loop-number.refs c.args.count (λ b v. nat_lt b c.args.count && truth b v) (c.loop-number.invariant.size ∙ is) c.loop-number.invariant.extends c.loop-number.invariant.found
+    spells_all c.args.store.now c.loop-number.store c.loop-number.refs c.args.count (λ b v. nat_lt b c.args.count && truth b v)
+    (c.loop-number.invariant.size ∙ is) c.loop-number.invariant.extends c.loop-number.invariant.found
     (λ b v lt. c.loop-number.invariant.means b v (omega arith) ∙ sym (ap (λ t. t && truth b v) (lt-ltb b c.args.count lt)))
     (λ b v le. ap (λ t. t && truth b v) (not_below b c.args.count le))
   where

@@ -13,6 +13,7 @@ returns-clause-ok c =
     let p = c.in_ok-at_most.at_most in
     let q = c.in_ok-at_least.at_least in
     map_ok c.and.result (Answers c.test-2.new.store c.and.new.self (λ v. value_of c.test-2.new.store.nodes p v && value_of c.test-2.new.store.nodes q v)) _
-    (λ r t. both_made_of a c.test.new.store c.test-2.new.store c.and.new.self (λ v. truth_at (map variable_of c.args.variables.now) v (Test c.args.at.now.sites AtMost))
+    (λ r t. both_made_of a c.test.new.store c.test-2.new.store c.and.new.self
+    (λ v. truth_at (map variable_of c.args.variables.now) v (Test c.args.at.now.sites AtMost))
     (λ v. truth_at (map variable_of c.args.variables.now) v (Test c.args.at.now.sites AtLeast)) p q r c.in_ok-at_most.ensures.ok c.in_ok-at_least.ensures.ok t)
     c.and.ensures.ok

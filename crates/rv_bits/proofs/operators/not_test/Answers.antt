@@ -9,5 +9,6 @@ use Rattle.rv_bits.proofs.operators.not_test.Goals as goal
 
 pub returns-clause-ok : goal.returns-clause-ok
 returns-clause-ok c = map_ok c.not.result (Answers c.test.new.store c.not.new.self (λ v. not (value_of c.test.new.store.nodes c.in_ok-found.found v))) _
-    (λ r t. not_made c.args.store.now c.test.new.store c.not.new.self (λ v. truth_at (map variable_of c.args.variables.now) v (Test c.args.at.now.sites (side_of c.args.side))) c.in_ok-found.found r c.in_ok-found.ensures.ok t)
+    (λ r t. not_made c.args.store.now c.test.new.store c.not.new.self (λ v. truth_at (map variable_of c.args.variables.now) v
+    (Test c.args.at.now.sites (side_of c.args.side))) c.in_ok-found.found r c.in_ok-found.ensures.ok t)
     c.not.ensures.ok

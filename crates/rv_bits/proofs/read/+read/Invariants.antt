@@ -23,7 +23,8 @@ abbrev pub decreases-read_binary : goal.decreases-read_binary
 decreases-read_binary l = 4 * (size (tree_in l.around.now l.left.now) + size (tree_in l.around.now l.right.now)) + 1
 
 abbrev pub decreases-read_if : goal.decreases-read_if
-decreases-read_if l = 4 * (size (tree_in l.around.now l.condition.now) + (size (tree_in l.around.now l.first.now) + size (tree_in l.around.now l.second.now))) + 1
+decreases-read_if l = 4 * (size (tree_in l.around.now l.condition.now) + (size (tree_in l.around.now l.first.now) + size (tree_in l.around.now l.second.now)))
+    + 1
 
 abbrev pub decreases-read_each : goal.decreases-read_each
 decreases-read_each l = 4 * size_of (trees_in l.around.now l.expressions.now) + 1
@@ -48,7 +49,8 @@ invariant-read_each-loop-e l = record {
   fit : (k : Option ℕ) → AllFit (system_of l.around.flat.now) (length (system_of l.around.flat.now).flows) k (trees_in l.around l.expressions)
       → AllFit (system_of l.around.flat.now) (length (system_of l.around.flat.now).flows) k (trees_in l.around (drop l.e-index l.expressions));
   counted : (v : Valuation) (row : List (Option Reading)) (k : Option ℕ) → IsSymbolic (system_of l.around.flat.now) (named l.around.flat.now v) row
-      → AllFit (system_of l.around.flat.now) (length (system_of l.around.flat.now).flows) k (trees_in l.around l.expressions) → is_there_at l.around.flat.now v row k ≡ true
+      → AllFit (system_of l.around.flat.now) (length (system_of l.around.flat.now).flows) k (trees_in l.around l.expressions)
+      → is_there_at l.around.flat.now v row k ≡ true
       → count_true (length l.refs) (bit l.store.nodes l.refs v) + true_at l.around.flat.now v row (trees_in l.around (drop l.e-index l.expressions))
       ≡ true_at l.around.flat.now v row (trees_in l.around l.expressions);
 }

@@ -27,10 +27,12 @@ loop-memory-preserved c =
     item_in (λ (m : FlatMemory). m.kind) f.memories items n item kind.Bool c.as_slice-memory-items.ensures c.loop-memory-test.true c.memory-item.is in
     let same_place : slice_index_or (memory_places f) n [] ≡ item.place.sites =
     item_in (λ (m : FlatMemory). m.place.sites) f.memories items n item [] c.as_slice-memory-items.ensures c.loop-memory-test.true c.memory-item.is in
-    let count : c.bits_of_kind-count.result ≡ bit_count (label_counts f) (kind_at (memory_kinds f) n) = c.bits_of_kind-count.ensures ∙ ap (bit_count (label_counts f)) (sym same_kind) in
+    let count : c.bits_of_kind-count.result ≡ bit_count (label_counts f) (kind_at (memory_kinds f) n) = c.bits_of_kind-count.ensures
+    ∙ ap (bit_count (label_counts f)) (sym same_kind) in
     record {
       read = subst (AreBitLists (label_counts f) names (memory_bit f) (kind_at (memory_kinds f)) c.args.store.now new (n + 1)) (sym c.in_ok-push.ensures.ok)
-          (list_pushed (label_counts f) names (memory_bit f) (kind_at (memory_kinds f)) c.args.store.now s new n c.loop-memory.lists refs c.loop-memory.invariant.read (c.in_ok-owned_bits.ensures.size ∙ count)
+          (list_pushed (label_counts f) names (memory_bit f) (kind_at (memory_kinds f)) c.args.store.now s new n c.loop-memory.lists refs
+          c.loop-memory.invariant.read (c.in_ok-owned_bits.ensures.size ∙ count)
           (spells_to s new (λ k v. nat_lt k c.bits_of_kind-count.result && truth_at (map variable_of c.as_slice.result.now) v (Kept item.place.sites k))
           (λ k v. nat_lt k (bit_count (label_counts f) (kind_at (memory_kinds f) n)) && truth_at names v (memory_bit f n k)) refs
           (λ k v i. nat_lt k (count i) && truth_at (map variable_of (c.as_slice.ensures i)) v (Kept (sym same_place i) k)) c.in_ok-owned_bits.ensures.ok));

@@ -7,5 +7,6 @@ use Rattle.rv_bits.proofs.tables.memory_refs.Given as goal
 
 abbrev pub invariant-loop-memory : goal.invariant-loop-memory
 invariant-loop-memory l = record {
-  read : AreBitLists (label_counts l.flat) (map variable_of l.flat.variables) (memory_bit l.flat) (kind_at (memory_kinds l.flat)) l.initial.store l.store l.memory-index l.lists;
+  read : AreBitLists (label_counts l.flat) (map variable_of l.flat.variables) (memory_bit l.flat) (kind_at (memory_kinds l.flat)) l.initial.store l.store
+      l.memory-index l.lists;
 }

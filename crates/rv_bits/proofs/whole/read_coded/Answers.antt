@@ -16,8 +16,10 @@ returns-clause-ok c =
     let mid = c.and.new.self in
     let new = c.and-2.new.self in
     map_ok c.and-2.result (Answers mid new (λ v. value_of mid.nodes c.in_ok-coded.coded v && value_of mid.nodes c.args.met v)) _
-    (λ r t. and_kept a mid new (λ v. memories_named (label_counts f) (named f v) (system_of f).memories && inputs_named (label_counts f) (named f v) 0 (system_of f).inputs) c.in_ok-coded.coded c.args.met r
-    (both_made_of a c.memories_named.new.store c.inputs_named.new.store mid (λ v. memories_named (label_counts f) (named f v) (system_of f).memories) (λ v. inputs_named (label_counts f) (named f v) 0 (system_of f).inputs)
+    (λ r t. and_kept a mid new (λ v. memories_named (label_counts f) (named f v) (system_of f).memories && inputs_named (label_counts f) (named f v) 0
+    (system_of f).inputs) c.in_ok-coded.coded c.args.met r
+    (both_made_of a c.memories_named.new.store c.inputs_named.new.store mid (λ v. memories_named (label_counts f) (named f v) (system_of f).memories)
+    (λ v. inputs_named (label_counts f) (named f v) 0 (system_of f).inputs)
     c.in_ok-memories.memories c.in_ok-inputs.inputs c.in_ok-coded.coded c.in_ok-memories.ensures.ok c.in_ok-inputs.ensures.ok c.in_ok-coded.ensures.ok)
     c.requires.met t)
     c.and-2.ensures.ok

@@ -11,7 +11,8 @@ use Rattle.rv_bits.proofs.Wholes.{both_swapped, initial_is}
 use Rattle.rv_bits.proofs.whole.read_initial.Goals as goal
 
 pub none_ticked-requires-clause-tables : goal.none_ticked-requires-clause-tables
-none_ticked-requires-clause-tables c = tables_kept c.args.flat.now c.args.store.now c.memories_named.new.store c.args.tables.now c.in_ok-named.ensures.ok.extends c.requires.tables
+none_ticked-requires-clause-tables c = tables_kept c.args.flat.now c.args.store.now c.memories_named.new.store c.args.tables.now
+    c.in_ok-named.ensures.ok.extends c.requires.tables
 
 pub returns-clause-ok : goal.returns-clause-ok
 returns-clause-ok c =
@@ -20,8 +21,10 @@ returns-clause-ok c =
     let mid = c.none_ticked.new.store in
     let new = c.and.new.self in
     map_ok c.and.result (Answers mid new (λ v. value_of mid.nodes c.in_ok-unticked.unticked v && value_of mid.nodes c.in_ok-named.named v)) _
-    (λ r t. makes_to a a new (λ v. none_ticked (named f v) (system_of f).ticks && memories_named (label_counts f) (named f v) (system_of f).memories) (λ v. is_initial (system_of f) (named f v)) r (extends_refl a)
-    (both_swapped a c.memories_named.new.store mid new (λ v. memories_named (label_counts f) (named f v) (system_of f).memories) (λ v. none_ticked (named f v) (system_of f).ticks)
+    (λ r t. makes_to a a new (λ v. none_ticked (named f v) (system_of f).ticks && memories_named (label_counts f) (named f v) (system_of f).memories)
+    (λ v. is_initial (system_of f) (named f v)) r (extends_refl a)
+    (both_swapped a c.memories_named.new.store mid new (λ v. memories_named (label_counts f) (named f v) (system_of f).memories)
+    (λ v. none_ticked (named f v) (system_of f).ticks)
     c.in_ok-named.named c.in_ok-unticked.unticked r c.in_ok-named.ensures.ok c.in_ok-unticked.ensures.ok t)
     (λ v. initial_is (system_of f) (named f v)))
     c.and.ensures.ok

@@ -82,7 +82,8 @@ returns-clause-ok c =
       met_ref = ref_kept mid new c.in_ok-met.met last met.is_ref;
       met = λ v row instant. last.kept c.in_ok-met.met met.is_ref v ∙ met.means v row instant;
       observer_ref = subst (IsRef new.nodes) (sym same) (ref_kept s new (ref_at read.on f.observer) after_flows found);
-      observer = λ v row instant. ap (λ r. value_of new.nodes r v) same ∙ after_flows.kept (ref_at read.on f.observer) found v ∙ flows.flows.on_shows f.observer v row inside instant;
+      observer = λ v row instant. ap (λ r. value_of new.nodes r v) same ∙ after_flows.kept (ref_at read.on f.observer) found v
+          ∙ flows.flows.on_shows f.observer v row inside instant;
       next = next_between f a later new new (state_bits (variables_of f)) c.in_ok-next.next before_next next (extends_refl new);
       flows = flows_kept f s new read after_flows flows.flows;
       complete = flows.size;

@@ -12,7 +12,8 @@ use Rattle.rv_bits.proofs.whole.read_system.Goals as goal
 
 pub read_initial-requires-clause-tables : goal.read_initial-requires-clause-tables
 read_initial-requires-clause-tables c =
-    tables_kept c.args.flat.now c.read_tables.new.store c.read_rest.new.store c.in_ok-tables.tables c.in_ok-met.ensures.ok.extends c.in_ok-tables.ensures.ok.tables
+    tables_kept c.args.flat.now c.read_tables.new.store c.read_rest.new.store c.in_ok-tables.tables c.in_ok-met.ensures.ok.extends
+    c.in_ok-tables.ensures.ok.tables
 
 pub returns-clause-ok : goal.returns-clause-ok
 returns-clause-ok c =
@@ -34,7 +35,8 @@ returns-clause-ok c =
         extends = extends_trans a s new tables.extends (extends_trans s mid new rest.extends last);
         allowed_ref = allowed.found;
         allowed = λ v row instant. allowed.means v
-            ∙ (λ i. (memories_named (label_counts f) (named f v) (system_of f).memories && inputs_named (label_counts f) (named f v) 0 (system_of f).inputs) && (initial.extends.kept met rest.met_ref v ∙ rest.met v row instant) i)
+            ∙ (λ i. (memories_named (label_counts f) (named f v) (system_of f).memories && inputs_named (label_counts f) (named f v) 0 (system_of f).inputs) &&
+            (initial.extends.kept met rest.met_ref v ∙ rest.met v row instant) i)
             ∙ allowed_is (system_of f) (named f v) row;
         observer_ref = ref_kept mid new observer last rest.observer_ref;
         observer = λ v row instant. last.kept observer rest.observer_ref v ∙ rest.observer v row instant;

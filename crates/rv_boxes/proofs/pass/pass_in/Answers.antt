@@ -17,9 +17,13 @@ end_of-requires c =
     let start = c.in_ok-start.ensures.start s c.args.frame.now given in
     let least = c.in_ok-closed.ensures.least s there start in
     let r = given.relation in
-    let can : IsCertifiable s c.args.frame.now c.in_ok-closed.closed.claim c.in_ok-start.start.first c.in_ok-start.start.from_first c.in_ok-closed.closed.others =
-    record { system = r.system; frame = given.frame; least = least.0; start = start; others = least.1 } in
-    (s, given_there s c.start_of.new.store c.closed_claim.new.store c.args.relation.now c.args.questions.now c.args.frame.now c.closed_claim.ensures.same there, can)
+    let can : IsCertifiable s c.args.frame.now c.in_ok-closed.closed.claim c.in_ok-start.start.first c.in_ok-start.start.from_first
+    c.in_ok-closed.closed.others =
+    record { system = r.system; frame = given.frame; least = least.0; start = start; others = least.1 } in (
+      s,
+      given_there s c.start_of.new.store c.closed_claim.new.store c.args.relation.now c.args.questions.now c.args.frame.now c.closed_claim.ensures.same there,
+      can,
+    )
 
 pub returns-clause-ends : goal.returns-clause-ends
 returns-clause-ends c s given =
@@ -27,7 +31,8 @@ returns-clause-ends c s given =
     let start = c.in_ok-start.ensures.start s c.args.frame.now given in
     let least = c.in_ok-closed.ensures.least s there start in
     let r = given.relation in
-    let can : IsCertifiable s c.args.frame.now c.in_ok-closed.closed.claim c.in_ok-start.start.first c.in_ok-start.start.from_first c.in_ok-closed.closed.others =
+    let can : IsCertifiable s c.args.frame.now c.in_ok-closed.closed.claim c.in_ok-start.start.first c.in_ok-start.start.from_first
+    c.in_ok-closed.closed.others =
     record { system = r.system; frame = given.frame; least = least.0; start = start; others = least.1 } in
     c.end_of.ensures.ends s (given_there s c.start_of.new.store c.closed_claim.new.store c.args.relation.now c.args.questions.now c.args.frame.now
     c.closed_claim.ensures.same there) can

@@ -59,7 +59,8 @@ returns-in_ok-fresh-in-Some-clause-grown c s q base given setting kept of met to
     c.take_limits.new.claim) (sym c.take_limits.ensures.changed)
     (grown_open s r.system c.args.frame.now given.frame base c.args.from.now c.args.given.now setting c.args.case.now of c.new-premises.result
     (record { told = c.args.told.now.rows; is_told = told.rows; are = c.new-premises.ensures }) met
-    c.args.claim.now c.take_image.new.claim c.take_limits.new.claim kept c.args.told.now.opposites (told.opposites c.if-told.false) c.in-Some.limits opened set i
+    c.args.claim.now c.take_image.new.claim c.take_limits.new.claim kept c.args.told.now.opposites (told.opposites c.if-told.false) c.in-Some.limits opened set
+    i
     c.in_ok-fresh-in-Some.fresh took c.take_limits.ensures.reached c.take_limits.ensures.upper c.take_limits.ensures.lower)
 
 pub returns-in_ok-fresh-in-Some-clause-known : goal.returns-in_ok-fresh-in-Some-clause-known

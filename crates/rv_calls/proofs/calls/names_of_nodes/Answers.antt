@@ -10,4 +10,5 @@ use Rattle.rv_calls.proofs.calls.names_of_nodes.Goals as goal
 pub returns : goal.returns
 returns c =
     collected c.args.p.now.nodes c.loop-node.names (once (program_tree c.args.p.now) c.requires)
-    (ap (λ l. with_names c.loop-node.names (node_texts l)) (sym (drop_all c.args.p.now.nodes c.loop-node.node-index (let n = ap length c.as_slice-node-items.ensures in omega (arith, n)))) ∙ c.loop-node.invariant)
+    (ap (λ l. with_names c.loop-node.names (node_texts l)) (sym (drop_all c.args.p.now.nodes c.loop-node.node-index
+    (let n = ap length c.as_slice-node-items.ensures in omega (arith, n)))) ∙ c.loop-node.invariant)

@@ -27,11 +27,13 @@ reach-requires-in-None-clause-fresh c =
 pub returns-in_ok-reach-in-None-clause-parted : goal.returns-in_ok-reach-in-None-clause-parted
 returns-in_ok-reach-in-None-clause-parted c =
     let free : mark_of c.args.parts.now c.args.root ≡ Nothing = got c.args.parts.now c.args.root c.at.result.now Nothing c.at.ensures.value ∙ c.in-None.is in
-    let more = parted_more c.args.graph.now c.args.turned.now c.requires.turned c.args.seen.now c.args.parts.now c.args.root c.requires.parted free c.reach.new.marks c.reach-in-None.new.marks c.in_ok-reach-in-None.ensures in
+    let more = parted_more c.args.graph.now c.args.turned.now c.requires.turned c.args.seen.now c.args.parts.now c.args.root c.requires.parted free
+    c.reach.new.marks c.reach-in-None.new.marks c.in_ok-reach-in-None.ensures in
     search (rules, more)
 
 pub returns-in_ok-reach-in-None-clause-kept : goal.returns-in_ok-reach-in-None-clause-kept
 returns-in_ok-reach-in-None-clause-kept c =
     let free : mark_of c.args.parts.now c.args.root ≡ Nothing = got c.args.parts.now c.args.root c.at.result.now Nothing c.at.ensures.value ∙ c.in-None.is in
-    let kept = still c.args.graph.now c.args.turned.now c.requires.turned c.args.seen.now c.args.parts.now c.args.root c.requires.parted free c.reach.new.marks c.reach-in-None.new.marks c.in_ok-reach-in-None.ensures in
+    let kept = still c.args.graph.now c.args.turned.now c.requires.turned c.args.seen.now c.args.parts.now c.args.root c.requires.parted free c.reach.new.marks
+    c.reach-in-None.new.marks c.in_ok-reach-in-None.ensures in
     search (rules, kept)

@@ -15,7 +15,8 @@ use Rattle.rv_calls.proofs.expansion.instances.Goals as goal
 pub expand-requires : goal.expand-requires
 expand-requires c =
     let p = program_tree c.args.p.now in
-    let are : AreAllSorted (callings_of p) c.in_ok-sorted.sorted = subst (λ (t : List (List Calling)). AreAllSorted t c.in_ok-sorted.sorted) c.requires.nodes.calls c.in_ok-sorted.ensures in
+    let are : AreAllSorted (callings_of p) c.in_ok-sorted.sorted = subst (λ (t : List (List Calling)). AreAllSorted t c.in_ok-sorted.sorted)
+    c.requires.nodes.calls c.in_ok-sorted.ensures in
     let size = table_size p c.requires.named in
     let same = are.size in
     let main = c.requires.main in
@@ -28,8 +29,10 @@ expand-requires c =
 pub returns : goal.returns
 returns c =
     let p = program_tree c.args.p.now in
-    let are : AreAllSorted (callings_of p) c.in_ok-sorted.sorted = subst (λ (t : List (List Calling)). AreAllSorted t c.in_ok-sorted.sorted) c.requires.nodes.calls c.in_ok-sorted.ensures in
-    if_ok c.expand.result (λ (found : List Instance). found ≡ all_listed c.in_ok-sorted.sorted [] c.args.main) (λ (found : List Instance). AreInstances p (name_at p c.args.main) found)
+    let are : AreAllSorted (callings_of p) c.in_ok-sorted.sorted = subst (λ (t : List (List Calling)). AreAllSorted t c.in_ok-sorted.sorted)
+    c.requires.nodes.calls c.in_ok-sorted.ensures in
+    if_ok c.expand.result (λ (found : List Instance). found ≡ all_listed c.in_ok-sorted.sorted [] c.args.main)
+    (λ (found : List Instance). AreInstances p (name_at p c.args.main) found)
     (λ found is. subst (λ (l : List Instance). AreInstances p (name_at p c.args.main) l) (sym is)
     (instances_listed p c.requires.named c.requires.sited c.in_ok-sorted.sorted are c.args.main c.requires.main c.requires.nodes.recursion))
     c.expand.ensures

@@ -7,7 +7,8 @@ loop-root-init c =
     let w = c.in_ok-walk.walk in
     record {
       walk = at_start c.args.graph.now w
-          (subst (λ n. (w.entered ≡ replicate n false) × (w.finished ≡ replicate n false) × (w.cursor ≡ replicate {A = ℕ} n 0) × (w.path ≡ []) × (w.order ≡ [])) c.len.ensures c.in_ok-walk.ensures);
+          (subst (λ n. (w.entered ≡ replicate n false) × (w.finished ≡ replicate n false) × (w.cursor ≡ replicate {A = ℕ} n 0) × (w.path ≡ []) × (w.order ≡ []))
+          c.len.ensures c.in_ok-walk.ensures);
       path = c.in_ok-walk.ensures.3;
       entered = λ k lt. absurd (omega (arith, lt));
       whole = c.len-root-end.ensures;

@@ -9,9 +9,12 @@ returns-in_ok-push c =
     let a = got c.args.allowed.now c.args.v c.at-own.result.now Nothing c.at-own.ensures.value in
     let b = got c.args.marks.now c.args.v c.at-mark.result.now Nothing c.at-mark.ensures.value in
     let new = c.is_new.ensures.yes c.if-is_new.true in
-    subst (λ (w : List ℕ). IsSpread c.args.allowed.now c.args.wanted c.args.from (c.args.v ∷ []) c.args.marks.now c.args.waiting.now c.set.new.self w) (sym c.in_ok-push.ensures.ok)
-    (subst (λ (m : Marks). IsSpread c.args.allowed.now c.args.wanted c.args.from (c.args.v ∷ []) c.args.marks.now c.args.waiting.now m (c.args.waiting.now ++ c.args.v ∷ [])) (sym c.set.ensures)
-    (spread_one c.args.allowed.now c.args.wanted c.args.from c.args.v c.args.marks.now c.args.waiting.now c.requires.marks (a ∙ new.0) (λ e. new.1 (sym b ∙ e))))
+    subst (λ (w : List ℕ). IsSpread c.args.allowed.now c.args.wanted c.args.from (c.args.v ∷ []) c.args.marks.now c.args.waiting.now c.set.new.self w)
+    (sym c.in_ok-push.ensures.ok)
+    (subst (λ (m : Marks). IsSpread c.args.allowed.now c.args.wanted c.args.from (c.args.v ∷ []) c.args.marks.now c.args.waiting.now m
+    (c.args.waiting.now ++ c.args.v ∷ [])) (sym c.set.ensures)
+    (spread_one c.args.allowed.now c.args.wanted c.args.from c.args.v c.args.marks.now c.args.waiting.now c.requires.marks (a ∙ new.0)
+    (λ e. new.1 (sym b ∙ e))))
 
 pub returns-else-is_new : goal.returns-else-is_new
 returns-else-is_new c =

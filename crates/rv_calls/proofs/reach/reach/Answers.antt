@@ -10,44 +10,58 @@ pub loop-v-init : goal.loop-v-init
 loop-v-init c =
     let w : c.push.new.self ≡ c.args.from ∷ [] = c.in_ok-push.ensures.ok ∙ ap (λ l. l ++ c.args.from ∷ []) c.new-waiting.ensures in
     subst (λ (m : Marks). IsSearch c.args.graph.now c.args.allowed.now c.args.wanted c.args.from c.args.marks.now m c.push.new.self) (sym c.set.ensures)
-    (subst (λ (w : List ℕ). IsSearch c.args.graph.now c.args.allowed.now c.args.wanted c.args.from c.args.marks.now (set c.args.marks.now c.args.from (Some c.args.from)) w) (sym w)
-    (search_start c.args.allowed.now c.args.wanted c.args.from c.args.graph.now c.requires.vertices c.args.marks.now c.requires.from c.requires.marks c.requires.start c.requires.fresh))
+    (subst (λ (w : List ℕ). IsSearch c.args.graph.now c.args.allowed.now c.args.wanted c.args.from c.args.marks.now
+    (set c.args.marks.now c.args.from (Some c.args.from)) w) (sym w)
+    (search_start c.args.allowed.now c.args.wanted c.args.from c.args.graph.now c.requires.vertices c.args.marks.now c.requires.from c.requires.marks
+    c.requires.start c.requires.fresh))
 
 pub at-requires : goal.at-requires
 at-requires c =
-    search_last c.args.allowed.now c.args.wanted c.args.from c.args.graph.now c.requires.vertices c.args.marks.now c.loop-v.marks c.loop-v.waiting c.pop.new.self c.in-Some.v c.loop-v.invariant c.in-Some.ensures.taken
+    search_last c.args.allowed.now c.args.wanted c.args.from c.args.graph.now c.requires.vertices c.args.marks.now c.loop-v.marks c.loop-v.waiting
+    c.pop.new.self c.in-Some.v c.loop-v.invariant c.in-Some.ensures.taken
 
 pub spread-requires-clause-allowed : goal.spread-requires-clause-allowed
 spread-requires-clause-allowed c v w =
-    let within = search_last c.args.allowed.now c.args.wanted c.args.from c.args.graph.now c.requires.vertices c.args.marks.now c.loop-v.marks c.loop-v.waiting c.pop.new.self c.in-Some.v c.loop-v.invariant c.in-Some.ensures.taken in
-    let same : c.as_slice-targets.result.now ≡ edges c.args.graph.now c.in-Some.v = c.as_slice-targets.ensures ∙ sym (got c.args.graph.now c.in-Some.v c.at.result.now [] c.at.ensures.value) in
+    let within = search_last c.args.allowed.now c.args.wanted c.args.from c.args.graph.now c.requires.vertices c.args.marks.now c.loop-v.marks c.loop-v.waiting
+    c.pop.new.self c.in-Some.v c.loop-v.invariant c.in-Some.ensures.taken in
+    let same : c.as_slice-targets.result.now ≡ edges c.args.graph.now c.in-Some.v = c.as_slice-targets.ensures
+    ∙ sym (got c.args.graph.now c.in-Some.v c.at.result.now [] c.at.ensures.value) in
     let at = contains_at (edges c.args.graph.now c.in-Some.v) v (subst (λ (ts : List ℕ). Contains ts v) same w) in
     let less = subst (λ u. u < length c.args.graph.now) at.2 (c.requires.vertices c.in-Some.v at.0 within at.1) in
     let n = c.requires.allowed in omega (arith, less, n)
 
 pub spread-requires-clause-marks : goal.spread-requires-clause-marks
 spread-requires-clause-marks c v w =
-    let within = search_last c.args.allowed.now c.args.wanted c.args.from c.args.graph.now c.requires.vertices c.args.marks.now c.loop-v.marks c.loop-v.waiting c.pop.new.self c.in-Some.v c.loop-v.invariant c.in-Some.ensures.taken in
-    let same : c.as_slice-targets.result.now ≡ edges c.args.graph.now c.in-Some.v = c.as_slice-targets.ensures ∙ sym (got c.args.graph.now c.in-Some.v c.at.result.now [] c.at.ensures.value) in
+    let within = search_last c.args.allowed.now c.args.wanted c.args.from c.args.graph.now c.requires.vertices c.args.marks.now c.loop-v.marks c.loop-v.waiting
+    c.pop.new.self c.in-Some.v c.loop-v.invariant c.in-Some.ensures.taken in
+    let same : c.as_slice-targets.result.now ≡ edges c.args.graph.now c.in-Some.v = c.as_slice-targets.ensures
+    ∙ sym (got c.args.graph.now c.in-Some.v c.at.result.now [] c.at.ensures.value) in
     let at = contains_at (edges c.args.graph.now c.in-Some.v) v (subst (λ (ts : List ℕ). Contains ts v) same w) in
     let less = subst (λ u. u < length c.args.graph.now) at.2 (c.requires.vertices c.in-Some.v at.0 within at.1) in
     let n = c.requires.marks in let m = c.loop-v.invariant.size in omega (arith, less, n, m)
 
 pub loop-v-preserved : goal.loop-v-preserved
 loop-v-preserved c =
-    let same : c.as_slice-targets.result.now ≡ edges c.args.graph.now c.in-Some.v = c.as_slice-targets.ensures ∙ sym (got c.args.graph.now c.in-Some.v c.at.result.now [] c.at.ensures.value) in
-    (search_step c.args.allowed.now c.args.wanted c.args.from c.args.graph.now c.requires.vertices c.args.marks.now c.loop-v.marks c.spread.new.marks c.loop-v.waiting c.pop.new.self c.spread.new.waiting c.in-Some.v
+    let same : c.as_slice-targets.result.now ≡ edges c.args.graph.now c.in-Some.v = c.as_slice-targets.ensures
+    ∙ sym (got c.args.graph.now c.in-Some.v c.at.result.now [] c.at.ensures.value) in
+    (search_step c.args.allowed.now c.args.wanted c.args.from c.args.graph.now c.requires.vertices c.args.marks.now c.loop-v.marks c.spread.new.marks
+    c.loop-v.waiting c.pop.new.self c.spread.new.waiting c.in-Some.v
     c.loop-v.invariant c.in-Some.ensures.taken
-    (subst (λ (ts : List ℕ). IsSpread c.args.allowed.now c.args.wanted c.args.from ts c.loop-v.marks c.pop.new.self c.spread.new.marks c.spread.new.waiting) same c.in_ok-spread.ensures)).0
+    (subst (λ (ts : List ℕ). IsSpread c.args.allowed.now c.args.wanted c.args.from ts c.loop-v.marks c.pop.new.self c.spread.new.marks c.spread.new.waiting)
+    same c.in_ok-spread.ensures)).0
 
 pub loop-v-smaller : goal.loop-v-smaller
 loop-v-smaller c =
-    let same : c.as_slice-targets.result.now ≡ edges c.args.graph.now c.in-Some.v = c.as_slice-targets.ensures ∙ sym (got c.args.graph.now c.in-Some.v c.at.result.now [] c.at.ensures.value) in
-    (search_step c.args.allowed.now c.args.wanted c.args.from c.args.graph.now c.requires.vertices c.args.marks.now c.loop-v.marks c.spread.new.marks c.loop-v.waiting c.pop.new.self c.spread.new.waiting c.in-Some.v
+    let same : c.as_slice-targets.result.now ≡ edges c.args.graph.now c.in-Some.v = c.as_slice-targets.ensures
+    ∙ sym (got c.args.graph.now c.in-Some.v c.at.result.now [] c.at.ensures.value) in
+    (search_step c.args.allowed.now c.args.wanted c.args.from c.args.graph.now c.requires.vertices c.args.marks.now c.loop-v.marks c.spread.new.marks
+    c.loop-v.waiting c.pop.new.self c.spread.new.waiting c.in-Some.v
     c.loop-v.invariant c.in-Some.ensures.taken
-    (subst (λ (ts : List ℕ). IsSpread c.args.allowed.now c.args.wanted c.args.from ts c.loop-v.marks c.pop.new.self c.spread.new.marks c.spread.new.waiting) same c.in_ok-spread.ensures)).1
+    (subst (λ (ts : List ℕ). IsSpread c.args.allowed.now c.args.wanted c.args.from ts c.loop-v.marks c.pop.new.self c.spread.new.marks c.spread.new.waiting)
+    same c.in_ok-spread.ensures)).1
 
 pub returns : goal.returns
 returns c =
     let none : c.loop-v.waiting ≡ [] = search rules in
-    search_end c.args.allowed.now c.args.wanted c.args.from c.args.graph.now c.requires.vertices c.args.marks.now c.loop-v.marks c.loop-v.waiting c.loop-v.invariant none
+    search_end c.args.allowed.now c.args.wanted c.args.from c.args.graph.now c.requires.vertices c.args.marks.now c.loop-v.marks c.loop-v.waiting
+    c.loop-v.invariant none

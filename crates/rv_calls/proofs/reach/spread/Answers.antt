@@ -23,5 +23,7 @@ pub loop-target-preserved : goal.loop-target-preserved
 loop-target-preserved c =
     subst (λ (ts : List ℕ). IsSpread c.args.allowed.now c.args.wanted c.args.from ts c.args.marks.now c.args.waiting.now c.mark.new.marks c.mark.new.waiting)
     (sym (take_more c.args.targets.now c.loop-target.target-index 0 (omega arith)))
-    (spread_more c.args.allowed.now c.args.wanted c.args.from (take c.loop-target.target-index c.args.targets.now) (get_or c.args.targets.now c.loop-target.target-index 0 ∷ [])
-    c.args.marks.now c.loop-target.marks c.mark.new.marks c.args.waiting.now c.loop-target.waiting c.mark.new.waiting c.loop-target.invariant c.in_ok-mark.ensures)
+    (spread_more c.args.allowed.now c.args.wanted c.args.from (take c.loop-target.target-index c.args.targets.now)
+    (get_or c.args.targets.now c.loop-target.target-index 0 ∷ [])
+    c.args.marks.now c.loop-target.marks c.mark.new.marks c.args.waiting.now c.loop-target.waiting c.mark.new.waiting c.loop-target.invariant
+    c.in_ok-mark.ensures)

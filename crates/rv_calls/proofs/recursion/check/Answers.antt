@@ -28,4 +28,5 @@ returns-in-Err-clause-recursive c =
     let p = program_tree c.args.p.now in
     let g : c.in_ok-graph.graph ≡ call_graph (callings_of p) = c.in_ok-graph.ensures ∙ ap call_graph c.in_ok-calls.ensures in
     recursion_of p c.requires.named c.in-Err.fault
-    (subst (λ t. IsRecursion (call_graph (callings_of p)) t c.in-Err.fault) c.in_ok-calls.ensures (subst (λ (h : Graph). IsRecursion h c.in_ok-calls.calls c.in-Err.fault) g c.in-Err.ensures.recursive))
+    (subst (λ t. IsRecursion (call_graph (callings_of p)) t c.in-Err.fault) c.in_ok-calls.ensures
+    (subst (λ (h : Graph). IsRecursion h c.in_ok-calls.calls c.in-Err.fault) g c.in-Err.ensures.recursive))

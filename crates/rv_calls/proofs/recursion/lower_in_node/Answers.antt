@@ -18,7 +18,8 @@ pub loop-call-preserved : goal.loop-call-preserved
 loop-call-preserved c =
     subst (λ (cs : List Calling). IsLowered c.args.parts.now c.args.node cs c.args.old c.lower-least.result)
     (sym (take_more c.args.calls.now c.loop-call.call-index (record { at = 0; site = 0; callee = 0 }) (omega arith)))
-    (lowered_more c.args.parts.now c.args.node (take c.loop-call.call-index c.args.calls.now) (get_or c.args.calls.now c.loop-call.call-index (record { at = 0; site = 0; callee = 0 }) ∷ [])
+    (lowered_more c.args.parts.now c.args.node (take c.loop-call.call-index c.args.calls.now)
+    (get_or c.args.calls.now c.loop-call.call-index (record { at = 0; site = 0; callee = 0 }) ∷ [])
     c.args.old c.loop-call.least c.lower-least.result c.loop-call.invariant c.lower-least.ensures)
 
 pub returns : goal.returns

@@ -8,5 +8,6 @@ returns-in-Some c = record {
   falsifies = λ t e.
       let s = c.args.source.now in
       let p = program_tree s.program in
-      cut_falsifies p (name_at p s.typed.main) c.args.trace c.in-Some.last c.requires.trace (c.in_ok-last.ensures.found c.in-Some.last (cc)) c.truncate.new.self c.truncate.ensures t (cc);
+      cut_falsifies p (name_at p s.typed.main) c.args.trace c.in-Some.last c.requires.trace (c.in_ok-last.ensures.found c.in-Some.last (cc)) c.truncate.new.self
+      c.truncate.ensures t (cc);
 }

@@ -8,8 +8,12 @@ use Rattle.rv_falsify.proofs.finding.find_candidate.Goals as goal
 
 pub trace_with-requires-clause-program : goal.trace_with-requires-clause-program
 trace_with-requires-clause-program c =
-    let p = program_tree c.args.source.now.program in
-    (p, name_at p c.args.source.now.typed.main, subst (IsFlatOf p (name_at p c.args.source.now.typed.main)) (sym (c.flat-flat.ensures ∙ ap (λ (r : Reading). flat_of r) c.candidate.ensures.same)) c.requires.flat)
+    let p = program_tree c.args.source.now.program in (
+      p,
+      name_at p c.args.source.now.typed.main,
+      subst (IsFlatOf p (name_at p c.args.source.now.typed.main))
+          (sym (c.flat-flat.ensures ∙ ap (λ (r : Reading). flat_of r) c.candidate.ensures.same)) c.requires.flat,
+    )
 
 pub trace_with-requires-clause-some : goal.trace_with-requires-clause-some
 trace_with-requires-clause-some c =
@@ -19,7 +23,8 @@ trace_with-requires-clause-some c =
 pub confirmed-requires-clause-flat : goal.confirmed-requires-clause-flat
 confirmed-requires-clause-flat c =
     let p = program_tree c.args.source.now.program in
-    subst (IsFlatOf p (name_at p c.args.source.now.typed.main)) (sym (c.flat-flat.ensures ∙ ap (λ (r : Reading). flat_of r) c.candidate.ensures.same)) c.requires.flat
+    subst (IsFlatOf p (name_at p c.args.source.now.typed.main)) (sym (c.flat-flat.ensures ∙ ap (λ (r : Reading). flat_of r) c.candidate.ensures.same))
+    c.requires.flat
 
 pub returns-in_ok-found-in-Some-clause-falsifies : goal.returns-in_ok-found-in-Some-clause-falsifies
 returns-in_ok-found-in-Some-clause-falsifies c = λ t e. c.in_ok-found-in-Some.ensures.falsifies t (cc)

@@ -13,4 +13,5 @@ returns-clause-flat c = λ program main f starts inputs n h well named flat run.
 )
 
 pub returns-clause-back : goal.returns-clause-back
-returns-clause-back c = λ program main f n states inputs rows well named flat run some. has_run c.steps_are_run.ensures c.some_next.ensures program main f well named flat n states inputs rows run some
+returns-clause-back c = λ program main f n states inputs rows well named flat run some. has_run c.steps_are_run.ensures c.some_next.ensures program main f well
+    named flat n states inputs rows run some

@@ -9,6 +9,9 @@ use Rattle.rv_flatten.specs.Readings.{assertion_of}
 use Rattle.rv_flatten.proofs.assertions.push_assertions.Given as goal
 
 abbrev pub invariant-loop-assertion : goal.invariant-loop-assertion
-invariant-loop-assertion l = (i : Instance) → IsInstance (program_given l.given) (main_given l.given) i → IsNumberOf (program_given l.given) l.given.expanded.now.instances.now l.instance i
-    → map raw_tree l.made ++ map (λ (a : Assertion). assertion_of (program_given l.given) (numbers_of l.given l.found) i (assertion_tree a)) (drop l.assertion-index l.assertion-items)
-    ≡ map raw_tree l.fn.made ++ map (λ (a : Assertion). assertion_of (program_given l.given) (numbers_of l.given l.found) i (assertion_tree a)) l.assertion-items
+invariant-loop-assertion l = (i : Instance) → IsInstance (program_given l.given) (main_given l.given) i
+    → IsNumberOf (program_given l.given) l.given.expanded.now.instances.now l.instance i
+    → map raw_tree l.made ++ map (λ (a : Assertion). assertion_of (program_given l.given) (numbers_of l.given l.found) i (assertion_tree a))
+    (drop l.assertion-index l.assertion-items)
+    ≡ map raw_tree l.fn.made ++ map (λ (a : Assertion). assertion_of (program_given l.given) (numbers_of l.given l.found) i (assertion_tree a))
+    l.assertion-items

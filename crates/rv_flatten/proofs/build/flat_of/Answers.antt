@@ -32,7 +32,8 @@ flat_by-requires-clause-given c =
       owns = c.in_ok-owns.ensures;
       values = c.named_values-values.ensures ∙ ap constant_value same;
       kinds = s.1.flow_types ∙ ap (λ (q : ProgramTree). map (flow_kinds q) q.nodes) same;
-      sequence = sequence_same p (program_of e) (name_at p c.args.typed.now.main) (main_of e) (sites_of c.args.order.now.sequence) (sites_of c.as_slice-2.result.now) same name (ap sites_of (sym c.as_slice-2.ensures)) c.requires.sequence;
+      sequence = sequence_same p (program_of e) (name_at p c.args.typed.now.main) (main_of e) (sites_of c.args.order.now.sequence)
+          (sites_of c.as_slice-2.result.now) same name (ap sites_of (sym c.as_slice-2.ensures)) c.requires.sequence;
       light = light_same p (program_of e) (name_at p c.args.typed.now.main) (main_of e) same name c.requires.light;
     }
 
@@ -93,4 +94,5 @@ pub returns-clause-expanded : goal.returns-clause-expanded
 returns-clause-expanded c =
     let p = program_tree c.args.program.now in
     let name = name_at p c.args.typed.now.main in
-    if_ok c.flat_by.result (λ (f : Flat). f.expanded ≡ c.args.order.now.expanded) (λ (f : Flat). f.expanded ≡ expanded p name) (λ f is. is ∙ c.requires.nodes) c.flat_by.ensures.expanded
+    if_ok c.flat_by.result (λ (f : Flat). f.expanded ≡ c.args.order.now.expanded) (λ (f : Flat). f.expanded ≡ expanded p name) (λ f is. is ∙ c.requires.nodes)
+    c.flat_by.ensures.expanded

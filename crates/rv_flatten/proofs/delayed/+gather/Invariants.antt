@@ -6,7 +6,8 @@ use Rattle.rv_flatten.proofs.delayed.+gather.Given as goal
 
 abbrev pub invariant-gather_all-loop-e : goal.invariant-gather_all-loop-e
 invariant-gather_all-loop-e l = record {
-  pace : meet l.together (pace_of_all (node_tree l.clocks.node.now) (trees (map tree_of (drop l.e-index l.expressions)))) ≡ pace_of_all (node_tree l.clocks.node.now) (trees (map tree_of l.expressions));
+  pace : meet l.together (pace_of_all (node_tree l.clocks.node.now) (trees (map tree_of (drop l.e-index l.expressions)))) ≡ pace_of_all
+      (node_tree l.clocks.node.now) (trees (map tree_of l.expressions));
   found :
       l.found ++ delayed_in_all (node_tree l.clocks.node.now) (trees (map tree_of (drop l.e-index l.expressions)))
       ≡ l.initial.found ++ delayed_in_all (node_tree l.clocks.node.now) (trees (map tree_of l.expressions));

@@ -11,5 +11,6 @@ returns c numbers i frame ticks there typed =
     let e = x.expanded.now in
     ap raw_tree c.into_inner.ensures ∙ c.in_ok-made.ensures.flat
     ∙ part_read_is numbers i x frame
-    (c.instance_numbers.ensures (program_of e) (main_of e) e.instances.now x.reader.layout.now x.reader.instance i frame.known.expanded frame.layout frame.instance frame.number)
+    (c.instance_numbers.ensures (program_of e) (main_of e) e.instances.now x.reader.layout.now x.reader.instance i frame.known.expanded frame.layout
+    frame.instance frame.number)
     ticks (tree_of c.args.e.now) there typed

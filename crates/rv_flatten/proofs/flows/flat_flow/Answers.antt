@@ -42,6 +42,8 @@ returns c =
       at = c.in_ok-place.ensures ∙ sym (get_or-map (λ (q : Place). q.sites) g.sequence.now c.args.number c.index-given-number.result [] c.requires.within);
       giver = f.0;
       gives = gives;
-      item = c.in_ok-item.ensures (numbers_of g c.args.found.now) (place_at (all_places p g.expanded.now.instances.now) c.at.result.now) f.0 c.requires.given.light c.requires.found.ticks c.requires.found.numbering f.1 f.2;
-      kind = λ i x is w e. ap Some c.kind_of_flow.ensures ∙ its_kind g c.requires.given c.at.result.now c.at-3.result.now i x c.at-3.ensures.value is w (there ∙ e);
+      item = c.in_ok-item.ensures (numbers_of g c.args.found.now) (place_at (all_places p g.expanded.now.instances.now) c.at.result.now) f.0
+          c.requires.given.light c.requires.found.ticks c.requires.found.numbering f.1 f.2;
+      kind = λ i x is w e. ap Some c.kind_of_flow.ensures ∙ its_kind g c.requires.given c.at.result.now c.at-3.result.now i x c.at-3.ensures.value is w
+          (there ∙ e);
     }

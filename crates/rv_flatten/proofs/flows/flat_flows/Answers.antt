@@ -18,7 +18,8 @@ pub loop-number-preserved : goal.loop-number-preserved
 loop-number-preserved c =
     let g = c.args.given.now in
     record {
-      made = one_made (program_given g) (main_given g) (numbers_of g c.args.found.now) (sites_of g.sequence.now) c.loop-number.number c.loop-number.flows c.push.new.self c.in_ok-flow.flow
+      made = one_made (program_given g) (main_given g) (numbers_of g c.args.found.now) (sites_of g.sequence.now) c.loop-number.number c.loop-number.flows
+          c.push.new.self c.in_ok-flow.flow
           c.loop-number.invariant.made c.in_ok-push.ensures.ok c.in_ok-flow.ensures;
       end = refl;
     }

@@ -23,7 +23,8 @@ returns c =
       ticks = subst (AreTicks p main) (sym ticks) c.in_ok-ticking.ensures.list;
       comparisons = c.in_ok-comparisons.ensures;
       order = c.in_ok-order.ensures p main x.instances.now c.requires.known.expanded c.requires.layout c.requires.sequence;
-      numbering = subst (λ ts. IsNumbering p main x.instances.now (record { flows = sequence; memories = kept; ticks = ts }) c.in_ok-numbering.numbering) (sym ticks) c.in_ok-numbering.ensures;
+      numbering = subst (λ ts. IsNumbering p main x.instances.now (record { flows = sequence; memories = kept; ticks = ts }) c.in_ok-numbering.numbering)
+          (sym ticks) c.in_ok-numbering.ensures;
       tick_flows = c.in_ok-tick_flows.ensures ∙ ap (map (λ k. slice_index_or c.in_ok-numbering.numbering.flows k 0)) c.as_slice.ensures
           ∙ tick_flows_numbered all sequence c.in_ok-numbering.numbering.flows ticking c.in_ok-numbering.ensures.flows c.in_ok-ticking.ensures.within
           ∙ ap (numbers_among sequence) (sym ticks);

@@ -16,14 +16,22 @@ new-reader-requires-clause-within c =
 pub clock-clock-requires-clause-within : goal.clock-clock-requires-clause-within
 clock-clock-requires-clause-within c =
     let x = c.args.expanded.now in
-    body_within (program_of x) (main_of x) x.instances.now c.requires.known.expanded c.new-reader.result c.args.body.now c.new-reader.ensures.reader c.new-reader.ensures.node c.requires.giver
+    body_within (program_of x) (main_of x) x.instances.now c.requires.known.expanded c.new-reader.result c.args.body.now c.new-reader.ensures.reader
+    c.new-reader.ensures.node c.requires.giver
 
 pub returns : goal.returns
 returns c numbers q g light ticks numbering gives stands =
     let x = c.args.expanded.now in
     let p = program_of x in
     let reader = c.new-reader.ensures in
-    let frame : Frame = record { expanded = c.args.expanded; reader = c.new-reader.result; tables = c.args.tables; own = c.own_at-own.result; values = c.args.values; numbering = c.args.numbering } in
+    let frame : Frame = record {
+      expanded = c.args.expanded;
+      reader = c.new-reader.result;
+      tables = c.args.tables;
+      own = c.own_at-own.result;
+      values = c.args.values;
+      numbering = c.args.numbering;
+    } in
     body_made c.instance_numbers.ensures numbers frame c.requires.known light ticks reader.reader
     (reader.node ∙ ap (node_at p x.instances.now) (sym reader.instance))
     (c.own_at-own.ensures ∙ ap (λ m. node_scope p (node_at p x.instances.now m)) (sym reader.instance))

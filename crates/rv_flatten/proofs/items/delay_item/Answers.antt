@@ -27,7 +27,14 @@ returns c numbers i d light ticks numbering of number there same =
     let r = c.new-reader.result in
     let e = tree_of c.args.operand.now in
     let reader = c.new-reader.ensures in
-    let frame : Frame = record { expanded = c.args.expanded; reader = r; tables = c.args.tables; own = c.own_at-own.result; values = c.args.values; numbering = c.args.numbering } in
+    let frame : Frame = record {
+      expanded = c.args.expanded;
+      reader = r;
+      tables = c.args.tables;
+      own = c.own_at-own.result;
+      values = c.args.values;
+      numbering = c.args.numbering;
+    } in
     let clock : c.args.clock ≡ clock_of_expression (node_read r) e = c.requires.clock ∙ (λ i. clock_of_expression (sym reader.node i) e) in
     delay_made c.instance_numbers.ensures numbers frame c.requires.known light ticks reader.reader
     (reader.node ∙ ap (node_at p x.instances.now) (sym reader.instance))

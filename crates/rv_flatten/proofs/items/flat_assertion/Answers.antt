@@ -14,7 +14,14 @@ returns c numbers i light ticks numbering of number there =
     let x = c.args.expanded.now in
     let p = program_of x in
     let reader = c.new-reader.ensures in
-    let frame : Frame = record { expanded = c.args.expanded; reader = c.new-reader.result; tables = c.args.tables; own = c.own_at-own.result; values = c.args.values; numbering = c.args.numbering } in
+    let frame : Frame = record {
+      expanded = c.args.expanded;
+      reader = c.new-reader.result;
+      tables = c.args.tables;
+      own = c.own_at-own.result;
+      values = c.args.values;
+      numbering = c.args.numbering;
+    } in
     assertion_made c.instance_numbers.ensures numbers frame c.requires.known light ticks reader.reader
     (reader.node ∙ ap (node_at p x.instances.now) (sym reader.instance))
     (c.own_at-own.ensures ∙ ap (λ m. node_scope p (node_at p x.instances.now m)) (sym reader.instance))

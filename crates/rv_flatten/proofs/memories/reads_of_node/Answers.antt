@@ -30,7 +30,9 @@ returns c p t different =
     let clocks : c.as_slice-5.result.now ≡ delayed_clocks n (node_delays n) =
     c.as_slice-5.ensures ∙ c.in_ok-times.ensures ∙ (λ i. node_delayed (node i)) ∙ in_node n in
     let all : joined c.as_slice-4.result.now c.as_slice-5.result.now 0 (map delayed_seen c.as_slice-3.result.now) ≡ reads_in p n =
-    (λ i. joined (kinds i) (clocks i) 0 (map delayed_seen (c.as_slice-3.ensures i))) ∙ (λ i. joined (delayed_kinds (node_scope p n) (node_delays n)) (delayed_clocks n (node_delays n)) 0 (both i))
+    (λ i. joined (kinds i) (clocks i) 0 (map delayed_seen (c.as_slice-3.ensures i)))
+    ∙ (λ i. joined (delayed_kinds (node_scope p n) (node_delays n)) (delayed_clocks n (node_delays n)) 0 (both i))
     ∙ joined_reads n (node_scope p n) (node_delays n) in
-    if_ok c.together.result (λ (read : List MemoryRead). map read_seen read ≡ joined c.as_slice-4.result.now c.as_slice-5.result.now 0 (map delayed_seen c.as_slice-3.result.now)) (λ (read : List MemoryRead). map read_seen read ≡ reads_in p n)
+    if_ok c.together.result (λ (read : List MemoryRead). map read_seen read ≡ joined c.as_slice-4.result.now c.as_slice-5.result.now 0
+    (map delayed_seen c.as_slice-3.result.now)) (λ (read : List MemoryRead). map read_seen read ≡ reads_in p n)
     (λ read is. is ∙ all) c.together.ensures

@@ -16,7 +16,8 @@ loop-clocks-preserved c =
     let within : k < length x.clocks = subst (λ n. k < n) (ap length c.as_slice-clocks-items.ensures) c.loop-clocks-test.true in
     let is : get_or x.clocks k node ≡ node = sym (c.clocks-item.is ∙ (λ i. get_or (c.as_slice-clocks-items.ensures i) k node)) in
     let found = c.in_ok-own.ensures p c.requires.tables (clocked_once x c.requires.known k node within is) in
-    one_more (λ (c : NodeClocks). reads_in p (node_tree c.node.now)) x.clocks k node (map (map read_seen) c.loop-clocks.read) (map (map read_seen) c.push.new.self) (map read_seen c.in_ok-own.own) within is
+    one_more (λ (c : NodeClocks). reads_in p (node_tree c.node.now)) x.clocks k node (map (map read_seen) c.loop-clocks.read)
+    (map (map read_seen) c.push.new.self) (map read_seen c.in_ok-own.own) within is
     (ap (map (map read_seen)) c.in_ok-push.ensures.ok ∙ map-append (λ (rs : List MemoryRead). map read_seen rs) c.loop-clocks.read (c.in_ok-own.own ∷ []))
     c.loop-clocks.invariant
     found
@@ -24,4 +25,5 @@ loop-clocks-preserved c =
 pub returns : goal.returns
 returns c =
     let x = c.args.expanded.now in
-    c.loop-clocks.invariant ∙ each_node x c.requires.known (reads_in (program_tree x.program.now)) c.loop-clocks.clocks-index (subst (λ n. n ≤ c.loop-clocks.clocks-index) (ap length c.as_slice-clocks-items.ensures) c.loop-clocks-test.false)
+    c.loop-clocks.invariant ∙ each_node x c.requires.known (reads_in (program_tree x.program.now)) c.loop-clocks.clocks-index
+    (subst (λ n. n ≤ c.loop-clocks.clocks-index) (ap length c.as_slice-clocks-items.ensures) c.loop-clocks-test.false)

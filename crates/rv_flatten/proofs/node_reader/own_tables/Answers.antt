@@ -17,8 +17,10 @@ loop-clocks-preserved c =
     let own = c.in_ok-own.own in
     let within : k < length x.clocks = subst (λ n. k < n) (ap length c.as_slice-clocks-items.ensures) c.loop-clocks-test.true in
     let is : get_or x.clocks k clocks ≡ clocks = sym (c.clocks-item.is ∙ (λ i. get_or (c.as_slice-clocks-items.ensures i) k clocks)) in
-    let scope : scope_by t own ≡ node_scope p (node_tree clocks.node.now) = c.in_ok-own.ensures.scope p c.requires.tables (clocked_once x c.requires.known k clocks within is) in
-    one_more (λ (c : NodeClocks). node_scope p (node_tree c.node.now)) x.clocks k clocks (map (scope_by t) c.loop-clocks.owns) (map (scope_by t) c.push.new.self) (scope_by t own) within is
+    let scope : scope_by t own ≡ node_scope p (node_tree clocks.node.now) = c.in_ok-own.ensures.scope p c.requires.tables
+    (clocked_once x c.requires.known k clocks within is) in
+    one_more (λ (c : NodeClocks). node_scope p (node_tree c.node.now)) x.clocks k clocks (map (scope_by t) c.loop-clocks.owns)
+    (map (scope_by t) c.push.new.self) (scope_by t own) within is
     (ap (map (scope_by t)) c.in_ok-push.ensures.ok ∙ map-append (scope_by t) c.loop-clocks.owns (own ∷ []))
     c.loop-clocks.invariant
     scope
@@ -26,4 +28,5 @@ loop-clocks-preserved c =
 pub returns : goal.returns
 returns c =
     let x = c.args.expanded.now in
-    c.loop-clocks.invariant ∙ each_node x c.requires.known (node_scope (program_tree x.program.now)) c.loop-clocks.clocks-index (subst (λ n. n ≤ c.loop-clocks.clocks-index) (ap length c.as_slice-clocks-items.ensures) c.loop-clocks-test.false)
+    c.loop-clocks.invariant ∙ each_node x c.requires.known (node_scope (program_tree x.program.now)) c.loop-clocks.clocks-index
+    (subst (λ n. n ≤ c.loop-clocks.clocks-index) (ap length c.as_slice-clocks-items.ensures) c.loop-clocks-test.false)

@@ -7,4 +7,5 @@ use Rattle.rv_flatten.proofs.node_reader.own_tables.Given as goal
 
 abbrev pub invariant-loop-clocks : goal.invariant-loop-clocks
 invariant-loop-clocks l =
-    map (scope_by l.tables) l.owns ≡ map (λ (c : NodeClocks). node_scope (program_tree l.expanded.program.now) (node_tree c.node.now)) (take l.clocks-index l.expanded.clocks)
+    map (scope_by l.tables) l.owns ≡ map (λ (c : NodeClocks). node_scope (program_tree l.expanded.program.now) (node_tree c.node.now))
+    (take l.clocks-index l.expanded.clocks)

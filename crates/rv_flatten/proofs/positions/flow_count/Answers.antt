@@ -23,7 +23,8 @@ returns-clause-count c =
     let x = c.args.expanded.now in
     let some = some_instance (program_of x) (main_of x) x.instances.now c.requires.known.expanded in
     let size = c.len-last.ensures in
-    last_end (program_of x) (main_of x) x.instances.now c.requires.known.expanded c.args.layout.now.laid (c.len-last.result - 1) c.at.result.now c.count.result (omega (arith, some, size)) c.requires.layout.laid
+    last_end (program_of x) (main_of x) x.instances.now c.requires.known.expanded c.args.layout.now.laid (c.len-last.result - 1) c.at.result.now c.count.result
+    (omega (arith, some, size)) c.requires.layout.laid
     c.at.ensures.value c.count.ensures.count
 
 pub returns-clause-few : goal.returns-clause-few

@@ -22,7 +22,8 @@ loop-k-preserved c =
     let test = c.loop-k-test.true in
     let end = c.loop-k.invariant.end in
     record {
-      way = way_more l (take k other) (get_or other k 0) c.loop-k.way c.go_on.new.way c.loop-k.invariant.way c.in_ok-go_on.ensures ∙ ap (way_from l 0) (sym (take_more other k 0 (omega (arith, test, end))));
+      way = way_more l (take k other) (get_or other k 0) c.loop-k.way c.go_on.new.way c.loop-k.invariant.way c.in_ok-go_on.ensures
+          ∙ ap (way_from l 0) (sym (take_more other k 0 (omega (arith, test, end))));
       within = omega (arith, test, end);
       end = refl;
     }

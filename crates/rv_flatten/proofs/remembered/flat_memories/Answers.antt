@@ -29,7 +29,8 @@ loop-kept-preserved c =
           (ap (map memory_of) grown ∙ map-append memory_of had (made ∷ []))
           c.loop-kept.invariant.0
           c.in_ok-memory.ensures.memory,
-      and_one_more (IsRemembered (program_given g) (main_given g) (numbers_of g c.args.found.now)) had c.push.new.self made grown c.loop-kept.invariant.1 c.in_ok-memory.ensures.item,
+      and_one_more (IsRemembered (program_given g) (main_given g) (numbers_of g c.args.found.now)) had c.push.new.self made grown c.loop-kept.invariant.1
+          c.in_ok-memory.ensures.item,
     )
 
 pub returns : goal.returns

@@ -15,8 +15,10 @@ returns c =
     let fits_5 : SFits w128 c.negative-2.result = search rules in
     let fits_6 : SFits w128 c.negative-3.result = search rules in
     let same : to_z w128 (of_z w128 n) ≡ n = to_z-of_z w128 n fits in
-    let before : to_z w128 (of_z w128 c.one_less-before.result) ≡ n -ℤ pos 1 = to_z-of_z w128 c.one_less-before.result fits_before ∙ c.one_less-before.ensures ∙ ap (λ z. z -ℤ pos 1) same in
-    let after : to_z w128 (of_z w128 c.one_more-after.result) ≡ n +ℤ pos 1 = to_z-of_z w128 c.one_more-after.result fits_after ∙ c.one_more-after.ensures ∙ ap (λ z. z +ℤ pos 1) same in
+    let before : to_z w128 (of_z w128 c.one_less-before.result) ≡ n -ℤ pos 1 = to_z-of_z w128 c.one_less-before.result fits_before ∙ c.one_less-before.ensures
+    ∙ ap (λ z. z -ℤ pos 1) same in
+    let after : to_z w128 (of_z w128 c.one_more-after.result) ≡ n +ℤ pos 1 = to_z-of_z w128 c.one_more-after.result fits_after ∙ c.one_more-after.ensures
+    ∙ ap (λ z. z +ℤ pos 1) same in
     on_ok_weaker c.push-6.result
     (λ last. six_more c.args.spread.now c.push.new.self c.push-2.new.self c.push-3.new.self c.push-4.new.self c.push-5.new.self c.push-6.new.self
     (n -ℤ pos 1) n (n +ℤ pos 1) (neg_ℤ (n -ℤ pos 1)) (neg_ℤ n) (neg_ℤ (n +ℤ pos 1)) _ _ _ _ _ _

@@ -4,4 +4,5 @@ use Rattle.rv_flatten.specs.Literals.{assertion_literals}
 use Rattle.rv_flatten.proofs.thresholds.add_assertions.Given as goal
 
 abbrev pub invariant-each : goal.invariant-each
-invariant-each l = l.found ++ assertion_literals (map assertion_tree (drop l.assertion-index l.assertions)) ≡ l.fn.found ++ assertion_literals (map assertion_tree l.fn.assertions)
+invariant-each l = l.found ++ assertion_literals (map assertion_tree (drop l.assertion-index l.assertions)) ≡ l.fn.found
+    ++ assertion_literals (map assertion_tree l.fn.assertions)

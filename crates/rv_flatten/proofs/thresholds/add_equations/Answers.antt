@@ -7,10 +7,12 @@ use Rattle.rv_flatten.proofs.thresholds.add_equations.Goals as goal
 pub each-preserved : goal.each-preserved
 each-preserved c =
     let all = c.args.equations.now in
-    gathered_more (λ x. literals (tree_of x.right)) (λ xs. equation_literals (map equation_tree xs)) (λ x xs. refl) all c.each.equation-index c.equation-item.result c.each.found c.add_literals.new.found
+    gathered_more (λ x. literals (tree_of x.right)) (λ xs. equation_literals (map equation_tree xs)) (λ x xs. refl) all c.each.equation-index
+    c.equation-item.result c.each.found c.add_literals.new.found
     (c.args.found.now ++ equation_literals (map equation_tree all)) (omega arith) c.equation-item.is c.in_ok-add_literals.ensures c.each.invariant
 
 pub returns : goal.returns
 returns c =
     let all = c.args.equations.now in
-    gathered_all (λ xs. equation_literals (map equation_tree xs)) refl all c.each.equation-index c.each.found (c.args.found.now ++ equation_literals (map equation_tree all)) (omega arith) c.each.invariant
+    gathered_all (λ xs. equation_literals (map equation_tree xs)) refl all c.each.equation-index c.each.found
+    (c.args.found.now ++ equation_literals (map equation_tree all)) (omega arith) c.each.invariant

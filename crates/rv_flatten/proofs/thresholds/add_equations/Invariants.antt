@@ -4,4 +4,5 @@ use Rattle.rv_flatten.specs.Literals.{equation_literals}
 use Rattle.rv_flatten.proofs.thresholds.add_equations.Given as goal
 
 abbrev pub invariant-each : goal.invariant-each
-invariant-each l = l.found ++ equation_literals (map equation_tree (drop l.equation-index l.equations)) ≡ l.fn.found ++ equation_literals (map equation_tree l.fn.equations)
+invariant-each l = l.found ++ equation_literals (map equation_tree (drop l.equation-index l.equations)) ≡ l.fn.found
+    ++ equation_literals (map equation_tree l.fn.equations)

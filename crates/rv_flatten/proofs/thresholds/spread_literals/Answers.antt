@@ -19,4 +19,5 @@ each-preserved c =
 pub returns : goal.returns
 returns c =
     let all = c.args.literals.now in
-    gathered_all (flat_map around_literal) refl all c.each.literal-index c.each.spread (c.args.spread.now ++ flat_map around_literal all) (omega arith) c.each.invariant
+    gathered_all (flat_map around_literal) refl all c.each.literal-index c.each.spread (c.args.spread.now ++ flat_map around_literal all)
+    (omega arith) c.each.invariant

@@ -17,4 +17,5 @@ each-preserved c =
 pub returns : goal.returns
 returns c =
     let all = c.args.values.now in
-    gathered_all (flat_map around_value) refl all c.each.value-index c.each.spread (c.args.spread.now ++ flat_map around_value all) (omega arith) c.each.invariant
+    gathered_all (flat_map around_value) refl all c.each.value-index c.each.spread (c.args.spread.now ++ flat_map around_value all)
+    (omega arith) c.each.invariant

@@ -9,7 +9,8 @@ use Rattle.rv_flatten.proofs.ticks.ticks_of.Goals as goal
 pub marked-requires : goal.marked-requires
 marked-requires c =
     let count = c.flow_count.result in
-    subst (λ n. n < 2 ^ 32) (sym (ap length (c.as_slice-2.ensures ∙ c.in_ok-marks.ensures) ∙ marks_size (replicate count false) c.as_slice.result.now ∙ length-replicate count false)) c.flow_count.ensures.few
+    subst (λ n. n < 2 ^ 32) (sym (ap length (c.as_slice-2.ensures ∙ c.in_ok-marks.ensures) ∙ marks_size (replicate count false) c.as_slice.result.now
+    ∙ length-replicate count false)) c.flow_count.ensures.few
 
 pub returns-clause-within : goal.returns-clause-within
 returns-clause-within c =

@@ -31,7 +31,8 @@ use Rattle.rv_forms.proofs.Flowing.{past_list}
 use Rattle.rv_forms.proofs.Kept.{width_first, own_width, within_kept, ready_kept, ready_shown, ready_known, known_set}
 use Rattle.rv_forms.proofs.Shapes.{named_more, over_more, tree_binary, tree_scale}
 use Rattle.rv_forms.proofs.Showing.{reads_when, reads_if, reads_binary, reads_scale, reads_after, none_after}
-use Rattle.rv_forms.proofs.Steps.{constant_step, flow_step, memory_step, input_step, tick_step, not_step, most_step, operator_step, zero_here, few_read, low_kept, light_within, made_term, multiple_as, map_ok, both_ok, on_ok, ok_with, on_map}
+use Rattle.rv_forms.proofs.Steps.{constant_step, flow_step, memory_step, input_step, tick_step, not_step, most_step, operator_step, zero_here, few_read}
+use Rattle.rv_forms.proofs.Steps.{low_kept, light_within, made_term, multiple_as, map_ok, both_ok, on_ok, ok_with, on_map}
 use Rattle.rv_forms.proofs.expressions.+terms.Goals as goal
 
 -- LEAVES
@@ -157,7 +158,14 @@ binary_term-term_of-requires t c =
     let a = tree_in x c.args.left.now in
     let b = tree_in x c.args.right.now in (
       omega (arith, c.decreases),
-      (c.requires.ready, (c.requires.over_left, (and_parts (is_light ws a) (is_light ws b) (light_parts ws [] (Binary c.args.op a b) (c.requires.light []))).0)),
+      (
+        c.requires.ready,
+        (
+          c.requires.over_left,
+          (and_parts (is_light ws a) (is_light ws b)
+              (light_parts ws [] (Binary c.args.op a b) (c.requires.light []))).0,
+        ),
+      ),
     )
 
 pub binary_term-term_of-requires-2 : goal.binary_term-term_of-requires-2
@@ -242,7 +250,8 @@ scaled_term-scale-requires-clause-room t c v =
     let e = tree_in x c.args.operand.now in
     let whole = c.in_ok-whole.whole.parts in
     subst (λ (z : ℤ). CanScale z (form_at d.nodes whole v)) (sym (to_z-of_z w128 c.args.by c.ranges.by))
-    (can_scale (columns_of f) (weight_in f e) c.args.by (form_at d.nodes whole v) (light_weight (weights_of f) (Node [] (Scale c.args.by e)) (c.requires.light []))
+    (can_scale (columns_of f) (weight_in f e) c.args.by (form_at d.nodes whole v)
+    (light_weight (weights_of f) (Node [] (Scale c.args.by e)) (c.requires.light []))
     (form_bounded d.nodes (columns_of f) (weight_in f e) whole c.in_ok-whole.ensures.ok.within v))
 
 pub scaled_term-returns-clause-ok : goal.scaled_term-returns-clause-ok
@@ -314,7 +323,8 @@ chosen_term-choose-requires-clause-no t c =
     let b = c.term_of.new.store in
     let d = c.term_of-2.new.store in
     let one = c.in_ok-one.one.parts in
-    let is_one = (within_kept b d (columns_of f) (weight_in f (tree_in x c.args.first.now)) one c.in_ok-other.ensures.ok.extends c.in_ok-one.ensures.ok.within).term in
+    let is_one = (within_kept b d (columns_of f) (weight_in f (tree_in x c.args.first.now)) one c.in_ok-other.ensures.ok.extends
+    c.in_ok-one.ensures.ok.within).term in
     subst (λ n. IsTerm d.nodes n c.in_ok-other.other.parts) (sym (width_first d.nodes (columns_of f) one is_one)) c.in_ok-other.ensures.ok.within.term
 
 pub chosen_term-returns-clause-ok : goal.chosen_term-returns-clause-ok
@@ -334,7 +344,8 @@ chosen_term-returns-clause-ok t c =
     let is_one = (within_kept s d (columns_of f) (weight_in f (tree_in x c.args.first.now)) one second.extends first.within).term in
     let ref_is : c.ref_of.result ≡ ref_at test 0 = c.ref_of.ensures ∙ ap (λ (l : List ℕ). ref_at l 0) c.as_slice.ensures in
     ok_with c.choose.result _ _ _
-    (λ u made grows at. reads_if f a b s d new at (tree_in x c.args.condition.now) (tree_in x c.args.first.now) (tree_in x c.args.second.now) test one other u.parts
+    (λ u made grows at. reads_if f a b s d new at (tree_in x c.args.condition.now) (tree_in x c.args.first.now) (tree_in x c.args.second.now) test one other
+    u.parts
     c.in_ok-test.ensures.ok first second
     (made_term d new _ (columns_of f) (λ v. cond (value_of d.nodes c.ref_of.result v) (form_at d.nodes one v) (form_at d.nodes other v))
     (λ v. cond (value_of d.nodes (ref_at test 0) v) (form_at d.nodes one v) (form_at d.nodes other v)) u.parts grows made
@@ -444,7 +455,8 @@ after_new-returns-clause-ok t c =
     (subst (λ (p : List Part). GivesTerm d new (columns_of f)
     (λ v. cond (clock_bit d.nodes c.as_slice-on.result.now memory.clock v) (form_at d.nodes body v) (form_at d.nodes p v)) after) found
     (c.in_ok-after.ensures.ok (columns_of f) is_kept)) in
-    reads_after f c.args.store.now d new m memory.clock (tree_in x memory.body) x.tables.now r w body after ready.around.well ready.around.tables ready.around.flows
+    reads_after f c.args.store.now d new m memory.clock (tree_in x memory.body) x.tables.now r w body after ready.around.well ready.around.tables
+    ready.around.flows
     ready.wholes low (ready.around.table m memory c.requires.memory) (memory_item_at f m memory ready.around.table c.requires.memory)
     (named_more (length w.flows) (length r.on) (few_read x w d c.term_of.new.shown c.term_of.new.known ready) memory.clock c.requires.clock)
     c.in_ok-body.ensures.ok made

@@ -11,7 +11,8 @@ pub choose-requires-clause-no : goal.choose-requires-clause-no
 choose-requires-clause-no c =
     let d = c.args.store.now in
     let columns = c.requires.terms.0 in
-    subst (λ n. IsTerm d.nodes n c.args.elsewhere.now.parts) (sym (width_first d.nodes columns c.args.body.parts c.requires.terms.3.term)) c.requires.terms.4.term
+    subst (λ n. IsTerm d.nodes n c.args.elsewhere.now.parts) (sym (width_first d.nodes columns c.args.body.parts c.requires.terms.3.term))
+    c.requires.terms.4.term
 
 pub returns-in-None-clause-ok : goal.returns-in-None-clause-ok
 returns-in-None-clause-ok c columns other =

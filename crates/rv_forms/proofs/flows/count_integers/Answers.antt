@@ -22,4 +22,5 @@ loop-kind-preserved c =
     omega (arith, next, one, c.loop-kind.invariant)
 
 pub returns : goal.returns
-returns c = c.loop-kind.invariant ∙ ap (rank c.args.kinds.now) (let e : c.loop-kind.kind-index ≡ length c.args.kinds.now = omega arith in e) ∙ rank_all c.args.kinds.now
+returns c = c.loop-kind.invariant ∙ ap (rank c.args.kinds.now) (let e : c.loop-kind.kind-index ≡ length c.args.kinds.now = omega arith in e)
+    ∙ rank_all c.args.kinds.now

@@ -55,7 +55,8 @@ returns-clause-ok c =
     map_ok c.there_or.result _ _
     (λ u made. whole_flow f c.args.store.now d new r n flow body zero u.parts ready.around.well c.requires.flow c.requires.whole ready.around.flows
     (few_read x w d c.term_of.new.shown c.term_of.new.known ready) c.in_ok-body.ensures.ok none
-    (subst (λ (l : List ℕ). GivesTerm d new (columns_of f) (λ v. cond (clock_bit d.nodes l flow.clock v) (form_at d.nodes body v) (form_at d.nodes zero v)) u.parts)
+    (subst (λ (l : List ℕ). GivesTerm d new (columns_of f) (λ v. cond (clock_bit d.nodes l flow.clock v) (form_at d.nodes body v) (form_at d.nodes zero v))
+    u.parts)
     c.as_slice-on.ensures (made (columns_of f) none.term)))
     c.there_or.ensures.ok
 

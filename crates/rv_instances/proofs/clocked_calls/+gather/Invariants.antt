@@ -7,7 +7,8 @@ use Rattle.rv_instances.proofs.clocked_calls.+gather.Given as goal
 
 abbrev pub invariant-gather_all-loop-e : goal.invariant-gather_all-loop-e
 invariant-gather_all-loop-e l = record {
-  pace : meet l.together (pace_of_all (node_tree l.clocks.node.now) (trees (map tree_of (drop l.e-index l.expressions)))) ≡ pace_of_all (node_tree l.clocks.node.now) (trees (map tree_of l.expressions));
+  pace : meet l.together (pace_of_all (node_tree l.clocks.node.now) (trees (map tree_of (drop l.e-index l.expressions)))) ≡ pace_of_all
+      (node_tree l.clocks.node.now) (trees (map tree_of l.expressions));
   found :
       map told l.found ++ map (call_told (node_tree l.clocks.node.now)) (calls_in_all (trees (map tree_of (drop l.e-index l.expressions))))
       ≡ map told l.initial.found ++ map (call_told (node_tree l.clocks.node.now)) (calls_in_all (trees (map tree_of l.expressions)));

@@ -12,14 +12,17 @@ at-node-requires c =
 pub count_flows-requires : goal.count_flows-requires
 count_flows-requires c =
     let lt : c.loop-instance.instance < length c.args.instances.now = omega arith in
-    node_flows_few c.args.p.now c.args.instances.now c.requires.nodes c.loop-instance.instance c.at.result.now lt c.at.ensures.value c.at-node.result.now c.requires.bounded c.at-node.ensures.value
+    node_flows_few c.args.p.now c.args.instances.now c.requires.nodes c.loop-instance.instance c.at.result.now lt c.at.ensures.value c.at-node.result.now
+    c.requires.bounded c.at-node.ensures.value
 
 pub loop-instance-preserved : goal.loop-instance-preserved
 loop-instance-preserved c =
     let lt : c.loop-instance.instance < length c.args.instances.now = omega arith in
-    let count = count_is c.args.p.now c.args.instances.now c.requires.nodes c.loop-instance.instance c.at.result.now lt c.at.ensures.value c.at-node.result.now c.at-node.ensures.value in
+    let count = count_is c.args.p.now c.args.instances.now c.requires.nodes c.loop-instance.instance c.at.result.now lt c.at.ensures.value c.at-node.result.now
+    c.at-node.ensures.value in
     record {
-      found = to_more (flow_count (program_tree c.args.p.now) c.args.instances.now) c.loop-instance.found c.push_flows.new.found c.loop-instance.instance c.count_flows.result
+      found = to_more (flow_count (program_tree c.args.p.now) c.args.instances.now) c.loop-instance.found c.push_flows.new.found c.loop-instance.instance
+          c.count_flows.result
           c.loop-instance.invariant.found c.in_ok-push_flows.ensures (c.count_flows.ensures ∙ count);
       end = c.loop-instance.invariant.end;
     }

@@ -6,7 +6,8 @@ use Rattle.rv_instances.proofs.Placed.{placed_more, placed_at}
 use Rattle.rv_instances.proofs.flows.places_of.Goals as goal
 
 pub at-requires : goal.at-requires
-at-requires c = c.requires.numbers (get_or c.args.numbers.now c.loop-number.number-index 0) (Contains-get_or c.args.numbers.now c.loop-number.number-index 0 (omega arith))
+at-requires c = c.requires.numbers (get_or c.args.numbers.now c.loop-number.number-index 0)
+    (Contains-get_or c.args.numbers.now c.loop-number.number-index 0 (omega arith))
 
 pub place_of-requires : goal.place_of-requires
 place_of-requires c =
@@ -18,6 +19,7 @@ pub loop-number-preserved : goal.loop-number-preserved
 loop-number-preserved c =
     let k = get_or c.args.numbers.now c.loop-number.number-index 0 in
     let lt : k < length c.args.flows.now = c.requires.numbers k (Contains-get_or c.args.numbers.now c.loop-number.number-index 0 (omega arith)) in
-    placed_more (place_at (flow_places c.args.instances.now c.args.flows.now)) c.args.numbers.now c.loop-number.places c.push.new.self c.loop-number.number-index c.in_ok-place_of.field-0 (omega arith)
+    placed_more (place_at (flow_places c.args.instances.now c.args.flows.now)) c.args.numbers.now c.loop-number.places c.push.new.self
+    c.loop-number.number-index c.in_ok-place_of.field-0 (omega arith)
     c.loop-number.invariant c.in_ok-push.ensures.ok
     (c.in_ok-place_of.ensures ∙ placed_at c.args.instances.now c.args.flows.now k c.at.result.now c.at.ensures.value lt)

@@ -11,5 +11,6 @@ unreachable-requires c =
     let lt = c.loop-giver-test.true in
     let g = c.requires k (omega (arith, size, lt)) in
     let none : Nothing ≡ Some g.0 =
-    sym c.in-None.is ∙ c.giver-item.is ∙ sym (get_or_default items k Nothing c.giver-item.result lt) ∙ ap (λ (l : List (Option Giver)). get_or l k Nothing) c.as_slice-giver-items.ensures ∙ g.1 in
+    sym c.in-None.is ∙ c.giver-item.is ∙ sym (get_or_default items k Nothing c.giver-item.result lt)
+    ∙ ap (λ (l : List (Option Giver)). get_or l k Nothing) c.as_slice-giver-items.ensures ∙ g.1 in
     cc

@@ -15,7 +15,8 @@ use Rattle.rv_instances.proofs.givers.give_arguments.Goals as goal
 pub give_call-requires-clause-call : goal.give_call-requires-clause-call
 give_call-requires-clause-call c =
     let x = c.args.expanded.now in
-    call_of (program_of x) (main_of x) x.instances.now c.requires.known.expanded c.args.instance c.requires.within c.calls-call-items.result.now c.calls-call-items.ensures
+    call_of (program_of x) (main_of x) x.instances.now c.requires.known.expanded c.args.instance c.requires.within c.calls-call-items.result.now
+    c.calls-call-items.ensures
     c.loop-call.call-index c.call-item.result c.loop-call-test.true c.call-item.is
 
 pub loop-call-preserved : goal.loop-call-preserved
@@ -30,7 +31,9 @@ loop-call-preserved c =
         | inl last ↦
             let item : c.call-item.result ≡ get_or items k y =
             c.call-item.is ∙ sym (get_or_default items index y c.call-item.result c.loop-call-test.true) ∙ ap (λ n. get_or items n y) (sym last) in
-            subst (λ (z : ClockedCall). (j : ℕ) → j < length z.arguments.now → IsGiven c.give_call.new.found (first_of (program_of x) x.instances.now (callee_or_main c.args.layout.now.callees c.args.instance z.site) + j)) item
+            subst (λ (z : ClockedCall). (j : ℕ) → j < length z.arguments.now
+            → IsGiven c.give_call.new.found (first_of (program_of x) x.instances.now (callee_or_main c.args.layout.now.callees c.args.instance z.site) + j))
+            item
             c.give_call.ensures.arguments j within
         | inr other ↦ c.give_call.ensures.kept _ (c.loop-call.invariant.arguments k j y (omega (arith, lt, other)) within)
       ];
@@ -45,6 +48,8 @@ returns-clause-arguments c d j e w arg =
     let told = v.2 y in
     let end = c.loop-call-test.false in
     let lt = v.1 in
-    let within = argument_there (get_or items v.0 y).arguments.now j e (subst (λ (es : Trees). IsArgument es j e) (sym (ap (λ (t : ToldCall). t.arguments) told)) arg) in
-    subst (λ s. IsGiven c.loop-call.found (first_of (program_of x) x.instances.now (callee_or_main c.args.layout.now.callees c.args.instance s) + j)) (ap (λ (t : ToldCall). t.site) told)
+    let within = argument_there (get_or items v.0 y).arguments.now j e
+    (subst (λ (es : Trees). IsArgument es j e) (sym (ap (λ (t : ToldCall). t.arguments) told)) arg) in
+    subst (λ s. IsGiven c.loop-call.found (first_of (program_of x) x.instances.now (callee_or_main c.args.layout.now.callees c.args.instance s) + j))
+    (ap (λ (t : ToldCall). t.site) told)
     (c.loop-call.invariant.arguments v.0 j y (omega (arith, lt, end)) within)

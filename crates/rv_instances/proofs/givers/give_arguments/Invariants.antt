@@ -10,5 +10,6 @@ invariant-loop-call l = record {
   given : AreGiven (program_of l.expanded) (main_of l.expanded) l.expanded.instances.now l.found;
   kept : KeepsGiven l.fn.found l.found;
   arguments : (k j : ℕ) (x : ClockedCall) → k < l.call-index → j < length (get_or l.call-items k x).arguments.now
-      → IsGiven l.found (first_of (program_of l.expanded) l.expanded.instances.now (callee_or_main l.layout.callees l.instance (get_or l.call-items k x).site) + j);
+      → IsGiven l.found (first_of (program_of l.expanded) l.expanded.instances.now (callee_or_main l.layout.callees l.instance (get_or l.call-items k x).site)
+      + j);
 }

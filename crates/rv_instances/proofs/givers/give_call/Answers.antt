@@ -12,8 +12,10 @@ pub at-requires : goal.at-requires
 at-requires c =
     let x = c.args.expanded.now in
     let size = ap length c.requires.layout.laid ∙ laid_size (program_of x) x.instances.now (length x.instances.now) in
-    let lt = callee_there (program_of x) (main_of x) x.instances.now c.requires.known.expanded c.args.layout.now.callees c.requires.layout.callees c.args.instance c.requires.within c.args.call.now c.requires.call in
-    let is : c.unwrap_or-callee.result ≡ callee_or_main c.args.layout.now.callees c.args.instance c.args.call.now.site = c.unwrap_or-callee.ensures ∙ ap (λ o. unwrap_or o 0) c.callee.ensures in
+    let lt = callee_there (program_of x) (main_of x) x.instances.now c.requires.known.expanded c.args.layout.now.callees c.requires.layout.callees
+    c.args.instance c.requires.within c.args.call.now c.requires.call in
+    let is : c.unwrap_or-callee.result ≡ callee_or_main c.args.layout.now.callees c.args.instance c.args.call.now.site = c.unwrap_or-callee.ensures
+    ∙ ap (λ o. unwrap_or o 0) c.callee.ensures in
     omega (arith, size, lt, is)
 
 pub set-requires : goal.set-requires
@@ -24,10 +26,13 @@ set-requires c =
     let m = c.args.instance in
     let j = c.loop-number.number in
     let is : c.unwrap_or-callee.result ≡ callee_or_main table m c.args.call.now.site = c.unwrap_or-callee.ensures ∙ ap (λ o. unwrap_or o 0) c.callee.ensures in
-    let lt = callee_there (program_of x) (main_of x) ins c.requires.known.expanded table c.requires.layout.callees m c.requires.within c.args.call.now c.requires.call in
-    let first = ap (λ (l : Laid). l.first) (laid_read (program_of x) ins c.args.layout.now.laid c.unwrap_or-callee.result c.at.result.now (omega (arith, is, lt)) c.requires.layout.laid c.at.ensures.value)
+    let lt = callee_there (program_of x) (main_of x) ins c.requires.known.expanded table c.requires.layout.callees m c.requires.within c.args.call.now
+    c.requires.call in
+    let first = ap (λ (l : Laid). l.first) (laid_read (program_of x) ins c.args.layout.now.laid c.unwrap_or-callee.result c.at.result.now
+    (omega (arith, is, lt)) c.requires.layout.laid c.at.ensures.value)
     ∙ ap (first_of (program_of x) ins) is in
-    let placed = (argument_placed (program_of x) (main_of x) ins c.requires.known.expanded table c.requires.layout.callees m c.requires.within c.args.call.now c.requires.call j c.index-arguments-number.result
+    let placed = (argument_placed (program_of x) (main_of x) ins c.requires.known.expanded table c.requires.layout.callees m c.requires.within c.args.call.now
+    c.requires.call j c.index-arguments-number.result
     c.loop-number-test.true c.index-arguments-number.is).0 in
     let size = c.loop-number.invariant.given.size in
     omega (arith, first, placed, size)
@@ -41,14 +46,19 @@ loop-number-preserved c =
     let j = c.loop-number.number in
     let g = c.body_of-giver.result in
     let is : c.unwrap_or-callee.result ≡ callee_or_main table m c.args.call.now.site = c.unwrap_or-callee.ensures ∙ ap (λ o. unwrap_or o 0) c.callee.ensures in
-    let lt = callee_there (program_of x) (main_of x) ins c.requires.known.expanded table c.requires.layout.callees m c.requires.within c.args.call.now c.requires.call in
-    let first = ap (λ (l : Laid). l.first) (laid_read (program_of x) ins c.args.layout.now.laid c.unwrap_or-callee.result c.at.result.now (omega (arith, is, lt)) c.requires.layout.laid c.at.ensures.value)
+    let lt = callee_there (program_of x) (main_of x) ins c.requires.known.expanded table c.requires.layout.callees m c.requires.within c.args.call.now
+    c.requires.call in
+    let first = ap (λ (l : Laid). l.first) (laid_read (program_of x) ins c.args.layout.now.laid c.unwrap_or-callee.result c.at.result.now
+    (omega (arith, is, lt)) c.requires.layout.laid c.at.ensures.value)
     ∙ ap (first_of (program_of x) ins) is in
-    let placed = (argument_placed (program_of x) (main_of x) ins c.requires.known.expanded table c.requires.layout.callees m c.requires.within c.args.call.now c.requires.call j c.index-arguments-number.result
+    let placed = (argument_placed (program_of x) (main_of x) ins c.requires.known.expanded table c.requires.layout.callees m c.requires.within c.args.call.now
+    c.requires.call j c.index-arguments-number.result
     c.loop-number-test.true c.index-arguments-number.is).0 in
-    let f = argument_stands (program_of x) (main_of x) ins c.requires.known.expanded table c.requires.layout.callees m c.requires.within c.args.call.now c.requires.call j c.index-arguments-number.result
+    let f = argument_stands (program_of x) (main_of x) ins c.requires.known.expanded table c.requires.layout.callees m c.requires.within c.args.call.now
+    c.requires.call j c.index-arguments-number.result
     c.loop-number-test.true c.index-arguments-number.is g c.body_of-giver.ensures in
-    let more = set_given (program_of x) (main_of x) ins c.loop-number.found c.set.new.self (first_of (program_of x) ins (callee_or_main table m c.args.call.now.site) + j) g f.0 c.loop-number.invariant.given
+    let more = set_given (program_of x) (main_of x) ins c.loop-number.found c.set.new.self
+    (first_of (program_of x) ins (callee_or_main table m c.args.call.now.site) + j) g f.0 c.loop-number.invariant.given
     (c.set.ensures ∙ ap (λ k. set c.loop-number.found (k + j) (Some g)) first) placed f.1 f.2 in
     record {
       given = more.given;

@@ -8,6 +8,7 @@ abbrev pub invariant-loop-number : goal.invariant-loop-number
 invariant-loop-number l = record {
   given : AreGiven (program_of l.expanded) (main_of l.expanded) l.expanded.instances.now l.found;
   kept : KeepsGiven l.fn.found l.found;
-  arguments : (j : ℕ) → j < l.number → IsGiven l.found (first_of (program_of l.expanded) l.expanded.instances.now (callee_or_main l.layout.callees l.instance l.call.site) + j);
+  arguments : (j : ℕ) → j < l.number → IsGiven l.found (first_of (program_of l.expanded) l.expanded.instances.now
+      (callee_or_main l.layout.callees l.instance l.call.site) + j);
   end : l.number-end ≡ length l.call.arguments.now;
 }

@@ -8,6 +8,7 @@ abbrev pub invariant-loop-number : goal.invariant-loop-number
 invariant-loop-number l = record {
   given : AreGiven (program_of l.expanded) (main_of l.expanded) l.expanded.instances.now l.found;
   kept : KeepsGiven l.fn.found l.found;
-  lefts : (j : ℕ) → j < l.number → IsGiven l.found (number_at (program_of l.expanded) l.expanded.instances.now l.instance (get_or (texts l.equation.lefts) j []));
+  lefts : (j : ℕ) → j < l.number → IsGiven l.found (number_at (program_of l.expanded) l.expanded.instances.now l.instance
+      (get_or (texts l.equation.lefts) j []));
   end : l.number-end ≡ length l.equation.lefts;
 }

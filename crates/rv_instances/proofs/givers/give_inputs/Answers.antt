@@ -32,7 +32,8 @@ pub loop-input-preserved : goal.loop-input-preserved
 loop-input-preserved c =
     let x = c.args.expanded.now in
     let lt : c.loop-input.input < length (node_at (program_of x) x.instances.now 0).inputs = omega arith in
-    let more = input_more (program_of x) (main_of x) x.instances.now c.requires.known.expanded c.loop-input.input lt c.loop-input.found c.set.new.self c.loop-input.invariant.given c.set.ensures in
+    let more = input_more (program_of x) (main_of x) x.instances.now c.requires.known.expanded c.loop-input.input lt c.loop-input.found c.set.new.self
+    c.loop-input.invariant.given c.set.ensures in
     record {
       given = more.given;
       inputs = below_more (IsGiven c.set.new.self) c.loop-input.input (λ j less. more.kept j (c.loop-input.invariant.inputs j less)) more.told;

@@ -22,7 +22,8 @@ loop-equation-preserved c =
         | inl last ↦
             let item : c.equation-item.result ≡ get_or items k q =
             c.equation-item.is ∙ sym (get_or_default items index q c.equation-item.result c.loop-equation-test.true) ∙ ap (λ n. get_or items n q) (sym last) in
-            subst (λ (e : Equation). (j : ℕ) → j < length e.lefts → IsGiving (equation_tree e) → IsGiven c.give_equation.new.found (number_at (program_of x) x.instances.now c.args.instance (get_or (texts e.lefts) j []))) item
+            subst (λ (e : Equation). (j : ℕ) → j < length e.lefts → IsGiving (equation_tree e)
+            → IsGiven c.give_equation.new.found (number_at (program_of x) x.instances.now c.args.instance (get_or (texts e.lefts) j []))) item
             c.give_equation.ensures.lefts j within giving
         | inr other ↦ c.give_equation.ensures.kept _ (c.loop-equation.invariant.lefts k j q (omega (arith, lt, other)) within giving)
       ];
@@ -33,7 +34,8 @@ returns-clause-rights c y r right =
     let x = c.args.expanded.now in
     let items = c.as_slice-equation-items.result.now in
     let n = node_at (program_of x) x.instances.now c.args.instance in
-    let are : map equation_tree items ≡ n.equations = ap (map equation_tree) c.as_slice-equation-items.ensures ∙ ap (λ (k : NodeTree). k.equations) c.clocks.ensures in
+    let are : map equation_tree items ≡ n.equations = ap (map equation_tree) c.as_slice-equation-items.ensures
+    ∙ ap (λ (k : NodeTree). k.equations) c.clocks.ensures in
     let v = right_listed n items are y r right in
     let end = c.loop-equation-test.false in
     let lt = v.3 in

@@ -10,6 +10,7 @@ abbrev pub invariant-loop-equation : goal.invariant-loop-equation
 invariant-loop-equation l = record {
   given : AreGiven (program_of l.expanded) (main_of l.expanded) l.expanded.instances.now l.found;
   kept : KeepsGiven l.fn.found l.found;
-  lefts : (k j : ℕ) (q : Equation) → k < l.equation-index → j < length (get_or l.equation-items k q).lefts → IsGiving (equation_tree (get_or l.equation-items k q))
+  lefts : (k j : ℕ) (q : Equation) → k < l.equation-index → j < length (get_or l.equation-items k q).lefts
+      → IsGiving (equation_tree (get_or l.equation-items k q))
       → IsGiven l.found (number_at (program_of l.expanded) l.expanded.instances.now l.instance (get_or (texts (get_or l.equation-items k q).lefts) j []));
 }

@@ -14,7 +14,8 @@ invariant-loop-instance l = record {
   inputs : (j : ℕ) → j < length (node_of (program_of l.expanded) (main_of l.expanded)).inputs → IsGiven l.found j;
   rights : (m : ℕ) (x : Identifier) (r : Right) → m < l.instance → IsRight (node_at (program_of l.expanded) l.expanded.instances.now m) x r
       → IsGiven l.found (number_at (program_of l.expanded) l.expanded.instances.now m x);
-  arguments : (m : ℕ) (c : CallTree) (j : ℕ) (e : Tree) → m < l.instance → Contains (calls (node_at (program_of l.expanded) l.expanded.instances.now m)) c → IsArgument c.args j e
+  arguments : (m : ℕ) (c : CallTree) (j : ℕ) (e : Tree) → m < l.instance → Contains (calls (node_at (program_of l.expanded) l.expanded.instances.now m)) c
+      → IsArgument c.args j e
       → IsGiven l.found (first_of (program_of l.expanded) l.expanded.instances.now (callee_or_main l.layout.callees m c.site) + j);
   end : l.instance-end ≡ length l.expanded.instances.now;
 }

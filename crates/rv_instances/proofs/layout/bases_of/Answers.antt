@@ -23,7 +23,8 @@ set_bases-requires-clause-base c =
     let x = c.args.expanded.now in
     let p = program_tree x.program.now in
     let lt : c.loop-instance.instance < length x.instances.now = omega arith in
-    base_by_then p (name_at p x.main) x.instances.now c.requires.known.expanded c.loop-instance.bases c.loop-instance.instance c.loop-instance.instance lt (omega arith)
+    base_by_then p (name_at p x.main) x.instances.now c.requires.known.expanded c.loop-instance.bases c.loop-instance.instance c.loop-instance.instance lt
+    (omega arith)
     c.loop-instance.invariant.main c.loop-instance.invariant.done
 
 pub returns-clause-base : goal.returns-clause-base

@@ -24,7 +24,8 @@ loop-instance-preserved c =
     c.in_ok-push.ensures.ok ∙ ap (λ l. l ++ t ∷ []) (c.truncate.ensures ∙ ap (λ n. take n c.loop-instance.chain) (ap length path)) in
     record {
       chained = next_chain c.args.instances.now c.requires.paths t c.loop-instance.chain lt c.loop-instance.invariant.chained c.push.new.self long;
-      told = next_told c.args.instances.now c.requires.paths t c.loop-instance.chain lt c.loop-instance.invariant.chained c.loop-instance.callees c.tell_caller.new.callees c.loop-instance.invariant.told
+      told = next_told c.args.instances.now c.requires.paths t c.loop-instance.chain lt c.loop-instance.invariant.chained c.loop-instance.callees
+          c.tell_caller.new.callees c.loop-instance.invariant.told
           (λ e. c.in_ok-tell_caller.ensures.main (path ∙ e))
           (λ q s m u e. c.in_ok-tell_caller.ensures.called q s m u (path ∙ e));
       end = c.loop-instance.invariant.end;

@@ -10,7 +10,8 @@ pub overflow_cast-inputs : goal.overflow_cast-inputs
 overflow_cast-inputs c =
     let x = c.args.expanded.now in
     let within : c.loop-instance.instance < length x.instances.now = omega arith in
-    let few = node_few (program_tree x.program.now) (name_at (program_tree x.program.now) x.main) x.instances.now c.requires.expanded c.loop-instance.instance within in
+    let few = node_few (program_tree x.program.now) (name_at (program_tree x.program.now) x.main) x.instances.now c.requires.expanded c.loop-instance.instance
+    within in
     let all = ap (λ (n : NodeTree). length (flows n)) c.node.ensures in
     let among = inputs_among (node_tree c.node.result.now) in
     let size = c.len-inputs.ensures in
@@ -20,7 +21,8 @@ pub overflow_add-first : goal.overflow_add-first
 overflow_add-first c =
     let x = c.args.expanded.now in
     let within : c.loop-instance.instance < length x.instances.now = omega arith in
-    let few = node_few (program_tree x.program.now) (name_at (program_tree x.program.now) x.main) x.instances.now c.requires.expanded c.loop-instance.instance within in
+    let few = node_few (program_tree x.program.now) (name_at (program_tree x.program.now) x.main) x.instances.now c.requires.expanded c.loop-instance.instance
+    within in
     let all = ap (λ (n : NodeTree). length (flows n)) c.node.ensures in
     let among = inputs_among (node_tree c.node.result.now) in
     let size = c.len-inputs.ensures in

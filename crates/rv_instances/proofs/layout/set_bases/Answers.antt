@@ -33,8 +33,10 @@ number_of_clock-requires c =
     let known = c.requires.known.expanded in
     let m = c.args.instance in
     let here : IsCallOf p main x.instances.now m c.call-item.result =
-    call_of p main x.instances.now known m c.requires.instance c.calls-call-items.result.now c.calls-call-items.ensures c.loop-call.call-index c.call-item.result c.loop-call-test.true c.call-item.is in
-    let first = ap (λ (l : Laid). l.first) (laid_read p x.instances.now c.args.laid.now m c.at.result.now c.requires.instance c.requires.laid c.at.ensures.value) in
+    call_of p main x.instances.now known m c.requires.instance c.calls-call-items.result.now c.calls-call-items.ensures c.loop-call.call-index
+    c.call-item.result c.loop-call-test.true c.call-item.is in
+    let first = ap (λ (l : Laid). l.first) (laid_read p x.instances.now c.args.laid.now m c.at.result.now c.requires.instance c.requires.laid
+    c.at.ensures.value) in
     subst (λ k. IsWithin k c.call-item.result.clock) (sym first)
     (subst (IsWithin (flows_before (flow_count p x.instances.now) m)) (sym here.clock)
     (clock_within p main x.instances.now known m here.i (clock_of_args here.i.node here.call.args) c.requires.instance here.is here.at
@@ -48,8 +50,10 @@ set-requires c =
     let known = c.requires.known.expanded in
     let m = c.args.instance in
     let here : IsCallOf p main x.instances.now m c.call-item.result =
-    call_of p main x.instances.now known m c.requires.instance c.calls-call-items.result.now c.calls-call-items.ensures c.loop-call.call-index c.call-item.result c.loop-call-test.true c.call-item.is in
-    let to = (callee_number p main x.instances.now known c.args.callees.now c.requires.callees m here.i here.call c.requires.instance here.is here.at here.there).0 in
+    call_of p main x.instances.now known m c.requires.instance c.calls-call-items.result.now c.calls-call-items.ensures c.loop-call.call-index
+    c.call-item.result c.loop-call-test.true c.call-item.is in
+    let to = (callee_number p main x.instances.now known c.args.callees.now c.requires.callees m here.i here.call c.requires.instance here.is here.at
+    here.there).0 in
     let at : c.unwrap_or-callee.result ≡ callee_or_main c.args.callees.now m here.call.site =
     c.unwrap_or-callee.ensures ∙ ap (λ o. unwrap_or o 0) (c.callee.ensures ∙ ap (callee_in c.args.callees.now m) here.site) in
     let size = c.loop-call.invariant.size in
@@ -64,19 +68,25 @@ loop-call-preserved c =
     let m = c.args.instance in
     let b = c.at-base.result.now in
     let here : IsCallOf p main x.instances.now m c.call-item.result =
-    call_of p main x.instances.now known m c.requires.instance c.calls-call-items.result.now c.calls-call-items.ensures c.loop-call.call-index c.call-item.result c.loop-call-test.true c.call-item.is in
+    call_of p main x.instances.now known m c.requires.instance c.calls-call-items.result.now c.calls-call-items.ensures c.loop-call.call-index
+    c.call-item.result c.loop-call-test.true c.call-item.is in
     let at : c.unwrap_or-callee.result ≡ callee_or_main c.args.callees.now m here.call.site =
     c.unwrap_or-callee.ensures ∙ ap (λ o. unwrap_or o 0) (c.callee.ensures ∙ ap (callee_in c.args.callees.now m) here.site) in
-    let first = ap (λ (l : Laid). l.first) (laid_read p x.instances.now c.args.laid.now m c.at.result.now c.requires.instance c.requires.laid c.at.ensures.value) in
+    let first = ap (λ (l : Laid). l.first) (laid_read p x.instances.now c.args.laid.now m c.at.result.now c.requires.instance c.requires.laid
+    c.at.ensures.value) in
     let value : c.number_of_clock.result ≡ number_of (flows_before (flow_count p x.instances.now) m) b (clock_of_args here.i.node here.call.args) =
     c.number_of_clock.ensures ∙ (λ t. number_of (first t) b (here.clock t)) in
-    let new : c.set.new.self ≡ set c.loop-call.bases (callee_or_main c.args.callees.now m here.call.site) (number_of (flows_before (flow_count p x.instances.now) m) b (clock_of_args here.i.node here.call.args)) =
+    let new : c.set.new.self ≡ set c.loop-call.bases (callee_or_main c.args.callees.now m here.call.site)
+    (number_of (flows_before (flow_count p x.instances.now) m) b (clock_of_args here.i.node here.call.args)) =
     c.set.ensures ∙ (λ t. set c.loop-call.bases (at t) (value t)) in
     let own : IsClockPlaced (all_places p x.instances.now) b here.i.base =
-    subst (λ o. IsClockPlaced (all_places p x.instances.now) o here.i.base) (got c.args.bases.now m b Nothing c.at-base.ensures.value) (c.requires.base here.i here.is here.at) in
-    let one = base_set p main x.instances.now known c.args.callees.now c.requires.callees m here.i b c.requires.instance here.is here.at own c.loop-call.bases c.set.new.self here.call in
+    subst (λ o. IsClockPlaced (all_places p x.instances.now) o here.i.base) (got c.args.bases.now m b Nothing c.at-base.ensures.value)
+    (c.requires.base here.i here.is here.at) in
+    let one = base_set p main x.instances.now known c.args.callees.now c.requires.callees m here.i b c.requires.instance here.is here.at own c.loop-call.bases
+    c.set.new.self here.call in
     record {
-      size = ap length new ∙ length-set c.loop-call.bases (callee_or_main c.args.callees.now m here.call.site) (number_of (flows_before (flow_count p x.instances.now) m) b (clock_of_args here.i.node here.call.args)) ∙ c.loop-call.invariant.size;
+      size = ap length new ∙ length-set c.loop-call.bases (callee_or_main c.args.callees.now m here.call.site)
+          (number_of (flows_before (flow_count p x.instances.now) m) b (clock_of_args here.i.node here.call.args)) ∙ c.loop-call.invariant.size;
       kept = λ k before. one k c.loop-call.invariant.size here.there new (inr (c.loop-call.invariant.kept k before));
       done = λ j k y less lt e. elim (cases_eq j c.loop-call.call-index) [
         | inl last ↦
@@ -102,4 +112,5 @@ returns-clause-set c k s lt e =
     let call = call_at p main x.instances.now known m v.0 v.1 v.2 k s lt e in
     let at = listed_of p main x.instances.now known m c.requires.instance c.calls-call-items.result.now c.calls-call-items.ensures v.0 call.0 v.1 v.2 call.1 in
     let none = element c.calls-call-items.result.now at.0 at.1 in
-    c.loop-call.invariant.done at.0 k none (let end = at.1 in omega (arith, end)) lt (e ∙ ap (λ s. path_at x.instances.now m ++ s ∷ []) (sym (at.2 none ∙ call.2)))
+    c.loop-call.invariant.done at.0 k none (let end = at.1 in omega (arith, end)) lt
+    (e ∙ ap (λ s. path_at x.instances.now m ++ s ∷ []) (sym (at.2 none ∙ call.2)))

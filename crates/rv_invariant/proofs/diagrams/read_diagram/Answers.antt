@@ -9,4 +9,5 @@ pub returns-in_err-frozen : goal.returns-in_err-frozen
 returns-in_err-frozen c =
     let s = c.args.records.now in
     let p = err_from_is_err_and c.from_residual-in_err-frozen.result c.from_residual-in_err-frozen.ensures.1 in
-    rw (p.1, p.2) (fields-stop (diagram c.args.shape c.args.word.now c.args.states) frozen_of s (frozen_of (here s)) c.in_err-frozen.field-0.0 s c.in_ok-expect_groups.ensures refl c.in_err-frozen.ensures)
+    rw (p.1, p.2) (fields-stop (diagram c.args.shape c.args.word.now c.args.states) frozen_of s (frozen_of (here s)) c.in_err-frozen.field-0.0 s
+    c.in_ok-expect_groups.ensures refl c.in_err-frozen.ensures)

@@ -12,7 +12,8 @@ returns-in_err-triple c =
     let r = here c.args.records.now in
     let p = err_from_is_err_and c.from_residual-in_err-triple.result c.from_residual-in_err-triple.ensures.1 in
     let inv = c.loop-index.invariant in
-    rw (p.1, p.2) (group-stops 3 (is_node_field c.args.shape c.args.states) c.args.records.now c.args.count (length c.loop-index.triples) (triple_at r (length c.loop-index.triples)) (upto triple_at r c.args.count) c.in_err-triple.field-0.0
+    rw (p.1, p.2) (group-stops 3 (is_node_field c.args.shape c.args.states) c.args.records.now c.args.count (length c.loop-index.triples)
+    (triple_at r (length c.loop-index.triples)) (upto triple_at r c.args.count) c.in_err-triple.field-0.0
     (omega (arith, inv.size, c.loop-index-test.true)) inv.right c.in_err-triple.ensures)
 
 pub loop-index-preserved : goal.loop-index-preserved
@@ -31,4 +32,5 @@ loop-index-preserved c =
 pub returns : goal.returns
 returns c =
     let inv = c.loop-index.invariant in
-    all-read triple_at (here c.args.records.now) 3 (is_node_field c.args.shape c.args.states (here c.args.records.now)) c.loop-index.triples c.args.count (omega (arith, inv.size, c.loop-index-test.false)) inv.read inv.right
+    all-read triple_at (here c.args.records.now) 3 (is_node_field c.args.shape c.args.states (here c.args.records.now)) c.loop-index.triples c.args.count
+    (omega (arith, inv.size, c.loop-index-test.false)) inv.read inv.right

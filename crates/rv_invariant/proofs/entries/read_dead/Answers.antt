@@ -22,7 +22,8 @@ returns-in_err-read_exactly c =
     let st = c.args.state in
     let a = c.args.records.now in
     let p = err_from_is_err_and c.from_residual.result c.from_residual.ensures.1 in
-    rw (p.1, p.2) (continues-part (λ (u : ⊤). u) (run (exactly (codes "dead" ∷ [])) a) (λ (next : Then Entry). run (whole_dead s st next known) a) c.in_err-read_exactly.field-0.0 known c.read_exactly.new.records c.read_exactly.new.records
+    rw (p.1, p.2) (continues-part (λ (u : ⊤). u) (run (exactly (codes "dead" ∷ [])) a) (λ (next : Then Entry). run (whole_dead s st next known) a)
+    c.in_err-read_exactly.field-0.0 known c.read_exactly.new.records c.read_exactly.new.records
     c.in_err-read_exactly.ensures (λ next w x h. bind_err (exactly (codes "dead" ∷ [])) (λ u. dead_rule s st next known) a x h))
 
 pub returns-in_err-condition : goal.returns-in_err-condition
@@ -32,9 +33,12 @@ returns-in_err-condition c =
     let st = c.args.state in
     let a = c.args.records.now in
     let p = err_from_is_err_and c.from_residual-in_err-condition.result c.from_residual-in_err-condition.ensures.1 in
-    rw (p.1, p.2) (continues-part (λ (d : Frozen). d) (run (a_diagram s (codes "when") false) c.read_exactly.new.records) (λ (next : Then Entry). run (whole_dead s st next known) a) c.in_err-condition.field-0.0 known c.read_diagram.new.records c.read_diagram.new.records
-    c.in_err-condition.ensures (λ next w x h. bind_ok (exactly (codes "dead" ∷ [])) (λ u. dead_rule s st next known) a c.read_exactly.new.records tt c.in_ok-read_exactly.ensures
-    ∙ bind_err (a_diagram s (codes "when") false) (λ when. bind (a_proof 1 (st + s.tests)) (λ by. next (dead_entry when by) known)) c.read_exactly.new.records x h))
+    rw (p.1, p.2) (continues-part (λ (d : Frozen). d) (run (a_diagram s (codes "when") false) c.read_exactly.new.records)
+    (λ (next : Then Entry). run (whole_dead s st next known) a) c.in_err-condition.field-0.0 known c.read_diagram.new.records c.read_diagram.new.records
+    c.in_err-condition.ensures (λ next w x h. bind_ok (exactly (codes "dead" ∷ [])) (λ u. dead_rule s st next known) a c.read_exactly.new.records tt
+    c.in_ok-read_exactly.ensures
+    ∙ bind_err (a_diagram s (codes "when") false) (λ when. bind (a_proof 1 (st + s.tests)) (λ by. next (dead_entry when by) known)) c.read_exactly.new.records x
+    h))
 
 pub returns-in_err-by : goal.returns-in_err-by
 returns-in_err-by c =
@@ -44,8 +48,11 @@ returns-in_err-by c =
     let a = c.args.records.now in
     let d = c.in_ok-condition.condition in
     let p = err_from_is_err_and c.from_residual-in_err-by.result c.from_residual-in_err-by.ensures.1 in
-    rw (p.1, p.2) (continues-part (λ (m : Multipliers). m) (run (a_proof 1 (st + s.tests)) c.read_diagram.new.records) (λ (next : Then Entry). run (whole_dead s st next known) a) c.in_err-by.field-0.0 known c.read_proof.new.records c.read_proof.new.records
-    (subst (λ t. Reads (λ (m : Multipliers). m) (run (a_proof 1 (st + t)) c.read_diagram.new.records) (Err c.in_err-by.field-0.0) c.read_proof.new.records) c.from.ensures c.in_err-by.ensures) (λ next w x h. dead-to-proof s 0 st known next a c.read_exactly.new.records c.read_diagram.new.records 0 d c.in_ok-read_exactly.ensures c.in_ok-condition.ensures
+    rw (p.1, p.2) (continues-part (λ (m : Multipliers). m) (run (a_proof 1 (st + s.tests)) c.read_diagram.new.records)
+    (λ (next : Then Entry). run (whole_dead s st next known) a) c.in_err-by.field-0.0 known c.read_proof.new.records c.read_proof.new.records
+    (subst (λ t. Reads (λ (m : Multipliers). m) (run (a_proof 1 (st + t)) c.read_diagram.new.records) (Err c.in_err-by.field-0.0) c.read_proof.new.records)
+    c.from.ensures c.in_err-by.ensures) (λ next w x h. dead-to-proof s 0 st known next a c.read_exactly.new.records c.read_diagram.new.records 0 d
+    c.in_ok-read_exactly.ensures c.in_ok-condition.ensures
     ∙ bind_err (a_proof 1 (st + s.tests)) (λ by. next (dead_entry d by) known) c.read_diagram.new.records x h))
 
 pub returns : goal.returns
@@ -54,5 +61,7 @@ returns c next w =
     let known = c.args.known.now in
     let st = c.args.state in
     let d = c.in_ok-condition.condition in
-    dead-to-proof s 0 st known next c.args.records.now c.read_exactly.new.records c.read_diagram.new.records 0 d c.in_ok-read_exactly.ensures c.in_ok-condition.ensures
-    ∙ bind_ok (a_proof 1 (st + s.tests)) (λ by. next (dead_entry d by) known) c.read_diagram.new.records c.read_proof.new.records c.in_ok-by.by (subst (λ t. run (a_proof 1 (st + t)) c.read_diagram.new.records ≡ Ok (c.in_ok-by.by, c.read_proof.new.records)) c.from.ensures c.in_ok-by.ensures)
+    dead-to-proof s 0 st known next c.args.records.now c.read_exactly.new.records c.read_diagram.new.records 0 d c.in_ok-read_exactly.ensures
+    c.in_ok-condition.ensures
+    ∙ bind_ok (a_proof 1 (st + s.tests)) (λ by. next (dead_entry d by) known) c.read_diagram.new.records c.read_proof.new.records c.in_ok-by.by
+    (subst (λ t. run (a_proof 1 (st + t)) c.read_diagram.new.records ≡ Ok (c.in_ok-by.by, c.read_proof.new.records)) c.from.ensures c.in_ok-by.ensures)

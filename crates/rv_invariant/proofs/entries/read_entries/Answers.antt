@@ -18,14 +18,17 @@ returns-in_err-entry c =
     let e : c.args.count - c.loop-done.done ≡ suc left = omega (arith, c.loop-done-test.true) in
     let size = c.loop-done.invariant.size in
     record {
-      read = rw (p.1, p.2) (continues-stop (λ (next : Then (List Entry)). run (entries_rule shape n st c.args.count [] next c.args.known.now) c.args.records.now)
-          (λ (next : Then Entry). run (entry_rule shape (length c.loop-done.known) st next c.loop-done.known) c.loop-done.records) c.in_err-entry.field-0.0 c.read_entry.new.known c.read_entry.new.known c.read_entry.new.records c.read_entry.new.records
+      read = rw (p.1, p.2) (continues-stop (λ (next : Then (List Entry)). run (entries_rule shape n st c.args.count [] next c.args.known.now)
+          c.args.records.now)
+          (λ (next : Then Entry). run (entry_rule shape (length c.loop-done.known) st next c.loop-done.known) c.loop-done.records) c.in_err-entry.field-0.0
+          c.read_entry.new.known c.read_entry.new.known c.read_entry.new.records c.read_entry.new.records
           (λ next w. (
             λ x. entries_rule shape n st left (c.loop-done.entries ++ x ∷ []) next,
             λ x k. entries-wait shape n st left (c.loop-done.entries ++ x ∷ []) next k w,
             c.loop-done.invariant.kept next w ∙ ap (λ k. run (entries_rule shape n st k c.loop-done.entries next c.loop-done.known) c.loop-done.records) e
                 ∙ ap (λ q. run q c.loop-done.records) (entries-suc shape n st left c.loop-done.entries next c.loop-done.known)
-                ∙ ap (λ m. run (entry_rule shape m st (λ x. entries_rule shape n st left (c.loop-done.entries ++ x ∷ []) next) c.loop-done.known) c.loop-done.records) (sym size),
+                ∙ ap (λ m. run (entry_rule shape m st (λ x. entries_rule shape n st left (c.loop-done.entries ++ x ∷ []) next) c.loop-done.known)
+                c.loop-done.records) (sym size),
           ))
           c.in_err-entry.ensures.read);
       same = c.read_entry.ensures.same ∙ size;
@@ -42,10 +45,13 @@ loop-done-preserved c =
     let x = c.in_ok-entry.entry in
     record {
       size = c.read_entry.ensures.same ∙ size;
-      kept = λ next w. c.loop-done.invariant.kept next w ∙ ap (λ k. run (entries_rule shape n st k c.loop-done.entries next c.loop-done.known) c.loop-done.records) e
+      kept = λ next w. c.loop-done.invariant.kept next w ∙ ap (λ k. run (entries_rule shape n st k c.loop-done.entries next c.loop-done.known)
+          c.loop-done.records) e
           ∙ ap (λ q. run q c.loop-done.records) (entries-suc shape n st left c.loop-done.entries next c.loop-done.known)
-          ∙ ap (λ m. run (entry_rule shape m st (λ x. entries_rule shape n st left (c.loop-done.entries ++ x ∷ []) next) c.loop-done.known) c.loop-done.records) (sym size)
-          ∙ c.in_ok-entry.ensures.read (λ x. entries_rule shape n st left (c.loop-done.entries ++ x ∷ []) next) (λ x k. entries-wait shape n st left (c.loop-done.entries ++ x ∷ []) next k w)
+          ∙ ap (λ m. run (entry_rule shape m st (λ x. entries_rule shape n st left (c.loop-done.entries ++ x ∷ []) next) c.loop-done.known) c.loop-done.records)
+          (sym size)
+          ∙ c.in_ok-entry.ensures.read (λ x. entries_rule shape n st left (c.loop-done.entries ++ x ∷ []) next)
+          (λ x k. entries-wait shape n st left (c.loop-done.entries ++ x ∷ []) next k w)
           ∙ ap (λ l. run (entries_rule shape n st left l next c.read_entry.new.known) c.read_entry.new.records) (sym c.in_ok-push.ensures.ok);
     }
 
@@ -56,7 +62,8 @@ returns c =
     let st = c.args.state in
     let e : c.args.count - c.loop-done.done ≡ zero = omega (arith, c.loop-done-test.false) in
     record {
-      read = λ next w. c.loop-done.invariant.kept next w ∙ ap (λ k. run (entries_rule shape n st k c.loop-done.entries next c.loop-done.known) c.loop-done.records) e
+      read = λ next w. c.loop-done.invariant.kept next w ∙ ap (λ k. run (entries_rule shape n st k c.loop-done.entries next c.loop-done.known)
+          c.loop-done.records) e
           ∙ ap (λ q. run q c.loop-done.records) (entries-none shape n st c.loop-done.entries next c.loop-done.known);
       same = c.loop-done.invariant.size;
     }

@@ -13,8 +13,10 @@ returns-then-is_word c =
     let known = c.args.known.now in
     let a = c.args.records.now in
     record {
-      read = continues-after (λ (next : Then Entry). run (entry_rule s (length known) c.args.state next known) a) (λ (next : Then Entry). run (whole_go s (length known) c.args.state next known) a)
-          c.read_go.result c.read_go.new.known c.read_go.new.records (λ next w. entry-go s (length known) c.args.state next known a (sym c.is_word.ensures ∙ c.if-is_word.true)) c.read_go.ensures.read;
+      read = continues-after (λ (next : Then Entry). run (entry_rule s (length known) c.args.state next known) a)
+          (λ (next : Then Entry). run (whole_go s (length known) c.args.state next known) a)
+          c.read_go.result c.read_go.new.known c.read_go.new.records (λ next w. entry-go s (length known) c.args.state next known a
+          (sym c.is_word.ensures ∙ c.if-is_word.true)) c.read_go.ensures.read;
       same = c.read_go.ensures.same;
     }
 
@@ -24,7 +26,9 @@ returns-else-is_word c =
     let known = c.args.known.now in
     let a = c.args.records.now in
     record {
-      read = continues-after (λ (next : Then Entry). run (entry_rule s (length known) c.args.state next known) a) (λ (next : Then Entry). run (whole_dead s c.args.state next known) a)
-          c.read_dead.result known c.read_dead.new.records (λ next w. entry-dead s (length known) c.args.state next known a (sym c.is_word.ensures ∙ c.if-is_word.false)) c.read_dead.ensures;
+      read = continues-after (λ (next : Then Entry). run (entry_rule s (length known) c.args.state next known) a)
+          (λ (next : Then Entry). run (whole_dead s c.args.state next known) a)
+          c.read_dead.result known c.read_dead.new.records (λ next w. entry-dead s (length known) c.args.state next known a
+          (sym c.is_word.ensures ∙ c.if-is_word.false)) c.read_dead.ensures;
       same = refl;
     }

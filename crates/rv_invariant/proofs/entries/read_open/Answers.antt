@@ -20,7 +20,8 @@ returns-then-not-has_groups c =
     let found = c.loop-turn.found in
     record {
       read = λ next w. c.loop-turn.invariant.kept next w
-          ∙ turn_over form next_of (λ more. next (found ++ more) []) s (w (found ++ []) []) (1024 - c.loop-turn.turn) (sees_is form s refl ∙ sym c.has_groups.ensures ∙ c.if-not-has_groups.true)
+          ∙ turn_over form next_of (λ more. next (found ++ more) []) s (w (found ++ []) []) (1024 - c.loop-turn.turn)
+          (sees_is form s refl ∙ sym c.has_groups.ensures ∙ c.if-not-has_groups.true)
           ∙ ap (λ l. run (next l []) s) (append-nil found);
       few = omega (arith, c.loop-turn.invariant.size, c.loop-turn-test.true);
     }
@@ -33,7 +34,8 @@ returns-in_err-read_proof-clause-read c =
     let p = err_from_is_err_and c.from_residual.result c.from_residual.ensures.1 in
     let seen = sees_is form s refl ∙ sym c.has_groups.ensures ∙ c.if-not-has_groups.false in
     let e : 1024 - c.loop-turn.turn ≡ suc (1024 - (c.loop-turn.turn + 1)) = omega arith in
-    rw (p.1, p.2) (continues-part (λ (m : Multipliers). m) (run (a_proof (2 ^ 30) c.args.premises) s) (λ (next : Then (List Multipliers)). run (turns 1024 (a_proof (2 ^ 30) c.args.premises) (λ reach. next reach [])) c.args.records.now)
+    rw (p.1, p.2) (continues-part (λ (m : Multipliers). m) (run (a_proof (2 ^ 30) c.args.premises) s)
+    (λ (next : Then (List Multipliers)). run (turns 1024 (a_proof (2 ^ 30) c.args.premises) (λ reach. next reach [])) c.args.records.now)
     c.in_err-read_proof.field-0.0 [] c.read_proof.new.records c.read_proof.new.records c.in_err-read_proof.ensures
     (λ next w x h. c.loop-turn.invariant.kept next w ∙ ap (λ k. run (turns k (a_proof (2 ^ 30) c.args.premises) (λ more. next (found ++ more) [])) s) e
     ∙ turn_stops form next_of (λ more. next (found ++ more) []) s (w (found ++ []) []) (1024 - (c.loop-turn.turn + 1)) x seen h))
@@ -50,8 +52,10 @@ loop-turn-preserved c =
     record {
       size = ap length c.in_ok-push.ensures.ok ∙ length_push found a ∙ ap (λ k. k + 1) c.loop-turn.invariant.size;
       kept = λ next w. c.loop-turn.invariant.kept next w ∙ ap (λ k. run (turns k (a_proof (2 ^ 30) c.args.premises) (λ more. next (found ++ more) [])) s) e
-          ∙ turn_more form next_of (λ more. next (found ++ more) []) s (w (found ++ []) []) (1024 - (c.loop-turn.turn + 1)) a c.read_proof.new.records seen c.in_ok-read_proof.ensures
-          ∙ ap (λ (g : List Multipliers → List Multipliers). run (turns (1024 - (c.loop-turn.turn + 1)) (a_proof (2 ^ 30) c.args.premises) (λ more. next (g more) [])) c.read_proof.new.records) (λ i more. joined more i);
+          ∙ turn_more form next_of (λ more. next (found ++ more) []) s (w (found ++ []) []) (1024 - (c.loop-turn.turn + 1)) a c.read_proof.new.records seen
+          c.in_ok-read_proof.ensures
+          ∙ ap (λ (g : List Multipliers → List Multipliers). run (turns (1024 - (c.loop-turn.turn + 1)) (a_proof (2 ^ 30) c.args.premises)
+          (λ more. next (g more) [])) c.read_proof.new.records) (λ i more. joined more i);
     }
 
 pub returns : goal.returns

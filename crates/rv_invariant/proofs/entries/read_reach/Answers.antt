@@ -18,10 +18,12 @@ returns-in-Some c =
     let t = c.args.target in
     let is = known-is known t c.at-count.result.now c.at-count.ensures.value ∙ c.in-Some.is in
     record {
-      read = continues-after (λ (next : Then (List Multipliers)). run (reach_rule p t (known_at known t) next known) a) (λ (next : Then (List Multipliers)). run (reach_rule p t (Some c.in-Some.count) next known) a)
+      read = continues-after (λ (next : Then (List Multipliers)). run (reach_rule p t (known_at known t) next known) a)
+          (λ (next : Then (List Multipliers)). run (reach_rule p t (Some c.in-Some.count) next known) a)
           c.read_proofs.result known c.read_proofs.new.records (λ next w. ap (λ o. run (reach_rule p t o next known) a) is)
           (continues-read (times c.in-Some.count (a_proof (2 ^ 30) p)) a c.read_proofs.result known c.read_proofs.new.records
-          (subst (λ n. Reads (λ (x : List Multipliers). x) (run (times n (a_proof (2 ^ 30) p)) a) c.read_proofs.result c.read_proofs.new.records) c.from.ensures c.read_proofs.ensures));
+          (subst (λ n. Reads (λ (x : List Multipliers). x) (run (times n (a_proof (2 ^ 30) p)) a) c.read_proofs.result c.read_proofs.new.records) c.from.ensures
+          c.read_proofs.ensures));
       same = refl;
     }
 
@@ -33,7 +35,9 @@ returns-in-None c =
     let t = c.args.target in
     let is = known-is known t c.at-count.result.now c.at-count.ensures.value ∙ c.in-None.is in
     record {
-      read = continues-after (λ (next : Then (List Multipliers)). run (reach_rule p t (known_at known t) next known) a) (λ (next : Then (List Multipliers)). run (reach_rule p t None next known) a)
-          c.read_unknown.result c.read_unknown.new.known c.read_unknown.new.records (λ next w. ap (λ o. run (reach_rule p t o next known) a) is) c.read_unknown.ensures.read;
+      read = continues-after (λ (next : Then (List Multipliers)). run (reach_rule p t (known_at known t) next known) a)
+          (λ (next : Then (List Multipliers)). run (reach_rule p t None next known) a)
+          c.read_unknown.result c.read_unknown.new.known c.read_unknown.new.records (λ next w. ap (λ o. run (reach_rule p t o next known) a) is)
+          c.read_unknown.ensures.read;
       same = c.read_unknown.ensures.same;
     }

@@ -20,9 +20,12 @@ returns-in_err-by_entry-clause-read c =
     let whole = run (after_lists c.args.control ls) a in
     let p = err_from_is_err_and c.from_residual.result c.from_residual.ensures.1 in
     let e = c.in_err-by_entry.field-0.0 in
-    let there = subst (λ n. Reads (λ (m : List Multipliers). m) (run (times n (a_proof (2 ^ 30) (length ls.entry))) a) (Err e) c.read_proofs.new.records) c.len.ensures
-    (subst (λ n. Reads (λ (m : List Multipliers). m) (run (times c.len.result (a_proof (2 ^ 30) n)) a) (Err e) c.read_proofs.new.records) c.len-premises.ensures c.in_err-by_entry.ensures) in
-    rw (p.1, p.2) (chain-stops (λ (m : List Multipliers). m) (λ (f : Front). f) part (after_proofs c.args.control ls) whole a e c.read_proofs.new.records refl there)
+    let there = subst (λ n. Reads (λ (m : List Multipliers). m) (run (times n (a_proof (2 ^ 30) (length ls.entry))) a) (Err e) c.read_proofs.new.records)
+    c.len.ensures
+    (subst (λ n. Reads (λ (m : List Multipliers). m) (run (times c.len.result (a_proof (2 ^ 30) n)) a) (Err e) c.read_proofs.new.records) c.len-premises.ensures
+    c.in_err-by_entry.ensures) in
+    rw (p.1, p.2) (chain-stops (λ (m : List Multipliers). m) (λ (f : Front). f) part (after_proofs c.args.control ls) whole a e c.read_proofs.new.records refl
+    there)
 
 pub returns-in_err-cases-clause-read : goal.returns-in_err-cases-clause-read
 returns-in_err-cases-clause-read c =
@@ -35,7 +38,9 @@ returns-in_err-cases-clause-read c =
     let there = subst (λ n. run (times n (a_proof (2 ^ 30) (length ls.entry))) a ≡ Ok (by, c.read_proofs.new.records)) c.len.ensures
     (subst (λ n. run (times c.len.result (a_proof (2 ^ 30) n)) a ≡ Ok (by, c.read_proofs.new.records)) c.len-premises.ensures c.in_ok-by_entry.ensures) in
     let w1 = chain-ok part (after_proofs c.args.control ls) whole a c.read_proofs.new.records by refl there in
-    rw (p.1, p.2) (chain-stops (λ (n : ℕ). n) (λ (f : Front). f) (counts (codes "cases") 0 4294967295) (λ n. done (record { control = c.args.control; lists = ls; by_entry = by; cases = n })) whole c.read_proofs.new.records c.in_err-cases.field-0.0 c.read_count.new.records w1 c.in_err-cases.ensures)
+    rw (p.1, p.2) (chain-stops (λ (n : ℕ). n) (λ (f : Front). f) (counts (codes "cases") 0 4294967295)
+    (λ n. done (record { control = c.args.control; lists = ls; by_entry = by; cases = n })) whole c.read_proofs.new.records c.in_err-cases.field-0.0
+    c.read_count.new.records w1 c.in_err-cases.ensures)
 
 pub returns : goal.returns
 returns c =
@@ -48,6 +53,7 @@ returns c =
     (subst (λ n. run (times c.len.result (a_proof (2 ^ 30) n)) a ≡ Ok (by, c.read_proofs.new.records)) c.len-premises.ensures c.in_ok-by_entry.ensures) in
     let w1 = chain-ok part (after_proofs c.args.control ls) whole a c.read_proofs.new.records by refl there in
     record {
-      read = chain-ok (counts (codes "cases") 0 4294967295) (λ n. done (record { control = c.args.control; lists = ls; by_entry = by; cases = n })) whole c.read_proofs.new.records c.read_count.new.records c.in_ok-cases.cases w1 c.in_ok-cases.ensures;
+      read = chain-ok (counts (codes "cases") 0 4294967295) (λ n. done (record { control = c.args.control; lists = ls; by_entry = by; cases = n })) whole
+          c.read_proofs.new.records c.read_count.new.records c.in_ok-cases.cases w1 c.in_ok-cases.ensures;
       same = refl;
     }

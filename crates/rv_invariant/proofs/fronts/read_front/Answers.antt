@@ -20,7 +20,8 @@ returns-in_err-control-clause-read c =
     let s = c.args.shape in
     let a = c.args.records.now in
     let p = err_from_is_err_and c.from_residual.result c.from_residual.ensures.1 in
-    rw (p.1, p.2) (chain-stops (λ (d : Frozen). d) (λ (f : Front). f) (a_diagram s (codes "control") true) (after_control s c.args.low c.args.high) (run (front_rule s c.args.low c.args.high) a) a c.in_err-control.field-0.0 c.read_diagram.new.records refl c.in_err-control.ensures)
+    rw (p.1, p.2) (chain-stops (λ (d : Frozen). d) (λ (f : Front). f) (a_diagram s (codes "control") true) (after_control s c.args.low c.args.high)
+    (run (front_rule s c.args.low c.args.high) a) a c.in_err-control.field-0.0 c.read_diagram.new.records refl c.in_err-control.ensures)
 
 pub returns-in_err-lists-clause-read : goal.returns-in_err-lists-clause-read
 returns-in_err-lists-clause-read c =
@@ -28,9 +29,11 @@ returns-in_err-lists-clause-read c =
     let a = c.args.records.now in
     let d = c.in_ok-control.control in
     let whole = run (front_rule s c.args.low c.args.high) a in
-    let w1 = chain-ok (a_diagram s (codes "control") true) (after_control s c.args.low c.args.high) whole a c.read_diagram.new.records d refl c.in_ok-control.ensures in
+    let w1 = chain-ok (a_diagram s (codes "control") true) (after_control s c.args.low c.args.high) whole a c.read_diagram.new.records d refl
+    c.in_ok-control.ensures in
     let p = err_from_is_err_and c.from_residual-in_err-lists.result c.from_residual-in_err-lists.ensures.1 in
-    rw (p.1, p.2) (chain-stops (λ (l : Lists). l) (λ (f : Front). f) (row_lists s.memories c.args.low c.args.high) (after_lists d) whole c.read_diagram.new.records c.in_err-lists.field-0.0 c.read_lists.new.records w1 c.in_err-lists.ensures.read)
+    rw (p.1, p.2) (chain-stops (λ (l : Lists). l) (λ (f : Front). f) (row_lists s.memories c.args.low c.args.high)
+    (after_lists d) whole c.read_diagram.new.records c.in_err-lists.field-0.0 c.read_lists.new.records w1 c.in_err-lists.ensures.read)
 
 pub returns : goal.returns
 returns c =
@@ -39,10 +42,13 @@ returns c =
     let d = c.in_ok-control.control in
     let ls = c.in_ok-lists.lists in
     let whole = run (front_rule s c.args.low c.args.high) a in
-    let w1 = chain-ok (a_diagram s (codes "control") true) (after_control s c.args.low c.args.high) whole a c.read_diagram.new.records d refl c.in_ok-control.ensures in
-    let w2 = chain-ok (row_lists s.memories c.args.low c.args.high) (after_lists d) whole c.read_diagram.new.records c.read_lists.new.records ls w1 c.in_ok-lists.ensures.read in
+    let w1 = chain-ok (a_diagram s (codes "control") true) (after_control s c.args.low c.args.high) whole a c.read_diagram.new.records d refl
+    c.in_ok-control.ensures in
+    let w2 = chain-ok (row_lists s.memories c.args.low c.args.high) (after_lists d) whole c.read_diagram.new.records c.read_lists.new.records ls w1
+    c.in_ok-lists.ensures.read in
     record {
-      read = chain-last (λ (f : Front). f) (after_lists d ls) whole c.read_lists.new.records c.read_cases.result c.read_cases.new.records w2 c.read_cases.ensures.read;
+      read = chain-last (λ (f : Front). f) (after_lists d ls) whole c.read_lists.new.records c.read_cases.result c.read_cases.new.records w2
+          c.read_cases.ensures.read;
       entry = few c.read_cases.result (λ l. length l.entry) ls 4294967295 c.in_ok-lists.ensures.entry c.read_cases.ensures.same;
       state = few c.read_cases.result (λ l. length l.state) ls 1024 c.in_ok-lists.ensures.state c.read_cases.ensures.same;
     }

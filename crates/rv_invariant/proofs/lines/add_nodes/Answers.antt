@@ -16,7 +16,8 @@ loop-index-preserved c =
     let inv = c.loop-index.invariant in
     let held = c.in_ok-add_node.ensures.held in (
       subst (Extends c.args.row.now c.add_node.new.row) (flat-more triple_texts ts i t c.at-node.ensures.value)
-          (extends-then c.args.row.now c.loop-index.row c.add_node.new.row (flat_map triple_texts (take i ts)) (triple_texts t) inv.0 c.in_ok-add_node.ensures.fields),
+          (extends-then c.args.row.now c.loop-index.row c.add_node.new.row (flat_map triple_texts (take i ts))
+          (triple_texts t) inv.0 c.in_ok-add_node.ensures.fields),
       held-more ts i t c.at-node.ensures.value held.0 held.1 inv.1,
     )
 
@@ -26,6 +27,7 @@ returns c =
     let ts = c.args.nodes.now in
     let inv = c.loop-index.invariant in
     record {
-      fields = subst (Extends c.args.row.now c.loop-index.row) (flat-taken triple_texts ts i (omega (arith, c.loop-index-test.false, c.len-index-end.ensures))) inv.0;
+      fields = subst (Extends c.args.row.now c.loop-index.row) (flat-taken triple_texts ts i (omega (arith, c.loop-index-test.false, c.len-index-end.ensures)))
+          inv.0;
       held = λ n l. inv.1 n (omega (arith, l, c.loop-index-test.false, c.len-index-end.ensures));
     }

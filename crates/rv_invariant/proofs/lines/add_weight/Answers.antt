@@ -13,5 +13,6 @@ returns c =
     let fits : FitsSigned w128 c.args.weight.by = search rules in
     extends-last c.args.row.now c.add_number.new.row c.add_whole.new.row (decimal w.premise ∷ []) (signed_decimal w.by ∷ []) c.add_whole.result
     c.in_ok-add_number.ensures
-    (subst (λ (z : ℤ). OnOk c.add_whole.result (Extends c.add_number.new.row c.add_whole.new.row (signed_decimal z ∷ []))) (to_z-of_z w128 c.args.weight.by fits)
+    (subst (λ (z : ℤ). OnOk c.add_whole.result (Extends c.add_number.new.row c.add_whole.new.row (signed_decimal z ∷ [])))
+    (to_z-of_z w128 c.args.weight.by fits)
     c.add_whole.ensures)

@@ -13,7 +13,8 @@ loop-index-preserved c =
     let i = c.loop-index.index in
     let ms = c.args.proofs.now in
     let m = c.at.result.now in
-    adds-same (λ v. Some v.items) c.args.writer.now c.write_proof.new.writer (map by_record (take i ms) ++ by_record m ∷ []) (map by_record (take (i + 1) ms)) (map-more by_record ms i m c.at.ensures.value)
+    adds-same (λ v. Some v.items) c.args.writer.now c.write_proof.new.writer (map by_record (take i ms) ++ by_record m ∷ []) (map by_record (take (i + 1) ms))
+    (map-more by_record ms i m c.at.ensures.value)
     (adds-then (λ v. Some v.items) c.args.writer.now c.loop-index.writer c.write_proof.new.writer (map by_record (take i ms)) (by_record m ∷ [])
     c.loop-index.invariant c.in_ok-write_proof.ensures)
 

@@ -27,8 +27,10 @@ returns-in_err-front c =
     let there = subst (λ l. Reads (λ (f : Front). f) (run (front_rule s l (high_of (known_at known i))) a) (Err e) c.read_front.new.records) low
     (subst (λ h. Reads (λ (f : Front). f) (run (front_rule s c.low_of.result h) a) (Err e) c.read_front.new.records) high c.in_err-front.ensures.read) in
     record {
-      read = rw (p.1, p.2) (continues-part (λ (f : Front). f) (run (front_rule s (low_of (known_at known i)) (high_of (known_at known i))) a) (λ (next : Then Location). run (location_rule s (length known) i next known) a) e known c.read_front.new.records c.read_front.new.records
-          there (λ next w x h. bind_err (front_rule s (low_of (known_at known i)) (high_of (known_at known i))) (after_front s (length known) i next known) a x h));
+      read = rw (p.1, p.2) (continues-part (λ (f : Front). f) (run (front_rule s (low_of (known_at known i)) (high_of (known_at known i))) a)
+          (λ (next : Then Location). run (location_rule s (length known) i next known) a) e known c.read_front.new.records c.read_front.new.records
+          there (λ next w x h. bind_err (front_rule s (low_of (known_at known i)) (high_of (known_at known i))) (after_front s (length known) i next known) a x
+          h));
       same = refl;
     }
 
@@ -49,14 +51,20 @@ returns-in_err-entries c =
     let size = ap length learnt ∙ length-set known i (Some (length front.lists.entry)) in
     record {
       read = rw (p.1, p.2) (continues-stop (λ (next : Then Location). run (location_rule s (length known) i next known) a)
-          (λ (next : Then (List Entry)). run (entries_rule s (length c.set.new.self) c.len-state.result front.cases [] next c.set.new.self) c.read_front.new.records) c.in_err-entries.field-0.0 c.read_entries.new.known c.read_entries.new.known c.read_entries.new.records c.read_entries.new.records
+          (λ (next : Then (List Entry)). run (entries_rule s (length c.set.new.self) c.len-state.result front.cases [] next c.set.new.self)
+          c.read_front.new.records) c.in_err-entries.field-0.0 c.read_entries.new.known c.read_entries.new.known c.read_entries.new.records
+          c.read_entries.new.records
           (λ next w. (
             λ es. next (location_of front es),
             λ es k. w (location_of front es) k,
-            bind_ok (front_rule s (low_of (known_at known i)) (high_of (known_at known i))) (after_front s (length known) i next known) a c.read_front.new.records front there
-                ∙ ap (λ m. run (entries_rule s m (length front.lists.state) front.cases [] (λ es. next (location_of front es)) (learn known i (length front.lists.entry))) c.read_front.new.records) (sym size)
-                ∙ ap (λ m. run (entries_rule s (length c.set.new.self) m front.cases [] (λ es. next (location_of front es)) (learn known i (length front.lists.entry))) c.read_front.new.records) (sym c.len-state.ensures)
-                ∙ ap (λ k. run (entries_rule s (length c.set.new.self) c.len-state.result front.cases [] (λ es. next (location_of front es)) k) c.read_front.new.records) (sym learnt),
+            bind_ok (front_rule s (low_of (known_at known i)) (high_of (known_at known i))) (after_front s (length known) i next known) a
+                c.read_front.new.records front there
+                ∙ ap (λ m. run (entries_rule s m (length front.lists.state) front.cases [] (λ es. next (location_of front es))
+                (learn known i (length front.lists.entry))) c.read_front.new.records) (sym size)
+                ∙ ap (λ m. run (entries_rule s (length c.set.new.self) m front.cases [] (λ es. next (location_of front es))
+                (learn known i (length front.lists.entry))) c.read_front.new.records) (sym c.len-state.ensures)
+                ∙ ap (λ k. run (entries_rule s (length c.set.new.self) c.len-state.result front.cases [] (λ es. next (location_of front es)) k)
+                c.read_front.new.records) (sym learnt),
           ))
           c.in_err-entries.ensures.read);
       same = c.read_entries.ensures.same ∙ size;
@@ -77,10 +85,14 @@ returns c =
     let learnt : c.set.new.self ≡ learn known i (length front.lists.entry) = c.set.ensures ∙ ap (λ m. slice_set known i (Some m)) c.len.ensures in
     let size = ap length learnt ∙ length-set known i (Some (length front.lists.entry)) in
     record {
-      read = λ next w. bind_ok (front_rule s (low_of (known_at known i)) (high_of (known_at known i))) (after_front s (length known) i next known) a c.read_front.new.records front there
-          ∙ ap (λ m. run (entries_rule s m (length front.lists.state) front.cases [] (λ es. next (location_of front es)) (learn known i (length front.lists.entry))) c.read_front.new.records) (sym size)
-          ∙ ap (λ m. run (entries_rule s (length c.set.new.self) m front.cases [] (λ es. next (location_of front es)) (learn known i (length front.lists.entry))) c.read_front.new.records) (sym c.len-state.ensures)
-          ∙ ap (λ k. run (entries_rule s (length c.set.new.self) c.len-state.result front.cases [] (λ es. next (location_of front es)) k) c.read_front.new.records) (sym learnt)
+      read = λ next w. bind_ok (front_rule s (low_of (known_at known i)) (high_of (known_at known i))) (after_front s (length known) i next known) a
+          c.read_front.new.records front there
+          ∙ ap (λ m. run (entries_rule s m (length front.lists.state) front.cases [] (λ es. next (location_of front es))
+          (learn known i (length front.lists.entry))) c.read_front.new.records) (sym size)
+          ∙ ap (λ m. run (entries_rule s (length c.set.new.self) m front.cases [] (λ es. next (location_of front es))
+          (learn known i (length front.lists.entry))) c.read_front.new.records) (sym c.len-state.ensures)
+          ∙ ap (λ k. run (entries_rule s (length c.set.new.self) c.len-state.result front.cases [] (λ es. next (location_of front es)) k)
+          c.read_front.new.records) (sym learnt)
           ∙ c.in_ok-entries.ensures.read (λ es. next (location_of front es)) (λ es k. w (location_of front es) k)
           ∙ ap (λ l. run (next l c.read_entries.new.known) c.read_entries.new.records) (sym c.location_of.ensures);
       same = c.read_entries.ensures.same ∙ size;

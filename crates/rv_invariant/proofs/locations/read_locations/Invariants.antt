@@ -8,5 +8,6 @@ abbrev pub invariant-loop-index : goal.invariant-loop-index
 invariant-loop-index l = record {
   size : length l.locations ≡ l.index;
   known : length l.known ≡ l.count;
-  kept : run (locations_rule l.shape l.count (l.count - l.index) l.locations l.known) l.records ≡ run (locations_rule l.fn.shape l.fn.count l.fn.count [] (replicate l.fn.count None)) l.fn.records;
+  kept : run (locations_rule l.shape l.count (l.count - l.index) l.locations l.known) l.records ≡ run
+      (locations_rule l.fn.shape l.fn.count l.fn.count [] (replicate l.fn.count None)) l.fn.records;
 }

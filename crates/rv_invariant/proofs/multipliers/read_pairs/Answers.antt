@@ -16,7 +16,8 @@ returns-in_err-weights c =
     let size = two.counted (length r) k.1 k.2 ∙ ap (λ l. 2 + 2 * ((l - 2) / 2)) (sym c.len-fields.ensures) in
     let factor = ap (is_natural 1 c.args.greatest) (sym c.field.ensures) ∙ c.in-Some.ensures.0 in
     let p = err_from_is_err_and c.from_residual.result c.from_residual.ensures.1 in
-    rw (p.1, p.2) (groups-stop 2 two (is_divisor c.args.greatest) (is_pair_field c.args.premises) (codes "by") c.args.records.now n (upto weight_at r n) (multipliers_of r) c.in_err-weights.field-0.0 size factor c.in_err-weights.ensures)
+    rw (p.1, p.2) (groups-stop 2 two (is_divisor c.args.greatest) (is_pair_field c.args.premises) (codes "by") c.args.records.now n (upto weight_at r n)
+    (multipliers_of r) c.in_err-weights.field-0.0 size factor c.in_err-weights.ensures)
 
 pub returns : goal.returns
 returns c =
@@ -26,5 +27,8 @@ returns c =
     let size = two.counted (length r) k.1 k.2 ∙ ap (λ l. 2 + 2 * ((l - 2) / 2)) (sym c.len-fields.ensures) in
     let factor = ap (is_natural 1 c.args.greatest) (sym c.field.ensures) ∙ c.in-Some.ensures.0 in
     let weights = c.in_ok-weights.ensures.0 ∙ ap (λ l. upto weight_at r ((l - 2) / 2)) c.len-fields.ensures in
-    let told = c.in-Some.ensures.1 ∙ ap natural c.field.ensures in
-    (c.multipliers_of.ensures ∙ (λ i. record { divisor = pos (told i); weights = weights i }), none-wrong 2 two (is_divisor c.args.greatest) (is_pair_field c.args.premises) r n size factor c.in_ok-weights.ensures.1)
+    let told = c.in-Some.ensures.1 ∙ ap natural c.field.ensures in (
+      c.multipliers_of.ensures ∙ (λ i. record { divisor = pos (told i); weights = weights i }),
+      none-wrong 2 two (is_divisor c.args.greatest)
+          (is_pair_field c.args.premises) r n size factor c.in_ok-weights.ensures.1,
+    )

@@ -13,15 +13,18 @@ returns-in_err-read_proof c =
     let n = c.args.count in
     let i = c.loop-done.done in
     let p = err_from_is_err_and c.from_residual-in_err-read_proof.result c.from_residual-in_err-read_proof.ensures.1 in
-    rw (p.1, p.2) (leaves rule (times (n - i) rule) (times (n - (i + 1)) rule) (times_at rule n i c.loop-done-test.true) (run (times n rule) c.args.records.now) c.loop-done.proofs c.loop-done.records c.loop-done.invariant
-    (λ (v : Multipliers). v) (λ (v : List Multipliers). v) c.in_err-read_proof.field-0.0 c.read_proof.new.records c.read_proof.new.records c.in_err-read_proof.ensures)
+    rw (p.1, p.2) (leaves rule (times (n - i) rule) (times (n - (i + 1)) rule) (times_at rule n i c.loop-done-test.true) (run (times n rule) c.args.records.now)
+    c.loop-done.proofs c.loop-done.records c.loop-done.invariant
+    (λ (v : Multipliers). v) (λ (v : List Multipliers). v) c.in_err-read_proof.field-0.0 c.read_proof.new.records c.read_proof.new.records
+    c.in_err-read_proof.ensures)
 
 pub loop-done-preserved : goal.loop-done-preserved
 loop-done-preserved c =
     let rule = a_proof (2 ^ 30) c.args.premises in
     let n = c.args.count in
     let i = c.loop-done.done in
-    goes_on rule (times (n - i) rule) (times (n - (i + 1)) rule) (times_at rule n i c.loop-done-test.true) (run (times n rule) c.args.records.now) c.loop-done.proofs c.loop-done.records c.loop-done.invariant
+    goes_on rule (times (n - i) rule) (times (n - (i + 1)) rule) (times_at rule n i c.loop-done-test.true) (run (times n rule) c.args.records.now)
+    c.loop-done.proofs c.loop-done.records c.loop-done.invariant
     c.in_ok-read_proof.field-0 c.read_proof.new.records c.push.new.self c.in_ok-read_proof.ensures c.in_ok-push.ensures.ok
 
 pub returns : goal.returns

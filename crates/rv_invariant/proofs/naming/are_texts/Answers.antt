@@ -10,7 +10,8 @@ use Rattle.rv_invariant.proofs.naming.are_texts.Goals as goal
 pub returns-then-not-is_same : goal.returns-then-not-is_same
 returns-then-not-is_same c =
     sym (ap (λ l. same_fields (here c.args.records.now) (c.args.word.now ∷ l)) (sym (map-id c.args.names.now))
-    ∙ later-differ (λ (t : List ℕ). t) (here c.args.records.now) c.args.word.now c.args.names.now c.loop-index.index c.index-names-index.result c.loop-index-test.true c.index-names-index.is
+    ∙ later-differ (λ (t : List ℕ). t) (here c.args.records.now) c.args.word.now c.args.names.now c.loop-index.index c.index-names-index.result
+    c.loop-index-test.true c.index-names-index.is
     (λ e. false-true (sym c.if-not-is_same.true ∙ c.is_same.ensures.1 (c.field.ensures ∙ e ∙ sym c.as_str.ensures ∙ sym c.as_bytes.ensures.value))))
 
 pub loop-index-preserved : goal.loop-index-preserved
@@ -22,4 +23,6 @@ loop-index-preserved c =
 pub returns : goal.returns
 returns c =
     sym (ap (λ l. same_fields (here c.args.records.now) (c.args.word.now ∷ l)) (sym (map-id c.args.names.now))
-    ∙ later-same (λ (t : List ℕ). t) (here c.args.records.now) c.args.word.now c.args.names.now (omega arith) (bytes-same (word_of (here c.args.records.now)) c.args.word.now (sym c.is_word.ensures ∙ c.if-not-is_word.false)) (λ k h. c.loop-index.invariant k (omega arith)))
+    ∙ later-same (λ (t : List ℕ). t) (here c.args.records.now) c.args.word.now c.args.names.now (omega arith)
+    (bytes-same (word_of (here c.args.records.now)) c.args.word.now (sym c.is_word.ensures ∙ c.if-not-is_word.false))
+    (λ k h. c.loop-index.invariant k (omega arith)))

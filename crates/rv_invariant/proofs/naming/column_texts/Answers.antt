@@ -6,5 +6,6 @@ use Rattle.rv_invariant.proofs.naming.column_texts.Goals as goal
 pub loop-index-preserved : goal.loop-index-preserved
 loop-index-preserved c =
     let f = c.args.flat.now in
-    mapped-more (column_text f.inputs) f.columns c.loop-index.index c.at.result.now c.loop-index.names c.push.new.self c.in_ok-from_str.field-0 c.at.ensures.value c.loop-index.invariant
+    mapped-more (column_text f.inputs) f.columns c.loop-index.index c.at.result.now c.loop-index.names c.push.new.self c.in_ok-from_str.field-0
+    c.at.ensures.value c.loop-index.invariant
     (c.in_ok-from_str.ensures ∙ c.as_str.ensures.value ∙ c.in_ok-text.ensures) c.in_ok-push.ensures.ok

@@ -9,4 +9,5 @@ returns c =
     let f = listed c.args.word.now c.args.names.now in
     let s = c.args.records.now in
     let kind = plain_kind f.is_kind s.taken s.rest c.in_ok-expect_plain.ensures (sym c.is_word.ensures ∙ c.if-not-is_word.false) in
-    took_right f (λ r. tt) s c.advance.result c.advance.new.self (right f s kind (sym c.are_texts.ensures ∙ c.if-not-are_texts.false) (no_bad (λ i. true) 0 (length (here s)) (λ i. refl))) c.advance.ensures.ok c.advance.ensures.memory
+    took_right f (λ r. tt) s c.advance.result c.advance.new.self (right f s kind (sym c.are_texts.ensures ∙ c.if-not-are_texts.false)
+    (no_bad (λ i. true) 0 (length (here s)) (λ i. refl))) c.advance.ensures.ok c.advance.ensures.memory

@@ -16,7 +16,8 @@ pub returns-in_err-count : goal.returns-in_err-count
 returns-in_err-count c =
     let f = c.args.flat.now in
     let p = err_from_is_err_and c.from_residual.result c.from_residual.ensures.1 in
-    rw (p.1, p.2) (chain-stops (λ (n : ℕ). n) (λ (x : Certificate). x) (head_rule f) (all_locations f) (run (certificate_rule f) c.args.records.now) c.args.records.now c.in_err-count.field-0.0 c.read_head.new.records refl c.in_err-count.ensures)
+    rw (p.1, p.2) (chain-stops (λ (n : ℕ). n) (λ (x : Certificate). x) (head_rule f) (all_locations f) (run (certificate_rule f) c.args.records.now)
+    c.args.records.now c.in_err-count.field-0.0 c.read_head.new.records refl c.in_err-count.ensures)
 
 pub returns : goal.returns
 returns c =
@@ -24,5 +25,6 @@ returns c =
     let n = c.in_ok-count.count in
     let whole = run (certificate_rule f) c.args.records.now in
     let w1 = chain-ok (head_rule f) (all_locations f) whole c.args.records.now c.read_head.new.records n refl c.in_ok-count.ensures in
-    let last = subst (λ (s : Shape). Reads (λ (x : Certificate). x) (run (locations_rule s n n [] (replicate n None)) c.read_head.new.records) c.read_locations.result c.read_locations.new.records) c.shape_of.ensures c.read_locations.ensures in
+    let last = subst (λ (s : Shape). Reads (λ (x : Certificate). x) (run (locations_rule s n n [] (replicate n None)) c.read_head.new.records)
+    c.read_locations.result c.read_locations.new.records) c.shape_of.ensures c.read_locations.ensures in
     chain-last (λ (x : Certificate). x) (all_locations f n) whole c.read_head.new.records c.read_locations.result c.read_locations.new.records w1 last

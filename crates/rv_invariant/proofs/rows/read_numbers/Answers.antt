@@ -35,7 +35,8 @@ loop-index-preserved c =
     record {
       size = size ∙ ap (λ k. k + 1) inv.size;
       read = pushed-read coefficient_at r xs new number inv.read value e;
-      right = numbers-more r i (length new) (size ∙ ap (λ k. k + 1) inv.size) (λ k l. inv.right k (omega (arith, inv.size, l))) (ap (is_within (2 ^ 30)) (sym c.field-in-loop-index.ensures) ∙ told.0);
+      right = numbers-more r i (length new) (size ∙ ap (λ k. k + 1) inv.size) (λ k l. inv.right k (omega (arith, inv.size, l)))
+          (ap (is_within (2 ^ 30)) (sym c.field-in-loop-index.ensures) ∙ told.0);
     }
 
 pub returns : goal.returns

@@ -14,7 +14,8 @@ returns-in_err-read_row-clause-read c =
     let n = c.args.count in
     let i = c.loop-done.done in
     let p = err_from_is_err_and c.from_residual-in_err-read_row.result c.from_residual-in_err-read_row.ensures.1 in
-    rw (p.1, p.2) (leaves rule (times (n - i) rule) (times (n - (i + 1)) rule) (times_at rule n i c.loop-done-test.true) (run (times n rule) c.args.records.now) c.loop-done.rows c.loop-done.records c.loop-done.invariant.kept
+    rw (p.1, p.2) (leaves rule (times (n - i) rule) (times (n - (i + 1)) rule) (times_at rule n i c.loop-done-test.true) (run (times n rule) c.args.records.now)
+    c.loop-done.rows c.loop-done.records c.loop-done.invariant.kept
     (λ (v : Row). v) (λ (v : List Row). v) c.in_err-read_row.field-0.0 c.read_row.new.records c.read_row.new.records c.in_err-read_row.ensures)
 
 pub loop-done-preserved : goal.loop-done-preserved
@@ -24,7 +25,8 @@ loop-done-preserved c =
     let i = c.loop-done.done in
     record {
       size = ap length c.in_ok-push.ensures.ok ∙ length_push c.loop-done.rows c.in_ok-read_row.field-0 ∙ ap (λ k. k + 1) c.loop-done.invariant.size;
-      kept = goes_on rule (times (n - i) rule) (times (n - (i + 1)) rule) (times_at rule n i c.loop-done-test.true) (run (times n rule) c.args.records.now) c.loop-done.rows c.loop-done.records c.loop-done.invariant.kept
+      kept = goes_on rule (times (n - i) rule) (times (n - (i + 1)) rule) (times_at rule n i c.loop-done-test.true) (run (times n rule) c.args.records.now)
+          c.loop-done.rows c.loop-done.records c.loop-done.invariant.kept
           c.in_ok-read_row.field-0 c.read_row.new.records c.push.new.self c.in_ok-read_row.ensures c.in_ok-push.ensures.ok;
     }
 

@@ -37,7 +37,8 @@ pub returns-clause-written : goal.returns-clause-written
 returns-clause-written c =
     let f = c.args.flat.now in
     let x = c.args.certificate.now in
-    reads-as f x c.finish.result (λ v. v.items) (c.finish.ensures (wide (certificate_records f x)) (c.in_ok-write_records.ensures.added [] c.new_writer-writer.ensures))
+    reads-as f x c.finish.result (λ v. v.items) (c.finish.ensures (wide (certificate_records f x))
+    (c.in_ok-write_records.ensures.added [] c.new_writer-writer.ensures))
 
 pub returns-clause-document : goal.returns-clause-document
 returns-clause-document c =

@@ -11,7 +11,8 @@ use Rattle.rv_invariant.proofs.writing.write_entries.Goals as goal
 
 pub loop-index-init : goal.loop-index-init
 loop-index-init c = (
-  subst (λ (n : ℕ). Adds (λ v. Some v.items) c.args.writer.now c.put_count.new.writer ((codes "cases" ∷ decimal n ∷ []) ∷ [])) c.len.ensures c.in_ok-put_count.ensures,
+  subst (λ (n : ℕ). Adds (λ v. Some v.items) c.args.writer.now c.put_count.new.writer ((codes "cases" ∷ decimal n ∷ []) ∷ [])) c.len.ensures
+      c.in_ok-put_count.ensures,
   λ j e l h. absurd (omega (arith, l)),
 )
 
@@ -24,7 +25,8 @@ loop-index-preserved c =
     let count : Fields = codes "cases" ∷ decimal (length es) ∷ [] in (
       adds-same (λ v. Some v.items) c.args.writer.now c.write_entry.new.writer (count ∷ (flat_map entry_records (take i es) ++ entry_records e))
           (count ∷ flat_map entry_records (take (i + 1) es)) (ap (λ l. count ∷ l) (flat-more entry_records es i e c.at.ensures.value))
-          (adds-then (λ v. Some v.items) c.args.writer.now c.loop-index.writer c.write_entry.new.writer (count ∷ flat_map entry_records (take i es)) (entry_records e)
+          (adds-then (λ v. Some v.items) c.args.writer.now c.loop-index.writer c.write_entry.new.writer (count ∷ flat_map entry_records (take i es))
+          (entry_records e)
           inv.0 c.in_ok-write_entry.ensures.added),
       each-more (λ (x : Entry). IsHeld x.condition) es i e c.at.ensures.value c.in_ok-write_entry.ensures.held inv.1,
     )

@@ -10,7 +10,8 @@ use Rattle.rv_invariant.proofs.writing.write_location.Goals as goal
 
 -- the lists of rows, one after the other
 rows-more : (l : Location) (x : List Fields)
-    → rows_of l ++ x ≡ list_records (codes "entry") l.entry ++ (list_records (codes "first") l.first ++ (list_records (codes "around") l.around ++ (list_records (codes "state") l.state ++ x)))
+    → rows_of l ++ x ≡ list_records (codes "entry") l.entry ++ (list_records (codes "first") l.first
+    ++ (list_records (codes "around") l.around ++ (list_records (codes "state") l.state ++ x)))
 rows-more l x =
     let e = list_records (codes "entry") l.entry in
     let f = list_records (codes "first") l.first in
@@ -30,7 +31,8 @@ returns-clause-added c =
     subst (λ (x : List Fields). OnOk r (Adds (λ v. Some v.items) c.args.writer.now w (control ∷ x))) (rows-more l (by_entry ++ (by_first ++ cases)))
     (then-last (λ v. Some v.items) c.args.writer.now c.write_diagram.new.writer w (control ∷ []) (rows_of l ++ (by_entry ++ (by_first ++ cases))) r
     c.in_ok-write_diagram.ensures.added
-    (then-last (λ v. Some v.items) c.write_diagram.new.writer c.write_lists.new.writer w (rows_of l) (by_entry ++ (by_first ++ cases)) r c.in_ok-write_lists.ensures
+    (then-last (λ v. Some v.items) c.write_diagram.new.writer c.write_lists.new.writer w (rows_of l) (by_entry ++ (by_first ++ cases)) r
+    c.in_ok-write_lists.ensures
     (then-last (λ v. Some v.items) c.write_lists.new.writer c.write_proofs.new.writer w by_entry (by_first ++ cases) r c.in_ok-write_proofs.ensures
     (then-last (λ v. Some v.items) c.write_proofs.new.writer c.write_proofs-2.new.writer w by_first cases r c.in_ok-write_proofs-2.ensures
     c.write_entries.ensures.added))))

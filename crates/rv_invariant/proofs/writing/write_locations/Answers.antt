@@ -18,7 +18,8 @@ loop-index-preserved c =
     let inv = c.loop-index.invariant in (
       adds-same (λ v. Some v.items) c.args.writer.now c.write_location.new.writer (flat_map location_records (take i ls) ++ location_records l)
           (flat_map location_records (take (i + 1) ls)) (flat-more location_records ls i l c.at.ensures.value)
-          (adds-then (λ v. Some v.items) c.args.writer.now c.loop-index.writer c.write_location.new.writer (flat_map location_records (take i ls)) (location_records l)
+          (adds-then (λ v. Some v.items) c.args.writer.now c.loop-index.writer c.write_location.new.writer (flat_map location_records (take i ls))
+          (location_records l)
           inv.0 c.in_ok-write_location.ensures.added),
       each-more HasHeld ls i l c.at.ensures.value c.in_ok-write_location.ensures.held inv.1,
     )

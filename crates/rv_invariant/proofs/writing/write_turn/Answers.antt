@@ -13,7 +13,8 @@ returns-clause-added c =
     let state = map by_record c.args.state.now in
     let r = c.write_proofs-4.result in
     let w = c.write_proofs-4.new.writer in
-    then-last (λ v. Some v.items) c.args.writer.now c.put.new.writer w ((codes "loop" ∷ []) ∷ []) (when ∷ (first ++ (before ++ (around ++ state)))) r c.in_ok-put.ensures
+    then-last (λ v. Some v.items) c.args.writer.now c.put.new.writer w ((codes "loop" ∷ []) ∷ []) (when ∷ (first ++ (before ++ (around ++ state)))) r
+    c.in_ok-put.ensures
     (then-last (λ v. Some v.items) c.put.new.writer c.write_diagram.new.writer w (when ∷ []) (first ++ (before ++ (around ++ state))) r
     c.in_ok-write_diagram.ensures.added
     (then-last (λ v. Some v.items) c.write_diagram.new.writer c.write_proofs.new.writer w first (before ++ (around ++ state)) r c.in_ok-write_proofs.ensures

@@ -9,7 +9,8 @@ refused : {X E : Type 0} {r : Result X E} {x : X} {e : E} → r ≡ Ok x → r �
 refused a b = cc
 
 pub returns-in-Err-parse : goal.returns-in-Err-parse
-returns-in-Err-parse c n h e = refused (parse-decimal 64 n c.in-Ok.text.now c.parse.result h h (c.in-Ok.ensures.cases.0 ∙ e) c.parse.ensures.value.0) c.in-Err-parse.is
+returns-in-Err-parse c n h e = refused (parse-decimal 64 n c.in-Ok.text.now c.parse.result h h (c.in-Ok.ensures.cases.0 ∙ e) c.parse.ensures.value.0)
+    c.in-Err-parse.is
 
 pub returns-in-Err : goal.returns-in-Err
 returns-in-Err c n h e = c.in-Err.ensures.cases.0 (subst IsUtf8 (sym e) (IsUtf8-from_ascii (decimal n) (IsAscii-decimal n h)))

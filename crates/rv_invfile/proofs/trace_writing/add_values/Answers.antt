@@ -15,8 +15,10 @@ loop-index-preserved c =
     let inv = c.loop-index.invariant in
     let old = fields_of c.loop-index.row in
     let fields : fields_of c.push_field.new.self ≡ old ++ value_text f.labels x.kind v ∷ [] =
-    c.in_ok-push_field.ensures.fields ∙ ap (λ p. old ++ (p ++ c.as_bytes.result.now) ∷ []) inv.0 ∙ ap (λ t. old ++ t ∷ []) (c.as_bytes.ensures.value ∙ c.in_ok-text.ensures) in (
+    c.in_ok-push_field.ensures.fields ∙ ap (λ p. old ++ (p ++ c.as_bytes.result.now) ∷ []) inv.0
+    ∙ ap (λ t. old ++ t ∷ []) (c.as_bytes.ensures.value ∙ c.in_ok-text.ensures) in (
       c.in_ok-push_field.ensures.partial,
       ap (λ l. l ++ value_texts f.labels (map (λ (y : FlatInput). y.kind) (drop (i + 1) f.inputs)) (drop (i + 1) c.args.values.now)) fields
-          ∙ texts-more f.labels f.inputs c.args.values.now i x v old (fields_of c.args.row.now ++ value_texts f.labels (input_kinds f) c.args.values.now) c.at-input.ensures.value c.at.ensures.value inv.1,
+          ∙ texts-more f.labels f.inputs c.args.values.now i x v old (fields_of c.args.row.now ++ value_texts f.labels (input_kinds f) c.args.values.now)
+          c.at-input.ensures.value c.at.ensures.value inv.1,
     )

@@ -11,7 +11,14 @@ returns c =
     let f = c.args.flat.now in
     let w = c.args.writer.now in
     let vss = c.args.instants.now in
-    let inputs = subst (λ (is : List FlatInput). Adds (λ v. Some v.items) w c.write_inputs.new.writer ((codes "inputs" ∷ map (λ (i : FlatInput). i.name) is) ∷ [])) c.as_slice.ensures c.in_ok-write_inputs.ensures in
-    let two = adds-then (λ v. Some v.items) w c.write_inputs.new.writer c.put_count.new.writer ((codes "inputs" ∷ map (λ (i : FlatInput). i.name) f.inputs) ∷ []) ((codes "instants" ∷ decimal (length vss) ∷ []) ∷ []) inputs c.in_ok-put_count.ensures in
-    let three = adds-then (λ v. Some v.items) w c.put_count.new.writer c.write_instants.new.writer ((codes "inputs" ∷ map (λ (i : FlatInput). i.name) f.inputs) ∷ (codes "instants" ∷ decimal (length vss) ∷ []) ∷ []) (map (instant_record f) vss) two c.in_ok-write_instants.ensures in
-    then-last (λ v. Some v.items) w c.write_instants.new.writer c.put.new.writer ((codes "inputs" ∷ map (λ (i : FlatInput). i.name) f.inputs) ∷ (codes "instants" ∷ decimal (length vss) ∷ []) ∷ map (instant_record f) vss) (last_record ∷ []) c.put.result three c.put.ensures
+    let inputs = subst (λ (is : List FlatInput). Adds (λ v. Some v.items) w c.write_inputs.new.writer
+    ((codes "inputs" ∷ map (λ (i : FlatInput). i.name) is) ∷ [])) c.as_slice.ensures c.in_ok-write_inputs.ensures in
+    let two = adds-then (λ v. Some v.items) w c.write_inputs.new.writer c.put_count.new.writer
+    ((codes "inputs" ∷ map (λ (i : FlatInput). i.name) f.inputs) ∷ []) ((codes "instants" ∷ decimal (length vss) ∷ []) ∷ []) inputs
+    c.in_ok-put_count.ensures in
+    let three = adds-then (λ v. Some v.items) w c.put_count.new.writer c.write_instants.new.writer
+    ((codes "inputs" ∷ map (λ (i : FlatInput). i.name) f.inputs) ∷ (codes "instants" ∷ decimal (length vss) ∷ []) ∷ []) (map (instant_record f) vss) two
+    c.in_ok-write_instants.ensures in
+    then-last (λ v. Some v.items) w c.write_instants.new.writer c.put.new.writer
+    ((codes "inputs" ∷ map (λ (i : FlatInput). i.name) f.inputs) ∷ (codes "instants" ∷ decimal (length vss) ∷ []) ∷ map (instant_record f) vss)
+    (last_record ∷ []) c.put.result three c.put.ensures

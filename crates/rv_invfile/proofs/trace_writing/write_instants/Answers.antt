@@ -15,7 +15,8 @@ pub write_instant-requires : goal.write_instant-requires
 write_instant-requires c =
     let f = c.args.flat.now in
     let vs = c.values-item.result in
-    kinds-length f.labels (input_kinds f) vs (all-at (HaveKinds f.labels (input_kinds f)) c.args.instants.now c.loop-values.values-index vs c.requires c.loop-values-test.true c.values-item.is)
+    kinds-length f.labels (input_kinds f) vs (all-at (HaveKinds f.labels (input_kinds f)) c.args.instants.now c.loop-values.values-index vs c.requires
+    c.loop-values-test.true c.values-item.is)
     ∙ length-map f.inputs (λ (i : FlatInput). i.kind)
 
 pub loop-values-preserved : goal.loop-values-preserved
@@ -24,8 +25,10 @@ loop-values-preserved c =
     let vs = c.values-item.result in
     let inv = c.loop-values.invariant in (
       inv.0 ++ instant_record f vs ∷ [],
-      adds-then (λ v. Some v.items) c.args.writer.now c.loop-values.writer c.write_instant.new.writer inv.0 (instant_record f vs ∷ []) inv.1 c.in_ok-write_instant.ensures,
-      each-more (instant_record f) c.args.instants.now c.loop-values.values-index vs inv.0 (map (instant_record f) c.args.instants.now) c.loop-values-test.true c.values-item.is inv.2,
+      adds-then (λ v. Some v.items) c.args.writer.now c.loop-values.writer c.write_instant.new.writer inv.0 (instant_record f vs ∷ []) inv.1
+          c.in_ok-write_instant.ensures,
+      each-more (instant_record f) c.args.instants.now c.loop-values.values-index vs inv.0 (map (instant_record f) c.args.instants.now) c.loop-values-test.true
+          c.values-item.is inv.2,
     )
 
 pub returns : goal.returns
@@ -33,4 +36,5 @@ returns c =
     let f = c.args.flat.now in
     let inv = c.loop-values.invariant in
     subst (λ (rows : List Fields). Adds (λ v. Some v.items) c.args.writer.now c.loop-values.writer rows)
-    (each-none (instant_record f) c.args.instants.now c.loop-values.values-index inv.0 (map (instant_record f) c.args.instants.now) c.loop-values-test.false inv.2) inv.1
+    (each-none (instant_record f) c.args.instants.now c.loop-values.values-index inv.0 (map (instant_record f) c.args.instants.now) c.loop-values-test.false
+    inv.2) inv.1

@@ -23,7 +23,8 @@ loop-index-preserved c =
     let added = subst (λ (r : Fields). Adds (λ v. Some v.items) c.loop-index.writer c.put.new.writer (r ∷ [])) row c.in_ok-put.ensures in (
       inv.0 ++ start_record f.labels m v ∷ [],
       adds-then (λ v. Some v.items) c.args.writer.now c.loop-index.writer c.put.new.writer inv.0 (start_record f.labels m v ∷ []) inv.1 added,
-      starts-more f.labels f.memories c.args.values.now i m v inv.0 (start_records f.labels f.memories c.args.values.now) c.at-memory.ensures.value c.at.ensures.value inv.2,
+      starts-more f.labels f.memories c.args.values.now i m v inv.0 (start_records f.labels f.memories c.args.values.now) c.at-memory.ensures.value
+          c.at.ensures.value inv.2,
     )
 
 pub returns : goal.returns
@@ -31,4 +32,5 @@ returns c =
     let f = c.args.flat.now in
     let inv = c.loop-index.invariant in
     subst (λ (rows : List Fields). Adds (λ v. Some v.items) c.args.writer.now c.loop-index.writer rows)
-    (starts-none f.labels f.memories c.args.values.now c.loop-index.index inv.0 (start_records f.labels f.memories c.args.values.now) (omega (arith, c.loop-index-test.false, c.len-index-end.ensures)) inv.2) inv.1
+    (starts-none f.labels f.memories c.args.values.now c.loop-index.index inv.0 (start_records f.labels f.memories c.args.values.now)
+    (omega (arith, c.loop-index-test.false, c.len-index-end.ensures)) inv.2) inv.1

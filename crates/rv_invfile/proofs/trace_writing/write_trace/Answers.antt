@@ -14,7 +14,8 @@ is-text : {A E : Type 0} (r : Result A E) (items : A → List ℕ) (x y : List �
 is-text (Ok v) items x y same h = h ∙ same
 is-text (Err e) items x y same h = tt
 
-reads-as : {A E : Type 0} (r : Result A E) (items : A → List ℕ) (x : List ℕ) (rows : List Fields) → records_of x ≡ rows → IfOk r (λ v. items v ≡ x) → IfOk r (λ v. records_of (items v) ≡ rows)
+reads-as : {A E : Type 0} (r : Result A E) (items : A → List ℕ) (x : List ℕ) (rows : List Fields) → records_of x ≡ rows → IfOk r (λ v. items v ≡ x)
+    → IfOk r (λ v. records_of (items v) ≡ rows)
 reads-as (Ok v) items x rows same h = ap records_of h ∙ same
 reads-as (Err e) items x rows same h = tt
 
@@ -29,7 +30,8 @@ pub returns-clause-records : goal.returns-clause-records
 returns-clause-records c =
     let f = c.args.flat.now in
     let t = c.args.trace.now in
-    reads-as c.finish.result (λ v. v.items) (wide (trace_records f t)) (trace_records f t) (ap records_of (trace-wide f t c.requires.told) ∙ trace-read f t c.requires.told)
+    reads-as c.finish.result (λ v. v.items) (wide (trace_records f t)) (trace_records f t)
+    (ap records_of (trace-wide f t c.requires.told) ∙ trace-read f t c.requires.told)
     (c.finish.ensures (wide (trace_records f t)) (c.in_ok-write_records.ensures [] c.new_writer-writer.ensures))
 
 is-document : {A E : Type 0} (f : Flat) (t : Trace) (r : Result A E) (items : A → List ℕ) → IsDocument (trace_rule f) (trace_records f t) t
@@ -42,5 +44,6 @@ returns-clause-document c =
     let f = c.args.flat.now in
     let t = c.args.trace.now in
     is-document f t c.finish.result (λ v. v.items) (trace-document f c.requires.told t c.requires.fits)
-    (reads-as c.finish.result (λ v. v.items) (wide (trace_records f t)) (trace_records f t) (ap records_of (trace-wide f t c.requires.told) ∙ trace-read f t c.requires.told)
+    (reads-as c.finish.result (λ v. v.items) (wide (trace_records f t)) (trace_records f t)
+    (ap records_of (trace-wide f t c.requires.told) ∙ trace-read f t c.requires.told)
     (c.finish.ensures (wide (trace_records f t)) (c.in_ok-write_records.ensures [] c.new_writer-writer.ensures)))

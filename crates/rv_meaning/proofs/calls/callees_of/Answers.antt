@@ -1,4 +1,5 @@
-use Rattle.std.proofs.Common.{◌≡◌, ℕ, ◌+◌, ◌≤◌, ◌++◌, ◌∷◌, [], List, Option, length, map, sym, ◌∙◌, ap, arith, inl, inr, get_or, Some, below_more, nat_eq, length-append}
+use Rattle.std.proofs.Common.{◌≡◌, ℕ, ◌+◌, ◌≤◌, ◌++◌, ◌∷◌, [], List, Option, length, map, sym, ◌∙◌, ap, arith, inl, inr, get_or, Some, below_more, nat_eq}
+use Rattle.std.proofs.Common.{length-append}
 use Rattle.std.proofs.Common.{None as Nothing}
 use Rattle.std.specs.HashMap as hash
 use Rattle.std.specs.Option.{option_map}
@@ -31,7 +32,8 @@ loop-node-preserved c =
       size = one_longer tables c.push.new.self table i c.in_ok-push.ensures.ok size;
       each = λ k s below.
           below_more (λ k. callee_in c.push.new.self k s ≡ callee_at ns k s) i
-          (λ k less. ap (λ ts. callee_in ts k s) c.in_ok-push.ensures.ok ∙ others_stay tables table k s (omega (arith, size, less)) ∙ c.loop-node.invariant.each k s less)
+          (λ k less. ap (λ ts. callee_in ts k s) c.in_ok-push.ensures.ok ∙ others_stay tables table k s (omega (arith, size, less))
+          ∙ c.loop-node.invariant.each k s less)
           (ap (λ ts. callee_in ts i s) c.in_ok-push.ensures.ok
           ∙ ap (λ k. callee_in (tables ++ table ∷ []) k s) (sym size)
           ∙ last_is tables table s

@@ -4,4 +4,5 @@ use Rattle.rv_meaning.specs.Leading.{callee_in_equations}
 use Rattle.rv_meaning.proofs.finding.callee_in_equations.Given as goal
 
 abbrev pub invariant-loop-equation : goal.invariant-loop-equation
-invariant-loop-equation l = callee_in_equations (map equation_tree (drop l.equation-index l.equations)) l.site ≡ callee_in_equations (map equation_tree l.equations) l.site
+invariant-loop-equation l = callee_in_equations (map equation_tree (drop l.equation-index l.equations)) l.site ≡ callee_in_equations
+    (map equation_tree l.equations) l.site

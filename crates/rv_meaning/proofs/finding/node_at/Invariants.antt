@@ -4,4 +4,5 @@ use Rattle.rv_meaning.specs.Leading.{callee_at, led_by}
 use Rattle.rv_meaning.proofs.finding.node_at.Given as goal
 
 abbrev pub invariant-loop-site : goal.invariant-loop-site
-invariant-loop-site l = led_by (callee_at (map node_tree l.nodes)) l.number (drop l.site-index l.path) ≡ led_by (callee_at (map node_tree l.nodes)) l.from l.path
+invariant-loop-site l = led_by (callee_at (map node_tree l.nodes)) l.number (drop l.site-index l.path) ≡ led_by (callee_at (map node_tree l.nodes)) l.from
+    l.path

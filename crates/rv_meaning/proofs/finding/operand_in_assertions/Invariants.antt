@@ -4,4 +4,5 @@ use Rattle.rv_meaning.specs.Leading.{operand_in_assertions}
 use Rattle.rv_meaning.proofs.finding.operand_in_assertions.Given as goal
 
 abbrev pub invariant-loop-assertion : goal.invariant-loop-assertion
-invariant-loop-assertion l = operand_in_assertions (map assertion_tree (drop l.assertion-index l.assertions)) l.site ≡ operand_in_assertions (map assertion_tree l.assertions) l.site
+invariant-loop-assertion l = operand_in_assertions (map assertion_tree (drop l.assertion-index l.assertions)) l.site ≡ operand_in_assertions
+    (map assertion_tree l.assertions) l.site

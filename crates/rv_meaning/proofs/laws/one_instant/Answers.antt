@@ -14,5 +14,6 @@ returns c program main sequence state inputs well named ordered =
       get_or s.0 0 empty,
       instant_of_solution program main state inputs defined s.0 s.1,
       λ other r. ap (λ h. get_or h 0 empty)
-          (same program main (at_state program main state inputs) is_local defined sequence ordered 1 (alone program main state inputs other) s.0 (solution_of_instant program main state inputs other r) s.1),
+          (same program main (at_state program main state inputs) is_local defined sequence ordered 1 (alone program main state inputs other) s.0
+          (solution_of_instant program main state inputs other r) s.1),
     )

@@ -36,7 +36,8 @@ returns c =
     ∙ (λ i. flat_map (places_at (callee_in (c.as_slice-4.ensures i)) (c.as_slice-5.ensures i) t.main) (c.as_slice-3.ensures i)) in
     are_memory_places p (name_at p t.main) well (is_node p t c.requires.settled) t.main (main_node p t c.requires.settled) c.args.paths.now c.requires.paths
     next (λ k s. c.in_ok-callees.ensures k s ∙ ap (λ ns. callee_at (map node_tree ns) k s) c.as_slice.ensures)
-    c.in_ok-sites.sites (λ k. subst (λ ns. AreSites (get_or (map node_tree ns) k no_node) (get_or c.in_ok-sites.sites k [])) c.as_slice-2.ensures (c.in_ok-sites.ensures k))
+    c.in_ok-sites.sites (λ k. subst (λ ns. AreSites (get_or (map node_tree ns) k no_node) (get_or c.in_ok-sites.sites k [])) c.as_slice-2.ensures
+    (c.in_ok-sites.ensures k))
     (sites_of c.sorted.result) c.sorted.ensures.rising
     (λ q w. c.sorted.ensures.all q (subst (λ (l : List Sites). Contains l q) (sym found) w))
     (λ q w. subst (λ (l : List Sites). Contains l q) found (c.sorted.ensures.only q w))

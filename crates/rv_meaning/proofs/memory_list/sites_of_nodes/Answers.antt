@@ -40,7 +40,8 @@ loop-node-preserved c =
     record {
       size = longer c.loop-node.sites c.push.new.self own i grown size;
       each = below_more (λ k. AreSites (get_or ns k no_node) (get_or c.push.new.self k [])) i
-          (λ k less. subst (λ l. AreSites (get_or ns k no_node) l) (before c.loop-node.sites c.push.new.self own k grown (omega (arith, size, less))) (c.loop-node.invariant.each k less))
+          (λ k less. subst (λ l. AreSites (get_or ns k no_node) l) (before c.loop-node.sites c.push.new.self own k grown (omega (arith, size, less)))
+          (c.loop-node.invariant.each k less))
           (subst (λ m. AreSites m (get_or c.push.new.self i [])) (sym at)
           (subst (λ l. AreSites n l) (last c.loop-node.sites c.push.new.self own i grown size) c.in_ok-sites_of_node.ensures));
     }
@@ -50,7 +51,8 @@ nothing : AreSites no_node []
 nothing = record { all = λ s w. w; only = λ s w. w }
 
 past : (ns : List NodeTree) (sites : List (List ℕ)) (k : ℕ) → length ns ≤ k → length sites ≤ k → AreSites (get_or ns k no_node) (get_or sites k [])
-past ns sites k le less = subst (λ m. AreSites m (get_or sites k [])) (sym (get_or_past ns k no_node le)) (subst (λ l. AreSites no_node l) (sym (get_or_past sites k [] less)) nothing)
+past ns sites k le less = subst (λ m. AreSites m (get_or sites k [])) (sym (get_or_past ns k no_node le))
+    (subst (λ l. AreSites no_node l) (sym (get_or_past sites k [] less)) nothing)
 
 pub returns : goal.returns
 returns c = λ k.

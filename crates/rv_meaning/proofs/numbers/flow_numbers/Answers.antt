@@ -33,7 +33,14 @@ returns c =
     (let i = c.len-outputs.ensures in
     let o = c.len.ensures in
     let l = c.len-2.ensures in
-    omega (arith, length-append (names n.inputs ++ names n.outputs) (names n.locals), length-append (names n.inputs) (names n.outputs), many n.inputs, many n.outputs, many n.locals))
+    omega (
+      arith,
+      length-append (names n.inputs ++ names n.outputs) (names n.locals),
+      length-append (names n.inputs) (names n.outputs),
+      many n.inputs,
+      many n.outputs,
+      many n.locals,
+    ))
     (λ x.
     c.in_ok-enter-3.ensures x
     ∙ ap (λ ds. entered 0 (names ds) (get is_same c.enter-2.new.numbers x) x) c.as_slice-3.ensures

@@ -19,7 +19,8 @@ add_pairs_of-requires c =
       row = subst Fits (sym here) (c.requires.poly.fits c.loop-row.row-index c.row-item.result inside);
       rows = c.requires.poly.fits;
       widths = subst P (sym here) (λ i d l. c.requires.poly.widths i d l ∙ sym one);
-      room = paired-few c.args.column c.args.rows.now c.loop-row.row-index c.args.step.now c.loop-row.step c.loop-row.invariant inside c.requires.poly.few c.requires.room;
+      room = paired-few c.args.column c.args.rows.now c.loop-row.row-index c.args.step.now c.loop-row.step c.loop-row.invariant inside c.requires.poly.few
+          c.requires.room;
     }
 
 pub loop-row-preserved : goal.loop-row-preserved

@@ -18,7 +18,8 @@ add_pair-requires c =
       positive = c.requires.positive;
       other = subst Fits (sym here) (c.requires.rows c.loop-other.other-index c.other-item.result inside);
       widths = subst P (sym here) (c.requires.widths c.loop-other.other-index c.other-item.result inside);
-      room = pairs-few c.args.column c.args.rows.now c.args.positive.now c.loop-other.other-index c.args.step.now c.loop-other.step c.loop-other.invariant inside c.requires.room;
+      room = pairs-few c.args.column c.args.rows.now c.args.positive.now c.loop-other.other-index c.args.step.now c.loop-other.step c.loop-other.invariant
+          inside c.requires.room;
     }
 
 pub loop-other-preserved : goal.loop-other-preserved
@@ -27,5 +28,6 @@ loop-other-preserved c =
     c.other-item.is ∙ ap (λ l. get_or l c.loop-other.other-index c.other-item.result) c.as_slice-other-items.ensures in
     let inside : c.loop-other.other-index < length c.args.rows.now = omega (arith, ap length c.as_slice-other-items.ensures) in
     let P : Row → Type 0 = λ r. IsPairTaken c.args.column c.args.positive.now r c.loop-other.step c.add_pair.new.step in
-    pairs-more c.args.column c.args.rows.now c.args.positive.now c.loop-other.other-index c.other-item.result c.args.step.now c.loop-other.step c.add_pair.new.step
+    pairs-more c.args.column c.args.rows.now c.args.positive.now c.loop-other.other-index c.other-item.result c.args.step.now c.loop-other.step
+    c.add_pair.new.step
     c.loop-other.invariant inside (subst P here c.in_ok-add_pair.ensures)

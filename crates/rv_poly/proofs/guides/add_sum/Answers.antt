@@ -8,7 +8,8 @@ returns-then-guide-eq0 c = guided-same c.args.width c.args.guide.now.rows
 pub combine-requires : goal.combine-requires
 combine-requires c =
     let one_wide = guide-width c.args.width c.args.guide.now.rows c.args.first c.at-one.result.now c.requires.guide c.requires.first c.at-one.ensures.value in
-    let other_wide = guide-width c.args.width c.args.guide.now.rows c.args.second c.at-other.result.now c.requires.guide c.requires.second c.at-other.ensures.value in
+    let other_wide = guide-width c.args.width c.args.guide.now.rows c.args.second c.at-other.result.now c.requires.guide c.requires.second
+    c.at-other.ensures.value in
     record {
       positive = guide-fits c.args.width c.args.guide.now.rows c.args.first c.at-one.result.now c.requires.guide c.requires.first c.at-one.ensures.value;
       negative = guide-fits c.args.width c.args.guide.now.rows c.args.second c.at-other.result.now c.requires.guide c.requires.second c.at-other.ensures.value;

@@ -18,7 +18,8 @@ add_with_negative-requires c =
 
 pub loop-second-preserved : goal.loop-second-preserved
 loop-second-preserved c =
-    guided-trans c.args.width c.args.guide.now.rows c.loop-second.guide.rows c.add_with_negative.new.guide.rows c.loop-second.invariant c.in_ok-add_with_negative.ensures
+    guided-trans c.args.width c.args.guide.now.rows c.loop-second.guide.rows c.add_with_negative.new.guide.rows c.loop-second.invariant
+    c.in_ok-add_with_negative.ensures
 
 pub returns : goal.returns
 returns c = c.loop-second.invariant

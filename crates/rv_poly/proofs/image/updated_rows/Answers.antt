@@ -10,7 +10,8 @@ returns-clause-exact c moves narrow stay point size h =
     let cut = rw c.len-width.ensures at c.in_ok-sides.ensures in
     let first = rw (c.in_ok-search.ensures, c.len-width.ensures, c.new-rows.ensures) at c.in_ok-add_sides.ensures in
     let second = rw (c.in_ok-search.ensures, c.len-width.ensures) at c.in_ok-add_units.ensures in
-    moved-image c.args.premises.now c.args.updates.now c.in_ok-sides.sides c.add_sides.new.rows c.add_units.new.rows cut first second c.requires.few moves narrow stay point size h
+    moved-image c.args.premises.now c.args.updates.now c.in_ok-sides.sides c.add_sides.new.rows c.add_units.new.rows cut first second c.requires.few moves
+    narrow stay point size h
 
 pub returns-clause-poly : goal.returns-clause-poly
 returns-clause-poly c =

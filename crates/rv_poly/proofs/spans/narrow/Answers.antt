@@ -29,7 +29,8 @@ returns-in-Some c =
     let some : c.number_at-by.result ≡ pos 0 → ⊥ = (let t = c.if-by-eq0.false in search rules) in
     let has : coefficient c.args.column c.args.row.now ≡ pos 0 → ⊥ = (λ e. some (c.number_at-by.ensures ∙ e)) in
     let sum_is = rw c.in-Some.is at c.left_side.ensures.exact in
-    let cut : c.in-Some.sum ≡ pos 0 → IsSpanCut c.number_at-by.result c.args.row.now.bound c.args.span c.cut_after.result = simp to_z-of_z at c.cut_after.ensures.cut in
+    let cut : c.in-Some.sum ≡ pos 0 → IsSpanCut c.number_at-by.result c.args.row.now.bound c.args.span c.cut_after.result = simp to_z-of_z at
+    c.cut_after.ensures.cut in
     let P : ℤ → Type 0 = λ z. IsSpanCut z c.args.row.now.bound c.args.span c.cut_after.result in
     narrowed-cut c.args.column c.args.row.now c.args.span c.cut_after.result c.cut_after.ensures.low c.cut_after.ensures.high has
     (λ s. subst P c.number_at-by.ensures (cut (sum_is ∙ rest-zero c.args.row.now.coefficients c.args.point.now c.args.column c.requires.size s has)))

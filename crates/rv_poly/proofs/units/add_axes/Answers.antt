@@ -6,5 +6,6 @@ loop-first-init g c = axes-none (g.B.Bounding.has c.args.set.now) (g.B.Bounding.
 
 pub loop-first-preserved : goal.loop-first-preserved
 loop-first-preserved g c =
-    axes-more (g.B.Bounding.has c.args.set.now) (g.B.Bounding.shows c.args.set.now) c.args.width c.loop-first.first c.args.rows.now c.loop-first.rows c.add_axis.new.rows
+    axes-more (g.B.Bounding.has c.args.set.now) (g.B.Bounding.shows c.args.set.now) c.args.width c.loop-first.first c.args.rows.now c.loop-first.rows
+    c.add_axis.new.rows
     c.loop-first.invariant c.in_ok-add_axis.ensures

@@ -6,5 +6,6 @@ loop-first-init g c = diagonals-none (g.B.Bounding.has c.args.set.now) (g.B.Boun
 
 pub loop-first-preserved : goal.loop-first-preserved
 loop-first-preserved g c =
-    diagonals-more (g.B.Bounding.has c.args.set.now) (g.B.Bounding.shows c.args.set.now) c.args.width c.loop-first.first c.args.rows.now c.loop-first.rows c.add_pairs.new.rows
+    diagonals-more (g.B.Bounding.has c.args.set.now) (g.B.Bounding.shows c.args.set.now) c.args.width c.loop-first.first c.args.rows.now c.loop-first.rows
+    c.add_pairs.new.rows
     c.loop-first.invariant c.in_ok-add_pairs.ensures

@@ -3,5 +3,6 @@ use Rattle.rv_poly.proofs.units.add_pair.Goals as goal
 
 pub returns : goal.returns
 returns g c =
-    pair-added (g.B.Bounding.has c.args.set.now) (g.B.Bounding.shows c.args.set.now) c.args.width c.args.first c.args.second c.args.rows.now c.add_unit.new.rows c.add_unit-2.new.rows
+    pair-added (g.B.Bounding.has c.args.set.now) (g.B.Bounding.shows c.args.set.now) c.args.width c.args.first c.args.second c.args.rows.now c.add_unit.new.rows
+    c.add_unit-2.new.rows
     c.add_unit-3.new.rows c.add_unit-4.new.rows c.in_ok-add_unit.ensures c.in_ok-add_unit-2.ensures c.in_ok-add_unit-3.ensures c.in_ok-add_unit-4.ensures

@@ -7,7 +7,8 @@ loop-second-init g c = pairs-none (g.B.Bounding.has c.args.set.now) (g.B.Boundin
 
 pub loop-second-preserved : goal.loop-second-preserved
 loop-second-preserved g c =
-    pairs-more (g.B.Bounding.has c.args.set.now) (g.B.Bounding.shows c.args.set.now) c.args.width c.args.first c.loop-second.second c.args.rows.now c.loop-second.rows c.add_pair.new.rows
+    pairs-more (g.B.Bounding.has c.args.set.now) (g.B.Bounding.shows c.args.set.now) c.args.width c.args.first c.loop-second.second c.args.rows.now
+    c.loop-second.rows c.add_pair.new.rows
     c.loop-second.invariant c.in_ok-add_pair.ensures
 
 pub returns : goal.returns

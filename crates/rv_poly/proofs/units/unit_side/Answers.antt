@@ -11,7 +11,8 @@ loop-column-preserved c =
     let by_fits = c.ranges.by in
     let other_fits = c.ranges.other in
     let n_fits : FitsSigned w128 c.pick-number.result = search rules in
-    let number_is : c.pick-number.result ≡ unit_number c.args.first c.args.by c.args.second c.args.other c.loop-column.column = simp to_z-of_z at c.pick-number.ensures in
+    let number_is : c.pick-number.result ≡ unit_number c.args.first c.args.by c.args.second c.args.other c.loop-column.column = simp to_z-of_z at
+    c.pick-number.ensures in
     let new_is : c.push.new.self ≡ c.loop-column.side ++ c.pick-number.result ∷ [] = simp to_z-of_z at c.in_ok-push.ensures.ok in
     let so_far : (k : ℕ) → k < c.loop-column.column → number k c.loop-column.side ≡ unit_number c.args.first c.args.by c.args.second c.args.other k =
     simp to_z-of_z at c.loop-column.invariant.numbers in

@@ -10,7 +10,8 @@ returns-then-not-have_values-clause-exactly c =
     let s = c.args.source.now in
     let p = program_tree s.program in (
       λ e h.
-          let have = some_values p s.typed s.order c.requires.fits (λ m text settled. c.well_formed_programs.ensures p m s.typed text settled) c.args.flat.now c.requires.flat
+          let have = some_values p s.typed s.order c.requires.fits (λ m text settled. c.well_formed_programs.ensures p m s.typed text settled) c.args.flat.now
+          c.requires.flat
           c.flat_states.ensures.back c.flat_states.ensures.given h in
           grind arith,
       λ h. refl,
@@ -26,8 +27,10 @@ returns-in-Some-clause-falsifies c = λ t e.
 pub returns-in-None-clause-exactly : goal.returns-in-None-clause-exactly
 returns-in-None-clause-exactly c =
     let s = c.args.source.now in
-    let p = program_tree s.program in
-    (λ e. none_falsifies p (name_at p s.typed.main) c.args.flat.now (λ b. c.in_ok-trace.ensures.never b (cc)) (λ b z few w. absurd (omega (arith, few))), λ h. refl)
+    let p = program_tree s.program in (
+      λ e. none_falsifies p (name_at p s.typed.main) c.args.flat.now (λ b. c.in_ok-trace.ensures.never b (cc)) (λ b z few w. absurd (omega (arith, few))),
+      λ h. refl,
+    )
 
 pub returns-in-None-2-clause-falsifies : goal.returns-in-None-2-clause-falsifies
 returns-in-None-2-clause-falsifies c = λ t e.

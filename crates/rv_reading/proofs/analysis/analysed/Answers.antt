@@ -23,27 +23,31 @@ judged-requires c =
 pub returns-clause-accepted : goal.returns-clause-accepted
 returns-clause-accepted c = λ s given has.
     let own = rising s c.args.store.now c.args.relation.now c.args.questions.now c.args.thresholds.now given in
-    let there = given_there s c.args.store.now c.least_closed.new.store c.args.relation.now c.args.questions.now c.args.thresholds.now c.least_closed.ensures.same given in
+    let there = given_there s c.args.store.now c.least_closed.new.store c.args.relation.now c.args.questions.now c.args.thresholds.now
+    c.least_closed.ensures.same given in
     map_ok c.judged.result _ _ (λ x p. p.accepted)
     (c.judged.ensures.proof s c.args.thresholds.now there (c.in_ok-claim.ensures.kept s own) (c.in_ok-claim.ensures.least s own))
 
 pub returns-clause-plain : goal.returns-clause-plain
 returns-clause-plain c = λ s given has.
     let own = rising s c.args.store.now c.args.relation.now c.args.questions.now c.args.thresholds.now given in
-    let there = given_there s c.args.store.now c.least_closed.new.store c.args.relation.now c.args.questions.now c.args.thresholds.now c.least_closed.ensures.same given in
+    let there = given_there s c.args.store.now c.least_closed.new.store c.args.relation.now c.args.questions.now c.args.thresholds.now
+    c.least_closed.ensures.same given in
     map_ok c.judged.result _ _ (λ x p. p.plain)
     (c.judged.ensures.proof s c.args.thresholds.now there (c.in_ok-claim.ensures.kept s own) (c.in_ok-claim.ensures.least s own))
 
 pub returns-clause-claims : goal.returns-clause-claims
 returns-clause-claims c = λ s given has good.
     let own = rising s c.args.store.now c.args.relation.now c.args.questions.now c.args.thresholds.now given in
-    let there = given_there s c.args.store.now c.least_closed.new.store c.args.relation.now c.args.questions.now c.args.thresholds.now c.least_closed.ensures.same given in
+    let there = given_there s c.args.store.now c.least_closed.new.store c.args.relation.now c.args.questions.now c.args.thresholds.now
+    c.least_closed.ensures.same given in
     map_ok c.judged.result _ _ (λ x p. p.claims good)
     (c.judged.ensures.proof s c.args.thresholds.now there (c.in_ok-claim.ensures.kept s own) (c.in_ok-claim.ensures.least s own))
 
 pub returns-clause-left : goal.returns-clause-left
 returns-clause-left c = λ s given has.
     let own = rising s c.args.store.now c.args.relation.now c.args.questions.now c.args.thresholds.now given in
-    let there = given_there s c.args.store.now c.least_closed.new.store c.args.relation.now c.args.questions.now c.args.thresholds.now c.least_closed.ensures.same given in
+    let there = given_there s c.args.store.now c.least_closed.new.store c.args.relation.now c.args.questions.now c.args.thresholds.now
+    c.least_closed.ensures.same given in
     map_ok c.judged.result _ _ (λ x p. proved_left s c.args.thresholds.now c.args.starts x has p)
     (c.judged.ensures.proof s c.args.thresholds.now there (c.in_ok-claim.ensures.kept s own) (c.in_ok-claim.ensures.least s own))

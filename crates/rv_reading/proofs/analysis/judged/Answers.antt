@@ -49,6 +49,7 @@ returns-in-None-clause-proof c = λ s thresholds given kept least.
     record {
       accepted = ensures.accepted s thresholds own kept least.closed given.small;
       plain = ensures.plain s thresholds own kept least.closed given.small;
-      claims = λ has. absurd (not_good s thresholds (claim_of c.args.claim.now) least (c.tighter_row_claims.ensures.good s thresholds (claim_of c.args.claim.now) least) bad has);
+      claims = λ has. absurd (not_good s thresholds (claim_of c.args.claim.now) least
+          (c.tighter_row_claims.ensures.good s thresholds (claim_of c.args.claim.now) least) bad has);
       left = ensures.left s thresholds own kept least.closed given.small;
     }

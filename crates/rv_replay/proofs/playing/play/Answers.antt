@@ -19,11 +19,13 @@ returns-in-Ok-Ends c =
     let now = c.loop-number.now in
     let x = c.at-input.result.now in
     let turned = subst (IsTurn f k now x) c.in-Ok-Ends.field-0-is c.in-Ok-Ends.ensures.turn in
-    ended f c.args.trace.now c.in_ok-now.now c.in_ok-now.ensures.start k now c.loop-number.invariant.played x c.at-input.ensures.value (Ok c.in-Ok-Ends.end) turned
+    ended f c.args.trace.now c.in_ok-now.now c.in_ok-now.ensures.start k now c.loop-number.invariant.played x c.at-input.ensures.value
+    (Ok c.in-Ok-Ends.end) turned
 
 pub returns-in-Err : goal.returns-in-Err
 returns-in-Err c =
-    faulted c.args.flat.now c.args.trace.now c.in_ok-now.now c.in_ok-now.ensures.start c.loop-number.number c.loop-number.now c.loop-number.invariant.played c.at-input.result.now c.at-input.ensures.value
+    faulted c.args.flat.now c.args.trace.now c.in_ok-now.now c.in_ok-now.ensures.start c.loop-number.number c.loop-number.now c.loop-number.invariant.played
+    c.at-input.result.now c.at-input.ensures.value
     c.in-Err.fault c.in-Err.ensures.fault
 
 pub loop-number-preserved : goal.loop-number-preserved
@@ -35,9 +37,11 @@ loop-number-preserved c =
     let turned = subst (IsTurn f k now x) c.in-Ok-GoesOn.field-0-is c.in-Ok-GoesOn.ensures.turn in
     record {
       state = turned.1;
-      played = λ a more. going_on f c.args.trace.now c.in_ok-now.now c.in_ok-now.ensures.start k now c.loop-number.invariant.played x c.at-input.ensures.value c.in-Ok-GoesOn.next turned.0 a more;
+      played = λ a more. going_on f c.args.trace.now c.in_ok-now.now c.in_ok-now.ensures.start k now c.loop-number.invariant.played x c.at-input.ensures.value
+          c.in-Ok-GoesOn.next turned.0 a more;
     }
 
 pub returns : goal.returns
 returns c =
-    all_played c.args.flat.now c.args.trace.now c.in_ok-now.now c.in_ok-now.ensures.start c.loop-number.number c.loop-number.now c.loop-number.invariant.played (omega arith)
+    all_played c.args.flat.now c.args.trace.now c.in_ok-now.now c.in_ok-now.ensures.start c.loop-number.number c.loop-number.now c.loop-number.invariant.played
+    (omega arith)

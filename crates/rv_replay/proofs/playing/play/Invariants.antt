@@ -9,5 +9,6 @@ use Rattle.rv_replay.proofs.playing.play.Given as goal
 abbrev pub invariant-loop-number : goal.invariant-loop-number
 invariant-loop-number l = record {
   state : IsState l.flat l.now;
-  played : (a : Result Replayed ReplayFault) → IsPlayed l.flat l.number l.now (drop l.number l.trace.instants) a → IsPlayed l.flat 0 l.initial.now l.trace.instants a;
+  played : (a : Result Replayed ReplayFault) → IsPlayed l.flat l.number l.now (drop l.number l.trace.instants) a
+      → IsPlayed l.flat 0 l.initial.now l.trace.instants a;
 }

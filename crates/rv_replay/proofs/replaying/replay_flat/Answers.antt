@@ -10,15 +10,21 @@ use Rattle.rv_replay.proofs.replaying.replay_flat.Goals as goal
 pub play-requires-clause-program : goal.play-requires-clause-program
 play-requires-clause-program c =
     let s = c.args.source.now in
-    let p = program_tree s.program in
-    (p, name_at p s.typed.main, observed p s.typed s.order c.requires.fits (λ m text settled. c.well_formed_programs.ensures p m s.typed text settled) c.args.flat.now c.requires.flat)
+    let p = program_tree s.program in (
+      p,
+      name_at p s.typed.main,
+      observed p s.typed s.order c.requires.fits (λ m text settled. c.well_formed_programs.ensures p m s.typed text settled)
+          c.args.flat.now c.requires.flat,
+    )
 
 pub play-requires-clause-trace : goal.play-requires-clause-trace
 play-requires-clause-trace c =
     let s = c.args.source.now in
     let p = program_tree s.program in
-    let of = observed p s.typed s.order c.requires.fits (λ m text settled. c.well_formed_programs.ensures p m s.typed text settled) c.args.flat.now c.requires.flat in
-    flat_trace p (name_at p s.typed.main) c.args.trace.now c.requires.trace c.flat_states.ensures.back c.flat_states.ensures.given c.args.flat.now of.well of.named of.flat
+    let of = observed p s.typed s.order c.requires.fits (λ m text settled. c.well_formed_programs.ensures p m s.typed text settled) c.args.flat.now
+    c.requires.flat in
+    flat_trace p (name_at p s.typed.main) c.args.trace.now c.requires.trace c.flat_states.ensures.back c.flat_states.ensures.given c.args.flat.now of.well
+    of.named of.flat
 
 pub returns-clause-falsified : goal.returns-clause-falsified
 returns-clause-falsified c = λ k is.
@@ -38,7 +44,8 @@ returns-clause-falsified c = λ k is.
       of_flat = c.flat_states.ensures.back;
       inputs = c.flat_states.ensures.given;
     } in
-    says laws p s.typed s.order c.requires.fits (λ m text settled. c.well_formed_programs.ensures p m s.typed text settled) c.args.flat.now c.requires.flat c.args.trace.now c.requires.trace
+    says laws p s.typed s.order c.requires.fits (λ m text settled. c.well_formed_programs.ensures p m s.typed text settled) c.args.flat.now c.requires.flat
+    c.args.trace.now c.requires.trace
     c.play.result c.play.ensures (Ok (Falsified k)) (λ e. cc) is
 
 pub returns-clause-only_falsified : goal.returns-clause-only_falsified
@@ -59,7 +66,8 @@ returns-clause-only_falsified c = λ k is.
       of_flat = c.flat_states.ensures.back;
       inputs = c.flat_states.ensures.given;
     } in
-    tells laws p s.typed s.order c.requires.fits (λ m text settled. c.well_formed_programs.ensures p m s.typed text settled) c.args.flat.now c.requires.flat c.args.trace.now c.requires.trace
+    tells laws p s.typed s.order c.requires.fits (λ m text settled. c.well_formed_programs.ensures p m s.typed text settled) c.args.flat.now c.requires.flat
+    c.args.trace.now c.requires.trace
     c.play.result c.play.ensures (Ok (Falsified k)) is
 
 pub returns-clause-fails : goal.returns-clause-fails
@@ -80,7 +88,8 @@ returns-clause-fails c = λ k at is.
       of_flat = c.flat_states.ensures.back;
       inputs = c.flat_states.ensures.given;
     } in
-    says laws p s.typed s.order c.requires.fits (λ m text settled. c.well_formed_programs.ensures p m s.typed text settled) c.args.flat.now c.requires.flat c.args.trace.now c.requires.trace
+    says laws p s.typed s.order c.requires.fits (λ m text settled. c.well_formed_programs.ensures p m s.typed text settled) c.args.flat.now c.requires.flat
+    c.args.trace.now c.requires.trace
     c.play.result c.play.ensures (Ok (AssertionFails k at)) (λ e. cc) is
 
 pub returns-clause-only_fails : goal.returns-clause-only_fails
@@ -101,7 +110,8 @@ returns-clause-only_fails c = λ k at is.
       of_flat = c.flat_states.ensures.back;
       inputs = c.flat_states.ensures.given;
     } in
-    tells laws p s.typed s.order c.requires.fits (λ m text settled. c.well_formed_programs.ensures p m s.typed text settled) c.args.flat.now c.requires.flat c.args.trace.now c.requires.trace
+    tells laws p s.typed s.order c.requires.fits (λ m text settled. c.well_formed_programs.ensures p m s.typed text settled) c.args.flat.now c.requires.flat
+    c.args.trace.now c.requires.trace
     c.play.result c.play.ensures (Ok (AssertionFails k at)) is
 
 pub returns-clause-never : goal.returns-clause-never
@@ -122,7 +132,8 @@ returns-clause-never c = λ is.
       of_flat = c.flat_states.ensures.back;
       inputs = c.flat_states.ensures.given;
     } in
-    says laws p s.typed s.order c.requires.fits (λ m text settled. c.well_formed_programs.ensures p m s.typed text settled) c.args.flat.now c.requires.flat c.args.trace.now c.requires.trace
+    says laws p s.typed s.order c.requires.fits (λ m text settled. c.well_formed_programs.ensures p m s.typed text settled) c.args.flat.now c.requires.flat
+    c.args.trace.now c.requires.trace
     c.play.result c.play.ensures (Ok NeverFalse) (λ e. cc) is
 
 pub returns-clause-only_never : goal.returns-clause-only_never
@@ -143,7 +154,8 @@ returns-clause-only_never c = λ is.
       of_flat = c.flat_states.ensures.back;
       inputs = c.flat_states.ensures.given;
     } in
-    tells laws p s.typed s.order c.requires.fits (λ m text settled. c.well_formed_programs.ensures p m s.typed text settled) c.args.flat.now c.requires.flat c.args.trace.now c.requires.trace
+    tells laws p s.typed s.order c.requires.fits (λ m text settled. c.well_formed_programs.ensures p m s.typed text settled) c.args.flat.now c.requires.flat
+    c.args.trace.now c.requires.trace
     c.play.result c.play.ensures (Ok NeverFalse) is
 
 pub returns-clause-outgrown : goal.returns-clause-outgrown
@@ -164,7 +176,8 @@ returns-clause-outgrown c = λ k at is.
       of_flat = c.flat_states.ensures.back;
       inputs = c.flat_states.ensures.given;
     } in
-    says laws p s.typed s.order c.requires.fits (λ m text settled. c.well_formed_programs.ensures p m s.typed text settled) c.args.flat.now c.requires.flat c.args.trace.now c.requires.trace
+    says laws p s.typed s.order c.requires.fits (λ m text settled. c.well_formed_programs.ensures p m s.typed text settled) c.args.flat.now c.requires.flat
+    c.args.trace.now c.requires.trace
     c.play.result c.play.ensures (Err (Outgrown k at)) (λ e. cc) is
 
 pub returns-clause-only_outgrown : goal.returns-clause-only_outgrown
@@ -185,5 +198,6 @@ returns-clause-only_outgrown c = λ k at is.
       of_flat = c.flat_states.ensures.back;
       inputs = c.flat_states.ensures.given;
     } in
-    tells laws p s.typed s.order c.requires.fits (λ m text settled. c.well_formed_programs.ensures p m s.typed text settled) c.args.flat.now c.requires.flat c.args.trace.now c.requires.trace
+    tells laws p s.typed s.order c.requires.fits (λ m text settled. c.well_formed_programs.ensures p m s.typed text settled) c.args.flat.now c.requires.flat
+    c.args.trace.now c.requires.trace
     c.play.result c.play.ensures (Err (Outgrown k at)) is

@@ -11,18 +11,22 @@ use Rattle.rv_rise.proofs.limits.loosen.Goals as goal
 
 pub loosened_by-requires-clause-zero : goal.loosened_by-requires-clause-zero
 loosened_by-requires-clause-zero c =
-    let here : row_at c.args.sides.now c.loop-place.place ≡ c.at-side.result.now = get_or_from_slice_get c.args.sides.now c.loop-place.place c.at-side.result.now _ c.at-side.ensures.value in
+    let here : row_at c.args.sides.now c.loop-place.place ≡ c.at-side.result.now = get_or_from_slice_get c.args.sides.now c.loop-place.place
+    c.at-side.result.now _ c.at-side.ensures.value in
     ap (λ (r : Row). r.bound) (sym here) ∙ c.requires.zero c.loop-place.place (omega (arith, c.requires.sizes, c.len-place-end.ensures))
 
 pub loosened_by-requires-clause-moves : goal.loosened_by-requires-clause-moves
 loosened_by-requires-clause-moves c =
-    let here : row_at c.args.sides.now c.loop-place.place ≡ c.at-side.result.now = get_or_from_slice_get c.args.sides.now c.loop-place.place c.at-side.result.now _ c.at-side.ensures.value in
+    let here : row_at c.args.sides.now c.loop-place.place ≡ c.at-side.result.now = get_or_from_slice_get c.args.sides.now c.loop-place.place
+    c.at-side.result.now _ c.at-side.ensures.value in
     subst (λ (r : Row). CanMove r c.args.updates.now) here (c.requires.moves c.loop-place.place (omega (arith, c.requires.sizes, c.len-place-end.ensures)))
 
 pub loosened_by-requires-clause-own : goal.loosened_by-requires-clause-own
 loosened_by-requires-clause-own c known is =
-    let here : row_at c.args.sides.now c.loop-place.place ≡ c.at-side.result.now = get_or_from_slice_get c.args.sides.now c.loop-place.place c.at-side.result.now _ c.at-side.ensures.value in
-    subst (λ (r : Row). Contains c.args.premises.now (bounded r.coefficients known)) here (c.requires.own c.loop-place.place known (sym c.limit_in-known.ensures ∙ is))
+    let here : row_at c.args.sides.now c.loop-place.place ≡ c.at-side.result.now = get_or_from_slice_get c.args.sides.now c.loop-place.place
+    c.at-side.result.now _ c.at-side.ensures.value in
+    subst (λ (r : Row). Contains c.args.premises.now (bounded r.coefficients known)) here
+    (c.requires.own c.loop-place.place known (sym c.limit_in-known.ensures ∙ is))
 
 pub loop-place-preserved : goal.loop-place-preserved
 loop-place-preserved c =
@@ -30,7 +34,8 @@ loop-place-preserved c =
     let m = c.loop-place.place in
     let old = c.at-limit.result.now in
     let new = c.in_ok-next.next in
-    let room_is : (new ≡ old) ⊎ (room_of new < room_of old) = loosened_room c.args.thresholds.now c.args.premises.now c.args.updates.now c.at-side.result.now old
+    let room_is : (new ≡ old) ⊎ (room_of new < room_of old) = loosened_room c.args.thresholds.now c.args.premises.now c.args.updates.now c.at-side.result.now
+    old
     new c.requires.thresholds c.in_ok-next.ensures in
     let grown : HasChanged (c.loop-place.changed || c.is_changed.result) (take m limits ++ old ∷ []) (c.loop-place.list ++ new ∷ []) =
     changed_more c.loop-place.changed c.is_changed.result (take m limits) c.loop-place.list old new c.loop-place.invariant.changed room_is

@@ -10,7 +10,8 @@ returns-in-Some c =
     let value_fits : FitsSigned w128 c.in-Some.value = search rules in
     let choice = simp to_z-of_z at c.risen.ensures in
     let need = simp to_z-of_z at c.in_ok-value.ensures in
-    limit_risen c.args.thresholds.now c.args.premises.now c.args.updates.now c.args.side.now c.args.limit c.in-Some.value c.risen.result (rw c.in-Some.is at need) choice
+    limit_risen c.args.thresholds.now c.args.premises.now c.args.updates.now c.args.side.now c.args.limit c.in-Some.value c.risen.result
+    (rw c.in-Some.is at need) choice
 
 pub returns-in-None : goal.returns-in-None
 returns-in-None c =

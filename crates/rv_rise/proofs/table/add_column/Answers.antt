@@ -3,7 +3,8 @@ use Rattle.rv_rise.proofs.Tabling.{column_added, column_done, both_long}
 use Rattle.rv_rise.proofs.table.add_column.Goals as goal
 
 pub add_pairs-requires-clause-before : goal.add_pairs-requires-clause-before
-add_pairs-requires-clause-before c = column_added c.args.memories c.args.column c.args.sides.now c.add_signs.new.sides c.requires.known c.requires.before c.in_ok-add_signs.ensures
+add_pairs-requires-clause-before c = column_added c.args.memories c.args.column c.args.sides.now c.add_signs.new.sides c.requires.known c.requires.before
+    c.in_ok-add_signs.ensures
 
 pub returns-then-memories-gt-MOST_IN_PAIRS-clause-after : goal.returns-then-memories-gt-MOST_IN_PAIRS-clause-after
 returns-then-memories-gt-MOST_IN_PAIRS-clause-after c =
@@ -12,7 +13,8 @@ returns-then-memories-gt-MOST_IN_PAIRS-clause-after c =
     (column_added c.args.memories c.args.column c.args.sides.now c.add_signs.new.sides c.requires.known c.requires.before c.in_ok-add_signs.ensures)
 
 pub returns-then-memories-gt-MOST_IN_PAIRS-clause-alone : goal.returns-then-memories-gt-MOST_IN_PAIRS-clause-alone
-returns-then-memories-gt-MOST_IN_PAIRS-clause-alone c l = both_long c.args.memories c.args.column (pos 1) c.args.column c.args.sides.now c.add_signs.new.sides c.in_ok-add_signs.ensures
+returns-then-memories-gt-MOST_IN_PAIRS-clause-alone c l = both_long c.args.memories c.args.column (pos 1) c.args.column c.args.sides.now c.add_signs.new.sides
+    c.in_ok-add_signs.ensures
 
 pub returns-clause-after : goal.returns-clause-after
 returns-clause-after c = column_done c.args.memories c.args.column c.args.column c.add_pairs.new.sides (inr refl) c.in_ok-add_pairs.ensures.after

@@ -10,7 +10,8 @@ plus_product-sum-requires c =
     let c_fits : FitsSigned w128 c.at-coefficient.result.now = search rules in
     let x_fits : FitsSigned w128 c.number_at-number.result = search rules in
     let inside : c.loop-place.place < length c.args.coefficients.now = omega (arith, c.len-place-end.ensures) in
-    simp to_z-of_z (form-room (λ f. number c.args.column f.coefficients) c.args.coefficients.now c.args.forms.now c.loop-place.place (to_z w128 c.loop-place.sum-bits)
+    simp to_z-of_z (form-room (λ f. number c.args.column f.coefficients) c.args.coefficients.now c.args.forms.now c.loop-place.place
+    (to_z w128 c.loop-place.sum-bits)
     c.at-coefficient.result.now c.at-form.result.now c.requires.same inside c.at-coefficient.ensures.value c.at-form.ensures.value
     c.number_at-number.result c.number_at-number.ensures c.loop-place.invariant c.requires.room)
 
@@ -21,6 +22,7 @@ loop-place-preserved c =
     let sum_fits : FitsSigned w128 c.plus_product-sum.result = search rules in
     let inside : c.loop-place.place < length c.args.coefficients.now = omega (arith, c.len-place-end.ensures) in
     let is = simp to_z-of_z at c.plus_product-sum.ensures in
-    simp to_z-of_z (form-kept (λ f. number c.args.column f.coefficients) c.args.coefficients.now c.args.forms.now c.loop-place.place (to_z w128 c.loop-place.sum-bits)
+    simp to_z-of_z (form-kept (λ f. number c.args.column f.coefficients) c.args.coefficients.now c.args.forms.now c.loop-place.place
+    (to_z w128 c.loop-place.sum-bits)
     c.at-coefficient.result.now c.at-form.result.now c.requires.same inside c.at-coefficient.ensures.value c.at-form.ensures.value
     c.number_at-number.result c.plus_product-sum.result c.number_at-number.ensures is c.loop-place.invariant)

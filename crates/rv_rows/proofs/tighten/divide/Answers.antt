@@ -15,9 +15,13 @@ loop-column-preserved c =
     omega (arith, c.loop-column.invariant.width, c.len-column-end.ensures) in
     rw written (record {
       width = length-set c.loop-column.row.coefficients c.loop-column.column c.quotient_down-divided.result ∙ c.loop-column.invariant.width;
-      done = divide-done c.args.by c.args.row.now.coefficients c.loop-column.row.coefficients c.loop-column.column c.at.result.now c.quotient_down-divided.result
-          c.requires.some c.loop-column.invariant.width inside c.loop-column.invariant.done c.loop-column.invariant.left c.at.ensures.value c.requires.divides low high;
-      left = divide-left c.args.by c.args.row.now.coefficients c.loop-column.row.coefficients c.loop-column.column c.at.result.now c.quotient_down-divided.result
-          c.requires.some c.loop-column.invariant.width inside c.loop-column.invariant.done c.loop-column.invariant.left c.at.ensures.value c.requires.divides low high;
+      done = divide-done c.args.by c.args.row.now.coefficients c.loop-column.row.coefficients c.loop-column.column c.at.result.now
+          c.quotient_down-divided.result
+          c.requires.some c.loop-column.invariant.width inside c.loop-column.invariant.done c.loop-column.invariant.left c.at.ensures.value c.requires.divides
+          low high;
+      left = divide-left c.args.by c.args.row.now.coefficients c.loop-column.row.coefficients c.loop-column.column c.at.result.now
+          c.quotient_down-divided.result
+          c.requires.some c.loop-column.invariant.width inside c.loop-column.invariant.done c.loop-column.invariant.left c.at.ensures.value c.requires.divides
+          low high;
       bound = c.loop-column.invariant.bound;
     })

@@ -10,7 +10,8 @@ use Rattle.rv_run.specs.declared.report.Report.{Report}
 use Rattle.rv_run.specs.declared.words.Task.TheVariants.{Check}
 use Rattle.rv_run.specs.Checked.{IsAnswerOf, IsUnlessLimit}
 use Rattle.rv_run.proofs.Judging.{well, is_node}
-use Rattle.rv_run.proofs.Inspected.{bad_says, bad_tells, fault-answers_check, fault-not_accepted, fault-not_nodes, verdict-answers, verdict_safe, verdict_says, verdict_tells, verdict_wide}
+use Rattle.rv_run.proofs.Inspected.{bad_says, bad_tells, fault-answers_check, fault-not_accepted, fault-not_nodes, verdict-answers, verdict_safe, verdict_says}
+use Rattle.rv_run.proofs.Inspected.{verdict_tells, verdict_wide}
 use Rattle.rv_run.proofs.inspect.report_on_invariant.Goals as goal
 
 pub accepted-requires-clause-program : goal.accepted-requires-clause-program
@@ -37,12 +38,14 @@ pub returns-in-Ok-read_certificate-clause-says : goal.returns-in-Ok-read_certifi
 returns-in-Ok-read_certificate-clause-says c = λ x answer e.
     let s = c.args.source.now in
     let p = program_tree s.program in
-    let well_formed : (m : Identifier) → IsSourceTree p → IsSettled p m s.typed → AreWell p = λ m text settled. c.well_formed_programs.ensures p m s.typed text settled in
+    let well_formed : (m : Identifier) → IsSourceTree p → IsSettled p m s.typed
+    → AreWell p = λ m text settled. c.well_formed_programs.ensures p m s.typed text settled in
     let is_well = well p s.typed s.order c.requires.fits well_formed in
     let named = is_node p s.typed s.order c.requires.fits well_formed in
     verdict_says c.args.nodes c.args.document.now p (name_at p s.typed.main) c.in-Ok.flat c.in-Ok.ensures.flat
     (λ f g first second. c.alike_systems.ensures p (name_at p s.typed.main) f g is_well named first second)
-    (λ f g first second. c.alike_documents.ensures.certificate_rules p (name_at p s.typed.main) f g is_well named first second) c.in-Ok-read_certificate.certificate
+    (λ f g first second. c.alike_documents.ensures.certificate_rules p (name_at p s.typed.main) f g is_well named first second)
+    c.in-Ok-read_certificate.certificate
     c.in-Ok-read_certificate.ensures.document c.accepted.result c.accepted.ensures.exact x answer (sym c.on_accepted.ensures ∙ e)
 
 pub returns-in-Ok-read_certificate-clause-safe : goal.returns-in-Ok-read_certificate-clause-safe
@@ -52,7 +55,8 @@ returns-in-Ok-read_certificate-clause-safe c = λ e.
     let main = name_at p s.typed.main in
     let fits = c.requires.fits in
     let f = c.in-Ok.flat in
-    verdict_safe c.args.nodes f c.in-Ok-read_certificate.certificate c.accepted.result c.accepted.ensures.exact (sym c.on_accepted.ensures ∙ e) c.certificates_are_safe.ensures.safe
+    verdict_safe c.args.nodes f c.in-Ok-read_certificate.certificate c.accepted.result c.accepted.ensures.exact (sym c.on_accepted.ensures ∙ e)
+    c.certificates_are_safe.ensures.safe
     (c.runs_are_abstract.ensures.safe p main f
     (well p s.typed s.order fits (λ m text settled. c.well_formed_programs.ensures p m s.typed text settled))
     (is_node p s.typed s.order fits (λ m text settled. c.well_formed_programs.ensures p m s.typed text settled)) c.in-Ok.ensures.flat)
@@ -69,25 +73,30 @@ pub returns-in-Ok-read_certificate-clause-only_says : goal.returns-in-Ok-read_ce
 returns-in-Ok-read_certificate-clause-only_says c = λ x h.
     let s = c.args.source.now in
     let p = program_tree s.program in
-    let well_formed : (m : Identifier) → IsSourceTree p → IsSettled p m s.typed → AreWell p = λ m text settled. c.well_formed_programs.ensures p m s.typed text settled in
+    let well_formed : (m : Identifier) → IsSourceTree p → IsSettled p m s.typed
+    → AreWell p = λ m text settled. c.well_formed_programs.ensures p m s.typed text settled in
     let is_well = well p s.typed s.order c.requires.fits well_formed in
     let named = is_node p s.typed s.order c.requires.fits well_formed in
     subst (λ (y : Report). IsUnlessLimit Check x y) (sym c.on_accepted.ensures)
     (verdict_tells c.args.nodes c.args.document.now p (name_at p s.typed.main) c.in-Ok.flat c.in-Ok.ensures.flat
     (λ f g first second. c.alike_systems.ensures p (name_at p s.typed.main) f g is_well named first second)
-    (λ f g first second. c.alike_documents.ensures.certificate_rules p (name_at p s.typed.main) f g is_well named first second) c.in-Ok-read_certificate.certificate
-    c.in-Ok-read_certificate.ensures.document c.one_verdict.ensures.one c.in-Ok-read_certificate.ensures.only_refused c.accepted.result c.accepted.ensures.exact x h)
+    (λ f g first second. c.alike_documents.ensures.certificate_rules p (name_at p s.typed.main) f g is_well named first second)
+    c.in-Ok-read_certificate.certificate
+    c.in-Ok-read_certificate.ensures.document c.one_verdict.ensures.one c.in-Ok-read_certificate.ensures.only_refused c.accepted.result c.accepted.ensures.exact
+    x h)
 
 pub returns-clause-says : goal.returns-clause-says
 returns-clause-says c = λ x answer e.
     let s = c.args.source.now in
     let p = program_tree s.program in
-    let well_formed : (m : Identifier) → IsSourceTree p → IsSettled p m s.typed → AreWell p = λ m text settled. c.well_formed_programs.ensures p m s.typed text settled in
+    let well_formed : (m : Identifier) → IsSourceTree p → IsSettled p m s.typed
+    → AreWell p = λ m text settled. c.well_formed_programs.ensures p m s.typed text settled in
     let is_well = well p s.typed s.order c.requires.fits well_formed in
     let named = is_node p s.typed s.order c.requires.fits well_formed in
     bad_says c.args.nodes c.args.document.now p (name_at p s.typed.main) c.in-Ok.flat c.in-Ok.ensures.flat
     (λ f g first second. c.alike_systems.ensures p (name_at p s.typed.main) f g is_well named first second)
-    (λ f g first second. c.alike_documents.ensures.certificate_rules p (name_at p s.typed.main) f g is_well named first second) c.in-Err.fault c.in-Err.ensures.refused x answer (sym c.on_fault.ensures ∙ e)
+    (λ f g first second. c.alike_documents.ensures.certificate_rules p (name_at p s.typed.main) f g is_well named first second) c.in-Err.fault
+    c.in-Err.ensures.refused x answer (sym c.on_fault.ensures ∙ e)
 
 pub returns-clause-safe : goal.returns-clause-safe
 returns-clause-safe c = λ e. absurd (fault-not_accepted c.in-Err.fault (sym c.on_fault.ensures ∙ e))
@@ -102,10 +111,12 @@ pub returns-clause-only_says : goal.returns-clause-only_says
 returns-clause-only_says c = λ x h.
     let s = c.args.source.now in
     let p = program_tree s.program in
-    let well_formed : (m : Identifier) → IsSourceTree p → IsSettled p m s.typed → AreWell p = λ m text settled. c.well_formed_programs.ensures p m s.typed text settled in
+    let well_formed : (m : Identifier) → IsSourceTree p → IsSettled p m s.typed
+    → AreWell p = λ m text settled. c.well_formed_programs.ensures p m s.typed text settled in
     let is_well = well p s.typed s.order c.requires.fits well_formed in
     let named = is_node p s.typed s.order c.requires.fits well_formed in
     subst (λ (y : Report). IsUnlessLimit Check x y) (sym c.on_fault.ensures)
     (bad_tells c.args.nodes c.args.document.now p (name_at p s.typed.main) c.in-Ok.flat c.in-Ok.ensures.flat
     (λ f g first second. c.alike_systems.ensures p (name_at p s.typed.main) f g is_well named first second)
-    (λ f g first second. c.alike_documents.ensures.certificate_rules p (name_at p s.typed.main) f g is_well named first second) c.in-Err.fault c.in-Err.ensures.only c.in-Err.ensures.only_refused x h)
+    (λ f g first second. c.alike_documents.ensures.certificate_rules p (name_at p s.typed.main) f g is_well named first second) c.in-Err.fault
+    c.in-Err.ensures.only c.in-Err.ensures.only_refused x h)

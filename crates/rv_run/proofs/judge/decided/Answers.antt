@@ -24,10 +24,12 @@ box_pass-requires-clause-thresholds c =
 
 pub safe-requires-clause-accepted : goal.safe-requires-clause-accepted
 safe-requires-clause-accepted c =
-    subst (λ (f : Flat). IsAccepted (control_of f) c.in-Good.certificate) c.in_ok-reading.ensures.flat (c.in_ok-certificate.ensures.good c.in-Good.certificate (ap Ok c.in-Good.is))
+    subst (λ (f : Flat). IsAccepted (control_of f) c.in-Good.certificate) c.in_ok-reading.ensures.flat
+    (c.in_ok-certificate.ensures.good c.in-Good.certificate (ap Ok c.in-Good.is))
 
 pub safe-requires-clause-loops : goal.safe-requires-clause-loops
-safe-requires-clause-loops c = λ k l at. let plain = c.in_ok-certificate.ensures.plain c.in-Good.certificate (ap Ok c.in-Good.is) k l at in (plain.no_loop, plain.no_first, plain.no_around)
+safe-requires-clause-loops c = λ k l at. let plain = c.in_ok-certificate.ensures.plain c.in-Good.certificate (ap Ok c.in-Good.is) k l at in
+    (plain.no_loop, plain.no_first, plain.no_around)
 
 pub returns-in-Good-clause-wide : goal.returns-in-Good-clause-wide
 returns-in-Good-clause-wide c = λ nodes. absurd (c.safe.ensures.memory nodes)
@@ -63,7 +65,8 @@ not_good-requires-clause-bad c =
 
 pub not_good-requires-clause-sets : goal.not_good-requires-clause-sets
 not_good-requires-clause-sets c =
-    subst (λ (r : Reading). (t : ℕ) (set : Frozen) → slice_get c.in-Bad.layers.sets t ≡ Some set → IsControlSet (system_read r) set) (sym c.in_ok-certificate.ensures.same)
+    subst (λ (r : Reading). (t : ℕ) (set : Frozen) → slice_get c.in-Bad.layers.sets t ≡ Some set → IsControlSet (system_read r) set)
+    (sym c.in_ok-certificate.ensures.same)
     (λ t set at. ((c.in_ok-certificate.ensures.bad c.in-Bad.layers (ap Ok c.in-Bad.is)).2.each t set at).control)
 
 pub returns-in-Good-clause-judged : goal.returns-in-Good-clause-judged

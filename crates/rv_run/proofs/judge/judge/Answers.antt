@@ -14,7 +14,8 @@ decided-requires-clause-known c =
     let s = c.args.source.now in
     let p = program_tree s.program in
     let main = name_at p s.typed.main in
-    let well_formed : (m : Identifier) → IsSourceTree p → IsSettled p m s.typed → AreWell p = λ m text settled. c.well_formed_programs.ensures p m s.typed text settled in
+    let well_formed : (m : Identifier) → IsSourceTree p → IsSettled p m s.typed
+    → AreWell p = λ m text settled. c.well_formed_programs.ensures p m s.typed text settled in
     let is_well = well p s.typed s.order c.requires.fits well_formed in
     let named = is_node p s.typed s.order c.requires.fits well_formed in
     let flat = c.in_ok-flat.ensures.flat in
@@ -30,7 +31,8 @@ probed-requires-clause-known c =
     let s = c.args.source.now in
     let p = program_tree s.program in
     let main = name_at p s.typed.main in
-    let well_formed : (m : Identifier) → IsSourceTree p → IsSettled p m s.typed → AreWell p = λ m text settled. c.well_formed_programs.ensures p m s.typed text settled in
+    let well_formed : (m : Identifier) → IsSourceTree p → IsSettled p m s.typed
+    → AreWell p = λ m text settled. c.well_formed_programs.ensures p m s.typed text settled in
     let is_well = well p s.typed s.order c.requires.fits well_formed in
     let named = is_node p s.typed s.order c.requires.fits well_formed in
     let flat = c.in_ok-flat.ensures.flat in
@@ -42,13 +44,16 @@ probed-requires-clause-known c =
     }
 
 pub decided-requires-clause-thresholds : goal.decided-requires-clause-thresholds
-decided-requires-clause-thresholds c = thresholds_small (program_tree c.args.source.now.program) c.requires.small c.in_ok-flat.flat.thresholds c.in_ok-flat.ensures.flat.thresholds
+decided-requires-clause-thresholds c = thresholds_small (program_tree c.args.source.now.program) c.requires.small c.in_ok-flat.flat.thresholds
+    c.in_ok-flat.ensures.flat.thresholds
 
 pub probe-requires-clause-thresholds : goal.probe-requires-clause-thresholds
-probe-requires-clause-thresholds c = thresholds_small (program_tree c.args.source.now.program) c.requires.small c.in_ok-flat.flat.thresholds c.in_ok-flat.ensures.flat.thresholds
+probe-requires-clause-thresholds c = thresholds_small (program_tree c.args.source.now.program) c.requires.small c.in_ok-flat.flat.thresholds
+    c.in_ok-flat.ensures.flat.thresholds
 
 pub probed-requires-clause-thresholds : goal.probed-requires-clause-thresholds
-probed-requires-clause-thresholds c = thresholds_small (program_tree c.args.source.now.program) c.requires.small c.in_ok-flat.flat.thresholds c.in_ok-flat.ensures.flat.thresholds
+probed-requires-clause-thresholds c = thresholds_small (program_tree c.args.source.now.program) c.requires.small c.in_ok-flat.flat.thresholds
+    c.in_ok-flat.ensures.flat.thresholds
 
 pub decided-requires-clause-unprobed : goal.decided-requires-clause-unprobed
 decided-requires-clause-unprobed c = λ has. absurd (c.in_ok-trace.ensures.exactly.0 c.in-None.is has)
@@ -67,7 +72,8 @@ pub returns-clause-wide : goal.returns-clause-wide
 returns-clause-wide c = λ nodes.
     let s = c.args.source.now in
     let p = program_tree s.program in
-    wide p s.typed s.order c.requires.fits (λ m text settled. c.well_formed_programs.ensures p m s.typed text settled) c.args.nodes c.in_ok-flat.flat c.in_ok-flat.ensures.flat (c.decided.ensures.wide nodes)
+    wide p s.typed s.order c.requires.fits (λ m text settled. c.well_formed_programs.ensures p m s.typed text settled) c.args.nodes c.in_ok-flat.flat
+    c.in_ok-flat.ensures.flat (c.decided.ensures.wide nodes)
 
 pub returns-clause-unprobed : goal.returns-clause-unprobed
 returns-clause-unprobed c = λ nodes. (c.in_ok-flat.flat, c.in_ok-flat.ensures.flat, c.in_ok-trace.ensures.exactly.0 c.in-None.is)

@@ -41,15 +41,18 @@ analyse-requires-clause-seed c = c.requires.sets
 pub safe-requires-clause-known : goal.safe-requires-clause-known
 safe-requires-clause-known c =
     let p = program_tree c.args.source.now.program in
-    subst (IsKnown p (name_at p c.args.source.now.typed.main)) (sym (c.flat-system.ensures ∙ ap (λ (r : Reading). flat_of r) c.in_ok-end.ensures.same)) c.requires.known
+    subst (IsKnown p (name_at p c.args.source.now.typed.main)) (sym (c.flat-system.ensures ∙ ap (λ (r : Reading). flat_of r) c.in_ok-end.ensures.same))
+    c.requires.known
 
 pub safe-requires-clause-accepted : goal.safe-requires-clause-accepted
 safe-requires-clause-accepted c =
-    subst (λ (f : Flat). IsAccepted (control_of f) c.in-Proved.certificate) (sym (c.flat-system.ensures ∙ ap (λ (r : Reading). flat_of r) c.in_ok-end.ensures.same))
+    subst (λ (f : Flat). IsAccepted (control_of f) c.in-Proved.certificate)
+    (sym (c.flat-system.ensures ∙ ap (λ (r : Reading). flat_of r) c.in_ok-end.ensures.same))
     (c.in_ok-end.ensures.proved c.in-Proved.certificate (ap Ok c.in-Proved.is))
 
 pub safe-requires-clause-loops : goal.safe-requires-clause-loops
-safe-requires-clause-loops c = λ k l at. let plain = c.in_ok-end.ensures.plain c.in-Proved.certificate (ap Ok c.in-Proved.is) k l at in (plain.no_loop, plain.no_first, plain.no_around)
+safe-requires-clause-loops c = λ k l at. let plain = c.in_ok-end.ensures.plain c.in-Proved.certificate (ap Ok c.in-Proved.is) k l at in
+    (plain.no_loop, plain.no_first, plain.no_around)
 
 pub returns-in-Proved-clause-judged : goal.returns-in-Proved-clause-judged
 returns-in-Proved-clause-judged c = c.safe.ensures.judged
@@ -71,7 +74,8 @@ pub searched-requires-clause-lacks : goal.searched-requires-clause-lacks
 searched-requires-clause-lacks c =
     let f = flat_of c.args.reading.now in
     let rows : HasGoodRows (control_of f) f.thresholds → ⊥ = λ has. subst IsProved c.in-Left.is (c.in_ok-end.ensures.claims has) in
-    subst (λ (r : Reading). HasGood (control_of (flat_of r)) (flat_of r).thresholds → ⊥) (sym c.in_ok-end.ensures.same) (lacks_both (control_of f) f.thresholds c.requires.lacks rows)
+    subst (λ (r : Reading). HasGood (control_of (flat_of r)) (flat_of r).thresholds → ⊥) (sym c.in_ok-end.ensures.same)
+    (lacks_both (control_of f) f.thresholds c.requires.lacks rows)
 
 pub searched-requires-clause-unprobed : goal.searched-requires-clause-unprobed
 searched-requires-clause-unprobed c =
@@ -86,7 +90,8 @@ searched-requires-clause-left c =
 
 pub searched-requires-clause-sets : goal.searched-requires-clause-sets
 searched-requires-clause-sets c =
-    subst (λ (r : Reading). (t : ℕ) (set : Frozen) → slice_get c.args.layers.now.sets t ≡ Some set → IsControlSet (control_of (flat_of r)) set) (sym c.in_ok-end.ensures.same) c.requires.sets
+    subst (λ (r : Reading). (t : ℕ) (set : Frozen) → slice_get c.args.layers.now.sets t ≡ Some set → IsControlSet (control_of (flat_of r)) set)
+    (sym c.in_ok-end.ensures.same) c.requires.sets
 
 pub returns-in-Left-clause-judged : goal.returns-in-Left-clause-judged
 returns-in-Left-clause-judged c = c.searched.ensures.judged

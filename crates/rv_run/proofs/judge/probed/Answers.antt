@@ -17,7 +17,8 @@ unless_shorter-requires-clause-lacks c = λ good.
     let known = c.requires.known in
     let system = c.control_is_a_system.ensures p main f known.well known.named known.flat in
     falsifying-unsafe c.args.nodes p main c.args.trace c.requires.falsifying
-    (known.safe (safe_claims (control_of f) f.thresholds (c.claims_are_safe.ensures.box_claim (control_of f) f.thresholds system) (c.claims_are_safe.ensures.row_claim (control_of f) f.thresholds system) good))
+    (known.safe (safe_claims (control_of f) f.thresholds (c.claims_are_safe.ensures.box_claim (control_of f) f.thresholds system)
+    (c.claims_are_safe.ensures.row_claim (control_of f) f.thresholds system) good))
 
 pub returns-clause-judged : goal.returns-clause-judged
 returns-clause-judged c =
@@ -29,10 +30,15 @@ returns-clause-judged c =
     let system = c.control_is_a_system.ensures p main f known.well known.named known.flat in
     let lacks : HasGood (control_of f) f.thresholds → ⊥ = λ good.
     falsifying-unsafe c.args.nodes p main c.args.trace c.requires.falsifying
-    (known.safe (safe_claims (control_of f) f.thresholds (c.claims_are_safe.ensures.box_claim (control_of f) f.thresholds system) (c.claims_are_safe.ensures.row_claim (control_of f) f.thresholds system) good)) in
+    (known.safe (safe_claims (control_of f) f.thresholds (c.claims_are_safe.ensures.box_claim (control_of f) f.thresholds system)
+    (c.claims_are_safe.ensures.row_claim (control_of f) f.thresholds system) good)) in
     traced-verdict c.args.nodes p main c.args.trace
     (record {
       falsifying = c.requires.falsifying;
-      origin = inr (inl (c.requires.probe, inl (λ control. true≢false (sym (c.is_control.ensures.1 (control_system p main f known.flat known.well known.named control)) ∙ c.if-is_control.false))));
+      origin = inr (inl (
+        c.requires.probe,
+        inl (λ control. true≢false (sym
+            (c.is_control.ensures.1 (control_system p main f known.flat known.well known.named control)) ∙ c.if-is_control.false)),
+      ));
     })
     (f, known.flat, lacks) c.with_trace.result c.with_trace.ensures.traced

@@ -11,7 +11,8 @@ use Rattle.rv_run.proofs.judge.searched.Goals as goal
 pub with_trace-requires-clause-known : goal.with_trace-requires-clause-known
 with_trace-requires-clause-known c =
     let p = program_tree c.args.source.now.program in
-    subst (IsKnown p (name_at p c.args.source.now.typed.main)) (sym (c.flat-flat.ensures ∙ ap (λ (r : Reading). flat_of r) c.in_ok-found.ensures.same)) c.requires.known
+    subst (IsKnown p (name_at p c.args.source.now.typed.main)) (sym (c.flat-flat.ensures ∙ ap (λ (r : Reading). flat_of r) c.in_ok-found.ensures.same))
+    c.requires.known
 
 pub with_trace-requires-clause-trace : goal.with_trace-requires-clause-trace
 with_trace-requires-clause-trace c = (c.in_ok-found.ensures.falsifies c.in-Some.trace (ap Ok c.in-Some.is)).trace
@@ -40,7 +41,10 @@ returns-clause-judged c = λ nodes.
     traced-verdict nodes p main t
     (record {
       falsifying = c.in_ok-found.ensures.falsifies t (ap Ok c.in-Some.is);
-      origin = inr (inr (λ control. c.requires.integers (control_system p main f known.flat known.well known.named control), (f, known.flat, c.requires.unprobed)));
+      origin = inr (inr (
+        λ control. c.requires.integers (control_system p main f known.flat known.well known.named control),
+        (f, known.flat, c.requires.unprobed),
+      ));
     })
     (f, known.flat, c.requires.lacks) c.with_trace.result c.with_trace.ensures.traced
 

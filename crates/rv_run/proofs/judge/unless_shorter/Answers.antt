@@ -16,6 +16,10 @@ returns-in-Err-Nodes-clause-judged c =
     traced-verdict c.args.nodes p main c.args.trace
     (record {
       falsifying = c.requires.falsifying;
-      origin = inr (inl (c.requires.probe, inr (subst (λ (n : ℕ). c.args.nodes < 2 ^ (2 ^ n)) known.flat.counted (c.decided.ensures.wide (c.in-Err-Nodes.is ∙ ap (λ (e : StoreFault). (let r : Result Verdict StoreFault = Err e in r)) c.in-Err-Nodes.field-0-is)))));
+      origin = inr (inl (
+        c.requires.probe,
+        inr (subst (λ (n : ℕ). c.args.nodes < 2 ^ (2 ^ n)) known.flat.counted
+            (c.decided.ensures.wide (c.in-Err-Nodes.is ∙ ap (λ (e : StoreFault). (let r : Result Verdict StoreFault = Err e in r)) c.in-Err-Nodes.field-0-is))),
+      ));
     })
     (c.args.flat.now, known.flat, c.requires.lacks) c.with_trace.result c.with_trace.ensures.traced

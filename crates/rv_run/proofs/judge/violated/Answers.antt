@@ -26,7 +26,8 @@ find-requires c = record {
 pub with_trace-requires-clause-known : goal.with_trace-requires-clause-known
 with_trace-requires-clause-known c =
     let p = program_tree c.args.source.now.program in
-    subst (IsKnown p (name_at p c.args.source.now.typed.main)) (sym (c.flat-flat.ensures ∙ ap (λ (r : Reading). flat_of r) c.in_ok-found.ensures.same)) c.requires.known
+    subst (IsKnown p (name_at p c.args.source.now.typed.main)) (sym (c.flat-flat.ensures ∙ ap (λ (r : Reading). flat_of r) c.in_ok-found.ensures.same))
+    c.requires.known
 
 pub with_trace-requires-clause-trace : goal.with_trace-requires-clause-trace
 with_trace-requires-clause-trace c = (c.in_ok-found.ensures.falsifies c.in-Some.trace (ap Ok c.in-Some.is)).trace
@@ -45,7 +46,8 @@ returns-clause-judged c = λ nodes.
     let falsifies = c.in_ok-found.ensures.falsifies t (ap Ok c.in-Some.is) in
     let lacks : HasGood (control_of f) f.thresholds → ⊥ = λ good.
     falsifying-unsafe nodes p main t falsifies
-    (known.safe (safe_claims (control_of f) f.thresholds (c.claims_are_safe.ensures.box_claim (control_of f) f.thresholds system) (c.claims_are_safe.ensures.row_claim (control_of f) f.thresholds system) good)) in
+    (known.safe (safe_claims (control_of f) f.thresholds (c.claims_are_safe.ensures.box_claim (control_of f) f.thresholds system)
+    (c.claims_are_safe.ensures.row_claim (control_of f) f.thresholds system) good)) in
     traced-verdict nodes p main t
     (record {
       falsifying = falsifies;

@@ -8,7 +8,8 @@ pub write_trace-requires-clause-told : goal.write_trace-requires-clause-told
 write_trace-requires-clause-told c =
     let s = c.args.source.now in
     let p = program_tree s.program in
-    c.told_systems.ensures p (name_at p s.typed.main) c.requires.fits.settled.0 s.typed c.args.flat.now c.requires.fits.tree c.requires.plain c.requires.fits.settled.1 c.requires.known.named c.requires.known.flat
+    c.told_systems.ensures p (name_at p s.typed.main) c.requires.fits.settled.0 s.typed c.args.flat.now c.requires.fits.tree c.requires.plain
+    c.requires.fits.settled.1 c.requires.known.named c.requires.known.flat
     (omega (arith, c.len-count.type_inv, c.len-count.ensures))
 
 pub write_trace-requires-clause-fits : goal.write_trace-requires-clause-fits
@@ -18,7 +19,16 @@ write_trace-requires-clause-fits c =
     let f = c.args.flat.now in
     let t = c.args.trace in
     (c.fitting_traces.ensures f t).1
-    (fits_document f t (c.flat_traces.ensures.flat p (name_at p s.typed.main) f t c.requires.known.well c.requires.known.named c.requires.known.flat c.requires.trace))
+    (fits_document f t (c.flat_traces.ensures.flat p (name_at p s.typed.main) f t c.requires.known.well c.requires.known.named c.requires.known.flat
+    c.requires.trace))
 
 pub returns-clause-traced : goal.returns-clause-traced
-returns-clause-traced c = (refl, record { system = c.args.flat.now; flat = c.requires.known.flat; written = c.in_ok-document.ensures.text; read = c.in_ok-document.ensures.document })
+returns-clause-traced c = (
+  refl,
+  record {
+    system = c.args.flat.now;
+    flat = c.requires.known.flat;
+    written = c.in_ok-document.ensures.text;
+    read = c.in_ok-document.ensures.document;
+  },
+)

@@ -42,5 +42,6 @@ returns c =
             (subst (λ (m : ℕ). OnProgram (HasManyVariables m) c.as_bytes.result.now (codes "main")) (sym two.0) two.1),
       );
       unprobed = λ k h. subst (λ (bytes : List ℕ). OnProgram LacksProbe bytes (codes "main")) bytes_are (answer.unprobed k h);
-      only = inr (left_over r answer.only (answer.only_safe (subst (λ (bytes : List ℕ). OnProgram IsSafeControl bytes (codes "main")) (sym bytes_are) source)) c.in_default-report.not-Safe);
+      only = inr (left_over r answer.only (answer.only_safe (subst (λ (bytes : List ℕ). OnProgram IsSafeControl bytes (codes "main")) (sym bytes_are) source))
+          c.in_default-report.not-Safe);
     }

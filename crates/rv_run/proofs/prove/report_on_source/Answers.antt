@@ -5,15 +5,18 @@ use Rattle.rv_types.specs.Instances.{name_at}
 use Rattle.rv_types.specs.Lists.{sites_of}
 use Rattle.rv_meaning.specs.Runs.{IsSafe}
 use Rattle.rv_run.specs.Answers.{IsOnSource, IsRefusalUnlessCutOff, IsSafeUnlessCutOff, IsJudgedUnlessLimited, IsViolatedUnlessCutOff, IsViolatedUnlessUnread}
-use Rattle.rv_run.specs.Programs.{OnProgram, WithRuns, HasGoodClaim, HasManyVariables, HasProbe, IsSafeControl, IsUnsafeControl, IsCertified, IsProgram, IsUnknown, LacksGoodClaim, LacksProbe}
+use Rattle.rv_run.specs.Programs.{OnProgram, WithRuns, HasGoodClaim, HasManyVariables, HasProbe, IsSafeControl, IsUnsafeControl, IsCertified, IsProgram}
+use Rattle.rv_run.specs.Programs.{IsUnknown, LacksGoodClaim, LacksProbe}
 use Rattle.rv_run.specs.Verdicts.{IsDocumentOf, IsInvariantOf, IsViolated}
 use Rattle.rv_tree.specs.SourceTrees.{IsSourceTree}
 use Rattle.rv_types.specs.Settled.{IsSettled}
 use Rattle.rv_types.specs.WellFormed.{AreWell}
 use Rattle.rv_run.proofs.Claimed.{one_claim, one_probe}
 use Rattle.rv_run.proofs.Judging.{is_node, well, with_runs}
-use Rattle.rv_run.proofs.Judged.{verdict-on_source, verdict-not_refused, said_safe, said_violated, said_unknown, said_nodes, said_unprobed, must_claim, must_probe, must_safe, must_violated, must_judged}
-use Rattle.rv_run.proofs.Reported.{refusal-not_safe, refusal-not_violated, refusal-not_unknown, refusal-not_nodes, refusal-on_source, refusal-refused, refused_accepted, refused_same, named, told, told_back}
+use Rattle.rv_run.proofs.Judged.{verdict-on_source, verdict-not_refused, said_safe, said_violated, said_unknown, said_nodes, said_unprobed, must_claim}
+use Rattle.rv_run.proofs.Judged.{must_probe, must_safe, must_violated, must_judged}
+use Rattle.rv_run.proofs.Reported.{refusal-not_safe, refusal-not_violated, refusal-not_unknown, refusal-not_nodes, refusal-on_source, refusal-refused}
+use Rattle.rv_run.proofs.Reported.{refused_accepted, refused_same, named, told, told_back}
 use Rattle.rv_run.proofs.prove.report_on_source.Goals as goal
 
 pub read_source-requires : goal.read_source-requires
@@ -68,23 +71,29 @@ returns-in-Ok c =
     let is = c.on_verdict.ensures.report in
     let judged = c.judge.ensures.judged in
     let wide = c.judge.ensures.wide in
-    let runs : (P : ProgramTree → Identifier → Type 0) → P p m → WithRuns P p m = λ P holds. with_runs p s.typed s.order source.fits (λ n text settled. c.well_formed_programs.ensures p n s.typed text settled) P
+    let runs : (P : ProgramTree → Identifier → Type 0) → P p m → WithRuns P p m = λ P holds. with_runs p s.typed s.order source.fits
+    (λ n text settled. c.well_formed_programs.ensures p n s.typed text settled) P
     (c.one_run.ensures p m (sites_of s.order.sequence)) (c.some_run.ensures p m (sites_of s.order.sequence)) holds in
-    let well_formed : (n : Identifier) → IsSourceTree p → IsSettled p n s.typed → AreWell p = λ n text settled. c.well_formed_programs.ensures p n s.typed text settled in
+    let well_formed : (n : Identifier) → IsSourceTree p → IsSettled p n s.typed
+    → AreWell p = λ n text settled. c.well_formed_programs.ensures p n s.typed text settled in
     let is_well = well p s.typed s.order source.fits well_formed in
     let is_main = is_node p s.typed s.order source.fits well_formed in
     let one : HasGoodClaim p m → LacksGoodClaim p m → ⊥ = λ has lacks.
-    one_claim p m (λ f g first second. c.alike_systems.ensures p m f g is_well is_main first second) (λ f g first second. c.alike_names.ensures.thresholds p m f g is_well is_main first second) has lacks in
-    let probe : HasProbe p m → LacksProbe p m → ⊥ = λ has lacks.
-    one_probe p m (λ f g first second. c.alike_names.ensures.inputs p m f g is_well is_main first second) (λ f g first second. c.alike_names.ensures.memories p m f g is_well is_main first second)
+    one_claim p m (λ f g first second. c.alike_systems.ensures p m f g is_well is_main first second)
     (λ f g first second. c.alike_names.ensures.thresholds p m f g is_well is_main first second) has lacks in
-    let back : (P : ProgramTree → Identifier → Type 0) → OnProgram P bytes node → P p m = λ P on. subst (P p) (sym (named bytes node s source)) (told_back bytes node s source (c.one_tree.ensures bytes) P on) in
+    let probe : HasProbe p m → LacksProbe p m → ⊥ = λ has lacks.
+    one_probe p m (λ f g first second. c.alike_names.ensures.inputs p m f g is_well is_main first second)
+    (λ f g first second. c.alike_names.ensures.memories p m f g is_well is_main first second)
+    (λ f g first second. c.alike_names.ensures.thresholds p m f g is_well is_main first second) has lacks in
+    let back : (P : ProgramTree → Identifier → Type 0) → OnProgram P bytes node
+    → P p m = λ P on. subst (P p) (sym (named bytes node s source)) (told_back bytes node s source (c.one_tree.ensures bytes) P on) in
     record {
       safe = λ d h. told bytes node s source (WithRuns IsSafe) (runs IsSafe (said_safe c.args.nodes p m r d judged (sym is ∙ h)).0);
       certified = λ d h. told bytes node s source (IsCertified d) (said_safe c.args.nodes p m r d judged (sym is ∙ h)).1;
       invariant = λ d h. told bytes node s source (IsInvariantOf d c.on_verdict.result.document.items)
           (subst (λ text. IsInvariantOf d text p m) (sym c.on_verdict.ensures.document) (said_safe c.args.nodes p m r d judged (sym is ∙ h)).2);
-      violated = λ t h. told bytes node s source (WithRuns (IsViolated c.args.nodes t)) (runs (IsViolated c.args.nodes t) (said_violated c.args.nodes p m r t judged (sym is ∙ h)).0);
+      violated = λ t h. told bytes node s source (WithRuns (IsViolated c.args.nodes t))
+          (runs (IsViolated c.args.nodes t) (said_violated c.args.nodes p m r t judged (sym is ∙ h)).0);
       document = λ t h. told bytes node s source (IsDocumentOf t c.on_verdict.result.document.items)
           (subst (λ text. IsDocumentOf t text p m) (sym c.on_verdict.ensures.document) (said_violated c.args.nodes p m r t judged (sym is ∙ h)).1);
       unknown = λ l h. told bytes node s source (WithRuns (IsUnknown l)) (runs (IsUnknown l) (said_unknown c.args.nodes p m r l judged (sym is ∙ h)));

@@ -4,7 +4,8 @@ use Rattle.rv_types.specs.Instances.{name_at}
 use Rattle.rv_run.specs.declared.report.Report.{Report}
 use Rattle.rv_run.specs.Traced.{IsTraceAnswer, IsUnlessNoMemory}
 use Rattle.rv_run.proofs.Judging.{well, is_node}
-use Rattle.rv_run.proofs.Retraced.{all_said, all_told, fault-answers, fault_says, fault_tells, few_memories, of_document, replay-answers, trace_says, trace_tells}
+use Rattle.rv_run.proofs.Retraced.{all_said, all_told, fault-answers, fault_says, fault_tells, few_memories, of_document, replay-answers, trace_says}
+use Rattle.rv_run.proofs.Retraced.{trace_tells}
 use Rattle.rv_run.proofs.retrace.report_on_trace.Goals as goal
 
 pub read_trace-requires-clause-told : goal.read_trace-requires-clause-told
@@ -14,7 +15,8 @@ read_trace-requires-clause-told c =
     let fits = c.requires.fits in
     let flat = c.in-Ok.ensures.flat in
     c.told_systems.ensures p (name_at p s.typed.main) fits.settled.0 s.typed c.in-Ok.flat fits.tree c.requires.plain fits.settled.1
-    (is_node p s.typed s.order fits (λ m text settled. c.well_formed_programs.ensures p m s.typed text settled)) flat (few_memories p s.typed s.order c.in-Ok.flat fits flat)
+    (is_node p s.typed s.order fits (λ m text settled. c.well_formed_programs.ensures p m s.typed text settled)) flat
+    (few_memories p s.typed s.order c.in-Ok.flat fits flat)
 
 pub replay-requires-clause-trace : goal.replay-requires-clause-trace
 replay-requires-clause-trace c =
@@ -36,7 +38,8 @@ returns-in-Ok-read_trace-clause-says c = λ x answer e.
     let t = c.in-Ok-read_trace.trace in
     let r = c.replay.result in
     trace_says c.args.document.now p main c.in-Ok.flat c.in-Ok.ensures.flat t c.in-Ok-read_trace.ensures.document r
-    (all_said p main t r c.replay.ensures.falsified c.replay.ensures.fails c.replay.ensures.never c.replay.ensures.outgrown) x answer (sym c.on_replay.ensures ∙ e)
+    (all_said p main t r c.replay.ensures.falsified c.replay.ensures.fails c.replay.ensures.never c.replay.ensures.outgrown) x answer
+    (sym c.on_replay.ensures ∙ e)
 
 pub returns-in-Ok-read_trace-clause-only : goal.returns-in-Ok-read_trace-clause-only
 returns-in-Ok-read_trace-clause-only c = subst IsTraceAnswer (sym c.on_replay.ensures) (replay-answers c.replay.result)
@@ -57,7 +60,8 @@ pub returns-clause-says : goal.returns-clause-says
 returns-clause-says c = λ x answer e.
     let s = c.args.source.now in
     let p = program_tree s.program in
-    fault_says c.args.document.now p (name_at p s.typed.main) c.in-Ok.flat c.in-Ok.ensures.flat c.in-Err.fault c.in-Err.ensures.refused x answer (sym c.on_fault.ensures ∙ e)
+    fault_says c.args.document.now p (name_at p s.typed.main) c.in-Ok.flat c.in-Ok.ensures.flat c.in-Err.fault c.in-Err.ensures.refused x answer
+    (sym c.on_fault.ensures ∙ e)
 
 pub returns-clause-only : goal.returns-clause-only
 returns-clause-only c = subst IsTraceAnswer (sym c.on_fault.ensures) (fault-answers c.in-Err.fault)
@@ -68,4 +72,5 @@ returns-clause-only_says c = λ x h.
     let p = program_tree s.program in
     let main = name_at p s.typed.main in
     subst (λ (y : Report). IsUnlessNoMemory x y) (sym c.on_fault.ensures)
-    (fault_tells c.args.document.now p main c.in-Ok.flat c.in-Ok.ensures.flat c.in-Err.fault (c.one_trace_rule.ensures p main) c.in-Err.ensures.only c.in-Err.ensures.only_refused x h)
+    (fault_tells c.args.document.now p main c.in-Ok.flat c.in-Ok.ensures.flat c.in-Err.fault (c.one_trace_rule.ensures p main) c.in-Err.ensures.only
+    c.in-Err.ensures.only_refused x h)

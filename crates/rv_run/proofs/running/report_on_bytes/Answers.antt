@@ -19,7 +19,8 @@ returns-in-Replay c =
       safe = λ h. absurd (trace-not_accepted r answer.only h);
       wide = λ n h. absurd (trace-not_nodes r n answer.only h);
       only = subst (λ (t : Task). IsAnswerOf t r) (sym task) (trace-answers r answer.only);
-      only_says = λ x says. subst (λ (t : Task). IsUnlessLimit t x r) (sym task) (trace-unless x r (answer.only_says x (subst (λ (t : Task). SaysOf t x bytes p m) task says)));
+      only_says = λ x says. subst (λ (t : Task). IsUnlessLimit t x r) (sym task)
+          (trace-unless x r (answer.only_says x (subst (λ (t : Task). SaysOf t x bytes p m) task says)));
     }
 
 pub returns-in-Check : goal.returns-in-Check

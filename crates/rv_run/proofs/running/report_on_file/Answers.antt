@@ -8,12 +8,14 @@ use Rattle.rv_run.specs.declared.words.Task.{Task}
 use Rattle.rv_run.specs.declared.words.Beside.{Beside}
 use Rattle.rv_run.specs.declared.report.Report.TheVariants.{Accepted, Made, ReadFault, Toured, TooLong, Usage}
 use Rattle.rv_run.specs.Answers.{IsOnSource, IsTold, IsToldDocument, OnDocument, OnFile, Tells}
-use Rattle.rv_run.specs.Programs.{HasGoodClaim, HasManyVariables, HasProbe, LacksProbe, IsCertified, IsRefusedFor, IsSafeControl, IsProgram, IsUnknown, IsUnsafeControl, OnProgram, WithRuns}
+use Rattle.rv_run.specs.Programs.{HasGoodClaim, HasManyVariables, HasProbe, LacksProbe, IsCertified, IsRefusedFor, IsSafeControl, IsProgram, IsUnknown}
+use Rattle.rv_run.specs.Programs.{IsUnsafeControl, OnProgram, WithRuns}
 use Rattle.rv_run.specs.Checked.{IsUnlessCut, SaysOf}
 use Rattle.rv_run.specs.Traced.{IsLongDocument, OnAccepted}
 use Rattle.rv_run.specs.Verdicts.{IsDocumentOf, IsInvariantOf, IsViolated}
 use Rattle.rv_run.proofs.Named.{no_document, on_document, on_file, told_of, told_of_document}
-use Rattle.rv_run.proofs.Reported.{document-not_made, document-not_safe, document-not_toured, document-not_unknown, document-not_usage, document-not_verdict, document-not_violated, source-not_document}
+use Rattle.rv_run.proofs.Reported.{document-not_made, document-not_safe, document-not_toured, document-not_unknown, document-not_usage, document-not_verdict}
+use Rattle.rv_run.proofs.Reported.{document-not_violated, source-not_document}
 use Rattle.rv_run.proofs.running.report_on_file.Goals as goal
 
 pub load_whole-requires : goal.load_whole-requires
@@ -49,8 +51,10 @@ returns-in-None g c =
     let answer = c.report_on_source.ensures in
     let r = c.report_on_source.result.report in
     let none : w.beside ≡ None = ap (option_map (λ (b : Beside). (b.task, b.file.now))) c.in-None.is in
-    let lift : (P : List ℕ → List ℕ → Type 0) → P given node → OnFile held w P = λ P holds. on_file held w (file, node) loaded given source_limit P named whole same holds in
-    let back : (P : List ℕ → List ℕ → Type 0) → IsTold held w P → P given node = λ P told. told_of held w (file, node) loaded given source_limit P named whole same told in
+    let lift : (P : List ℕ → List ℕ → Type 0) → P given node → OnFile held w P = λ P holds. on_file held w (file, node) loaded given source_limit P named whole
+    same holds in
+    let back : (P : List ℕ → List ℕ → Type 0) → IsTold held w P → P given node = λ P told. told_of held w (file, node) loaded given source_limit P named whole
+    same told in
     record {
       replies = record {
         safe = λ d h. lift (OnProgram (WithRuns IsSafe)) (answer.safe d h);
@@ -59,7 +63,11 @@ returns-in-None g c =
         violated = λ t h. lift (OnProgram (WithRuns (IsViolated c.args.command.nodes t))) (answer.violated t h);
         document_of = λ t h. lift (OnProgram (IsDocumentOf t c.report_on_source.result.document.items)) (answer.document t h);
         unknown = λ l h. lift (OnProgram (WithRuns (IsUnknown l))) (answer.unknown l h);
-        nodes = λ n h. let two = answer.nodes n h in (two.0, inl (subst (λ (k : ℕ). OnFile held w (OnProgram (HasManyVariables k))) (sym two.0) (lift (OnProgram (HasManyVariables c.args.command.nodes)) two.1)));
+        nodes = λ n h. let two = answer.nodes n h in (
+          two.0,
+          inl (subst (λ (k : ℕ). OnFile held w (OnProgram (HasManyVariables k))) (sym two.0)
+              (lift (OnProgram (HasManyVariables c.args.command.nodes)) two.1)),
+        );
         unprobed = λ alone n h. inl (lift (OnProgram LacksProbe) (answer.unprobed n h));
         checked_safe = λ h. absurd (let bad : IsOnSource Accepted = subst IsOnSource h answer.only in bad);
         not_too_long = λ verdict. inl (lift (λ bytes node. length bytes ≤ source_limit) fits);
@@ -105,8 +113,10 @@ returns g c =
     let answer = c.report_on_document.ensures in
     let r = c.report_on_document.result in
     let kept = c.load_whole.ensures.same_held in
-    let lift : (P : List ℕ → List ℕ → Type 0) → P given node → OnFile held w P = λ P holds. on_file held w (file, node) loaded given source_limit P named whole same holds in
-    let back : (P : List ℕ → List ℕ → Type 0) → IsTold held w P → P given node = λ P told. told_of held w (file, node) loaded given source_limit P named whole same told in
+    let lift : (P : List ℕ → List ℕ → Type 0) → P given node → OnFile held w P = λ P holds. on_file held w (file, node) loaded given source_limit P named whole
+    same holds in
+    let back : (P : List ℕ → List ℕ → Type 0) → IsTold held w P → P given node = λ P told. told_of held w (file, node) loaded given source_limit P named whole
+    same told in
     let attach : (P : List ℕ → List ℕ → List ℕ → Type 0) → HoldsUnder held other.file.now (P given node) → OnDocument held w other.task P = λ P h.
     on_document held w (file, node) (other.task, other.file.now) loaded given source_limit P named with_other whole same h in
     let attached : (P : List ℕ → List ℕ → List ℕ → Type 0) (task : Task) (told : IsToldDocument held w task P)
@@ -120,7 +130,11 @@ returns g c =
         violated = λ t h. absurd (document-not_violated r t answer.only h);
         document_of = λ t h. absurd (document-not_violated r t answer.only h);
         unknown = λ l h. absurd (document-not_unknown r l answer.only h);
-        nodes = λ n h. let two = answer.nodes n h in (two.0, inl (subst (λ (k : ℕ). OnFile held w (OnProgram (HasManyVariables k))) (sym two.0) (lift (OnProgram (HasManyVariables c.args.command.nodes)) two.1)));
+        nodes = λ n h. let two = answer.nodes n h in (
+          two.0,
+          inl (subst (λ (k : ℕ). OnFile held w (OnProgram (HasManyVariables k))) (sym two.0)
+              (lift (OnProgram (HasManyVariables c.args.command.nodes)) two.1)),
+        );
         unprobed = λ alone n h. absurd (some_none (other.task, other.file.now) (sym with_other ∙ alone));
         checked_safe = λ h. lift (OnProgram (WithRuns IsSafe)) (answer.safe h);
         not_too_long = λ verdict. inl (lift (λ bytes node. length bytes ≤ source_limit) fits);
@@ -128,7 +142,8 @@ returns g c =
         told = λ x is e. let two = answer.told x is e in (
           other.task,
           two.0,
-          attach (OnAccepted (SaysOf other.task x)) (subst (λ (h : Option Shelf). HoldsUnder h other.file.now (OnAccepted (SaysOf other.task x) given node)) kept two.1),
+          attach (OnAccepted (SaysOf other.task x)) (subst (λ (h : Option Shelf). HoldsUnder h other.file.now (OnAccepted (SaysOf other.task x) given node))
+              kept two.1),
         );
         refused = λ fault h. lift (λ bytes node. (length bytes ≤ source_limit) × IsRefusedFor fault bytes node) (fits, answer.refused fault h);
         too_long = λ n h. let two = answer.too_long n h in inr (

@@ -10,8 +10,10 @@ use Rattle.rv_run.specs.declared.words.Task.TheVariants.{Replay, Check}
 use Rattle.rv_meaning.specs.Runs.{IsSafe}
 use Rattle.rv_words.specs.Words.{texts, command}
 use Rattle.rv_run.specs.Words.{wanted}
-use Rattle.rv_run.specs.Answers.{IsTold, IsToldDocument, IsRefusalUnlessCutOff, IsUnlessCutOff, IsJudgedUnlessLimited, IsUnlessLimited, IsNodesReport, IsTouredReport, OnFile, OnDocument, OnSource, IsShown, IsSafeUnlessCutOff, IsViolatedUnlessCutOff, IsViolatedUnlessUnread}
-use Rattle.rv_run.specs.Programs.{HasGoodClaim, HasManyVariables, HasProbe, IsCertified, IsRefusedFor, IsSafeControl, IsProgram, IsUnknown, LacksProbe, IsUnsafeControl, OnProgram, WithRuns}
+use Rattle.rv_run.specs.Answers.{IsTold, IsToldDocument, IsRefusalUnlessCutOff, IsUnlessCutOff, IsJudgedUnlessLimited, IsUnlessLimited, IsNodesReport}
+use Rattle.rv_run.specs.Answers.{IsTouredReport, OnFile, OnDocument, OnSource, IsShown, IsSafeUnlessCutOff, IsViolatedUnlessCutOff, IsViolatedUnlessUnread}
+use Rattle.rv_run.specs.Programs.{HasGoodClaim, HasManyVariables, HasProbe, IsCertified, IsRefusedFor, IsSafeControl, IsProgram, IsUnknown, LacksProbe}
+use Rattle.rv_run.specs.Programs.{IsUnsafeControl, OnProgram, WithRuns}
 use Rattle.rv_run.specs.Checked.{HasAccepted, HasRejected, IsInvariantFault}
 use Rattle.rv_run.specs.Traced.{IsFileFault, IsLongDocument, IsUnlessNoMemory, OnAccepted, OnTrace, file_limit}
 use Rattle.rv_falsify.specs.Falsifying.{IsFalsifying}
@@ -27,44 +29,56 @@ returns-clause-not_too_long g c = λ verdict.
 
 pub returns-clause-falsified : goal.returns-clause-falsified
 returns-clause-falsified g c = λ k h.
-    subst (λ (ws : List (String Global)). OnDocument (g.F.Files.held c.args.files.now) (wanted (texts ws)) Replay (OnAccepted (OnTrace (λ p m t. IsFalsifiedAt p m t k))))
-    c.as_slice.ensures.value (of_replay (g.F.Files.held c.args.files.now) (wanted (texts c.as_slice.result.now)) (Falsified k) (λ is. is) (c.report_on-answer.ensures.replies.told (Falsified k) tt h))
+    subst (λ (ws : List (String Global)). OnDocument (g.F.Files.held c.args.files.now) (wanted (texts ws)) Replay
+    (OnAccepted (OnTrace (λ p m t. IsFalsifiedAt p m t k))))
+    c.as_slice.ensures.value (of_replay (g.F.Files.held c.args.files.now) (wanted (texts c.as_slice.result.now)) (Falsified k) (λ is. is)
+    (c.report_on-answer.ensures.replies.told (Falsified k) tt h))
 
 pub returns-clause-fails : goal.returns-clause-fails
 returns-clause-fails g c = λ k at h.
-    subst (λ (ws : List (String Global)). OnDocument (g.F.Files.held c.args.files.now) (wanted (texts ws)) Replay (OnAccepted (OnTrace (λ p m t. FailsAt p m t k at))))
-    c.as_slice.ensures.value (of_replay (g.F.Files.held c.args.files.now) (wanted (texts c.as_slice.result.now)) (AssertionFails k at) (λ is. is) (c.report_on-answer.ensures.replies.told (AssertionFails k at) tt h))
+    subst (λ (ws : List (String Global)). OnDocument (g.F.Files.held c.args.files.now) (wanted (texts ws)) Replay
+    (OnAccepted (OnTrace (λ p m t. FailsAt p m t k at))))
+    c.as_slice.ensures.value (of_replay (g.F.Files.held c.args.files.now) (wanted (texts c.as_slice.result.now)) (AssertionFails k at) (λ is. is)
+    (c.report_on-answer.ensures.replies.told (AssertionFails k at) tt h))
 
 pub returns-clause-never : goal.returns-clause-never
 returns-clause-never g c = λ h.
-    subst (λ (ws : List (String Global)). OnDocument (g.F.Files.held c.args.files.now) (wanted (texts ws)) Replay (OnAccepted (OnTrace (λ p m t. NeverEnds p m t))))
-    c.as_slice.ensures.value (of_replay (g.F.Files.held c.args.files.now) (wanted (texts c.as_slice.result.now)) NeverFalse (λ is. is) (c.report_on-answer.ensures.replies.told NeverFalse tt h))
+    subst (λ (ws : List (String Global)). OnDocument (g.F.Files.held c.args.files.now) (wanted (texts ws)) Replay
+    (OnAccepted (OnTrace (λ p m t. NeverEnds p m t))))
+    c.as_slice.ensures.value (of_replay (g.F.Files.held c.args.files.now) (wanted (texts c.as_slice.result.now)) NeverFalse (λ is. is)
+    (c.report_on-answer.ensures.replies.told NeverFalse tt h))
 
 pub returns-clause-outgrown : goal.returns-clause-outgrown
 returns-clause-outgrown g c = λ k at h.
-    subst (λ (ws : List (String Global)). OnDocument (g.F.Files.held c.args.files.now) (wanted (texts ws)) Replay (OnAccepted (OnTrace (λ p m t. OutgrowsAt p m t k at))))
-    c.as_slice.ensures.value (of_replay (g.F.Files.held c.args.files.now) (wanted (texts c.as_slice.result.now)) (Outgrown k at) (λ is. is) (c.report_on-answer.ensures.replies.told (Outgrown k at) tt h))
+    subst (λ (ws : List (String Global)). OnDocument (g.F.Files.held c.args.files.now) (wanted (texts ws)) Replay
+    (OnAccepted (OnTrace (λ p m t. OutgrowsAt p m t k at))))
+    c.as_slice.ensures.value (of_replay (g.F.Files.held c.args.files.now) (wanted (texts c.as_slice.result.now)) (Outgrown k at) (λ is. is)
+    (c.report_on-answer.ensures.replies.told (Outgrown k at) tt h))
 
 pub returns-clause-bad_file : goal.returns-clause-bad_file
 returns-clause-bad_file g c = λ fault h.
     subst (λ (ws : List (String Global)). OnDocument (g.F.Files.held c.args.files.now) (wanted (texts ws)) Replay (OnAccepted (IsFileFault fault))
     ⊎ OnDocument (g.F.Files.held c.args.files.now) (wanted (texts ws)) Check (OnAccepted (IsInvariantFault fault)))
-    c.as_slice.ensures.value (of_either (g.F.Files.held c.args.files.now) (wanted (texts c.as_slice.result.now)) fault (c.report_on-answer.ensures.replies.told (BadFile fault) tt h))
+    c.as_slice.ensures.value (of_either (g.F.Files.held c.args.files.now) (wanted (texts c.as_slice.result.now)) fault
+    (c.report_on-answer.ensures.replies.told (BadFile fault) tt h))
 
 pub returns-clause-accepted : goal.returns-clause-accepted
 returns-clause-accepted g c = λ h.
     subst (λ (ws : List (String Global)). OnDocument (g.F.Files.held c.args.files.now) (wanted (texts ws)) Check (OnAccepted HasAccepted))
-    c.as_slice.ensures.value (of_check (g.F.Files.held c.args.files.now) (wanted (texts c.as_slice.result.now)) Accepted (λ is. is) (c.report_on-answer.ensures.replies.told Accepted tt h))
+    c.as_slice.ensures.value (of_check (g.F.Files.held c.args.files.now) (wanted (texts c.as_slice.result.now)) Accepted (λ is. is)
+    (c.report_on-answer.ensures.replies.told Accepted tt h))
 
 pub returns-clause-rejected : goal.returns-clause-rejected
 returns-clause-rejected g c = λ reason h.
     subst (λ (ws : List (String Global)). OnDocument (g.F.Files.held c.args.files.now) (wanted (texts ws)) Check (OnAccepted (HasRejected reason)))
     c.as_slice.ensures.value
-    (of_check (g.F.Files.held c.args.files.now) (wanted (texts c.as_slice.result.now)) (Rejected reason) (λ is. is) (c.report_on-answer.ensures.replies.told (Rejected reason) tt h))
+    (of_check (g.F.Files.held c.args.files.now) (wanted (texts c.as_slice.result.now)) (Rejected reason) (λ is. is)
+    (c.report_on-answer.ensures.replies.told (Rejected reason) tt h))
 
 pub returns-clause-only_accepted : goal.returns-clause-only_accepted
 returns-clause-only_accepted g c =
-    subst (λ (ws : List (String Global)). IsToldDocument (g.F.Files.held c.args.files.now) (wanted (texts ws)) Check (OnAccepted HasAccepted) → IsUnlessLimited Accepted c.report_on-answer.result.report)
+    subst (λ (ws : List (String Global)). IsToldDocument (g.F.Files.held c.args.files.now) (wanted (texts ws)) Check (OnAccepted HasAccepted)
+    → IsUnlessLimited Accepted c.report_on-answer.result.report)
     c.as_slice.ensures.value (c.report_on-answer.ensures.replies.only_told Check Accepted)
 
 pub returns-clause-only_rejected : goal.returns-clause-only_rejected
@@ -88,32 +102,38 @@ returns-clause-too_long g c = λ n.
 
 pub returns-clause-only_long_document : goal.returns-clause-only_long_document
 returns-clause-only_long_document g c = λ task.
-    subst (λ (ws : List (String Global)). IsToldDocument (g.F.Files.held c.args.files.now) (wanted (texts ws)) task IsLongDocument → IsUnlessCutOff (TooLong (file_limit + 1)) c.report_on-answer.result.report)
+    subst (λ (ws : List (String Global)). IsToldDocument (g.F.Files.held c.args.files.now) (wanted (texts ws)) task IsLongDocument
+    → IsUnlessCutOff (TooLong (file_limit + 1)) c.report_on-answer.result.report)
     c.as_slice.ensures.value (c.report_on-answer.ensures.replies.only_long_document task)
 
 pub returns-clause-only_falsified : goal.returns-clause-only_falsified
 returns-clause-only_falsified g c = λ k.
-    subst (λ (ws : List (String Global)). IsToldDocument (g.F.Files.held c.args.files.now) (wanted (texts ws)) Replay (OnAccepted (OnTrace (λ p m t. IsFalsifiedAt p m t k))) → IsUnlessCutOff (Falsified k) c.report_on-answer.result.report)
+    subst (λ (ws : List (String Global)). IsToldDocument (g.F.Files.held c.args.files.now) (wanted (texts ws)) Replay
+    (OnAccepted (OnTrace (λ p m t. IsFalsifiedAt p m t k))) → IsUnlessCutOff (Falsified k) c.report_on-answer.result.report)
     c.as_slice.ensures.value (c.report_on-answer.ensures.replies.only_told Replay (Falsified k))
 
 pub returns-clause-only_fails : goal.returns-clause-only_fails
 returns-clause-only_fails g c = λ k at.
-    subst (λ (ws : List (String Global)). IsToldDocument (g.F.Files.held c.args.files.now) (wanted (texts ws)) Replay (OnAccepted (OnTrace (λ p m t. FailsAt p m t k at))) → IsUnlessCutOff (AssertionFails k at) c.report_on-answer.result.report)
+    subst (λ (ws : List (String Global)). IsToldDocument (g.F.Files.held c.args.files.now) (wanted (texts ws)) Replay
+    (OnAccepted (OnTrace (λ p m t. FailsAt p m t k at))) → IsUnlessCutOff (AssertionFails k at) c.report_on-answer.result.report)
     c.as_slice.ensures.value (c.report_on-answer.ensures.replies.only_told Replay (AssertionFails k at))
 
 pub returns-clause-only_never : goal.returns-clause-only_never
 returns-clause-only_never g c =
-    subst (λ (ws : List (String Global)). IsToldDocument (g.F.Files.held c.args.files.now) (wanted (texts ws)) Replay (OnAccepted (OnTrace (λ p m t. NeverEnds p m t))) → IsUnlessCutOff NeverFalse c.report_on-answer.result.report)
+    subst (λ (ws : List (String Global)). IsToldDocument (g.F.Files.held c.args.files.now) (wanted (texts ws)) Replay
+    (OnAccepted (OnTrace (λ p m t. NeverEnds p m t))) → IsUnlessCutOff NeverFalse c.report_on-answer.result.report)
     c.as_slice.ensures.value (c.report_on-answer.ensures.replies.only_told Replay NeverFalse)
 
 pub returns-clause-only_outgrown : goal.returns-clause-only_outgrown
 returns-clause-only_outgrown g c = λ k at.
-    subst (λ (ws : List (String Global)). IsToldDocument (g.F.Files.held c.args.files.now) (wanted (texts ws)) Replay (OnAccepted (OnTrace (λ p m t. OutgrowsAt p m t k at))) → IsUnlessCutOff (Outgrown k at) c.report_on-answer.result.report)
+    subst (λ (ws : List (String Global)). IsToldDocument (g.F.Files.held c.args.files.now) (wanted (texts ws)) Replay
+    (OnAccepted (OnTrace (λ p m t. OutgrowsAt p m t k at))) → IsUnlessCutOff (Outgrown k at) c.report_on-answer.result.report)
     c.as_slice.ensures.value (c.report_on-answer.ensures.replies.only_told Replay (Outgrown k at))
 
 pub returns-clause-only_bad_file : goal.returns-clause-only_bad_file
 returns-clause-only_bad_file g c = λ fault.
-    subst (λ (ws : List (String Global)). IsToldDocument (g.F.Files.held c.args.files.now) (wanted (texts ws)) Replay (OnAccepted (IsFileFault fault)) → IsUnlessCutOff (BadFile fault) c.report_on-answer.result.report)
+    subst (λ (ws : List (String Global)). IsToldDocument (g.F.Files.held c.args.files.now) (wanted (texts ws)) Replay (OnAccepted (IsFileFault fault))
+    → IsUnlessCutOff (BadFile fault) c.report_on-answer.result.report)
     c.as_slice.ensures.value (c.report_on-answer.ensures.replies.only_told Replay (BadFile fault))
 
 pub returns-clause-only_refused : goal.returns-clause-only_refused
@@ -140,7 +160,8 @@ returns-clause-origin g c = λ t h.
 
 pub returns-clause-unprobed : goal.returns-clause-unprobed
 returns-clause-unprobed g c = λ alone n h.
-    subst (λ (ws : List (String Global)). (wanted (texts ws)).beside ≡ None → OnSource (g.F.Files.held c.args.files.now) (wanted (texts ws)) (OnProgram LacksProbe))
+    subst (λ (ws : List (String Global)). (wanted (texts ws)).beside ≡ None
+    → OnSource (g.F.Files.held c.args.files.now) (wanted (texts ws)) (OnProgram LacksProbe))
     c.as_slice.ensures.value (λ none. c.report_on-answer.ensures.replies.unprobed none n h) alone
 
 pub returns-clause-only_probed : goal.returns-clause-only_probed
@@ -153,9 +174,11 @@ pub returns-clause-shown_whole : goal.returns-clause-shown_whole
 returns-clause-shown_whole g c = λ h.
     let answer = c.report_on-answer.result in (
       shown_of answer.report answer.document.items,
-      subst (λ (ws : List (String Global)). IsShown (g.F.Files.held c.args.files.now) (wanted (texts ws)) answer.report (shown_of answer.report answer.document.items))
+      subst (λ (ws : List (String Global)). IsShown (g.F.Files.held c.args.files.now) (wanted (texts ws)) answer.report
+          (shown_of answer.report answer.document.items))
           c.as_slice.ensures.value
-          (is_shown (g.F.Files.held c.args.files.now) (wanted (texts c.as_slice.result.now)) answer.report answer.document.items c.report_on-answer.ensures.replies.invariant c.report_on-answer.ensures.replies.document_of),
+          (is_shown (g.F.Files.held c.args.files.now) (wanted (texts c.as_slice.result.now)) answer.report answer.document.items
+          c.report_on-answer.ensures.replies.invariant c.report_on-answer.ensures.replies.document_of),
       c.show-sent.ensures.whole h,
     )
 
@@ -163,9 +186,11 @@ pub returns-clause-shown_prefix : goal.returns-clause-shown_prefix
 returns-clause-shown_prefix g c = λ h.
     let answer = c.report_on-answer.result in (
       shown_of answer.report answer.document.items,
-      subst (λ (ws : List (String Global)). IsShown (g.F.Files.held c.args.files.now) (wanted (texts ws)) answer.report (shown_of answer.report answer.document.items))
+      subst (λ (ws : List (String Global)). IsShown (g.F.Files.held c.args.files.now) (wanted (texts ws)) answer.report
+          (shown_of answer.report answer.document.items))
           c.as_slice.ensures.value
-          (is_shown (g.F.Files.held c.args.files.now) (wanted (texts c.as_slice.result.now)) answer.report answer.document.items c.report_on-answer.ensures.replies.invariant c.report_on-answer.ensures.replies.document_of),
+          (is_shown (g.F.Files.held c.args.files.now) (wanted (texts c.as_slice.result.now)) answer.report answer.document.items
+          c.report_on-answer.ensures.replies.invariant c.report_on-answer.ensures.replies.document_of),
       c.show-sent.ensures.failed h,
     )
 
@@ -214,7 +239,8 @@ returns-clause-unknown g c = λ l h.
 
 pub returns-clause-nodes : goal.returns-clause-nodes
 returns-clause-nodes g c = λ n h.
-    subst (λ (ws : List (String Global)). (n ≡ (wanted (texts ws)).nodes) × OnSource (g.F.Files.held c.args.files.now) (wanted (texts ws)) (OnProgram (HasManyVariables n)))
+    subst (λ (ws : List (String Global)). (n ≡ (wanted (texts ws)).nodes) × OnSource (g.F.Files.held c.args.files.now) (wanted (texts ws))
+    (OnProgram (HasManyVariables n)))
     c.as_slice.ensures.value (c.report_on-answer.ensures.replies.nodes n h)
 
 pub returns-clause-checked_safe : goal.returns-clause-checked_safe
@@ -224,7 +250,8 @@ returns-clause-checked_safe g c = λ h.
 
 pub returns-clause-refused : goal.returns-clause-refused
 returns-clause-refused g c = λ fault h.
-    subst (λ (ws : List (String Global)). OnFile (g.F.Files.held c.args.files.now) (wanted (texts ws)) (λ bytes node. (length bytes ≤ source_limit) × IsRefusedFor fault bytes node))
+    subst (λ (ws : List (String Global)). OnFile (g.F.Files.held c.args.files.now) (wanted (texts ws))
+    (λ bytes node. (length bytes ≤ source_limit) × IsRefusedFor fault bytes node))
     c.as_slice.ensures.value (c.report_on-answer.ensures.replies.refused fault h)
 
 pub returns-clause-read_fault : goal.returns-clause-read_fault
@@ -240,7 +267,8 @@ returns-clause-only_usage g c = λ none.
 
 pub returns-clause-made : goal.returns-clause-made
 returns-clause-made g c = λ source h.
-    subst (λ (ws : List (String Global)). (n : ℕ) × ((wanted (texts ws)).made ≡ Some n) × (source ≡ made_text n)) c.as_slice.ensures.value (c.report_on-answer.ensures.replies.made source h)
+    subst (λ (ws : List (String Global)). (n : ℕ) × ((wanted (texts ws)).made ≡ Some n) × (source ≡ made_text n)) c.as_slice.ensures.value
+    (c.report_on-answer.ensures.replies.made source h)
 
 pub returns-clause-toured : goal.returns-clause-toured
 returns-clause-toured g c = λ n size d h.
@@ -266,7 +294,8 @@ returns-clause-only_toured g c = λ n.
 
 pub returns-clause-only_too_long : goal.returns-clause-only_too_long
 returns-clause-only_too_long g c =
-    subst (λ (ws : List (String Global)). IsTold (g.F.Files.held c.args.files.now) (wanted (texts ws)) (λ bytes node. source_limit < length bytes) → IsUnlessCutOff (TooLong (source_limit + 1)) c.report_on-answer.result.report)
+    subst (λ (ws : List (String Global)). IsTold (g.F.Files.held c.args.files.now) (wanted (texts ws)) (λ bytes node. source_limit < length bytes)
+    → IsUnlessCutOff (TooLong (source_limit + 1)) c.report_on-answer.result.report)
     c.as_slice.ensures.value c.report_on-answer.ensures.replies.only_too_long
 
 pub returns-clause-same_held : goal.returns-clause-same_held

@@ -8,7 +8,8 @@ use Rattle.rv_seek.proofs.least.least_within.Goals as goal
 pub loop-closest-preserved : goal.loop-closest-preserved
 loop-closest-preserved c = record {
   shown = c.in_ok-least.ensures.shown;
-  walked = walked-more c.args.premises.now c.args.wanted.now (length c.args.premises.now + 2) c.pivot_of-pivot.result c.loop-closest.least _ (values c.args.sides.now)
+  walked = walked-more c.args.premises.now c.args.wanted.now (length c.args.premises.now + 2) c.pivot_of-pivot.result c.loop-closest.least _
+      (values c.args.sides.now)
       c.loop-closest.closest-iterator c.next.new.self c.in-Some.closest.now c.loop-closest.invariant.walked
       (rest_more deref c.loop-closest.closest-iterator c.next.new.self c.next.result c.in-Some.closest c.in-Some.is c.next.ensures.steps)
       c.in_ok-least.ensures.no_more c.in_ok-least.ensures.here;

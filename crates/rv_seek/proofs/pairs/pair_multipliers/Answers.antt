@@ -14,4 +14,5 @@ pub returns-clause-refutation : goal.returns-clause-refutation
 returns-clause-refutation c shows = refutes_from c.args.premises.now _ refl (returns-clause-proof c (bounded [] (negsuc 0)) shows)
 
 pub returns-clause-ranges : goal.returns-clause-ranges
-returns-clause-ranges c = pair_ranges (length c.args.premises.now) c.args.first c.args.second c.in_ok-weights.weights (returns-clause-weights c) c.requires.order
+returns-clause-ranges c = pair_ranges (length c.args.premises.now) c.args.first c.args.second c.in_ok-weights.weights (returns-clause-weights c)
+    c.requires.order

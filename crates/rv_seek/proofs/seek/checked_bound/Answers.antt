@@ -14,7 +14,8 @@ returns-in-Some-clause-proof c =
     let size = simp to_z-of_z at c.unsigned_abs.ensures.value in
     let small : unsigned_abs c.args.most ≤ 2 ^ 78 = omega (arith, size) in
     let sum_fits : FitsSigned w128 (c.args.most +ℤ c.args.form.now.constant) = wide_sum c.args.most c.args.form.now.constant small c.requires.form.1 in
-    let is : to_z w128 (of_z w128 (to_z w128 (of_z w128 c.args.most) +ℤ to_z w128 (of_z w128 c.args.form.now.constant))) ≡ c.args.most +ℤ c.args.form.now.constant = simp to_z-of_z in
+    let is : to_z w128 (of_z w128 (to_z w128 (of_z w128 c.args.most) +ℤ to_z w128 (of_z w128 c.args.form.now.constant))) ≡ c.args.most +ℤ
+    c.args.form.now.constant = simp to_z-of_z in
     let proof = simp to_z-of_z at c.in-Some.ensures.proof in
     subst (λ (z : ℤ). Proves c.args.premises.now (bounded c.args.form.now.coefficients z) c.in-Some.by)
     (back c.args.most c.args.form.now.constant _ is)

@@ -10,7 +10,8 @@ returns-in_ok-add_again-in-Some c =
     let one : IsPut rows c.args.width c.args.place c.in_ok-side.side _ c.args.sides.now c.insert.new.self =
     record { columns = c.in_ok-side.ensures.length; side = c.in_ok-side.ensures.side; changed = c.in_ok-old.ensures.updates.0 } in
     let key = c.in_ok-side.side in
-    let same : again.items ≡ key.items = put_key rows c.args.width c.args.place key again _ d c.args.sides.now c.insert.new.self c.add_again.new.sides one put in
+    let same : again.items ≡ key.items = put_key rows c.args.width c.args.place key again _ d c.args.sides.now c.insert.new.self c.add_again.new.sides one
+    put in
     let before : IsClosest rows c.args.place key.items c.in-Some.old =
     closest_before rows c.args.width c.args.place c.args.sides.now key c.in-Some.old c.requires.before (sym c.in_ok-old.ensures.old ∙ c.in-Some.is) in
     table-more rows c.args.width c.args.place d c.args.sides.now c.add_again.new.sides key c.requires.before

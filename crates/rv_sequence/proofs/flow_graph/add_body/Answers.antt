@@ -30,6 +30,7 @@ returns c =
     let first = c.in_ok-add_flow.ensures ∙ ap (λ k. before ++ listed k) clock in
     subst (λ (l : List ℕ). OnOk c.add_needs.result (c.add_needs.new.found ≡ l))
     ((λ t. first t ++ told_needed (c.new-reader.ensures.node t) (here_of (c.new-reader.ensures.layout t) (c.new-reader.ensures.instance t)) e)
-    ∙ ap (λ (l : List ℕ). (before ++ listed (clock_number h b.clock)) ++ l) (told_needs n h e (body_timed p (main_of x) ins c.requires.known.expanded b c.requires.giver))
+    ∙ ap (λ (l : List ℕ). (before ++ listed (clock_number h b.clock)) ++ l)
+    (told_needs n h e (body_timed p (main_of x) ins c.requires.known.expanded b c.requires.giver))
     ∙ append_assoc before (listed (clock_number h b.clock)) (needed n h e))
     c.add_needs.ensures

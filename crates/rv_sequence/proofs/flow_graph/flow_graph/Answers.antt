@@ -11,10 +11,12 @@ needs_of-requires-clause-giver c =
     let x = c.args.expanded.now in
     let size = ap length c.as_slice-giver-items.ensures in
     let lt = c.loop-giver-test.true in
-    is_giver (program_of x) (main_of x) x.instances.now c.requires.known.expanded c.args.layout.now c.requires.layout c.args.givers.now c.requires.givers c.loop-giver.giver-index c.giver-item.result
+    is_giver (program_of x) (main_of x) x.instances.now c.requires.known.expanded c.args.layout.now c.requires.layout c.args.givers.now c.requires.givers
+    c.loop-giver.giver-index c.giver-item.result
     (omega (arith, size, lt)) (c.giver-item.is ∙ ap (λ (l : List Giver). get_or l c.loop-giver.giver-index c.giver-item.result) c.as_slice-giver-items.ensures)
 
-whole : (c : goal.After-loop-giver) → c.loop-giver.graph ≡ map (giver_needed (program_of c.args.expanded.now) c.args.expanded.now.instances.now c.args.layout.now) c.args.givers.now
+whole : (c : goal.After-loop-giver) → c.loop-giver.graph ≡ map (giver_needed (program_of c.args.expanded.now) c.args.expanded.now.instances.now
+    c.args.layout.now) c.args.givers.now
 whole c =
     let size = ap length c.as_slice-giver-items.ensures in
     let done = c.loop-giver-test.false in
@@ -27,9 +29,11 @@ whole c =
 pub returns-clause-vertices : goal.returns-clause-vertices
 returns-clause-vertices c =
     let x = c.args.expanded.now in
-    is_graph (program_of x) (main_of x) x.instances.now c.requires.known.expanded c.args.layout.now c.requires.layout c.args.givers.now c.requires.givers c.loop-giver.graph (whole c)
+    is_graph (program_of x) (main_of x) x.instances.now c.requires.known.expanded c.args.layout.now c.requires.layout c.args.givers.now c.requires.givers
+    c.loop-giver.graph (whole c)
 
 pub returns-clause-graph : goal.returns-clause-graph
 returns-clause-graph c =
     let x = c.args.expanded.now in
-    is_flow_graph (program_of x) (main_of x) x.instances.now c.requires.known.expanded c.args.layout.now c.requires.layout c.args.givers.now c.requires.givers c.loop-giver.graph (whole c)
+    is_flow_graph (program_of x) (main_of x) x.instances.now c.requires.known.expanded c.args.layout.now c.requires.layout c.args.givers.now c.requires.givers
+    c.loop-giver.graph (whole c)

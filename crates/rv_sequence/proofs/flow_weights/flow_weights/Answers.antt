@@ -12,7 +12,8 @@ giver_weight-weight-requires-clause-within c =
     let items = c.as_slice-number-items.ensures in
     let lt = subst (λ (l : List ℕ). k < length l) items c.loop-number-test.true in
     let number = subst (λ (l : List ℕ). get_or l k 0 < length (all_places (program_of x) x.instances.now)) (sym items) (c.requires.sequence.within k lt) in
-    given_within (program_of x) (main_of x) x.instances.now c.requires.known.expanded c.args.givers.now c.requires.givers (get_or c.as_slice-number-items.result.now k 0) c.at-giver.result.now number c.at-giver.ensures.value
+    given_within (program_of x) (main_of x) x.instances.now c.requires.known.expanded c.args.givers.now c.requires.givers
+    (get_or c.as_slice-number-items.result.now k 0) c.at-giver.result.now number c.at-giver.ensures.value
 
 pub loop-number-preserved : goal.loop-number-preserved
 loop-number-preserved c =
@@ -20,10 +21,13 @@ loop-number-preserved c =
     let k = c.loop-number.number-index in
     let items = c.as_slice-number-items.ensures in
     let lt = subst (λ (l : List ℕ). k < length l) items c.loop-number-test.true in
-    weights_more (program_of x) (main_of x) x.instances.now c.requires.known.expanded c.args.sequence.now c.requires.sequence c.args.layout.now c.requires.layout c.args.values.now c.requires.values c.args.givers.now c.requires.givers
-    c.loop-number.weights c.set.new.self k c.giver_weight-weight.result (get_or c.as_slice-number-items.result.now k 0) c.at-giver.result.now lt (ap (λ (l : List ℕ). get_or l k 0) items) c.at-giver.ensures.value
+    weights_more (program_of x) (main_of x) x.instances.now c.requires.known.expanded c.args.sequence.now c.requires.sequence c.args.layout.now
+    c.requires.layout c.args.values.now c.requires.values c.args.givers.now c.requires.givers
+    c.loop-number.weights c.set.new.self k c.giver_weight-weight.result (get_or c.as_slice-number-items.result.now k 0) c.at-giver.result.now lt
+    (ap (λ (l : List ℕ). get_or l k 0) items) c.at-giver.ensures.value
     c.loop-number.invariant
-    (c.giver_weight-weight.ensures ∙ ap (λ (ws : List ℕ). counted_weight (told_weight (program_of x) x.instances.now c.args.values.now c.args.layout.now ws c.at-giver.result.now)) c.as_slice.ensures)
+    (c.giver_weight-weight.ensures ∙ ap (λ (ws : List ℕ). counted_weight
+    (told_weight (program_of x) x.instances.now c.args.values.now c.args.layout.now ws c.at-giver.result.now)) c.as_slice.ensures)
     c.set.ensures
 
 pub returns : goal.returns
@@ -33,4 +37,5 @@ returns c =
     let size = ap length c.as_slice-number-items.ensures in
     let ge = c.loop-number-test.false in
     let le = c.loop-number.auto.number-index-end in
-    all_weights (program_of x) (main_of x) x.instances.now c.requires.known.expanded c.args.sequence.now c.requires.sequence c.loop-number.weights k (omega (arith, size, ge)) (omega (arith, size, le)) c.loop-number.invariant
+    all_weights (program_of x) (main_of x) x.instances.now c.requires.known.expanded c.args.sequence.now c.requires.sequence c.loop-number.weights k
+    (omega (arith, size, ge)) (omega (arith, size, le)) c.loop-number.invariant

@@ -12,8 +12,10 @@ pub places_of-requires-clause-numbers : goal.places_of-requires-clause-numbers
 places_of-requires-clause-numbers c k w =
     let size = c.requires.size in
     let l : IsLoop c.args.graph.now c.in-Looped.found = subst (IsSortedOf c.args.graph.now) c.in-Looped.is c.in_ok-order.ensures in
-    let t : AreTurned c.in-Looped.found c.in_ok-turned-in-Looped.turned = subst (λ (old : List ℕ). AreTurned old c.in_ok-turned-in-Looped.turned) c.as_slice.ensures c.in_ok-turned-in-Looped.ensures in
-    let lt = turned_within c.args.graph.now c.requires.vertices c.in-Looped.found c.in_ok-turned-in-Looped.turned l t k (subst (λ (l : List ℕ). Contains l k) c.as_slice-in-Looped.ensures w) in
+    let t : AreTurned c.in-Looped.found c.in_ok-turned-in-Looped.turned = subst (λ (old : List ℕ). AreTurned old c.in_ok-turned-in-Looped.turned)
+    c.as_slice.ensures c.in_ok-turned-in-Looped.ensures in
+    let lt = turned_within c.args.graph.now c.requires.vertices c.in-Looped.found c.in_ok-turned-in-Looped.turned l t k
+    (subst (λ (l : List ℕ). Contains l k) c.as_slice-in-Looped.ensures w) in
     subst (λ n. k < n) size lt
 
 pub returns-in-Ordered-clause-within : goal.returns-in-Ordered-clause-within
@@ -33,6 +35,7 @@ pub returns-in_ok-places_of-in-Looped-clause-cycle : goal.returns-in_ok-places_o
 returns-in_ok-places_of-in-Looped-clause-cycle c p main f =
     let places = flow_places c.args.instances.now c.args.flows.now in
     let l : IsLoop c.args.graph.now c.in-Looped.found = subst (IsSortedOf c.args.graph.now) c.in-Looped.is c.in_ok-order.ensures in
-    let t : AreTurned c.in-Looped.found c.in_ok-turned-in-Looped.turned = subst (λ (old : List ℕ). AreTurned old c.in_ok-turned-in-Looped.turned) c.as_slice.ensures c.in_ok-turned-in-Looped.ensures in
+    let t : AreTurned c.in-Looped.found c.in_ok-turned-in-Looped.turned = subst (λ (old : List ℕ). AreTurned old c.in_ok-turned-in-Looped.turned)
+    c.as_slice.ensures c.in_ok-turned-in-Looped.ensures in
     subst (λ (s : List Sites). IsCycleFromLeast p main s) (sym (c.in_ok-places_of-in-Looped.ensures ∙ ap (map (place_at places)) c.as_slice-in-Looped.ensures))
     (turned_cycle p main places c.args.graph.now f c.requires.vertices c.in-Looped.found c.in_ok-turned-in-Looped.turned l t)

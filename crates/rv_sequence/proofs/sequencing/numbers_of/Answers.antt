@@ -26,5 +26,7 @@ returns-clause-numbered c =
     let x = c.args.expanded.now in
     let p = program_of x in
     let main = main_of x in
-    let graph = subst (λ (fs : List Flow). IsFlowGraph p main (flow_places x.instances.now fs) c.in_ok-graph.graph) (sym c.requires.flows) c.in_ok-graph.ensures.graph in
-    numbered p main x.instances.now c.args.flows.now c.evaluation.result c.requires.flows c.evaluation.ensures.within (c.evaluation.ensures.sequence p main graph)
+    let graph = subst (λ (fs : List Flow). IsFlowGraph p main (flow_places x.instances.now fs) c.in_ok-graph.graph)
+    (sym c.requires.flows) c.in_ok-graph.ensures.graph in
+    numbered p main x.instances.now c.args.flows.now c.evaluation.result c.requires.flows c.evaluation.ensures.within
+    (c.evaluation.ensures.sequence p main graph)

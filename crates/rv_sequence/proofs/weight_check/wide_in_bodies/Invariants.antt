@@ -6,4 +6,5 @@ use Rattle.rv_sequence.specs.WideNodes.{wide_in_assertions}
 use Rattle.rv_sequence.proofs.weight_check.wide_in_bodies.Given as goal
 
 abbrev pub invariant-loop-assertion : goal.invariant-loop-assertion
-invariant-loop-assertion l = lesser l.first (wide_in_assertions (weighing l.w) (map assertion_tree (drop l.assertion-index l.assertions))) ≡ wide_in_assertions (weighing l.w) (map assertion_tree l.assertions)
+invariant-loop-assertion l = lesser l.first (wide_in_assertions (weighing l.w) (map assertion_tree (drop l.assertion-index l.assertions))) ≡ wide_in_assertions
+    (weighing l.w) (map assertion_tree l.assertions)

@@ -9,5 +9,6 @@ loop-instance-preserved c =
     let x = c.args.expanded.now in
     let k = c.loop-instance.instance in
     c.lesser_of-first.ensures
-    ∙ (λ i. lesser (c.loop-instance.invariant i) ((c.wide_in_instance.ensures ∙ (λ j. wide_in_node (c.weigher-w.ensures.tables j) (c.weigher-w.ensures.node j))) i))
+    ∙ (λ i. lesser (c.loop-instance.invariant i) ((c.wide_in_instance.ensures ∙ (λ j. wide_in_node (c.weigher-w.ensures.tables j) (c.weigher-w.ensures.node j)))
+    i))
     ∙ ap (wide_in_first (program_of x) x.instances.now c.args.values.now c.args.layout.now c.args.weights.now) (let e : suc k ≡ k + 1 = omega arith in e)

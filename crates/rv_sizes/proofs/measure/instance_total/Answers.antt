@@ -13,7 +13,8 @@ use Rattle.rv_sizes.proofs.measure.instance_total.Goals as goal
 pub total_of-requires : goal.total_of-requires
 total_of-requires c =
     let p = program_tree c.args.p.now in
-    let own : c.in_ok-own.own ≡ replicate (length p.nodes) 1 = c.in_ok-own.ensures ∙ ap (λ n. replicate n 1) (c.len.ensures ∙ sym (length_map node_tree c.args.p.now.nodes)) in
+    let own : c.in_ok-own.own ≡ replicate (length p.nodes) 1 = c.in_ok-own.ensures
+    ∙ ap (λ n. replicate n 1) (c.len.ensures ∙ sym (length_map node_tree c.args.p.now.nodes)) in
     record {
       named = c.requires.named;
       nodes = c.requires.nodes;
@@ -25,5 +26,7 @@ total_of-requires c =
 pub returns : goal.returns
 returns c =
     let p = program_tree c.args.p.now in
-    if_ok c.total_of.result (λ (sum : ℕ). sum ≡ capped (total_at c.in_ok-own.own (callings_of p) (length p.nodes) c.args.main)) (λ (sum : ℕ). sum ≡ capped (instance_count p (name_at p c.args.main)))
-    (λ sum is. instances_measured p c.requires.named c.args.main c.requires.main c.in_ok-own.own sum (c.in_ok-own.ensures ∙ ap (λ n. replicate n 1) (c.len.ensures ∙ sym (length_map node_tree c.args.p.now.nodes))) is) c.total_of.ensures
+    if_ok c.total_of.result (λ (sum : ℕ). sum ≡ capped (total_at c.in_ok-own.own (callings_of p) (length p.nodes) c.args.main))
+    (λ (sum : ℕ). sum ≡ capped (instance_count p (name_at p c.args.main)))
+    (λ sum is. instances_measured p c.requires.named c.args.main c.requires.main c.in_ok-own.own sum
+    (c.in_ok-own.ensures ∙ ap (λ n. replicate n 1) (c.len.ensures ∙ sym (length_map node_tree c.args.p.now.nodes))) is) c.total_of.ensures

@@ -20,7 +20,8 @@ integer_inputs_of-requires c =
     let p = program_tree c.args.p.now in
     let n = c.at.result.now in
     let kinds : c.as_slice.result.now ≡ flow_kinds p (node_tree n) =
-    c.as_slice.ensures ∙ main_kinds p c.args.p.now.nodes c.args.t.now.main n refl c.requires.main c.at.ensures.value c.args.t.now.kinds c.at-2.result.now c.requires.kinds c.at-2.ensures.value in
+    c.as_slice.ensures ∙ main_kinds p c.args.p.now.nodes c.args.t.now.main n refl c.requires.main c.at.ensures.value c.args.t.now.kinds c.at-2.result.now
+    c.requires.kinds c.at-2.ensures.value in
     inputs_few p (node_tree n) c.as_slice.result.now kinds
 
 pub returns : goal.returns
@@ -28,7 +29,9 @@ returns c =
     let p = program_tree c.args.p.now in
     let n = c.at.result.now in
     let kinds : c.as_slice.result.now ≡ flow_kinds p (node_tree n) =
-    c.as_slice.ensures ∙ main_kinds p c.args.p.now.nodes c.args.t.now.main n refl c.requires.main c.at.ensures.value c.args.t.now.kinds c.at-2.result.now c.requires.kinds c.at-2.ensures.value in
+    c.as_slice.ensures ∙ main_kinds p c.args.p.now.nodes c.args.t.now.main n refl c.requires.main c.at.ensures.value c.args.t.now.kinds c.at-2.result.now
+    c.requires.kinds c.at-2.ensures.value in
     let count : c.integer_inputs_of.result ≡ integer_inputs p (node_of p (name_at p c.args.t.now.main)) =
-    c.integer_inputs_of.ensures p kinds ∙ ap (integer_inputs p) (sym (main_node p c.args.p.now.nodes c.args.t.now.main n refl c.requires.main c.at.ensures.value c.requires.named)) in
+    c.integer_inputs_of.ensures p kinds ∙ ap (integer_inputs p) (sym (main_node p c.args.p.now.nodes c.args.t.now.main n refl c.requires.main c.at.ensures.value
+    c.requires.named)) in
     grind (arith, count)

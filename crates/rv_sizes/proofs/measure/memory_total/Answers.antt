@@ -13,7 +13,8 @@ use Rattle.rv_sizes.proofs.measure.memory_total.Goals as goal
 pub total_of-requires : goal.total_of-requires
 total_of-requires c =
     let p = program_tree c.args.p.now in
-    let own : c.in_ok-own.own ≡ map (λ (n : NodeTree). capped (integer_memories p n)) p.nodes = integers_measured p c.in_ok-kinds.kinds c.in_ok-own.own c.in_ok-kinds.ensures c.in_ok-own.ensures in
+    let own : c.in_ok-own.own ≡ map (λ (n : NodeTree). capped (integer_memories p n)) p.nodes = integers_measured p c.in_ok-kinds.kinds c.in_ok-own.own
+    c.in_ok-kinds.ensures c.in_ok-own.ensures in
     record {
       named = c.requires.named;
       nodes = c.requires.nodes;
@@ -25,5 +26,7 @@ total_of-requires c =
 pub returns : goal.returns
 returns c =
     let p = program_tree c.args.p.now in
-    if_ok c.total_of.result (λ (sum : ℕ). sum ≡ capped (total_at c.in_ok-own.own (callings_of p) (length p.nodes) c.args.main)) (λ (sum : ℕ). sum ≡ capped (over_instances p (name_at p c.args.main) (integer_memories p)))
-    (λ sum is. sum_measured p c.requires.named c.args.main c.requires.main (integer_memories p) c.in_ok-own.own sum (integers_measured p c.in_ok-kinds.kinds c.in_ok-own.own c.in_ok-kinds.ensures c.in_ok-own.ensures) is) c.total_of.ensures
+    if_ok c.total_of.result (λ (sum : ℕ). sum ≡ capped (total_at c.in_ok-own.own (callings_of p) (length p.nodes) c.args.main))
+    (λ (sum : ℕ). sum ≡ capped (over_instances p (name_at p c.args.main) (integer_memories p)))
+    (λ sum is. sum_measured p c.requires.named c.args.main c.requires.main (integer_memories p) c.in_ok-own.own sum
+    (integers_measured p c.in_ok-kinds.kinds c.in_ok-own.own c.in_ok-kinds.ensures c.in_ok-own.ensures) is) c.total_of.ensures

@@ -26,5 +26,6 @@ at-requires c =
 
 pub returns : goal.returns
 returns c =
-    total_read (program_tree c.args.p.now) c.requires.named c.args.own.now c.in_ok-sums.sums c.args.nodes.now.calls c.args.main c.at.result.now c.requires.main c.requires.nodes.calls
+    total_read (program_tree c.args.p.now) c.requires.named c.args.own.now c.in_ok-sums.sums c.args.nodes.now.calls c.args.main c.at.result.now c.requires.main
+    c.requires.nodes.calls
     c.in_ok-sums.ensures (got c.in_ok-sums.sums c.args.main c.at.result.now 0 c.at.ensures.value)

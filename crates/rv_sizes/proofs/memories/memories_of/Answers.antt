@@ -14,6 +14,7 @@ loop-node-preserved c =
     let x = c.node-item.result in
     let within : k < length nodes = subst (λ n. k < n) (ap length c.as_slice-node-items.ensures) c.loop-node-test.true in
     let is : x ≡ get_or nodes k x = c.node-item.is ∙ (λ i. get_or (c.as_slice-node-items.ensures i) k x) in
-    let found : c.in_ok-own.own ≡ memory_kinds p (node_tree x) = c.in_ok-own.ensures p c.requires.tables (flows_once p c.requires.named (node_tree x) (among_nodes nodes k x within is)) in
+    let found : c.in_ok-own.own ≡ memory_kinds p (node_tree x) = c.in_ok-own.ensures p c.requires.tables
+    (flows_once p c.requires.named (node_tree x) (among_nodes nodes k x within is)) in
     ap (λ (l : List (List Kind)). l ++ map (memory_kinds p) (map node_tree (drop (k + 1) nodes))) c.in_ok-push.ensures.ok
     ∙ one_more nodes k x within is (memory_kinds p) c.loop-node.kinds c.in_ok-own.own (map (memory_kinds p) (map node_tree nodes)) c.loop-node.invariant found

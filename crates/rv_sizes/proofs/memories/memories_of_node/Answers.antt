@@ -23,9 +23,12 @@ returns c p t different =
     let both : c.gather_assertions.new.found ≡ sites_read names (delays_in_equations n.equations) ++ sites_read names (delays_in_assertions n.assertions) =
     c.in_ok-gather_assertions.ensures ∙ (λ i. first i ++ sites_read names (delays_in_assertions (map assertion_tree (c.as_slice-2.ensures i)))) in
     let sites : c.as_slice-3.result.now ≡ sites_read names (node_delays n) =
-    c.as_slice-3.ensures ∙ both ∙ sym (map-append (λ (d : Delay). site_in names d.site d.operand) (delays_in_equations n.equations) (delays_in_assertions n.assertions)) in
+    c.as_slice-3.ensures ∙ both ∙ sym (map-append (λ (d : Delay). site_in names d.site d.operand) (delays_in_equations n.equations)
+    (delays_in_assertions n.assertions)) in
     let kinds : c.as_slice-4.result.now ≡ delayed_kinds (scope_of (view_of tables own)) (node_delays n) = c.as_slice-4.ensures ∙ c.in_ok-kinds.ensures in
     let all : paired c.as_slice-4.result.now 0 c.as_slice-3.result.now ≡ reads tables own (node_delays n) =
     (λ i. paired (kinds i) 0 (sites i)) ∙ paired_reads tables own (node_delays n) in
-    if_ok c.different_kinds.result (λ (ks : List Kind). ks ≡ kinds_beside [] (paired c.as_slice-4.result.now 0 c.as_slice-3.result.now)) (λ (ks : List Kind). ks ≡ memory_kinds p n)
-    (λ ks is. is ∙ remembered p n tables own (paired c.as_slice-4.result.now 0 c.as_slice-3.result.now) (c.in_ok-own.ensures.scope p t different) (c.in_ok-own.ensures.flows different) all) c.different_kinds.ensures
+    if_ok c.different_kinds.result (λ (ks : List Kind). ks ≡ kinds_beside [] (paired c.as_slice-4.result.now 0 c.as_slice-3.result.now))
+    (λ (ks : List Kind). ks ≡ memory_kinds p n)
+    (λ ks is. is ∙ remembered p n tables own (paired c.as_slice-4.result.now 0 c.as_slice-3.result.now) (c.in_ok-own.ensures.scope p t different)
+    (c.in_ok-own.ensures.flows different) all) c.different_kinds.ensures

@@ -10,5 +10,6 @@ use Rattle.rv_sizes.proofs.order_tests.+tests.Given as goal
 abbrev pub invariant-tests_in_list-loop-e : goal.invariant-tests_in_list-loop-e
 invariant-tests_in_list-loop-e l = record {
   bound : l.sum ≤ heaviest;
-  sum : capped (l.sum + tests_of_all (scope_of (view_of l.tables l.node)) (trees (map tree_of (drop l.e-index l.expressions)))) ≡ capped (tests_of_all (scope_of (view_of l.tables l.node)) (trees (map tree_of l.expressions)));
+  sum : capped (l.sum + tests_of_all (scope_of (view_of l.tables l.node)) (trees (map tree_of (drop l.e-index l.expressions)))) ≡ capped
+      (tests_of_all (scope_of (view_of l.tables l.node)) (trees (map tree_of l.expressions)));
 }

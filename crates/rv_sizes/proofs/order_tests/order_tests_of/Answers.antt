@@ -16,6 +16,8 @@ loop-node-preserved c =
     let is : x ≡ get_or nodes k x = c.node-item.is ∙ (λ i. get_or (c.as_slice-node-items.ensures i) k x) in
     let there = among_nodes nodes k x within is in
     let found : c.in_ok-count.count ≡ capped (order_tests p (node_tree x)) =
-    c.in_ok-count.ensures p c.requires.tables (flows_once p c.requires.named (node_tree x) there) (c.requires.well.formed (node_tree x) there) (c.requires.well.typed (node_tree x) there) in
+    c.in_ok-count.ensures p c.requires.tables (flows_once p c.requires.named (node_tree x) there) (c.requires.well.formed (node_tree x) there)
+    (c.requires.well.typed (node_tree x) there) in
     ap (λ (l : List ℕ). l ++ map (λ (n : NodeTree). capped (order_tests p n)) (map node_tree (drop (k + 1) nodes))) c.in_ok-push.ensures.ok
-    ∙ one_more nodes k x within is (λ (n : NodeTree). capped (order_tests p n)) c.loop-node.own c.in_ok-count.count (map (λ (n : NodeTree). capped (order_tests p n)) (map node_tree nodes)) c.loop-node.invariant found
+    ∙ one_more nodes k x within is (λ (n : NodeTree). capped (order_tests p n)) c.loop-node.own c.in_ok-count.count
+    (map (λ (n : NodeTree). capped (order_tests p n)) (map node_tree nodes)) c.loop-node.invariant found

@@ -16,5 +16,7 @@ returns c p t different formed typed =
     let s = scope_of (view_of c.args.tables.now c.in_ok-own.own) in
     c.capped_sum.ensures
     ∙ capped_tests p n s c.tests_in_equations.result c.tests_in_assertions.result (c.in_ok-own.ensures.scope p t different) formed typed
-    (c.tests_in_equations.ensures ∙ ap (λ (es : List Equation). capped (total (λ (q : EquationTree). tests s q.right) (map equation_tree es))) c.as_slice.ensures)
-    (c.tests_in_assertions.ensures ∙ ap (λ (es : List Assertion). capped (total (λ (a : AssertionTree). tests s a.body) (map assertion_tree es))) c.as_slice-2.ensures)
+    (c.tests_in_equations.ensures ∙ ap (λ (es : List Equation). capped (total (λ (q : EquationTree). tests s q.right) (map equation_tree es)))
+    c.as_slice.ensures)
+    (c.tests_in_assertions.ensures ∙ ap (λ (es : List Assertion). capped (total (λ (a : AssertionTree). tests s a.body) (map assertion_tree es)))
+    c.as_slice-2.ensures)

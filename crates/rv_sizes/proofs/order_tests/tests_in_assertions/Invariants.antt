@@ -11,5 +11,7 @@ use Rattle.rv_sizes.proofs.order_tests.tests_in_assertions.Given as goal
 abbrev pub invariant-loop-assertion : goal.invariant-loop-assertion
 invariant-loop-assertion l = record {
   bound : l.sum ≤ heaviest;
-  sum : capped (l.sum + total (λ (a : AssertionTree). tests (scope_of (view_of l.tables l.node)) a.body) (map assertion_tree (drop l.assertion-index l.assertions))) ≡ capped (total (λ (a : AssertionTree). tests (scope_of (view_of l.tables l.node)) a.body) (map assertion_tree l.assertions));
+  sum : capped (l.sum + total (λ (a : AssertionTree). tests (scope_of (view_of l.tables l.node)) a.body)
+      (map assertion_tree (drop l.assertion-index l.assertions))) ≡ capped
+      (total (λ (a : AssertionTree). tests (scope_of (view_of l.tables l.node)) a.body) (map assertion_tree l.assertions));
 }

@@ -11,5 +11,7 @@ use Rattle.rv_sizes.proofs.order_tests.tests_in_equations.Given as goal
 abbrev pub invariant-loop-equation : goal.invariant-loop-equation
 invariant-loop-equation l = record {
   bound : l.sum ≤ heaviest;
-  sum : capped (l.sum + total (λ (q : EquationTree). tests (scope_of (view_of l.tables l.node)) q.right) (map equation_tree (drop l.equation-index l.equations))) ≡ capped (total (λ (q : EquationTree). tests (scope_of (view_of l.tables l.node)) q.right) (map equation_tree l.equations));
+  sum : capped (l.sum + total (λ (q : EquationTree). tests (scope_of (view_of l.tables l.node)) q.right)
+      (map equation_tree (drop l.equation-index l.equations))) ≡ capped
+      (total (λ (q : EquationTree). tests (scope_of (view_of l.tables l.node)) q.right) (map equation_tree l.equations));
 }

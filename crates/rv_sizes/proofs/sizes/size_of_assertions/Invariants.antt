@@ -9,5 +9,6 @@ use Rattle.rv_sizes.proofs.sizes.size_of_assertions.Given as goal
 abbrev pub invariant-loop-assertion : goal.invariant-loop-assertion
 invariant-loop-assertion l = record {
   bound : l.sum ≤ heaviest;
-  sum : capped (l.sum + total (λ (a : AssertionTree). size a.body) (map assertion_tree (drop l.assertion-index l.assertions))) ≡ capped (total (λ (a : AssertionTree). size a.body) (map assertion_tree l.assertions));
+  sum : capped (l.sum + total (λ (a : AssertionTree). size a.body) (map assertion_tree (drop l.assertion-index l.assertions))) ≡ capped
+      (total (λ (a : AssertionTree). size a.body) (map assertion_tree l.assertions));
 }

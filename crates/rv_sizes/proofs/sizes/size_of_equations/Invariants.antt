@@ -9,5 +9,6 @@ use Rattle.rv_sizes.proofs.sizes.size_of_equations.Given as goal
 abbrev pub invariant-loop-equation : goal.invariant-loop-equation
 invariant-loop-equation l = record {
   bound : l.sum ≤ heaviest;
-  sum : capped (l.sum + total (λ (q : EquationTree). size q.right) (map equation_tree (drop l.equation-index l.equations))) ≡ capped (total (λ (q : EquationTree). size q.right) (map equation_tree l.equations));
+  sum : capped (l.sum + total (λ (q : EquationTree). size q.right) (map equation_tree (drop l.equation-index l.equations))) ≡ capped
+      (total (λ (q : EquationTree). size q.right) (map equation_tree l.equations));
 }

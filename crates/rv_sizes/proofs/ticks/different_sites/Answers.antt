@@ -11,7 +11,8 @@ loop-clock-preserved c =
     let n = c.loop-clock.count in
     let new = c.in_ok-is_new.field-0 in
     let next : cond new (n + 1) n + length (sites_of_clocks c.is_new.new.seen (drop (i + 1) ks)) ≡ length (sites_of_clocks [] ks) =
-    counted_more ks i c.loop-clock.seen c.is_new.new.seen new n (length (sites_of_clocks [] ks)) c.loop-clock-test.true c.loop-clock.invariant.count c.in_ok-is_new.ensures.new c.in_ok-is_new.ensures.sites in
+    counted_more ks i c.loop-clock.seen c.is_new.new.seen new n (length (sites_of_clocks [] ks)) c.loop-clock-test.true c.loop-clock.invariant.count
+    c.in_ok-is_new.ensures.new c.in_ok-is_new.ensures.sites in
     elim c.if-branch.branch [
       | then-branch w ↦
           let one = ap (λ b. cond b (n + 1) n + length (sites_of_clocks c.is_new.new.seen (drop (i + 1) ks))) w.if-branch.true in

@@ -5,5 +5,7 @@ use Rattle.rv_sizes.proofs.ticks.gather_assertions.Given as goal
 
 abbrev pub invariant-loop-assertion : goal.invariant-loop-assertion
 invariant-loop-assertion l =
-    l.found ++ flat_map (λ (a : AssertionTree). walked (node_tree l.walk.clocks.now.node.now) (ticks_on_base l.walk.names.now l.walk.bases.now) a.body) (map assertion_tree (drop l.assertion-index l.assertions))
-    ≡ l.initial.found ++ flat_map (λ (a : AssertionTree). walked (node_tree l.walk.clocks.now.node.now) (ticks_on_base l.walk.names.now l.walk.bases.now) a.body) (map assertion_tree l.assertions)
+    l.found ++ flat_map (λ (a : AssertionTree). walked (node_tree l.walk.clocks.now.node.now) (ticks_on_base l.walk.names.now l.walk.bases.now) a.body)
+    (map assertion_tree (drop l.assertion-index l.assertions))
+    ≡ l.initial.found ++ flat_map (λ (a : AssertionTree). walked (node_tree l.walk.clocks.now.node.now) (ticks_on_base l.walk.names.now l.walk.bases.now)
+    a.body) (map assertion_tree l.assertions)

@@ -28,8 +28,10 @@ pub returns : goal.returns
 returns c =
     let p = program_tree c.args.p.now in
     let main = name_at p c.args.main in
-    if_ok c.total_of.result (λ (sum : ℕ). sum ≡ capped (total_at c.in_ok-ticks.ticks.own (callings_of p) (length p.nodes) c.args.main)) (λ (sum : ℕ). sum ≡ capped (length (ticks p main)))
+    if_ok c.total_of.result (λ (sum : ℕ). sum ≡ capped (total_at c.in_ok-ticks.ticks.own (callings_of p) (length p.nodes) c.args.main))
+    (λ (sum : ℕ). sum ≡ capped (length (ticks p main)))
     (λ sum is.
     sum_measured p c.requires.named c.args.main c.requires.main (own_ticks p) c.in_ok-ticks.ticks.own sum c.in_ok-ticks.ensures is
-    ∙ ap capped (sym (ticks_summed p c.requires.named c.args.nodes.now.order c.requires.nodes.order c.requires.sited main (name_declared p c.requires.named c.args.main c.requires.main))))
+    ∙ ap capped (sym (ticks_summed p c.requires.named c.args.nodes.now.order c.requires.nodes.order c.requires.sited main
+    (name_declared p c.requires.named c.args.main c.requires.main))))
     c.total_of.ensures

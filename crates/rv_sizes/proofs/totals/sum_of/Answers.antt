@@ -21,5 +21,6 @@ capped_sum-sum-requires-clause-b c =
 pub loop-call-preserved : goal.loop-call-preserved
 loop-call-preserved c =
     let callee = (get_or c.args.calls.now c.loop-call.call-index (record { at = 0; site = 0; callee = 0 })).callee in
-    called_more c.args.totals.now c.args.own c.args.calls.now c.loop-call.call-index c.loop-call.sum c.capped_sum-sum.result c.at.result.now (omega arith) c.loop-call.invariant
+    called_more c.args.totals.now c.args.own c.args.calls.now c.loop-call.call-index c.loop-call.sum c.capped_sum-sum.result c.at.result.now
+    (omega arith) c.loop-call.invariant
     (sym (got c.args.totals.now callee c.at.result.now 0 c.at.ensures.value)) c.capped_sum-sum.ensures

@@ -23,14 +23,18 @@ at-requires-2 c =
     subst (λ n. c.args.t.now.main < n) (sym (ap length c.requires.kinds ∙ length_map (flow_kinds p) p.nodes)) c.requires.main
 
 pub bits_of_kinds-requires : goal.bits_of_kinds-requires
-bits_of_kinds-requires c = record { few = λ k. subst (λ (ds : List TypeDecl). labels_at ds k ≤ heaviest) (sym c.as_slice.ensures) (few_labels (program_tree c.args.p.now) c.requires.bounded k) }
+bits_of_kinds-requires c = record {
+  few = λ k. subst (λ (ds : List TypeDecl). labels_at ds k ≤ heaviest) (sym c.as_slice.ensures)
+      (few_labels (program_tree c.args.p.now) c.requires.bounded k);
+}
 
 pub slice_bounds-bits_of_kinds-end : goal.slice_bounds-bits_of_kinds-end
 slice_bounds-bits_of_kinds-end c =
     let p = program_tree c.args.p.now in
     let n = c.at.result.now in
     let kinds : c.as_slice-kinds.result.now ≡ flow_kinds p (node_tree n) =
-    c.as_slice-kinds.ensures ∙ main_kinds p c.args.p.now.nodes c.args.t.now.main n refl c.requires.main c.at.ensures.value c.args.t.now.kinds c.at-2.result.now c.requires.kinds c.at-2.ensures.value in
+    c.as_slice-kinds.ensures ∙ main_kinds p c.args.p.now.nodes c.args.t.now.main n refl c.requires.main c.at.ensures.value c.args.t.now.kinds c.at-2.result.now
+    c.requires.kinds c.at-2.ensures.value in
     let few = inputs_few p (node_tree n) c.as_slice-kinds.result.now kinds in
     let count = c.len-count.ensures in
     let all = take_length c.len-count.result c.as_slice-kinds.result.now (omega (arith, few, count)) in
@@ -41,7 +45,8 @@ returns c =
     let p = program_tree c.args.p.now in
     let n = c.at.result.now in
     let kinds : c.as_slice-kinds.result.now ≡ flow_kinds p (node_tree n) =
-    c.as_slice-kinds.ensures ∙ main_kinds p c.args.p.now.nodes c.args.t.now.main n refl c.requires.main c.at.ensures.value c.args.t.now.kinds c.at-2.result.now c.requires.kinds c.at-2.ensures.value in
+    c.as_slice-kinds.ensures ∙ main_kinds p c.args.p.now.nodes c.args.t.now.main n refl c.requires.main c.at.ensures.value c.args.t.now.kinds c.at-2.result.now
+    c.requires.kinds c.at-2.ensures.value in
     let named = main_node p c.args.p.now.nodes c.args.t.now.main n refl c.requires.main c.at.ensures.value c.requires.named in
     c.bits_of_kinds.ensures
     ∙ (λ i. capped (bits_of_all (c.as_slice.ensures i) (take (c.len-count.ensures i) c.as_slice-kinds.result.now)))

@@ -16,13 +16,17 @@ use Rattle.rv_sizes.proofs.Varied.{few_labels, bits_measured}
 use Rattle.rv_sizes.proofs.variables.memory_bit_total.Goals as goal
 
 pub memory_bits_of-requires : goal.memory_bits_of-requires
-memory_bits_of-requires c = record { few = λ k. subst (λ (ds : List TypeDecl). labels_at ds k ≤ heaviest) (sym c.as_slice.ensures) (few_labels (program_tree c.args.p.now) c.requires.bounded k) }
+memory_bits_of-requires c = record {
+  few = λ k. subst (λ (ds : List TypeDecl). labels_at ds k ≤ heaviest) (sym c.as_slice.ensures)
+      (few_labels (program_tree c.args.p.now) c.requires.bounded k);
+}
 
 pub total_of-requires : goal.total_of-requires
 total_of-requires c =
     let p = program_tree c.args.p.now in
     let own : c.in_ok-own.own ≡ map (λ (n : NodeTree). capped (memory_bits p n)) p.nodes =
-    bits_measured p c.in_ok-kinds.kinds c.in_ok-own.own c.in_ok-kinds.ensures (c.in_ok-own.ensures ∙ ap (λ (ds : List TypeDecl). map (λ (ks : List Kind). capped (bits_of_all ds ks)) c.in_ok-kinds.kinds) c.as_slice.ensures) in
+    bits_measured p c.in_ok-kinds.kinds c.in_ok-own.own c.in_ok-kinds.ensures
+    (c.in_ok-own.ensures ∙ ap (λ (ds : List TypeDecl). map (λ (ks : List Kind). capped (bits_of_all ds ks)) c.in_ok-kinds.kinds) c.as_slice.ensures) in
     record {
       named = c.requires.named;
       nodes = c.requires.nodes;
@@ -35,6 +39,8 @@ pub returns : goal.returns
 returns c =
     let p = program_tree c.args.p.now in
     let own : c.in_ok-own.own ≡ map (λ (n : NodeTree). capped (memory_bits p n)) p.nodes =
-    bits_measured p c.in_ok-kinds.kinds c.in_ok-own.own c.in_ok-kinds.ensures (c.in_ok-own.ensures ∙ ap (λ (ds : List TypeDecl). map (λ (ks : List Kind). capped (bits_of_all ds ks)) c.in_ok-kinds.kinds) c.as_slice.ensures) in
-    if_ok c.total_of.result (λ (sum : ℕ). sum ≡ capped (total_at c.in_ok-own.own (callings_of p) (length p.nodes) c.args.main)) (λ (sum : ℕ). sum ≡ capped (over_instances p (name_at p c.args.main) (memory_bits p)))
+    bits_measured p c.in_ok-kinds.kinds c.in_ok-own.own c.in_ok-kinds.ensures
+    (c.in_ok-own.ensures ∙ ap (λ (ds : List TypeDecl). map (λ (ks : List Kind). capped (bits_of_all ds ks)) c.in_ok-kinds.kinds) c.as_slice.ensures) in
+    if_ok c.total_of.result (λ (sum : ℕ). sum ≡ capped (total_at c.in_ok-own.own (callings_of p) (length p.nodes) c.args.main))
+    (λ (sum : ℕ). sum ≡ capped (over_instances p (name_at p c.args.main) (memory_bits p)))
     (λ sum is. sum_measured p c.requires.named c.args.main c.requires.main (memory_bits p) c.in_ok-own.own sum own is) c.total_of.ensures

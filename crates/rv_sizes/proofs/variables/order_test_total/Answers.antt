@@ -23,5 +23,6 @@ total_of-requires c =
 pub returns : goal.returns
 returns c =
     let p = program_tree c.args.p.now in
-    if_ok c.total_of.result (λ (sum : ℕ). sum ≡ capped (total_at c.in_ok-own.own (callings_of p) (length p.nodes) c.args.main)) (λ (sum : ℕ). sum ≡ capped (over_instances p (name_at p c.args.main) (order_tests p)))
+    if_ok c.total_of.result (λ (sum : ℕ). sum ≡ capped (total_at c.in_ok-own.own (callings_of p) (length p.nodes) c.args.main))
+    (λ (sum : ℕ). sum ≡ capped (over_instances p (name_at p c.args.main) (order_tests p)))
     (λ sum is. sum_measured p c.requires.named c.args.main c.requires.main (order_tests p) c.in_ok-own.own sum c.in_ok-own.ensures is) c.total_of.ensures

@@ -19,6 +19,7 @@ returns c bytes p is =
           (All-append IsSmallPart (flat_map (λ q. parts q.right) n.equations) (flat_map (λ a. parts a.body) n.assertions)
           (joined_small (λ q. parts q.right) n.equations (λ q w. parts_small q.right (literals.equations n q inside w)))
           (joined_small (λ a. parts a.body) n.assertions (λ a w. parts_small a.body (literals.assertions n a inside w)))) among;
-      in_constants = λ k at v site inside among. All-contains IsSmallPart (parts k.body) (Node at site (Number v)) (parts_small k.body (literals.constants k inside)) among;
+      in_constants = λ k at v site inside among. All-contains IsSmallPart (parts k.body) (Node at site (Number v))
+          (parts_small k.body (literals.constants k inside)) among;
       constants = λ z among. All-contains (λ w. size w ≤ too_heavy) (constant_values p) (Whole z) (constants_small p) among;
     }

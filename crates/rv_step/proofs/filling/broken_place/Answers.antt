@@ -28,9 +28,11 @@ is_false-requires-clause-ready c =
     let items = c.as_slice-assertion-items.result.now in
     let long = ap length c.as_slice-assertion-items.ensures in
     let here : get_or (assertion_trees f) k no_assertion ≡ tree_among f.memories c.assertion-item.result =
-    read_at (tree_among f.memories) f.assertions items k c.assertion-item.result no_assertion c.as_slice-assertion-items.ensures c.loop-assertion-test.true c.assertion-item.is in
+    read_at (tree_among f.memories) f.assertions items k c.assertion-item.result no_assertion c.as_slice-assertion-items.ensures c.loop-assertion-test.true
+    c.assertion-item.is in
     record {
-      tame = subst (IsTame (found_at now inputs) row) here (assertion_tame f now inputs c.requires.state c.requires.inputs row c.requires.row k (omega (arith, long)));
+      tame = subst (IsTame (found_at now inputs) row) here (assertion_tame f now inputs c.requires.state c.requires.inputs row c.requires.row k
+          (omega (arith, long)));
       over = subst (IsOver (length row)) here (assertion_over f now inputs c.requires.state c.requires.inputs row c.requires.row k (omega (arith, long)));
     }
 
@@ -45,7 +47,8 @@ loop-assertion-preserved c =
     let item = c.assertion-item.result in
     let places = map (λ e. e.at.sites) f.assertions in
     let test = is_broken f now inputs row in
-    let here : get_or places k [] ≡ item.at.sites = read_at (λ e. e.at.sites) f.assertions items k item [] c.as_slice-assertion-items.ensures c.loop-assertion-test.true c.assertion-item.is in
+    let here : get_or places k [] ≡ item.at.sites = read_at (λ e. e.at.sites) f.assertions items k item [] c.as_slice-assertion-items.ensures
+    c.loop-assertion-test.true c.assertion-item.is in
     let tree : get_or (assertion_trees f) k no_assertion ≡ tree_among f.memories item =
     read_at (tree_among f.memories) f.assertions items k item no_assertion c.as_slice-assertion-items.ensures c.loop-assertion-test.true c.assertion-item.is in
     let tested : test k ≡ c.is_false.result = ap (λ t. not (is_true (value_at now inputs row t))) tree ∙ sym c.is_false.ensures.broken in
@@ -66,5 +69,6 @@ returns c =
     let f = c.args.flat.now in
     let long = ap length c.as_slice-assertion-items.ensures in
     let all : c.loop-assertion.assertion-index ≡ length f.assertions = omega (arith, long) in
-    subst (λ n. IsLeastOf (IsPicked (is_broken f c.args.now.now c.args.input.now c.args.row.now) (map (λ e. e.at.sites) f.assertions) n) (option_copied c.loop-assertion.least))
+    subst (λ n. IsLeastOf (IsPicked (is_broken f c.args.now.now c.args.input.now c.args.row.now) (map (λ e. e.at.sites) f.assertions) n)
+    (option_copied c.loop-assertion.least))
     all c.loop-assertion.invariant.least

@@ -3,4 +3,9 @@ use Rattle.std.specs.Prelude.{None as Nothing}
 use Rattle.rv_step.proofs.filling.none_shown.Given as goal
 
 abbrev pub invariant-loop : goal.invariant-loop
-invariant-loop l = record { many : length l.shown ≡ l.counter; within : l.counter ≤ length l.flat.memories; none : (m : ℕ) → get_or l.shown m Nothing ≡ Nothing }
+invariant-loop l = record {
+  many : length l.shown ≡ l.counter;
+  within : l.counter ≤ length l.flat.memories;
+  none : (m : ℕ)
+      → get_or l.shown m Nothing ≡ Nothing;
+}

@@ -26,8 +26,10 @@ flow_value-value-requires-clause-ready c =
     let here : nth_item (flow_items f) n ≡ flow_item f.memories c.flow-item.result =
     read_at (flow_item f.memories) f.flows items n c.flow-item.result no_item c.as_slice-flow-items.ensures c.loop-flow-test.true c.flow-item.is in
     record {
-      tame = subst (λ (x : Item). IsTame (found_at now inputs) row x.body) here (flow_tame f now inputs c.requires.state c.requires.inputs n row (omega (arith, long)) c.loop-flow.invariant.filled (omega (arith, long)));
-      over = subst (λ (x : Item). IsOver (length row) x.body) here (flow_over f now inputs c.requires.state c.requires.inputs n row (omega (arith, long)) c.loop-flow.invariant.filled (omega (arith, long)));
+      tame = subst (λ (x : Item). IsTame (found_at now inputs) row x.body) here
+          (flow_tame f now inputs c.requires.state c.requires.inputs n row (omega (arith, long)) c.loop-flow.invariant.filled (omega (arith, long)));
+      over = subst (λ (x : Item). IsOver (length row) x.body) here (flow_over f now inputs c.requires.state c.requires.inputs n row
+          (omega (arith, long)) c.loop-flow.invariant.filled (omega (arith, long)));
     }
 
 pub loop-flow-preserved : goal.loop-flow-preserved
@@ -43,7 +45,8 @@ loop-flow-preserved c =
     read_at (flow_item f.memories) f.flows items n c.flow-item.result no_item c.as_slice-flow-items.ensures c.loop-flow-test.true c.flow-item.is in
     record {
       filled = subst (IsFilled f now inputs (n + 1)) (sym c.in_ok-push.ensures.ok)
-          (one_filled f now inputs n row c.flow_value-value.result (omega (arith, long)) (c.flow_value-value.ensures.value ∙ ap (item_value now inputs row) (sym here)) c.loop-flow.invariant.filled);
+          (one_filled f now inputs n row c.flow_value-value.result (omega (arith, long))
+          (c.flow_value-value.ensures.value ∙ ap (item_value now inputs row) (sym here)) c.loop-flow.invariant.filled);
       shown = subst (λ r. AreShown f.memories (found_at now inputs) r c.flow_value-value.new.shown) (sym c.in_ok-push.ensures.ok)
           (shown_more f.memories (found_at now inputs) row c.flow_value-value.result c.flow_value-value.new.shown c.flow_value-value.ensures.shown);
     }

@@ -13,17 +13,21 @@ loop-number-preserved c =
     let places = map (λ g. g.place.sites) c.args.flows.now in
     let n = c.loop-number.number in
     let item = c.index-flows-number.result in
-    let here : get_or places n [] ≡ item.place.sites = get_or-map (λ g. g.place.sites) c.args.flows.now n item [] (omega arith) ∙ ap (λ g. g.place.sites) (sym c.index-flows-number.is) in
+    let here : get_or places n [] ≡ item.place.sites = get_or-map (λ g. g.place.sites) c.args.flows.now n item [] (omega arith)
+    ∙ ap (λ g. g.place.sites) (sym c.index-flows-number.is) in
     elim c.if-is_grown_flow.branch [
       | then-is_grown_flow w ↦ subst (λ least. IsLeastOf (IsPicked (is_grown_flow c.args.row.now) places (n + 1)) least)
           (sym (ap option_copied w.least-is ∙ ap (λ p. Some p) w.sooner.ensures))
-          (picked_yes (is_grown_flow c.args.row.now) places n (option_copied c.loop-number.least) item.place (sym c.is_grown_flow.ensures ∙ w.if-is_grown_flow.true) here c.loop-number.invariant)
+          (picked_yes (is_grown_flow c.args.row.now) places n (option_copied c.loop-number.least) item.place
+          (sym c.is_grown_flow.ensures ∙ w.if-is_grown_flow.true) here c.loop-number.invariant)
       | else-is_grown_flow w ↦ subst (λ least. IsLeastOf (IsPicked (is_grown_flow c.args.row.now) places (n + 1)) (option_copied least))
           (sym w.least-is)
-          (picked_no (is_grown_flow c.args.row.now) places n (option_copied c.loop-number.least) (sym c.is_grown_flow.ensures ∙ w.if-is_grown_flow.false) c.loop-number.invariant)
+          (picked_no (is_grown_flow c.args.row.now) places n (option_copied c.loop-number.least) (sym c.is_grown_flow.ensures ∙ w.if-is_grown_flow.false)
+          c.loop-number.invariant)
     ]
 
 pub returns : goal.returns
 returns c =
     let all : c.loop-number.number ≡ length c.args.flows.now = omega arith in
-    subst (λ n. IsLeastOf (IsPicked (is_grown_flow c.args.row.now) (map (λ g. g.place.sites) c.args.flows.now) n) (option_copied c.loop-number.least)) all c.loop-number.invariant
+    subst (λ n. IsLeastOf (IsPicked (is_grown_flow c.args.row.now) (map (λ g. g.place.sites) c.args.flows.now) n) (option_copied c.loop-number.least)) all
+    c.loop-number.invariant

@@ -16,9 +16,11 @@ returns-in-Some c =
     let a : IsLeastOf (IsPicked (is_grown_flow row) (places f) (length f.flows)) first =
     subst (λ fs. IsLeastOf (IsPicked (is_grown_flow row) (map (λ g. g.place.sites) fs) (length fs)) first) c.as_slice.ensures c.grown_flow-first.ensures in
     let b : IsLeast (IsPicked (is_grown_memory kept) (memory_places f) (length f.memories)) c.in-Some.place.now.sites =
-    subst (λ ms. IsLeast (IsPicked (is_grown_memory kept) (map (λ m. m.place.sites) ms) (length ms)) c.in-Some.place.now.sites) c.as_slice-2.ensures c.in-Some.ensures in
+    subst (λ ms. IsLeast (IsPicked (is_grown_memory kept) (map (λ m. m.place.sites) ms) (length ms)) c.in-Some.place.now.sites) c.as_slice-2.ensures
+    c.in-Some.ensures in
     subst (λ p. IsLeast (IsGrownAt f row kept) p.sites) (sym c.sooner.ensures)
-    (least_joined (IsPicked (is_grown_flow row) (places f) (length f.flows)) (IsPicked (is_grown_memory kept) (memory_places f) (length f.memories)) first c.in-Some.place.now a b)
+    (least_joined (IsPicked (is_grown_flow row) (places f) (length f.flows)) (IsPicked (is_grown_memory kept) (memory_places f) (length f.memories)) first
+    c.in-Some.place.now a b)
 
 pub returns-in-None : goal.returns-in-None
 returns-in-None c =

@@ -12,7 +12,8 @@ returns-in-Some-clause-fault c =
       row,
       c.in_ok-values.ensures.instant,
       subst (λ p. IsLeast (IsGrown f c.args.now.now c.args.input.now row) p.sites) (sym c.in_ok-copy_of.ensures)
-          (grown_places f c.args.now.now c.args.input.now row c.requires.state c.in_ok-kept.kept c.in_ok-kept.ensures.kept (Some c.in-Some.place.now) c.in-Some.ensures),
+          (grown_places f c.args.now.now c.args.input.now row c.requires.state c.in_ok-kept.kept c.in_ok-kept.ensures.kept (Some c.in-Some.place.now)
+          c.in-Some.ensures),
     )
 
 pub returns-clause-stepped : goal.returns-clause-stepped
@@ -26,7 +27,8 @@ returns-clause-stepped c =
       instant = c.in_ok-values.ensures.instant;
       next = next f now inputs row c.requires.state kept c.in_ok-kept.ensures.kept c.in_ok-ticked.ticked c.in_ok-ticked.ensures;
       observer = c.is_flow_on.ensures;
-      broken = subst (IsLeastOf (IsFlatBroken f now inputs row)) (sym c.in_ok-broken.ensures) (broken_places f now inputs row (option_copied c.broken_place.result) c.broken_place.ensures);
+      broken = subst (IsLeastOf (IsFlatBroken f now inputs row)) (sym c.in_ok-broken.ensures)
+          (broken_places f now inputs row (option_copied c.broken_place.result) c.broken_place.ensures);
       within = grown_places f now inputs row c.requires.state kept c.in_ok-kept.ensures.kept None c.in_default.ensures;
       state = next_state f now inputs row c.requires.state kept c.in_ok-kept.ensures.kept c.in_ok-ticked.ticked c.in_ok-ticked.ensures c.in_default.ensures;
     }

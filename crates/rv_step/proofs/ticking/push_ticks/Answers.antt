@@ -15,6 +15,7 @@ loop-flow-preserved c =
     let tick : c.if-had_ticked.tick ≡ (get_or had (length old) false || is_on_at row (Some (get_or flows i 0))) =
     elim c.if-had_ticked.branch [
       | then-had_ticked w ↦ w.tick-is ∙ w.if-had_ticked.true ∙ ap (λ (b : Bool). b || is_on_at row (Some (get_or flows i 0))) (sym w.if-had_ticked.true ∙ here)
-      | else-had_ticked w ↦ w.tick-is ∙ w.is_flow_on-tick.ensures ∙ ap (λ (b : Bool). b || is_on_at row (Some (get_or flows i 0))) (sym w.if-had_ticked.false ∙ here)
+      | else-had_ticked w ↦ w.tick-is ∙ w.is_flow_on-tick.ensures ∙ ap (λ (b : Bool). b || is_on_at row (Some (get_or flows i 0)))
+          (sym w.if-had_ticked.false ∙ here)
     ] in
     one_tick row had flows i c.if-had_ticked.tick old c.push.new.self _ c.loop-flow-test.true tick c.in_ok-push.ensures.ok c.loop-flow.invariant

@@ -17,7 +17,8 @@ returns c =
     let f = c.args.flat.now in
     let row = c.args.row.now in
     let had = c.args.now.now.ticked in
-    let known : f.tick_flows ≡ numbers_among (places f) (tick_places f.variables) = same_text f.tick_flows (numbers_among (places f) (tick_places f.variables)) f.tick_numbers in
+    let known : f.tick_flows ≡ numbers_among (places f) (tick_places f.variables) = same_text f.tick_flows (numbers_among (places f) (tick_places f.variables))
+    f.tick_numbers in
     let first = c.in_ok-push.ensures.ok ∙ ap (λ l. l ++ true ∷ []) c.new-ticked.ensures in
     c.in_ok-push_ticks.ensures
     ∙ (λ i. first i ++ ticks_from row had (length (first i)) (map (λ k. Some k) (c.as_slice.ensures i)))

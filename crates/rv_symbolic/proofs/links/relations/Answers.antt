@@ -14,7 +14,8 @@ loop-end-preserved c =
     c.in_ok-links.links.relation c.in_ok-links.links.start c.loop-end.end n c.requires.next (omega (arith, below)) c.loop-end.invariant.within (omega arith)
     c.loop-end.invariant.parted c.in_ok-links.ensures.ok in
     record {
-      parted = subst (λ (l : List ℕ). AreParted c.args.store.now c.part.new.store c.args.next.now c.in_ok-links.links.start n l) (sym c.in_ok-push.ensures.items) more;
+      parted = subst (λ (l : List ℕ). AreParted c.args.store.now c.part.new.store c.args.next.now c.in_ok-links.links.start n l)
+          (sym c.in_ok-push.ensures.items) more;
       within = omega (arith, below, c.loop-end.invariant.within);
     }
 

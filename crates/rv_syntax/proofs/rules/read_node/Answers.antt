@@ -14,20 +14,25 @@ pub returns-in_err-locals : goal.returns-in_err-locals
 returns-in_err-locals c =
     let p = err_from_is_err_and c.from_residual-in_err-locals.result c.from_residual-in_err-locals.ensures.1 in
     let ts = c.args.parser.now.rest in
-    rw (p.1, p.2) (stop-through {X = Node} {Y = List Decl} node_tree same (node ts) (mapped joined (vars c.read_outputs.new.parser.rest)) c.in_err-locals.field-0.0 c.read_vars.new.parser.rest
-    (node-stops-at-vars ts c.read_title.new.parser.rest c.read_inputs.new.parser.rest c.read_outputs.new.parser.rest c.in_ok-name.name c.in_ok-inputs.inputs c.in_ok-outputs.outputs c.in_ok-name.ensures c.in_ok-inputs.ensures c.in_ok-outputs.ensures)
+    rw (p.1, p.2) (stop-through {X = Node} {Y = List Decl} node_tree same (node ts) (mapped joined (vars c.read_outputs.new.parser.rest))
+    c.in_err-locals.field-0.0 c.read_vars.new.parser.rest
+    (node-stops-at-vars ts c.read_title.new.parser.rest c.read_inputs.new.parser.rest c.read_outputs.new.parser.rest c.in_ok-name.name c.in_ok-inputs.inputs
+    c.in_ok-outputs.outputs c.in_ok-name.ensures c.in_ok-inputs.ensures c.in_ok-outputs.ensures)
     c.in_err-locals.ensures)
 
 pub returns-in_err-body : goal.returns-in_err-body
 returns-in_err-body c =
     let p = err_from_is_err_and c.from_residual-in_err-body.result c.from_residual-in_err-body.ensures.1 in
     let ts = c.args.parser.now.rest in
-    rw (p.1, p.2) (stop-through {X = Node} {Y = Body} node_tree statements (node ts) (mapped statements_of (body c.read_vars.new.parser.rest)) c.in_err-body.field-0.0 c.read_body.new.parser.rest
-    (node-stops-at-body ts c.read_title.new.parser.rest c.read_inputs.new.parser.rest c.read_outputs.new.parser.rest c.in_ok-name.name c.in_ok-inputs.inputs c.in_ok-outputs.outputs c.in_ok-name.ensures c.in_ok-inputs.ensures c.in_ok-outputs.ensures
+    rw (p.1, p.2) (stop-through {X = Node} {Y = Body} node_tree statements (node ts) (mapped statements_of (body c.read_vars.new.parser.rest))
+    c.in_err-body.field-0.0 c.read_body.new.parser.rest
+    (node-stops-at-body ts c.read_title.new.parser.rest c.read_inputs.new.parser.rest c.read_outputs.new.parser.rest c.in_ok-name.name c.in_ok-inputs.inputs
+    c.in_ok-outputs.outputs c.in_ok-name.ensures c.in_ok-inputs.ensures c.in_ok-outputs.ensures
     c.in_ok-locals.locals c.read_vars.new.parser.rest c.in_ok-locals.ensures)
     c.in_err-body.ensures)
 
 pub returns : goal.returns
 returns c =
-    whole-node c.args.parser.now.rest c.read_title.new.parser.rest c.read_inputs.new.parser.rest c.read_outputs.new.parser.rest c.in_ok-name.name c.in_ok-inputs.inputs c.in_ok-outputs.outputs c.in_ok-name.ensures c.in_ok-inputs.ensures c.in_ok-outputs.ensures
+    whole-node c.args.parser.now.rest c.read_title.new.parser.rest c.read_inputs.new.parser.rest c.read_outputs.new.parser.rest c.in_ok-name.name
+    c.in_ok-inputs.inputs c.in_ok-outputs.outputs c.in_ok-name.ensures c.in_ok-inputs.ensures c.in_ok-outputs.ensures
     c.in_ok-locals.locals c.read_vars.new.parser.rest c.in_ok-locals.ensures (statements c.in_ok-body.body) c.read_body.new.parser.rest c.in_ok-body.ensures

@@ -7,7 +7,8 @@ use Rattle.std.proofs.Common.{List}
 use Rattle.rv_syntax.specs.Reading.{mapped}
 use Rattle.rv_syntax.proofs.Loop.{made-program, section-types, section-constants, section-node}
 use Rattle.rv_syntax.proofs.rules.read_section.Goals as goal
-use Rattle.rv_syntax.proofs.rules.read_section.Goals.{then-sees+in_ok-found, else-sees+then-sees-2+in_ok-found-2, else-sees+else-sees-2+in_ok-read_node+in_ok-push}
+use Rattle.rv_syntax.proofs.rules.read_section.Goals.{then-sees+in_ok-found, else-sees+then-sees-2+in_ok-found-2}
+use Rattle.rv_syntax.proofs.rules.read_section.Goals.{else-sees+else-sees-2+in_ok-read_node+in_ok-push}
 
 pub returns : goal.returns
 returns c =

@@ -21,10 +21,12 @@ more-smaller c =
 pub more-preserved : goal.more-preserved
 more-preserved c =
     let m = made-of (λ ds. c.more.found ++ ds) (var c.more.parser.rest) c.in_ok-found.found c.read_var.new.parser.rest c.in_ok-found.ensures in
-    goes-on vars-loop (λ more. c.more.found ++ joined more) (λ more. c.in_ok-found.found ++ joined more) m.0 (λ more. sym (append_assoc c.more.found m.0 (joined more)) ∙ ap (λ l. l ++ joined more) m.2)
+    goes-on vars-loop (λ more. c.more.found ++ joined more) (λ more. c.in_ok-found.found ++ joined more) m.0
+    (λ more. sym (append_assoc c.more.found m.0 (joined more)) ∙ ap (λ l. l ++ joined more) m.2)
     (mapped joined (vars c.args.parser.now.rest)) c.more.parser.rest c.read_var.new.parser.rest (sym c.more-test.true ∙ c.sees.ensures) m.1 c.more.invariant
 
 pub returns : goal.returns
 returns c =
-    ends vars-loop (λ more. c.more.found ++ joined more) (mapped joined (vars c.args.parser.now.rest)) c.more.parser.rest (sym c.more-test.false ∙ c.sees.ensures) c.more.invariant
+    ends vars-loop (λ more. c.more.found ++ joined more) (mapped joined (vars c.args.parser.now.rest)) c.more.parser.rest
+    (sym c.more-test.false ∙ c.sees.ensures) c.more.invariant
     ∙ ap (λ l. Ok (l, c.more.parser.rest)) (append-nil c.more.found)

@@ -6,5 +6,6 @@ use Rattle.rv_syntax.proofs.sites.sited_assertions.Given as goal
 
 abbrev pub invariant-each : goal.invariant-each
 invariant-each l =
-    map assertion_tree l.made ++ map (sited_assertion (numbered_from l.sites.first l.sites.offsets.items)) (map assertion_tree (into_iter_items l.assertion-iterator))
+    map assertion_tree l.made ++ map (sited_assertion (numbered_from l.sites.first l.sites.offsets.items))
+    (map assertion_tree (into_iter_items l.assertion-iterator))
     ≡ map (sited_assertion (numbered_from l.fn.sites.first l.fn.sites.offsets.items)) (map assertion_tree l.fn.assertions)

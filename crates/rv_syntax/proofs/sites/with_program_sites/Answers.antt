@@ -22,7 +22,8 @@ each-preserved c =
     let next = c.in-Some.ensures.steps.0 in
     let rest = into_iter_items c.next.new.self in
     record {
-      tree = turned-more node_tree with_sites c.each.made c.push.new.self c.in_ok-with_sites.field-0 c.in-Some.node (into_iter_items c.each.node-iterator) rest (map with_sites (map node_tree c.args.program.nodes))
+      tree = turned-more node_tree with_sites c.each.made c.push.new.self c.in_ok-with_sites.field-0 c.in-Some.node (into_iter_items c.each.node-iterator) rest
+          (map with_sites (map node_tree c.args.program.nodes))
           c.in_ok-push.ensures.ok c.in_ok-with_sites.ensures next c.each.invariant.tree;
       fits = All-tail Fits (node_tree c.in-Some.node) (map node_tree rest) (subst (λ l. All Fits (map node_tree l)) next c.each.invariant.fits);
     }

@@ -10,4 +10,5 @@ returns c =
     let f = c.args.flat.now in
     let shown : List Compared → List Comparison = map (comparison_in f.memories) in
     gathered f (shown c.new-found.result) (shown c.gather_flows.new.found) (shown c.gather_memories.new.found) (shown c.gather_assertions.new.found)
-    (ap (λ (l : List Compared). map (comparison_in f.memories) l) c.new-found.ensures) c.in_ok-gather_flows.ensures c.in_ok-gather_memories.ensures c.in_ok-gather_assertions.ensures
+    (ap (λ (l : List Compared). map (comparison_in f.memories) l) c.new-found.ensures) c.in_ok-gather_flows.ensures c.in_ok-gather_memories.ensures
+    c.in_ok-gather_assertions.ensures

@@ -17,5 +17,6 @@ pub read_tests-requires-clause-well : goal.read_tests-requires-clause-well
 read_tests-requires-clause-well c = c.requires.ready.around.well
 
 pub returns-clause-extends : goal.returns-clause-extends
-returns-clause-extends c = on_ok_then c.read_tests.result (Extends c.read_all.new.store c.read_tests.new.store) (Extends c.args.store.now c.read_tests.new.store)
+returns-clause-extends c = on_ok_then c.read_tests.result (Extends c.read_all.new.store c.read_tests.new.store)
+    (Extends c.args.store.now c.read_tests.new.store)
     (extends_trans c.args.store.now c.read_all.new.store c.read_tests.new.store c.in_ok-sides.ensures.extends) c.read_tests.ensures.extends

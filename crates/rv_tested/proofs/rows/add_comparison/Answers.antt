@@ -38,7 +38,8 @@ add_rows-requires-clause-laid c = laid_later c.args.store.now c.and.new.self c.a
 pub returns-clause-answered : goal.returns-clause-answered
 returns-clause-answered c =
     let s = c.args.store.now in
-    let at : ref_at c.args.answers.now.refs 0 ≡ c.at-absent.result.now = get_or_from_slice_get c.args.answers.now.refs 0 c.at-absent.result.now 0 c.at-absent.ensures.value in
+    let at : ref_at c.args.answers.now.refs 0 ≡ c.at-absent.result.now = get_or_from_slice_get c.args.answers.now.refs 0 c.at-absent.result.now 0
+    c.at-absent.ensures.value in
     let absent : IsRef s.nodes c.at-absent.result.now =
     subst (IsRef s.nodes) at (c.requires.laid.found 0 (let h = c.requires.laid.size in omega (arith, h))) in
     let one : Extends s c.and.new.self = grows_extends s c.and.new.self c.in_ok-here.ensures.ok.grows in

@@ -27,11 +27,13 @@ pub side_term-requires : goal.side_term-requires
 side_term-requires c = record { terms = (columns_of c.args.flat.now, c.requires.sides.left.within, c.requires.sides.right.within) }
 
 pub add_comparison-requires-clause-there : goal.add_comparison-requires-clause-there
-add_comparison-requires-clause-there c = let h = c.requires.sides.there_ref in let e : Extends c.args.store.now c.side_term.new.store = c.in_ok-term.ensures.extends in
+add_comparison-requires-clause-there c = let h = c.requires.sides.there_ref in
+    let e : Extends c.args.store.now c.side_term.new.store = c.in_ok-term.ensures.extends in
     omega (arith, h, e.longer)
 
 pub add_comparison-requires-clause-truth : goal.add_comparison-requires-clause-truth
-add_comparison-requires-clause-truth c = let h = c.requires.truth_ref in let e : Extends c.args.store.now c.side_term.new.store = c.in_ok-term.ensures.extends in
+add_comparison-requires-clause-truth c = let h = c.requires.truth_ref in
+    let e : Extends c.args.store.now c.side_term.new.store = c.in_ok-term.ensures.extends in
     omega (arith, h, e.longer)
 
 pub add_comparison-requires-clause-refs : goal.add_comparison-requires-clause-refs

@@ -17,7 +17,8 @@ loop-variable-preserved c =
     let vs = c.args.variables.now in
     let i = c.loop-variable.variable-index in
     let x = c.variable-item.result in
-    let left : drop i vs ≡ x ∷ drop (i + 1) vs = drop-cons vs i x c.loop-variable-test.true ∙ (λ k. sym c.variable-item.is k ∷ drop (let z : suc i ≡ i + 1 = omega arith in z k) vs) in
+    let left : drop i vs ≡ x ∷ drop (i + 1) vs = drop-cons vs i x c.loop-variable-test.true
+    ∙ (λ k. sym c.variable-item.is k ∷ drop (let z : suc i ≡ i + 1 = omega arith in z k) vs) in
     let more : order_tests (map variable_of (drop i vs)) ≡ order_tests (variable_of x ∷ []) + order_tests (map variable_of (drop (i + 1) vs)) =
     ap (λ (l : List Bit). order_tests (map variable_of l)) left ∙ tests_more (variable_of x) (map variable_of (drop (i + 1) vs)) in
     let few = at_most_one (variable_of x) in
@@ -30,5 +31,6 @@ pub returns-clause-is : goal.returns-clause-is
 returns-clause-is c =
     let vs = c.args.variables.now in
     let gone : drop c.loop-variable.variable-index vs ≡ [] = drop_of_length-le vs (omega arith) in
-    let none : order_tests (map variable_of (drop c.loop-variable.variable-index vs)) ≡ 0 = ap (λ (l : List Bit). order_tests (map variable_of l)) gone ∙ no_tests in
+    let none : order_tests (map variable_of (drop c.loop-variable.variable-index vs)) ≡ 0 = ap (λ (l : List Bit). order_tests (map variable_of l)) gone
+    ∙ no_tests in
     omega (arith, none, c.loop-variable.invariant.counted)

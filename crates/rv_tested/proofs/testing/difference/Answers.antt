@@ -42,7 +42,8 @@ returns-clause-ok c =
     (λ (t : Term). IsTermOf c.sum.new.store.nodes (term_width c.args.first.now.parts)
     (λ v. form_sum (form_at c.scale.new.store.nodes c.args.first.now.parts v) (form_at c.scale.new.store.nodes c.in_ok-negative.negative.parts v)) t.parts)
     (IsDifference s.nodes c.sum.new.store.nodes c.args.first.now.parts c.args.second.now.parts)
-    (λ t is. is_difference s c.sum.new.store c.requires.terms.0 c.args.first.now.parts c.args.second.now.parts c.in_ok-negative.negative t c.requires.terms.1 c.requires.terms.2
+    (λ t is. is_difference s c.sum.new.store c.requires.terms.0 c.args.first.now.parts c.args.second.now.parts c.in_ok-negative.negative t c.requires.terms.1
+    c.requires.terms.2
     c.in_ok-negative.ensures.exact.exact
     (subst (λ (d : Diagrams). IsTermOf c.sum.new.store.nodes (term_width c.args.first.now.parts)
     (λ v. form_sum (form_at d.nodes c.args.first.now.parts v) (form_at d.nodes c.in_ok-negative.negative.parts v)) t.parts) c.in_ok-negative.ensures.same is))

@@ -5,4 +5,5 @@ use Rattle.rv_types.specs.Clocks.{assertion_clocks}
 use Rattle.rv_types.proofs.clocks.assertion_faults.Given as goal
 
 abbrev pub invariant-loop-assertion : goal.invariant-loop-assertion
-invariant-loop-assertion l = l.fault ≡ first (flat_map (assertion_clocks (node_tree l.timing.node.now)) (map assertion_tree (take l.assertion-index l.assertions)))
+invariant-loop-assertion l = l.fault ≡ first (flat_map (assertion_clocks (node_tree l.timing.node.now))
+    (map assertion_tree (take l.assertion-index l.assertions)))

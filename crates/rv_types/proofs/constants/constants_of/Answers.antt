@@ -18,13 +18,17 @@ loop-c-preserved c =
     let item = constant_tree c.c-item.result in
     let whole : p.constants ≡ reverse before ++ rest = sym (ap (map constant_tree) c.as_slice-constants.ensures) ∙ all_turned all c.loop-c.c-index in
     let t = sym (one_mapped constant_tree c.as_slice-constants.result.now c.loop-c.c-index c.c-item.result c.loop-c-test.true c.c-item.is) in
-    let k = kinds_more p g.types.now g.type_kinds.now g.constants.now g.labels.now g.places.now c.requires before rest whole c.loop-c.found.kinds c.loop-c.invariant.kinds item _ c.constant_after-one.ensures.kind in
-    let v = values_more p g.types.now g.type_kinds.now g.constants.now g.labels.now g.places.now c.requires before rest whole c.loop-c.found.values c.loop-c.invariant.values item _ c.constant_after-one.ensures.value in
-    let f = faults_more p g.types.now g.type_kinds.now g.constants.now g.labels.now g.places.now c.requires before rest whole c.loop-c.found.kinds c.loop-c.invariant.kinds item _ _ c.loop-c.invariant.fault c.constant_after-one.ensures.fault in
+    let k = kinds_more p g.types.now g.type_kinds.now g.constants.now g.labels.now g.places.now c.requires before rest whole c.loop-c.found.kinds
+    c.loop-c.invariant.kinds item _ c.constant_after-one.ensures.kind in
+    let v = values_more p g.types.now g.type_kinds.now g.constants.now g.labels.now g.places.now c.requires before rest whole c.loop-c.found.values
+    c.loop-c.invariant.values item _ c.constant_after-one.ensures.value in
+    let f = faults_more p g.types.now g.type_kinds.now g.constants.now g.labels.now g.places.now c.requires before rest whole c.loop-c.found.kinds
+    c.loop-c.invariant.kinds item _ _ c.loop-c.invariant.fault c.constant_after-one.ensures.fault in
     record {
       kinds = c.in_ok-add.ensures.kinds ∙ k ∙ ap (constant_kinds_of p) t;
       values = c.in_ok-add.ensures.values ∙ v ∙ ap (constant_values_of p) t;
       fault = c.in_ok-add.ensures.fault ∙ f ∙ ap (λ cs. first (constant_types p cs)) t;
       small = subst (λ (vs : List Value). AreSmall (known_in g.constants.now vs g.labels.now g.places.now)) (sym c.in_ok-add.ensures.values)
-          (more_small g.constants.now c.loop-c.found.values g.labels.now g.places.now c.constant_after-one.result.value c.loop-c.invariant.small c.constant_after-one.ensures.bound);
+          (more_small g.constants.now c.loop-c.found.values g.labels.now g.places.now c.constant_after-one.result.value c.loop-c.invariant.small
+          c.constant_after-one.ensures.bound);
     }

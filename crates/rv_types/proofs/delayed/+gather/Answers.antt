@@ -24,7 +24,8 @@ gather_all-loop-e-preserved t c =
       typed = rw (c.one_more-together.ensures.typed, and_assoc, c.judged.ensures.verdict, c.in_ok-gather.ensures.kind) (rw more at v.typed);
       boolean = rw (c.one_more-together.ensures.boolean, and_assoc, c.judged.ensures.verdict, c.in_ok-gather.ensures.kind) v.boolean;
       constant = rw (c.one_more-together.ensures.constant, and_assoc, c.judged.ensures.constant, c.in_ok-gather.ensures.constant) v.constant;
-      fit = rw (c.one_more-together.ensures.fit, c.one_more-together.ensures.count, and_assoc, c.judged.ensures.verdict, c.in_ok-gather.ensures.kind, add-one) (rw suited at v.fit);
+      fit = rw (c.one_more-together.ensures.fit, c.one_more-together.ensures.count, and_assoc, c.judged.ensures.verdict, c.in_ok-gather.ensures.kind, add-one)
+          (rw suited at v.fit);
       found =
           ap (λ (l : List Kind). l ++ delayed_in_all s rest) c.in_ok-gather.ensures.found
           ∙ append_assoc c.loop-e.found (delayed_in s (tree_of c.e-item.result)) (delayed_in_all s rest) ∙ v.found;

@@ -15,5 +15,6 @@ loop-equation-preserved c =
     let fault = c.in_ok-declare_names.ensures.fault ∙ ap (λ l. first (repeated c.loop-equation.space l)) c.as_slice.ensures in
     record {
       space = spaces_step _ _ _ here _ _ (λ i. flat_map (λ q. q.lefts) (map equation_tree (d i))) space c.loop-equation.invariant.space;
-      fault = faults_step _ _ _ _ _ _ _ here _ (λ i. flat_map (λ q. q.lefts) (map equation_tree (d i))) space fault c.sooner_of-fault.ensures.value c.loop-equation.invariant.fault;
+      fault = faults_step _ _ _ _ _ _ _ here _ (λ i. flat_map (λ q. q.lefts) (map equation_tree (d i))) space fault c.sooner_of-fault.ensures.value
+          c.loop-equation.invariant.fault;
     }

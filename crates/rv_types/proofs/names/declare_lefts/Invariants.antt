@@ -7,6 +7,8 @@ use Rattle.rv_types.proofs.names.declare_lefts.Given as goal
 
 abbrev pub invariant-loop-equation : goal.invariant-loop-equation
 invariant-loop-equation l = record {
-  space : firsts_after l.space (flat_map (λ q. q.lefts) (map equation_tree (drop l.equation-index l.equations))) ≡ firsts_after l.initial.space (flat_map (λ q. q.lefts) (map equation_tree l.equations));
-  fault : sooner l.fault (first (repeated l.space (flat_map (λ q. q.lefts) (map equation_tree (drop l.equation-index l.equations))))) ≡ first (repeated l.initial.space (flat_map (λ q. q.lefts) (map equation_tree l.equations)));
+  space : firsts_after l.space (flat_map (λ q. q.lefts) (map equation_tree (drop l.equation-index l.equations))) ≡ firsts_after l.initial.space
+      (flat_map (λ q. q.lefts) (map equation_tree l.equations));
+  fault : sooner l.fault (first (repeated l.space (flat_map (λ q. q.lefts) (map equation_tree (drop l.equation-index l.equations))))) ≡ first
+      (repeated l.initial.space (flat_map (λ q. q.lefts) (map equation_tree l.equations)));
 }

@@ -8,6 +8,8 @@ use Rattle.rv_types.proofs.pacing.+pace.Given as goal
 
 abbrev pub invariant-pace_of_all-loop-e : goal.invariant-pace_of_all-loop-e
 invariant-pace_of_all-loop-e l = record {
-  pace : meet l.found.pace (clocking.pace_of_all (node_tree l.timing.node.now) (trees (map tree_of (drop l.e-index l.es)))) ≡ clocking.pace_of_all (node_tree l.timing.node.now) (trees (map tree_of l.es));
-  fault : sooner l.found.fault (first (faults_of_all (own_clash (node_tree l.timing.node.now)) (trees (map tree_of (drop l.e-index l.es))))) ≡ first (faults_of_all (own_clash (node_tree l.timing.node.now)) (trees (map tree_of l.es)));
+  pace : meet l.found.pace (clocking.pace_of_all (node_tree l.timing.node.now) (trees (map tree_of (drop l.e-index l.es)))) ≡ clocking.pace_of_all
+      (node_tree l.timing.node.now) (trees (map tree_of l.es));
+  fault : sooner l.found.fault (first (faults_of_all (own_clash (node_tree l.timing.node.now)) (trees (map tree_of (drop l.e-index l.es))))) ≡ first
+      (faults_of_all (own_clash (node_tree l.timing.node.now)) (trees (map tree_of l.es)));
 }

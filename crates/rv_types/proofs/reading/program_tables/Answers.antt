@@ -14,7 +14,8 @@ use Rattle.rv_types.proofs.reading.program_tables.Goals as goal
 pub type_kinds-requires-clause-names : goal.type_kinds-requires-clause-names
 type_kinds-requires-clause-names c =
     let p = program_tree c.args.p.now in
-    ap (λ (s : Spaces). s.types) c.in_ok-spaces.ensures.spaces ∙ all_first (type_names p) (all_different p c.requires.names).types ∙ ap (map (λ (d : TypeDecl). d.name)) (sym c.as_slice.ensures)
+    ap (λ (s : Spaces). s.types) c.in_ok-spaces.ensures.spaces ∙ all_first (type_names p) (all_different p c.requires.names).types
+    ∙ ap (map (λ (d : TypeDecl). d.name)) (sym c.as_slice.ensures)
 
 pub type_kinds-requires-clause-different : goal.type_kinds-requires-clause-different
 type_kinds-requires-clause-different c =
@@ -28,7 +29,8 @@ label_places-requires-clause-few_labels c d h =
 
 pub constants_of-requires : goal.constants_of-requires
 constants_of-requires c =
-    tables_are (program_tree c.args.p.now) c.in_ok-spaces.field-0.spaces c.as_slice-3.result.now c.as_slice-4.result.now c.requires.names c.in_ok-spaces.ensures.spaces
+    tables_are (program_tree c.args.p.now) c.in_ok-spaces.field-0.spaces c.as_slice-3.result.now c.as_slice-4.result.now c.requires.names
+    c.in_ok-spaces.ensures.spaces
     (c.as_slice-3.ensures ∙ c.in_ok-types.ensures ∙ ap (λ (ds : List TypeDecl). declared_kinds (reverse ds)) c.as_slice.ensures)
     (c.as_slice-4.ensures ∙ c.in_ok-places.ensures ∙ ap (places_from 0) c.as_slice-2.ensures)
 

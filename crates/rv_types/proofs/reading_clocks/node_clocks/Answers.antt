@@ -18,6 +18,7 @@ pub invariant_of-result : goal.invariant_of-result
 invariant_of-result c = record {
   reads = timing_of (node_tree c.args.node.now) c.in_ok-flows.field-0.space c.in_ok-clocks.clocks.items
       (ap texts c.in_ok-flows.ensures.space ∙ flow_space (node_tree c.args.node.now) c.requires.different)
-      (subst (λ (xs : List Name). length xs < 2 ^ 32) (sym c.in_ok-flows.ensures.space) (space_few (node_tree c.args.node.now) c.requires.different c.requires.few))
+      (subst (λ (xs : List Name). length xs < 2 ^ 32) (sym c.in_ok-flows.ensures.space)
+      (space_few (node_tree c.args.node.now) c.requires.different c.requires.few))
       c.in_ok-clocks.ensures;
 }

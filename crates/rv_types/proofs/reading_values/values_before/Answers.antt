@@ -12,7 +12,8 @@ invariant_of-result c =
     let p = program_tree c.args.p.now in
     let t = c.requires.tables.globals in
     let before = reverse (take c.args.count p.constants) in
-    let is : known_in c.args.tables.now.spaces.constants c.args.constants.now c.args.tables.now.spaces.labels c.as_slice.result.now ≡ constant_value_after p before =
+    let is : known_in c.args.tables.now.spaces.constants c.args.constants.now c.args.tables.now.spaces.labels c.as_slice.result.now ≡ constant_value_after p
+    before =
     (λ i. known_in (t.constant_table i) (c.requires.values i) (t.label_table i) ((c.as_slice.ensures ∙ t.place_table) i))
     ∙ values_known p before (drop c.args.count p.constants) (all_turned p.constants c.args.count) t.different_constants in
     subst AreSmall (sym is) (small_after p before)

@@ -17,7 +17,8 @@ overflow_cast-result c =
     let p = program_tree c.args.p.now in
     let space : c.in_ok-declared.declared.spaces.nodes ≡ firsts (node_names p) = search rules in
     let none : first (name_faults p) ≡ None = search rules in
-    let all : c.in_ok-declared.declared.spaces.nodes ≡ node_names p = space ∙ all_first (node_names p) (all_different p (first_none (name_faults p) none)).nodes in
+    let all : c.in_ok-declared.declared.spaces.nodes ≡ node_names p = space
+    ∙ all_first (node_names p) (all_different p (first_none (name_faults p) none)).nodes in
     let long : length c.in_ok-declared.declared.spaces.nodes ≡ length p.nodes = ap length all ∙ length-map p.nodes (λ n. n.name) in
     let within : c.in-Some.number < length c.in_ok-declared.declared.spaces.nodes = search rules in
     let few : length p.nodes ≤ source_limit = c.requires.nodes in
@@ -37,7 +38,8 @@ returns-in-Some-fault-clause-refused c =
     let space : c.in_ok-declared.declared.spaces.nodes ≡ firsts (node_names p) = search rules in
     let there : is_declared c.in_ok-declared.declared.spaces.nodes c.args.main.now ≡ true = search rules in
     let fault : Some c.in-Some-fault.fault ≡ first (name_faults p) = search rules in
-    of_names p c.args.main.now c.in-Some-fault.fault (sym (declared_firsts (node_names p) c.args.main.now) ∙ ap (λ xs. is_declared xs c.args.main.now) (sym space) ∙ there) fault
+    of_names p c.args.main.now c.in-Some-fault.fault (sym (declared_firsts (node_names p) c.args.main.now)
+    ∙ ap (λ xs. is_declared xs c.args.main.now) (sym space) ∙ there) fault
 
 pub returns-in-None-fault-clause-named : goal.returns-in-None-fault-clause-named
 returns-in-None-fault-clause-named c =

@@ -12,7 +12,8 @@ returns-in-Err-clause-refused c =
 pub returns-in-Err-check_clocks-clause-refused : goal.returns-in-Err-check_clocks-clause-refused
 returns-in-Err-check_clocks-clause-refused c =
     let named = c.in_ok-spaces.ensures.named in
-    of_clocks (program_tree c.args.p.now) c.args.main.now c.in-Err-check_clocks.fault named.has_main named.names c.in-Ok.ensures.right c.in-Err-check_clocks.ensures.refused
+    of_clocks (program_tree c.args.p.now) c.args.main.now c.in-Err-check_clocks.fault named.has_main named.names c.in-Ok.ensures.right
+    c.in-Err-check_clocks.ensures.refused
 
 -- the clocks are right where the observer is judged
 pub returns-in-Err-check_observer-clause-refused : goal.returns-in-Err-check_observer-clause-refused

@@ -8,6 +8,8 @@ pub loop-decl-preserved : goal.loop-decl-preserved
 loop-decl-preserved c =
     let d = drop_here c.args.types.now c.loop-decl.decl-index c.decl-item.result c.loop-decl-test.true c.decl-item.is in
     record {
-      space = spaces_step _ _ _ (labels_of c.decl-item.result) _ _ (λ i. flat_map labels_of (d i)) c.in_ok-declare_labels_of.ensures.space c.loop-decl.invariant.space;
-      fault = faults_step _ _ _ _ _ _ _ (labels_of c.decl-item.result) _ (λ i. flat_map labels_of (d i)) c.in_ok-declare_labels_of.ensures.space c.in_ok-declare_labels_of.ensures.fault c.sooner_of-fault.ensures.value c.loop-decl.invariant.fault;
+      space = spaces_step _ _ _ (labels_of c.decl-item.result) _ _ (λ i. flat_map labels_of (d i)) c.in_ok-declare_labels_of.ensures.space
+          c.loop-decl.invariant.space;
+      fault = faults_step _ _ _ _ _ _ _ (labels_of c.decl-item.result) _ (λ i. flat_map labels_of (d i)) c.in_ok-declare_labels_of.ensures.space
+          c.in_ok-declare_labels_of.ensures.fault c.sooner_of-fault.ensures.value c.loop-decl.invariant.fault;
     }

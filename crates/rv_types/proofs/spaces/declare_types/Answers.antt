@@ -8,5 +8,6 @@ loop-decl-preserved c =
     let d = drop_here c.args.types.now c.loop-decl.decl-index c.decl-item.result c.loop-decl-test.true c.decl-item.is in
     record {
       space = space_step _ _ _ _ _ c.decl-item.result.name (λ i. map (λ d. d.name) (d i)) c.in_ok-declare.ensures.space c.loop-decl.invariant.space;
-      fault = fault_step _ _ _ _ _ _ _ _ c.decl-item.result.name (λ i. map (λ d. d.name) (d i)) c.in_ok-declare.ensures.space c.in_ok-declare.ensures.fault c.sooner_of-fault.ensures.value c.loop-decl.invariant.fault;
+      fault = fault_step _ _ _ _ _ _ _ _ c.decl-item.result.name (λ i. map (λ d. d.name) (d i)) c.in_ok-declare.ensures.space c.in_ok-declare.ensures.fault
+          c.sooner_of-fault.ensures.value c.loop-decl.invariant.fault;
     }

@@ -13,7 +13,8 @@ use Rattle.rv_types.proofs.types.types_of.Goals as goal
 pub type_kinds-requires-clause-names : goal.type_kinds-requires-clause-names
 type_kinds-requires-clause-names c =
     let p = program_tree c.args.p.now in
-    ap (λ (s : Spaces). s.types) c.requires.spaces ∙ all_first (type_names p) (all_different p c.requires.names).types ∙ ap (map (λ (d : TypeDecl). d.name)) (sym c.as_slice.ensures)
+    ap (λ (s : Spaces). s.types) c.requires.spaces ∙ all_first (type_names p) (all_different p c.requires.names).types
+    ∙ ap (map (λ (d : TypeDecl). d.name)) (sym c.as_slice.ensures)
 
 pub type_kinds-requires-clause-different : goal.type_kinds-requires-clause-different
 type_kinds-requires-clause-different c =

@@ -10,7 +10,8 @@ abbrev pub invariant-count_all-loop-e : goal.invariant-count_all-loop-e
 invariant-count_all-loop-e l =
     let known = value_by l.known in
     record {
-      seen : (not l.seen.several && at_most_after l.seen.some (flags_of_all known (trees (map tree_of (drop l.e-index l.es))))) ≡ at_most_one (flags_of_all known (trees (map tree_of l.es)));
+      seen : (not l.seen.several && at_most_after l.seen.some (flags_of_all known (trees (map tree_of (drop l.e-index l.es))))) ≡ at_most_one
+          (flags_of_all known (trees (map tree_of l.es)));
       first : lesser l.first (first_wide_of_all known (trees (map tree_of (drop l.e-index l.es)))) ≡ first_wide_of_all known (trees (map tree_of l.es));
     }
 

@@ -20,7 +20,8 @@ returns-clause-ends c s is without =
     let d : IsDone s c.in_ok-walk.walk.sets (has c.in_ok-walk.walk.reached) true =
     subst (λ (b : Bool). IsDone s c.in_ok-walk.walk.sets (has c.in_ok-walk.walk.reached) b) c.if-not-good.false (c.in_ok-walk.ensures.ok s is).1 in
     let control : IsControlSet s c.in_ok-walk.walk.reached = (c.in_ok-walk.ensures.ok s is).0 in
-    let still : IsRelationOf s c.explore.new.store c.args.relation.now = subst (λ (d : Diagrams). IsRelationOf s d c.args.relation.now) (sym c.explore.ensures.same) is in
+    let still : IsRelationOf s c.explore.new.store c.args.relation.now = subst (λ (d : Diagrams). IsRelationOf s d c.args.relation.now)
+    (sym c.explore.ensures.same) is in
     let a : AreCases s c.in_ok-walk.walk.reached c.in_ok-cases.cases = c.in_ok-cases.ensures.parted s still without control in
     subst (IsGoodCertificate s) (sym c.in_ok-certify.ensures)
     (done_good s c.in_ok-walk.walk.sets c.in_ok-walk.walk.reached c.in_ok-cases.cases control d a c.in_ok-cases.ensures.few)

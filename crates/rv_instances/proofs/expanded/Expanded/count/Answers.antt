@@ -10,7 +10,8 @@ pub count_flows-requires : goal.count_flows-requires
 count_flows-requires c =
     let x = c.args.self.now in
     subst (λ (n : NodeTree). length (flows n) ≤ most) (sym c.node.ensures)
-    (node_few (program_tree x.program.now) (name_at (program_tree x.program.now) x.main) x.instances.now c.requires.known.expanded c.args.instance c.requires.within)
+    (node_few (program_tree x.program.now) (name_at (program_tree x.program.now) x.main) x.instances.now c.requires.known.expanded c.args.instance
+    c.requires.within)
 
 pub returns-clause-count : goal.returns-clause-count
 returns-clause-count c = c.count_flows.ensures ∙ ap (λ (n : NodeTree). length (flows n)) c.node.ensures
@@ -18,6 +19,7 @@ returns-clause-count c = c.count_flows.ensures ∙ ap (λ (n : NodeTree). length
 pub returns-clause-few : goal.returns-clause-few
 returns-clause-few c =
     let x = c.args.self.now in
-    let few = node_few (program_tree x.program.now) (name_at (program_tree x.program.now) x.main) x.instances.now c.requires.known.expanded c.args.instance c.requires.within in
+    let few = node_few (program_tree x.program.now) (name_at (program_tree x.program.now) x.main) x.instances.now c.requires.known.expanded c.args.instance
+    c.requires.within in
     let is = c.count_flows.ensures ∙ ap (λ (n : NodeTree). length (flows n)) c.node.ensures in
     omega (arith, few, is)

@@ -8,5 +8,6 @@ pub returns-clause-known : goal.returns-clause-known
 returns-clause-known c = record {
   expanded = c.requires;
   clocks = c.in_ok-clocks.ensures;
-  calls = subst (λ (ns : List NodeTree). AreTold ns c.in_ok-calls.calls) (clocked_nodes c.in_ok-clocks.clocks ∙ ap (map node_tree) c.in_ok-clocks.ensures) c.in_ok-calls.ensures;
+  calls = subst (λ (ns : List NodeTree). AreTold ns c.in_ok-calls.calls) (clocked_nodes c.in_ok-clocks.clocks ∙ ap (map node_tree) c.in_ok-clocks.ensures)
+      c.in_ok-calls.ensures;
 }

@@ -13,7 +13,8 @@ invariant_of-result c =
     let named = f.has_headers ∙ ap builder_names_headers e ∙ ap builder_names_headers e2 in
     let left = opened c.from_reader-reader.result c.args.bytes.now f.state f.source in
     let few = few-records c.args.bytes.now c.requires in
-    kept c.in-Ok.here c.from_reader-reader.result c.read_byte_record.new.self (strip_bom c.args.bytes.now) c.read_byte_record.new.row 0 config f.source trim (c.in-Ok.ensures.reads trim (inr (inr (named, f.headers)))) (c.in-Ok.ensures.ready trim) (omega (arith, ap length left, few))
+    kept c.in-Ok.here c.from_reader-reader.result c.read_byte_record.new.self (strip_bom c.args.bytes.now) c.read_byte_record.new.row 0 config f.source trim
+    (c.in-Ok.ensures.reads trim (inr (inr (named, f.headers)))) (c.in-Ok.ensures.ready trim) (omega (arith, ap length left, few))
 
 pub returns-in-Ok-clause-ok : goal.returns-in-Ok-clause-ok
 returns-in-Ok-clause-ok c =
@@ -22,5 +23,8 @@ returns-in-Ok-clause-ok c =
     let e2 = c.has_headers.ensures in
     let config = f.config ∙ ap builder_config e ∙ ap builder_config e2 ∙ c.new.ensures.config in
     let trim = f.trim ∙ ap builder_trim e ∙ ap builder_trim e2 ∙ c.new.ensures.trim in
-    let named = f.has_headers ∙ ap builder_names_headers e ∙ ap builder_names_headers e2 in
-    (refl, sym (took c.in-Ok.here c.from_reader-reader.result c.read_byte_record.new.self (strip_bom c.args.bytes.now) c.read_byte_record.new.row config f.source (c.in-Ok.ensures.reads trim (inr (inr (named, f.headers))))) ∙ opened c.from_reader-reader.result c.args.bytes.now f.state f.source)
+    let named = f.has_headers ∙ ap builder_names_headers e ∙ ap builder_names_headers e2 in (
+      refl,
+      sym (took c.in-Ok.here c.from_reader-reader.result c.read_byte_record.new.self (strip_bom c.args.bytes.now) c.read_byte_record.new.row config
+          f.source (c.in-Ok.ensures.reads trim (inr (inr (named, f.headers))))) ∙ opened c.from_reader-reader.result c.args.bytes.now f.state f.source,
+    )

@@ -30,6 +30,7 @@ returns-clause-exact c limits moves narrow fits stay room point size h =
     let whole : c.add_rows-2.new.rows ≡ c.args.self.now.rows ++ c.args.rows.now =
     met-whole c.args.self.now.rows c.args.rows.now c.add_rows.new.rows c.add_rows-2.new.rows c.requires.poly
     (rw c.new-premises.ensures at c.in_ok-add_rows.ensures) c.in_ok-add_rows-2.ensures fits room in
-    let P : List Row → Type 0 = λ rows. All (IsNarrow (length c.args.updates.now)) rows → All (StaysWithin c.args.updates.now) rows → IsImage rows c.args.updates.now point in
+    let P : List Row → Type 0 = λ rows. All (IsNarrow (length c.args.updates.now)) rows → All (StaysWithin c.args.updates.now) rows
+    → IsImage rows c.args.updates.now point in
     subst P whole (λ n s. c.in_ok-found.ensures.exact moves n s point size h)
     (both-narrow c.args.self.now.rows c.args.rows.now (length c.args.updates.now) c.requires.width narrow) stay

@@ -11,7 +11,8 @@ cases-requires c =
       system_read r,
       read.relation.system,
       read.questions,
-      subst (λ (p : Parts). IsMeant (diagrams_of r).nodes (system_read r).allowed p.allowed) (sym c.parts.ensures) (read.relation.laid_out.refs.allowed, read.relation.parts.allowed),
+      subst (λ (p : Parts). IsMeant (diagrams_of r).nodes (system_read r).allowed p.allowed) (sym c.parts.ensures)
+          (read.relation.laid_out.refs.allowed, read.relation.parts.allowed),
       c.requires.from,
     )
 
@@ -20,7 +21,8 @@ returns-clause-parted c =
     let r = c.args.self.now in
     let read = c.requires.read in
     c.cases.ensures.parted (system_read r) read.relation.system read.questions
-    (subst (λ (p : Parts). IsMeant (diagrams_of r).nodes (system_read r).allowed p.allowed) (sym c.parts.ensures) (read.relation.laid_out.refs.allowed, read.relation.parts.allowed))
+    (subst (λ (p : Parts). IsMeant (diagrams_of r).nodes (system_read r).allowed p.allowed) (sym c.parts.ensures)
+    (read.relation.laid_out.refs.allowed, read.relation.parts.allowed))
     c.requires.from
 
 pub returns-clause-different : goal.returns-clause-different

@@ -24,7 +24,8 @@ returns-clause-exact c s is control case =
     (λ f p. let q = subst (λ (links : List Part). IsProjected c.copied.new.store.variables (quantified links)
     (λ w. IsIn c.raised-copies.result w × IsIn c.args.case.now.condition w × AreMet c.copied.new.store.nodes links w)
     f) c.as_slice-links.ensures p in
-    preimage_of s c.args.store.now c.args.self.now is c.args.to.now c.args.case.now c.in_ok-bits.bits c.raised-copies.result f control case c.in_ok-bits.ensures.means
+    preimage_of s c.args.store.now c.args.self.now is c.args.to.now c.args.case.now c.in_ok-bits.bits c.raised-copies.result f control case
+    c.in_ok-bits.ensures.means
     c.raised-copies.ensures.means
     (subst (λ (d : Diagrams). IsProjected d.variables (quantified c.args.self.now.back)
     (λ w. IsIn c.raised-copies.result w × IsIn c.args.case.now.condition w × AreMet d.nodes c.args.self.now.back w) f)

@@ -16,5 +16,6 @@ push-requires c =
 
 pub returns-in_err-push-clause-err : goal.returns-in_err-push-clause-err
 returns-in_err-push-clause-err c =
-    on-err _ (some-made (flow c.args.kind.now c.args.clock.now) c.push.new.self c.args.self.now c.args.names c.each.yielded (into_iter_items c.each.name-iterator)
+    on-err _ (some-made (flow c.args.kind.now c.args.clock.now) c.push.new.self c.args.self.now c.args.names c.each.yielded
+    (into_iter_items c.each.name-iterator)
     c.each.invariant.rest (c.in_err-push.ensures.err ∙ c.each.invariant.made))
