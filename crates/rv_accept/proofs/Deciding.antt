@@ -1,25 +1,24 @@
 -- What is still throughout a scope is settled at the entry, and what moves is not.
-use Rattle.std.proofs.Common.{ℕ, ◌+◌, ◌<◌, ◌≤◌, ◌≡◌, ◌≢◌, ◌↔◌, ◌⊎◌, ◌^◌, pos, Bool, true, false, List, length, All, refl, sym, ap, ◌∙◌, subst, ⊎_elim, inl}
-use Rattle.std.proofs.Common.{inr, arith, Option, Some, MatchOption, slice_get, IsTrue}
+use Rattle.std.proofs.Common.{ℕ, ◌+◌, ◌<◌, ◌≡◌, ◌⊎◌, pos, Bool, List, length, All, ⊎_elim}
+use Rattle.std.proofs.Common.{arith, Option, Some, MatchOption, slice_get}
 use Rattle.std.proofs.Common.{None as Nothing}
 use Rattle.std.proofs.lemmas.Bool.{cases_lt}
 use Rattle.std.proofs.lemmas.List.{get_or_past}
 use Rattle.std.proofs.lemmas.List.Elements.{All-contains}
 use Rattle.rv_rows.specs.declared.linear.Row.{Row}
 use Rattle.rv_rows.specs.declared.linear.Form.{Form}
-use Rattle.rv_rows.specs.Rows.{coefficient, row_at, RowWithin}
-use Rattle.rv_rows.specs.Tight.{Fits}
-use Rattle.rv_diagram.specs.Nodes.{Valuation, Diagrams, value_of}
-use Rattle.rv_proofs.specs.Systems.{System, IsSystem}
+use Rattle.rv_rows.specs.Rows.{row_at}
+use Rattle.rv_diagram.specs.Nodes.{Diagrams}
+use Rattle.rv_proofs.specs.Systems.{System}
 use Rattle.rv_proofs.specs.Ranges.{IsRecord}
-use Rattle.rv_proofs.specs.Scopes.{IsInScope, IsSettled, IsSettledTest, IsSettledUpdate, Wanted, refutation, before, after, Implication, implications}
+use Rattle.rv_proofs.specs.Scopes.{IsSettled, IsSettledTest, IsSettledUpdate, Wanted, refutation, before, after, Implication, implications}
 use Rattle.rv_proofs.specs.Scopes.{NamesTest, NeedsUpdate}
 use Rattle.rv_proofs.specs.Implied.{form_at}
 use Rattle.rv_proofs.specs.declared.certificate.Certificate.{Certificate}
 use Rattle.rv_proofs.specs.declared.certificate.Location.{Location}
 use Rattle.rv_proofs.specs.declared.certificate.Entry.{Entry}
 use Rattle.rv_accept.specs.Held.{IsScope}
-use Rattle.rv_accept.specs.Needs.{IsNamed, IsNeeded, AreFlags, IsStill, StaysRow, StaysForm, AreStillRows, AreStillForms, HasMovingRow, HasMovingForm}
+use Rattle.rv_accept.specs.Needs.{IsNamed, IsNeeded, StaysRow, StaysForm, AreStillRows, AreStillForms, HasMovingRow, HasMovingForm}
 use Rattle.rv_accept.specs.Passing.{AreFacts, IsNeededBy}
 use Rattle.rv_accept.specs.declared.facts.Facts.{Facts}
 use Rattle.rv_accept.proofs.Listing.{all_at, all_from}

@@ -1,5 +1,5 @@
 -- The least words that fail.
-use Rattle.std.proofs.Common.{ℕ, ◌+◌, ◌*◌, ◌/◌, ◌<◌, ◌≤◌, ◌≡◌, ◌↔◌, ◌⊎◌, Bool, true, false, not, ◌&&◌, List, [], length, refl, sym, ap, ◌∙◌, subst, ⊎_elim}
+use Rattle.std.proofs.Common.{ℕ, ◌/◌, ◌≡◌, ◌⊎◌, Bool, true, false, not, ◌&&◌, List, [], sym, ap, ◌∙◌, ⊎_elim}
 use Rattle.std.proofs.Common.{arith, Option, Some, MatchOption, IsTrue, slice_get}
 use Rattle.std.proofs.lemmas.Bool.{cases_Bool}
 use Rattle.rv_diagram.specs.declared.frozen.Frozen.{Frozen}
@@ -8,16 +8,15 @@ use Rattle.rv_proofs.specs.Systems.{System, IsSystem, IsState, IsRead as IsReadB
 use Rattle.rv_proofs.specs.Scopes.{IsIn, IsInScope}
 use Rattle.rv_proofs.specs.Ranges.{IsControlSet, IsCondition, IsInRange}
 use Rattle.rv_proofs.specs.Accepted.{IsInitial, IsCovered, IsObserved, LeadsInto}
-use Rattle.rv_proofs.specs.Verdicts.{IsWord, IsStateWord, LacksInitial, IsUncovered}
+use Rattle.rv_proofs.specs.Verdicts.{LacksInitial, IsUncovered}
 use Rattle.rv_proofs.specs.declared.certificate.Certificate.{Certificate}
 use Rattle.rv_proofs.specs.declared.certificate.Location.{Location}
 use Rattle.rv_proofs.specs.declared.certificate.Entry.{Entry}
-use Rattle.rv_terms.specs.Growing.{Extends}
 use Rattle.rv_diagram.specs.Several.{ref_at}
 use Rattle.rv_accept.specs.Steps.{IsTrueOf, IsLeastWord, has}
 use Rattle.rv_accept.specs.Held.{IsHeld, IsWithin, IsScope, follow, IsUnseen, IsElsewhere}
 use Rattle.rv_symbolic.specs.declared.relation.Parts.{Parts}
-use Rattle.rv_accept.proofs.Growing.{clash, off, and_not}
+use Rattle.rv_accept.proofs.Growing.{clash, and_not}
 use Rattle.rv_proofs.proofs.ControlReads.{control_same, condition_same}
 use Rattle.rv_accept.proofs.Least.{Picked, picked, match_map, same_states, scope_same, value_reads}
 

@@ -1,24 +1,23 @@
 -- The first implication of a list that is not proved, and what that says of the entry.
-use Rattle.std.proofs.Common.{ℕ, zero, suc, ◌+◌, ◌-◌, ◌<◌, ◌≤◌, ◌≡◌, ◌≢◌, ◌↔◌, ◌⊎◌, ◌^◌, ℤ, pos, ◌-ℤ◌, Bool, true, false, List, [], ◌∷◌, ◌++◌, map, length}
-use Rattle.std.proofs.Common.{length-append, All, refl, sym, ap, ◌∙◌, subst, ⊎_elim, inl, inr, arith}
-use Rattle.std.proofs.Common.{Option, Some, MatchOption, IfSome, slice_get}
+use Rattle.std.proofs.Common.{ℕ, zero, suc, ◌+◌, ◌-◌, ◌<◌, ◌≤◌, ◌≡◌, ◌↔◌, ◌⊎◌, ◌^◌, ℤ, ◌-ℤ◌, List, [], ◌∷◌, ◌++◌, map, length}
+use Rattle.std.proofs.Common.{length-append, All, refl, sym, subst, ⊎_elim, arith}
+use Rattle.std.proofs.Common.{Option, Some, IfSome, slice_get}
 use Rattle.std.proofs.Common.{None as Nothing}
 use Rattle.std.proofs.lemmas.List.{length_push}
 use Rattle.std.proofs.lemmas.Option.{none-some, same_Some, slice_get_within}
 use Rattle.rv_rows.specs.declared.linear.Row.{Row}
 use Rattle.rv_rows.specs.declared.linear.Form.{Form}
 use Rattle.rv_rows.specs.declared.farkas.Multipliers.{Multipliers}
-use Rattle.rv_rows.specs.Rows.{dot, RowWithin}
+use Rattle.rv_rows.specs.Rows.{dot}
 use Rattle.rv_rows.specs.Tight.{Fits}
 use Rattle.rv_rows.specs.Forms.{number, forms_width, IsSubstituted, CanSubstitute}
-use Rattle.rv_rows.specs.Multipliers.{Proves, Refutes}
+use Rattle.rv_rows.specs.Multipliers.{Refutes}
 use Rattle.rv_rows.proofs.FormLemmas.{pushed, substituted}
 use Rattle.rv_proofs.specs.Systems.{System, IsSystem, IsUpdate}
-use Rattle.rv_proofs.specs.Ranges.{AreKept, IsInRange}
-use Rattle.rv_proofs.specs.Scopes.{Wanted, refutation, before, after, Implication, each, implications, rows_into, NamesTest, NeedsUpdate}
-use Rattle.rv_proofs.specs.Implied.{AreTestRows, AreForms, IsImplied, IsShownWith, HasBefore}
-use Rattle.rv_proofs.specs.Accepted.{AreProved, AreImplied, IsEntry}
-use Rattle.rv_proofs.specs.Verdicts.{IsUnproved}
+use Rattle.rv_proofs.specs.Ranges.{AreKept}
+use Rattle.rv_proofs.specs.Scopes.{Wanted, refutation, before, after, Implication, each, implications, rows_into}
+use Rattle.rv_proofs.specs.Implied.{IsImplied, IsShownWith, HasBefore}
+use Rattle.rv_proofs.specs.Accepted.{AreImplied}
 use Rattle.rv_proofs.specs.declared.certificate.Certificate.{Certificate}
 use Rattle.rv_proofs.specs.declared.certificate.Location.{Location}
 use Rattle.rv_proofs.specs.declared.certificate.Entry.{Entry}
@@ -26,8 +25,7 @@ use Rattle.rv_proofs.specs.declared.certificate.EntryKind.{EntryKind}
 use Rattle.rv_proofs.specs.declared.certificate.EntryKind.TheVariants.{Dead, Go, Loop}
 use Rattle.rv_proofs.proofs.Once.{implied_once}
 use Rattle.rv_proofs.proofs.Rooms.{has_room, stays_small}
-use Rattle.rv_accept.specs.Needs.{IsNamed, IsNeeded}
-use Rattle.rv_accept.specs.Passing.{AreLimited, AreFacts, AreAsked, AreKindAsked, HasRoom, AreShown, IsFirstUnshown, AreTried, HoldsWith, FailsFirst}
+use Rattle.rv_accept.specs.Passing.{AreFacts, AreAsked, AreKindAsked, HasRoom, AreTried, HoldsWith, FailsFirst}
 use Rattle.rv_accept.specs.Passing.{AreJudged, IsFirstUnimplied}
 use Rattle.rv_accept.proofs.Ranged.{few_each}
 use Rattle.rv_accept.proofs.Listing.{get_left, get_right, get_cases, all_at, all_from, asks, each_at, each_parts}

@@ -1,5 +1,5 @@
 -- What is given stays so as the store grows, and the answers of the tests put together.
-use Rattle.std.proofs.Common.{ℕ, ◌+◌, ◌-◌, ◌*◌, ◌/◌, ◌<◌, ◌≤◌, ◌≡◌, ◌↔◌, ◌&&◌, Bool, true, false, List, [], ◌∷◌, length, refl, sym, ap, ◌∙◌, subst, ⊎_elim}
+use Rattle.std.proofs.Common.{ℕ, ◌+◌, ◌-◌, ◌*◌, ◌/◌, ◌<◌, ◌≤◌, ◌≡◌, ◌&&◌, Bool, true, false, List, [], ◌∷◌, length, refl, sym, ◌∙◌, subst, ⊎_elim}
 use Rattle.std.proofs.Common.{inl, inr, arith}
 use Rattle.std.proofs.Common.{Result, Ok, Err, IfOk, Option, Some, MatchOption, MatchBool, IsTrue, slice_get}
 use Rattle.std.proofs.Common.{None as Nothing}
@@ -12,7 +12,6 @@ use Rattle.rv_rows.specs.declared.farkas.Multipliers.{Multipliers}
 use Rattle.rv_proofs.specs.Systems.{System, IsSystem, IsState}
 use Rattle.rv_proofs.specs.Counts.{HasLoop, HasKindCounts}
 use Rattle.rv_proofs.specs.Ranges.{IsControlSet, IsCondition, IsInRange}
-use Rattle.rv_proofs.specs.Scopes.{IsInScope}
 use Rattle.rv_proofs.specs.Accepted.{AreProved, IsIncluded, IsCovered, IsObserved, IsStepKind, IsDeadKind, IsEntry, Leads, LeadsInto}
 use Rattle.rv_proofs.specs.Verdicts.{IsUnobserved, LeadsElsewhere, IsTarget, IsFirst, IsUnproved}
 use Rattle.rv_proofs.specs.declared.certificate.Certificate.{Certificate}

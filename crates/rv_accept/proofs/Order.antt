@@ -1,22 +1,11 @@
 -- The order of the reasons.
-use Rattle.std.proofs.Common.{ℕ, ◌+◌, ◌<◌, ◌≤◌, ◌≡◌, ◌⊎◌, ◌==◌, Bool, true, false, List, [], ◌∷◌, ◌++◌, length, get_or, refl, sym, ap, ◌∙◌, subst, ⊎_elim}
-use Rattle.std.proofs.Common.{inl, inr, arith, Some, slice_get}
+use Rattle.std.proofs.Common.{ℕ, ◌+◌, ◌≡◌, ◌⊎◌, ◌==◌, Bool, false, List, [], ◌∷◌, ◌++◌, length, get_or, refl, ap, ◌∙◌, ⊎_elim}
+use Rattle.std.proofs.Common.{inl, inr, arith}
 use Rattle.std.proofs.lemmas.Bool.{cases_lt, eq-eqb}
-use Rattle.std.proofs.lemmas.Option.{same_Some}
-use Rattle.rv_diagram.specs.Nodes.{Valuation, valuation_of, ComesBefore}
-use Rattle.rv_proofs.specs.Systems.{System}
-use Rattle.rv_proofs.specs.Counts.{HasLoop}
-use Rattle.rv_proofs.specs.Scopes.{IsSettled, Implication, implications}
-use Rattle.rv_proofs.specs.Implied.{IsImplied}
-use Rattle.rv_proofs.specs.Accepted.{IsEntry, IsStepKind}
-use Rattle.rv_proofs.specs.Verdicts.{LacksInitial, IsUncovered, IsUnobserved, LeadsElsewhere, IsNotIncluded, Fails, place, word_of, IsBefore, IsFirst}
-use Rattle.rv_proofs.specs.declared.certificate.Certificate.{Certificate}
-use Rattle.rv_proofs.specs.declared.certificate.Location.{Location}
-use Rattle.rv_proofs.specs.declared.certificate.Entry.{Entry}
+use Rattle.rv_diagram.specs.Nodes.{Valuation, ComesBefore}
+use Rattle.rv_proofs.specs.Verdicts.{place, IsBefore}
 use Rattle.rv_proofs.specs.declared.verdict.Reason.{Reason}
 use Rattle.rv_proofs.specs.declared.verdict.Reason.TheVariants as reason
-use Rattle.rv_accept.specs.Steps.{IsLeastWord}
-use Rattle.rv_accept.specs.Passing.{NoneBefore}
 use Rattle.rv_accept.proofs.Growing.{clash}
 
 -- PLACES

@@ -1,7 +1,7 @@
 -- What the counts and ranges of a certificate say of the implications of an entry, kind by kind.
-use Rattle.std.proofs.Common.{ℕ, zero, suc, ◌+◌, ◌<◌, ◌≤◌, ◌≡◌, ◌≢◌, ◌↔◌, ◌⊎◌, ◌^◌, pos, Bool, List, [], ◌∷◌, ◌++◌, length, length-append, All, refl, sym, ap}
-use Rattle.std.proofs.Common.{◌∙◌, subst, ⊎_elim, inl, inr, arith, Option, Some, slice_get}
-use Rattle.std.proofs.lemmas.List.Elements.{All-head, All-append, All-weaker}
+use Rattle.std.proofs.Common.{ℕ, zero, suc, ◌+◌, ◌<◌, ◌≤◌, ◌≡◌, ◌≢◌, ◌⊎◌, ◌^◌, pos, Bool, List, [], ◌∷◌, ◌++◌, length, length-append, All, refl, sym}
+use Rattle.std.proofs.Common.{◌∙◌, subst, ⊎_elim, inr, arith, Option, Some, slice_get}
+use Rattle.std.proofs.lemmas.List.Elements.{All-append, All-weaker}
 use Rattle.std.proofs.lemmas.Option.{none-some, same_Some, slice_get_within}
 use Rattle.rv_rows.specs.declared.linear.Row.{Row}
 use Rattle.rv_rows.specs.declared.farkas.Weight.{Weight}

@@ -1,10 +1,8 @@
 -- What is given to the checker can be met.
-use Rattle.std.proofs.Common.{ℕ, zero, suc, ◌+◌, ◌*◌, ◌<◌, ◌≤◌, ◌≡◌, Bool, true, false, cond, not, List, [], ◌∷◌, length, refl, sym, ap, ◌∙◌, subst, arith}
-use Rattle.std.proofs.Common.{Some, slice_get}
+use Rattle.std.proofs.Common.{ℕ, zero, suc, ◌<◌, ◌≡◌, Bool, true, false, cond, not, [], ◌∷◌, refl, ◌∙◌, subst, arith}
 use Rattle.std.proofs.lemmas.Option.{none-some, same_Some}
 use Rattle.rv_diagram.specs.Nodes.{Valuation, value_of, value_among, IsRef}
 use Rattle.rv_diagram.specs.Several.{ref_at}
-use Rattle.rv_proofs.specs.Systems.{System}
 use Rattle.rv_proofs.specs.Counts.{HasLoop, HasFree}
 use Rattle.rv_proofs.specs.Samples.{counting, counted, at_first, at_later, counting_on}
 use Rattle.rv_proofs.specs.declared.certificate.Location.{Location}
@@ -14,7 +12,6 @@ use Rattle.rv_cases.specs.Samples.{counting_nodes, counting_diagrams, counting_q
 use Rattle.rv_cases.proofs.Sampling.{asked}
 use Rattle.rv_symbolic.specs.Represented.{HaveRefs, AreParts}
 use Rattle.rv_accept.specs.Samples.{counting_parts}
-use Rattle.rv_accept.specs.Held.{IsHeld}
 use Rattle.rv_accept.specs.Passing.{IsGiven}
 
 at_one : (v : Valuation) → value_of counting_nodes 1 v ≡ true

@@ -38,7 +38,7 @@ use Rattle.rv_agreement.specs.Valuations.{Valuation, Reading, at_point, holds_tr
 use Rattle.rv_agreement.specs.Valuations.{IsSymbolic, Comparison, all_comparisons, IsPresent, IsRowOf, read, tested, Agrees, updated, next_tick, IsCoded}
 use Rattle.rv_agreement.specs.Valuations.{IsCodedAs, IsAllowed}
 use Rattle.rv_agreement.specs.Agreement as flats
-use Rattle.rv_agreement.specs.Agreement.{point, IsSpelledAs, Leads, found_in, IsWholeInstant, IsTyped, IsSpelled, Spells, IsAgreed, value_there, bit_count}
+use Rattle.rv_agreement.specs.Agreement.{point, IsSpelledAs, Leads, found_in, IsWholeInstant, IsTyped, IsSpelled, Spells, IsAgreed, value_there}
 use Rattle.rv_agreement.specs.Programs.{FoundAt, is_there, meant, given_by, IsInstantOf, Compared, IsComparison, in_flow, in_memory, in_assertion, label_counts}
 use Rattle.rv_agreement.specs.Programs.{kinds_of, input_kinds, columns_of, found_by, IsSymbolicOf, tested_in, AgreesWith, found_of, HasProducts}
 use Rattle.rv_agreement.specs.Translation.{Numbers, Names, AreNamed, clock_number, tick_number, flat_of, delay_item, assertion_item, flat_compared, IsClockOf}

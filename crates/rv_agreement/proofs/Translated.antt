@@ -14,7 +14,7 @@ use Rattle.rv_types.specs.Types.{is_constant}
 use Rattle.rv_types.specs.Lists.{sides_of}
 use Rattle.rv_types.specs.Scopes.{node_scope, constant_value}
 use Rattle.rv_types.specs.Instances.{Instance, place, absolute, clock_of, clock_in, output_place}
-use Rattle.rv_agreement.specs.Trees.{FlatTree, TreeForm, Item, nth_item}
+use Rattle.rv_agreement.specs.Trees.{FlatTree, Item, nth_item}
 use Rattle.rv_agreement.specs.Trees as flat
 use Rattle.rv_agreement.specs.Evaluation.{Reads, Found}
 use Rattle.rv_agreement.specs.Evaluation as by

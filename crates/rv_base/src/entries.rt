@@ -1,7 +1,6 @@
 //! Named bytes in memory, the newest first.
 
-ghost use Rattle.std.specs.Prelude.{◌≡◌, ◌+◌, ◌∷◌, take, IfOk, OnOk, OnErr, MatchBool, Contains, option_map};
-ghost use Rattle.std.specs.String.{string_bytes};
+ghost use Rattle.std.specs.Prelude.{◌≡◌, ◌+◌, take, IfOk, OnOk, OnErr, MatchBool, Contains, option_map};
 ghost use Rattle.std.specs.FinMap.{get, insert};
 
 use crate::Memory;

@@ -1,6 +1,6 @@
 //! Lists of sites that share their front: the places of one instance share the way to it.
 
-ghost use Rattle.std.specs.Prelude.{◌≡◌, ◌<◌, ◌↔◌, [], ◌∷◌, ◌++◌, IfOk, IfSome, IfNone, IsTrue, Some, nat_eq, length, slice_get, ◌-◌, ◌^◌, take};
+ghost use Rattle.std.specs.Prelude.{◌≡◌, ◌<◌, ◌↔◌, [], ◌∷◌, ◌++◌, IfOk, IfSome, IfNone, IsTrue, Some, nat_eq, length, slice_get, ◌-◌, take};
 ghost use Rattle.std.specs.Cmp.{nat_eq_equiv, partial_equiv_from_equiv};
 ghost use Rattle.std.specs.Cmp.Lexicographic.{pointwise, slice_cmp, lists_per, lists_equiv};
 ghost use Rattle.std.specs.Ordering.{nat_cmp};

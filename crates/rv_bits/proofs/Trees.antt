@@ -4,7 +4,6 @@ use Rattle.rv_base.specs.declared.value.Value.{Value}
 use Rattle.rv_agreement.specs.Trees.{Node, Constant, Memory, Ticked, Not, If, AtMostOne, When}
 use Rattle.rv_flat.specs.declared.parts.FlatExpr.{FlatExpr}
 use Rattle.rv_flat.specs.declared.parts.FlatForm.{FlatForm}
-use Rattle.rv_flat.specs.declared.parts.FlatForm.TheOpen.{FlatExpr-F}
 use Rattle.rv_flat.specs.declared.parts.FlatForm.TheOpen as step
 use Rattle.rv_flat.specs.declared.parts.FlatForm.TheFolds.{fold-FlatForm, fold_out-FlatExpr, fold-roll-FlatForm}
 use Rattle.rv_flat.specs.declared.parts.FlatForm.TheViews.{rolls-Constant, rolls-Memory, rolls-Ticked, rolls-Not, rolls-If, rolls-AtMostOne, rolls-When}

@@ -1,19 +1,17 @@
 -- What tighter premises show at once.
-use Rattle.std.proofs.Common.{◌≡◌, ℕ, ◌+◌, ◌-◌, ◌≤◌, ◌<◌, ℤ, pos, negsuc, ◌+ℤ◌, ◌≤ℤ◌, List, [], ◌∷◌, ◌++◌, length, get_or, slice_get, Some, Bool, true, false}
-use Rattle.std.proofs.Common.{cond, IsTrue, arith, refl, ap, sym, ◌∙◌, ◌⊎◌, inl, inr, subst}
+use Rattle.std.proofs.Common.{◌≡◌, ℕ, ◌+◌, ◌-◌, ◌≤◌, ◌<◌, ℤ, pos, negsuc, ◌+ℤ◌, ◌≤ℤ◌, List, [], ◌++◌, length, get_or, slice_get, Bool, true, false}
+use Rattle.std.proofs.Common.{cond, IsTrue, arith, refl, ap, sym, ◌∙◌, ◌⊎◌, inl, inr}
 use Rattle.std.proofs.lemmas.Int.{ints}
 use Rattle.std.proofs.lemmas.Bool.{cases_lt}
 use Rattle.std.proofs.lemmas.Option.{slice_get-get_or}
 use Rattle.std.proofs.lemmas.List.{get_or_append_left, get_or-append_right, length-append, get_or_default}
-use Rattle.std.specs.List.{Contains}
 use Rattle.rv_diagram.specs.Nodes.{Valuation}
 use Rattle.rv_rows.specs.declared.linear.Row.{Row}
 use Rattle.rv_rows.specs.Rows.{coefficient, row_at}
-use Rattle.rv_rows.specs.Forms.{IsSubstituted}
 use Rattle.rv_rows.specs.Multipliers.{ShowsAtOnce, by_none, by_one, by_two}
-use Rattle.rv_proofs.specs.Systems.{System, HasSameState, rows_of, updates_of}
-use Rattle.rv_proofs.specs.RowClaims.{RowClaim, IsCandidate, IsRowClaim, IsRowTaken, IsRowClosed, IsRowGood, HasGoodRows, HasTighter, IsRowTighter, premises_at}
-use Rattle.rv_claims.specs.Order.{IsBelowClosed, IsBottom, IsShownBy, IsRaised}
+use Rattle.rv_proofs.specs.Systems.{System, HasSameState, rows_of}
+use Rattle.rv_proofs.specs.RowClaims.{RowClaim, IsRowClaim, IsRowTaken, IsRowGood, HasGoodRows, HasTighter, IsRowTighter, premises_at}
+use Rattle.rv_claims.specs.Order.{IsBelowClosed, IsBottom, IsRaised}
 
 -- each premise has one with its left side and at most its bound, and different ones have different ones
 pub record At (as' bs : List Row) (i : ℕ) : Type 0 where

@@ -1,9 +1,8 @@
 -- A run of a flat system is one of its program, in whole numbers of any size.
-use Rattle.std.proofs.Common.{◌≡◌, ◌⊎◌, inl, inr, ℕ, zero, suc, ◌+◌, ◌<◌, ◌≤◌, Bool, true, false, ◌||◌, List, [], ◌∷◌, ◌++◌, length, length-append, map, get_or}
+use Rattle.std.proofs.Common.{◌≡◌, inl, inr, ℕ, zero, suc, ◌+◌, ◌<◌, ◌≤◌, Bool, false, ◌||◌, List, [], ◌∷◌, ◌++◌, length, length-append, map, get_or}
 use Rattle.std.proofs.Common.{refl, sym, ◌∙◌, ap, subst, arith, slice_get}
-use Rattle.std.proofs.Common.{Option, None as Nothing, Some}
+use Rattle.std.proofs.Common.{None as Nothing, Some}
 use Rattle.std.specs.FinMap.{empty}
-use Rattle.std.specs.List.{Contains}
 use Rattle.std.proofs.lemmas.List.{ext_get_or, get_or-map, get_or_push, get_or_append_left}
 use Rattle.std.proofs.Math.Nat.{eq-or-lt_of_le}
 use Rattle.std.proofs.Math.ListN.{length-map}
@@ -14,13 +13,13 @@ use Rattle.rv_tree.specs.Places.{Identifier, Sites, index_of}
 use Rattle.rv_types.specs.declared.typed.Kind.{Kind}
 use Rattle.rv_types.specs.declared.typed.Kind.TheVariants as kind
 use Rattle.rv_types.specs.Instances.{IsNode}
-use Rattle.rv_types.specs.Lists.{AreRising, MemoryAt, memory_at}
+use Rattle.rv_types.specs.Lists.{AreRising, memory_at}
 use Rattle.rv_types.specs.Values.{HasKind, labels_at}
 use Rattle.rv_types.specs.WellFormed.{AreWell}
 use Rattle.rv_meaning.specs.Runs.{History, Instant, cells, AreStarts, AreInputs, IsRun}
 use Rattle.rv_meaning.specs.Instants.{State as Brought, IsInstant, IsNext}
 use Rattle.rv_meaning.specs.Following.{IsStateAt, AreSteps}
-use Rattle.rv_agreement.specs.Agreement.{State, HasKind as HasKindIn, IsWholeInstant}
+use Rattle.rv_agreement.specs.Agreement.{State, HasKind as HasKindIn}
 use Rattle.rv_agreement.specs.Agreement as agreement
 use Rattle.rv_agreement.specs.Evaluation as evaluation
 use Rattle.rv_agreement.specs.Evaluation.{IsInstant as IsSystemInstant, integers}
@@ -33,7 +32,7 @@ use Rattle.rv_flat.specs.FlatOf.{IsFlatOf, flat_state, flat_inputs, row_of, inst
 use Rattle.rv_flat.specs.Lists.{tick_places}
 use Rattle.rv_flat.specs.Steps.{label_counts, memory_kinds, input_kinds}
 use Rattle.rv_flat.specs.SystemRuns.{HasRun}
-use Rattle.rv_flat.specs.Systems.{flow_item, kept_of, memory_of}
+use Rattle.rv_flat.specs.Systems.{flow_item, kept_of}
 use Rattle.rv_flat.proofs.Running.{all_false}
 use Rattle.rv_flat.proofs.SystemRuns.{kept_kinds, kept_items}
 use Rattle.rv_flat.proofs.TickList.{number_at}

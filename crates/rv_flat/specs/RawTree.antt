@@ -4,7 +4,7 @@ use Rattle.rv_base.specs.declared.value.Value.{Value}
 use Rattle.rv_tree.specs.declared.tree.Op.{Op}
 use Rattle.rv_tree.specs.Places.{Sites}
 use Rattle.rv_flat.specs.declared.parts.FlatExpr.{FlatExpr}
-use Rattle.rv_flat.specs.declared.parts.FlatForm.TheOpen.{FlatForm-F, FlatExpr-F}
+use Rattle.rv_flat.specs.declared.parts.FlatForm.TheOpen.{FlatForm-F}
 use Rattle.rv_flat.specs.declared.parts.FlatForm.TheOpen as step
 use Rattle.rv_flat.specs.declared.parts.FlatForm.TheFolds.{fold-FlatExpr}
 

@@ -18,7 +18,7 @@ use Rattle.rv_tree.specs.declared.tree.Op.TheVariants as op
 use Rattle.rv_tree.specs.SitedParts.{SitedPart, part}
 use Rattle.rv_tree.specs.Sites.{is_comparison}
 use Rattle.rv_tree.specs.Tree as tree
-use Rattle.rv_tree.specs.Tree.{Tree, Form, Trees, AssertionTree, ProgramTree}
+use Rattle.rv_tree.specs.Tree.{Tree, Form, Trees, ProgramTree}
 use Rattle.rv_tree.specs.Places.{Identifier, Sites, flows as flows_of, is_flow, index_of, site_of}
 use Rattle.rv_tree.specs.Delays.{Delay, node_delays}
 use Rattle.rv_types.specs.declared.typed.Kind.{Kind}

@@ -1,10 +1,10 @@
 -- What stands in a node that keeps the rules is free or on a clock.
-use Rattle.std.proofs.Common.{◌≡◌, ℕ, ◌+◌, List, [], ◌∷◌, length, refl, sym, ap, subst, arith, unwrap_or, Option}
+use Rattle.std.proofs.Common.{◌≡◌, ℕ, List, [], ◌∷◌, length, refl, sym, ap, subst, arith, unwrap_or, Option}
 use Rattle.std.specs.List.{Contains}
 use Rattle.std.proofs.lemmas.List.Elements.{Contains-append_left}
 use Rattle.rv_tree.specs.declared.tree.Name.{Name}
 use Rattle.rv_tree.specs.Tree.{Tree, Node, Form, Call, Trees, EquationTree, NodeTree, ProgramTree}
-use Rattle.rv_tree.specs.Places.{Identifier, site_of}
+use Rattle.rv_tree.specs.Places.{site_of}
 use Rattle.rv_types.specs.declared.typed.Clock.{Clock}
 use Rattle.rv_types.specs.declared.typed.Clock.TheVariants.{Base}
 use Rattle.rv_types.specs.declared.fault.Pace.{Pace}

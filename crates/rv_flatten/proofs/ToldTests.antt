@@ -17,7 +17,6 @@ use Rattle.rv_types.specs.WellFormed.{IsWellFormed, IsWellTyped, AreWell}
 use Rattle.rv_types.proofs.HeadKinds.{head_is}
 use Rattle.rv_types.proofs.TypedParts.{left_typed}
 use Rattle.rv_agreement.specs.Programs.{is_test}
-use Rattle.rv_flatten.specs.declared.comparisons.Tested.{Tested}
 use Rattle.rv_flatten.specs.Compared.{is_told_test, own_tests_by, tests_by, form_tests_by, tests_of_all_by, tests_in_equations_by, tests_in_assertions_by}
 use Rattle.rv_flatten.specs.Compared.{tests_in, told_tests_in}
 use Rattle.rv_flat.proofs.Members.{at_head, in_tail}

@@ -24,7 +24,7 @@ use Rattle.rv_types.specs.Lists.{AreMemories, IsAny, delay_place, memory_at}
 use Rattle.rv_agreement.specs.Programs.{operator_place, coefficient, operation}
 use Rattle.rv_agreement.specs.Translation.{Numbers, clock_number, tick_number, flat_of, flat_form, flats_of, giver_item, delay_item, IsTranslated}
 use Rattle.rv_agreement.specs.Translation as translation
-use Rattle.rv_agreement.specs.Trees.{FlatTree, TreeForm, FlatTrees, Item, System, no_item, nth_item, memory_items}
+use Rattle.rv_agreement.specs.Trees.{FlatTree, TreeForm, Item, System, no_item}
 use Rattle.rv_agreement.specs.Trees as flat
 use Rattle.rv_flat.specs.declared.parts.Bit.{Bit}
 use Rattle.rv_flat.specs.declared.parts.FlatExpr.{FlatExpr}

@@ -1,5 +1,5 @@
 -- A call put into a list of them.
-use Rattle.std.proofs.Common.{◌≡◌, ℕ, ◌+◌, ◌<◌, List, [], ◌∷◌, ◌++◌, map, length, sym, ◌∙◌, ap, arith, slice_set}
+use Rattle.std.proofs.Common.{◌≡◌, ℕ, ◌+◌, ◌<◌, List, ◌∷◌, ◌++◌, map, length, ◌∙◌, ap, arith, slice_set}
 use Rattle.std.proofs.lemmas.List.{length-map, length-append, map-set}
 use Rattle.std.proofs.Math.Seq.{set-append_seam}
 use Rattle.rv_instances.specs.declared.clocked_calls.ClockedCall.{ClockedCall}

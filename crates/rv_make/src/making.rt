@@ -3,7 +3,7 @@
 ghost use Rattle.std.specs.Prelude.{◌≡◌, ◌≤◌, ◌<◌, ◌^◌, ◌+◌, ◌++◌, ℕ, codes, IfOk, OnOk, length};
 ghost use Rattle.std.specs.String.{string_bytes};
 ghost use Rattle.rv_base.specs.Limits.{source_limit};
-ghost use Rattle.rv_make.specs.Made.{made_text, line, link_text, main_text, link_name, declared_links, link_equation, link_equations};
+ghost use Rattle.rv_make.specs.Made.{made_text, line, main_text, link_name, declared_links, link_equation, link_equations};
 
 use rv_base::{Memory, Text};
 use std::alloc::{AllocError, Global};

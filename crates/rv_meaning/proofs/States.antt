@@ -1,22 +1,12 @@
 -- A history brings a state to each instant, where each `pre` and `current` of a node has a site of its own. Without that
 -- two memories with different values could have one place, and no state would hold both.
-use Rattle.std.proofs.Common.{◌≡◌, ℕ, ◌<◌, Bool, true, false, cond, nat_eq, List, [], ◌∷◌, ◌++◌, length, get_or, refl, sym, ◌∙◌, ap, arith, ◌⊎◌, inl, inr}
+use Rattle.std.proofs.Common.{◌≡◌, ℕ, ◌<◌, Bool, true, false, cond, nat_eq, List, [], ◌∷◌, length, get_or, refl, sym, ◌∙◌, ap, arith, ◌⊎◌, inl, inr}
 use Rattle.std.proofs.Common.{Option, Some, unwrap_or, ◌||◌}
 use Rattle.std.proofs.Common.{None as Nothing}
-use Rattle.std.proofs.lemmas.List.{append_assoc}
 use Rattle.std.specs.List.{Contains}
-use Rattle.rv_base.specs.declared.value.Value.{Value}
-use Rattle.rv_base.specs.declared.value.Value.TheVariants.{Flag}
-use Rattle.rv_tree.specs.Tree.{Tree, Node, Named, NodeTree, ProgramTree}
-use Rattle.rv_tree.specs.Places.{Identifier, Sites, flows, site_of, is_same, is_among, is_flow, memory_site}
+use Rattle.rv_tree.specs.Tree.{Tree, Node, Named, NodeTree}
+use Rattle.rv_tree.specs.Places.{Identifier, flows, site_of, is_same, is_among, is_flow, memory_site}
 use Rattle.rv_tree.specs.Delays.{Delay, node_delays, IsNumbered}
-use Rattle.rv_types.specs.declared.typed.Clock.TheVariants.{Base}
-use Rattle.rv_types.specs.Instances.{CallTree, calls, Instance, clock_in, main_instance, callee, IsInstance, is_main, is_callee, IsNode}
-use Rattle.rv_types.specs.WellFormed.{AreWell}
-use Rattle.rv_meaning.specs.Meaning.{Cells, was_there, last_before, kept_place, content}
-use Rattle.rv_meaning.specs.Instants.{State}
-use Rattle.rv_meaning.specs.Following.{held_before, IsStateAt}
-use Rattle.rv_meaning.proofs.Acceptable.{node_in, formed}
 use Rattle.rv_meaning.proofs.NameLemmas.{same_text, index_at, contains_head, contains_tail, contains_cases, none_in}
 use Rattle.rv_meaning.proofs.Rows.{no_flag}
 

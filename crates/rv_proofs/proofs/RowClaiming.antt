@@ -7,12 +7,10 @@ use Rattle.rv_rows.specs.Rows.{coefficient}
 use Rattle.std.proofs.lemmas.Option.{same_Some, none-some}
 use Rattle.rv_diagram.specs.Nodes.{Valuation}
 use Rattle.rv_rows.specs.declared.linear.Row.{Row}
-use Rattle.rv_rows.specs.Multipliers.{Proves}
 use Rattle.rv_proofs.specs.Counters.{row2, form2, pair_row, paired, less, more, equal_rows}
 use Rattle.rv_rows.specs.declared.linear.Form.{Form}
 use Rattle.rv_rows.specs.Forms.{number, IsSubstituted}
 use Rattle.rv_rows.specs.Rows.{dot}
-use Rattle.rv_rows.specs.Multipliers.{Refutes}
 use Rattle.rv_proofs.specs.Systems.{updates_of}
 use Rattle.rv_proofs.specs.RowClaims.{IsCandidate, IsRowClaim, premises_at, IsRowClosed, IsRowGood}
 use Rattle.rv_rows.specs.Multipliers.{ShowsAtOnce, AreShutAtOnce}

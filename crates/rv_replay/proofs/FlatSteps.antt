@@ -33,7 +33,7 @@ use Rattle.rv_flat.proofs.Running.{RunIsInstants, StatesOfRun, all_false, same_k
 use Rattle.rv_flat.proofs.Typing.{memory_found}
 use Rattle.rv_step.specs.Ranges.{is_outside}
 use Rattle.rv_replay.specs.Observers.{IsObserved}
-use Rattle.rv_replay.specs.Replays.{HasOutgrown, StaysWithin}
+use Rattle.rv_replay.specs.Replays.{HasOutgrown}
 use Rattle.rv_replay.specs.Replays as replays
 
 -- What is taken from the flat systems: steps are the run.

@@ -1,4 +1,4 @@
-ghost use Rattle.std.specs.Prelude.{◌≡◌, ℕ, ◌<◌, ◌≤◌, ◌^◌, ◌*◌, List, ℤ, pos, ◌+ℤ◌, ◌*ℤ◌, ◌+◌, ◌≤ℤ◌, All, length, MatchBool, IsTrue};
+ghost use Rattle.std.specs.Prelude.{◌≡◌, ◌<◌, ◌≤◌, ◌^◌, List, ℤ, pos, ◌+◌, ◌≤ℤ◌, All, length, MatchBool, IsTrue};
 ghost use Rattle.std.specs.Int.RustNames.{unsigned_abs};
 ghost use Rattle.rv_rows.specs.Rows.{coefficient, row_at, Holds, RowWithin};
 ghost use Rattle.rv_rows.specs.Multipliers.{weighted, Proves, Refutes, IsInRange, WeightsWithin, Sides, Cancels, SumsBelow};

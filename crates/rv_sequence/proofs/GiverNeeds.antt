@@ -16,7 +16,7 @@ use Rattle.rv_types.specs.Scopes.{node_scope}
 use Rattle.rv_types.specs.Types.{kind_of}
 use Rattle.rv_types.specs.ToldPaces.{IsTimed}
 use Rattle.rv_types.specs.WellFormed.{Suits}
-use Rattle.rv_types.specs.Instances.{CallTree, calls, calls_in, calls_in_equations, calls_in_assertions, Right, IsRight, alone, in_order, IsArgument, Instance}
+use Rattle.rv_types.specs.Instances.{CallTree, calls, calls_in, calls_in_equations, calls_in_assertions, Right, IsRight, alone, in_order, Instance}
 use Rattle.rv_types.specs.Instances.{absolute, clock_of, clock_of_args, taken, clock_taken, node_of, IsInstance}
 use Rattle.rv_types.specs.Instances as right
 use Rattle.rv_types.specs.Needs.{Giver, Given, Of, Gives, by_equation, by_call, flow_of, needs, needs_of}

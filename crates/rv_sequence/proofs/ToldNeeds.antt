@@ -7,7 +7,7 @@ use Rattle.rv_types.specs.declared.typed.Clock.TheVariants.{Base}
 use Rattle.rv_types.specs.Clocks.{seen, meet, pace, form_pace, pace_of_all}
 use Rattle.rv_types.specs.Instances.{clock_of, taken}
 use Rattle.rv_types.specs.ToldPaces.{IsTimed, told_clock}
-use Rattle.rv_types.proofs.ToldPaces.{seen_is, grounded_is, current_is, joined, operands, when_is, told_is}
+use Rattle.rv_types.proofs.ToldPaces.{seen_is, current_is, joined, operands, when_is, told_is}
 use Rattle.rv_instances.specs.Layouts.{Here}
 use Rattle.rv_instances.specs.NumberedNeeds.{listed, clock_number}
 use Rattle.rv_sequence.specs.Needed.{needed, form_needed, needed_by_all, form_needed_by, told_needed, told_needed_by_all}

@@ -19,7 +19,7 @@ use Rattle.rv_calls.specs.declared.fault.CauseFault.{CauseFault}
 use Rattle.rv_calls.specs.declared.fault.CauseFault.TheVariants as cause
 use Rattle.rv_source.specs.declared.fault.SourceFault.{SourceFault}
 use Rattle.rv_source.specs.declared.fault.SourceFault.TheVariants.{Text, Names, Cause, Memory}
-use Rattle.rv_causality.specs.Causes.{IsAccepted, IsCause, Orders}
+use Rattle.rv_causality.specs.Causes.{IsAccepted, IsCause}
 use Rattle.rv_causality.specs.Causes as cause_specs
 use Rattle.rv_source.specs.Sources.{IsSourceFault, HasSourceCause, RefusesSource, text_refusal, name_refusal, cause_refusal}
 use Rattle.rv_instances.proofs.Known.{called}

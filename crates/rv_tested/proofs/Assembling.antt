@@ -1,7 +1,6 @@
 -- The questions of a flat system, put together.
-use Rattle.std.proofs.Common.{◌≡◌, ◌≢◌, ◌⊎◌, inl, inr, ◌↔◌, ℕ, zero, suc, ◌+◌, ◌<◌, ◌≤◌, Bool, true, false, not, List, [], ◌∷◌, ◌++◌, length, length-append}
-use Rattle.std.proofs.Common.{map, refl, sym, ◌∙◌, ap, subst, arith, Option, Some}
-use Rattle.std.specs.Prelude.{slice_index_or}
+use Rattle.std.proofs.Common.{◌≡◌, ◌≢◌, inl, inr, ◌↔◌, ℕ, zero, suc, ◌+◌, ◌<◌, Bool, true, false, not, List, [], ◌∷◌, ◌++◌, length, length-append}
+use Rattle.std.proofs.Common.{map, refl, sym, ◌∙◌, ap, subst, arith, Option}
 use Rattle.std.proofs.lemmas.Bool.{cases_lt, cases_eq, false≢true}
 use Rattle.std.proofs.lemmas.List.{get_or_append_left, get_or-append-add, get_or-map, length-map}
 use Rattle.std.proofs.Math.Seq.{get_or-append_seam}
@@ -18,14 +17,13 @@ use Rattle.rv_symbolic.specs.Growing.{Extends}
 use Rattle.rv_symbolic.proofs.Extending.{extends_trans}
 use Rattle.rv_terms.specs.declared.parted.Part.{Part}
 use Rattle.rv_terms.specs.declared.parted.Term.{Term}
-use Rattle.rv_terms.specs.Parts.{no_form, part_at, holds, form_at, AreDifferent, IsTerm}
+use Rattle.rv_terms.specs.Parts.{no_form, part_at, holds, form_at, IsTerm}
 use Rattle.rv_terms.proofs.Combining.{form_is}
 use Rattle.rv_terms.proofs.Classes.{part_iff}
-use Rattle.rv_cases.specs.declared.asking.Questions.{Questions}
 use Rattle.rv_cases.specs.Conditions.{is_in, list_at}
-use Rattle.rv_cases.specs.Questions.{rows_at, forms_at, memory_answers, observer_answers}
+use Rattle.rv_cases.specs.Questions.{rows_at, forms_at}
 use Rattle.rv_forms.specs.Choices.{refs_in, forms_in}
-use Rattle.rv_forms.specs.Terms.{columns_of, parts_at, IsWithin, AreUpdatesRead}
+use Rattle.rv_forms.specs.Terms.{columns_of, parts_at, AreUpdatesRead}
 use Rattle.rv_tested.specs.Exact.{AreExact, form_answer, side_answer, row_answer, IsTestRead, IsMemoryRead, AreAsked}
 use Rattle.rv_tested.specs.Testing.{AreTestsRead, IsObserverAsked}
 use Rattle.rv_tested.proofs.Asking.{exact_later}

@@ -1,5 +1,5 @@
 -- The rows of a comparison are put to the answers of a test.
-use Rattle.std.proofs.Common.{◌≡◌, ◌↔◌, inl, inr, ℕ, zero, suc, ◌+◌, ◌<◌, ◌≤◌, Bool, true, false, cond, ◌||◌, ◌&&◌, List, length, refl, sym, ◌∙◌, ap, subst}
+use Rattle.std.proofs.Common.{◌≡◌, ◌↔◌, inl, inr, ℕ, ◌+◌, ◌<◌, ◌≤◌, Bool, true, false, cond, ◌||◌, ◌&&◌, List, length, refl, sym, ◌∙◌, ap, subst}
 use Rattle.std.proofs.Common.{arith, Option, Some}
 use Rattle.std.proofs.Common.{None as Nothing}
 use Rattle.std.specs.Prelude.{slice_set, is_none}
@@ -15,14 +15,13 @@ use Rattle.rv_diagram.specs.Several.{ref_at}
 use Rattle.rv_control.specs.Tightening.{tightened}
 use Rattle.rv_cases.specs.Conditions.{is_in}
 use Rattle.rv_symbolic.specs.Growing.{Extends}
-use Rattle.rv_symbolic.proofs.Extending.{extends_trans}
 use Rattle.rv_terms.specs.Growing as terms
 use Rattle.rv_terms.specs.declared.parted.Part.{Part}
 use Rattle.rv_terms.specs.Parts.{part_at, holds, form_at, among, AreRefs, AreDisjoint, Covers}
 use Rattle.rv_terms.proofs.Combining.{among-more, among_some, among_has, form_is}
 use Rattle.rv_tested.specs.declared.rows.Answered.{Answered}
 use Rattle.rv_tested.specs.Rows.{IsLaid, HasRows, IsPut, IsAnswered, first_of}
-use Rattle.rv_tested.proofs.Putting.{laid_later, in_later, rows_as, rows_later, put_none, put_both, put_as, put_after}
+use Rattle.rv_tested.proofs.Putting.{rows_as, rows_later, put_none, put_both, put_as, put_after}
 
 pub as_terms : (a b : Diagrams) → Extends a b → terms.Extends a b
 as_terms a b e = record { begins = e.begins; longer = e.longer; kept = e.kept; variables = e.variables; limit = e.limit }

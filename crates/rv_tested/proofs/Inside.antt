@@ -1,7 +1,6 @@
 -- What a comparison of a flat system compares.
-use Rattle.std.proofs.Common.{◌≡◌, ◌≢◌, inl, inr, ℕ, zero, suc, ◌<◌, ◌≤◌, Bool, true, false, ◌&&◌, cond, nat_eq, List, [], ◌∷◌, ◌++◌, length, map, refl, sym}
-use Rattle.std.proofs.Common.{◌∙◌, ap, subst, arith, get_or, Option, Some}
-use Rattle.std.proofs.Common.{None as Nothing}
+use Rattle.std.proofs.Common.{◌≡◌, ◌≢◌, inl, inr, ℕ, zero, suc, ◌<◌, Bool, true, false, ◌&&◌, cond, nat_eq, List, [], ◌∷◌, ◌++◌, length, map, refl, sym}
+use Rattle.std.proofs.Common.{◌∙◌, ap, subst, arith, get_or, Option}
 use Rattle.std.specs.Prelude.{nat_abs, nat_le}
 use Rattle.std.specs.List.{Contains}
 use Rattle.std.proofs.lemmas.Bool.{and_parts, false≢true}
@@ -13,17 +12,17 @@ use Rattle.rv_base.specs.Limits.{heaviest}
 use Rattle.rv_tree.specs.Places.{Sites}
 use Rattle.rv_types.specs.declared.typed.Kind.{Kind}
 use Rattle.rv_types.specs.declared.typed.Kind.TheVariants as kind
-use Rattle.rv_types.specs.Lists.{Side, sides_of}
+use Rattle.rv_types.specs.Lists.{sides_of}
 use Rattle.rv_types.specs.Variables.{is_integer}
 use Rattle.rv_agreement.specs.Trees.{FlatTree, Node, TreeForm, FlatTrees, Constant, Flow, Memory, Ticked, Input, Not, Binary, Scale, If, AtMostOne, When}
 use Rattle.rv_agreement.specs.Trees.{Current, None, More, Item, nth_item, Kept as KeptMemory, System, memory_items, memory_kinds, kind_at}
 use Rattle.rv_agreement.specs.Valuations.{Comparison, is_placed, own, comparisons, form_comparisons, comparisons_of, item_comparisons, all_items}
 use Rattle.rv_agreement.specs.Valuations.{all_comparisons}
 use Rattle.rv_agreement.specs.Agreement.{IsNamed, IsPlaced, Fits, FormFits, AllFit, ItemFits, IsWell}
-use Rattle.rv_agreement.proofs.Matching.{none_in, in_own, only_one, read_in, from_flat_map, wider_item}
+use Rattle.rv_agreement.proofs.Matching.{none_in, in_own, read_in, from_flat_map, wider_item}
 use Rattle.rv_flat.specs.declared.flat.Flat.{Flat}
 use Rattle.rv_flat.specs.declared.parts.FlatMemory.{FlatMemory}
-use Rattle.rv_flat.specs.Facts.{flat_weight, form_flat_weight, is_light, form_is_light, all_light}
+use Rattle.rv_flat.specs.Facts.{form_flat_weight, is_light, form_is_light, all_light}
 use Rattle.rv_flat.specs.FlatInstants.{system_of}
 use Rattle.rv_flat.specs.Systems.{kept_of, memory_item}
 use Rattle.rv_flat.proofs.FlowWeights.{item_light}

@@ -1,6 +1,6 @@
 -- One row after another is put to the answers of a test.
-use Rattle.std.proofs.Common.{◌≡◌, ◌≢◌, ◌⊎◌, inl, inr, ◌↔◌, ℕ, suc, ◌+◌, ◌<◌, Bool, true, false, cond, ◌||◌, ◌&&◌, List, [], ◌∷◌, ◌++◌, length, length-append}
-use Rattle.std.proofs.Common.{refl, sym, ◌∙◌, ap, subst, ⊎_elim, arith, Option, Some}
+use Rattle.std.proofs.Common.{◌≡◌, ◌≢◌, ◌⊎◌, inl, inr, ◌↔◌, ℕ, ◌+◌, ◌<◌, Bool, true, false, cond, ◌||◌, List, [], ◌∷◌, ◌++◌, length, length-append}
+use Rattle.std.proofs.Common.{refl, sym, ◌∙◌, ap, subst, arith, Option, Some}
 use Rattle.std.proofs.Common.{None as Nothing}
 use Rattle.std.specs.Prelude.{slice_set}
 use Rattle.std.proofs.lemmas.Bool.{cases_lt, cases_eq, false≢true}
@@ -11,7 +11,7 @@ use Rattle.rv_rows.specs.Rows.{row_at}
 use Rattle.rv_diagram.specs.declared.Triple.{Triple}
 use Rattle.rv_diagram.specs.Nodes.{Valuation, Diagrams, IsRef, value_of}
 use Rattle.rv_diagram.specs.Several.{ref_at}
-use Rattle.rv_cases.specs.Conditions.{is_in, AreRefs}
+use Rattle.rv_cases.specs.Conditions.{is_in}
 use Rattle.rv_symbolic.specs.Growing.{Extends}
 use Rattle.rv_tested.specs.declared.rows.Answered.{Answered}
 use Rattle.rv_tested.specs.Rows.{IsLaid, HasRows, IsPut, IsAnswered}

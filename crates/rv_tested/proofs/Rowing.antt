@@ -1,16 +1,15 @@
 -- The row of a test among comparisons, one after another.
-use Rattle.std.proofs.Common.{◌≡◌, ◌⊎◌, inl, inr, ◌↔◌, ℕ, zero, suc, ◌+◌, ◌<◌, Bool, true, false, ◌&&◌, cond, List, [], ◌∷◌, ◌++◌, length, map, take, refl, sym}
+use Rattle.std.proofs.Common.{◌≡◌, ◌⊎◌, inl, inr, ◌↔◌, ℕ, zero, suc, ◌+◌, ◌<◌, Bool, true, false, ◌&&◌, cond, List, [], ◌∷◌, ◌++◌, length, refl, sym}
 use Rattle.std.proofs.Common.{◌∙◌, ap, subst, arith, Option, Some}
 use Rattle.std.proofs.Common.{None as Nothing}
-use Rattle.std.specs.Prelude.{slice_get, slice_index_or, is_none}
-use Rattle.std.specs.List.{Contains}
+use Rattle.std.specs.Prelude.{slice_get, is_none}
 use Rattle.std.proofs.lemmas.Bool.{cases_Bool, false≢true}
 use Rattle.std.proofs.lemmas.Option.{get_or_from_slice_get, slice_get_within}
 use Rattle.std.proofs.lemmas.List.{map_more}
 use Rattle.rv_tree.specs.declared.tree.Op.{Op}
 use Rattle.rv_tree.specs.declared.tree.Op.TheVariants as op
 use Rattle.rv_tree.specs.Places.{Sites}
-use Rattle.rv_types.specs.Lists.{Side, Variable, Test, sides_of}
+use Rattle.rv_types.specs.Lists.{Side, Test, sides_of}
 use Rattle.rv_rows.specs.declared.linear.Row.{Row}
 use Rattle.rv_rows.specs.declared.linear.Form.{Form}
 use Rattle.rv_rows.specs.Rows.{row_at}
@@ -24,11 +23,10 @@ use Rattle.rv_agreement.specs.Trees.{System}
 use Rattle.rv_agreement.specs.Evaluation.{is_there}
 use Rattle.rv_agreement.specs.Checks.{same_sites}
 use Rattle.rv_agreement.specs.Valuations.{Valuation, Reading, Linear, Comparison, Tested, is_of_integers, reads_at, read, side_form, tested, tested_form, width}
-use Rattle.rv_agreement.specs.Valuations.{IsSymbolic}
 use Rattle.rv_agreement.proofs.Chosen.{sites_itself}
 use Rattle.rv_flat.specs.declared.flat.Flat.{Flat}
 use Rattle.rv_flat.specs.FlatInstants.{system_of}
-use Rattle.rv_control.specs.Control.{control_of, has_side, is_present, row_among}
+use Rattle.rv_control.specs.Control.{has_side, is_present, row_among}
 use Rattle.rv_control.specs.Named.{named, truth_at, variables_of}
 use Rattle.rv_control.specs.Symbolic.{symbolic}
 use Rattle.rv_control.specs.Tightening.{tightened}
@@ -37,13 +35,12 @@ use Rattle.rv_control.proofs.Readings.{is_symbolic}
 use Rattle.rv_symbolic.specs.Growing.{Extends}
 use Rattle.rv_terms.specs.declared.parted.Part.{Part}
 use Rattle.rv_terms.specs.Parts.{form_at}
-use Rattle.rv_bits.specs.Shown.{is_there_at}
 use Rattle.rv_cases.specs.Conditions.{is_in}
 use Rattle.rv_tested.specs.declared.compared.Compared.{Compared}
 use Rattle.rv_tested.specs.declared.rows.Answered.{Answered}
 use Rattle.rv_tested.specs.declared.testing.Sides.{Sides}
 use Rattle.rv_tested.specs.Compared.{comparison_in}
-use Rattle.rv_tested.specs.Rows.{HasRows, IsAnswered, first_of}
+use Rattle.rv_tested.specs.Rows.{IsAnswered, first_of}
 use Rattle.rv_tested.specs.Exact.{AreExact, row_answer}
 use Rattle.rv_tested.specs.Testing.{AreSidesRead, IsTestTerm, row_in, first_comparisons}
 

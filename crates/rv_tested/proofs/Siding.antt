@@ -1,7 +1,6 @@
 -- The terms of the sides of comparisons.
-use Rattle.std.proofs.Common.{◌≡◌, ◌⊎◌, inl, inr, ℕ, zero, suc, ◌+◌, ◌*◌, ◌^◌, ◌<◌, ◌≤◌, ℤ, pos, negsuc, ◌+ℤ◌, ◌*ℤ◌, Bool, true, false, List, [], ◌∷◌, length}
-use Rattle.std.proofs.Common.{refl, sym, ◌∙◌, ap, subst, ⊎_elim, arith, Option, Some, All, get_or}
-use Rattle.std.specs.Prelude.{slice_get, nat_abs}
+use Rattle.std.proofs.Common.{◌≡◌, ◌⊎◌, inl, inr, ℕ, ◌+◌, ◌*◌, ◌^◌, ◌<◌, ◌≤◌, ℤ, pos, negsuc, ◌+ℤ◌, ◌*ℤ◌, Bool, true, false, List, length}
+use Rattle.std.proofs.Common.{sym, ◌∙◌, ap, subst, arith, Option, All, get_or}
 use Rattle.std.specs.Int.RustNames.{unsigned_abs}
 use Rattle.std.proofs.lemmas.Bool.{cases_lt, cases_Bool}
 use Rattle.std.proofs.lemmas.Int.{ints, unsigned_abs-mul}
@@ -9,7 +8,6 @@ use Rattle.std.proofs.lemmas.List.{get_or_past}
 use Rattle.std.proofs.lemmas.List.Elements.{All-from_get_or}
 use Rattle.rv_base.specs.Limits.{heaviest}
 use Rattle.rv_types.specs.declared.typed.Kind.TheVariants as kind
-use Rattle.rv_types.specs.Lists.{Side, AtMost, AtLeast}
 use Rattle.rv_rows.specs.declared.linear.Form.{Form}
 use Rattle.rv_rows.specs.Forms.{number, FormWithin, CanAdd, CanScale}
 use Rattle.rv_rows.specs.Arithmetic.{form_sum, form_times, form_difference}
@@ -17,15 +15,15 @@ use Rattle.rv_diagram.specs.declared.Triple.{Triple}
 use Rattle.rv_diagram.specs.Nodes.{Valuation, Diagrams, IsRef, value_of}
 use Rattle.rv_agreement.specs.Agreement.{Fits}
 use Rattle.rv_agreement.specs.Trees.{FlatTree}
-use Rattle.rv_agreement.specs.Valuations.{Reading, Linear, Comparison, IsSymbolic, side_form}
+use Rattle.rv_agreement.specs.Valuations.{Reading, Linear, Comparison, IsSymbolic}
 use Rattle.rv_flat.specs.declared.flat.Flat.{Flat}
 use Rattle.rv_flat.specs.FlatInstants.{system_of}
 use Rattle.rv_control.specs.Named.{named}
-use Rattle.rv_control.proofs.Bounded.{IsBounded, sum_bounded, times_bounded, difference_bounded}
+use Rattle.rv_control.proofs.Bounded.{IsBounded, times_bounded, difference_bounded}
 use Rattle.rv_symbolic.specs.Growing.{Extends}
 use Rattle.rv_terms.specs.declared.parted.Part.{Part}
 use Rattle.rv_terms.specs.declared.parted.Term.{Term}
-use Rattle.rv_terms.specs.Parts.{part_at, holds, form_at, term_width, AreRefs, AreDisjoint, AreFilled, IsTerm, IsTermOf}
+use Rattle.rv_terms.specs.Parts.{part_at, holds, form_at, term_width, AreDisjoint, AreFilled, IsTerm, IsTermOf}
 use Rattle.rv_terms.proofs.Combining.{form_is, form_later, holds_later, term_later, form_width}
 use Rattle.rv_terms.proofs.Multiples.{some_part}
 use Rattle.rv_bits.specs.Shown.{is_there_at}
@@ -34,7 +32,7 @@ use Rattle.rv_tested.specs.declared.compared.Compared.{Compared}
 use Rattle.rv_tested.specs.declared.testing.Sides.{Sides}
 use Rattle.rv_tested.specs.Compared.{comparison_in}
 use Rattle.rv_tested.proofs.Comparing.{as_terms}
-use Rattle.rv_tested.specs.Testing.{IsSideRead, AreSidesRead, AreAllRead, IsFormed, IsDifference}
+use Rattle.rv_tested.specs.Testing.{IsSideRead, AreSidesRead, AreAllRead, IsDifference}
 
 -- LATER
 

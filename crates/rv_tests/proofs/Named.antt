@@ -1,9 +1,8 @@
 -- The one file that the words of a command `prove` name.
-use Rattle.std.proofs.Common.{◌≡◌, ◌⊎◌, inl, inr, ℕ, Bool, List, Option, Some, None, ap, subst, sym}
-use Rattle.rv_words.specs.Asked.{Asked, prove}
+use Rattle.std.proofs.Common.{◌≡◌, inl, inr, ℕ, Bool, List, Some, None, ap, subst, sym}
+use Rattle.rv_words.specs.Asked.{prove}
 use Rattle.rv_words.specs.Words.{command}
 use Rattle.rv_run.specs.Words.{IsNamed, wanted, wanted_of}
-use Rattle.rv_run.specs.declared.words.Task.{Task}
 
 same_pair : (a b : List ℕ × List ℕ) → Some a ≡ Some b → a ≡ b
 same_pair a b h = cc

@@ -1,6 +1,6 @@
 //! What is answered on decision diagrams over the variables 0 and 1, here x and y.
 
-ghost use Rattle.std.specs.Prelude.{◌≡◌, IfOk};
+ghost use Rattle.std.specs.Prelude.{◌≡◌};
 ghost use Rattle.rv_diagram.specs.Nodes.{IsRef};
 
 use rv_base::{Many, Memory};

@@ -1,6 +1,6 @@
 //! What the whole program does over files and sinks in memory. What cannot be read has no answer.
 
-ghost use Rattle.std.specs.Prelude.{◌≡◌, ◌≢◌, ◌⊎◌, ℕ, List, Some, IsTrue, IfOk};
+ghost use Rattle.std.specs.Prelude.{◌≡◌, ◌≢◌, ◌⊎◌, ℕ, List, Some, IsTrue};
 ghost use Rattle.std.specs.FinMap.{contains_key};
 ghost use Rattle.rv_base.specs.SureFiles.{held_by};
 ghost use Rattle.rv_base.specs.MemoryFiles as memory_files;

@@ -11,7 +11,7 @@ use Rattle.rv_tree.specs.declared.tree.Assertion.{Assertion}
 use Rattle.rv_tree.specs.declared.tree.Node as declared
 use Rattle.rv_tree.specs.declared.tree.Program.{Program}
 use Rattle.rv_tree.specs.declared.tree.Expr.{Expr}
-use Rattle.rv_tree.specs.declared.tree.ExprForm.TheOpen.{ExprForm-F, Expr-F}
+use Rattle.rv_tree.specs.declared.tree.ExprForm.TheOpen.{ExprForm-F}
 use Rattle.rv_tree.specs.declared.tree.ExprForm.TheOpen as step
 use Rattle.rv_tree.specs.declared.tree.ExprForm.TheFolds.{fold-Expr}
 

@@ -1,5 +1,5 @@
 -- The numbers of a command are within their ranges.
-use Rattle.std.proofs.Common.{◌≡◌, ℕ, ◌≤◌, Bool, true, false, List, Option, Some, None, refl, subst, sym, ap, arith, ◌&&◌}
+use Rattle.std.proofs.Common.{◌≡◌, ℕ, Bool, true, false, List, Option, Some, None, refl, subst, arith, ◌&&◌}
 use Rattle.std.specs.Prelude.{option_map, option_and_then, if◌then◌else◌, nat_le, codes}
 use Rattle.std.specs.Option.{option_map_or}
 use Rattle.std.specs.Str.{bytes_eq}

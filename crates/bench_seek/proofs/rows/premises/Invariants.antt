@@ -1,4 +1,4 @@
-use Rattle.std.proofs.Common.{◌≡◌, ◌^◌, ◌≤◌, All, length}
+use Rattle.std.proofs.Common.{◌≡◌, ◌^◌, All, length}
 use Rattle.rv_rows.specs.Rows.{RowWithin}
 use Rattle.bench_seek.proofs.rows.premises.Given as goal
 

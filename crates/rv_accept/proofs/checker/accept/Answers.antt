@@ -3,7 +3,6 @@ use Rattle.rv_proofs.specs.Systems.{System}
 use Rattle.rv_proofs.specs.Accepted.{IsAccepted}
 use Rattle.rv_proofs.specs.Runs.{IsSafeSystem}
 use Rattle.rv_proofs.specs.Verdicts.{IsVerdict}
-use Rattle.rv_proofs.specs.declared.verdict.Verdict.{Verdict}
 use Rattle.rv_proofs.specs.declared.verdict.Verdict.TheVariants.{Accepted}
 use Rattle.rv_symbolic.proofs.Extending.{map_ok}
 use Rattle.rv_accept.specs.Passing.{IsGiven}

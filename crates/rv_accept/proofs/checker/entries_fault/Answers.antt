@@ -1,10 +1,10 @@
-use Rattle.std.proofs.Common.{◌≡◌, ◌∙◌, ◌<◌, ◌^◌, ℕ, sym, subst, ap, refl, length, arith, Some, slice_get, ⊎_elim}
+use Rattle.std.proofs.Common.{◌≡◌, ◌∙◌, ◌<◌, ◌^◌, sym, subst, ap, length, arith, Some, slice_get, ⊎_elim}
 use Rattle.std.proofs.lemmas.Bool.{cases_lt}
 use Rattle.std.proofs.lemmas.Option.{slice_get_within}
 use Rattle.rv_diagram.specs.Nodes.{Diagrams}
 use Rattle.rv_proofs.specs.Systems.{System}
 use Rattle.rv_accept.specs.Held.{IsWithin}
-use Rattle.rv_accept.specs.Passing.{IsGiven, Passes}
+use Rattle.rv_accept.specs.Passing.{IsGiven}
 use Rattle.rv_accept.proofs.Later.{there_is}
 use Rattle.rv_accept.proofs.Firsts.{before_entry}
 use Rattle.rv_accept.proofs.checker.entries_fault.Goals as goal

@@ -1,7 +1,6 @@
-use Rattle.std.proofs.Common.{◌≡◌, ◌∙◌, sym, subst, ap, Some, slice_get, ℕ}
-use Rattle.rv_diagram.specs.Nodes.{Diagrams, IsRef}
+use Rattle.std.proofs.Common.{◌∙◌, sym, subst, Some}
+use Rattle.rv_diagram.specs.Nodes.{Diagrams}
 use Rattle.rv_proofs.specs.Systems.{System}
-use Rattle.rv_proofs.specs.Accepted.{IsCovered}
 use Rattle.rv_accept.specs.Held.{IsWithin}
 use Rattle.rv_accept.specs.Passing.{IsGiven}
 use Rattle.rv_accept.proofs.Later.{given_later, within_made, location_whole}

@@ -1,4 +1,4 @@
-use Rattle.std.proofs.Common.{◌≡◌, sym, subst}
+use Rattle.std.proofs.Common.{sym, subst}
 use Rattle.rv_diagram.specs.Nodes.{Diagrams}
 use Rattle.rv_accept.specs.Passing.{IsGiven}
 use Rattle.rv_accept.proofs.Firsts.{first_initial, accepted_of}

@@ -1,11 +1,9 @@
-use Rattle.std.proofs.Common.{◌≡◌, ◌∙◌, sym, subst, ap, Some, slice_get}
+use Rattle.std.proofs.Common.{◌∙◌, sym, subst, Some}
 use Rattle.std.proofs.lemmas.Option.{same_Some}
-use Rattle.rv_proofs.specs.Systems.{System}
 use Rattle.rv_proofs.specs.Scopes.{IsInScope}
 use Rattle.rv_proofs.specs.Accepted.{IsEntry}
 use Rattle.rv_proofs.specs.declared.certificate.Entry.{Entry}
-use Rattle.rv_terms.specs.Growing.{Extends}
-use Rattle.rv_accept.specs.Held.{IsWithin, IsScope}
+use Rattle.rv_accept.specs.Held.{IsScope}
 use Rattle.rv_accept.specs.Passing.{IsGiven, Passes}
 use Rattle.rv_terms.proofs.Growths.{extends_trans, equal_extends}
 use Rattle.rv_accept.proofs.Later.{given_later, held_later, true_later, scope_made, condition_ordered}

@@ -1,4 +1,4 @@
-use Rattle.std.proofs.Common.{◌≡◌, ◌∙◌, ◌⊎◌, ◌+◌, ◌<◌, ◌≤◌, ◌^◌, Bool, List, Option, Some, MatchOption, length, ap, subst, sym, ⊎_elim, arith}
+use Rattle.std.proofs.Common.{◌∙◌, ◌⊎◌, ◌+◌, ◌<◌, ◌≤◌, ◌^◌, MatchOption, sym, arith}
 use Rattle.rv_proofs.specs.Systems.{System, IsSystem, HasLimits}
 use Rattle.rv_cases.specs.Questions.{AreQuestions}
 use Rattle.rv_proofs.specs.Ranges.{IsInRange}

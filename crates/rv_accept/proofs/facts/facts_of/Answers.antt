@@ -1,6 +1,6 @@
-use Rattle.std.proofs.Common.{◌≡◌, ◌∙◌, Bool, List, length, ap, subst, sym, inl, inr}
+use Rattle.std.proofs.Common.{Bool, List, subst, sym, inl, inr}
 use Rattle.rv_diagram.specs.Nodes.{Diagrams}
-use Rattle.rv_cases.specs.Questions.{AreQuestions, HaveAnswers}
+use Rattle.rv_cases.specs.Questions.{AreQuestions}
 use Rattle.rv_accept.specs.Needs.{HasMovingRow, HasMovingForm, AreStillRows, AreStillForms}
 use Rattle.rv_accept.proofs.facts.facts_of.Goals as goal
 

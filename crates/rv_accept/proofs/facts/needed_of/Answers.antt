@@ -1,4 +1,4 @@
-use Rattle.std.proofs.Common.{◌≡◌, ◌∙◌, ◌<◌, ◌≤◌, ℕ, List, Bool, length, ap, subst, sym}
+use Rattle.std.proofs.Common.{◌∙◌, ℕ, subst}
 use Rattle.rv_proofs.specs.Scopes.{implications}
 use Rattle.rv_accept.specs.Needs.{AreFlags, IsNamed, IsNeeded}
 use Rattle.rv_accept.proofs.Ranged.{entry_asked}

@@ -1,9 +1,5 @@
-use Rattle.std.proofs.Common.{◌≡◌, ◌∙◌, ◌+◌, ◌<◌, ◌≤◌, ◌^◌, ◌++◌, ℕ, List, Option, Some, length, sym, subst, arith}
-use Rattle.std.proofs.Common.{None as Nothing}
-use Rattle.rv_rows.specs.declared.linear.Row.{Row}
-use Rattle.rv_proofs.specs.Systems.{System, IsSystem}
-use Rattle.rv_proofs.specs.Scopes.{before, after, each, Implication}
-use Rattle.rv_accept.specs.Passing.{AreLimited, AreAsked, AreJudged}
+use Rattle.std.proofs.Common.{◌∙◌, ◌+◌, ◌≤◌, ◌++◌, Some, length, sym, arith}
+use Rattle.rv_proofs.specs.Scopes.{before, after, each}
 use Rattle.rv_accept.proofs.Listing.{length_each}
 use Rattle.rv_accept.proofs.Judged.{judged_left, found_few, asked_few, both_few}
 use Rattle.rv_accept.proofs.implying.first_in_rest.Goals as goal

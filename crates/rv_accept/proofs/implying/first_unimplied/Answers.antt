@@ -1,4 +1,4 @@
-use Rattle.std.proofs.Common.{◌≡◌, ◌<◌, ◌≤◌, ◌^◌, ℕ, length, arith}
+use Rattle.std.proofs.Common.{arith}
 use Rattle.rv_proofs.specs.Scopes.{implications}
 use Rattle.rv_accept.proofs.Ranged.{entry_asked, few_implications}
 use Rattle.rv_accept.proofs.Judged.{few_judged, kept_kind, all_implied, first_implied}

@@ -1,4 +1,3 @@
-use Rattle.std.proofs.Common.{◌+◌}
 use Rattle.rv_accept.proofs.Judged.{judged_some, judged_none}
 use Rattle.rv_accept.proofs.implying.later.Goals as goal
 

@@ -1,4 +1,4 @@
-use Rattle.std.proofs.Common.{◌≡◌, ◌+◌, ◌<◌, ◌≤◌, length, All, ℕ, subst, sym, arith}
+use Rattle.std.proofs.Common.{◌+◌, ◌<◌, length, All, ℕ, subst, sym, arith}
 use Rattle.rv_rows.specs.declared.farkas.Weight.{Weight}
 use Rattle.rv_rows.specs.declared.farkas.Multipliers.{Multipliers}
 use Rattle.rv_accept.specs.Needs.{Names}

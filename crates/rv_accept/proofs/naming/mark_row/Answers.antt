@@ -1,7 +1,6 @@
-use Rattle.std.proofs.Common.{◌≡◌, ◌≢◌, ◌∙◌, ◌<◌, ◌≤◌, ◌+◌, ℕ, pos, length, true, false, sym, ap, arith}
-use Rattle.std.proofs.lemmas.Option.{get_or_from_slice_get}
+use Rattle.std.proofs.Common.{◌≢◌, ℕ, pos, arith}
 use Rattle.rv_rows.specs.Rows.{coefficient}
-use Rattle.rv_accept.proofs.Marking.{count_start, count_more, count_end}
+use Rattle.rv_accept.proofs.Marking.{count_start, count_end}
 use Rattle.rv_accept.proofs.naming.mark_row.Goals as goal
 
 pub loop-k-init : goal.loop-k-init

@@ -1,4 +1,4 @@
-use Rattle.std.proofs.Common.{◌≡◌, ◌≢◌, ◌<◌, pos}
+use Rattle.std.proofs.Common.{◌≢◌, ◌<◌, pos}
 use Rattle.rv_rows.specs.Rows.{coefficient}
 use Rattle.rv_accept.specs.Needs.{IsMarked}
 use Rattle.rv_accept.proofs.naming.mark_row.Given as goal

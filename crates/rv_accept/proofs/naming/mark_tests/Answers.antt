@@ -1,4 +1,3 @@
-use Rattle.std.proofs.Common.{◌≡◌}
 use Rattle.rv_proofs.specs.Scopes.{after}
 use Rattle.rv_accept.proofs.Ranged.{named_list, named_refutation}
 use Rattle.rv_accept.proofs.naming.mark_tests.Goals as goal

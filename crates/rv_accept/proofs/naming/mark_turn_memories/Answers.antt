@@ -1,4 +1,4 @@
-use Rattle.std.proofs.Common.{◌≡◌, ◌∙◌, ◌++◌, ◌≢◌, List, Bool, length, sym, pos, All, subst, ℕ}
+use Rattle.std.proofs.Common.{◌≡◌, ◌∙◌, ◌++◌, length, sym, All, subst, ℕ}
 use Rattle.rv_rows.specs.declared.linear.Row.{Row}
 use Rattle.rv_proofs.specs.Scopes.{each, before, after}
 use Rattle.rv_accept.proofs.Ranged.{needed_list, needed_both, needed_after_none}

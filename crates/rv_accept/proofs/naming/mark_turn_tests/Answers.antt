@@ -1,4 +1,4 @@
-use Rattle.std.proofs.Common.{◌≡◌, ◌+◌, ◌++◌, List, length, length-append, ap, sym, arith}
+use Rattle.std.proofs.Common.{◌≡◌, ◌+◌, ◌++◌, length, length-append, arith}
 use Rattle.rv_proofs.specs.Scopes.{each, before, after}
 use Rattle.rv_accept.proofs.Ranged.{named_list, named_both, there_of}
 use Rattle.rv_accept.proofs.naming.mark_turn_tests.Goals as goal

@@ -1,4 +1,4 @@
-use Rattle.std.proofs.Common.{◌≡◌, ◌+◌, ◌<◌, ◌≤◌, length, arith}
+use Rattle.std.proofs.Common.{◌≡◌, ◌+◌, ◌<◌, length, arith}
 use Rattle.rv_rows.specs.declared.farkas.Weight.{Weight}
 use Rattle.rv_accept.proofs.Listing.{all_at}
 use Rattle.rv_accept.proofs.Marking.{loop_start, loop_more, loop_end}

@@ -1,4 +1,4 @@
-use Rattle.std.proofs.Common.{◌≡◌, ◌∙◌, List, Bool, length, sym, subst, arith}
+use Rattle.std.proofs.Common.{◌≡◌, List, Bool, subst, arith}
 use Rattle.rv_proofs.specs.Scopes.{implications}
 use Rattle.rv_accept.specs.Needs.{IsNamed, IsMarked}
 use Rattle.rv_accept.proofs.Marking.{flags_taken}

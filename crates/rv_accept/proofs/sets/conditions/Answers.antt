@@ -1,8 +1,6 @@
-use Rattle.std.proofs.Common.{◌≡◌, ◌↔◌, ℕ, ap, sym, ◌∙◌, subst, refl, true, false, IsTrue, Some, slice_get, length, ◌<◌, arith}
+use Rattle.std.proofs.Common.{ℕ, sym, subst, length, ◌<◌, arith}
 use Rattle.std.proofs.lemmas.Option.{slice_get_within}
-use Rattle.rv_diagram.specs.Nodes.{value_of, Valuation, IsOrderedOver}
-use Rattle.rv_proofs.specs.Scopes.{IsIn}
-use Rattle.rv_proofs.specs.declared.certificate.Entry.{Entry}
+use Rattle.rv_diagram.specs.Nodes.{value_of, IsOrderedOver}
 use Rattle.rv_accept.specs.Steps.{has}
 use Rattle.rv_terms.proofs.Growths.{extends_refl, extends_trans}
 use Rattle.rv_accept.proofs.Growing.{Met, some_none, some_more, met_here}

@@ -1,11 +1,8 @@
-use Rattle.std.proofs.Common.{◌≡◌, ◌↔◌, ℕ, ap, sym, ◌∙◌, subst, refl, true, false, IsTrue, Some, slice_get, length, ◌<◌, [], arith}
+use Rattle.std.proofs.Common.{length, ◌<◌, arith}
 use Rattle.std.proofs.lemmas.Option.{slice_get_within}
-use Rattle.rv_diagram.specs.Nodes.{value_of, Valuation, IsOrderedOver}
-use Rattle.rv_proofs.specs.Scopes.{IsIn}
-use Rattle.rv_proofs.specs.declared.certificate.Location.{Location}
-use Rattle.rv_accept.specs.Steps.{has}
-use Rattle.rv_terms.proofs.Growths.{extends_refl, extends_trans}
-use Rattle.rv_accept.proofs.Growing.{Entered, some_none, entered_more}
+use Rattle.rv_diagram.specs.Nodes.{value_of}
+use Rattle.rv_terms.proofs.Growths.{extends_trans}
+use Rattle.rv_accept.proofs.Growing.{entered_more}
 use Rattle.rv_accept.proofs.sets.entered.Goals as goal
 
 pub loop-k-preserved : goal.loop-k-preserved

@@ -1,7 +1,7 @@
-use Rattle.std.proofs.Common.{◌≡◌, ◌∙◌, ◌+◌, ◌<◌, ◌≤◌, ℕ, true, false, sym, ap, arith, ⊎_elim, length}
+use Rattle.std.proofs.Common.{◌≡◌, ◌∙◌, ℕ, true, false, sym, ap, arith, ⊎_elim}
 use Rattle.std.proofs.lemmas.Bool.{cases_lt}
 use Rattle.std.proofs.lemmas.Option.{get_or_from_slice_get}
-use Rattle.rv_diagram.specs.Nodes.{value_of, valuation_of, IsRef}
+use Rattle.rv_diagram.specs.Nodes.{value_of, valuation_of}
 use Rattle.rv_cases.specs.Conditions.{is_in}
 use Rattle.rv_accept.proofs.Growing.{clash}
 use Rattle.rv_accept.proofs.settled.answer_at.Goals as goal

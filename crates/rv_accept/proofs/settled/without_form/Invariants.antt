@@ -1,5 +1,5 @@
-use Rattle.std.proofs.Common.{◌≡◌, ℕ, ◌+◌, ◌<◌, true, false}
-use Rattle.rv_diagram.specs.Nodes.{Valuation, value_of}
+use Rattle.std.proofs.Common.{◌≡◌, ℕ, ◌<◌, true, false}
+use Rattle.rv_diagram.specs.Nodes.{value_of}
 use Rattle.rv_proofs.specs.Implied.{form_at}
 use Rattle.rv_terms.specs.Growing.{Extends}
 use Rattle.rv_cases.specs.Conditions.{is_in}

@@ -1,6 +1,5 @@
-use Rattle.std.proofs.Common.{◌≡◌, ◌∙◌, ◌+◌, ◌<◌, ◌≤◌, ◌↔◌, ℕ, List, [], pos, true, length, sym, ap, subst, arith, IsTrue}
+use Rattle.std.proofs.Common.{◌+◌, ℕ, [], pos, true, arith}
 use Rattle.std.proofs.lemmas.Option.{get_or_from_slice_get}
-use Rattle.rv_diagram.specs.Nodes.{IsRef}
 use Rattle.rv_diagram.specs.Several.{ref_at}
 use Rattle.rv_rows.specs.declared.linear.Row.{Row}
 use Rattle.rv_rows.specs.Rows.{row_at}

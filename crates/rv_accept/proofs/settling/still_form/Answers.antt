@@ -1,9 +1,8 @@
-use Rattle.std.proofs.Common.{◌≡◌, ◌∙◌, ℕ, [], pos, true, false, sym, ap, subst}
+use Rattle.std.proofs.Common.{◌∙◌, [], pos, sym, subst}
 use Rattle.std.proofs.lemmas.Option.{get_or_from_slice_get}
 use Rattle.rv_diagram.specs.Nodes.{value_of}
 use Rattle.rv_rows.specs.declared.linear.Form.{Form}
-use Rattle.rv_proofs.specs.Implied.{form_at}
-use Rattle.rv_accept.specs.Needs.{StaysForm, IsPointOf}
+use Rattle.rv_accept.specs.Needs.{StaysForm}
 use Rattle.rv_accept.proofs.Growing.{clash}
 use Rattle.rv_accept.proofs.settling.still_form.Goals as goal
 

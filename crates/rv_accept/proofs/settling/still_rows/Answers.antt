@@ -1,6 +1,5 @@
-use Rattle.std.proofs.Common.{◌≡◌, ◌∙◌, ◌+◌, ◌<◌, ◌≤◌, ◌^◌, ℕ, true, List, length, All, sym, ap, subst, arith, Some, [], pos}
+use Rattle.std.proofs.Common.{◌≡◌, ◌∙◌, ◌<◌, ◌^◌, true, length, sym, subst, arith, Some, [], pos}
 use Rattle.rv_diagram.specs.Nodes.{Diagrams, IsRef}
-use Rattle.rv_rows.specs.declared.linear.Row.{Row}
 use Rattle.rv_rows.specs.Rows.{RowWithin}
 use Rattle.rv_cases.specs.Conditions.{AreAnswers}
 use Rattle.rv_accept.specs.Needs.{IsPointOf, StaysRow}

@@ -1,7 +1,4 @@
-use Rattle.std.proofs.Common.{◌≡◌, ◌∙◌, sym, ap, refl, ◌&&◌, not}
-use Rattle.rv_diagram.specs.Nodes.{value_of}
-use Rattle.rv_terms.proofs.Growths.{extends_trans}
-use Rattle.rv_accept.proofs.Growing.{found_later}
+use Rattle.std.proofs.Common.{◌∙◌}
 use Rattle.rv_accept.proofs.Failing.{without_start}
 use Rattle.rv_accept.proofs.words.lacks_initial.Goals as goal
 

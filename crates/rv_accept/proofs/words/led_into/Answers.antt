@@ -1,6 +1,6 @@
-use Rattle.std.proofs.Common.{true, ◌≡◌, ◌∙◌, ◌+◌, ◌<◌, sym, ap, refl, subst, ℕ, List, length, arith}
+use Rattle.std.proofs.Common.{true, ◌≡◌, ◌∙◌, ◌+◌, ◌<◌, sym, ap, subst, ℕ, List, length, arith}
 use Rattle.rv_diagram.specs.declared.Triple.{Triple}
-use Rattle.rv_diagram.specs.Nodes.{Valuation, value_of, IsExpanded, IsRef, IsOrderedOver}
+use Rattle.rv_diagram.specs.Nodes.{value_of, IsOrderedOver}
 use Rattle.rv_diagram.specs.Several.{ref_at}
 use Rattle.rv_accept.specs.Steps.{AreRefs}
 use Rattle.rv_accept.specs.Held.{follow}

@@ -1,10 +1,8 @@
-use Rattle.std.proofs.Common.{◌≡◌, ◌∙◌, sym, ap, refl, ◌&&◌, not, subst, List, ℕ, Bool}
+use Rattle.std.proofs.Common.{◌∙◌, sym, ap, ◌&&◌, not, List, ℕ}
 use Rattle.rv_diagram.specs.declared.frozen.Frozen.{Frozen}
-use Rattle.rv_diagram.specs.Nodes.{value_of, Valuation}
+use Rattle.rv_diagram.specs.Nodes.{value_of}
 use Rattle.rv_accept.specs.Steps.{has}
 use Rattle.rv_accept.specs.Held.{follow}
-use Rattle.rv_terms.proofs.Growths.{extends_trans}
-use Rattle.rv_accept.proofs.Growing.{found_later}
 use Rattle.rv_accept.proofs.Failing.{elsewhere, follow_next}
 use Rattle.rv_accept.proofs.words.misses_target.Goals as goal
 

@@ -1,7 +1,5 @@
-use Rattle.std.proofs.Common.{◌≡◌, ◌∙◌, sym, ap, refl}
-use Rattle.std.proofs.lemmas.List.{get_or_default}
 use Rattle.rv_terms.proofs.Growths.{call_extends}
-use Rattle.rv_accept.proofs.Moving.{child_found, child_means, chosen_means}
+use Rattle.rv_accept.proofs.Moving.{child_found, chosen_means}
 use Rattle.rv_accept.proofs.words.moved_node.Goals as goal
 
 pub ite-requires : goal.ite-requires

@@ -1,10 +1,9 @@
-use Rattle.std.proofs.Common.{◌≡◌, ◌∙◌, ◌+◌, ◌<◌, sym, ap, refl, subst, ℕ, List, [], ◌∷◌, ◌++◌, length, length-append, arith}
-use Rattle.rv_diagram.specs.Nodes.{Valuation, value_of, IsRef}
+use Rattle.std.proofs.Common.{◌≡◌, ◌∙◌, ◌+◌, sym, ap, refl, subst, ℕ, List, [], ◌∷◌, ◌++◌, length, length-append, arith}
+use Rattle.rv_diagram.specs.Nodes.{value_of, IsRef}
 use Rattle.rv_diagram.specs.Several.{ref_at}
-use Rattle.rv_accept.specs.Steps.{AreRefs}
-use Rattle.rv_accept.specs.Held.{AreMoved, follow}
+use Rattle.rv_accept.specs.Held.{AreMoved}
 use Rattle.rv_terms.proofs.Growths.{extends_refl, extends_trans}
-use Rattle.rv_accept.proofs.Moving.{refs_more, moved_more, refs_later}
+use Rattle.rv_accept.proofs.Moving.{refs_more, moved_more}
 use Rattle.rv_accept.proofs.words.moved_nodes.Goals as goal
 
 pub loop-i-init : goal.loop-i-init

@@ -1,7 +1,6 @@
 use Rattle.std.proofs.Common.{◌≡◌, ℕ, length}
 use Rattle.rv_terms.specs.Growing.{Extends}
 use Rattle.rv_accept.specs.Steps.{AreRefs}
-use Rattle.rv_accept.specs.Held.{AreMoved}
 use Rattle.rv_accept.proofs.words.moved_nodes.Given as goal
 use Rattle.rv_diagram.specs.Nodes.{value_of, Valuation}
 use Rattle.rv_diagram.specs.Several.{ref_at}

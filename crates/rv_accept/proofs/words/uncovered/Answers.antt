@@ -1,7 +1,5 @@
-use Rattle.std.proofs.Common.{◌≡◌, ◌∙◌, sym, ap, refl, ◌&&◌, not}
+use Rattle.std.proofs.Common.{◌∙◌, ap, ◌&&◌, not}
 use Rattle.rv_diagram.specs.Nodes.{value_of}
-use Rattle.rv_terms.proofs.Growths.{extends_trans}
-use Rattle.rv_accept.proofs.Growing.{found_later}
 use Rattle.rv_accept.proofs.Failing.{without_cover}
 use Rattle.rv_accept.proofs.words.uncovered.Goals as goal
 

@@ -1,4 +1,4 @@
-use Rattle.std.proofs.Common.{◌≡◌, ◌∙◌, sym, ap, refl}
+use Rattle.std.proofs.Common.{◌∙◌}
 use Rattle.rv_diagram.specs.Nodes.{value_of}
 use Rattle.rv_accept.proofs.Failing.{unseen}
 use Rattle.rv_accept.proofs.words.unobserved.Goals as goal

@@ -1,4 +1,4 @@
-use Rattle.std.proofs.Common.{◌≡◌, ◌-◌, length, sym, ◌∙◌, ap, take}
+use Rattle.std.proofs.Common.{◌-◌, length, sym, ◌∙◌, ap, take}
 use Rattle.rv_flatten.specs.Positions.{number_from, site_number, way_from}
 use Rattle.rv_flatten.proofs.PlaceWalks.{number_reached}
 use Rattle.rv_flatten.proofs.positions.number_of.Goals as goal

@@ -1,4 +1,4 @@
-use Rattle.rv_state.proofs.NarrowLemmas.{narrowed-none, narrowed-more}
+use Rattle.rv_state.proofs.NarrowLemmas.{narrowed-more}
 use Rattle.rv_state.proofs.narrow.narrowed.Goals as goal
 
 pub loop-place-preserved : goal.loop-place-preserved

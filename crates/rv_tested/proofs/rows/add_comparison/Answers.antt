@@ -1,10 +1,9 @@
-use Rattle.std.proofs.Common.{◌≡◌, ◌<◌, ◌∙◌, ◌&&◌, ℕ, Bool, false, cond, List, length, ap, sym, subst, arith}
+use Rattle.std.proofs.Common.{◌≡◌, ◌∙◌, false, cond, sym, subst, arith}
 use Rattle.std.proofs.lemmas.Option.{get_or_from_slice_get}
-use Rattle.rv_diagram.specs.Nodes.{Valuation, IsRef, value_of}
+use Rattle.rv_diagram.specs.Nodes.{IsRef, value_of}
 use Rattle.rv_diagram.specs.Several.{ref_at}
 use Rattle.rv_diagram.proofs.Calls.{value_of-false}
 use Rattle.rv_rows.specs.Arithmetic.{test_row}
-use Rattle.rv_rows.specs.declared.linear.Form.{Form}
 use Rattle.rv_control.specs.Tightening.{tightened}
 use Rattle.rv_symbolic.specs.Growing.{Extends}
 use Rattle.rv_symbolic.proofs.Extending.{extends_trans, grows_extends}

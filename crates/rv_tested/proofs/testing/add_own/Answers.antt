@@ -1,10 +1,9 @@
-use Rattle.std.proofs.Common.{◌≡◌, ◌∙◌, ◌++◌, ◌∷◌, ◌<◌, ◌^◌, ℕ, List, [], cond, length, sym, subst, arith, Some, Option}
+use Rattle.std.proofs.Common.{◌++◌, ◌∷◌, ◌<◌, ◌^◌, ℕ, List, [], cond, length, sym, subst, arith, Some}
 use Rattle.std.proofs.Common.{None as Nothing}
 use Rattle.std.proofs.lemmas.Result.{on_ok_weaker}
 use Rattle.rv_rows.specs.Arithmetic.{test_row}
-use Rattle.rv_rows.specs.declared.linear.Row.{Row}
 use Rattle.rv_rows.specs.Forms.{FormWithin}
-use Rattle.rv_diagram.specs.Nodes.{Valuation, value_of}
+use Rattle.rv_diagram.specs.Nodes.{value_of}
 use Rattle.rv_flat.specs.Lists.{side_of}
 use Rattle.rv_control.specs.Tightening.{tightened}
 use Rattle.rv_symbolic.specs.Growing.{Extends}

@@ -1,4 +1,4 @@
-use Rattle.std.proofs.Common.{◌≡◌, ◌∙◌, ◌++◌, ◌∷◌, [], sym}
+use Rattle.std.proofs.Common.{◌∙◌, ◌++◌, ◌∷◌, [], sym}
 use Rattle.rv_flat.specs.Lists.{side_of}
 use Rattle.rv_tested.specs.Compared.{comparison_in}
 use Rattle.rv_tested.specs.Testing.{row_in}

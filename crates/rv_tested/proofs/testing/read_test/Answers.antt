@@ -1,12 +1,10 @@
-use Rattle.std.proofs.Common.{◌≡◌, ◌<◌, ◌≤◌, ◌∙◌, ◌++◌, ◌∷◌, ℕ, List, [], length, map, ap, sym, subst, arith, Some}
+use Rattle.std.proofs.Common.{List, [], map, sym, subst, arith}
 use Rattle.std.proofs.lemmas.List.{take_all}
-use Rattle.rv_flat.specs.Lists.{side_of, variable_of}
+use Rattle.rv_flat.specs.Lists.{side_of}
 use Rattle.rv_flat.specs.FlatInstants.{system_of}
-use Rattle.rv_diagram.specs.Nodes.{Valuation, value_of}
 use Rattle.rv_agreement.specs.Valuations.{Comparison}
 use Rattle.rv_control.specs.Named.{named}
 use Rattle.rv_control.specs.Symbolic.{symbolic}
-use Rattle.rv_symbolic.specs.Growing.{Extends}
 use Rattle.rv_symbolic.proofs.Extending.{extends_refl, extends_trans}
 use Rattle.rv_tested.specs.declared.compared.Compared.{Compared}
 use Rattle.rv_tested.specs.Compared.{comparison_in}

@@ -1,4 +1,4 @@
-use Rattle.std.proofs.Common.{◌≡◌, ◌+◌, ◌-◌, ◌<◌, ◌∙◌, ◌++◌, ◌∷◌, ℕ, List, [], length, map, ap, sym, subst, arith}
+use Rattle.std.proofs.Common.{◌≡◌, ◌+◌, ◌-◌, ◌∙◌, ◌++◌, ◌∷◌, ℕ, List, [], length, map, ap, sym, subst, arith}
 use Rattle.rv_rows.specs.declared.linear.Row.{Row}
 use Rattle.rv_flat.specs.declared.parts.Bit.{Bit}
 use Rattle.rv_tested.specs.Testing.{AreTestsRead}

@@ -1,4 +1,4 @@
-use Rattle.std.proofs.Common.{◌≡◌, List, ℕ, sym, subst, Option, Result, IfOk}
+use Rattle.std.proofs.Common.{◌≡◌, List, sym, subst, Result, IfOk}
 use Rattle.std.proofs.Common.{None as Nothing}
 use Rattle.std.proofs.lemmas.Result.{IfOk-weaker}
 use Rattle.rv_diagram.specs.declared.Triple.{Triple}

@@ -1,14 +1,12 @@
-use Rattle.std.proofs.Common.{◌≡◌, ◌||◌, IfOk, OnOk, Option, List, map, drop, ap, sym, subst, ◌∙◌, add-one, ◌+◌, ◌++◌, arith}
+use Rattle.std.proofs.Common.{List, map, drop, ap, ◌∙◌, add-one, ◌+◌, ◌++◌, arith}
 use Rattle.std.proofs.lemmas.List.{append_assoc}
-use Rattle.rv_tree.specs.Tree.{Tree, Node, Binary, tree_of, trees}
+use Rattle.rv_tree.specs.Tree.{tree_of, trees}
 use Rattle.rv_types.specs.declared.typed.Kind.{Kind}
-use Rattle.rv_types.specs.declared.delayed.Told.{Told}
 use Rattle.rv_types.specs.Delayed.{delayed_in, delayed_in_all}
-use Rattle.rv_types.specs.Types.{is_constant, two_of, binary_rule, kind_in, kinds_of_all, kind_of}
+use Rattle.rv_types.specs.Types.{kinds_of_all, kind_of}
 use Rattle.rv_types.specs.Tables.{scope_of}
 use Rattle.rv_types.proofs.Joined.{and_assoc, drop_here}
 use Rattle.rv_types.proofs.Fitting.{typed_more, fit_more, fit_end, nothing_left}
-use Rattle.rv_types.proofs.OperatorTrees.{tree_binary, tree_if}
 use Rattle.rv_types.proofs.delayed.+gather.Goals as goal
 
 pub gather_all-loop-e-preserved : goal.gather_all-loop-e-preserved

@@ -1,7 +1,7 @@
-use Rattle.std.proofs.Common.{◌≤◌, ◌^◌, List, ℤ, All, IfOk, [], ◌≡◌, sym, subst}
+use Rattle.std.proofs.Common.{◌≤◌, ◌^◌, List, ℤ, All, sym, subst}
 use Rattle.std.specs.Int.RustNames.{unsigned_abs}
 use Rattle.rv_proofs.specs.RowClaims.{HasGoodRows}
-use Rattle.rv_reading.specs.Read.{flat_of, system_read}
+use Rattle.rv_reading.specs.Read.{system_read}
 use Rattle.rv_reading.proofs.Representing.{is_analysed}
 use Rattle.rv_reading.proofs.reading.Reading.analyse.Goals as goal
 
