@@ -144,24 +144,13 @@ fn add_call(
     requires { length names.now ≤ source_limit }
     ensures { OnOk result (found.new ≡ found.old ++ record { at = at; site = unwrap_or site 0; callee = index_of names.now callee.now } ∷ []) }
 {
-    let callee = number_of(names, callee);
+    let callee = names.place(callee) as u32;
     found.push(Calling {
         at,
         site: site.unwrap_or(0),
         callee,
     })?;
     Ok(())
-}
-
-/// The number of a name, the number of all names where it is not among them.
-fn number_of(names: &Names, name: &Text) -> u32
-    requires { length names.now ≤ source_limit }
-    ensures { result ≡ index_of names.now name.now }
-{
-    match names.number(name) {
-        Some(number) => number as u32,
-        None => names.len() as u32,
-    }
 }
 
 /// Which node calls which.

@@ -12,7 +12,6 @@ mod expansion;
 mod fault;
 mod finishing;
 mod graph;
-mod laws;
 mod names;
 mod paces;
 mod reach;

@@ -1,6 +1,6 @@
 //! Names and their numbers.
 
-ghost use Rattle.std.specs.Prelude.{◌≡◌, ◌<◌, [], length, IfOk, IfSome, OnErr, is_some, not};
+ghost use Rattle.std.specs.Prelude.{◌≡◌, ◌<◌, ◌≤◌, [], length, IfOk, IfSome, OnErr, is_some, not};
 ghost use Rattle.rv_tree.specs.Places.{is_among, index_of};
 ghost use Rattle.rv_calls.specs.Numbering.{with_name};
 
@@ -40,6 +40,17 @@ impl Names {
         ensures within { IfSome result (λ k. k < length self.now) }
     {
         self.names.get_index_of(name)
+    }
+
+    /// The number of a name, or that of all names where it is not among them.
+    pub fn place(&self, name: &Text) -> usize
+        ensures is { result ≡ index_of self.now name.now }
+        ensures within { result ≤ length self.now }
+    {
+        match self.number(name) {
+            Some(number) => number,
+            None => self.len(),
+        }
     }
 
     /// How many there are.

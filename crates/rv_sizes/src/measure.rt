@@ -49,7 +49,8 @@ const MOST_LABELS: u64 = 256;
 const MOST_VARIABLES: u64 = 4_096;
 
 /// Checks the sizes of a program in their order, and answers how many expressions there are, or the first that is too
-/// large. Sums are taken over nodes, so a program that doubles at each level costs no more than its text.
+/// large (`TooLarge`). Sums are taken over nodes, so a program that doubles at each level costs no more than its text. `Memory` comes
+/// only for want of memory.
 #[tactic(auto, using(crate::proofs::Sized::memories_above, crate::proofs::Sized::inputs_above, crate::proofs::Sized::labels_above, crate::proofs::Sized::variables_above, crate::proofs::Sized::is_sized))]
 pub fn check_sizes(alloc: Global, p: &Program, t: &Typed, nodes: &Nodes) -> Result<u64, CauseFault>
     requires bounded { IsBounded (program_tree p.now) }

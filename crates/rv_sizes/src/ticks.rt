@@ -2,7 +2,7 @@
 
 ghost use Rattle.std.specs.Prelude.{◌≡◌, ◌<◌, ◌^◌, ◌++◌, [], length, map, flat_map, slice_set, IfOk, OnOk};
 ghost use Rattle.rv_tree.specs.Bounded.{IsBounded};
-ghost use Rattle.rv_tree.specs.Places.{Identifier, flows, index_of};
+ghost use Rattle.rv_tree.specs.Places.{Identifier, flows};
 ghost use Rattle.rv_tree.specs.Tree.{ProgramTree, tree_of, trees, node_tree, equation_tree, assertion_tree, program_tree};
 ghost use Rattle.rv_types.specs.Clocks.{pace, pace_of_all, binary_pace, current_pace, seen, grounded, meet};
 ghost use Rattle.rv_types.specs.Instances.{node_of, name_at};
@@ -370,16 +370,6 @@ fn add_call(
 fn has_tick_on_base(walk: &Walk, callee: &Text) -> bool
     ensures { result ≡ ticks_on_base walk.now.names.now walk.now.bases.now callee.now }
 {
-    let number = number_of(walk.names, callee);
+    let number = walk.names.place(callee);
     number < walk.bases.len() && *walk.bases.at(number)
-}
-
-/// The number of a name, the number of all names where it is not among them.
-fn number_of(names: &Names, name: &Text) -> usize
-    ensures { result ≡ index_of names.now name.now }
-{
-    match names.number(name) {
-        Some(number) => number,
-        None => names.len(),
-    }
 }

@@ -4,7 +4,8 @@ use Rattle.std.proofs.Common.{refl, sym, ap, ◌∙◌, subst, ◌⊎◌, inl, i
 use Rattle.std.proofs.lemmas.Bool.{cases_lt}
 use Rattle.std.proofs.lemmas.Option.{slice_get_within, get_or_from_slice_get}
 use Rattle.std.proofs.lemmas.List.{take_more, length-take-le, length-append, get_or_append_left, get_or_push}
-use Rattle.std.proofs.lemmas.List.Elements.{All-append, All-cons, All-nil}
+use Rattle.std.proofs.lemmas.List.Elements.{All-append, All-cons, All-nil, Contains-append_left, Contains-push, Contains-push_cases}
+use Rattle.std.specs.List.{Contains}
 use Rattle.rv_rows.specs.declared.linear.Row.{Row}
 use Rattle.rv_rows.specs.Rows.{Holds}
 use Rattle.rv_rows.specs.Tight.{Fits}
@@ -62,6 +63,7 @@ narrowed-none most old = record {
   few = omega arith;
   from = λ i d l. absurd (omega (arith, l));
   narrow = λ i d l. absurd (omega (arith, l));
+  kept = λ r w small. absurd (let low = w.1 in let none = length-take-le 0 old (omega arith) in omega (arith, low, none));
 }
 
 -- one row more
@@ -90,19 +92,32 @@ narrowed-more most old rows new n r at h noted = go noted
     there : (i : ℕ) (d : Row) → i < length rows → (j : ℕ) × (j < length (take (n + 1) old)) × (get_or rows i d ≡ get_or (take (n + 1) old) j d)
     there i d l = let (j, low, same) = h.from i d l in (j, omega (arith, low, size, count), same ∙ sym (keeps j d low))
 
+    among : (q : Row) → Contains (take (n + 1) old) q → Contains (take n old) q ⊎ (r ≡ q)
+    among q w = Contains-push_cases (take n old) r q (subst (λ (xs : List Row). Contains xs q) longer w)
+
     go : IsNotedRow most r rows new → IsNarrowed most (take (n + 1) old) new
-    go (inr same) = subst (λ (xs : List Row). IsNarrowed most (take (n + 1) old) xs) (sym same) (record {
+    go (inr (more, same)) = subst (λ (xs : List Row). IsNarrowed most (take (n + 1) old) xs) (sym same) (record {
       few = omega (arith, h.few, size, count);
       from = there;
       narrow = h.narrow;
+      kept = λ q w few. kept q few (among q w);
     })
+      where
+        kept : (q : Row) → support q.coefficients ≤ most → Contains (take n old) q ⊎ (r ≡ q) → Contains rows q
+        kept q few (inl front) = h.kept q front few
+        kept q few (inr is) = let e = ap (λ (x : Row). support x.coefficients) is in absurd (omega (arith, more, few, e))
     go (inl (small, same)) = subst (λ (xs : List Row). IsNarrowed most (take (n + 1) old) xs) (sym same) (record {
       few = omega (arith, h.few, size, count, length-append rows (r ∷ []));
       from = λ i d l. from i d l (cases_lt i (length rows));
       narrow = All-append (λ q. support q.coefficients ≤ most) rows (r ∷ []) h.narrow
           (All-cons (λ q. support q.coefficients ≤ most) r [] small (All-nil (λ q. support q.coefficients ≤ most)));
+      kept = λ q w few. kept q few (among q w);
     })
       where
+        kept : (q : Row) → support q.coefficients ≤ most → Contains (take n old) q ⊎ (r ≡ q) → Contains (rows ++ r ∷ []) q
+        kept q few (inl front) = Contains-append_left rows (r ∷ []) q (h.kept q front few)
+        kept q few (inr is) = subst (λ (x : Row). Contains (rows ++ r ∷ []) x) is (Contains-push rows r)
+
         from : (i : ℕ) (d : Row) → i < length (rows ++ r ∷ []) → (i < length rows) ⊎ (length rows ≤ i)
             → (j : ℕ) × (j < length (take (n + 1) old)) × (get_or (rows ++ r ∷ []) i d ≡ get_or (take (n + 1) old) j d)
         from i d l (inl low) =
@@ -129,3 +144,9 @@ spans-narrowed most old new width n poly widths =
 -- no point is lost
 pub points-narrowed : (most : ℕ) (old new : List Row) → IsNarrowed most old new → (point : List ℤ) → HasPoint old point → HasPoint new point
 points-narrowed most old new n point h = each-narrowed (λ r. Holds r point) most old new n h
+
+-- each row is one of those that it was taken out of
+pub only-narrowed : (most : ℕ) (old new : List Row) → IsNarrowed most old new → (r : Row) → Contains new r → Contains old r
+only-narrowed most old new n r w =
+    let (j, within, same) = n.from w.0 r w.1 in
+    (j, within, sym same ∙ w.2)

@@ -1,7 +1,9 @@
 //! Polyhedra whose rows have few coefficients: boxes, whose rows bound single columns as those of the box pass do, and rows over two
 //! columns, as those of row claims.
 
-ghost use Rattle.std.specs.Prelude.{◌≡◌, ◌≢◌, ℕ, ◌<◌, ℤ, pos, List, length, All, IfOk, OnOk, MatchBool, slice_index_or};
+ghost use Rattle.std.specs.Prelude.{◌≡◌, ◌≢◌, ℕ, ◌<◌, ◌≤◌, ℤ, pos, List, length, All, IfOk, OnOk, MatchBool, slice_index_or};
+ghost use Rattle.std.specs.List.{Contains};
+ghost use Rattle.rv_rows.specs.declared.linear.Row.{Row};
 ghost use Rattle.rv_poly.specs.Points.{HasPoint};
 ghost use Rattle.rv_poly.specs.Polys.{IsPoly};
 ghost use Rattle.rv_state.specs.Narrow.{present, support, IsNotedRow, IsNarrowed, SpansNarrow};
@@ -80,11 +82,14 @@ pub struct Bounds {
 }
 
 impl Bounds {
-    /// The box of a polyhedron: those of its rows that bound a single column. It has each of its points.
+    /// The box of a polyhedron: exactly those of its rows that bound a single column. It has each of its points. The only error is want of
+    /// memory.
     pub fn of(alloc: Global, poly: &Poly) -> Result<Bounds, Memory>
         requires { IsPoly poly.now.rows }
         ensures spans { (width : ℕ) → All (λ r. length r.coefficients ≡ width) poly.now.rows → IfOk result (λ b. SpansNarrow 1 b.poly.rows width) }
         ensures contains { IfOk result (λ b. (point : List ℤ) → HasPoint poly.now.rows point → HasPoint b.poly.rows point) }
+        ensures kept { IfOk result (λ b. (r : Row) → Contains poly.now.rows r → support r.coefficients ≤ 1 → Contains b.poly.rows r) }
+        ensures only { IfOk result (λ b. (r : Row) → Contains b.poly.rows r → Contains poly.now.rows r) }
     {
         let poly = narrowed(alloc, poly, 1)?;
         Ok(Bounds { poly })
@@ -132,11 +137,13 @@ pub struct Pairs {
 }
 
 impl Pairs {
-    /// Those rows of a polyhedron that have at most two coefficients. They have each of its points.
+    /// Exactly those rows of a polyhedron that have at most two coefficients. They have each of its points. The only error is want of memory.
     pub fn of(alloc: Global, poly: &Poly) -> Result<Pairs, Memory>
         requires { IsPoly poly.now.rows }
         ensures spans { (width : ℕ) → All (λ r. length r.coefficients ≡ width) poly.now.rows → IfOk result (λ b. SpansNarrow 2 b.poly.rows width) }
         ensures contains { IfOk result (λ b. (point : List ℤ) → HasPoint poly.now.rows point → HasPoint b.poly.rows point) }
+        ensures kept { IfOk result (λ b. (r : Row) → Contains poly.now.rows r → support r.coefficients ≤ 2 → Contains b.poly.rows r) }
+        ensures only { IfOk result (λ b. (r : Row) → Contains b.poly.rows r → Contains poly.now.rows r) }
     {
         let poly = narrowed(alloc, poly, 2)?;
         Ok(Pairs { poly })
