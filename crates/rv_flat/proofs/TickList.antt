@@ -108,18 +108,20 @@ no_test : (cs : List ComparisonAt) → ticks_in (test_variables cs) ≡ []
 no_test [] = refl
 no_test (c ∷ cs) = no_more (map (Test c.place) (sides_of c.operator)) (test_variables cs) (no_side c.place (sides_of c.operator)) (no_test cs)
 
+-- the ticks of the variables of a program
+pub ticks_told : (program : ProgramTree) (ticks : List Sites) (ms : List MemoryAt) (ks : List Kind) (cs : List ComparisonAt) (bs : List Bit)
+    → map variable_of bs ≡ with_copies (MainTick ∷ map Tick ticks ++ memory_variables program ms) ++ (input_variables program 0 ks ++ test_variables cs)
+    → tick_places bs ≡ ticks
+ticks_told program ticks ms ks cs bs is =
+    let first = MainTick ∷ map Tick ticks ++ memory_variables program ms in
+    let later = input_variables program 0 ks ++ test_variables cs in
+    ticks_same bs ∙ ap ticks_in is ∙ ticks-append (with_copies first) later
+    ∙ ap (λ ps. ps ++ ticks_in later) (ticks-copies first ∙ ticks-append (MainTick ∷ map Tick ticks) (memory_variables program ms))
+    ∙ (λ i. (ticks-map ticks i ++ no_memory program ms i)
+    ++ no_more (input_variables program 0 ks) (test_variables cs) (no_input program 0 ks) (no_test cs) i)
+    ∙ append-nil (ticks ++ []) ∙ append-nil ticks
+
 -- so they rise
 pub ticks_rising : (program : ProgramTree) (main : Identifier) (bs : List Bit) → AreVariables program main (map variable_of bs) → AreRising (tick_places bs)
-ticks_rising program main bs are = subst AreRising (sym (ticks_same bs ∙ ap ticks_in are.list ∙ all)) are.are_ticks.rising
-  where
-    all : ticks_in (with_copies (MainTick ∷ map Tick are.ticks ++ memory_variables program are.memories)
-        ++ (input_variables program 0 (decl_kinds program (node_of program main).inputs) ++ test_variables are.comparisons)) ≡ are.ticks
-    all =
-        let first = MainTick ∷ map Tick are.ticks ++ memory_variables program are.memories in
-        let later = input_variables program 0 (decl_kinds program (node_of program main).inputs) ++ test_variables are.comparisons in
-        ticks-append (with_copies first) later
-        ∙ ap (λ ps. ps ++ ticks_in later) (ticks-copies first ∙ ticks-append (MainTick ∷ map Tick are.ticks) (memory_variables program are.memories))
-        ∙ (λ i. (ticks-map are.ticks i ++ no_memory program are.memories i)
-        ++ no_more (input_variables program 0 (decl_kinds program (node_of program main).inputs)) (test_variables are.comparisons)
-        (no_input program 0 (decl_kinds program (node_of program main).inputs)) (no_test are.comparisons) i)
-        ∙ append-nil (are.ticks ++ []) ∙ append-nil are.ticks
+ticks_rising program main bs are = subst AreRising
+    (sym (ticks_told program are.ticks are.memories (decl_kinds program (node_of program main).inputs) are.comparisons bs are.list)) are.are_ticks.rising

@@ -58,7 +58,7 @@ use Rattle.rv_flatten.proofs.FlowKinds.{HasFlow, is_flow, kinds_many, flow_of_si
 use Rattle.rv_flatten.proofs.FlowTotals.{laid_is, some_instance}
 use Rattle.rv_flatten.proofs.InstanceNumbers.{number_at, node_is, node_in}
 use Rattle.rv_flatten.proofs.KindNumbers.{kind_itself}
-use Rattle.rv_flatten.proofs.LabelBits.{few_inputs}
+use Rattle.rv_flatten.proofs.FewInputs.{few_inputs}
 use Rattle.rv_flatten.proofs.MadeItems.{HasNumbers}
 use Rattle.rv_flat.proofs.Members.{at_head, in_tail}
 use Rattle.rv_flat.proofs.PlaceNumbers.{same_text, index_at, is_found}

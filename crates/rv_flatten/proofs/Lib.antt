@@ -39,7 +39,7 @@ pub mod TimedParts
 pub mod ComparedPlaces
 pub mod FewMemories
 pub mod ClockedNodes
-pub mod LabelBits
+pub mod FewInputs
 pub mod VariableParts
 pub mod FlowTotals
 pub mod MainNames

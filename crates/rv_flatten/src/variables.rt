@@ -5,9 +5,7 @@ ghost use Rattle.rv_tree.specs.Bounded.{most};
 ghost use Rattle.rv_tree.specs.Tree.{ProgramTree};
 ghost use Rattle.rv_types.specs.Lists as lists;
 ghost use Rattle.rv_types.specs.Lists.{sites_of, with_copies, memory_variables, input_variables, test_variables, sides_of, memory_columns, input_columns};
-ghost use Rattle.rv_types.specs.Values.{label_count, labels_at as labels_of_type};
-ghost use Rattle.rv_types.specs.Variables.{bits_for as least_bits};
-ghost use Rattle.rv_instances.specs.Bits.{bits_of as bits_of_type};
+ghost use Rattle.rv_types.specs.Values.{labels_at as labels_of_type};
 ghost use Rattle.rv_flatten.specs.Kept.{kept_memory, found_comparison};
 ghost use Rattle.rv_flat.specs.Lists.{column_of, side_of, tick_places, variable_of};
 ghost use Rattle.rv_flatten.specs.VariableLists.{kept_variables, given_variables, own_columns};
@@ -16,7 +14,8 @@ use crate::flows::copied;
 use crate::kept::{Comparison, Kept};
 use rv_base::{Many, Memory, Place};
 use rv_flat::{Bit, Column, Side};
-use rv_tree::{Op, TypeBody, TypeDecl};
+use rv_instances::bits_of;
+use rv_tree::{Op, TypeDecl};
 use rv_types::Kind;
 use std::alloc::{AllocError, Global};
 
@@ -161,56 +160,6 @@ fn add_side(place: &Place, side: Side, bits: &mut Many<Bit>) -> Result<(), Memor
     let again = copied(place)?;
     bits.push(Bit::Test(again, side))?;
     Ok(())
-}
-
-/// The bits of a control memory or input of a type; integers have none.
-fn bits_of(types: &[TypeDecl], kind: Kind) -> u32
-    requires few { (k : ℕ) → labels_of_type types.now k ≤ most }
-    ensures { result ≡ bits_of_type types.now kind }
-{
-    match kind {
-        Kind::Bool => 1,
-        Kind::Int => 0,
-        Kind::Labels(number) => bits_for(labels_at(types, number)),
-    }
-}
-
-/// The number of labels of the enumeration with a number.
-#[tactic(auto, using(crate::proofs::LabelBits::labels_here, crate::proofs::LabelBits::labels_past))]
-fn labels_at(types: &[TypeDecl], number: u32) -> u64
-    ensures { result ≡ labels_of_type types.now number }
-{
-    let at = number as usize;
-    if at < types.len() {
-        labels_in(&types[at])
-    } else {
-        0
-    }
-}
-
-/// The number of labels of a type, 0 where it is an alias.
-fn labels_in(declared: &TypeDecl) -> u64
-    ensures { result ≡ label_count declared.now }
-{
-    match &declared.body {
-        TypeBody::Labels(labels) => labels.len() as u64,
-        TypeBody::Alias(_) => 0,
-    }
-}
-
-/// The least number of bits with which so many codes can be told apart.
-#[tactic(auto, using(crate::proofs::LabelBits::enough_bits, crate::proofs::LabelBits::one_bit_more, crate::proofs::LabelBits::twice_codes))]
-fn bits_for(count: u64) -> u32
-    requires { count ≤ most }
-    ensures { result ≡ least_bits count }
-{
-    let mut bits = 0;
-    let mut codes = 1;
-    while codes < count {
-        codes *= 2;
-        bits += 1;
-    }
-    bits
 }
 
 /// The columns: the integer memories, then the integer inputs of the main node, whose inputs have these types.

@@ -21,3 +21,4 @@ pub mod ClockBounds
 pub mod Lists
 pub mod Placed
 pub mod PutCalls
+pub mod LabelCodes

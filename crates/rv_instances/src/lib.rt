@@ -10,6 +10,7 @@
 mod answer;
 mod callees;
 mod clocked_calls;
+mod codes;
 mod equal;
 mod expanded;
 mod flows;
@@ -21,6 +22,7 @@ mod source;
 
 pub use answer::{Instance, Order};
 pub use callees::Callees;
+pub use codes::{bits_of, labels_in};
 pub use equal::all_equal;
 pub use expanded::Expanded;
 pub use flows::{Flow, flows_in, places_of};

@@ -7,7 +7,6 @@ pub mod Remembered
 pub mod EachNode
 pub mod Main
 pub mod Tested
-pub mod Codes
 pub mod Varied
 pub mod TickLists
 pub mod TickPlaces

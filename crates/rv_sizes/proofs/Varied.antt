@@ -1,41 +1,19 @@
 -- The variables of diagrams, summed from capped numbers.
-use Rattle.std.proofs.Common.{◌≡◌, ℕ, zero, suc, ◌+◌, ◌*◌, ◌≤◌, List, [], ◌∷◌, map, length, get_or, take, refl, ◌∙◌, ap, arith}
-use Rattle.std.specs.List.{Contains}
-use Rattle.rv_tree.specs.Bounded.{IsBounded, most}
+use Rattle.std.proofs.Common.{◌≡◌, ℕ, zero, suc, ◌+◌, ◌*◌, ◌≤◌, List, [], ◌∷◌, map, length, take, refl, ◌∙◌, ap, arith}
 use Rattle.rv_tree.specs.Delays.{Delay}
-use Rattle.rv_tree.specs.declared.tree.Name.{Name}
-use Rattle.rv_tree.specs.declared.tree.TypeBody.{TypeBody}
-use Rattle.rv_tree.specs.declared.tree.TypeBody.TheVariants.{Alias, Labels}
-use Rattle.rv_tree.specs.declared.tree.TypeDecl.{TypeDecl}
 use Rattle.rv_tree.specs.Tree.{NodeTree, ProgramTree}
 use Rattle.rv_types.specs.declared.typed.Kind.{Kind}
 use Rattle.rv_instances.specs.Bits.{bits_of_all}
 use Rattle.rv_sizes.specs.Capped.{capped}
 use Rattle.rv_sizes.specs.Memories.{memory_kinds}
 use Rattle.rv_types.specs.Variables.{total, memories, memory_bits, kind_bits}
-use Rattle.rv_types.specs.Values.{operand_kind, labels_at, label_count}
-use Rattle.rv_base.specs.Limits.{heaviest}
-use Rattle.rv_sizes.proofs.Codes.{bits_same}
+use Rattle.rv_types.specs.Values.{operand_kind}
+use Rattle.rv_instances.proofs.LabelCodes.{bits_same}
 use Rattle.rv_sizes.proofs.Unrolling.{total_map}
 
 pub variables_counted : (ticks bits inputs tests a b c d : ℕ) → ticks ≡ capped a → bits ≡ capped b → inputs ≡ capped c → tests ≡ capped d
     → capped (2 * (1 + (ticks + bits)) + (inputs + tests)) ≡ capped (2 * (1 + (a + b)) + (c + d))
 variables_counted ticks bits inputs tests a b c d e f g h = omega (arith, e, f, g, h)
-
-labels_of_body : (d : TypeDecl) (b : TypeBody) → d.body ≡ b → ((xs : List Name) → d.body ≡ Labels xs → length xs ≤ most) → label_count d ≤ heaviest
-labels_of_body d (Alias t) is each = rw is (omega arith)
-labels_of_body d (Labels xs) is each = let few = each xs is in rw is (omega (arith, few))
-
-labels_few : (ds : List TypeDecl) → ((d : TypeDecl) (xs : List Name) → Contains ds d → d.body ≡ Labels xs → length xs ≤ most) → (k : ℕ)
-    → labels_at ds k ≤ heaviest
-labels_few [] each k = omega arith
-labels_few (d ∷ ds) each zero = labels_of_body d d.body refl (λ xs is. each d xs (0, omega arith, refl) is)
-labels_few (d ∷ ds) each (suc k) = labels_few ds (λ e xs w is. each e xs
-    (w.0 + 1, (let lt = w.1 in omega (arith, lt)), ap (λ j. get_or (d ∷ ds) j e) (let h : w.0 + 1 ≡ suc w.0 = omega arith in h) ∙ w.2) is) k
-
--- no type has more labels than a source has bytes
-pub few_labels : (p : ProgramTree) → IsBounded p → (k : ℕ) → labels_at p.types k ≤ heaviest
-few_labels p bounded k = labels_few p.types (λ d xs w is. bounded.labels d xs w is) k
 
 pub bits_each : (p : ProgramTree) (ks : List Kind) → bits_of_all p.types ks ≡ total (kind_bits p) ks
 bits_each p [] = refl

@@ -8,7 +8,8 @@ ghost use Rattle.rv_sizes.specs.Sizes.{first_above};
 ghost use Rattle.rv_types.specs.Variables.{total, is_integer};
 ghost use Rattle.rv_types.specs.Values.{label_count};
 
-use rv_tree::{Node, TypeBody, TypeDecl};
+use rv_instances::labels_in;
+use rv_tree::{Node, TypeDecl};
 use rv_types::Kind;
 
 /// The most labels of an enumeration.
@@ -55,14 +56,4 @@ pub fn labels_above(types: &[TypeDecl]) -> u64
         }
     }
     0
-}
-
-/// The number of labels of a type, 0 where it is an alias.
-pub fn labels_in(declared: &TypeDecl) -> u64
-    ensures { result ≡ label_count declared.now }
-{
-    match &declared.body {
-        TypeBody::Labels(labels) => labels.len() as u64,
-        TypeBody::Alias(_) => 0,
-    }
 }

@@ -18,7 +18,7 @@ use Rattle.rv_flatten.proofs.CountedVariables.{few_integers, few_variables}
 use Rattle.rv_flatten.proofs.CountedVariables.{few_labels as few_label_lists}
 use Rattle.rv_flatten.proofs.FlowTotals.{some_instance}
 use Rattle.rv_flatten.proofs.InstanceNumbers.{node_in}
-use Rattle.rv_flatten.proofs.LabelBits.{few_labels}
+use Rattle.rv_instances.proofs.LabelCodes.{few_labels}
 use Rattle.rv_flat.proofs.PlaceNumbers.{text_itself}
 use Rattle.rv_flatten.proofs.AgreedLaws.{Laws}
 use Rattle.rv_flatten.proofs.ReadFlat.{is_flat_of}

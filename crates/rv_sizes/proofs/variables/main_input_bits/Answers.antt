@@ -7,11 +7,12 @@ use Rattle.rv_instances.specs.Bits.{bits_of_all}
 use Rattle.rv_sizes.specs.Capped.{capped}
 use Rattle.rv_types.specs.Variables.{input_bits}
 use Rattle.rv_types.specs.Values.{labels_at}
-use Rattle.rv_base.specs.Limits.{heaviest}
+use Rattle.rv_tree.specs.Bounded.{most}
+use Rattle.rv_instances.proofs.LabelCodes.{few_labels}
 use Rattle.rv_instances.proofs.Lists.{length_map}
 use Rattle.rv_sizes.proofs.Main.{main_node, main_kinds, inputs_few}
 use Rattle.rv_sizes.proofs.Inputs.{input_kinds}
-use Rattle.rv_sizes.proofs.Varied.{few_labels, bits_each, take_length}
+use Rattle.rv_sizes.proofs.Varied.{bits_each, take_length}
 use Rattle.rv_sizes.proofs.variables.main_input_bits.Goals as goal
 
 pub at-requires : goal.at-requires
@@ -24,7 +25,7 @@ at-requires-2 c =
 
 pub bits_of_kinds-requires : goal.bits_of_kinds-requires
 bits_of_kinds-requires c = record {
-  few = λ k. subst (λ (ds : List TypeDecl). labels_at ds k ≤ heaviest) (sym c.as_slice.ensures)
+  few = λ k. subst (λ (ds : List TypeDecl). labels_at ds k ≤ most) (sym c.as_slice.ensures)
       (few_labels (program_tree c.args.p.now) c.requires.bounded k);
 }
 

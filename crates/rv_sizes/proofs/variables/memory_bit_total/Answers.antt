@@ -5,19 +5,20 @@ use Rattle.rv_types.specs.declared.typed.Kind.{Kind}
 use Rattle.rv_instances.specs.Bits.{bits_of_all}
 use Rattle.rv_types.specs.Variables.{memory_bits, over_instances}
 use Rattle.rv_types.specs.Values.{labels_at}
-use Rattle.rv_base.specs.Limits.{heaviest}
+use Rattle.rv_tree.specs.Bounded.{most}
+use Rattle.rv_instances.proofs.LabelCodes.{few_labels}
 use Rattle.rv_sizes.specs.Totals.{AreCapped, total_at}
 use Rattle.rv_calls.specs.Callings.{callings_of}
 use Rattle.rv_types.specs.Instances.{name_at}
 use Rattle.rv_sizes.specs.Capped.{capped}
 use Rattle.rv_instances.proofs.Lists.{length_map, if_ok}
 use Rattle.rv_sizes.proofs.Measured.{numbers_capped, sum_measured}
-use Rattle.rv_sizes.proofs.Varied.{few_labels, bits_measured}
+use Rattle.rv_sizes.proofs.Varied.{bits_measured}
 use Rattle.rv_sizes.proofs.variables.memory_bit_total.Goals as goal
 
 pub memory_bits_of-requires : goal.memory_bits_of-requires
 memory_bits_of-requires c = record {
-  few = λ k. subst (λ (ds : List TypeDecl). labels_at ds k ≤ heaviest) (sym c.as_slice.ensures)
+  few = λ k. subst (λ (ds : List TypeDecl). labels_at ds k ≤ most) (sym c.as_slice.ensures)
       (few_labels (program_tree c.args.p.now) c.requires.bounded k);
 }
 

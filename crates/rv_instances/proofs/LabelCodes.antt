@@ -2,13 +2,18 @@
 use Rattle.std.proofs.Common.{◌≡◌, ℕ, zero, suc, ◌+◌, ◌-◌, ◌*◌, ◌^◌, ◌<◌, ◌≤◌, cond, List, [], ◌∷◌, length, get_or, refl, sym, ◌∙◌, ap, arith}
 use Rattle.std.proofs.Math.Nat.{pow-suc}
 use Rattle.std.proofs.lemmas.Bool.{le-leb, lt-leb}
+use Rattle.std.specs.List.{Contains}
+use Rattle.rv_tree.specs.Bounded.{IsBounded, most}
+use Rattle.rv_tree.specs.declared.tree.Name.{Name}
+use Rattle.rv_tree.specs.declared.tree.TypeBody.{TypeBody}
+use Rattle.rv_tree.specs.declared.tree.TypeBody.TheVariants.{Alias, Labels}
 use Rattle.rv_tree.specs.declared.tree.TypeDecl.{TypeDecl}
+use Rattle.rv_tree.specs.Tree.{ProgramTree}
 use Rattle.rv_types.specs.declared.typed.Kind.{Kind}
 use Rattle.rv_types.specs.declared.typed.Kind.TheVariants as kind
-use Rattle.rv_tree.specs.Tree.{ProgramTree}
-use Rattle.rv_instances.specs.Bits.{bits_of}
 use Rattle.rv_types.specs.Variables.{bits_from, kind_bits}
 use Rattle.rv_types.specs.Values.{label_count, labels_at}
+use Rattle.rv_instances.specs.Bits.{bits_of}
 
 -- some bits are enough
 pub enough_bits : (more bits count : ℕ) → count ≤ 2 ^ bits → bits_from more bits count ≡ bits
@@ -34,6 +39,20 @@ pub labels_past : (ds : List TypeDecl) (k : ℕ) → length ds ≤ k → labels_
 labels_past [] k le = refl
 labels_past (x ∷ ds) zero le = absurd (omega (arith, le))
 labels_past (x ∷ ds) (suc k) le = labels_past ds k (omega (arith, le))
+
+labels_of_body : (d : TypeDecl) (b : TypeBody) → d.body ≡ b → ((xs : List Name) → d.body ≡ Labels xs → length xs ≤ most) → label_count d ≤ most
+labels_of_body d (Alias t) is each = rw is (omega arith)
+labels_of_body d (Labels xs) is each = let few = each xs is in rw is (omega (arith, few))
+
+labels_few : (ds : List TypeDecl) → ((d : TypeDecl) (xs : List Name) → Contains ds d → d.body ≡ Labels xs → length xs ≤ most) → (k : ℕ) → labels_at ds k ≤ most
+labels_few [] each k = omega arith
+labels_few (d ∷ ds) each zero = labels_of_body d d.body refl (λ xs is. each d xs (0, omega arith, refl) is)
+labels_few (d ∷ ds) each (suc k) = labels_few ds (λ e xs w is. each e xs
+    (w.0 + 1, (let lt = w.1 in omega (arith, lt)), ap (λ j. get_or (d ∷ ds) j e) (let h : w.0 + 1 ≡ suc w.0 = omega arith in h) ∙ w.2) is) k
+
+-- no type has more labels than a source has bytes
+pub few_labels : (p : ProgramTree) → IsBounded p → (k : ℕ) → labels_at p.types k ≤ most
+few_labels p bounded k = labels_few p.types (λ d xs w is. bounded.labels d xs w is) k
 
 -- the bits of a type of a program
 pub bits_same : (p : ProgramTree) (k : Kind) → bits_of p.types k ≡ kind_bits p k

@@ -1,6 +1,6 @@
 use Rattle.std.proofs.Common.{◌≡◌, ◌-◌, ◌^◌, ◌<◌, ◌≤◌}
 use Rattle.rv_types.specs.Variables.{bits_from, bits_for}
-use Rattle.rv_flatten.proofs.variables.bits_for.Given as goal
+use Rattle.rv_instances.proofs.codes.bits_for.Given as goal
 
 abbrev pub invariant-loop-codes : goal.invariant-loop-codes
 invariant-loop-codes l = record {

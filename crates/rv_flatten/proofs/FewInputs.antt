@@ -1,0 +1,19 @@
+-- A node has no more inputs than a source has bytes.
+use Rattle.std.proofs.Common.{◌≤◌, ◌++◌, length, length-append, arith}
+use Rattle.std.proofs.lemmas.List.{length-map}
+use Rattle.std.specs.List.{Contains}
+use Rattle.rv_tree.specs.Bounded.{IsBounded, most}
+use Rattle.rv_tree.specs.Tree.{NodeTree, ProgramTree}
+use Rattle.rv_tree.specs.Places.{names}
+use Rattle.rv_tree.specs.declared.tree.Decl.{Decl}
+use Rattle.rv_types.specs.Kinds.{decl_kinds, kind_in_program}
+
+pub few_inputs : (p : ProgramTree) → IsBounded p → (n : NodeTree) → Contains p.nodes n → length (decl_kinds p n.inputs) ≤ most
+few_inputs p bounded n w =
+    let few = bounded.node_flows n w in
+    let size = length-map n.inputs (λ (d : Decl). kind_in_program p d.kind) in
+    let names_size = length-map n.inputs (λ (d : Decl). d.name.text) in
+    let a = length-append (names n.inputs) (names n.outputs ++ names n.locals) in
+    let b = length-append (names n.inputs ++ names n.outputs) (names n.locals) in
+    let c = length-append (names n.inputs) (names n.outputs) in
+    omega (arith, few, size, names_size, a, b, c)
