@@ -55,7 +55,8 @@ use Rattle.rv_flatten.specs.Readings as readings
 use Rattle.rv_flat.specs.Systems.{places_of, memory_places_of, memory_of}
 use Rattle.rv_flatten.proofs.ArrowClocks.{node_comes, arrow_known}
 use Rattle.rv_flatten.proofs.FlowKinds.{HasFlow, is_flow, kinds_many, flow_of_site, base_flow}
-use Rattle.rv_flatten.proofs.FlowTotals.{laid_is, some_instance}
+use Rattle.rv_instances.proofs.LaidFlows.{laid_is}
+use Rattle.rv_flatten.proofs.FlowTotals.{some_instance}
 use Rattle.rv_flatten.proofs.InstanceNumbers.{number_at, node_is, node_in}
 use Rattle.rv_flatten.proofs.KindNumbers.{kind_itself}
 use Rattle.rv_flatten.proofs.FewInputs.{few_inputs}

@@ -1,11 +1,8 @@
 -- Where the flows of instances begin, and how many there are.
-use Rattle.std.proofs.Common.{◌≡◌, inl, inr, ℕ, zero, suc, ◌+◌, ◌*◌, ◌<◌, ◌≤◌, ◌^◌, List, [], ◌∷◌, ◌++◌, length, get_or, slice_get, Some, refl, sym, ◌∙◌, ap}
-use Rattle.std.proofs.Common.{subst, arith, length-append}
-use Rattle.std.proofs.Math.ListN.{get_or-append}
-use Rattle.std.proofs.Math.Nat.{suc-mul}
-use Rattle.std.proofs.Math.Seq.{get_or-append_seam}
-use Rattle.std.proofs.lemmas.Bool.{cases_eq, cases_order}
-use Rattle.std.proofs.lemmas.List.{length-map, get_or_past}
+use Rattle.std.proofs.Common.{◌≡◌, inl, inr, ℕ, suc, ◌+◌, ◌<◌, ◌≤◌, ◌^◌, List, [], length, get_or, slice_get, Some, sym, ◌∙◌, ap}
+use Rattle.std.proofs.Common.{subst, arith}
+use Rattle.std.proofs.lemmas.Bool.{cases_order}
+use Rattle.std.proofs.lemmas.List.{get_or_past}
 use Rattle.std.proofs.lemmas.List.Elements.{Contains-get_or}
 use Rattle.std.proofs.lemmas.Option.{get_or_from_slice_get}
 use Rattle.rv_tree.specs.Tree.{NodeTree, ProgramTree}
@@ -15,56 +12,9 @@ use Rattle.rv_types.specs.Instances.{no_node, main_instance, is_main}
 use Rattle.rv_instances.specs.declared.answer.Instance.{Instance as Numbered}
 use Rattle.rv_instances.specs.declared.layout.Laid.{Laid}
 use Rattle.rv_instances.specs.Expanded.{IsExpanded}
-use Rattle.rv_instances.specs.Flowing.{flow_count, flow_sites, flows_below, flows_to}
-use Rattle.rv_instances.specs.Layouts.{flows_before, laid_at, all_laid, all_places}
-
--- so many instances, each with so few flows
-few_before : (count : ℕ → ℕ) (most m : ℕ) → ((k : ℕ) → k < m → count k ≤ most) → flows_before count m ≤ m * most
-few_before count most zero few = omega arith
-few_before count most (suc m) few =
-    let h = few_before count most m (λ k lt. few k (omega (arith, lt))) in
-    let k = few m (omega arith) in
-    let e = suc-mul m most in
-    omega (arith, h, k, e)
-
-module _ (p : ProgramTree) (instances : List Numbered) where
-  pub laid_size : (n : ℕ) → length (all_laid p instances n) ≡ n
-  laid_size zero = refl
-  laid_size (suc n) =
-      let h = laid_size n in
-      let a = length-append (all_laid p instances n) (laid_at p instances n ∷ []) in
-      omega (arith, h, a)
-
-  pub laid_is : (n m : ℕ) (d : Laid) → m < n → get_or (all_laid p instances n) m d ≡ laid_at p instances m
-  laid_is zero m d lt = absurd (omega (arith, lt))
-  laid_is (suc n) m d lt = elim (cases_eq m n) [
-    | inl same ↦
-        ap (λ k. get_or (all_laid p instances n ++ laid_at p instances n ∷ []) k d) (same ∙ sym (laid_size n))
-        ∙ get_or-append_seam (all_laid p instances n) (laid_at p instances n) [] d
-        ∙ ap (laid_at p instances) (sym same)
-    | inr other ↦
-        get_or-append (all_laid p instances n) (laid_at p instances n ∷ []) d m (let s = laid_size n in omega (arith, lt, other, s))
-        ∙ laid_is n m d (omega (arith, lt, other))
-  ]
-
-below_size : (i n : ℕ) → length (flows_below i n) ≡ n
-below_size i zero = refl
-below_size i (suc n) =
-    let h = below_size i n in
-    let a = length-append (flows_below i n) (record { instance = i; site = n } ∷ []) in
-    omega (arith, h, a)
-
-to_size : (count : ℕ → ℕ) (n : ℕ) → length (flows_to count n) ≡ flows_before count n
-to_size count zero = refl
-to_size count (suc n) =
-    let h = to_size count n in
-    let a = length-append (flows_to count n) (flows_below n (count n)) in
-    let b = below_size n (count n) in
-    omega (arith, h, a, b)
-
-module _ (p : ProgramTree) (instances : List Numbered) where
-  pub places_size : length (all_places p instances) ≡ flows_before (flow_count p instances) (length instances)
-  places_size = length-map (flows_to (flow_count p instances) (length instances)) (flow_sites instances) ∙ to_size (flow_count p instances) (length instances)
+use Rattle.rv_instances.specs.Flowing.{flow_count}
+use Rattle.rv_instances.specs.Layouts.{flows_before, all_laid, all_places}
+use Rattle.rv_instances.proofs.LaidFlows.{few_before, laid_is, places_size}
 
 -- the flows of a node are few
 node_few : (p : ProgramTree) → IsBounded p → (k : ℕ) → length (flows (get_or p.nodes k no_node)) ≤ most

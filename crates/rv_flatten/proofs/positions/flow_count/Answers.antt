@@ -1,6 +1,7 @@
 use Rattle.std.proofs.Common.{◌-◌, ◌<◌, ◌^◌, length, sym, ◌∙◌, ap, arith, subst}
 use Rattle.rv_instances.specs.Expanded.{program_of, main_of}
-use Rattle.rv_flatten.proofs.FlowTotals.{laid_size, some_instance, few_flows, last_end}
+use Rattle.rv_instances.proofs.LaidFlows.{laid_size}
+use Rattle.rv_flatten.proofs.FlowTotals.{some_instance, few_flows, last_end}
 use Rattle.rv_flatten.proofs.positions.flow_count.Goals as goal
 
 pub overflow_sub-last : goal.overflow_sub-last
