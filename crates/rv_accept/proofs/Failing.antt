@@ -20,7 +20,7 @@ use Rattle.rv_accept.proofs.Growing.{clash, and_not}
 use Rattle.rv_proofs.proofs.ControlReads.{control_same, condition_same}
 use Rattle.rv_accept.proofs.Least.{Picked, picked, match_map, same_states, scope_same, value_reads}
 
-not_true : (b : Bool) → (b ≡ true → ⊥) → b ≡ false
+pub not_true : (b : Bool) → (b ≡ true → ⊥) → b ≡ false
 not_true b n = ⊎_elim (λ y. absurd (n y)) (λ z. z) (cases_Bool b)
 
 -- what the pick of the first set without the second says

@@ -1,8 +1,8 @@
 -- The least valuation of a set has false at each variable that the set does not go by.
-use Rattle.std.proofs.Common.{ℕ, ◌*◌, ◌<◌, ◌≤◌, ◌≡◌, ◌≢◌, ◌⊎◌, Bool, false, cond, List, length, refl, sym, ap, ◌∙◌, subst}
+use Rattle.std.proofs.Common.{ℕ, ◌*◌, ◌<◌, ◌≤◌, ◌≡◌, ◌≢◌, ◌⊎◌, Bool, false, cond, List, length, sym, ap, ◌∙◌, subst}
 use Rattle.std.proofs.Common.{⊎_elim, arith, Option, Some, MatchOption}
 use Rattle.std.proofs.Common.{None as Nothing}
-use Rattle.std.proofs.lemmas.Bool.{cases_Bool, ne_eqb, eq-eqb}
+use Rattle.std.proofs.lemmas.Bool.{cases_Bool, ne_eqb}
 use Rattle.rv_diagram.specs.declared.frozen.Frozen.{Frozen}
 use Rattle.rv_diagram.specs.Nodes.{Valuation, Diagrams, node_at, value_among, value_of, valuation_of, put, ComesBefore, IsLeast}
 use Rattle.rv_proofs.specs.Systems.{System, IsSystem, IsState, IsRead, IsSameValuation, HasSameState}
@@ -13,9 +13,7 @@ use Rattle.rv_proofs.specs.declared.certificate.Entry.{Entry}
 use Rattle.rv_proofs.proofs.ControlReads.{value_among-reads, control_same, condition_same}
 use Rattle.rv_accept.specs.Steps.{IsTrueOf}
 use Rattle.rv_accept.proofs.Growing.{clash}
-
-put_at : (v : Valuation) (x : ℕ) (b : Bool) → put v x b x ≡ b
-put_at v x b = ap (λ t. cond t b (v x)) (eq-eqb x x refl)
+use Rattle.rv_diagram.proofs.Canon.{put-same as put_at}
 
 put_off : (v : Valuation) (x : ℕ) (b : Bool) (y : ℕ) → (y ≡ x → ⊥) → put v x b y ≡ v y
 put_off v x b y other = ap (λ t. cond t b (v y)) (ne_eqb y x other)

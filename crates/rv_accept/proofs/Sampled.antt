@@ -1,7 +1,7 @@
 -- What is given to the checker can be met.
 use Rattle.std.proofs.Common.{ℕ, zero, suc, ◌<◌, ◌≡◌, Bool, true, false, cond, not, [], ◌∷◌, refl, ◌∙◌, subst, arith}
 use Rattle.std.proofs.lemmas.Option.{none-some, same_Some}
-use Rattle.rv_diagram.specs.Nodes.{Valuation, value_of, value_among, IsRef}
+use Rattle.rv_diagram.specs.Nodes.{Valuation, value_of, IsRef}
 use Rattle.rv_diagram.specs.Several.{ref_at}
 use Rattle.rv_proofs.specs.Counts.{HasLoop, HasFree}
 use Rattle.rv_proofs.specs.Samples.{counting, counted, at_first, at_later, counting_on}
@@ -9,22 +9,10 @@ use Rattle.rv_proofs.specs.declared.certificate.Location.{Location}
 use Rattle.rv_proofs.proofs.SampleSystems.{counting_system}
 use Rattle.rv_proofs.proofs.Counting.{counted_accepted}
 use Rattle.rv_cases.specs.Samples.{counting_nodes, counting_diagrams, counting_questions}
-use Rattle.rv_cases.proofs.Sampling.{asked}
+use Rattle.rv_cases.proofs.Sampling.{asked, at_one, at_six, at_eleven}
 use Rattle.rv_symbolic.specs.Represented.{HaveRefs, AreParts}
 use Rattle.rv_accept.specs.Samples.{counting_parts}
 use Rattle.rv_accept.specs.Passing.{IsGiven}
-
-at_one : (v : Valuation) → value_of counting_nodes 1 v ≡ true
-unfolding value_among
-at_one v = refl
-
-at_six : (v : Valuation) → value_of counting_nodes 6 v ≡ cond (v 0) false true
-unfolding value_among
-at_six v = refl
-
-at_eleven : (v : Valuation) → value_of counting_nodes 11 v ≡ cond (v 0) (cond (v 3) true false) true
-unfolding value_among
-at_eleven v = refl
 
 turned : (b : Bool) → cond b false true ≡ not b
 turned true = refl

@@ -25,25 +25,16 @@ use Rattle.rv_agreement.specs.Checks.{same_sites, same_flow, same_clock, is_amon
 use Rattle.rv_agreement.specs.Checks.{clock_fits, fits, form_fits, all_fit, IsShared, FormIsShared, AreShared, item_fits, flows_fit, memories_fit}
 use Rattle.rv_agreement.specs.Checks.{assertions_fit, clocks_fit, IsChecked, IsInlined}
 use Rattle.rv_agreement.proofs.Controls.{no_flag}
-use Rattle.rv_agreement.proofs.Matching.{in_tail, only_one}
+use Rattle.rv_agreement.proofs.Matching.{only_one}
 use Rattle.rv_agreement.proofs.Chosen.{sites_itself, flow_itself}
+use Rattle.rv_types.proofs.ConstantContents.{kind_same as kind_told}
+use Rattle.rv_types.proofs.Members.{in_tail}
 
 clock_told : (k j : Option ℕ) → same_clock k j ≡ true → k ≡ j
 clock_told Nothing Nothing e = refl
 clock_told Nothing (Some n) e = no_flag e
 clock_told (Some k) Nothing e = no_flag e
 clock_told (Some k) (Some n) e = ap Some (eqb-true k n e)
-
-kind_told : (i j : Kind) → same_kind i j ≡ true → i ≡ j
-kind_told kind.Bool kind.Bool e = refl
-kind_told kind.Bool kind.Int e = no_flag e
-kind_told kind.Bool (kind.Labels j) e = no_flag e
-kind_told kind.Int kind.Bool e = no_flag e
-kind_told kind.Int kind.Int e = refl
-kind_told kind.Int (kind.Labels j) e = no_flag e
-kind_told (kind.Labels i) kind.Bool e = no_flag e
-kind_told (kind.Labels i) kind.Int e = no_flag e
-kind_told (kind.Labels i) (kind.Labels j) e = ap kind.Labels (eqb-true i j e)
 
 -- a number with a type is within, and has it
 of_told : (j : Kind) (ks : List Kind) (n : ℕ) → is_of j (slice_get ks n) ≡ true → (n < length ks) × (kind_at ks n ≡ j)

@@ -22,7 +22,7 @@ use Rattle.rv_agreement.proofs.LinearLemmas.{told}
 use Rattle.rv_agreement.proofs.Controls.{no_flag}
 use Rattle.rv_agreement.proofs.Spelled.{bits_of, is_spelled, is_coded_as}
 
-sites_told : (p q : Sites) → same_sites p q ≡ true → p ≡ q
+pub sites_told : (p q : Sites) → same_sites p q ≡ true → p ≡ q
 sites_told [] [] e = refl
 sites_told [] (q ∷ qs) e = no_flag e
 sites_told (p ∷ ps) [] e = no_flag e
@@ -32,7 +32,7 @@ pub sites_itself : (p : Sites) → same_sites p p ≡ true
 sites_itself [] = refl
 sites_itself (p ∷ ps) = (λ i. eq-eqb p p refl i && sites_itself ps i)
 
-flow_told : (p q : Option Sites) → same_flow p q ≡ true → p ≡ q
+pub flow_told : (p q : Option Sites) → same_flow p q ≡ true → p ≡ q
 flow_told Nothing Nothing e = refl
 flow_told Nothing (Some q) e = no_flag e
 flow_told (Some p) Nothing e = no_flag e

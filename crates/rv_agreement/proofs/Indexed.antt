@@ -5,7 +5,6 @@ use Rattle.std.proofs.Common.{None as Nothing}
 use Rattle.std.proofs.lemmas.List.{length-map, get_or-map, get_or_past}
 use Rattle.std.proofs.lemmas.Bool.{cases_lt}
 use Rattle.std.proofs.lemmas.Cmp.{nat_list_cmp_total, tied_itself}
-use Rattle.std.proofs.Common.{Ordering, Less, Equal, Greater}
 use Rattle.std.specs.Ordering.{is_eq, nat_cmp}
 use Rattle.std.specs.Cmp.Lexicographic.{slice_cmp, texts_ties}
 use Rattle.std.specs.List.{Contains}
@@ -13,18 +12,14 @@ use Rattle.std.specs.FinMap.{slice_cmp-IsAntisymmetric, nat_cmp-IsAntisymmetric}
 use Rattle.rv_tree.specs.Places.{Sites, is_same, index_of}
 use Rattle.rv_agreement.specs.Translation.{AreIndexed}
 use Rattle.rv_agreement.proofs.Controls.{no_flag}
-use Rattle.rv_agreement.proofs.Matching.{none_in, head_or_tail}
-
-only_equal : (r : Ordering) → is_eq r ≡ true → r ≡ Equal
-only_equal Less e = grind arith
-only_equal Equal e = refl
-only_equal Greater e = grind arith
+use Rattle.rv_meaning.proofs.Rows.{only_equal}
+use Rattle.rv_types.proofs.Members.{cons_cases as head_or_tail, nothing_in as none_in}
 
 -- places with the same numbers are equal
 same_sites : (p q : Sites) → is_same p q ≡ true → p ≡ q
 same_sites p q e = slice_cmp-IsAntisymmetric nat_cmp-IsAntisymmetric p q (only_equal (slice_cmp nat_cmp p q) (sym (texts_ties p q) ∙ e))
 
-itself : (p : Sites) → is_same p p ≡ true
+pub itself : (p : Sites) → is_same p p ≡ true
 itself p = texts_ties p p ∙ ap is_eq (tied_itself nat_list_cmp_total p)
 
 -- what a number within a list finds there

@@ -1,7 +1,7 @@
 -- Where a valuation spells what an instant finds, and its present tests tell the truth, the symbolic instant gives at the point
 -- what the instant in whole numbers gives.
-use Rattle.std.proofs.Common.{◌≡◌, ℕ, zero, suc, ◌+◌, ◌<◌, ◌≤◌, ℤ, ◌*ℤ◌, Bool, true, false, not, cond, List, [], ◌∷◌, ◌++◌, length, flat_map, get_or, refl, sym}
-use Rattle.std.proofs.Common.{◌∙◌, ap, subst, arith, inl, inr, ◌⊎◌}
+use Rattle.std.proofs.Common.{◌≡◌, ℕ, zero, suc, ◌+◌, ◌<◌, ◌≤◌, ℤ, ◌*ℤ◌, Bool, true, false, not, cond, List, [], ◌∷◌, ◌++◌, length, get_or, refl, sym}
+use Rattle.std.proofs.Common.{◌∙◌, ap, subst, arith, inl, inr}
 use Rattle.std.proofs.Common.{Option, None as Nothing, Some}
 use Rattle.std.specs.Prelude.{nat_le, nat_eq}
 use Rattle.std.specs.List.{Contains}
@@ -28,35 +28,9 @@ use Rattle.rv_agreement.specs.Agreement.{State, found_in, IsWholeInstant, value_
 use Rattle.rv_agreement.proofs.LinearLemmas.{Laws, told}
 use Rattle.rv_agreement.proofs.Operators.{truth_at, constant_at, scaled_at, operated_at}
 use Rattle.rv_agreement.proofs.Controls.{of_integers, never_linear}
+use Rattle.rv_types.proofs.Members.{cons_cases as head_or_tail, in_flat_map, nothing_in as none_in, of_flat_map as from_flat_map}
 
 -- Lists.
-
-pub none_in : {X G : Type 0} (x : X) → Contains [] x → G
-none_in x w = absurd (omega (arith, w.1))
-
-pub in_tail : {X : Type 0} (y : X) (xs : List X) (x : X) → Contains xs x → Contains (y ∷ xs) x
-in_tail y xs x w = (suc w.0, omega (arith, w.1), w.2)
-
-pub head_or_tail : {X : Type 0} (y : X) (xs : List X) (x : X) → Contains (y ∷ xs) x → (y ≡ x) ⊎ Contains xs x
-head_or_tail {X = X} y xs x w = at w.0 w.1 w.2
-  where
-    at : (k : ℕ) → k < length (y ∷ xs) → get_or (y ∷ xs) k x ≡ x → (y ≡ x) ⊎ Contains xs x
-    at zero lt is = inl is
-    at (suc k) lt is = inr (k, omega arith, is)
-
-pub in_flat_map : {X Y : Type 0} (f : X → List Y) (xs : List X) (x : X) (y : Y) → Contains xs x → Contains (f x) y → Contains (flat_map f xs) y
-in_flat_map f [] x y w v = none_in x w
-in_flat_map f (z ∷ zs) x y w v = elim (head_or_tail z zs x w) [
-  | inl is ↦ Contains-append_left (f z) (flat_map f zs) y (subst (λ u. Contains (f u) y) (sym is) v)
-  | inr rest ↦ Contains-append_right (f z) (flat_map f zs) y (in_flat_map f zs x y rest v)
-]
-
-pub from_flat_map : {X Y : Type 0} (f : X → List Y) (xs : List X) (y : Y) → Contains (flat_map f xs) y → (x : X) × Contains xs x × Contains (f x) y
-from_flat_map f [] y w = none_in y w
-from_flat_map f (x ∷ xs) y w = elim (Contains-append_cases (f x) (flat_map f xs) y w) [
-  | inl here ↦ (x, (0, omega arith, refl), here)
-  | inr rest ↦ let r = from_flat_map f xs y rest in (r.0, in_tail x xs r.0 r.1, r.2)
-]
 
 -- an element of the list of one is it
 pub only_one : {X : Type 0} (y x : X) → Contains (y ∷ []) x → y ≡ x
@@ -72,7 +46,7 @@ chosen_at : (x : List ℤ) (b : Bool) (p q : Reading) → cond b (at_point x p) 
 chosen_at x true p q = refl
 chosen_at x false p q = refl
 
-some_side : {X : Type 0} (xs : List X) (x : X) → Contains xs x → nat_eq (length xs) 0 ≡ false
+pub some_side : {X : Type 0} (xs : List X) (x : X) → Contains xs x → nat_eq (length xs) 0 ≡ false
 some_side [] x w = none_in x w
 some_side (y ∷ ys) x w = ne_eqb (suc (length ys)) 0 (λ e. absurd (omega (arith, e)))
 
@@ -80,7 +54,7 @@ some_sides : {X : Type 0} (xs : List X) (x : X) → Contains xs x → 0 < length
 some_sides xs x w = omega (arith, w.1)
 
 -- a comparison with a place and a test is its own
-own_there : (o : Op) (c : Comparison) (side : Side) → is_placed c.at ≡ true → Contains (sides_of o) side → Contains (own o c) c
+pub own_there : (o : Op) (c : Comparison) (side : Side) → is_placed c.at ≡ true → Contains (sides_of o) side → Contains (own o c) c
 own_there o c side placed w =
     subst (λ cs. Contains cs c)
     (sym ((λ t. cond (placed t) (cond (some_side (sides_of o) side w t) [] (c ∷ [])) [])))

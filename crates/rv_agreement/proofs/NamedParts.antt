@@ -8,8 +8,8 @@ use Rattle.rv_tree.specs.Places.{Identifier, Sites}
 use Rattle.rv_types.specs.Instances.{Instance, absolute, clock_of}
 use Rattle.rv_agreement.specs.Programs.{Compared, compared, form_compared, compared_all}
 use Rattle.rv_agreement.specs.Translation.{Names, FormNames, AllNames}
-use Rattle.rv_agreement.proofs.Matching.{none_in}
 use Rattle.rv_agreement.proofs.Suited.{stands}
+use Rattle.rv_types.proofs.Members.{nothing_in as none_in}
 
 module _ (i : Instance) (P R : Sites → Type 0) (Q S : Option Sites → Type 0) (T U : Identifier → Type 0)
     (kept : (q : Sites) → P q → R q) (ticked : (k : Option Sites) → Q k → S k) (clocked : (x : Identifier) → T x → U x) where

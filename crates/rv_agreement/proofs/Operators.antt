@@ -17,9 +17,7 @@ use Rattle.rv_agreement.specs.Valuations.{Reading, Truth, Name, Linear, at_point
 use Rattle.rv_types.specs.declared.typed.Kind.{Kind}
 use Rattle.rv_agreement.specs.Agreement.{IsRule}
 use Rattle.rv_agreement.proofs.LinearLemmas.{Laws, told, difference_value}
-
-pub head_in : {X : Type 0} (x : X) (xs : List X) → Contains (x ∷ xs) x
-head_in x xs = (0, omega arith, refl)
+use Rattle.rv_types.proofs.Members.{at_head as head_in}
 
 pub second_in : {X : Type 0} (x y : X) (xs : List X) → Contains (x ∷ y ∷ xs) y
 second_in x y xs = (1, omega arith, refl)

@@ -1,7 +1,6 @@
 -- Each comparison is on the clock that it is given: its expression is on that clock, or is free and takes it.
-use Rattle.std.proofs.Common.{◌≡◌, ◌⊎◌, inl, inr, ℕ, Bool, true, false, cond, nat_eq, List, ◌++◌, length, refl, sym, ◌∙◌, ap, subst, Option}
+use Rattle.std.proofs.Common.{◌≡◌, ◌⊎◌, inl, inr, ℕ, Bool, true, false, cond, nat_eq, List, ◌++◌, length, refl, sym, ◌∙◌, subst, Option}
 use Rattle.std.specs.List.{Contains}
-use Rattle.std.proofs.lemmas.Bool.{eqb-true}
 use Rattle.std.proofs.lemmas.List.Elements.{Contains-append_cases}
 use Rattle.rv_tree.specs.declared.tree.Op.{Op}
 use Rattle.rv_tree.specs.declared.tree.Op.TheVariants as op
@@ -9,10 +8,10 @@ use Rattle.rv_tree.specs.Tree as tree
 use Rattle.rv_tree.specs.Tree.{Tree, Form, Trees, NodeTree, ProgramTree}
 use Rattle.rv_tree.specs.Places.{Sites, site_of}
 use Rattle.rv_types.specs.declared.typed.Clock.{Clock}
-use Rattle.rv_types.specs.declared.typed.Clock.TheVariants.{Base, On}
+use Rattle.rv_types.specs.declared.typed.Clock.TheVariants.{On}
 use Rattle.rv_types.specs.declared.fault.Pace.{Pace}
 use Rattle.rv_types.specs.declared.fault.Pace.TheVariants.{Free, At, Mute, Differ}
-use Rattle.rv_types.specs.Clocks.{seen, same_clock, meet, grounded, clock_at, when_pace, binary_pace, pace, form_pace, pace_of_all}
+use Rattle.rv_types.specs.Clocks.{seen, same_clock, meet, clock_at, when_pace, binary_pace, pace, form_pace, pace_of_all}
 use Rattle.rv_types.specs.Types.{is_constant}
 use Rattle.rv_types.specs.Scopes.{node_scope}
 use Rattle.rv_types.specs.Lists.{sides_of}
@@ -20,50 +19,15 @@ use Rattle.rv_types.specs.Instances.{Instance, absolute, clock_of}
 use Rattle.rv_types.specs.WellFormed.{Suits}
 use Rattle.rv_agreement.specs.Valuations.{is_placed}
 use Rattle.rv_agreement.specs.Programs.{operator_place, operation, Compared, own_compared, compared, form_compared, compared_all}
-use Rattle.rv_agreement.proofs.Matching.{none_in, in_own}
-use Rattle.rv_agreement.proofs.Controls.{no_flag}
+use Rattle.rv_agreement.proofs.Matching.{in_own}
+use Rattle.rv_meaning.proofs.Suiting.{same_clocks as clock_told, suits_both as suits_meet, suits_ground as suits_grounded, suits_seen}
+use Rattle.rv_types.proofs.Members.{nothing_in as none_in}
 
-clock_told : (c d : Clock) → same_clock c d ≡ true → c ≡ d
-clock_told Base Base e = refl
-clock_told Base (On j) e = no_flag e
-clock_told (On i) Base e = no_flag e
-clock_told (On i) (On j) e = ap On (eqb-true i j e)
-
-suits_seen : (k : Clock) (p : Pace) → Suits k (seen p) → Suits k p
-suits_seen k Free h = tt
-suits_seen k (At c) h = h
-suits_seen k Mute h = absurd h
-suits_seen k Differ h = absurd h
-
-suits_grounded : (k : Clock) (p : Pace) → Suits k (grounded p) → Suits k p
-suits_grounded k Free h = tt
-suits_grounded k (At c) h = h
-suits_grounded k Mute h = h
-suits_grounded k Differ h = h
-
-suits_both : (k c d : Clock) (b : Bool) → same_clock c d ≡ b → Suits k (cond b (At c) Differ) → (c ≡ k) × (d ≡ k)
+pub suits_both : (k c d : Clock) (b : Bool) → same_clock c d ≡ b → Suits k (cond b (At c) Differ) → (c ≡ k) × (d ≡ k)
 suits_both k c d true e h = (h, sym (clock_told c d e) ∙ h)
 suits_both k c d false e h = absurd h
 
-suits_meet : (k : Clock) (p q : Pace) → Suits k (meet p q) → Suits k p × Suits k q
-suits_meet k Free Free h = (tt, tt)
-suits_meet k Free (At d) h = (tt, h)
-suits_meet k Free Mute h = absurd h
-suits_meet k Free Differ h = absurd h
-suits_meet k (At c) Free h = (h, tt)
-suits_meet k (At c) (At d) h = suits_both k c d (same_clock c d) refl h
-suits_meet k (At c) Mute h = absurd h
-suits_meet k (At c) Differ h = absurd h
-suits_meet k Mute Free h = absurd h
-suits_meet k Mute (At d) h = absurd h
-suits_meet k Mute Mute h = absurd h
-suits_meet k Mute Differ h = absurd h
-suits_meet k Differ Free h = absurd h
-suits_meet k Differ (At d) h = absurd h
-suits_meet k Differ Mute h = absurd h
-suits_meet k Differ Differ h = absurd h
-
-suits_binary : (k : Clock) (o : Op) (p q : Pace) → Suits k (binary_pace o p q) → Suits k p × Suits k q
+pub suits_binary : (k : Clock) (o : Op) (p q : Pace) → Suits k (binary_pace o p q) → Suits k p × Suits k q
 suits_binary k op.Arrow p q h = suits_meet k p q (suits_grounded k (meet p q) h)
 suits_binary k op.Implies p q h = suits_meet k p q h
 suits_binary k op.Or p q h = suits_meet k p q h
@@ -94,7 +58,7 @@ suits_when k n (At c) j h = by (same_clock c (clock_at n j)) refl h
 suits_when k n Mute j h = absurd h
 suits_when k n Differ j h = absurd h
 
-one_of : {X : Type 0} (o : Op) (xs ys zs : List X) (c : X) → Contains (operation o xs ys zs) c → Contains xs c ⊎ (Contains ys c ⊎ Contains zs c)
+pub one_of : {X : Type 0} (o : Op) (xs ys zs : List X) (c : X) → Contains (operation o xs ys zs) c → Contains xs c ⊎ (Contains ys c ⊎ Contains zs c)
 one_of op.Arrow xs ys zs c w = inl w
 one_of op.Implies xs ys zs c w = inr (inr w)
 one_of op.Or xs ys zs c w = inr (inr w)
@@ -113,7 +77,7 @@ one_of op.Slash xs ys zs c w = inr (inr w)
 one_of op.Div xs ys zs c w = inr (inr w)
 one_of op.Mod xs ys zs c w = inr (inr w)
 
-either_of : {X : Type 0} (b : Bool) (xs ys : List X) (c : X) → Contains (cond b xs ys) c → Contains xs c ⊎ Contains ys c
+pub either_of : {X : Type 0} (b : Bool) (xs ys : List X) (c : X) → Contains (cond b xs ys) c → Contains xs c ⊎ Contains ys c
 either_of true xs ys c w = inl w
 either_of false xs ys c w = inr w
 

@@ -20,7 +20,8 @@ use Rattle.rv_agreement.specs.Programs.{FoundAt, given_by, IsInstantOf, Compared
 use Rattle.rv_agreement.specs.Translation.{Names, Numbers, clock_number, tick_number, flat_of, giver_item, assertion_item, IsTranslated, AreNamed, IsClockOf}
 use Rattle.rv_agreement.specs.Translation.{AreIndexed, flat_compared}
 use Rattle.rv_agreement.proofs.Translated.{value_read, on_clock, compared_read}
-use Rattle.rv_agreement.proofs.Matching.{none_in, in_tail, head_or_tail, in_flat_map, from_flat_map, read_in}
+use Rattle.rv_agreement.proofs.Matching.{read_in}
+use Rattle.rv_types.proofs.Members.{cons_cases as head_or_tail, in_flat_map, in_map, in_tail, nothing_in as none_in, of_flat_map as from_flat_map}
 
 module _ (V : Type 0) (r : Reads V) (flagged : (b : Bool) → r.truth (r.flag b) ≡ b) (p : ProgramTree) (main : Identifier) (numbers : Numbers) (s : System)
     (translated : IsTranslated p main numbers s)
@@ -65,13 +66,6 @@ module _ (V : Type 0) (r : Reads V) (flagged : (b : Bool) → r.truth (r.flag b)
       ∙ ap (item_value V r found row) f.2
       ∙ item_read row (λ u. nth V r row (index_of numbers.flows u)) (λ u. refl) q f.0 here
       ∙ ap (given_by V r p at_place (λ u. nth V r row (index_of numbers.flows u))) (defined.one q f.0 g here gives)
-
-pub in_map : {X Y : Type 0} (f : X → Y) (xs : List X) (x : X) → Contains xs x → Contains (map f xs) (f x)
-in_map f [] x w = none_in x w
-in_map f (y ∷ ys) x w = elim (head_or_tail y ys x w) [
-  | inl is ↦ (0, omega arith, ap f is)
-  | inr rest ↦ in_tail (f y) (map f ys) (f x) (in_map f ys x rest)
-]
 
 pub from_map : {X Y : Type 0} (f : X → Y) (xs : List X) (y : Y) → Contains (map f xs) y → (x : X) × Contains xs x × (y ≡ f x)
 from_map f [] y w = none_in y w

@@ -27,9 +27,9 @@ use Rattle.rv_agreement.specs.Agreement.{HasKind}
 use Rattle.rv_agreement.specs.Programs.{kinds_of, columns_of}
 use Rattle.rv_agreement.specs.Translation.{Numbers, clock_number, tick_number}
 use Rattle.rv_agreement.specs.ProgramAgreement.{integers_of, IsTick, IsDelay, IsSystemOf, memories_of}
-use Rattle.rv_agreement.proofs.Matching.{head_or_tail, in_tail}
-use Rattle.rv_agreement.proofs.Systems.{in_map, from_map}
+use Rattle.rv_agreement.proofs.Systems.{from_map}
 use Rattle.rv_agreement.proofs.Indexed.{indexed}
+use Rattle.rv_types.proofs.Members.{cons_cases as head_or_tail, in_map, in_tail}
 
 map_twice : {X Y Z : Type 0} (f : X → Y) (g : Y → Z) (h : X → Z) → ((x : X) → g (f x) ≡ h x) → (xs : List X) → map g (map f xs) ≡ map h xs
 map_twice f g h same [] = refl
@@ -79,7 +79,7 @@ has_kind program (kind.Labels i) (value.Flag b) has = absurd has
 has_kind program (kind.Labels i) (value.Label l) has = subst (λ n. l < n) (labels_same program.types i) has
 has_kind program (kind.Labels i) (value.Whole z) has = absurd has
 
-some_same : {X : Type 0} (x y : X) → Some x ≡ Some y → x ≡ y
+pub some_same : {X : Type 0} (x y : X) → Some x ≡ Some y → x ≡ y
 some_same x y e = let f : x ≡ y = cc in f
 
 module _ (program : ProgramTree) (main : Identifier) (numbers : Numbers) (s : System) (witness : IsSystemOf program main numbers s) where

@@ -5,20 +5,8 @@ use Rattle.std.proofs.lemmas.List.{length-map, get_or-map, get_or_default}
 use Rattle.rv_tree.specs.Places.{Sites}
 use Rattle.rv_types.specs.Lists.{AreRising}
 use Rattle.rv_types.specs.Needs.{IsBefore}
-use Rattle.rv_flat.proofs.Members.{none_in, at_head, in_tail, head_or_tail}
-
--- of two places only one stands before the other
-pub before_once : (p q : Sites) → IsBefore p q → IsBefore q p → ⊥
-before_once [] [] a b = a
-before_once [] (y ∷ ys) a b = b
-before_once (x ∷ xs) [] a b = a
-before_once (x ∷ xs) (y ∷ ys) a b = by a b (before_once xs ys)
-  where
-    by : (x < y) ⊎ ((x ≡ y) × IsBefore xs ys) → (y < x) ⊎ ((y ≡ x) × IsBefore ys xs) → (IsBefore xs ys → IsBefore ys xs → ⊥) → ⊥
-    by (inl lt) (inl less) later = omega (arith, lt, less)
-    by (inl lt) (inr rest) later = let e = rest.0 in omega (arith, lt, e)
-    by (inr rest) (inl less) later = let e = rest.0 in omega (arith, less, e)
-    by (inr rest) (inr other) later = later rest.1 other.1
+use Rattle.rv_invfile.proofs.MemoryLists.{both_before as before_once}
+use Rattle.rv_types.proofs.Members.{at_head, cons_cases as head_or_tail, in_tail, nothing_in as none_in}
 
 module _ (A : Type 0) (Before : A → A → Type 0) where
   -- Each element stands before those after it.

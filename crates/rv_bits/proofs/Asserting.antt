@@ -22,6 +22,7 @@ use Rattle.rv_bits.specs.Asserted.{is_true_tree, guard_tree, guarded, met_at, Is
 use Rattle.rv_bits.specs.Bits.{bit}
 use Rattle.rv_bits.specs.Shown.{clock_bit, is_there_at, AreFlowRefs, ReadsTo}
 use Rattle.rv_bits.proofs.Showing.{shows_truth}
+use Rattle.rv_bits.proofs.Labels.{and_step}
 
 neither : (b : Bool) (whole body : RawTree) → guarded whole (cond b guard.Neither guard.Neither) body ≡ (Nothing, whole)
 neither true whole body = refl
@@ -63,10 +64,6 @@ met_made f a b c r clock t bits one reads flows within made = record {
             (reads.shows v row clock kind.Bool instant fits.1 e) in
             ap (λ x. cond (is_there_at f v row clock) x true) (sym (ap holds_true own))
         cases false e = ap (λ x. cond x (bit b.nodes bits v 0) true) e ∙ sym (ap (λ x. cond x (holds_true (read (system_of f) (named f v) row t)) true) e)
-
-and_step : (all one rest total : Bool) → (all && (one && rest)) ≡ total → ((all && one) && rest) ≡ total
-and_step true one rest total e = e
-and_step false one rest total e = e
 
 and_done : (all total : Bool) → (all && true) ≡ total → all ≡ total
 and_done true total e = e

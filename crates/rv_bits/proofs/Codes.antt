@@ -7,24 +7,14 @@ use Rattle.std.proofs.lemmas.Bool.{leb-true, le-leb, ltb-true, lt-ltb, eqb-true,
 use Rattle.std.proofs.lemmas.Nat.{pow_pos}
 use Rattle.std.proofs.lemmas.Nat.Bits.{bit_at-lt, bit_at_above, same_from_bits}
 use Rattle.std.specs.Int.{bit_at}
-use Rattle.rv_types.specs.Variables.{bits_from, bits_for}
+use Rattle.rv_types.specs.Variables.{bits_for}
 use Rattle.rv_meaning.specs.Codes.{code}
 use Rattle.rv_bits.specs.Bits.{bit_of, is_same, are_same}
-
--- two truth values are equal where each follows from the other
-pub both_ways : (x y : Bool) → (x ≡ true → y ≡ true) → (y ≡ true → x ≡ true) → x ≡ y
-both_ways true true f g = refl
-both_ways true false f g = sym (f refl)
-both_ways false true f g = g refl
-both_ways false false f g = refl
+use Rattle.rv_agreement.proofs.Spelled.{below_power, code_below, code_bits, enough, one_bit}
+use Rattle.rv_symbolic.proofs.Extending.{same_truth as both_ways}
 
 le_alike : (a b c d : ℕ) → (a ≤ b → c ≤ d) → (c ≤ d → a ≤ b) → nat_le a b ≡ nat_le c d
 le_alike a b c d f g = both_ways (nat_le a b) (nat_le c d) (λ e. le-leb c d (f (leb-true a b e))) (λ e. le-leb a b (g (leb-true c d e)))
-
-one_bit : (b p : ℕ) → b < 2 → cond (nat_eq b 1) p 0 ≡ b * p
-one_bit zero p lt = omega arith
-one_bit (suc zero) p lt = omega arith
-one_bit (suc (suc b)) p lt = absurd (omega arith)
 
 -- the first bits of a number spell what is left of it
 pub code_of_bits : (n l : ℕ) → code n (bit_of l) ≡ l % 2 ^ n
@@ -37,22 +27,6 @@ code_of_bits (suc n) l =
     let parts : l % 2 ^ suc n ≡ (l / 2 ^ n % 2) * 2 ^ n + l % 2 ^ n = ap (λ m. l % m) (pow-succ' 2 n) ∙ whole in
     (λ i. rest i + bit i) ∙ add_comm (l % 2 ^ n) (bit_at l n * 2 ^ n) ∙ sym parts
 
--- some bits are enough for so many codes
-enough : (more b count : ℕ) → count ≤ 2 ^ (b + more) → count ≤ 2 ^ bits_from more b count
-enough zero b count le = let same : b + 0 ≡ b = omega arith in subst (λ n. count ≤ 2 ^ n) same le
-enough (suc more) b count le = tested (nat_le count (2 ^ b)) refl (enough more (b + 1) count (subst (λ n. count ≤ 2 ^ n) next le))
-  where
-    next : b + suc more ≡ (b + 1) + more
-    next = omega arith
-
-    tested : (t : Bool) → nat_le count (2 ^ b) ≡ t → count ≤ 2 ^ bits_from more (b + 1) count → count ≤ 2 ^ cond t b (bits_from more (b + 1) count)
-    tested true e later = leb-true count (2 ^ b) e
-    tested false e later = later
-
-below_power : (n : ℕ) → n ≤ 2 ^ n
-below_power zero = omega arith
-below_power (suc n) = let step = pow-succ' 2 n in omega (arith, below_power n, pow_pos n, step)
-
 -- each label has a code
 pub label_coded : (count l : ℕ) → l < count → code (bits_for count) (bit_of l) ≡ l
 label_coded count l lt =
@@ -60,37 +34,6 @@ label_coded count l lt =
     let le = enough count 0 count whole in
     let within : l < 2 ^ bits_for count = omega arith in
     code_of_bits (bits_for count) l ∙ mod-eq_of_lt within
-
--- a code is below its power of two
-pub code_below : (n : ℕ) (bits : ℕ → Bool) → code n bits < 2 ^ n
-code_below zero bits = omega arith
-code_below (suc n) bits = by (bits n) (code_below n bits)
-  where
-    by : (b : Bool) → code n bits < 2 ^ n → code n bits + cond b (2 ^ n) 0 < 2 ^ suc n
-    by true h = let step = pow-succ' 2 n in omega (arith, h, step)
-    by false h = let step = pow-succ' 2 n in omega (arith, h, step)
-
--- equal codes have equal bits
-code_bits : (n : ℕ) (bits other : ℕ → Bool) → code n bits ≡ code n other → (b : ℕ) → b < n → bits b ≡ other b
-code_bits zero bits other e b lt = absurd (omega arith)
-code_bits (suc n) bits other e b lt =
-    let h = by (bits n) (other n) e (code_below n bits) (code_below n other) in
-    elim (eq-or-lt_of_le {n = b} {m = n} (omega arith)) [
-      | inl same ↦ subst (λ j. bits j ≡ other j) (sym same) h.0
-      | inr below ↦ code_bits n bits other h.1 b below
-    ]
-  where
-    by : (p q : Bool) → code n bits + cond p (2 ^ n) 0 ≡ code n other + cond q (2 ^ n) 0 → code n bits < 2 ^ n → code n other < 2 ^ n
-        → (p ≡ q) × (code n bits ≡ code n other)
-    by true true e l m = (refl, omega arith)
-    by true false e l m = absurd (omega arith)
-    by false true e l m = absurd (omega arith)
-    by false false e l m = (refl, omega arith)
-
--- codes of the same bits are the same
-pub code_same : (n : ℕ) (f g : ℕ → Bool) → ((b : ℕ) → b < n → f b ≡ g b) → code n f ≡ code n g
-code_same zero f g same = refl
-code_same (suc n) f g same = λ i. code_same n f g (λ b lt. same b (omega arith)) i + cond (same n (omega arith) i) (2 ^ n) 0
 
 -- the bits of a code
 pub bit_of_code : (n : ℕ) (f : ℕ → Bool) (b : ℕ) → b < n → bit_of (code n f) b ≡ f b

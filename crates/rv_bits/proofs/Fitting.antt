@@ -33,7 +33,7 @@ module _ (s : System) (n : ℕ) where
     all_over k None fit = tt
     all_over k (More e es) fit = (over_fits k kind.Bool e fit.0, all_over k es fit.1)
 
-named_more : (n m : ℕ) → n ≤ m → (k : Option ℕ) → IsNamed n k → IsNamed m k
+pub named_more : (n m : ℕ) → n ≤ m → (k : Option ℕ) → IsNamed n k → IsNamed m k
 named_more n m le Nothing named = tt
 named_more n m le (Some c) named = omega arith
 

@@ -18,20 +18,19 @@ use Rattle.rv_flat.specs.FlatInstants.{system_of}
 use Rattle.rv_control.specs.Named.{named}
 use Rattle.rv_symbolic.specs.Growing.{Extends}
 use Rattle.rv_symbolic.specs.Linked.{AreRefs}
-use Rattle.rv_symbolic.proofs.Extending.{extends_refl, extends_trans}
+use Rattle.rv_symbolic.proofs.Extending.{extends_refl, extends_trans, refs_after as refs_kept}
 use Rattle.rv_bits.specs.declared.around.FlowRefs.{FlowRefs}
 use Rattle.rv_bits.specs.Bits.{bit}
 use Rattle.rv_bits.specs.Flows.{on_bit, AreFlowsRead, AreAfters}
 use Rattle.rv_bits.specs.Shown.{Shows, refs_at, is_there_at, clock_bit, AreFlowRefs, IsAfter, ReadsTo}
 use Rattle.rv_bits.specs.Reads.{ShowsTo}
-use Rattle.rv_bits.proofs.Making.{any_ref, refs_more, refs_kept, ref_before, ref_last, bits_kept}
+use Rattle.rv_bits.proofs.Making.{any_ref, refs_more, ref_before, ref_last, bits_kept}
 use Rattle.rv_bits.proofs.Showing.{shows_kept, shows_truth}
 use Rattle.rv_bits.proofs.Keeping.{flows_kept, one_after_kept}
 use Rattle.rv_bits.proofs.Listing.{element_before, element_last}
 use Rattle.rv_bits.proofs.Fitting.{fits_more}
-
-no_flag : {A : Type 0} → false ≡ true → A
-no_flag e = absurd (grind arith)
+use Rattle.rv_agreement.proofs.Controls.{no_flag}
+use Rattle.rv_agreement.proofs.Witnessed.{some_same}
 
 pub reads_longer : (f : Flat) (a b c : Diagrams) (t : FlatTree) (refs : List ℕ) → ReadsTo f a b t refs → Extends b c → ReadsTo f a c t refs
 reads_longer f a b c t refs r e = record {
@@ -66,11 +65,8 @@ is_off_absent nodes on bits clock v kind.Bool off = ap (λ b. b && bit nodes bit
 is_off_absent nodes on bits clock v kind.Int off = refl
 is_off_absent nodes on bits clock v (kind.Labels n) off = refl
 
-nothing_some : {A : Type 0} (x : A) → Nothing ≡ Some x → ⊥
+pub nothing_some : {A : Type 0} (x : A) → Nothing ≡ Some x → ⊥
 nothing_some x e = cc
-
-some_same : {A : Type 0} (x y : A) → Some x ≡ Some y → x ≡ y
-some_same x y e = cc
 
 module _ (f : Flat) (well : IsWell (system_of f)) (a b : Diagrams) (r : FlowRefs) (n : ℕ) (low : n < length (system_of f).flows) (size : length r.on ≡ n)
     (are : AreFlowRefs f a.nodes r)

@@ -22,15 +22,16 @@ use Rattle.rv_flat.specs.FlatInstants.{system_of}
 use Rattle.rv_control.specs.Named.{named}
 use Rattle.rv_symbolic.specs.Growing.{Extends}
 use Rattle.rv_symbolic.specs.Linked.{AreRefs}
-use Rattle.rv_symbolic.proofs.Extending.{extends_refl}
+use Rattle.rv_symbolic.proofs.Extending.{extends_refl, refs_after as refs_kept}
 use Rattle.rv_bits.specs.declared.around.Around.{Around}
 use Rattle.rv_bits.specs.declared.around.Tables.{Tables}
 use Rattle.rv_bits.specs.declared.around.FlowRefs.{FlowRefs}
 use Rattle.rv_bits.specs.Bits.{bit, count_true}
 use Rattle.rv_bits.specs.Shown.{refs_at, found, is_there_at, AreTables, AreFlowRefs, IsAfter, AreAfter, IsAround, ReadsTo}
 use Rattle.rv_bits.specs.Reads.{trees_in, tree_in, true_at, ShowsTo}
-use Rattle.rv_bits.proofs.Making.{any_ref, bits_kept, refs_kept, ref_before, ref_last}
+use Rattle.rv_bits.proofs.Making.{any_ref, bits_kept, ref_before, ref_last}
 use Rattle.rv_bits.proofs.Showing.{shows_same, shows_kept, shows_truth}
+use Rattle.rv_agreement.proofs.Witnessed.{some_same as some_is}
 
 pub tables_kept : (f : Flat) (a b : Diagrams) (t : Tables) → Extends a b → AreTables f a.nodes t → AreTables f b.nodes t
 tables_kept f a b t e are = record {
@@ -71,9 +72,6 @@ one_after_kept f a b m refs e is = record {
 
 pub after_kept : (f : Flat) (a b : Diagrams) (shown : List (Option (List ℕ))) → Extends a b → AreAfter f a.nodes shown → AreAfter f b.nodes shown
 after_kept f a b shown e are = record { size = are.size; each = λ m refs is. one_after_kept f a b m refs e (are.each m refs is) }
-
-some_is : {A : Type 0} (x y : A) → Some x ≡ Some y → x ≡ y
-some_is x y e = cc
 
 -- what one more memory holds is known
 pub after_set : (f : Flat) (nodes : List Triple) (shown : List (Option (List ℕ))) (m : ℕ) (refs : List ℕ) → m < length shown → AreAfter f nodes shown

@@ -13,7 +13,7 @@ use Rattle.rv_agreement.specs.Valuations.{Valuation}
 use Rattle.rv_control.specs.Control.{names_label, memories_named, inputs_named, none_ticked}
 use Rattle.rv_symbolic.specs.Growing.{Extends, Makes}
 use Rattle.rv_symbolic.proofs.Extending.{extends_refl}
-use Rattle.rv_bits.proofs.Codes.{code_same}
+use Rattle.rv_control.proofs.Alike.{code_same}
 
 pub label_same : (labels : List ℕ) (j : Kind) (g h : ℕ → Bool) → ((b : ℕ) → b < bit_count labels j → g b ≡ h b)
     → names_label labels j g ≡ names_label labels j h

@@ -17,11 +17,11 @@ use Rattle.rv_flat.specs.declared.parts.Bit.TheVariants as variant
 use Rattle.rv_flat.specs.Lists.{tick_places}
 use Rattle.rv_control.specs.Named.{truth_at, tick_variable}
 use Rattle.rv_symbolic.specs.Growing.{Extends, Makes}
-use Rattle.rv_symbolic.proofs.Extending.{extends_refl, extends_trans}
+use Rattle.rv_symbolic.proofs.Extending.{extends_refl, extends_trans, refs_after as refs_kept}
 use Rattle.rv_bits.specs.Bits.{Spells}
 use Rattle.rv_bits.specs.Shown.{refs_at}
 use Rattle.rv_bits.specs.Tables.{AreTickRefs, AreBits, AreBitLists, ticks_in}
-use Rattle.rv_bits.proofs.Making.{any_ref, refs_more, refs_kept, ref_before, ref_last, bits_kept}
+use Rattle.rv_bits.proofs.Making.{any_ref, refs_more, ref_before, ref_last, bits_kept}
 
 pub element_before : {A : Type 0} (xs : List A) (y d : A) (k : ℕ) → k < length xs → slice_index_or (xs ++ y ∷ []) k d ≡ slice_index_or xs k d
 element_before xs y d k lt = get_or_append_left xs (y ∷ []) d k lt
@@ -86,7 +86,7 @@ bits_of_spelled a b names owned count refs size s = record {
   means = λ n v lt. s.means n v ∙ ap (λ t. t && truth_at names v (owned n)) (lt-ltb n count lt);
 }
 
-are_bits_kept : (a b : Diagrams) (names : List Variable) (owned : ℕ → Variable) (count : ℕ) (refs : List ℕ) → Extends a b
+pub are_bits_kept : (a b : Diagrams) (names : List Variable) (owned : ℕ → Variable) (count : ℕ) (refs : List ℕ) → Extends a b
     → AreBits a.nodes names owned count refs → AreBits b.nodes names owned count refs
 are_bits_kept a b names owned count refs e are = record {
   size = are.size;

@@ -35,9 +35,6 @@ bit_none nodes refs v k le = ap (λ r. value_of nodes r v) (ref_past refs k le) 
 pub ref_kept : (a b : Diagrams) (r : ℕ) → Extends a b → IsRef a.nodes r → IsRef b.nodes r
 ref_kept a b r e is = omega (arith, e.longer)
 
-pub refs_kept : (a b : Diagrams) (refs : List ℕ) → Extends a b → AreRefs a.nodes refs → AreRefs b.nodes refs
-refs_kept a b refs e are k lt = ref_kept a b (ref_at refs k) e (are k lt)
-
 pub bits_kept : (a b : Diagrams) (refs : List ℕ) → Extends a b → AreRefs a.nodes refs → (v : Valuation) (k : ℕ) → bit b.nodes refs v k ≡ bit a.nodes refs v k
 bits_kept a b refs e are v k = e.kept (ref_at refs k) (any_ref a.nodes refs are k) v
 

@@ -4,13 +4,12 @@ use Rattle.std.proofs.Common.{ap, subst, arith, inl, inr, Some}
 use Rattle.std.proofs.Common.{None as Nothing}
 use Rattle.std.specs.Prelude.{slice_get}
 use Rattle.std.proofs.lemmas.Bool.{and_parts, leb-true, le-leb, cases_Bool}
-use Rattle.std.proofs.Math.Nat.{pow-succ'}
-use Rattle.std.proofs.lemmas.Nat.{pow_pos}
 use Rattle.rv_types.specs.Lists.{Variable, Next}
 use Rattle.rv_types.specs.Variables.{bits_from}
 use Rattle.rv_diagram.specs.Nodes.{Valuation}
 use Rattle.rv_flat.specs.Facts.{all_few}
 use Rattle.rv_control.specs.Named.{same_variable, truth_at}
+use Rattle.rv_agreement.proofs.Spelled.{below_power}
 
 pub truth_first : (ys : List Variable) (x : Variable) (n : ℕ) → n < length ys → ((k : ℕ) → k < n → same_variable (get_or ys k Next) x ≡ false)
     → same_variable (get_or ys n Next) x ≡ true
@@ -28,10 +27,6 @@ unfolding truth_at
 truth_none [] x none v = refl
 truth_none (y ∷ ys) x none v = ap (λ b. cond b (v 0) (truth_at ys (λ k. v (suc k)) x)) (none 0 (omega arith))
     ∙ truth_none ys x (λ k low. none (suc k) (omega arith)) (λ k. v (suc k))
-
-below_power : (n : ℕ) → n ≤ 2 ^ n
-below_power zero = omega arith
-below_power (suc n) = let step = pow-succ' 2 n in omega (arith, below_power n, pow_pos n, step)
 
 -- one bit more is needed where there are more labels than codes
 bits_step : (more b count : ℕ) → nat_le count (2 ^ b) ≡ false → bits_from (suc more) b count ≡ bits_from more (b + 1) count

@@ -1,5 +1,5 @@
 -- What the state bits are after the instant.
-use Rattle.std.proofs.Common.{◌≡◌, ℕ, zero, suc, ◌+◌, ◌*◌, ◌<◌, ◌≤◌, Bool, true, false, ◌||◌, cond, nat_eq, List, [], ◌∷◌, ◌++◌, length, map, drop, refl, sym}
+use Rattle.std.proofs.Common.{◌≡◌, ℕ, zero, suc, ◌+◌, ◌*◌, ◌<◌, ◌≤◌, Bool, true, false, cond, nat_eq, List, [], ◌∷◌, ◌++◌, length, map, drop, refl, sym}
 use Rattle.std.proofs.Common.{◌∙◌, ap, subst, arith, inl, inr, length-append, Option, Some}
 use Rattle.std.proofs.Common.{None as Nothing}
 use Rattle.std.specs.Prelude.{slice_get, slice_index_or}
@@ -37,9 +37,7 @@ use Rattle.rv_bits.proofs.Keeping.{one_after_kept}
 use Rattle.rv_bits.specs.Tables.{ticks_in}
 use Rattle.rv_bits.proofs.Making.{any_ref, ref_before, ref_last}
 use Rattle.rv_bits.proofs.Showing.{shows_truth}
-
-no_flag : {A : Type 0} → false ≡ true → A
-no_flag e = absurd (grind arith)
+use Rattle.rv_agreement.proofs.Controls.{no_flag}
 
 -- one variable more is counted
 pub copies_more : (vs : List Bit) (i : ℕ) (x : Bit) → drop i vs ≡ x ∷ drop (i + 1) vs
@@ -231,10 +229,6 @@ module _ (f : Flat) where
     size = are.size;
     each = λ m lt. one_after_kept f a b m (refs_at lists m) e (are.each m lt);
   }
-
-pub or_true : (x : Bool) → (x || true) ≡ true
-or_true true = refl
-or_true false = refl
 
 -- the places of the memories, as the system has them
 pub places_same : (all ms : List FlatMemory) → map (λ (m : FlatMemory). m.place.sites) ms ≡ map (λ (y : Kept). y.place) (map (kept_of all) ms)

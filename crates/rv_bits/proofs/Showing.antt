@@ -38,17 +38,15 @@ use Rattle.rv_bits.specs.Shown.{IsNumber, as_number, Shows, refs_at, found, is_t
 use Rattle.rv_bits.specs.Reads.{AreCountedIn, ShowsTo, true_at}
 use Rattle.rv_bits.proofs.Codes.{bit_past, same_numbers}
 use Rattle.rv_bits.proofs.Making.{any_ref, bit_none, bits_kept}
-
-no_flag : {A : Type 0} → false ≡ true → A
-no_flag e = absurd (grind arith)
+use Rattle.rv_agreement.proofs.Controls.{no_flag}
 
 -- NUMBERS
 
-truth_bit : (t : Bool) → bit_of (as_number t) 0 ≡ t
+pub truth_bit : (t : Bool) → bit_of (as_number t) 0 ≡ t
 truth_bit true = refl
 truth_bit false = refl
 
-truth_small : (t : Bool) → as_number t < 2 ^ 1
+pub truth_small : (t : Bool) → as_number t < 2 ^ 1
 truth_small true = omega arith
 truth_small false = omega arith
 

@@ -1,5 +1,5 @@
 -- Bits that spell what an instant finds.
-use Rattle.std.proofs.Common.{◌≡◌, ℕ, zero, suc, ◌^◌, ◌<◌, Bool, true, false, List, [], ◌∷◌, length, map, refl, sym, ◌∙◌, ap, subst, arith, inl, inr}
+use Rattle.std.proofs.Common.{◌≡◌, ℕ, zero, suc, ◌<◌, Bool, List, [], ◌∷◌, length, map, refl, sym, ◌∙◌, ap, subst, arith, inl, inr}
 use Rattle.std.specs.Prelude.{slice_index_or}
 use Rattle.std.proofs.lemmas.Bool.{cases_lt}
 use Rattle.std.proofs.lemmas.List.{length-map}
@@ -28,23 +28,17 @@ use Rattle.rv_flat.specs.Steps.{label_counts, memory_kinds, input_kinds}
 use Rattle.rv_flat.specs.Systems.{kept_of, tick_flows_of}
 use Rattle.rv_symbolic.specs.Growing.{Extends}
 use Rattle.rv_symbolic.specs.Linked.{AreRefs}
-use Rattle.rv_symbolic.proofs.Extending.{extends_trans}
-use Rattle.rv_bits.specs.Bits.{bit_of}
+use Rattle.rv_symbolic.proofs.Extending.{extends_trans, refs_after as refs_kept}
 use Rattle.rv_bits.specs.Shown.{IsNumber, as_number, Shows, refs_at}
 use Rattle.rv_bits.specs.Tables.{AreTickRefs, AreBits, AreBitLists, AreAllBits, memory_bit}
 use Rattle.rv_bits.specs.Whole.{AreTablesRead}
 use Rattle.rv_bits.specs.declared.around.Tables.{Tables}
-use Rattle.rv_bits.proofs.Codes.{bit_of_code, bit_past, code_below}
-use Rattle.rv_bits.proofs.Making.{any_ref, bit_none, refs_kept, bits_kept}
+use Rattle.rv_bits.proofs.Codes.{bit_of_code, bit_past}
+use Rattle.rv_bits.proofs.Making.{any_ref, bit_none}
 use Rattle.rv_bits.proofs.Nexting.{places_same}
-
-truth_bit : (t : Bool) → bit_of (as_number t) 0 ≡ t
-truth_bit true = refl
-truth_bit false = refl
-
-truth_small : (t : Bool) → as_number t < 2 ^ 1
-truth_small true = omega arith
-truth_small false = omega arith
+use Rattle.rv_agreement.proofs.Spelled.{code_below}
+use Rattle.rv_bits.proofs.Listing.{are_bits_kept}
+use Rattle.rv_bits.proofs.Showing.{truth_bit, truth_small}
 
 -- the bits of a type spell what a valuation gives it
 pub bits_show : (nodes : List Triple) (names : List Variable) (labels : List ℕ) (j : Kind) (owned : ℕ → Variable) (refs : List ℕ) (v : Valuation) (w : ℕ → Bool)
@@ -69,14 +63,6 @@ bits_show nodes names labels (kind.Labels i) owned refs v w column are same = (c
 kinds_same : (all ms : List FlatMemory) → map (λ (m : FlatMemory). m.kind) ms ≡ map (λ (y : Kept). y.kind) (map (kept_of all) ms)
 kinds_same all [] = refl
 kinds_same all (m ∷ ms) = ap (λ l. m.kind ∷ l) (kinds_same all ms)
-
-are_bits_kept : (a b : Diagrams) (names : List Variable) (owned : ℕ → Variable) (count : ℕ) (refs : List ℕ) → Extends a b
-    → AreBits a.nodes names owned count refs → AreBits b.nodes names owned count refs
-are_bits_kept a b names owned count refs e are = record {
-  size = are.size;
-  found = refs_kept a b refs e are.found;
-  means = λ n v lt. bits_kept a b refs e are.found v n ∙ are.means n v lt;
-}
 
 -- every list has references of the store
 list_refs : (labels : List ℕ) (names : List Variable) (owned : ℕ → ℕ → Variable) (kinds : ℕ → Kind) (nodes : List Triple) (n : ℕ) (lists : List (List ℕ))

@@ -25,7 +25,8 @@ use Rattle.rv_boxes.specs.Rounds.{IsSetting, IsInCases}
 use Rattle.rv_boxes.specs.Certifying.{IsJudgeable, AreEntriesOf, IsLocationOf, IsPart, IsCertifiable}
 use Rattle.rv_boxes.specs.Passing.{IsProof}
 use Rattle.rv_boxes.proofs.Building.{accepted, plain}
-use Rattle.rv_boxes.proofs.Rounding.{setting_first, setting_others, in_a_case, and_not}
+use Rattle.rv_boxes.proofs.Rounding.{setting_first, setting_others, in_a_case}
+use Rattle.rv_walk.proofs.Stages.{rest_from as and_not}
 
 some_at : {X : Type 0} (xs : List X) (j : ℕ) → j < length xs → (x : X) × (slice_get xs j ≡ Some x)
 some_at [] j l = absurd (omega arith)

@@ -43,7 +43,7 @@ use Rattle.rv_boxes.proofs.Shutting.{record_from, IsRanged}
 use Rattle.rv_boxes.proofs.BoxLemmas.{unit_value, unit_has_one}
 
 -- premises of lists and of tests
-test_at : (given rows : List Row) (t : ℕ) → row_at (given ++ rows) (length given + t) ≡ row_at rows t
+pub test_at : (given rows : List Row) (t : ℕ) → row_at (given ++ rows) (length given + t) ≡ row_at rows t
 test_at given rows t = get_or-append-add given rows t nothing
 
 given_at : (given rows : List Row) (p : ℕ) → p < length given → row_at (given ++ rows) p ≡ row_at given p

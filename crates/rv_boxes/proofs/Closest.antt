@@ -12,12 +12,7 @@ use Rattle.rv_proofs.specs.Boxes.{HasOneColumn, IsUnitAt}
 use Rattle.rv_boxes.specs.declared.ends.End.{End}
 use Rattle.rv_boxes.specs.Ends.{IsOnlyColumn, IsClosest, IsEnd, IsCloser, IsEndWith, AreEndsAmong, end_at, no_end}
 use Rattle.rv_boxes.proofs.BoxLemmas.{unit_has_one}
-
-not_one : pos 1 ≢ pos 0
-not_one e = omega (arith, ints)
-
-not_less : negsuc 0 ≢ pos 0
-not_less e = omega (arith, ints)
+use Rattle.rv_proofs.proofs.Claiming.{minus_one as not_less, plus_one as not_one}
 
 chain : (a b c : ℤ) → a ≤ℤ b → b ≤ℤ c → a ≤ℤ c
 chain a b c l m = omega (arith, ints)

@@ -4,8 +4,7 @@ use Rattle.std.proofs.Common.{◌∙◌, subst, inl, inr}
 use Rattle.std.proofs.Common.{None as Nothing}
 use Rattle.std.specs.Prelude.{MatchOption, MatchBool}
 use Rattle.std.proofs.lemmas.Bool.{cases_lt}
-use Rattle.std.proofs.lemmas.List.{length_push, get_or_push, get_or_append_left}
-use Rattle.std.proofs.lemmas.Option.{same_Some, slice_get_within, slice_get-get_or, get_or_from_slice_get}
+use Rattle.std.proofs.lemmas.Option.{same_Some, slice_get_within}
 use Rattle.rv_diagram.specs.Nodes.{Valuation, Diagrams, Answers, value_of, IsOrderedOver}
 use Rattle.rv_diagram.specs.declared.frozen.Frozen.{Frozen}
 use Rattle.rv_proofs.specs.Systems.{System, IsSystem, IsSameValuation}
@@ -19,6 +18,7 @@ use Rattle.rv_symbolic.proofs.Reading.{control-value, condition-value, condition
 use Rattle.rv_walk.specs.Ends.{has}
 use Rattle.rv_boxes.specs.Cutting.{both_of, IsFrozenSome, IsMeet, case_with, HasCut, AreCut}
 use Rattle.rv_boxes.proofs.Reaching.{push_before}
+use Rattle.rv_symbolic.proofs.Parting.{kept-append as push_kept, new-append as push_last}
 
 pub both_true : (a b : Bool) → (a && b) ≡ true → (a ≡ true) × (b ≡ true)
 both_true true b e = (refl, e)
@@ -28,7 +28,7 @@ pub true_both : (a b : Bool) → a ≡ true → b ≡ true → (a && b) ≡ true
 true_both true b e d = d
 true_both false b e d = cc
 
-clash : (b : Bool) → b ≡ true → b ≡ false → ⊥
+pub clash : (b : Bool) → b ≡ true → b ≡ false → ⊥
 clash true e d = cc
 clash false e d = cc
 
@@ -87,15 +87,6 @@ module _ (s : System) (is : IsSystem s) (c : Case) (of : IsCaseOf s c) (control 
     updates = λ v i. of.updates v (inside_both v i).0;
     observer = λ v i. of.observer v (inside_both v i).0;
   }
-
-push_kept : {X : Type 0} (xs : List X) (x y : X) (k : ℕ) → slice_get xs k ≡ Some y → slice_get (xs ++ x ∷ []) k ≡ Some y
-push_kept xs x y k at =
-    let l = slice_get_within xs k y at in
-    slice_get-get_or (xs ++ x ∷ []) k y (omega (arith, l, length_push xs x))
-    ∙ ap Some (get_or_append_left xs (x ∷ []) y k l ∙ get_or_from_slice_get xs k y y at)
-
-push_last : {X : Type 0} (xs : List X) (x : X) → slice_get (xs ++ x ∷ []) (length xs) ≡ Some x
-push_last xs x = slice_get-get_or (xs ++ x ∷ []) (length xs) x (omega (arith, length_push xs x)) ∙ ap Some (get_or_push xs x x (length xs) refl)
 
 module _ (s : System) (is : IsSystem s) (from : Frozen) (known : List Case) (are : AreCases s from known) (control : Frozen) (set : IsControlSet s control)
   where

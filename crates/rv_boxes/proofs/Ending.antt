@@ -1,5 +1,5 @@
 -- How a pass ends.
-use Rattle.std.proofs.Common.{◌≡◌, ◌↔◌, ℤ, Bool, true, false, List}
+use Rattle.std.proofs.Common.{◌↔◌, ℤ, List}
 use Rattle.rv_proofs.specs.Systems.{System}
 use Rattle.rv_proofs.specs.Boxes.{IsGood, HasGoodBox}
 use Rattle.rv_proofs.specs.Reached.{AreLayers}
@@ -15,10 +15,7 @@ use Rattle.rv_boxes.specs.Claiming.{claim_of}
 use Rattle.rv_boxes.specs.Rounds.{IsLeastClaim}
 use Rattle.rv_boxes.specs.Certifying.{IsBad}
 use Rattle.rv_boxes.specs.Passing.{IsProof, IsEndOf}
-
-clash : (b : Bool) → b ≡ true → b ≡ false → ⊥
-clash true e d = cc
-clash false e d = cc
+use Rattle.rv_boxes.proofs.Cuts.{clash}
 
 pub ends_good : (s : System) (f : Frame) (c : Claim) (x : Certificate) → IsLeastClaim s f c → IsProof s x → IsGood s (claim_of c)
     → IsEndOf s f.thresholds (Good x)

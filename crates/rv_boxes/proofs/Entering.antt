@@ -3,9 +3,7 @@ use Rattle.std.proofs.Common.{◌≡◌, ℕ, ◌^◌, ◌<◌, ◌≤◌, ℤ, 
 use Rattle.std.proofs.Common.{refl, sym, ap, ◌∙◌, subst, ◌⊎◌, inl, inr}
 use Rattle.std.specs.Int.RustNames.{unsigned_abs}
 use Rattle.std.proofs.lemmas.Int.{ints}
-use Rattle.std.proofs.lemmas.Bool.{cases_lt}
-use Rattle.std.proofs.lemmas.List.{get_or_past}
-use Rattle.std.proofs.lemmas.List.Elements.{All-from_get_or, All-get_or, All-head, All-map, All-weaker}
+use Rattle.std.proofs.lemmas.List.Elements.{All-from_get_or, All-head, All-map, All-weaker}
 use Rattle.rv_diagram.specs.declared.frozen.Frozen.{Frozen}
 use Rattle.rv_rows.specs.declared.linear.Row.{Row}
 use Rattle.rv_rows.specs.declared.linear.Form.{Form}
@@ -18,7 +16,7 @@ use Rattle.rv_proofs.specs.Boxes.{BoxClaim, IsUnitAt}
 use Rattle.rv_proofs.specs.Cases.{AreCases}
 use Rattle.rv_proofs.specs.declared.certificate.EntryKind.{EntryKind}
 use Rattle.rv_proofs.specs.declared.report.Case.{Case}
-use Rattle.rv_proofs.proofs.Rooms.{has_room}
+use Rattle.rv_proofs.proofs.Rooms.{has_room, number_within}
 use Rattle.rv_boxes.specs.declared.frame.Frame.{Frame}
 use Rattle.rv_boxes.specs.Boxed.{IsOpenBox, IsUnbounded}
 use Rattle.rv_boxes.specs.Built.{IsToldCase, IsUpperRow, IsLowerRow, IsBuiltKind}
@@ -32,16 +30,6 @@ use Rattle.rv_boxes.proofs.Stepping.{told_case, all_taken, taken_opens}
 
 pub cases_in : (s : System) (from : Frozen) (cases : List Case) → AreCases s from cases → AreCasesIn s from cases
 cases_in s from cases are j c at = record { case = are.each j c at; within = λ v i. are.within j c v at i }
-
-pub number_within : (b k : ℕ) (cs : List ℤ) → All (λ c. unsigned_abs c ≤ b) cs → unsigned_abs (number k cs) ≤ b
-number_within b k cs h = go (cases_lt k (length cs))
-  where
-    go : (k < length cs) ⊎ (length cs ≤ k) → unsigned_abs (number k cs) ≤ b
-    go (inl l) = All-get_or (λ c. unsigned_abs c ≤ b) cs k (pos 0) l h
-    go (inr l) = rw (get_or_past cs k (pos 0) l) (none b)
-      where
-        none : (n : ℕ) → unsigned_abs (pos 0) ≤ n
-        none n = omega arith
 
 first_width : (s : System) (fs : List Form) → All (IsUpdate s) fs → forms_width fs ≤ s.columns
 first_width s [] h = omega arith

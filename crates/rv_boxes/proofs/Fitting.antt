@@ -3,18 +3,17 @@ use Rattle.std.proofs.Common.{◌≡◌, ◌≢◌, ℕ, zero, suc, ◌^◌, ◌
 use Rattle.std.proofs.Common.{refl, sym, ap, ◌∙◌, subst, ◌⊎◌, inl, inr}
 use Rattle.std.proofs.Common.{None as Nothing}
 use Rattle.std.specs.Int.RustNames.{unsigned_abs}
-use Rattle.std.proofs.lemmas.Bool.{cases_lt, cases_eq}
+use Rattle.std.proofs.lemmas.Bool.{cases_eq}
 use Rattle.std.proofs.lemmas.Option.{slice_get_within, same_Some, slice_get-get_or}
-use Rattle.std.proofs.lemmas.List.{length-append, get_or_append_left}
+use Rattle.std.proofs.lemmas.List.{length-append}
 use Rattle.std.proofs.lemmas.List.Elements.{All-append, All-weaker, All-nil, All-from_get_or}
-use Rattle.std.proofs.Math.Seq.{get_or-append_seam}
 use Rattle.rv_diagram.specs.Nodes.{Valuation}
 use Rattle.rv_diagram.specs.declared.frozen.Frozen.{Frozen}
 use Rattle.rv_rows.specs.declared.linear.Row.{Row}
 use Rattle.rv_rows.specs.declared.linear.Form.{Form}
 use Rattle.rv_rows.specs.Rows.{row_at, RowWithin}
 use Rattle.rv_rows.specs.Forms.{FormWithin}
-use Rattle.rv_proofs.specs.Systems.{System, IsSystem, IsTestRow, IsUpdate, updates_among}
+use Rattle.rv_proofs.specs.Systems.{System, IsSystem, IsTestRow, IsUpdate}
 use Rattle.rv_proofs.specs.Scopes.{IsIn}
 use Rattle.rv_proofs.specs.Implied.{form_at}
 use Rattle.rv_proofs.specs.Samples.{by_none}
@@ -30,6 +29,7 @@ use Rattle.rv_boxes.specs.Built.{nothing, IsToldCase, IsUpperRow, IsLowerRow}
 use Rattle.rv_boxes.specs.Opening.{IsFrameOf, IsTold, HasTests, AreUpdates, AreOppositeForms}
 use Rattle.rv_proofs.specs.Cases.{IsCaseOf}
 use Rattle.rv_boxes.specs.Rounds.{IsSetting}
+use Rattle.rv_proofs.proofs.Claims.{update_at, updates_long}
 
 -- a number is in a list, with its place, or it is not
 find_in : (xs : List ℕ) (t : ℕ) → ((i : ℕ) × (slice_get xs i ≡ Some t)) ⊎ ((i : ℕ) → slice_get xs i ≡ Some t → ⊥)
@@ -45,22 +45,6 @@ find_in (x ∷ xs) t = go (cases_eq x t) (find_in xs t)
         no : (i : ℕ) → slice_get (x ∷ xs) i ≡ Some t → ⊥
         no zero e = ne (same_Some x t e)
         no (suc i) e = none i e
-
--- the updates of a valuation, one by one
-updates_long : (s : System) (v : Valuation) (n : ℕ) → length (updates_among s v n) ≡ n
-updates_long s v zero = refl
-updates_long s v (suc n) = omega (arith, length-append (updates_among s v n) (s.update v n ∷ []), updates_long s v n)
-
-pub update_at : (s : System) (v : Valuation) (d : Form) (n k : ℕ) → k < n → get_or (updates_among s v n) k d ≡ s.update v k
-update_at s v d zero k l = absurd (omega arith)
-update_at s v d (suc n) k l = go (update_at s v d n k) (cases_lt k n)
-  where
-    go : (k < n → get_or (updates_among s v n) k d ≡ s.update v k) → (k < n) ⊎ (n ≤ k) → get_or (updates_among s v n ++ s.update v n ∷ []) k d ≡ s.update v k
-    go before (inl less) = get_or_append_left (updates_among s v n) (s.update v n ∷ []) d k (omega (arith, updates_long s v n)) ∙ before less
-    go before (inr more) =
-        let e : k ≡ n = omega arith in
-        ap (λ (x : ℕ). get_or (updates_among s v n ++ s.update v n ∷ []) x d) (e ∙ sym (updates_long s v n))
-        ∙ get_or-append_seam (updates_among s v n) (s.update v n) [] d ∙ ap (s.update v) (sym e)
 
 -- the opposites of updates can be updates
 pub opposite_updates : (width many : ℕ) (forms opposites : List Form) → AreUpdates width many forms → AreOppositeForms forms opposites

@@ -16,6 +16,7 @@ use Rattle.rv_proofs.specs.Systems.{System}
 use Rattle.rv_proofs.specs.Cases.{IsImage}
 use Rattle.rv_proofs.specs.declared.report.Case.{Case}
 use Rattle.rv_boxes.specs.Imaging.{AreImages, AreNone}
+use Rattle.rv_boxes.proofs.Cuts.{both_true as and_both}
 
 some_nothing : {X : Type 0} (x : X) (o : Option X) → o ≡ Nothing → o ≡ Some x → ⊥
 some_nothing x o none some = different x (sym none ∙ some)
@@ -62,11 +63,6 @@ image_there s from cases images are place lt c at image is =
     go : (o : Option Frozen) → o ≡ slice_index_or images place Nothing → IfSome o (IsImage s from c)
     go Nothing e = tt
     go (Some set) e = are.each place c set at (sym e)
-
--- ---- Diagrams that are told to be the same are.
-and_both : (a b : Bool) → (a && b) ≡ true → (a ≡ true) × (b ≡ true)
-and_both true b e = (refl, e)
-and_both false b e = cc
 
 all_three : (a b c : Bool) → a ≡ true → b ≡ true → c ≡ true → (a && (b && c)) ≡ true
 all_three true true true p q r = refl

@@ -1,5 +1,5 @@
 -- Control states whose cases are known.
-use Rattle.std.proofs.Common.{◌≡◌, ℕ, Bool, true, false, not, ◌&&◌, ◌||◌, List, [], Some, refl, sym, ◌∙◌}
+use Rattle.std.proofs.Common.{◌≡◌, ℕ, Bool, true, false, not, ◌&&◌, List, [], Some, sym, ◌∙◌}
 use Rattle.std.proofs.Common.{None as Nothing}
 use Rattle.rv_diagram.specs.Nodes.{Valuation}
 use Rattle.rv_diagram.specs.declared.frozen.Frozen.{Frozen}
@@ -15,29 +15,12 @@ use Rattle.rv_boxes.specs.declared.known.Known.{Known}
 use Rattle.rv_boxes.specs.declared.claim.Claim.{Claim}
 use Rattle.rv_boxes.specs.Rounds.{IsRest}
 use Rattle.rv_boxes.specs.Knowing.{IsWithin, IsWider, IsKnown, Knows}
+use Rattle.rv_terms.proofs.Adding.{or_right as into}
+use Rattle.rv_walk.proofs.Stages.{no_rest as not_out, rest_from as and_out, rest_parts as both_parts}
 
 never : (a : Bool) → (a && not a) ≡ true → ⊥
 never true e = cc
 never false e = cc
-
-into : (a b : Bool) → b ≡ true → (a || b) ≡ true
-into true b e = refl
-into false b e = e
-
-not_out : (a b : Bool) → (a && not b) ≡ false → a ≡ true → b ≡ true
-not_out true true e d = refl
-not_out true false e d = cc
-not_out false b e d = cc
-
-both_parts : (a b : Bool) → (a && not b) ≡ true → (a ≡ true) × (b ≡ false)
-both_parts true false e = (refl, refl)
-both_parts true true e = cc
-both_parts false b e = cc
-
-and_out : (a b : Bool) → a ≡ true → b ≡ false → (a && not b) ≡ true
-and_out true false e d = refl
-and_out true true e d = cc
-and_out false b e d = cc
 
 -- no control states have no cases
 pub nothing_is : (s : System) (m : ℕ) (first from : Frozen) → IsControlSet s from → IsWithout m first first from

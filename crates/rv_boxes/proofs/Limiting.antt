@@ -12,8 +12,7 @@ use Rattle.rv_rows.specs.declared.linear.Row.{Row}
 use Rattle.rv_rows.specs.declared.linear.Form.{Form}
 use Rattle.rv_rows.specs.Rows.{row_at, dot}
 use Rattle.rv_rows.specs.Forms.{value, number, FormWithin, IsMultiple}
-use Rattle.std.specs.Prelude.{IfOk, MatchBool}
-use Rattle.std.proofs.Common.{Result, Ok, Err}
+use Rattle.std.specs.Prelude.{MatchBool}
 use Rattle.rv_boxes.specs.declared.peaks.Peak.{Peak}
 use Rattle.rv_proofs.specs.Implied.{form_at}
 use Rattle.rv_proofs.specs.Boxes.{IsUnitAt}
@@ -127,7 +126,7 @@ loosened_room thresholds width rows f old new small (inr (inr gone)) =
     inr (subst (λ (o : Option ℤ). room_of new < room_of o) (sym gone.was) (subst (λ (o : Option ℤ). room_of o < room_of (Some gone.from)) (sym gone.gone)
     (omega (arith, room_nothing, room_some gone.from))))
 
-changed_le : (b : Bool) (old new : List (Option ℤ)) → HasChanged b old new → room new ≤ room old
+pub changed_le : (b : Bool) (old new : List (Option ℤ)) → HasChanged b old new → room new ≤ room old
 changed_le true old new h = omega (arith, h)
 changed_le false old new h = let e : room new ≡ room old = ap room h in omega (arith, e)
 
@@ -201,10 +200,6 @@ limit_gone thresholds width rows f limit free = inr (inr (record {
   where
     above : (z k d : ℤ) → (z -ℤ k) ≤ℤ d → z ≤ℤ (d +ℤ k)
     above z k d m = omega (arith, ints)
-
-pub map_ok : {A E : Type 0} (o : Result A E) (P Q : A → Type 0) → ((r : A) → P r → Q r) → IfOk o P → IfOk o Q
-map_ok (Ok r) P Q f h = f r h
-map_ok (Err e) P Q f h = h
 
 -- the opposite of a form is within the same numbers
 pub multiple_within : (f g : Form) → IsMultiple (negsuc 0) f g → FormWithin (2 ^ 41) f → FormWithin (2 ^ 41) g

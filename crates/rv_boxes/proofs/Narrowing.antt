@@ -10,7 +10,7 @@ use Rattle.rv_proofs.specs.declared.certificate.Certificate.{Certificate}
 use Rattle.rv_proofs.specs.declared.report.Layers.{Layers}
 use Rattle.rv_walk.specs.Ends.{has, IsLeastControl, IsGoodCertificate, AreBadLayers}
 use Rattle.rv_boxes.specs.Narrowed.{narrowed}
-use Rattle.rv_boxes.proofs.Taking.{same_bool}
+use Rattle.rv_cases.proofs.Gathering.{same_truth as same_bool}
 
 module _ (s : System) (is : IsSystem s) (thresholds : List ℤ) (c : BoxClaim) (least : IsLeastClosed s thresholds c)
     (some_states : (v : Valuation) → IsTrue (c.reached v) → 0 < s.states)

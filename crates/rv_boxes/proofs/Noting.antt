@@ -1,5 +1,5 @@
 -- Marks of cases.
-use Rattle.std.proofs.Common.{◌≡◌, ◌≢◌, ◌⊎◌, ℕ, ◌+◌, ◌<◌, ◌≤◌, Bool, true, false, List, [], length, Option, Some, slice_get, arith, sym, ap, ◌∙◌}
+use Rattle.std.proofs.Common.{◌≡◌, ◌≢◌, ◌⊎◌, ℕ, ◌+◌, ◌<◌, ◌≤◌, true, false, List, [], length, Option, Some, slice_get, arith, sym, ap, ◌∙◌}
 use Rattle.std.proofs.Common.{subst, inl, inr}
 use Rattle.std.proofs.Common.{None as Nothing}
 use Rattle.std.specs.Prelude.{slice_set, slice_index_or}
@@ -17,11 +17,7 @@ use Rattle.rv_boxes.specs.Cutting.{both_of}
 use Rattle.rv_boxes.specs.Opening.{IsToldOf}
 use Rattle.rv_boxes.specs.Rounds.{IsMet}
 use Rattle.rv_boxes.specs.Marking.{IsMarkOf, AreMarked, HasMarked}
-use Rattle.rv_boxes.proofs.Cuts.{both_true, true_both}
-
-clash : (b : Bool) → b ≡ true → b ≡ false → ⊥
-clash true e d = cc
-clash false e d = cc
+use Rattle.rv_boxes.proofs.Cuts.{both_true, true_both, clash}
 
 some_nothing : {X : Type 0} (x : X) (o : Option X) → o ≡ Some x → o ≡ Nothing → ⊥
 some_nothing x (Some y) some none = cc

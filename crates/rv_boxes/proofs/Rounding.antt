@@ -1,5 +1,5 @@
 -- Rounds, and the claim at which they end.
-use Rattle.std.proofs.Common.{◌≡◌, ◌≢◌, ℕ, ◌+◌, ◌-◌, ◌*◌, ◌^◌, ◌<◌, ◌≤◌, ℤ, pos, negsuc, ◌-ℤ◌, ◌*ℤ◌, ◌≤ℤ◌, ◌<ℤ◌, Bool, true, false, cond, not, ◌&&◌}
+use Rattle.std.proofs.Common.{◌≡◌, ◌≢◌, ℕ, ◌+◌, ◌-◌, ◌*◌, ◌^◌, ◌<◌, ◌≤◌, ℤ, pos, negsuc, ◌-ℤ◌, ◌*ℤ◌, ◌≤ℤ◌, ◌<ℤ◌, Bool, true, false, cond}
 use Rattle.std.proofs.Common.{List, [], length, get_or, All, Option, Some, IsTrue, arith, lit≤, refl, sym, ap, ◌∙◌, subst, ◌⊎◌, inl, inr}
 use Rattle.std.proofs.Common.{None as Nothing}
 use Rattle.std.specs.List.{Contains}
@@ -34,6 +34,9 @@ use Rattle.rv_boxes.specs.Claiming.{turned, claim_with, claim_of}
 use Rattle.rv_boxes.specs.Rounds.{IsSetting, IsHeld, IsKeptClaim, HasGrown, IsInCases, IsRising, IsRound, IsRest, AreFirst, IsLeastClaim, left_of}
 use Rattle.rv_boxes.proofs.Composing.{turned_back, held_above}
 use Rattle.rv_boxes.proofs.Stepping.{opposite_in}
+use Rattle.rv_boxes.proofs.Cuts.{clash}
+use Rattle.rv_cases.proofs.Gathering.{same_truth as same_bool}
+use Rattle.rv_walk.proofs.Stages.{rest_from as and_not, rest_parts as both_parts}
 
 -- the rows of both lists are those of the claim's bounds
 module _ (s : System) (reached : Valuation → Bool) (upper lower : List (Option ℤ)) (rows : List Row) (are : AreBothRows upper lower s.memories rows) where
@@ -125,20 +128,6 @@ module _ (s : System) (reached : Valuation → Bool) (upper lower : List (Option
 
 none_kept : (s : System) → AreKept s []
 none_kept s = (All-nil (λ (r : Row). (length r.coefficients ≡ s.memories) × Fits r), lit≤ tt)
-
-both_parts : (a b : Bool) → (a && not b) ≡ true → (a ≡ true) × (b ≡ false)
-both_parts true false e = (refl, refl)
-both_parts true true e = cc
-both_parts false b e = cc
-
-pub and_not : (a b : Bool) → a ≡ true → b ≡ false → (a && not b) ≡ true
-and_not true false e d = refl
-and_not true true e d = cc
-and_not false b e d = cc
-
-clash : (b : Bool) → b ≡ true → b ≡ false → ⊥
-clash true e d = cc
-clash false e d = cc
 
 module _ (s : System) (is : IsSystem s) (f : Frame) (frame : IsFrameOf s f) (c : Claim) (kept : IsKeptClaim s f c) (first : Frozen)
     (initial : IsInitialSet s first) where
@@ -284,11 +273,6 @@ opposite_out numbers opposites are b (k, l, at) =
   where
     flip : (n o b : ℤ) → o ≡ negsuc 0 *ℤ n → o ≡ pos 0 -ℤ b → n ≡ b
     flip n o b e d = omega (arith, ints)
-
-same_bool : (a b : Bool) → (a ≡ true → b ≡ true) → (b ≡ true → a ≡ true) → a ≡ b
-same_bool true b h k = sym (h refl)
-same_bool false true h k = k refl
-same_bool false false h k = refl
 
 pub kept_claim : (s : System) (f : Frame) → IsFrameOf s f → (c : Claim) → IsKeptClaim s f c → IsBoxClaim s f.thresholds (claim_of c)
 kept_claim s f frame c kept = record {

@@ -1,6 +1,6 @@
 -- Refutations that the ends of a box give.
 use Rattle.std.proofs.Common.{◌≡◌, ◌≢◌, ℕ, ◌^◌, ◌<◌, ◌≤◌, ℤ, pos, negsuc, ◌+ℤ◌, ◌-ℤ◌, ◌*ℤ◌, ◌≤ℤ◌, ◌<ℤ◌, List, [], length, get_or, All, Some, arith}
-use Rattle.std.proofs.Common.{refl, ap, sym, ◌∙◌, subst, ◌⊎◌, inl, inr}
+use Rattle.std.proofs.Common.{refl, ap, ◌∙◌, subst, ◌⊎◌, inl, inr}
 use Rattle.std.proofs.lemmas.Int.{ints}
 use Rattle.std.proofs.lemmas.Bool.{cases_eq}
 use Rattle.std.proofs.lemmas.List.Elements.{All-nil}
@@ -25,14 +25,6 @@ use Rattle.rv_boxes.proofs.BoxLemmas.{closest, unit_has_one, crossed_none}
 -- a row with one column says something
 one_says : (r : Row) → HasOneColumn r → ¬ IsVoid r
 one_says r (k, ne, only) v = ne (v.zeros k)
-
--- a row with a number at one column alone
-pub one_column : (r : Row) (k : ℕ) (c : ℤ) → c ≢ pos 0 → IsUnitAt r k c → HasOneColumn r
-one_column r k c some unit = (k, λ e. some (sym unit.here ∙ e), λ n h. go n h (cases_eq n k))
-  where
-    go : (n : ℕ) → coefficient n r ≢ pos 0 → (n ≡ k) ⊎ (n ≡ k → ⊥) → n ≡ k
-    go n h (inl e) = e
-    go n h (inr apart) = absurd (h (unit.others n apart))
 
 -- the ranges of a document
 abbrev pub IsRanged : ℕ → Weight → Type 0

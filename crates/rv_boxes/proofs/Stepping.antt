@@ -6,7 +6,7 @@ use Rattle.std.specs.List.{Contains}
 use Rattle.std.proofs.lemmas.Int.{ints}
 use Rattle.std.proofs.lemmas.Bool.{cases_lt, cases_Bool}
 use Rattle.std.proofs.lemmas.Option.{same_Some, none-some, slice_get-get_or}
-use Rattle.std.proofs.lemmas.List.{get_or_past, get_or_read, get_or_default, get_or-append-add, length-append}
+use Rattle.std.proofs.lemmas.List.{get_or_past, get_or_read, get_or_default, length-append}
 use Rattle.rv_diagram.specs.Nodes.{Valuation}
 use Rattle.rv_diagram.specs.declared.frozen.Frozen.{Frozen}
 use Rattle.rv_rows.specs.declared.linear.Row.{Row}
@@ -34,9 +34,10 @@ use Rattle.rv_boxes.specs.Limits.{limit_at, IsLoosened, AreLoosened, AreAmong, H
 use Rattle.rv_boxes.specs.Opening.{IsFrameOf, ArePremisesOf, AreOpposite, AreOppositeForms, IsOpened}
 use Rattle.rv_boxes.specs.Claiming.{turned, claim_of}
 use Rattle.rv_boxes.specs.Rounds.{place, IsSetting, IsHeld, IsKeptClaim, IsAbove, HasGrown, HasTaken, IsMet, left_of}
-use Rattle.rv_boxes.proofs.Building.{in_box, taken, boxed_back, open_back}
+use Rattle.rv_boxes.proofs.Building.{in_box, taken, boxed_back, open_back, test_at as row_after}
 use Rattle.rv_boxes.proofs.Fitting.{case_entry, here, updates_of_case, many_updates, premises_fit}
 use Rattle.rv_boxes.proofs.Composing.{neither, some_of, turned_back, above_same}
+use Rattle.rv_boxes.proofs.Limiting.{changed_le}
 
 -- limits stay among the thresholds
 pub loosened_among : (thresholds : List ℤ) (width : ℕ) (rows : List Row) (forms : List Form) (old new : List (Option ℤ))
@@ -127,19 +128,11 @@ opposite_in numbers opposites are b (k, l, at) =
     flip : (n b : ℤ) → n ≡ b → negsuc 0 *ℤ n ≡ pos 0 -ℤ b
     flip n b e = omega (arith, ints)
 
-changed_le : (b : Bool) (old new : List (Option ℤ)) → HasChanged b old new → room new ≤ room old
-changed_le true old new h = omega (arith, h)
-changed_le false old new h = let e : room new ≡ room old = ap room h in omega (arith, e)
-
 claim_same : (a b : Claim) → a.reached ≡ b.reached → a.upper ≡ b.upper → a.lower ≡ b.lower → a ≡ b
 claim_same a b e f g =
     ap (λ (x : Frozen). let c : Claim = record { reached = x; upper = a.upper; lower = a.lower } in c) e
     ∙ ap (λ (x : List (Option ℤ)). let c : Claim = record { reached = b.reached; upper = x; lower = a.lower } in c) f
     ∙ ap (λ (x : List (Option ℤ)). let c : Claim = record { reached = b.reached; upper = b.upper; lower = x } in c) g
-
--- a box that is open with premises before its own is open without them
-row_after : (given told : List Row) (p : ℕ) → row_at (given ++ told) (length given + p) ≡ row_at told p
-row_after given told p = get_or-append-add given told p (record { coefficients = []; bound = pos 0 })
 
 boxed_after : (width : ℕ) (given told : List Row) (point : List ℤ) → IsBoxed width (given ++ told) point → IsBoxed width told point
 boxed_after width given told point b = record {

@@ -22,6 +22,7 @@ use Rattle.rv_boxes.specs.Weighing.{IsInserted}
 use Rattle.rv_boxes.specs.Boxed.{ArePremises, IsTowards, IsColumnWeight, IsSummed}
 use Rattle.rv_boxes.proofs.WeightLemmas.{weighted-inserted, All-inserted, length-inserted, Rises-inserted}
 use Rattle.rv_boxes.proofs.BoxLemmas.{closest, unit_once}
+use Rattle.rv_terms.proofs.Sums.{zero_left as none-plus, zero_right as plus-none}
 
 -- The premise at which a column has its end has 1 or -1 at it, so its row times the magnitude has the number.
 pub record IsTurned (rows : List Row) (k : ℕ) (c : ℤ) (p : ℕ) : Type 0 where
@@ -53,12 +54,6 @@ turned_from rows k c p e h (inr (down, is)) =
   where
     same : (c : ℤ) → c <ℤ pos 0 → pos (unsigned_abs c) *ℤ negsuc 0 ≡ c
     same c u = omega (arith, ints)
-
-plus-none : (z : ℤ) → z +ℤ pos 0 ≡ z
-plus-none z = omega (arith, ints)
-
-none-plus : (z : ℤ) → pos 0 +ℤ z ≡ z
-none-plus z = omega (arith, ints)
 
 module _ (rows : List Row) (width : ℕ) (pre : ArePremises width rows) (ends : List End) (are : AreEnds rows (length ends) ends) (numbers : List ℤ)
     (k : ℕ) (inside : k < length ends) (g : Peak) (sum : IsSummed rows ends numbers k g) where

@@ -11,11 +11,8 @@ use Rattle.rv_walk.specs.declared.sets.Extended.{Extended}
 use Rattle.rv_walk.proofs.Counting.{missing_less}
 use Rattle.rv_boxes.specs.declared.claim.Claim.{Claim}
 use Rattle.rv_boxes.specs.Rounds.{HasTaken}
-
-pub same_bool : (a b : Bool) → (a ≡ true → b ≡ true) → (b ≡ true → a ≡ true) → a ≡ b
-same_bool true b h k = sym (h refl)
-same_bool false true h k = k refl
-same_bool false false h k = refl
+use Rattle.rv_cases.proofs.Gathering.{same_truth as same_bool}
+use Rattle.rv_terms.proofs.Adding.{or_left as from_first, or_right as into_either}
 
 pub same_states : (s : System) (set : Frozen) → IsControlSet s set → (v w : Valuation) → HasSameState s v w → has set v ≡ has set w
 same_states s set control v w same =
@@ -30,14 +27,6 @@ nothing_new : (a b : Bool) → (a ≡ true → b ≡ true) → (a && not b) ≡ 
 nothing_new true true h = refl
 nothing_new true false h = let e : false ≡ true = h refl in cc
 nothing_new false b h = refl
-
-into_either : (a b : Bool) → b ≡ true → (a || b) ≡ true
-into_either true b e = refl
-into_either false b e = e
-
-from_first : (a b : Bool) → a ≡ true → (a || b) ≡ true
-from_first true b e = refl
-from_first false b e = cc
 
 module _ (s : System) (old : Claim) (set : Frozen) (control : IsControlSet s old.reached) where
   pub taken_none : ((v : Valuation) → fresh_of old.reached set v ≡ false) → HasTaken s set false old old

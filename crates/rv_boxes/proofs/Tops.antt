@@ -22,6 +22,7 @@ use Rattle.rv_boxes.proofs.Weighted.{weighted-dot, weighted-holds, weighted-met}
 use Rattle.rv_boxes.proofs.BoxLemmas.{InEnd, at_high, at_low, high_in, low_in, listed, number-listed, boxed_from, unit_has_one, unit_value}
 use Rattle.rv_boxes.proofs.BoxLemmas.{dot-listed-add, dot-listed-one}
 use Rattle.rv_boxes.proofs.Summing.{IsTurned, turned_from}
+use Rattle.rv_terms.proofs.Sums.{zero_right as add_none}
 
 -- the number of a column at the end towards which a multiple of it grows
 abbrev pub at_end : List Row → End → ℤ → ℤ
@@ -79,9 +80,6 @@ at_other k d j ne = rw (ne_eqb j k ne) refl
 
 none_some : {A : Type 0} (p : ℕ) → None ≡ Some p → A
 none_some p e = absurd (none-some p e)
-
-add_none : (z : ℤ) → z +ℤ pos 0 ≡ z
-add_none z = omega (arith, ints)
 
 module _ (rows : List Row) (width : ℕ) (pre : ArePremises width rows) (ends : List End) (are : AreEnds rows width ends)
     (open' : IsUncrossed rows ends width) (numbers : List ℤ) (narrow : length numbers ≤ width) where

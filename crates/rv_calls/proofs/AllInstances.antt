@@ -3,7 +3,7 @@ use Rattle.std.proofs.Common.{◌≡◌, ℕ, zero, suc, ◌-◌, ◌<◌, ◌�
 use Rattle.std.proofs.Common.{sym, ◌∙◌, ap, subst, arith}
 use Rattle.std.specs.List.{Contains, flat_map}
 use Rattle.std.proofs.lemmas.List.{length-set, length-replicate, get_or-set_other, get_or-replicate}
-use Rattle.std.proofs.lemmas.List.Elements.{Contains-append_left, Contains-append_right, Contains-append_cases, Contains-get_or}
+use Rattle.std.proofs.lemmas.List.Elements.{Contains-append_right, Contains-get_or}
 use Rattle.rv_tree.specs.Tree.{NodeTree, ProgramTree}
 use Rattle.rv_tree.specs.Places.{Identifier, is_among, index_of}
 use Rattle.rv_types.specs.Names.{name_faults}
@@ -13,7 +13,8 @@ use Rattle.rv_calls.specs.Reach.{Reaches, itself, by_call, HasNoRecursion}
 use Rattle.rv_calls.specs.Graphs.{falses}
 use Rattle.rv_instances.specs.AllInstances.{names_of}
 use Rattle.rv_calls.proofs.Walks.{snoc_at, snoc_front, snoc_length, set_falses}
-use Rattle.rv_instances.proofs.Known.{cons_cases, nothing_in, called, calls_declared, node_of_number}
+use Rattle.rv_instances.proofs.Known.{called, calls_declared, node_of_number}
+use Rattle.rv_types.proofs.Members.{cons_cases, in_flat_map, nothing_in, of_flat_map}
 
 -- different numbers below a bound are no more than the bound
 pigeons : (xs : List ℕ) (bs : List Bool) → ((i : ℕ) → i < length xs → get_or xs i 0 < length bs)
@@ -51,20 +52,6 @@ reach_on p n _ c (by_call f d v rest) w = by_call f d v (reach_on p n d.name c r
 abbrev Deep : ProgramTree → ℕ → Instance → ℕ → Instance → Type 0
 Deep p zero a left i = ⊥
 Deep p (suc levels) a left i = ((i ≡ a) × (left ≡ levels)) ⊎ ((c : CallTree) × Contains (calls a.node) c × Deep p levels (callee p a c) left i)
-
-pub in_flat_map : {X Y : Type 0} (f : X → List Y) (xs : List X) (x : X) (y : Y) → Contains xs x → Contains (f x) y → Contains (flat_map f xs) y
-in_flat_map f [] x y w v = nothing_in x w
-in_flat_map f (z ∷ zs) x y w v = elim (cons_cases z zs x w) [
-  | inl same ↦ Contains-append_left (f z) (flat_map f zs) y (subst (λ u. Contains (f u) y) (sym same) v)
-  | inr rest ↦ Contains-append_right (f z) (flat_map f zs) y (in_flat_map f zs x y rest v)
-]
-
-pub of_flat_map : {X Y : Type 0} (f : X → List Y) (xs : List X) (y : Y) → Contains (flat_map f xs) y → (x : X) × Contains xs x × Contains (f x) y
-of_flat_map f [] y w = nothing_in y w
-of_flat_map f (z ∷ zs) y w = elim (Contains-append_cases (f z) (flat_map f zs) y w) [
-  | inl here ↦ (z, (0, omega arith, refl), here)
-  | inr rest ↦ let v = of_flat_map f zs y rest in (v.0, Contains-append_right (z ∷ []) zs v.0 v.1, v.2)
-]
 
 deep_contains : (p : ProgramTree) (levels : ℕ) (a : Instance) (left : ℕ) (i : Instance) → Deep p levels a left i → Contains (unrolled p levels a) i
 deep_contains p zero a left i d = absurd d

@@ -9,7 +9,8 @@ use Rattle.rv_tree.specs.declared.tree.Node as declared
 use Rattle.rv_calls.specs.Numbering.{with_names}
 use Rattle.rv_calls.specs.Callings.{node_texts}
 use Rattle.std.proofs.lemmas.List.{append-nil, append_assoc}
-use Rattle.rv_instances.proofs.Known.{split_nil, not_before}
+use Rattle.rv_instances.proofs.Known.{not_before}
+use Rattle.rv_types.proofs.RightNames.{both_empty as split_nil}
 
 -- names of which none stands twice, one after the other
 pub among_append : (xs ys : List Identifier) (z : Identifier) → is_among (xs ++ ys) z ≡ (is_among xs z || is_among ys z)

@@ -9,9 +9,9 @@ use Rattle.rv_calls.specs.Graphs.{IsGraph, IsOrdered}
 use Rattle.rv_calls.specs.Callings.{callees, call_graph}
 use Rattle.rv_calls.specs.Listing.{called_instance, listed, all_listed, ahead, IsExpansion}
 use Rattle.rv_instances.proofs.Lists.{contains_at, length_map}
-use Rattle.rv_calls.proofs.Turns.{turn}
 use Rattle.rv_calls.proofs.Lowering.{edge_of}
-use Rattle.rv_instances.proofs.Known.{cons_cases, nothing_in, of_map}
+use Rattle.rv_types.proofs.Joined.{drop_here as turn}
+use Rattle.rv_types.proofs.Members.{cons_cases, nothing_in, of_map}
 
 pub flat_map_same : {X Y : Type 0} (f g : X → List Y) (xs : List X) → ((x : X) → Contains xs x → f x ≡ g x) → flat_map f xs ≡ flat_map g xs
 flat_map_same f g [] each = refl

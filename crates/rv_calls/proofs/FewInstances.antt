@@ -17,8 +17,9 @@ use Rattle.rv_calls.specs.Reach.{HasNoRecursion}
 use Rattle.rv_instances.specs.Counts.{instance_count}
 use Rattle.rv_calls.proofs.AllInstances.{all_found, pigeonhole}
 use Rattle.rv_instances.proofs.ExpandedLaws.{not_itself}
-use Rattle.rv_instances.proofs.Known.{in_map, name_declared}
+use Rattle.rv_instances.proofs.Known.{name_declared}
 use Rattle.rv_instances.proofs.Lists.{length_map}
+use Rattle.rv_types.proofs.Members.{in_map}
 
 -- where the elements of a list stand in another
 places_in : (xs ys : List Numbered) → ((x : Numbered) → Contains xs x → Contains ys x) → List ℕ

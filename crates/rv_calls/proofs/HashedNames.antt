@@ -3,15 +3,11 @@ use Rattle.std.proofs.Common.{◌≡◌, ℕ, ◌+◌, Bool, true, false, not, c
 use Rattle.std.proofs.Common.{arith}
 use Rattle.std.proofs.Common.{None as Nothing}
 use Rattle.std.specs.List.{list_any, position_or_len}
-use Rattle.std.specs.Cmp.{nat_eq_equiv, partial_equiv_from_equiv}
-use Rattle.std.specs.Cmp.Lexicographic.{pointwise, lists_per}
+use Rattle.std.specs.Cmp.Lexicographic.{pointwise}
 use Rattle.rv_tree.specs.Places.{Identifier, is_same, is_among, index_of}
 use Rattle.rv_calls.specs.Numbering.{with_name}
 use Rattle.indexmap.specs.IndexSet.{insert_key}
-
--- two names are the same from either side
-pub same_back : (x y : Identifier) → is_same x y ≡ is_same y x
-same_back x y = (lists_per (partial_equiv_from_equiv nat_eq_equiv)).symm x y
+use Rattle.rv_types.proofs.Spaced.{same_back}
 
 -- a name is among some where one of them has its bytes
 pub among_any : (xs : List Identifier) (x : Identifier) → list_any (is_same x) xs ≡ is_among xs x

@@ -19,9 +19,10 @@ use Rattle.rv_instances.specs.AllInstances.{names_of, AreInstances, numbered}
 use Rattle.rv_types.specs.WellFormed.{AreSited, HasSites}
 use Rattle.rv_calls.specs.Listing.{listed, all_listed, AreSorted, AreAllSorted}
 use Rattle.rv_instances.proofs.Lists.{nat_split, length_map, beside}
-use Rattle.rv_instances.proofs.Known.{cons_cases, nothing_in, map_at, called, calls_declared, number_of_node, node_of_number, name_declared}
+use Rattle.rv_instances.proofs.Known.{map_at, called, calls_declared, number_of_node, node_of_number, name_declared}
 use Rattle.rv_calls.proofs.Recursions.{table_at, table_size, tabled, untabled}
-use Rattle.rv_calls.proofs.AllInstances.{in_flat_map, of_flat_map, all_found}
+use Rattle.rv_calls.proofs.AllInstances.{all_found}
+use Rattle.rv_types.proofs.Members.{cons_cases, in_flat_map, nothing_in, of_flat_map}
 
 -- Paths in order.
 

@@ -10,8 +10,8 @@ use Rattle.rv_types.specs.Names.{name_faults}
 use Rattle.rv_types.specs.Instances.{CallTree, calls, Instance, no_node, node_of, callee, unrolled, all_instances, main_instance}
 use Rattle.rv_types.specs.WellFormed.{AreSited}
 use Rattle.rv_instances.specs.AllInstances.{names_of}
-use Rattle.rv_instances.proofs.Known.{cons_cases, nothing_in, called, node_missing}
-use Rattle.rv_calls.proofs.AllInstances.{of_flat_map}
+use Rattle.rv_instances.proofs.Known.{called, node_missing}
+use Rattle.rv_types.proofs.Members.{cons_cases, nothing_in, of_flat_map}
 
 -- Paths that differ.
 

@@ -16,9 +16,10 @@ use Rattle.rv_calls.specs.declared.fault.CauseFault.{CauseFault}
 use Rattle.rv_calls.specs.declared.fault.CauseFault.TheVariants.{Recursive, Cycle, TooLarge, TooWide, Memory}
 use Rattle.rv_calls.specs.Loops.{HasNoLoop, IsFirstLoop, IsRecursion}
 use Rattle.rv_calls.specs.Nodes.{IsRecursionOf}
-use Rattle.rv_instances.proofs.Known.{map_at, in_map, of_map, nothing_in, number_of_node, node_of_number, called, calls_declared, node_missing}
+use Rattle.rv_instances.proofs.Known.{map_at, number_of_node, node_of_number, called, calls_declared, node_missing}
 use Rattle.rv_instances.proofs.Lists.{length_map}
 use Rattle.rv_calls.proofs.Lowering.{edge_of, call_of}
+use Rattle.rv_types.proofs.Members.{in_map, nothing_in, of_map}
 
 module _ (p : ProgramTree) (named : name_faults p ≡ []) where
   -- the calls of the node with a number, in the table

@@ -1,6 +1,6 @@
 -- Cases that are alike are one, where no question has one row or form in two answers.
-use Rattle.std.proofs.Common.{ℕ, zero, suc, ◌+◌, ◌-◌, ◌<◌, ◌≡◌, ◌⊎◌, Bool, true, false, List, [], ◌∷◌, ◌++◌, length, refl, sym, ap, ◌∙◌, subst}
-use Rattle.std.proofs.Common.{⊎_elim, inl, inr, arith, slice_get, Some, get_or, Option, pos, length-append}
+use Rattle.std.proofs.Common.{ℕ, zero, suc, ◌+◌, ◌-◌, ◌<◌, ◌≡◌, ◌⊎◌, Bool, true, false, List, [], ◌∷◌, ◌++◌, length, sym, ap, ◌∙◌, subst}
+use Rattle.std.proofs.Common.{⊎_elim, inl, inr, arith, slice_get, Some, get_or, Option, pos}
 use Rattle.std.proofs.Common.{None as Nothing}
 use Rattle.std.specs.List.{Contains}
 use Rattle.std.proofs.lemmas.Bool.{cases_lt, cases_eq}
@@ -21,11 +21,10 @@ use Rattle.rv_cases.specs.Telling.{AreTold}
 use Rattle.rv_cases.specs.Made.{IsMadeFor, AreMadeOf, AreDifferent}
 use Rattle.rv_cases.proofs.Gathering.{same_truth}
 use Rattle.rv_cases.proofs.Keeping.{questions_later}
+use Rattle.rv_proofs.proofs.CaseRows.{nothing as no_row}
+use Rattle.rv_proofs.proofs.Claims.{updates_long}
 
-no_row : Row
-no_row = record { coefficients = []; bound = pos 0 }
-
-no_form : Form
+pub no_form : Form
 no_form = record { coefficients = []; constant = pos 0 }
 
 -- WHAT IS ONE AT BOTH VALUATIONS
@@ -47,10 +46,6 @@ same_row s p q n tests rows v w h g pv qw t low =
     let there : (r : Row) × (i : ℕ) × (slice_get tests i ≡ Some t) × (slice_get rows i ≡ Some r) = row_there s p n tests rows t h has in
     h.present there.1 t there.0 v there.2 there.3 pv ∙ sym (g.present there.1 t there.0 w there.2 there.3 qw) in
     ⊎_elim both (λ off. ⊎_elim both (λ none. off v pv ∙ sym (none w qw)) (g.absent t low)) (h.absent t low)
-
-updates_long : (s : System) (v : Valuation) (n : ℕ) → length (updates_among s v n) ≡ n
-updates_long s v zero = refl
-updates_long s v (suc n) = omega (arith, length-append (updates_among s v n) (s.update v n ∷ []), updates_long s v n)
 
 update_at : (s : System) (v : Valuation) (n k : ℕ) → k < n → get_or (updates_among s v n) k no_form ≡ s.update v k
 update_at s v zero k low = absurd (omega arith)

@@ -10,22 +10,8 @@ use Rattle.rv_diagram.specs.Several.{ref_at}
 use Rattle.rv_terms.specs.Growing.{Extends}
 use Rattle.rv_terms.proofs.Growths.{extends_trans}
 use Rattle.rv_cases.specs.Conditions.{is_in, AreRefs, AreApart, IsParted, AreAnswers, AreMeets, AreWithin, AreJoined, list_at, Gathers, among}
-
-or_left : (a b : Bool) → a ≡ true → (a || b) ≡ true
-or_left true b h = refl
-or_left false b h = cc
-
-or_right : (a b : Bool) → b ≡ true → (a || b) ≡ true
-or_right true b h = refl
-or_right false b h = h
-
-or-none : (b c : Bool) → c ≡ false → b ≡ (b || c)
-or-none true c e = refl
-or-none false c e = sym e
-
-or_assoc : (a b c : Bool) → ((a || b) || c) ≡ (a || (b || c))
-or_assoc true b c = refl
-or_assoc false b c = refl
+use Rattle.rv_terms.proofs.Adding.{or-none, or_assoc, or_left, or_right}
+use Rattle.rv_terms.proofs.Combining.{and-none, and-or}
 
 pub same_truth : (a b : Bool) → (a ≡ true → b ≡ true) → (b ≡ true → a ≡ true) → a ≡ b
 same_truth true b f g = sym (f refl)
@@ -75,7 +61,7 @@ parted_later old new p refs e g = record {
 
 -- THE STEP
 
-before-at : (before : List ℕ) (r j : ℕ) → j < length before → ref_at (before ++ r ∷ []) j ≡ ref_at before j
+pub before-at : (before : List ℕ) (r j : ℕ) → j < length before → ref_at (before ++ r ∷ []) j ≡ ref_at before j
 before-at before r j low = get_or_append_left before (r ∷ []) 0 j low
 
 new-at : (before : List ℕ) (r : ℕ) → ref_at (before ++ r ∷ []) (length before) ≡ r
@@ -185,15 +171,6 @@ among_has nodes refs (suc n) k v low h = ⊎_elim
     (λ e. or_right (among nodes refs n v) (is_in nodes refs n v) (ap (λ j. is_in nodes refs j v) (sym e) ∙ h))
     (λ off. or_left (among nodes refs n v) (is_in nodes refs n v) (among_has nodes refs n k v (omega arith) h))
     (cases_eq k n)
-
-and-or : (t a h : Bool) → ((t && a) || (t && h)) ≡ (t && (a || h))
-and-or true a h = refl
-and-or false a h = refl
-
-and-none : (p t : Bool) → p ≡ (p || (t && false))
-and-none true t = refl
-and-none false true = refl
-and-none false false = refl
 
 pub and-implied : (t b : Bool) → (t ≡ true → b ≡ true) → (t && b) ≡ t
 and-implied true b h = h refl

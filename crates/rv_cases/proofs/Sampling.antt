@@ -9,19 +9,18 @@ use Rattle.rv_rows.specs.declared.linear.Form.{Form}
 use Rattle.rv_diagram.specs.declared.Triple.{Triple}
 use Rattle.rv_diagram.specs.Nodes.{Valuation, IsRef, IsMeant, value_of, value_among, node_at}
 use Rattle.rv_diagram.specs.Several.{ref_at}
-use Rattle.rv_proofs.specs.Systems.{IsRead, IsSameValuation}
+use Rattle.rv_proofs.specs.Systems.{IsSameValuation}
 use Rattle.rv_proofs.specs.Samples.{counting, row1, form1}
 use Rattle.rv_proofs.proofs.ControlReads.{value_among-reads}
 use Rattle.rv_cases.specs.Conditions.{is_in, list_at, AreAnswers}
 use Rattle.rv_cases.specs.Questions.{HaveAnswers, AreTestAnswers, AreUpdateAnswers, AreSides, AreQuestions, AreDistinct, rows_at, forms_at}
 use Rattle.rv_cases.specs.Samples.{counting_nodes, counting_diagrams, counting_questions}
+use Rattle.rv_proofs.proofs.Counting.{three_read, two_read, two_tests as two}
+use Rattle.rv_proofs.proofs.Filed.{true_then_false as on_off}
+use Rattle.rv_proofs.proofs.SampleSystems.{zero_read}
+use Rattle.rv_proofs.proofs.Sampling.{both_true as on_on, when_false as off}
 
 -- PLACES OF SHORT LISTS
-
-two : (P : ℕ → Type 0) → P 0 → P 1 → (i : ℕ) → i < 2 → P i
-two P p q zero low = p
-two P p q (suc zero) low = q
-two P p q (suc (suc i)) low = absurd (omega arith)
 
 three : (P : ℕ → Type 0) → P 0 → P 1 → P 2 → (i : ℕ) → i < 3 → P i
 three P p q r zero low = p
@@ -112,7 +111,7 @@ two_answers nodes x y t u fx fy p q = record {
 
 -- THE REFERENCES
 
-at_six : (v : Valuation) → value_of counting_nodes 6 v ≡ cond (v 0) false true
+pub at_six : (v : Valuation) → value_of counting_nodes 6 v ≡ cond (v 0) false true
 unfolding value_among
 at_six v = refl
 
@@ -132,11 +131,11 @@ at_ten : (v : Valuation) → value_of counting_nodes 10 v ≡ cond (v 0) (cond (
 unfolding value_among
 at_ten v = refl
 
-at_eleven : (v : Valuation) → value_of counting_nodes 11 v ≡ cond (v 0) (cond (v 3) true false) true
+pub at_eleven : (v : Valuation) → value_of counting_nodes 11 v ≡ cond (v 0) (cond (v 3) true false) true
 unfolding value_among
 at_eleven v = refl
 
-at_one : (v : Valuation) → value_of counting_nodes 1 v ≡ true
+pub at_one : (v : Valuation) → value_of counting_nodes 1 v ≡ true
 unfolding value_among
 at_one v = refl
 
@@ -153,33 +152,10 @@ low_variables v w a b c (suc (suc (suc (suc (suc (suc (suc (suc zero)))))))) low
 low_variables v w a b c (suc (suc (suc (suc (suc (suc (suc (suc (suc zero))))))))) low = a
 low_variables v w a b c (suc (suc (suc (suc (suc (suc (suc (suc (suc (suc i)))))))))) low = absurd (omega arith)
 
-zero_read : IsRead counting 0
-zero_read = (omega arith, λ i h e. omega arith)
-
-two_read : IsRead counting 2
-two_read = (omega arith, λ i h e. omega arith)
-
-three_read : IsRead counting 3
-three_read = (omega arith, λ i h e. omega arith)
-
 reads : (r : ℕ) (v w : Valuation) → IsSameValuation counting v w → value_of counting_nodes r v ≡ value_of counting_nodes r w
 reads r v w same = value_among-reads counting_nodes v w (low_variables v w (same 0 zero_read) (same 2 two_read) (same 3 three_read)) 10 (omega arith) r
 
 -- WHAT THEY SAY
-
-off : (t : Bool) → cond t false true ≡ true → t ≡ false
-off true h = absurd (both_ways true (sym h) refl)
-off false h = refl
-
-on_on : (t u : Bool) → cond t (cond u true false) false ≡ true → (t ≡ true) × (u ≡ true)
-on_on true true h = (refl, refl)
-on_on true false h = absurd (both_ways true (sym h) refl)
-on_on false u h = absurd (both_ways true (sym h) refl)
-
-on_off : (t u : Bool) → cond t (cond u false true) false ≡ true → (t ≡ true) × (u ≡ false)
-on_off true true h = absurd (both_ways true (sym h) refl)
-on_off true false h = (refl, refl)
-on_off false u h = absurd (both_ways true (sym h) refl)
 
 nothing_got : {A : Type 0} {B : Type 0} (x : A) → Nothing ≡ Some x → B
 nothing_got x h = cc

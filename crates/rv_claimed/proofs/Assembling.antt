@@ -1,5 +1,5 @@
 -- The certificate of a closed row claim, put together from its parts.
-use Rattle.std.proofs.Common.{◌≡◌, ◌≢◌, ℕ, zero, suc, ◌+◌, ◌<◌, ◌^◌, pos, ◌≤ℤ◌, Bool, true, false, cond, not, ◌&&◌, List, [], ◌∷◌, ◌++◌, length, get_or, All}
+use Rattle.std.proofs.Common.{◌≡◌, ◌≢◌, ℕ, zero, suc, ◌+◌, ◌<◌, ◌^◌, ◌≤ℤ◌, Bool, true, false, cond, not, List, [], ◌∷◌, ◌++◌, length, get_or, All}
 use Rattle.std.proofs.Common.{Some, IsTrue, slice_get}
 use Rattle.std.proofs.Common.{arith, lit≤, refl, sym, ap, ◌∙◌, subst, append-nil, ◌⊎◌, inl, inr}
 use Rattle.std.proofs.Common.{None as Nothing}
@@ -11,7 +11,6 @@ use Rattle.rv_diagram.specs.Nodes.{Valuation}
 use Rattle.rv_diagram.specs.declared.frozen.Frozen.{Frozen}
 use Rattle.rv_rows.specs.declared.linear.Row.{Row}
 use Rattle.rv_rows.specs.declared.linear.Form.{Form}
-use Rattle.rv_rows.specs.declared.farkas.Weight.{Weight}
 use Rattle.rv_rows.specs.declared.farkas.Multipliers.{Multipliers}
 use Rattle.rv_rows.specs.Rows.{coefficient, row_at}
 use Rattle.rv_rows.specs.Tight.{Fits}
@@ -29,7 +28,7 @@ use Rattle.rv_proofs.specs.declared.certificate.Entry.{Entry}
 use Rattle.rv_proofs.specs.declared.certificate.EntryKind.{EntryKind}
 use Rattle.rv_proofs.specs.declared.certificate.EntryKind.TheVariants.{Dead, Go, Loop}
 use Rattle.rv_proofs.specs.declared.report.Case.{Case}
-use Rattle.rv_proofs.proofs.Sampling.{prove_one}
+use Rattle.rv_proofs.proofs.Sampling.{prove_one, record_one as one_record}
 use Rattle.rv_walk.specs.Ends.{has}
 use Rattle.rv_walk.specs.Plain.{ArePlain}
 use Rattle.rv_claims.specs.declared.claim.Claim.{Claim}
@@ -41,9 +40,11 @@ use Rattle.rv_claimed.specs.declared.locations.Place.{Place}
 use Rattle.rv_claimed.specs.Certifying.{IsBad, IsSetting, IsRangedKind, IsEntryOf, AreEntriesOf, IsBadCase, AreListed, IsLocationOf}
 use Rattle.rv_claimed.specs.Building.{ArePartsOf, IsRangedLocation, IsFailingPlace, IsPlaceOf, left_of, IsProof}
 use Rattle.rv_claimed.proofs.Pairing.{no_row}
-use Rattle.rv_claimed.proofs.Entering.{no_form, update_at, both}
+use Rattle.rv_claimed.proofs.Entering.{no_form, both}
 use Rattle.rv_claimed.proofs.Partition.{all_each}
 use Rattle.rv_claimed.proofs.Leaving.{nothing_left, some_left, claim_left}
+use Rattle.rv_proofs.proofs.Claims.{update_at}
+use Rattle.rv_walk.proofs.Stages.{rest_from as and_not, rest_parts as both_parts}
 
 some_at : {X : Type 0} (xs : List X) (j : ℕ) → j < length xs → (x : X) × (slice_get xs j ≡ Some x)
 some_at [] j l = absurd (omega arith)
@@ -87,18 +88,6 @@ module _ (s : System) (case : Case) (is : IsCaseOf s case) (v w : Valuation) (v_
       sym (update_at s w no_form s.memories k known)
       ∙ ap (λ (fs : List Form). get_or fs k no_form) (is.updates w w_in ∙ sym (is.updates v v_in))
       ∙ update_at s v no_form s.memories k known
-
--- the weight 1 on a row has the ranges of a document
-one_record : (n j : ℕ) → j < n → IsRecord n (by_one j)
-one_record n j l = record {
-  positive = omega (arith, ints);
-  divisor = omega (arith, ints);
-  few = lit≤ tt;
-  there = All-cons (λ (w : Weight). w.premise < n) (record { premise = j; by = pos 1 }) [] l (All-nil (λ (w : Weight). w.premise < n));
-  weighted = All-cons (λ (w : Weight). (pos 1 ≤ℤ w.by) × (w.by ≤ℤ pos (2 ^ 41))) (record { premise = j; by = pos 1 }) []
-      (omega (arith, ints), omega (arith, ints)) (All-nil (λ (w : Weight). (pos 1 ≤ℤ w.by) × (w.by ≤ℤ pos (2 ^ 41))));
-  rising = λ i k u w less u_at w_at. let inside = slice_get_within (by_one j).weights k w w_at in absurd (omega (arith, inside, less));
-}
 
 module _ (s : System) (c : RowClaim) (from : Frozen) (rows : List Row) (setting : IsSetting s c from rows) (cases : List Case)
     (are : AreCases s from cases)
@@ -239,17 +228,6 @@ module _ (s : System) (c : RowClaim) (from : Frozen) (rows : List Row) (setting 
     good = λ off v i t. good_case off v t (are.covered v t.allowed i);
     bad = λ on. failing (listed.bad on);
   }
-
--- truth values
-both_parts : (a b : Bool) → (a && not b) ≡ true → (a ≡ true) × (b ≡ false)
-both_parts true false e = (refl, refl)
-both_parts true true e = cc
-both_parts false b e = cc
-
-and_not : (a b : Bool) → a ≡ true → b ≡ false → (a && not b) ≡ true
-and_not true false e d = refl
-and_not true true e d = cc
-and_not false b e d = cc
 
 if_true : (b : Bool) (xs ys : List Row) → b ≡ true → cond b xs ys ≡ xs
 if_true true xs ys e = refl

@@ -1,14 +1,12 @@
 -- The entry of a case in the certificate of a closed row claim.
-use Rattle.std.proofs.Common.{◌≡◌, ◌↔◌, ℕ, zero, suc, ◌+◌, ◌<◌, ◌≤◌, ◌^◌, pos, negsuc, Bool, true, false, IsTrue, List, [], ◌∷◌, ◌++◌, length, get_or, All}
+use Rattle.std.proofs.Common.{◌≡◌, ◌↔◌, ℕ, zero, suc, ◌+◌, ◌<◌, ◌≤◌, ◌^◌, pos, negsuc, Bool, true, false, IsTrue, List, [], ◌++◌, length, get_or, All}
 use Rattle.std.proofs.Common.{Option, Some, slice_get}
-use Rattle.std.proofs.Common.{arith, refl, sym, ap, ◌∙◌, subst, ◌⊎◌, inl, inr}
+use Rattle.std.proofs.Common.{arith, refl, sym, ap, ◌∙◌, subst}
 use Rattle.std.proofs.Common.{None as Nothing}
 use Rattle.std.specs.List.{Contains}
-use Rattle.std.proofs.lemmas.Bool.{cases_lt}
 use Rattle.std.proofs.lemmas.Option.{slice_get_within, slice_get-get_or, get_or_from_slice_get}
-use Rattle.std.proofs.lemmas.List.{get_or_append_left, length-append, length_push}
+use Rattle.std.proofs.lemmas.List.{length-append}
 use Rattle.std.proofs.lemmas.List.Elements.{All-append, All-from_get_or, All-weaker}
-use Rattle.std.proofs.Math.Seq.{get_or-append_seam}
 use Rattle.rv_diagram.specs.Nodes.{Valuation}
 use Rattle.rv_diagram.specs.declared.frozen.Frozen.{Frozen}
 use Rattle.rv_rows.specs.declared.linear.Row.{Row}
@@ -18,7 +16,7 @@ use Rattle.rv_rows.specs.Rows.{row_at, RowWithin}
 use Rattle.rv_rows.specs.Forms.{IsSubstituted}
 use Rattle.rv_rows.specs.Multipliers.{ShowsAtOnce, AreShutAtOnce}
 use Rattle.rv_rows.specs.Tight.{Fits}
-use Rattle.rv_proofs.specs.Systems.{System, IsUpdate, rows_among, held_row, updates_of, updates_among}
+use Rattle.rv_proofs.specs.Systems.{System, IsUpdate, rows_among, held_row, updates_of}
 use Rattle.rv_proofs.specs.Scopes.{IsIn}
 use Rattle.rv_proofs.specs.Ranges.{IsRecord}
 use Rattle.rv_proofs.specs.Cases.{AreCases}
@@ -38,6 +36,7 @@ use Rattle.rv_claimed.specs.Certifying.{IsEntryOf}
 use Rattle.rv_claimed.specs.Certifying.{IsGoodCase, IsBadCase, IsMadeEntry}
 use Rattle.rv_claimed.proofs.Pairing.{no_row, pair_to, shows_same, shows_swapped}
 use Rattle.rv_claimed.proofs.Placed.{pair_divisor, pair_record, reached_shown, shut_refuted}
+use Rattle.rv_proofs.proofs.Claims.{update_at, updates_long}
 
 -- truth values
 pub both : (b : Bool) → b ≡ true → b ≡ false → ⊥
@@ -80,24 +79,8 @@ rows_few s v (suc n) = let m = rows_few s v n in omega (arith, length-append (ro
     one Nothing = omega arith
     one (Some r) = omega arith
 
--- the updates of a valuation, one by one
-pub updates_long : (s : System) (v : Valuation) (n : ℕ) → length (updates_among s v n) ≡ n
-updates_long s v zero = refl
-updates_long s v (suc n) = omega (arith, length_push (updates_among s v n) (s.update v n), updates_long s v n)
-
 abbrev pub no_form : Form
 no_form = record { coefficients = []; constant = pos 0 }
-
-pub update_at : (s : System) (v : Valuation) (d : Form) (n k : ℕ) → k < n → get_or (updates_among s v n) k d ≡ s.update v k
-update_at s v d zero k l = absurd (omega arith)
-update_at s v d (suc n) k l = go (update_at s v d n k) (cases_lt k n)
-  where
-    go : (k < n → get_or (updates_among s v n) k d ≡ s.update v k) → (k < n) ⊎ (n ≤ k) → get_or (updates_among s v n ++ s.update v n ∷ []) k d ≡ s.update v k
-    go before (inl less) = get_or_append_left (updates_among s v n) (s.update v n ∷ []) d k (omega (arith, updates_long s v n)) ∙ before less
-    go before (inr more) =
-        let e : k ≡ n = omega arith in
-        ap (λ (x : ℕ). get_or (updates_among s v n ++ s.update v n ∷ []) x d) (e ∙ sym (updates_long s v n))
-        ∙ get_or-append_seam (updates_among s v n) (s.update v n) [] d ∙ ap (s.update v) (sym e)
 
 module _ (s : System) (many : ℕ) (c : Claim) (judge : IsJudgeable s many c) (from : Frozen) (given : List Row)
     (setting : IsSetting s (claim_of c) from given) (case : Case) (of : IsCaseIn s from case) where

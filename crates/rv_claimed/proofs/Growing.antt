@@ -1,5 +1,5 @@
 -- Lists that grow along a loop: copies, multipliers, entries.
-use Rattle.std.proofs.Common.{◌≡◌, ℕ, ◌+◌, ◌<◌, ◌≤◌, List, [], ◌∷◌, ◌++◌, length, take, Some, slice_get, arith, refl, sym, ap, ◌∙◌, ◌⊎◌, inl, inr}
+use Rattle.std.proofs.Common.{◌≡◌, ℕ, ◌+◌, ◌<◌, ◌≤◌, List, [], ◌∷◌, ◌++◌, length, take, Some, slice_get, arith, sym, ap, ◌∙◌, ◌⊎◌, inl, inr}
 use Rattle.std.proofs.lemmas.Bool.{cases_lt}
 use Rattle.std.proofs.lemmas.Option.{slice_get_within, slice_get-get_or, get_or_from_slice_get}
 use Rattle.std.proofs.lemmas.List.{take_more, length_push, length-append, get_or_push, get_or_append_left, append_assoc, append-nil, nil_from_length}
@@ -36,13 +36,3 @@ one_along all ys rest zs x e d = e ∙ ap (λ xs. ys ++ xs) d ∙ sym (append_as
 
 pub none_left : {X : Type 0} (all ys rest : List X) → all ≡ ys ++ rest → length rest ≡ 0 → ys ≡ all
 none_left all ys rest e d = sym (e ∙ ap (λ xs. ys ++ xs) (nil_from_length rest d) ∙ append-nil ys)
-
--- what was there, and what is new, after one more
-pub push_kept : {X : Type 0} (xs : List X) (x y : X) (k : ℕ) → slice_get xs k ≡ Some y → slice_get (xs ++ x ∷ []) k ≡ Some y
-push_kept xs x y k at =
-    let l = slice_get_within xs k y at in
-    slice_get-get_or (xs ++ x ∷ []) k x (omega (arith, l, length_push xs x))
-    ∙ ap Some (get_or_append_left xs (x ∷ []) x k l ∙ get_or_from_slice_get xs k y x at)
-
-pub push_last : {X : Type 0} (xs : List X) (x : X) → slice_get (xs ++ x ∷ []) (length xs) ≡ Some x
-push_last xs x = seam_at (xs ++ x ∷ []) xs [] x refl

@@ -7,4 +7,3 @@ pub mod Partition
 pub mod Leaving
 pub mod Assembling
 pub mod Giving
-pub mod Mapping

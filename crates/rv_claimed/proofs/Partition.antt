@@ -9,7 +9,7 @@ use Rattle.rv_diagram.specs.Nodes.{Valuation}
 use Rattle.rv_rows.specs.declared.linear.Row.{Row}
 use Rattle.rv_rows.specs.declared.farkas.Multipliers.{Multipliers}
 use Rattle.rv_rows.specs.Multipliers.{AreShutAtOnce}
-use Rattle.rv_proofs.specs.Systems.{System, IsSystem, rows_among, updates_of}
+use Rattle.rv_proofs.specs.Systems.{System, IsSystem, updates_of}
 use Rattle.rv_proofs.specs.Counts.{HasLoop, IsLoopKind}
 use Rattle.rv_proofs.specs.Scopes.{IsIn, IsInScope, IsSettledUpdate, refutation, after, Implication, Wanted, each, implications, rows_into, NeedsUpdate}
 use Rattle.rv_proofs.specs.Implied.{AreTestRows, AreForms, IsImplied, form_at}
@@ -22,12 +22,9 @@ use Rattle.rv_proofs.specs.declared.certificate.Entry.{Entry}
 use Rattle.rv_proofs.specs.declared.certificate.EntryKind.{EntryKind}
 use Rattle.rv_proofs.specs.declared.certificate.EntryKind.TheVariants.{Dead, Go, Loop}
 use Rattle.rv_claims.specs.Certify.{IsUniform, NamesPresent, IsRefutedAt, IsShownAt, IsClaimKind, IsClaimLocation, IsClaimCertificate}
-use Rattle.rv_claimed.proofs.Entering.{no_form, update_at, updates_long}
-
--- equal tests give equal rows
-rows_same : (s : System) (v w : Valuation) (n : ℕ) → ((t : ℕ) → t < n → s.row w t ≡ s.row v t) → rows_among s w n ≡ rows_among s v n
-rows_same s v w zero h = refl
-rows_same s v w (suc n) h = rw (rows_same s v w n (λ t l. h t (omega arith)), h n (omega arith)) refl
+use Rattle.rv_claimed.proofs.Entering.{no_form}
+use Rattle.rv_claims.proofs.Certifying.{rows-same as rows_same}
+use Rattle.rv_proofs.proofs.Claims.{update_at, updates_long}
 
 pub all_each : (P : Implication → Type 0) (want : Row → Wanted) (given rows : List Row) (by : List Multipliers)
     → ((n : ℕ) (r : Row) (m : Multipliers) → slice_get rows n ≡ Some r → slice_get by n ≡ Some m

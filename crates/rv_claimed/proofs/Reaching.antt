@@ -11,7 +11,8 @@ use Rattle.rv_proofs.specs.declared.certificate.Entry.{Entry}
 use Rattle.rv_proofs.specs.declared.report.Case.{Case}
 use Rattle.rv_claimed.specs.declared.entries.Made.{Made}
 use Rattle.rv_claimed.specs.Certifying.{IsReached, AreReached, IsEntryOf, AreEntriesOf, IsGoodCase, IsBadCase, IsMadeEntry, AreListed}
-use Rattle.rv_claimed.proofs.Growing.{push_before, push_kept, push_last}
+use Rattle.rv_claimed.proofs.Growing.{push_before}
+use Rattle.rv_symbolic.proofs.Parting.{kept-append as push_kept, new-append as push_last}
 
 pub reached_more : (many : ℕ) (given : List Row) (c : Case) (wanted : List Row) (n : ℕ) (reach : List Multipliers) (m : Multipliers) (r : Row)
     → AreReached many given c wanted n reach → slice_get wanted n ≡ Some r → IsReached many given c r m

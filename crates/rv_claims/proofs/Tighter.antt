@@ -1,6 +1,6 @@
 -- What tighter premises show at once.
-use Rattle.std.proofs.Common.{◌≡◌, ℕ, ◌+◌, ◌-◌, ◌≤◌, ◌<◌, ℤ, pos, negsuc, ◌+ℤ◌, ◌≤ℤ◌, List, [], ◌++◌, length, get_or, slice_get, Bool, true, false}
-use Rattle.std.proofs.Common.{cond, IsTrue, arith, refl, ap, sym, ◌∙◌, ◌⊎◌, inl, inr}
+use Rattle.std.proofs.Common.{◌≡◌, ℕ, ◌+◌, ◌-◌, ◌≤◌, ◌<◌, ℤ, pos, ◌≤ℤ◌, List, [], ◌++◌, length, get_or, slice_get}
+use Rattle.std.proofs.Common.{IsTrue, arith, refl, ap, sym, ◌∙◌, ◌⊎◌, inl, inr}
 use Rattle.std.proofs.lemmas.Int.{ints}
 use Rattle.std.proofs.lemmas.Bool.{cases_lt}
 use Rattle.std.proofs.lemmas.Option.{slice_get-get_or}
@@ -8,10 +8,10 @@ use Rattle.std.proofs.lemmas.List.{get_or_append_left, get_or-append_right, leng
 use Rattle.rv_diagram.specs.Nodes.{Valuation}
 use Rattle.rv_rows.specs.declared.linear.Row.{Row}
 use Rattle.rv_rows.specs.Rows.{coefficient, row_at}
-use Rattle.rv_rows.specs.Multipliers.{ShowsAtOnce, by_none, by_one, by_two}
-use Rattle.rv_proofs.specs.Systems.{System, HasSameState, rows_of}
-use Rattle.rv_proofs.specs.RowClaims.{RowClaim, IsRowClaim, IsRowTaken, IsRowGood, HasGoodRows, HasTighter, IsRowTighter, premises_at}
+use Rattle.rv_proofs.specs.Systems.{System, HasSameState}
+use Rattle.rv_proofs.specs.RowClaims.{RowClaim, IsRowClaim, IsRowTaken, IsRowGood, HasGoodRows, HasTighter, IsRowTighter}
 use Rattle.rv_claims.specs.Order.{IsBelowClosed, IsBottom, IsRaised}
+use Rattle.rv_proofs.proofs.RowTighter.{claim-shows, claim-taken}
 
 -- each premise has one with its left side and at most its bound, and different ones have different ones
 pub record At (as' bs : List Row) (i : ℕ) : Type 0 where
@@ -23,36 +23,6 @@ pub record At (as' bs : List Row) (i : ℕ) : Type 0 where
 pub record AreTighter (as' bs : List Row) : Type 0 where
   pub at : (i : ℕ) → i < length as' → At as' bs i
   pub apart : (i j : ℕ) (l : i < length as') (m : j < length as') → i < j → (at i l).place ≡ (at j m).place → ⊥
-
-by_places : (r : Row) (bs : List Row) (p q : ℕ) → p < length bs → q < length bs → (p ≡ q → ⊥)
-    → ((k : ℕ) → coefficient k r ≡ coefficient k (row_at bs p) +ℤ coefficient k (row_at bs q))
-    → ((row_at bs p).bound +ℤ (row_at bs q).bound) ≤ℤ r.bound → ShowsAtOnce bs r
-by_places r bs p q hp hq ne two under = go (cases_lt p q) (cases_lt q p)
-  where
-    swapped : (a b : ℤ) → a +ℤ b ≡ b +ℤ a
-    swapped a b = omega (arith, ints)
-
-    go : (p < q) ⊎ (q ≤ p) → (q < p) ⊎ (p ≤ q) → ShowsAtOnce bs r
-    go (inl h) k = by_two p q h hq two under
-    go (inr h) (inl k) = by_two q p k hp (λ n. two n ∙ swapped (coefficient n (row_at bs p)) (coefficient n (row_at bs q)))
-        (rw (swapped (row_at bs q).bound (row_at bs p).bound) under)
-    go (inr h) (inr k) = absurd (ne (omega arith))
-
-pub shows-tighter : (as' bs : List Row) (r : Row) → AreTighter as' bs → ShowsAtOnce as' r → ShowsAtOnce bs r
-shows-tighter as' bs r t (by_none sides bound) = by_none sides bound
-shows-tighter as' bs r t (by_one i l sides bound) =
-    let a = t.at i l in
-    let b = a.bound in
-    by_one a.place a.there (λ k. sides k ∙ a.sides k) (omega (arith, ints))
-shows-tighter as' bs r t (by_two i j l m sides bound) = by_places r bs (t.at i (omega arith)).place (t.at j m).place (t.at i (omega arith)).there
-    (t.at j m).there
-    (λ e. t.apart i j (omega arith) m l e)
-    (λ k. sides k ∙ ap (λ z. z +ℤ coefficient k (row_at as' j)) ((t.at i (omega arith)).sides k)
-    ∙ ap (λ z. coefficient k (row_at bs (t.at i (omega arith)).place) +ℤ z) ((t.at j m).sides k))
-    (under _ _ _ _ _ (t.at i (omega arith)).bound (t.at j m).bound bound)
-  where
-    under : (a b c d e : ℤ) → a ≤ℤ b → c ≤ℤ d → (b +ℤ d) ≤ℤ e → (a +ℤ c) ≤ℤ e
-    under a b c d e h k l = omega (arith, ints)
 
 -- the premises of a tighter claim are tighter
 module _ (s : System) (thresholds : List ℤ) (c d : RowClaim) (claim : IsRowClaim s thresholds d) (below : IsRowTighter c d) (rows : List Row) where
@@ -140,22 +110,6 @@ module _ (s : System) (thresholds : List ℤ) (c d : RowClaim) (claim : IsRowCla
     at = λ i l. (placed i l).0;
     apart = λ i j l m h e. apart_placed i j _ _ (placed i l).1 (placed j m).1 h m e;
   }
-
-pub claim-shows : (s : System) (thresholds : List ℤ) (c d : RowClaim) → IsRowClaim s thresholds d → IsRowTighter c d → (v : Valuation) (r : Row)
-    → ShowsAtOnce (premises_at s d v) r → ShowsAtOnce (premises_at s c v) r
-claim-shows s thresholds c d claim below v r = go (v 0)
-  where
-    go : (b : Bool) → ShowsAtOnce (cond b (rows_of s v ++ d.rows) (rows_of s v)) r → ShowsAtOnce (cond b (rows_of s v ++ c.rows) (rows_of s v)) r
-    go true h = shows-tighter (rows_of s v ++ d.rows) (rows_of s v ++ c.rows) r (premises-tighter s thresholds c d claim below (rows_of s v)) h
-    go false h = h
-
-pub claim-taken : (s : System) (thresholds : List ℤ) (c d : RowClaim) → IsRowClaim s thresholds d → IsRowTighter c d → (v : Valuation) → IsRowTaken s c v
-    → IsRowTaken s d v
-claim-taken s thresholds c d claim below v t = record {
-  allowed = t.allowed;
-  reached = below.reached v t.reached;
-  is_open = λ shut. t.is_open (claim-shows s thresholds c d claim below v (record { coefficients = []; bound = negsuc 0 }) shut);
-}
 
 pub bottom-below : (s : System) (thresholds : List ℤ) (c : RowClaim) → IsBottom s thresholds c → IsBelowClosed s thresholds c
 bottom-below s thresholds c bottom d claim closed = record {

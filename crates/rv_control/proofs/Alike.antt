@@ -1,10 +1,9 @@
 -- Valuations that say the same of all that a flat system names have the same symbolic instant, rows and next state.
-use Rattle.std.proofs.Common.{◌≡◌, inl, inr, ℕ, zero, suc, ◌+◌, ◌^◌, ◌<◌, ℤ, Bool, true, false, not, ◌&&◌, cond, nat_eq, List, [], ◌∷◌, ◌++◌, length, refl, sym}
+use Rattle.std.proofs.Common.{◌≡◌, inl, inr, ℕ, zero, suc, ◌+◌, ◌^◌, ◌<◌, ℤ, Bool, true, false, not, ◌&&◌, cond, List, [], ◌∷◌, ◌++◌, length, refl, sym}
 use Rattle.std.proofs.Common.{◌∙◌, ap, subst, arith, Option, Some}
 use Rattle.std.proofs.Common.{None as Nothing}
 use Rattle.std.specs.Prelude.{slice_index_or, nat_le}
 use Rattle.std.specs.List.{Contains}
-use Rattle.std.proofs.lemmas.Bool.{ne_eqb}
 use Rattle.std.proofs.lemmas.List.{length-map}
 use Rattle.std.proofs.lemmas.List.Elements.{Contains-append_left, Contains-append_right, Contains-append_cases, Contains-get_or}
 use Rattle.rv_base.specs.declared.value.Value.{Value}
@@ -30,7 +29,8 @@ use Rattle.rv_agreement.specs.Valuations.{comparisons_of, item_comparisons, all_
 use Rattle.rv_agreement.specs.Valuations.{tested, Agrees, IsCodedAs, IsCoded}
 use Rattle.rv_agreement.specs.Agreement.{State, IsSpelled, Spells, IsRule, IsPlaced, Fits, FormFits, AllFit, ItemFits, IsNamed, IsWell, bit_count}
 use Rattle.rv_agreement.proofs.Controls.{no_flag}
-use Rattle.rv_agreement.proofs.Matching.{none_in, read_in, in_flat_map, from_flat_map, wider_item, Inside, inside}
+use Rattle.rv_agreement.proofs.Matching.{read_in, wider_item, Inside, inside, own_there}
+use Rattle.rv_types.proofs.Members.{in_flat_map, of_flat_map as from_flat_map}
 
 -- No expression of another type than int has a form.
 abbrev pub NoControlForms : Type 0
@@ -67,17 +67,6 @@ coded_same labels kind.Bool bits other same is = tt
 coded_same labels kind.Int bits other same is = tt
 coded_same labels (kind.Labels i) bits other same is = subst (λ c. c < slice_index_or labels i 0)
     (code_same (bits_for (slice_index_or labels i 0)) bits other same) is
-
-some_side : {X : Type 0} (xs : List X) (x : X) → Contains xs x → nat_eq (length xs) 0 ≡ false
-some_side [] x w = none_in x w
-some_side (y ∷ ys) x w = ne_eqb (suc (length ys)) 0 (λ e. absurd (omega (arith, e)))
-
--- a comparison with a place and a test is its own
-own_there : (o : Op) (c : Comparison) (side : Side) → is_placed c.at ≡ true → Contains (sides_of o) side → Contains (own o c) c
-own_there o c side placed w =
-    subst (λ cs. Contains cs c)
-    (sym ((λ t. cond (placed t) (cond (some_side (sides_of o) side w t) [] (c ∷ [])) [])))
-    (0, omega arith, refl)
 
 -- Readings of operators and constants.
 module _ (n : ℕ) (p q : Sites → Side → Bool) where

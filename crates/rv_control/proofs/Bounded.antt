@@ -29,11 +29,11 @@ looser columns n more f le is = record {
       omega (arith, h, le);
 }
 
-same_abs : (z : ℤ) → unsigned_abs z ≡ nat_abs z
+pub same_abs : (z : ℤ) → unsigned_abs z ≡ nat_abs z
 same_abs (pos n) = refl
 same_abs (negsuc n) = refl
 
-length-zeros : (n : ℕ) → length (zeros n) ≡ n
+pub length-zeros : (n : ℕ) → length (zeros n) ≡ n
 length-zeros zero = refl
 length-zeros (suc n) = ap suc (length-zeros n)
 
@@ -42,7 +42,7 @@ zero_at zero k = refl
 zero_at (suc n) zero = refl
 zero_at (suc n) (suc k) = zero_at n k
 
-length-unit : (k n : ℕ) → length (unit k n) ≡ n
+pub length-unit : (k n : ℕ) → length (unit k n) ≡ n
 length-unit k zero = refl
 length-unit zero (suc n) = ap suc (length-zeros n)
 length-unit (suc k) (suc n) = ap suc (length-unit k n)
@@ -60,7 +60,7 @@ length-plus (x ∷ xs) [] n a b = a
 length-plus (x ∷ xs) (y ∷ ys) zero a b = absurd (omega arith)
 length-plus (x ∷ xs) (y ∷ ys) (suc n) a b = ap suc (length-plus xs ys n (omega arith) (omega arith))
 
-triangle : (a b : ℤ) (m n : ℕ) → unsigned_abs a ≤ m → unsigned_abs b ≤ n → unsigned_abs (a +ℤ b) ≤ m + n
+pub triangle : (a b : ℤ) (m n : ℕ) → unsigned_abs a ≤ m → unsigned_abs b ≤ n → unsigned_abs (a +ℤ b) ≤ m + n
 triangle a b m n h k = omega (arith, ints)
 
 plus_at : (xs ys : List ℤ) (m n : ℕ) → ((k : ℕ) → unsigned_abs (number k xs) ≤ m) → ((k : ℕ) → unsigned_abs (number k ys) ≤ n) → (k : ℕ)

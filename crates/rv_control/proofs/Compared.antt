@@ -1,12 +1,11 @@
 -- Each comparison of a program is one of integers that stands in a node.
-use Rattle.std.proofs.Common.{◌≡◌, ◌⊎◌, inl, inr, ℕ, ◌<◌, Bool, true, false, cond, nat_eq, List, [], ◌∷◌, ◌++◌, length, refl, sym, subst, flat_map, unwrap_or}
+use Rattle.std.proofs.Common.{◌≡◌, inl, inr, ℕ, ◌<◌, Bool, true, false, cond, nat_eq, List, [], ◌∷◌, ◌++◌, length, refl, sym, subst, flat_map, unwrap_or}
 use Rattle.std.proofs.Common.{Option, Some}
 use Rattle.std.proofs.Common.{None as Nothing}
 use Rattle.std.specs.List.{Contains}
 use Rattle.std.proofs.lemmas.Bool.{and_parts}
 use Rattle.std.proofs.lemmas.List.Elements.{Contains-append_left, Contains-append_right, Contains-append_cases}
 use Rattle.rv_tree.specs.declared.tree.Op.{Op}
-use Rattle.rv_tree.specs.declared.tree.Op.TheVariants as op
 use Rattle.rv_tree.specs.Tree.{Tree, Node, Form, True, False, Number, Named, Not, Minus, Pre, Current, When, Binary, If, AtMostOne, Call, Trees, None, More}
 use Rattle.rv_tree.specs.Tree.{EquationTree, AssertionTree, NodeTree, ProgramTree}
 use Rattle.rv_tree.specs.Places.{Identifier, Sites}
@@ -22,10 +21,11 @@ use Rattle.rv_types.specs.Instances.{CallTree, calls_in, form_calls, calls_in_al
 use Rattle.rv_types.specs.Instances.{alone, in_order, IsArgument, head, tail, clock_of, Instance, IsInstance}
 use Rattle.rv_types.specs.Needs.{Giver, Given, Of, Gives, given, by_equation, by_call}
 use Rattle.rv_agreement.specs.Valuations.{is_placed}
-use Rattle.rv_agreement.specs.Programs.{spot, is_test, operator_place, operation, Compared, own_compared, compared, form_compared, compared_all, IsComparison}
+use Rattle.rv_agreement.specs.Programs.{spot, is_test, operator_place, Compared, own_compared, compared, form_compared, compared_all, IsComparison}
 use Rattle.rv_agreement.specs.Programs.{in_flow, in_memory, in_assertion}
 use Rattle.rv_agreement.proofs.Controls.{no_flag}
-use Rattle.rv_flat.proofs.Members.{none_in, at_head, in_tail, head_or_tail, in_flat_map}
+use Rattle.rv_agreement.proofs.Suited.{either_of, one_of}
+use Rattle.rv_types.proofs.Members.{at_head, cons_cases as head_or_tail, in_flat_map, in_tail, nothing_in as none_in}
 
 -- The parts of an argument, of an operand of a delay and of an argument of a call are parts.
 argument_parts : (es : Trees) (j : ℕ) (e x : Tree) → IsArgument es j e → Contains (parts e) x → Contains (parts_of_all es) x
@@ -196,29 +196,6 @@ module _ (program : ProgramTree) (main : Identifier) where
   giver_stands p _ (given j lt is) = tt
   giver_stands p _ (by_equation i x r inst right is) = right_gives i (clock_of i.node x) r inst (side_stands i.node x r right)
   giver_stands p _ (by_call i c j e inst w arg is) = (inst, argument_stands i.node c j e w arg)
-
-one_of : {X : Type 0} (o : Op) (xs ys zs : List X) (c : X) → Contains (operation o xs ys zs) c → Contains xs c ⊎ (Contains ys c ⊎ Contains zs c)
-one_of op.Arrow xs ys zs c w = inl w
-one_of op.Implies xs ys zs c w = inr (inr w)
-one_of op.Or xs ys zs c w = inr (inr w)
-one_of op.Xor xs ys zs c w = inr (inr w)
-one_of op.And xs ys zs c w = inr (inr w)
-one_of op.Equal xs ys zs c w = inr (inr w)
-one_of op.Differs xs ys zs c w = inr (inr w)
-one_of op.Less xs ys zs c w = inr (inr w)
-one_of op.AtMost xs ys zs c w = inr (inr w)
-one_of op.Greater xs ys zs c w = inr (inr w)
-one_of op.AtLeast xs ys zs c w = inr (inr w)
-one_of op.Plus xs ys zs c w = inr (inr w)
-one_of op.Minus xs ys zs c w = inr (inr w)
-one_of op.Times xs ys zs c w = inr (inl w)
-one_of op.Slash xs ys zs c w = inr (inr w)
-one_of op.Div xs ys zs c w = inr (inr w)
-one_of op.Mod xs ys zs c w = inr (inr w)
-
-either_of : {X : Type 0} (b : Bool) (xs ys : List X) (c : X) → Contains (cond b xs ys) c → Contains xs c ⊎ Contains ys c
-either_of true xs ys c w = inl w
-either_of false xs ys c w = inr w
 
 -- what stands alone where one test holds and another does not
 own_told : {X : Type 0} (p b : Bool) (y c : X) → Contains (cond p (cond b [] (y ∷ [])) []) c → (p ≡ true) × (y ≡ c)

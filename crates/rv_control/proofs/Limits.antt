@@ -1,5 +1,5 @@
 -- The system of valuations of a flat system, with integers too.
-use Rattle.std.proofs.Common.{◌≡◌, inl, inr, ℕ, ◌+◌, ◌^◌, ◌<◌, ◌≤◌, pos, true, List, [], ◌∷◌, ◌++◌, length, map, refl, sym, ap, subst, arith, Option, Some}
+use Rattle.std.proofs.Common.{◌≡◌, inl, inr, ℕ, ◌+◌, ◌^◌, ◌<◌, ◌≤◌, pos, true, List, ◌++◌, length, map, refl, sym, subst, arith, Option, Some}
 use Rattle.std.specs.Int.RustNames.{unsigned_abs}
 use Rattle.std.specs.List.{Contains}
 use Rattle.std.proofs.lemmas.List.{length-map}
@@ -11,15 +11,14 @@ use Rattle.rv_types.specs.Lists.{Side, Variable}
 use Rattle.rv_rows.specs.declared.linear.Row.{Row}
 use Rattle.rv_rows.specs.Arithmetic.{constant_form, test_row}
 use Rattle.rv_rows.specs.Tight.{IsTightened}
-use Rattle.rv_agreement.specs.Trees.{Item, nth_item, Kept as KeptMemory, System, memory_items, memory_kinds}
+use Rattle.rv_agreement.specs.Trees.{Item, nth_item, System, memory_items, memory_kinds}
 use Rattle.rv_agreement.specs.Valuations.{Valuation, Reading, IsSymbolic, form_of, width, item_comparisons, all_items, all_comparisons, tested, tested_form}
 use Rattle.rv_agreement.specs.Valuations.{read, updated}
 use Rattle.rv_agreement.specs.Agreement.{IsWell}
-use Rattle.rv_agreement.proofs.Matching.{from_flat_map, read_in}
+use Rattle.rv_agreement.proofs.Matching.{read_in}
 use Rattle.rv_diagram.specs.Nodes.{Valuation as Numbered}
 use Rattle.rv_proofs.specs.Systems as systems
 use Rattle.rv_flat.specs.declared.flat.Flat.{Flat}
-use Rattle.rv_flat.specs.declared.parts.FlatMemory.{FlatMemory}
 use Rattle.rv_flat.specs.Facts.{is_light, flow_weights}
 use Rattle.rv_flat.specs.FlatInstants.{system_of}
 use Rattle.rv_flat.specs.FlatOf.{IsFlatOf}
@@ -35,10 +34,8 @@ use Rattle.rv_control.proofs.Points.{test_of}
 use Rattle.rv_control.proofs.Bounded.{IsBounded, looser, test_bounded, tightened_bounded}
 use Rattle.rv_control.proofs.Weighed.{side_bounded, light_weight, compared_light, forms_have, expression_bounded, updated_bounded}
 use Rattle.rv_control.proofs.System.{is_system}
-
-kept_items : (all ms : List FlatMemory) → map (λ (x : KeptMemory). x.item) (map (kept_of all) ms) ≡ map (memory_item all) ms
-kept_items all [] = refl
-kept_items all (m ∷ ms) = ap (λ l. memory_item all m ∷ l) (kept_items all ms)
+use Rattle.rv_flat.proofs.Inlining.{items_kept as kept_items}
+use Rattle.rv_types.proofs.Members.{of_flat_map as from_flat_map}
 
 module _ (controls : NoControlForms) (tight : (r t : Row) → IsTightened r t → IsTightened t t) (program : ProgramTree) (main : Identifier) (f : Flat)
     (flat : IsFlatOf program main f) where

@@ -11,16 +11,10 @@ use Rattle.rv_diagram.specs.Nodes.{Valuation as Numbered}
 use Rattle.rv_agreement.specs.Checks.{same_sites, same_flow}
 use Rattle.rv_agreement.specs.Valuations.{Valuation}
 use Rattle.rv_agreement.proofs.Controls.{no_flag}
-use Rattle.rv_agreement.proofs.Chosen.{sites_itself, flow_itself}
-use Rattle.rv_flat.proofs.Members.{none_in, in_tail, head_or_tail}
+use Rattle.rv_agreement.proofs.Chosen.{sites_itself, flow_itself, sites_told, flow_told}
 use Rattle.rv_control.specs.Named.{same_side, same_variable, truth_at, tick_variable, truth_of, by_numbers}
 use Rattle.rv_control.specs.Control.{tick_index}
-
-pub sites_told : (p q : Sites) → same_sites p q ≡ true → p ≡ q
-sites_told [] [] e = refl
-sites_told [] (q ∷ qs) e = no_flag e
-sites_told (p ∷ ps) [] e = no_flag e
-sites_told (p ∷ ps) (q ∷ qs) e = let r = and_parts (nat_eq p q) (same_sites ps qs) e in λ i. eqb-true p q r.0 i ∷ sites_told ps qs r.1 i
+use Rattle.rv_types.proofs.Members.{cons_cases as head_or_tail, in_tail, nothing_in as none_in}
 
 pub side_told : (a b : Side) → same_side a b ≡ true → a ≡ b
 side_told AtMost AtMost e = refl
@@ -31,12 +25,6 @@ side_told AtLeast AtLeast e = refl
 pub side_itself : (a : Side) → same_side a a ≡ true
 side_itself AtMost = refl
 side_itself AtLeast = refl
-
-flow_told : (p q : Option Sites) → same_flow p q ≡ true → p ≡ q
-flow_told Nothing Nothing e = refl
-flow_told Nothing (Some q) e = no_flag e
-flow_told (Some p) Nothing e = no_flag e
-flow_told (Some p) (Some q) e = ap Some (sites_told p q e)
 
 pub both : (a b : Bool) → a ≡ true → b ≡ true → (a && b) ≡ true
 both true true p q = refl

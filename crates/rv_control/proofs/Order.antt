@@ -23,17 +23,11 @@ use Rattle.rv_flat.specs.declared.flat.Flat.{Flat}
 use Rattle.rv_flat.specs.FlatInstants.{system_of}
 use Rattle.rv_flat.specs.FlatOf.{IsFlatOf}
 use Rattle.rv_flat.specs.Lists.{tick_places}
-use Rattle.rv_flat.proofs.Members.{none_in, at_head, in_tail, head_or_tail, in_flat_map, in_map, from_flat_map}
 use Rattle.rv_control.specs.Named.{variables_of, tick_variable}
 use Rattle.rv_control.proofs.Listed.{IsStateBit, a_tick, a_bit, IsInputBit, a_bit_of, IsTestBit, a_test, IsListed}
 use Rattle.rv_control.proofs.Compared.{comparison_stands}
-
-pub from_map : {X Y : Type 0} (f : X → Y) (xs : List X) (y : Y) → Contains (map f xs) y → (x : X) × Contains xs x × (y ≡ f x)
-from_map f [] y w = none_in y w
-from_map f (x ∷ xs) y w = elim (head_or_tail (f x) (map f xs) y w) [
-  | inl is ↦ (x, at_head x xs, sym is)
-  | inr rest ↦ let r = from_map f xs y rest in (r.0, in_tail x xs r.0 r.1, r.2)
-]
+use Rattle.rv_agreement.proofs.Systems.{from_map}
+use Rattle.rv_types.proofs.Members.{at_head, cons_cases as head_or_tail, in_flat_map, in_map, in_tail, nothing_in as none_in, of_flat_map as from_flat_map}
 
 -- so many bits
 bit_in : (make : ℕ → Variable) (n b : ℕ) → b < n → Contains (bits make n) (make b)

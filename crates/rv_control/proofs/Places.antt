@@ -16,14 +16,14 @@ use Rattle.rv_rows.specs.Arithmetic.{test_row}
 use Rattle.rv_rows.specs.Tight.{IsTightened}
 use Rattle.rv_agreement.specs.Checks.{same_sites}
 use Rattle.rv_agreement.proofs.Controls.{no_flag}
-use Rattle.rv_flat.proofs.Members.{none_in, in_tail, head_or_tail, in_flat_map}
 use Rattle.rv_control.specs.Tightening.{tightened}
 use Rattle.rv_control.specs.Named.{same_side, tick_variable}
 use Rattle.rv_control.specs.Control.{state_bits, order_tests, has_side, is_present, row_among}
 use Rattle.rv_control.proofs.Listed.{IsStateBit, a_tick, a_bit, a_bit_of, IsTestBit, a_test, IsListed}
-use Rattle.rv_control.proofs.Names.{both, side_told, side_itself, sites_told}
+use Rattle.rv_control.proofs.Names.{both, side_told, side_itself}
 use Rattle.rv_control.proofs.Tightened.{tightened_is}
-use Rattle.rv_agreement.proofs.Chosen.{sites_itself}
+use Rattle.rv_agreement.proofs.Chosen.{sites_itself, sites_told}
+use Rattle.rv_types.proofs.Members.{cons_cases as head_or_tail, in_flat_map, in_tail, nothing_in as none_in}
 
 -- Presence.
 has_told : (sides : List Side) (side : Side) → has_side sides side ≡ true → Contains sides side

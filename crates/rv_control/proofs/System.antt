@@ -56,7 +56,7 @@ unfolding truth_at
 first_truth [] v x is some same = absurd (omega arith)
 first_truth (y ∷ ys) v x is some same = λ i. cond ((ap (λ z. same_variable z x) is ∙ same) i) (v 0) (truth_at ys (λ k. v (suc k)) x)
 
-always : (b : Bool) → (b || true) ≡ true
+pub always : (b : Bool) → (b || true) ≡ true
 always true = refl
 always false = refl
 
@@ -100,7 +100,7 @@ module _ (s : System) (names : List Variable) (listed : IsListed s names) where
   first_name = state_at s names listed 0 listed.some ∙ listed.first
 
 -- how many integers there are
-count_same : (ks : List Kind) → whole_count ks ≡ integers ks
+pub count_same : (ks : List Kind) → whole_count ks ≡ integers ks
 count_same [] = refl
 count_same (k ∷ ks) = λ i. cond (is_integer k) 1 0 + count_same ks i
 

@@ -27,10 +27,11 @@ use Rattle.rv_agreement.specs.Valuations.{Valuation, Reading, holds_true, form_o
 use Rattle.rv_agreement.specs.Valuations.{found_at, IsSymbolic, Comparison, is_placed, own, comparisons, form_comparisons, comparisons_of, side_form, read}
 use Rattle.rv_agreement.specs.Valuations.{updated}
 use Rattle.rv_agreement.specs.Agreement.{IsRule, Fits, FormFits, ItemFits, IsWell, forms_from}
-use Rattle.rv_agreement.proofs.Matching.{none_in, in_own}
+use Rattle.rv_agreement.proofs.Matching.{in_own}
 use Rattle.rv_flat.specs.Facts.{constant_weight, weight_under, flat_weight, form_flat_weight, is_light, form_is_light, all_light, flow_weights}
 use Rattle.rv_flat.proofs.FlowWeights.{weight_kth}
 use Rattle.rv_control.proofs.Bounded.{IsBounded, looser, constant_bounded, zero_bounded, column_bounded, sum_bounded, times_bounded, difference_bounded}
+use Rattle.rv_types.proofs.Members.{nothing_in as none_in}
 
 -- a choice of two, and an operator between two
 module _ (columns : ℕ) (test : Sites → Side → Bool) where

@@ -1,5 +1,5 @@
 -- The trace that the words of a falsifying path spell falsifies, and a run that falsifies is a falsifying run of the system.
-use Rattle.std.proofs.Common.{◌≡◌, ℕ, ◌+◌, ◌<◌, ◌^◌, ℤ, pos, Bool, true, false, List, [], ◌∷◌, map, length, get_or, refl, sym, ◌∙◌, ap, subst, arith, Some}
+use Rattle.std.proofs.Common.{◌≡◌, ℕ, ◌+◌, ◌<◌, ◌^◌, ℤ, pos, Bool, true, false, List, [], map, length, get_or, sym, ◌∙◌, ap, subst, arith, Some}
 use Rattle.std.proofs.Common.{slice_get}
 use Rattle.std.specs.Prelude.{IsTrue}
 use Rattle.std.proofs.lemmas.Int.{ints}
@@ -39,10 +39,11 @@ use Rattle.rv_control.specs.Spelled.{decoded, spelled_starts, spelled_inputs, va
 use Rattle.rv_control.proofs.Decoded.{decoded_at, length-decoded}
 use Rattle.rv_replay.specs.Observers.{IsObserved}
 use Rattle.rv_replay.specs.Traces.{Fixes, IsTrace, given, kinds_of}
-use Rattle.rv_replay.proofs.FlatTraces.{starts_same}
+use Rattle.rv_replay.proofs.FlatTraces.{starts_same, kinds_same}
 use Rattle.rv_falsify.specs.Falsifying.{IsFalsifying, IsNeverFalsified, IsShortest}
 use Rattle.rv_falsify.proofs.Spelling.{drop_none}
 use Rattle.rv_falsify.proofs.Running.{Laws, observed_truth, stays_within}
+use Rattle.rv_accept.proofs.Failing.{not_true}
 
 -- What is taken from the control of flat systems.
 abbrev pub RunsAreAbstract : Type 0
@@ -57,10 +58,6 @@ SpelledRuns = (program : ProgramTree) (main : Identifier) (f : Flat) (n : ℕ) (
     → ((t : ℕ) → t < n → IsTrue ((control_of f).allowed (vs t)))
     → HasSpelledRun program main f n vs points
 
-not_true : (b : Bool) → (b ≡ true → ⊥) → b ≡ false
-not_true true other = absurd (other refl)
-not_true false other = refl
-
 -- what is spelled is within the range, where all numbers are 0
 spelled_within : (labels : List ℕ) (k : Kind) (bits : ℕ → Bool) → IsInRange (value_at labels k bits (pos 0))
 spelled_within labels kind.Bool bits = tt
@@ -72,10 +69,6 @@ all_within : (labels : List ℕ) (ks : List Kind) (bits : ℕ → ℕ → Bool) 
 all_within labels ks bits k lt =
     let long = length-decoded labels ks bits [] in
     subst IsInRange (sym (decoded_at labels ks bits [] k (omega (arith, long, lt)))) (spelled_within labels (kind_at ks k) (bits k))
-
-kinds_same : (ms : List FlatMemory) → kinds_of (map memory_of ms) ≡ map (λ m. m.kind) ms
-kinds_same [] = refl
-kinds_same (x ∷ ms) = ap (λ ks. x.kind ∷ ks) (kinds_same ms)
 
 module _ (laws : Laws) (program : ProgramTree) (main : Identifier) (f : Flat) (of : IsObserved program main f) where
   -- A run that falsifies is a falsifying run of the system.

@@ -1,5 +1,5 @@
 -- Where the bits of memories and inputs stand among the diagram variables of a flat system.
-use Rattle.std.proofs.Common.{◌≡◌, inl, inr, ℕ, zero, suc, ◌+◌, ◌*◌, ◌<◌, ◌≤◌, Bool, true, false, ◌&&◌, cond, nat_eq, List, [], ◌∷◌, ◌++◌, length}
+use Rattle.std.proofs.Common.{◌≡◌, inl, inr, ℕ, zero, suc, ◌+◌, ◌*◌, ◌<◌, ◌≤◌, Bool, true, false, cond, nat_eq, List, [], ◌∷◌, ◌++◌, length}
 use Rattle.std.proofs.Common.{length-append, map, refl, sym, ◌∙◌, ap, subst, arith, Option, Some}
 use Rattle.std.proofs.Common.{None as Nothing}
 use Rattle.std.specs.Prelude.{slice_index_or}
@@ -20,7 +20,6 @@ use Rattle.rv_types.specs.Variables.{kind_bits}
 use Rattle.rv_agreement.specs.Trees.{System, kind_at}
 use Rattle.rv_agreement.specs.Agreement.{bit_count}
 use Rattle.rv_agreement.specs.Checks.{same_sites}
-use Rattle.rv_agreement.proofs.Controls.{no_flag}
 use Rattle.rv_diagram.specs.Nodes.{Valuation as Numbered}
 use Rattle.rv_flat.specs.declared.flat.Flat.{Flat}
 use Rattle.rv_flat.specs.declared.parts.Bit.{Bit}
@@ -34,15 +33,20 @@ use Rattle.rv_flat.specs.Lists.{tick_places, variable_of}
 use Rattle.rv_flat.specs.Steps.{label_counts, memory_kinds, input_kinds}
 use Rattle.rv_flat.specs.Systems.{memory_of}
 use Rattle.rv_flat.proofs.Earliest.{not_itself}
-use Rattle.rv_flat.proofs.Members.{at_head, in_tail, head_or_tail, from_flat_map}
-use Rattle.rv_flat.proofs.PlaceNumbers.{same_text}
 use Rattle.rv_control.specs.Named.{same_variable, tick_variable, truth_at, variables_of}
 use Rattle.rv_control.proofs.Listed.{IsStateBit, a_tick, a_bit, IsInputBit, a_bit_of, IsTestBit, a_test}
-use Rattle.rv_control.proofs.Names.{kept_itself, input_itself, sites_told, state_truth, unnamed}
+use Rattle.rv_control.proofs.Names.{kept_itself, input_itself, state_truth, unnamed}
 use Rattle.rv_control.proofs.Concrete.{input_no_kept, test_no_kept}
-use Rattle.rv_control.proofs.Order.{bit_from, from_map, input_bit, same_bits, state_bit, test_bit}
+use Rattle.rv_control.proofs.Order.{bit_from, input_bit, same_bits, state_bit, test_bit}
 use Rattle.rv_replay.proofs.Orders.{one_listing}
 use Rattle.rv_falsify.specs.Decoding.{bits_before}
+use Rattle.rv_agreement.proofs.Chosen.{sites_told}
+use Rattle.rv_agreement.proofs.Systems.{from_map}
+use Rattle.rv_flatten.proofs.CountedVariables.{length_bits as length-bits, length_copies as length-copies}
+use Rattle.rv_meaning.proofs.NameLemmas.{same_text}
+use Rattle.rv_replay.proofs.FlatTraces.{places_same}
+use Rattle.rv_tested.proofs.Rowing.{and_false as false_and, and_none as and_false}
+use Rattle.rv_types.proofs.Members.{at_head, cons_cases as head_or_tail, in_tail, of_flat_map as from_flat_map}
 
 -- Variables without a name are passed over.
 skip : (xs ys : List Variable) (u : Numbered) (x : Variable) → ((y : Variable) → Contains xs y → same_variable y x ≡ false)
@@ -73,14 +77,6 @@ first_of : (y : Variable) (ys : List Variable) (u : Numbered) → same_variable 
 unfolding truth_at
 first_of y ys u is = λ t. cond (is t) (u 0) (truth_at ys (λ k. u (suc k)) y)
 
-pub length-bits : (make : ℕ → Variable) (n : ℕ) → length (bits make n) ≡ n
-length-bits make zero = refl
-length-bits make (suc n) = omega (arith, length-append (bits make n) (make n ∷ []), length-bits make n)
-
-length-copies : (xs : List Variable) → length (with_copies xs) ≡ 2 * length xs
-length-copies [] = refl
-length-copies (x ∷ xs) = let h = length-copies xs in omega (arith, h)
-
 -- A bit is read among the bits of its owner.
 module _ (make : ℕ → Variable) (itself : (b : ℕ) → same_variable (make b) (make b) ≡ true)
     (apart : (a b : ℕ) → a < b → same_variable (make a) (make b) ≡ false) where
@@ -100,14 +96,6 @@ module _ (make : ℕ → Variable) (itself : (b : ℕ) → same_variable (make b
           ∙ first_of (make n) rest (λ k. u (length (bits make n) + k)) (itself n)
           ∙ (let e : length (bits make n) + 0 ≡ n = omega (arith, length-bits make n) in ap u e)
 
-and_false : (a b : Bool) → b ≡ false → (a && b) ≡ false
-and_false true b e = e
-and_false false b e = refl
-
-false_and : (a b : Bool) → a ≡ false → (a && b) ≡ false
-false_and true b e = no_flag (sym e)
-false_and false b e = refl
-
 kept_apart : (p : Sites) (a b : ℕ) → a < b → same_variable (Kept p a) (Kept p b) ≡ false
 kept_apart p a b lt = and_false (same_sites p p) (nat_eq a b) (ne_eqb a b (λ e. omega (arith, e)))
 
@@ -121,10 +109,6 @@ other_place p q a b before = false_and (same_sites p q) (nat_eq a b) (by (same_s
     by : (t : Bool) → same_sites p q ≡ t → same_sites p q ≡ false
     by true e = absurd (not_itself q (subst (λ z. IsBefore z q) (sites_told p q e) before))
     by false e = e
-
-places_same : (ms : List FlatMemory) → memory_places (map memory_of ms) ≡ map (λ m. m.place.sites) ms
-places_same [] = refl
-places_same (x ∷ ms) = ap (λ ps. x.place.sites ∷ ps) (places_same ms)
 
 module _ (program : ProgramTree) (labels : List ℕ) (same : (k : Kind) → bit_count labels k ≡ kind_bits program k) where
   -- A bit of a memory is read among those of all memories.

@@ -1,6 +1,6 @@
 -- The instants of a run: the observer is there with a truth value, and without integers no value leaves the range.
 use Rattle.std.proofs.Common.{◌≡◌, inl, inr, ℕ, ℤ, zero, suc, ◌+◌, ◌^◌, ◌<◌, ◌≤◌, Bool, true, false, cond, List, [], ◌∷◌, length, get_or, refl, sym, ◌∙◌, ap}
-use Rattle.std.proofs.Common.{subst, arith, Option, Some, IsSome, slice_get}
+use Rattle.std.proofs.Common.{subst, arith, Some, IsSome, slice_get}
 use Rattle.std.proofs.Common.{None as Nothing}
 use Rattle.std.specs.FinMap.{empty}
 use Rattle.std.specs.FinMap as finite
@@ -21,7 +21,6 @@ use Rattle.rv_types.specs.Values.{HasKind, operand_kind}
 use Rattle.rv_types.specs.Variables.{is_integer}
 use Rattle.rv_meaning.specs.Meaning.{content, is_there, kept_place}
 use Rattle.rv_meaning.specs.Runs.{History, cell, cells, observed, AreStarts, IsRun}
-use Rattle.rv_meaning.specs.Runs as runs
 use Rattle.rv_meaning.specs.Instants.{State as Brought, is_on_in, AreGiven, IsInstant, IsNext}
 use Rattle.rv_meaning.specs.Following.{held_before, IsStateAt, IsTypedInstant}
 use Rattle.rv_agreement.specs.Agreement.{State, AreTyped, HasKind as HasKindIn}
@@ -44,6 +43,7 @@ use Rattle.rv_replay.specs.Observers.{IsObserved}
 use Rattle.rv_replay.specs.Replays.{flow, memory, StaysWithin}
 use Rattle.rv_falsify.proofs.Weighed.{flow_small}
 use Rattle.rv_replay.proofs.Observers.{InputsOfProgram, StatesOfProgram, TypedFlows, its_clock, its_place, observer, truth}
+use Rattle.rv_replay.proofs.FlatSteps.{there_by}
 
 -- What is taken from the layers below.
 pub record Laws : Type 0 where
@@ -101,11 +101,6 @@ small_of labels ks vs are none m = elim (cases_lt m (length ks)) [
 
 within_if : (z : ℤ) → size (Whole z) ≤ 2 ^ 40 → IsWithin z
 within_if z small = (omega (arith, ints), omega (arith, ints))
-
--- what is there has a value
-there_by : (o : Option (Option Value)) (v : Value) → runs.flat o ≡ Some v → IsSome o
-there_by Nothing v e = absurd (let bad : Nothing ≡ Some v = e in cc)
-there_by (Some x) v e = refl
 
 taken_by : (b : Bool) (c old : Value) (v : Value) → cond b (Some c) Nothing ≡ Some v → cond b c old ≡ v
 taken_by true c old v e = cc

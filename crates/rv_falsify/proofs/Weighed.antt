@@ -1,12 +1,12 @@
 -- Where no memory or input holds an integer, no integer of a flat expression is larger than its weight.
-use Rattle.std.proofs.Common.{◌≡◌, inl, inr, ℕ, zero, suc, ◌+◌, ◌*◌, ◌^◌, ◌<◌, ◌≤◌, max, Bool, true, false, ◌&&◌, cond, ℤ, ◌*ℤ◌, nat_abs, List, [], length}
+use Rattle.std.proofs.Common.{◌≡◌, inl, inr, ℕ, zero, suc, ◌+◌, ◌^◌, ◌<◌, ◌≤◌, max, Bool, true, false, ◌&&◌, cond, nat_abs, List, [], length}
 use Rattle.std.proofs.Common.{get_or, sym, ◌∙◌, ap, subst, arith, Option, Some}
 use Rattle.std.proofs.Common.{None as Nothing}
 use Rattle.std.specs.Prelude.{nat_lt, nat_le, slice_get}
 use Rattle.std.proofs.Math.ListN.{length-map}
-use Rattle.std.proofs.Math.Nat.{eq-or-lt_of_le, mul-le-mul_left}
+use Rattle.std.proofs.Math.Nat.{eq-or-lt_of_le}
 use Rattle.std.proofs.lemmas.Bool.{leb-true, ltb-true}
-use Rattle.std.proofs.lemmas.Int.{unsigned_abs-mul, ints}
+use Rattle.std.proofs.lemmas.Int.{ints}
 use Rattle.rv_base.specs.declared.value.Value.{Value}
 use Rattle.rv_base.specs.declared.value.Value.TheVariants.{Flag, Label, Whole}
 use Rattle.rv_tree.specs.declared.tree.Op.{Op}
@@ -27,14 +27,11 @@ use Rattle.rv_flat.specs.FlatInstants.{Row, nth, held, is_on_at, flow_items, sys
 use Rattle.rv_flat.specs.Facts.{constant_weight, weight_under, flat_weight, form_flat_weight, flow_weights, is_light, form_is_light}
 use Rattle.rv_flat.specs.Systems.{flow_item}
 use Rattle.rv_flat.proofs.FlowWeights.{item_light, weight_kth}
-use Rattle.rv_flat.proofs.Tested.{ItemFits, both, flow_fits, operator_fits}
+use Rattle.rv_flat.proofs.Tested.{ItemFits, flow_fits, operator_fits}
 use Rattle.rv_flat.proofs.Weighing.{size}
-
-product_small : (y z : ℤ) (w : ℕ) → nat_abs z ≤ w → nat_abs (y *ℤ z) ≤ nat_abs y * w
-product_small y z w h = rw (unsigned_abs-mul y z) (mul-le-mul_left (nat_abs y) h)
-
-no_kind : {P : Type 0} → false ≡ true → P
-no_kind e = absurd (grind arith)
+use Rattle.rv_agreement.proofs.Controls.{no_flag as no_kind}
+use Rattle.rv_flatten.proofs.ConstantSizes.{product_size as product_small}
+use Rattle.rv_meaning.proofs.TypedOperators.{both_hold as both}
 
 -- an operator gives no more than its operands allow
 operated_small : (o : Op) (k : Kind) (x y : Value) (v w : ℕ) → gives o k ≡ true → size x ≤ v → size y ≤ w → size (operate o false x y) ≤ weight_under o v w

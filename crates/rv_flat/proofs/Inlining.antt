@@ -1,5 +1,5 @@
 -- The table of the memories has the clock and the tree of each, and a tree among them shows its memories alone.
-use Rattle.std.proofs.Common.{◌≡◌, ℕ, zero, suc, ◌<◌, Bool, true, false, ◌&&◌, List, [], ◌∷◌, length, map, refl, sym, ◌∙◌, ap, subst, arith, inl, inr}
+use Rattle.std.proofs.Common.{◌≡◌, ℕ, zero, suc, ◌<◌, Bool, true, ◌&&◌, List, [], ◌∷◌, length, map, refl, sym, ◌∙◌, ap, subst, arith, inl, inr}
 use Rattle.std.proofs.Common.{Option, None as Nothing, Some}
 use Rattle.std.specs.Prelude.{slice_get}
 use Rattle.std.proofs.lemmas.Bool.{and_parts, cases_lt}
@@ -17,9 +17,7 @@ use Rattle.rv_flat.specs.Inlined.{inlined, form_inlined, all_inlined, item_by, t
 use Rattle.rv_flat.specs.RawTree.{RawTree, Node, RawForm, RawTrees, Constant, Flow, Memory, Ticked, Input, Not, Binary, Scale, If, AtMostOne, When, Current}
 use Rattle.rv_flat.specs.RawTree.{None, More, raw_tree, all_shown, form_all_shown, each_all_shown}
 use Rattle.rv_flat.specs.Systems.{asserted, assertion_item, flow_item, kept_of, memory_item, system_from}
-
-no_flag : {A : Type 0} → false ≡ true → A
-no_flag e = absurd (grind arith)
+use Rattle.rv_agreement.proofs.Controls.{no_flag}
 
 -- two tables that agree on the memories that are shown inline alike
 module _ (has : ℕ → Bool) (a b : ℕ → Item) (agree : (m : ℕ) → has m ≡ true → a m ≡ b m) where

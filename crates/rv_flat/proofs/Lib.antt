@@ -1,4 +1,3 @@
-pub mod Members
 pub mod TypedParts
 pub mod PlaceNumbers
 pub mod Inlining

@@ -17,7 +17,8 @@ use Rattle.rv_agreement.specs.Trees.{FlatTree, Node, TreeForm, FlatTrees, Consta
 use Rattle.rv_agreement.specs.Trees.{Current, None, More, System, memory_kinds, nth_item}
 use Rattle.rv_flat.specs.FlatInstants.{Row, nth, held, is_on, is_on_at}
 use Rattle.rv_flat.specs.Tame.{IsOver, FormIsOver, AreOver}
-use Rattle.rv_flat.proofs.Tested.{both, operator_fits}
+use Rattle.rv_flat.proofs.Tested.{operator_fits}
+use Rattle.rv_meaning.proofs.TypedOperators.{both_hold as both}
 
 -- an expression that fits is over the first flows
 module _ (s : System) (n : ℕ) where

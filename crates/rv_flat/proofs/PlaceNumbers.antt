@@ -5,73 +5,19 @@ use Rattle.std.proofs.Common.{None as Nothing}
 use Rattle.std.proofs.lemmas.List.{length-map, get_or-map, get_or_default, get_or_past, same_lists}
 use Rattle.std.proofs.lemmas.Bool.{cases_order}
 use Rattle.std.proofs.lemmas.Cmp.{nat_list_cmp_total, tied_itself}
-use Rattle.std.proofs.Common.{Ordering, Less, Equal, Greater}
 use Rattle.std.specs.Ordering.{is_eq, eq_by_cmp, nat_cmp}
 use Rattle.std.specs.Cmp.Lexicographic.{slice_cmp, texts_ties}
-use Rattle.std.specs.List.{Contains}
 use Rattle.std.specs.FinMap as finite
 use Rattle.std.specs.FinMap.{slice_cmp-IsAntisymmetric, nat_cmp-IsAntisymmetric, get-insert, get-empty}
 use Rattle.rv_base.specs.declared.value.Value.{Value}
-use Rattle.rv_tree.specs.Places.{Identifier, Sites, is_same, is_among, index_of}
+use Rattle.rv_tree.specs.Places.{Sites, is_same, is_among, index_of}
 use Rattle.rv_meaning.specs.Runs.{Instant, flat, cell}
 use Rattle.rv_flat.specs.FlatInstants.{Row, nth}
 use Rattle.rv_flat.specs.FlatOf.{row_of, instant_of}
-use Rattle.rv_flat.proofs.Members.{none_in, at_head, in_tail, head_or_tail}
-use Rattle.rv_flat.proofs.TypedParts.{no_flag}
-
-only_equal : (r : Ordering) → is_eq r ≡ true → r ≡ Equal
-only_equal Less e = grind arith
-only_equal Equal e = refl
-only_equal Greater e = grind arith
-
--- names or places with the same numbers are equal
-pub same_text : (x y : Identifier) → is_same x y ≡ true → x ≡ y
-same_text x y e = slice_cmp-IsAntisymmetric nat_cmp-IsAntisymmetric x y (only_equal (slice_cmp nat_cmp x y) (sym (texts_ties x y) ∙ e))
-
-pub text_itself : (x : Identifier) → is_same x x ≡ true
-text_itself x = texts_ties x x ∙ ap is_eq (tied_itself nat_list_cmp_total x)
-
--- what is among some is in the list of them
-pub found : (xs : List Identifier) (x : Identifier) → is_among xs x ≡ true → Contains xs x
-found [] x e = no_flag e
-found (y ∷ ys) x e = tested (is_same y x) refl e (found ys x)
-  where
-    tested : (b : Bool) → is_same y x ≡ b → (b || is_among ys x) ≡ true → (is_among ys x ≡ true → Contains ys x) → Contains (y ∷ ys) x
-    tested true is e again = subst (λ z. Contains (z ∷ ys) x) (sym (same_text y x is)) (at_head x ys)
-    tested false is e again = in_tail y ys x (again e)
-
-pub is_found : (xs : List Identifier) (x : Identifier) → Contains xs x → is_among xs x ≡ true
-is_found [] x w = none_in x w
-is_found (y ∷ ys) x w = elim (head_or_tail y ys x w) [
-  | inl is ↦ ap (λ b. b || is_among ys x) (ap (λ z. is_same z x) is ∙ text_itself x)
-  | inr rest ↦ ap (λ b. is_same y x || b) (is_found ys x rest) ∙ either (is_same y x)
-]
-  where
-    either : (b : Bool) → (b || true) ≡ true
-    either true = refl
-    either false = refl
-
--- the number of what is there, and of what is not
-pub index_at : (xs : List Identifier) (x : Identifier) → is_among xs x ≡ true → (index_of xs x < length xs) × (get_or xs (index_of xs x) [] ≡ x)
-index_at [] x e = no_flag e
-index_at (y ∷ ys) x e = tested (is_same y x) refl e (index_at ys x)
-  where
-    tested : (b : Bool) → is_same y x ≡ b → (b || is_among ys x) ≡ true
-        → (is_among ys x ≡ true → (index_of ys x < length ys) × (get_or ys (index_of ys x) [] ≡ x))
-        → (cond b 0 (index_of ys x + 1) < length (y ∷ ys)) × (get_or (y ∷ ys) (cond b 0 (index_of ys x + 1)) [] ≡ x)
-    tested true is e again = (omega arith, same_text y x is)
-    tested false is e again =
-        let r = again e in
-        let next : suc (index_of ys x) ≡ index_of ys x + 1 = omega arith in
-        (omega (arith, r.0), subst (λ k. get_or (y ∷ ys) k [] ≡ x) next r.1)
-
-pub index_past : (xs : List Identifier) (x : Identifier) → is_among xs x ≡ false → index_of xs x ≡ length xs
-index_past [] x e = refl
-index_past (y ∷ ys) x e = tested (is_same y x) e (index_past ys x)
-  where
-    tested : (b : Bool) → (b || is_among ys x) ≡ false → (is_among ys x ≡ false → index_of ys x ≡ length ys) → cond b 0 (index_of ys x + 1) ≡ suc (length ys)
-    tested true e again = no_flag (sym e)
-    tested false e again = let r = again e in omega (arith, r)
+use Rattle.rv_agreement.proofs.Controls.{no_flag}
+use Rattle.rv_meaning.proofs.Rows.{only_equal}
+use Rattle.rv_meaning.proofs.Told.{index_past}
+use Rattle.rv_types.proofs.Members.{among_from as is_found, index_there as index_at}
 
 -- what is made of each of some places, by the number of one of them
 pub made_at : {Y : Type 0} (f : Sites → Y) (ps : List Sites) (p : Sites) (d : Y) → is_among ps p ≡ true → get_or (map f ps) (index_of ps p) d ≡ f p

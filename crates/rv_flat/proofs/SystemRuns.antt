@@ -76,7 +76,7 @@ true_if : (b : Bool) → (b ≡ false → ⊥) → b ≡ true
 true_if true none = refl
 true_if false none = absurd (none refl)
 
-found_in : {X : Type 0} (xs : List X) (k : ℕ) → k < length xs → (x : X) × (slice_get xs k ≡ Some x)
+pub found_in : {X : Type 0} (xs : List X) (k : ℕ) → k < length xs → (x : X) × (slice_get xs k ≡ Some x)
 found_in [] k lt = absurd (omega arith)
 found_in (x ∷ xs) zero lt = (x, refl)
 found_in (x ∷ xs) (suc k) lt = found_in xs k (omega arith)

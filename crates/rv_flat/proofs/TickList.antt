@@ -1,9 +1,8 @@
 -- The ticks among the variables of a flat system are those of its program, each once.
-use Rattle.std.proofs.Common.{◌≡◌, ℕ, zero, suc, ◌+◌, ◌<◌, Bool, true, false, cond, List, [], ◌∷◌, ◌++◌, length, map, get_or, refl, sym, ◌∙◌, ap, subst, arith}
+use Rattle.std.proofs.Common.{◌≡◌, ℕ, zero, suc, ◌+◌, ◌<◌, List, [], ◌∷◌, ◌++◌, length, map, get_or, refl, sym, ◌∙◌, ap, subst}
 use Rattle.std.proofs.lemmas.List.{append-nil}
-use Rattle.std.proofs.lemmas.Slice.Eq.{bytes_eq-Decides}
 use Rattle.rv_tree.specs.Tree.{ProgramTree}
-use Rattle.rv_tree.specs.Places.{Identifier, Sites, is_same, index_of}
+use Rattle.rv_tree.specs.Places.{Identifier, Sites, index_of}
 use Rattle.rv_types.specs.declared.typed.Kind.{Kind}
 use Rattle.rv_types.specs.Variables.{kind_bits}
 use Rattle.rv_types.specs.Lists.{Side, Variable, MainTick, Tick, Kept, Next, Input, Test, AreRising, MemoryAt, ComparisonAt, sides_of, bits, with_copies}
@@ -15,26 +14,12 @@ use Rattle.rv_flat.specs.declared.parts.Bit.{Bit}
 use Rattle.rv_flat.specs.declared.parts.Bit.TheVariants as bit
 use Rattle.rv_flat.specs.Lists.{tick_places, variable_of}
 use Rattle.rv_flat.proofs.Earliest.{not_itself}
+use Rattle.rv_flat.proofs.PlaceNumbers.{its_number as number_apart}
 
 -- the first number of a place in a list that rises
 module _ (ps : List Sites) where
   apart : AreRising ps → (j k : ℕ) → j < k → k < length ps → get_or ps j [] ≡ get_or ps k [] → ⊥
   apart rising j k lt less e = not_itself (get_or ps k []) (subst (λ p. IsBefore p (get_or ps k [])) e (rising j k lt less))
-
-same_itself : (p : Sites) → is_same p p ≡ true
-same_itself p = (bytes_eq-Decides p p).1 refl
-
-number_apart : (ps : List Sites) → ((j k : ℕ) → j < k → k < length ps → get_or ps j [] ≡ get_or ps k [] → ⊥) → (k : ℕ) → k < length ps
-    → index_of ps (get_or ps k []) ≡ k
-number_apart [] one k lt = absurd (omega arith)
-number_apart (p ∷ ps) one zero lt = ap (λ b. cond b 0 (index_of ps p + 1)) (same_itself p)
-number_apart (p ∷ ps) one (suc k) lt =
-    tested (is_same p (get_or ps k [])) refl
-    (number_apart ps (λ i j less within e. one (suc i) (suc j) (omega arith) (omega arith) e) k (omega arith))
-  where
-    tested : (b : Bool) → is_same p (get_or ps k []) ≡ b → index_of ps (get_or ps k []) ≡ k → cond b 0 (index_of ps (get_or ps k []) + 1) ≡ suc k
-    tested true e later = absurd (one 0 (suc k) (omega arith) lt ((bytes_eq-Decides p (get_or ps k [])).0 e))
-    tested false e later = omega (arith, later)
 
 pub number_at : (ps : List Sites) → AreRising ps → (k : ℕ) → k < length ps → index_of ps (get_or ps k []) ≡ k
 number_at ps rising k lt = number_apart ps (apart ps rising) k lt

@@ -1,7 +1,6 @@
 -- The parts of an expression that has a type have types.
 use Rattle.std.proofs.Common.{◌≡◌, ℕ, Bool, true, false, ◌&&◌, ◌||◌, cond, List, [], ◌∷◌, refl, sym, ◌∙◌, ap, Option, Some, IsSome}
 use Rattle.std.proofs.Common.{None as Nothing}
-use Rattle.std.proofs.lemmas.Bool.{eqb-true}
 use Rattle.std.proofs.lemmas.Option.{none-some, same_Some}
 use Rattle.rv_tree.specs.declared.tree.Name.{Name}
 use Rattle.rv_tree.specs.declared.tree.Op.{Op}
@@ -15,10 +14,9 @@ use Rattle.rv_types.specs.Types.{Scope, Signature, kind_in, same_kind, where_met
 use Rattle.rv_types.specs.Types.{minus_rule, memory_rule, when_of, if_rule, at_most_one_of, sole, call_of, is_constant, kind_of, kinds_of_all}
 use Rattle.rv_types.specs.Scopes.{value_kind, node_scope, signature_named}
 use Rattle.rv_types.specs.Instances.{IsArgument, head, tail}
-
--- false is not true
-pub no_flag : {G : Type 0} → false ≡ true → G
-no_flag e = absurd (let b : ⊥ = cc in b)
+use Rattle.rv_agreement.proofs.Controls.{no_flag}
+use Rattle.rv_meaning.proofs.TypedOperators.{both_hold, met_kind}
+use Rattle.rv_types.proofs.ConstantContents.{kind_same as same_kinds}
 
 -- what is there
 pub some_is : {X : Type 0} {o : Option X} → IsSome o → (x : X) × (o ≡ Some x)
@@ -27,28 +25,6 @@ some_is {X = X} {o = o} h = by o h
     by : (o : Option X) → IsSome o → (x : X) × (o ≡ Some x)
     by Nothing h = no_flag h
     by (Some x) h = (x, refl)
-
--- of two tests that both hold
-pub both_hold : (a b : Bool) → (a && b) ≡ true → (a ≡ true) × (b ≡ true)
-both_hold true b e = (refl, e)
-both_hold false b e = no_flag e
-
--- a type that is found equal to another is that
-pub same_kinds : (j k : Kind) → same_kind j k ≡ true → j ≡ k
-same_kinds kind.Bool kind.Bool e = refl
-same_kinds kind.Bool kind.Int e = no_flag e
-same_kinds kind.Bool (kind.Labels m) e = no_flag e
-same_kinds kind.Int kind.Bool e = no_flag e
-same_kinds kind.Int kind.Int e = refl
-same_kinds kind.Int (kind.Labels m) e = no_flag e
-same_kinds (kind.Labels n) kind.Bool e = no_flag e
-same_kinds (kind.Labels n) kind.Int e = no_flag e
-same_kinds (kind.Labels n) (kind.Labels m) e = ap kind.Labels (eqb-true n m e)
-
--- a rule that is met gives its type
-pub met_kind : (met : Bool) (j k : Kind) → kind_in (where_met met j) ≡ Some k → (met ≡ true) × (j ≡ k)
-met_kind true j k e = (refl, same_Some j k e)
-met_kind false j k e = absurd (none-some k e)
 
 not_kind : (o : Option Kind) (k : Kind) → kind_in (one_of not_rule o) ≡ Some k → (o ≡ Some kind.Bool) × (kind.Bool ≡ k)
 not_kind Nothing k e = absurd (none-some k e)

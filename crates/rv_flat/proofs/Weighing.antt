@@ -23,7 +23,9 @@ use Rattle.rv_agreement.specs.Trees.{Current, None, More, System, memory_kinds, 
 use Rattle.rv_flat.specs.FlatInstants.{Row, nth, held, is_on_at}
 use Rattle.rv_flat.specs.Facts.{constant_weight, weight_under, flat_weight, form_flat_weight, is_light, form_is_light, all_light}
 use Rattle.rv_flat.specs.Tame.{IsHeld, IsTame, HasTame, AreTame}
-use Rattle.rv_flat.proofs.Tested.{both, operator_fits}
+use Rattle.rv_flat.proofs.Tested.{operator_fits}
+use Rattle.rv_agreement.proofs.Controls.{no_flag as no_kind}
+use Rattle.rv_meaning.proofs.TypedOperators.{both_hold as both}
 
 -- how far from 0 the integer of a value is
 abbrev pub size : Value → ℕ
@@ -37,9 +39,6 @@ difference_small y z v w g h = omega (arith, ints)
 
 product_small : (y z : ℤ) (w : ℕ) → nat_abs z ≤ w * 2 ^ 63 → nat_abs (y *ℤ z) ≤ nat_abs y * w * 2 ^ 63
 product_small y z w h = rw (unsigned_abs-mul y z, mul_assoc (nat_abs y) w (2 ^ 63)) (mul-le-mul_left (nat_abs y) h)
-
-no_kind : {P : Type 0} → false ≡ true → P
-no_kind e = absurd (grind arith)
 
 -- an operator gives no more than its operands allow
 operated_small : (o : Op) (k : Kind) (x y : Value) (v w : ℕ) → gives o k ≡ true → size x ≤ v * 2 ^ 63 → size y ≤ w * 2 ^ 63

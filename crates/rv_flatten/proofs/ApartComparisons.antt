@@ -26,13 +26,14 @@ use Rattle.rv_agreement.specs.Trees.{FlatTree, Constant, Flow, Ticked, Scale, If
 use Rattle.rv_agreement.specs.Valuations.{Comparison, is_placed, own, comparisons, form_comparisons, comparisons_of, item_comparisons, all_items}
 use Rattle.rv_agreement.specs.Valuations.{all_comparisons}
 use Rattle.rv_flatten.proofs.ComparedParts.{one_tree}
-use Rattle.rv_flatten.proofs.InstanceNumbers.{snoc}
 use Rattle.rv_flatten.proofs.ItemClocks.{same_instance}
-use Rattle.rv_flat.proofs.Members.{none_in, head_or_tail, from_flat_map}
 use Rattle.rv_flatten.proofs.Standing.{Stands, as_child, of_not, of_minus, of_when, of_left, of_right, of_condition, of_first, of_second, of_operand, stands_in}
 use Rattle.rv_flatten.proofs.Standing.{body_stands, argument_stands, operand_stands, as_assertion}
-use Rattle.rv_flat.proofs.TypedParts.{no_flag, both_hold}
 use Rattle.rv_flatten.proofs.WellInstances.{node_in}
+use Rattle.rv_agreement.proofs.Controls.{no_flag}
+use Rattle.rv_instances.proofs.FlowPlaces.{snoc_parts as snoc}
+use Rattle.rv_meaning.proofs.TypedOperators.{both_hold}
+use Rattle.rv_types.proofs.Members.{cons_cases as head_or_tail, nothing_in as none_in, of_flat_map as from_flat_map}
 
 -- what an operator is itself has a place
 own_is : (o : Op) (r c : Comparison) → Contains (own o r) c → (is_placed r.at ≡ true) × (r ≡ c)

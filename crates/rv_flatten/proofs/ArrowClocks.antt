@@ -24,9 +24,11 @@ use Rattle.rv_instances.specs.ArrowClocks.{arrow_clock}
 use Rattle.rv_flatten.specs.Arrows.{arrows_in, form_arrows, arrows_in_all, node_arrows}
 use Rattle.rv_flatten.proofs.ClockKinds.{IsTrueClock, HasTrueClock, clock_taken, pace_is_true, arguments_typed}
 use Rattle.rv_flatten.proofs.FlowKinds.{kinds_many}
-use Rattle.rv_flat.proofs.Members.{none_in, at_head, in_tail, head_or_tail, in_flat_map, from_flat_map}
-use Rattle.rv_flat.proofs.TypedParts.{no_flag, IsTyped, not_typed, minus_typed, pre_typed, current_typed, when_typed, binary_typed, if_typed, most_typed}
+use Rattle.rv_flat.proofs.TypedParts.{IsTyped, not_typed, minus_typed, pre_typed, current_typed, when_typed, binary_typed, if_typed, most_typed}
 use Rattle.rv_flat.proofs.TypedParts.{call_typed}
+use Rattle.rv_agreement.proofs.Controls.{no_flag}
+use Rattle.rv_instances.proofs.CallsInside.{in_right as call_of_right}
+use Rattle.rv_types.proofs.Members.{at_head, cons_cases as head_or_tail, in_flat_map, in_tail, nothing_in as none_in, of_flat_map as from_flat_map}
 
 module _ (n : NodeTree) where
   -- a `->` among some expressions that stands on a clock
@@ -234,14 +236,6 @@ module _ (n : NodeTree) where
             (λ e u. Contains-append_right rights bodies e (in_flat_map (λ (a : AssertionTree). parts a.body) n.assertions r.0 e r.1 u))
             (comes_of_arrow r.0.body k r.2)
       ]
-
--- the call that a right side is
-call_of_right : (qs : List EquationTree) (q : EquationTree) (c : CallTree) → Contains qs q → Contains (calls_in q.right) c → Contains (calls_in_equations qs) c
-call_of_right [] q c w v = none_in q w
-call_of_right (r ∷ qs) q c w v = elim (head_or_tail r qs q w) [
-  | inl is ↦ Contains-append_left (calls_in r.right) (calls_in_equations qs) c (subst (λ (e : EquationTree). Contains (calls_in e.right) c) (sym is) v)
-  | inr rest ↦ Contains-append_right (calls_in r.right) (calls_in_equations qs) c (call_of_right qs q c rest v)
-]
 
 -- Each clock that comes is the base clock or that of a Boolean flow.
 module _ (program : ProgramTree) (n : NodeTree) (well : IsWellTyped program n) where

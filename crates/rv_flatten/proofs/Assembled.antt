@@ -61,12 +61,15 @@ use Rattle.rv_flatten.proofs.InstanceNumbers.{number_at, node_is, node_in}
 use Rattle.rv_flatten.proofs.KindNumbers.{kind_itself}
 use Rattle.rv_flatten.proofs.FewInputs.{few_inputs}
 use Rattle.rv_flatten.proofs.MadeItems.{HasNumbers}
-use Rattle.rv_flat.proofs.Members.{at_head, in_tail}
-use Rattle.rv_flat.proofs.PlaceNumbers.{same_text, index_at, is_found}
-use Rattle.rv_flatten.proofs.Translated.{some_at, mapped_at}
-use Rattle.rv_flat.proofs.TypedParts.{no_flag, same_kinds}
+use Rattle.rv_flatten.proofs.Translated.{mapped_at}
 use Rattle.rv_flatten.proofs.WellInstances.{formed, typed}
 use Rattle.rv_flatten.proofs.MainNames as main_names
+use Rattle.rv_agreement.proofs.Controls.{no_flag}
+use Rattle.rv_agreement.proofs.Witnessed.{some_same as same_some}
+use Rattle.rv_flat.proofs.SystemRuns.{found_in as some_at}
+use Rattle.rv_meaning.proofs.NameLemmas.{same_text}
+use Rattle.rv_types.proofs.ConstantContents.{kind_same as same_kinds}
+use Rattle.rv_types.proofs.Members.{among_from as is_found, at_head, in_tail, index_there as index_at}
 
 -- Lists.
 
@@ -74,7 +77,7 @@ map_twice : {X Y Z : Type 0} (f : X → Y) (g : Y → Z) (xs : List X) → map g
 map_twice f g [] = refl
 map_twice f g (x ∷ xs) = ap (λ l. g (f x) ∷ l) (map_twice f g xs)
 
-both_told : (a b : Bool) → a ≡ true → b ≡ true → (a && b) ≡ true
+pub both_told : (a b : Bool) → a ≡ true → b ≡ true → (a && b) ≡ true
 both_told true true p q = refl
 both_told true false p q = no_flag q
 both_told false b p q = no_flag p
@@ -82,10 +85,7 @@ both_told false b p q = no_flag p
 none_is : {X : Type 0} (x : X) → Nothing ≡ Some x → ⊥
 none_is x e = cc
 
-same_some : {X : Type 0} (x y : X) → Some x ≡ Some y → x ≡ y
-same_some x y e = ap (λ o. unwrap_or o x) e
-
-front : {X : Type 0} (xs ys : List X) (j : ℕ) (x : X) → slice_get xs j ≡ Some x → slice_get (xs ++ ys) j ≡ Some x
+pub front : {X : Type 0} (xs ys : List X) (j : ℕ) (x : X) → slice_get xs j ≡ Some x → slice_get (xs ++ ys) j ≡ Some x
 front [] ys j x e = absurd (none_is x e)
 front (z ∷ xs) ys zero x e = e
 front (z ∷ xs) ys (suc j) x e = front xs ys j x e
@@ -94,7 +94,7 @@ back : {X : Type 0} (xs ys : List X) → slice_get (xs ++ ys) (length xs) ≡ sl
 back [] ys = refl
 back (z ∷ xs) ys = back xs ys
 
-map_joined : {X Y : Type 0} (f : X → Y) (xs ys : List X) → map f (xs ++ ys) ≡ map f xs ++ map f ys
+pub map_joined : {X Y : Type 0} (f : X → Y) (xs ys : List X) → map f (xs ++ ys) ≡ map f xs ++ map f ys
 map_joined f [] ys = refl
 map_joined f (x ∷ xs) ys = ap (λ l. f x ∷ l) (map_joined f xs ys)
 
@@ -126,7 +126,7 @@ inputs_within p n =
 
 -- The observer.
 
-first_is_flag : (ks : List Kind) → is_observer ks ≡ true → slice_get ks 0 ≡ Some kind.Bool
+pub first_is_flag : (ks : List Kind) → is_observer ks ≡ true → slice_get ks 0 ≡ Some kind.Bool
 first_is_flag [] e = no_flag e
 first_is_flag (k ∷ []) e = ap Some (same_kinds k kind.Bool e)
 first_is_flag (k ∷ j ∷ ks) e = no_flag e

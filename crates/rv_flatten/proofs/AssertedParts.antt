@@ -15,8 +15,8 @@ use Rattle.rv_flatten.specs.Building.{AreAsserted}
 use Rattle.rv_flat.specs.RawTree.{RawTree, raw_tree}
 use Rattle.rv_flatten.specs.Readings.{assertion_of}
 use Rattle.rv_agreement.specs.Translation.{Numbers}
-use Rattle.rv_flatten.proofs.InstanceNumbers.{instance_at, node_is, of_map}
-use Rattle.rv_flat.proofs.Members.{none_in, in_map}
+use Rattle.rv_flatten.proofs.InstanceNumbers.{instance_at, node_is}
+use Rattle.rv_types.proofs.Members.{in_map, nothing_in as none_in, of_map}
 
 -- of no instance, none
 pub none_asserted : (x : Expanded) (numbers : Numbers) (es : List FlatExpr) → es ≡ [] → AreAsserted x numbers 0 es

@@ -26,8 +26,9 @@ use Rattle.rv_types.specs.Clocks.{base_clock, declared_clock, flow_clocks, clock
 use Rattle.rv_types.specs.Clocks.{pace, form_pace, pace_of_all}
 use Rattle.rv_types.specs.Instances.{taken, IsArgument, head, tail}
 use Rattle.rv_types.specs.WellFormed.{IsWellTyped}
-use Rattle.rv_flat.proofs.Members.{none_in, at_head, in_tail, head_or_tail}
-use Rattle.rv_flat.proofs.TypedParts.{no_flag, IsTyped, not_typed, minus_typed, pre_typed, when_typed, binary_typed, if_typed, most_typed, call_typed}
+use Rattle.rv_flat.proofs.TypedParts.{IsTyped, not_typed, minus_typed, pre_typed, when_typed, binary_typed, if_typed, most_typed, call_typed}
+use Rattle.rv_agreement.proofs.Controls.{no_flag}
+use Rattle.rv_types.proofs.Members.{at_head, cons_cases as head_or_tail, in_tail, nothing_in as none_in}
 
 module _ (program : ProgramTree) (n : NodeTree) where
   -- a clock is the base clock or that of a Boolean flow

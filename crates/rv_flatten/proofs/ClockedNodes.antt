@@ -10,7 +10,7 @@ use Rattle.rv_types.specs.Known.{flow_names}
 use Rattle.rv_instances.specs.declared.expanded.Expanded.{Expanded}
 use Rattle.rv_instances.specs.Expanded.{IsKnown, program_of}
 use Rattle.rv_flatten.proofs.InstanceNumbers.{flows_once}
-use Rattle.rv_flat.proofs.Members.{in_map}
+use Rattle.rv_types.proofs.Members.{in_map}
 
 module _ (x : Expanded) (known : IsKnown x) where
   -- the node of one of the clocks is one of the program, and its flows have different names

@@ -17,10 +17,11 @@ use Rattle.rv_flatten.specs.declared.kept.Comparison.{Comparison}
 use Rattle.rv_flatten.specs.Kept.{found_comparison}
 use Rattle.rv_flatten.specs.NodeReaders.{lists_to, AreSortedBy}
 use Rattle.rv_flatten.specs.Compared.{tests_in, compared_at, compared_in}
-use Rattle.rv_flatten.proofs.InstanceNumbers.{in_lists, from_lists, made_of, of_map, snoc, node_in, instance_at, number_at, path_is, node_is, same_instance}
+use Rattle.rv_flatten.proofs.InstanceNumbers.{in_lists, from_lists, made_of, node_in, instance_at, number_at, path_is, node_is, same_instance}
 use Rattle.rv_flatten.proofs.ComparedParts.{test_found, found_test, one_operator}
-use Rattle.rv_flat.proofs.Members.{in_map}
-use Rattle.rv_flat.proofs.TypedParts.{no_flag}
+use Rattle.rv_agreement.proofs.Controls.{no_flag}
+use Rattle.rv_instances.proofs.FlowPlaces.{snoc_parts as snoc}
+use Rattle.rv_types.proofs.Members.{in_map, of_map}
 
 -- the comparisons are the operators with order tests
 pub has_sides : (o : Op) → is_comparison o ≡ true → 0 < length (sides_of o)

@@ -38,7 +38,7 @@ difference_size y z v w g h = omega (arith, ints)
 opposite_size : (m : ℕ) (z : ℤ) → nat_abs z ≤ m → nat_abs (neg_ℤ z) ≤ m
 opposite_size m z h = omega (arith, ints)
 
-product_size : (y z : ℤ) (w : ℕ) → nat_abs z ≤ w → nat_abs (y *ℤ z) ≤ nat_abs y * w
+pub product_size : (y z : ℤ) (w : ℕ) → nat_abs z ≤ w → nat_abs (y *ℤ z) ≤ nat_abs y * w
 product_size y z w h = rw (unsigned_abs-mul y z) (mul-le-mul_left (nat_abs y) h)
 
 operator_size : (o : Op) (x y : Value) (v w : ℕ) → nat_abs (whole_in x) ≤ v → nat_abs (whole_in y) ≤ w

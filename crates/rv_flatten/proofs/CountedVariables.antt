@@ -32,8 +32,9 @@ use Rattle.rv_flat.specs.Facts.{all_few, integers}
 use Rattle.rv_flat.specs.Lists.{variable_of}
 use Rattle.rv_flat.specs.Systems.{memory_of}
 use Rattle.rv_flat.proofs.Earliest.{not_itself}
-use Rattle.rv_flat.proofs.Members.{none_in, at_head, in_tail, head_or_tail, in_map, in_flat_map}
-use Rattle.rv_flat.proofs.TypedParts.{no_flag, both_hold}
+use Rattle.rv_agreement.proofs.Controls.{no_flag}
+use Rattle.rv_meaning.proofs.TypedOperators.{both_hold}
+use Rattle.rv_types.proofs.Members.{at_head, cons_cases as head_or_tail, in_flat_map, in_map, in_tail, nothing_in as none_in}
 
 -- Sums.
 
@@ -104,7 +105,7 @@ module _ {X : Type 0} (f : X → ℕ) (key : X → Sites) where
 
 -- How long the lists of variables are.
 
-length_bits : (make : ℕ → Variable) (n : ℕ) → length (bits make n) ≡ n
+pub length_bits : (make : ℕ → Variable) (n : ℕ) → length (bits make n) ≡ n
 length_bits make zero = refl
 length_bits make (suc n) =
     let h = length_bits make n in
@@ -241,7 +242,7 @@ has_one n seen (x ∷ ds) d w = by (is_in seen (site n x)) refl (λ s e v. has_o
       ]
     ]
 
-placed : (ms : List MemoryAt) (j : ℕ) (a : MemoryAt) → j < length ms → get_or ms j a ≡ a → get_or (memory_places ms) j [] ≡ a.place
+pub placed : (ms : List MemoryAt) (j : ℕ) (a : MemoryAt) → j < length ms → get_or ms j a ≡ a → get_or (memory_places ms) j [] ≡ a.place
 placed [] j a lt e = absurd (omega (arith, lt))
 placed (m ∷ ms) zero a lt e = ap (λ (m : MemoryAt). m.place) e
 placed (m ∷ ms) (suc j) a lt e = placed ms j a (omega (arith, lt)) e

@@ -1,7 +1,6 @@
 -- The ticks and the memories of a system that is read from its program have different places.
 use Rattle.std.proofs.Common.{◌≡◌, Bool, true, false, not, ◌&&◌, ◌||◌, List, [], ◌∷◌, map, get_or, refl, sym, ◌∙◌, ap, subst, arith, Option, Some}
 use Rattle.std.proofs.Common.{None as Nothing}
-use Rattle.std.proofs.lemmas.Bool.{eqb-true}
 use Rattle.std.proofs.lemmas.List.{get_or_default}
 use Rattle.std.proofs.lemmas.Simd.{map-map}
 use Rattle.std.specs.List.{Contains}
@@ -14,25 +13,8 @@ use Rattle.rv_agreement.specs.Translation.{Numbers, IsTranslated}
 use Rattle.rv_agreement.specs.Trees.{Kept, System, memory_places}
 use Rattle.rv_flatten.proofs.Apart.{IsApart, apart_told, apart_by, apart_map}
 use Rattle.rv_flat.proofs.Earliest.{not_itself}
-use Rattle.rv_flatten.proofs.InstanceNumbers.{of_map}
-use Rattle.rv_flat.proofs.Members.{at_head, in_tail}
-use Rattle.rv_flat.proofs.TypedParts.{no_flag, both_hold}
-
-same_sites_told : (p q : Sites) → same_sites p q ≡ true → p ≡ q
-same_sites_told [] [] e = refl
-same_sites_told [] (y ∷ ys) e = no_flag e
-same_sites_told (x ∷ xs) [] e = no_flag e
-same_sites_told (x ∷ xs) (y ∷ ys) e =
-    let r = both_hold _ (same_sites xs ys) e in
-    let first : x ≡ y = eqb-true x y r.0 in
-    let rest = same_sites_told xs ys r.1 in
-    λ i. first i ∷ rest i
-
-same_flow_told : (p q : Option Sites) → same_flow p q ≡ true → p ≡ q
-same_flow_told Nothing Nothing e = refl
-same_flow_told Nothing (Some q) e = no_flag e
-same_flow_told (Some p) Nothing e = no_flag e
-same_flow_told (Some p) (Some q) e = ap Some (same_sites_told p q e)
+use Rattle.rv_agreement.proofs.Chosen.{flow_told as same_flow_told, sites_told as same_sites_told}
+use Rattle.rv_types.proofs.Members.{at_head, in_tail, of_map}
 
 -- What is told apart is found to be.
 module _ (K : Type 0) (same : K → K → Bool) (tells : (x y : K) → same x y ≡ true → x ≡ y) where

@@ -1,5 +1,5 @@
 -- What the memories of a flat system show ends: a memory shows only such as take less of the source.
-use Rattle.std.proofs.Common.{◌≡◌, inl, inr, ℕ, zero, suc, ◌+◌, ◌<◌, ◌≤◌, ℤ, Bool, true, false, ◌&&◌, cond, nat_lt, List, [], ◌∷◌, ◌++◌, map, length, slice_get}
+use Rattle.std.proofs.Common.{◌≡◌, inl, inr, ℕ, zero, suc, ◌+◌, ◌<◌, ◌≤◌, ℤ, Bool, true, false, cond, nat_lt, List, [], ◌∷◌, ◌++◌, map, length, slice_get}
 use Rattle.std.proofs.Common.{slice_index_or, refl, sym, ◌∙◌, ap, subst, arith, Option, Some}
 use Rattle.std.proofs.Common.{None as Nothing}
 use Rattle.std.proofs.lemmas.Bool.{cases_order}
@@ -31,11 +31,11 @@ use Rattle.rv_flat.specs.Inlined.{all_end, ends_within, shown_ends}
 use Rattle.rv_flat.specs.RawTree.{RawTree, RawForm, raw_tree, all_shown, form_all_shown, each_all_shown}
 use Rattle.rv_flatten.specs.Readings.{RawItem, no_raw, raw_memory, raw_of, raw_form, raws_of, numbers_of, operator, product, IsRead}
 use Rattle.rv_flat.specs.Systems.{memory_of, memory_places_of}
-use Rattle.rv_flat.proofs.Members.{none_in, at_head, head_or_tail, in_map}
 use Rattle.rv_flatten.proofs.OnePlace.{one_of_place}
-use Rattle.rv_flat.proofs.PlaceNumbers.{is_found, index_at}
 use Rattle.rv_flatten.proofs.Standing.{delays_in, operand_stands}
-use Rattle.rv_flat.proofs.TypedParts.{no_flag}
+use Rattle.rv_agreement.proofs.Controls.{no_flag}
+use Rattle.rv_flatten.proofs.Assembled.{both_told as both}
+use Rattle.rv_types.proofs.Members.{among_from as is_found, at_head, cons_cases as head_or_tail, in_map, index_there as index_at, nothing_in as none_in}
 
 -- How many expressions an expression is made of.
 abbrev mutual
@@ -106,10 +106,6 @@ mutual
     | inl v ↦ let h = smaller e d v in omega (arith, h)
     | inr v ↦ let h = all_smaller es d v in omega (arith, h)
   ]
-
--- two tests that both hold
-both : (a b : Bool) → a ≡ true → b ≡ true → (a && b) ≡ true
-both a b p q = λ j. p j && q j
 
 -- An expression of an instance shows the memories of the `current` in it.
 module _ (has : ℕ → Bool) where

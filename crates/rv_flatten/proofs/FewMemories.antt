@@ -13,8 +13,7 @@ use Rattle.rv_types.specs.Needs.{IsBefore}
 use Rattle.rv_types.specs.Variables.{total}
 use Rattle.rv_instances.specs.Counts.{size, form_size, size_of_all, node_size, expanded}
 use Rattle.rv_flat.proofs.Earliest.{not_itself}
-use Rattle.rv_flatten.proofs.InstanceNumbers.{of_map}
-use Rattle.rv_flat.proofs.Members.{none_in, at_head, in_tail, head_or_tail, in_map, in_flat_map}
+use Rattle.rv_types.proofs.Members.{at_head, cons_cases as head_or_tail, in_flat_map, in_map, in_tail, nothing_in as none_in, of_map}
 
 -- Different elements of a list are no more than it has.
 

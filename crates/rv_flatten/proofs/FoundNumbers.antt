@@ -12,7 +12,7 @@ use Rattle.rv_instances.specs.Flowing.{place_at}
 use Rattle.rv_instances.specs.Layouts.{IsNumberOf}
 use Rattle.rv_flatten.specs.declared.kept.Kept.{Kept}
 use Rattle.rv_flat.specs.Facts.{numbers_among}
-use Rattle.rv_flat.proofs.Members.{at_head, in_tail}
+use Rattle.rv_types.proofs.Members.{at_head, in_tail}
 
 pub ticks_numbered : (places : List Sites) (count : ℕ) (ts taken made : List ℕ) → taken ≡ ts
     → ((qs : List Sites) → length qs ≡ count → AreRising qs → AreRising (map (place_at qs) taken) → ((k : ℕ) → Contains taken k → k < count)

@@ -1,5 +1,5 @@
 -- What fits is known under other names.
-use Rattle.std.proofs.Common.{◌≡◌, List, [], get_or, Result, Ok, Err, IfOk, sym, ◌∙◌, ap, subst}
+use Rattle.std.proofs.Common.{◌≡◌, List, [], get_or, sym, ◌∙◌, ap, subst}
 use Rattle.rv_tree.specs.declared.tree.Name.{Name}
 use Rattle.rv_tree.specs.Tree.{NodeTree, ProgramTree}
 use Rattle.rv_tree.specs.Places.{Identifier, Sites}
@@ -10,7 +10,7 @@ use Rattle.rv_types.specs.Needs.{IsSequence}
 use Rattle.rv_types.specs.Settled.{IsSettled}
 use Rattle.rv_instances.specs.Weights.{AreLight}
 use Rattle.rv_flatten.proofs.InstanceNumbers.{made_of}
-use Rattle.rv_flat.proofs.PlaceNumbers.{index_at}
+use Rattle.rv_types.proofs.Members.{index_there as index_at}
 
 -- the name of the main node is the one that it was settled with
 pub main_name : (p : ProgramTree) (main : Identifier) (t : Typed) → IsSettled p main t → name_at p t.main ≡ main
@@ -28,8 +28,3 @@ program_same P p q a b same name h = subst (λ x. P q x) name (subst (λ x. P x 
 
 pub light_same : (p q : ProgramTree) (a b : Identifier) → p ≡ q → a ≡ b → AreLight p a → AreLight q b
 light_same p q a b same name h = subst (λ x. AreLight q x) name (subst (λ x. AreLight x a) same h)
-
--- what holds of an answer gives what follows
-pub if_ok : {X E : Type 0} (r : Result X E) (A B : X → Type 0) → ((x : X) → A x → B x) → IfOk r A → IfOk r B
-if_ok (Ok x) A B f a = f x a
-if_ok (Err e) A B f a = tt

@@ -19,10 +19,14 @@ use Rattle.rv_instances.specs.Expanded.{IsExpanded, no_instance}
 use Rattle.rv_instances.specs.Layouts.{node_at, path_at}
 use Rattle.rv_flatten.specs.NodeReaders.{lists_to}
 use Rattle.rv_flat.proofs.Earliest.{not_itself}
-use Rattle.rv_flat.proofs.Members.{none_in, at_head, in_tail, head_or_tail, in_map}
-use Rattle.rv_flat.proofs.PlaceNumbers.{same_text, index_at, is_found}
-use Rattle.rv_flat.proofs.TypedParts.{no_flag}
 use Rattle.rv_flatten.proofs.WellInstances as well
+use Rattle.rv_agreement.proofs.Controls.{no_flag}
+use Rattle.rv_instances.proofs.FlowPlaces.{snoc_parts as snoc}
+use Rattle.rv_instances.proofs.Known.{each_nil}
+use Rattle.rv_meaning.proofs.NameLemmas.{same_text}
+use Rattle.rv_types.proofs.Members.{among_from as is_found, in_map, index_there as index_at}
+use Rattle.rv_types.proofs.Members.{nothing_in as none_in}
+use Rattle.rv_types.proofs.RightNames.{both_empty as split_nil}
 
 -- Lists.
 
@@ -50,40 +54,7 @@ made_of f [] k d = refl
 made_of f (x ∷ xs) zero d = refl
 made_of f (x ∷ xs) (suc k) d = made_of f xs k d
 
-pub of_map : {X Y : Type 0} (f : X → Y) (xs : List X) (y : Y) → Contains (map f xs) y → (x : X) × Contains xs x × (f x ≡ y)
-of_map f [] y w = none_in y w
-of_map f (x ∷ xs) y w = elim (head_or_tail (f x) (map f xs) y w) [
-  | inl is ↦ (x, at_head x xs, is)
-  | inr later ↦ let r = of_map f xs y later in (r.0, in_tail x xs r.0 r.1, r.2)
-]
-
--- two lists with one more number at the end are equal only where both parts are
-without_first : List ℕ → List ℕ
-without_first [] = []
-without_first (x ∷ xs) = xs
-
-pub snoc : (xs ys : List ℕ) (a b : ℕ) → xs ++ a ∷ [] ≡ ys ++ b ∷ [] → (xs ≡ ys) × (a ≡ b)
-unfolding without_first
-snoc [] [] a b e = (refl, ap (λ l. get_or l 0 0) e)
-snoc [] (y ∷ ys) a b e = let long = ap length e in absurd (omega (arith, long, length-append ys (b ∷ [])))
-snoc (x ∷ xs) [] a b e = let long = ap length e in absurd (omega (arith, long, length-append xs (a ∷ [])))
-snoc (x ∷ xs) (y ∷ ys) a b e =
-    let r = snoc xs ys a b (ap without_first e) in
-    let first : x ≡ y = ap (λ l. get_or l 0 0) e in
-    (λ i. first i ∷ r.0 i, r.1)
-
 -- Names.
-
-split_nil : {X : Type 0} (xs ys : List X) → xs ++ ys ≡ [] → (xs ≡ []) × (ys ≡ [])
-split_nil [] ys e = (refl, e)
-split_nil (x ∷ xs) ys e = cc
-
-each_nil : {X Y : Type 0} (f : X → List Y) (xs : List X) → flat_map f xs ≡ [] → (x : X) → Contains xs x → f x ≡ []
-each_nil f [] e x w = none_in x w
-each_nil f (y ∷ ys) e x w = elim (head_or_tail y ys x w) [
-  | inl same ↦ ap f (sym same) ∙ (split_nil (f y) (flat_map f ys) e).0
-  | inr rest ↦ each_nil f ys (split_nil (f y) (flat_map f ys) e).1 x rest
-]
 
 -- The flows of a node have different names.
 pub flows_once : (p : ProgramTree) → name_faults p ≡ [] → (n : NodeTree) → Contains p.nodes n → repeated [] (decl_names (decls n)) ≡ []
@@ -99,7 +70,7 @@ flows_once p named n w =
     (split_nil (repeated [] (decl_names (decls n))) (repeated (decl_names n.inputs) (lefts n)) c.0).0
 
 -- the names of nodes
-name_texts : (ns : List NodeTree) → texts (map (λ (n : NodeTree). n.name) ns) ≡ map (λ (n : NodeTree). n.name.text) ns
+pub name_texts : (ns : List NodeTree) → texts (map (λ (n : NodeTree). n.name) ns) ≡ map (λ (n : NodeTree). n.name.text) ns
 name_texts [] = refl
 name_texts (n ∷ ns) = ap (λ l. n.name.text ∷ l) (name_texts ns)
 

@@ -17,10 +17,11 @@ use Rattle.rv_types.specs.Needs.{Giver, Gives, given, by_equation, by_call}
 use Rattle.rv_types.specs.WellFormed.{AreWell}
 use Rattle.rv_agreement.specs.Trees.{System, nth_item}
 use Rattle.rv_agreement.specs.Translation.{Numbers, clock_number, giver_item, IsTranslated, IsClockOf}
-use Rattle.rv_flatten.proofs.InstanceNumbers.{snoc}
-use Rattle.rv_flat.proofs.PlaceNumbers.{is_found, index_at, its_number}
-use Rattle.rv_flatten.proofs.SuitedParts.{suits_taken}
+use Rattle.rv_flat.proofs.PlaceNumbers.{its_number}
 use Rattle.rv_flatten.proofs.WellInstances.{formed}
+use Rattle.rv_instances.proofs.FlowPlaces.{snoc_parts as snoc}
+use Rattle.rv_meaning.proofs.Acceptable.{suits_taken}
+use Rattle.rv_types.proofs.Members.{among_from as is_found, index_there as index_at}
 
 -- inputs and outputs are on the base clock
 all_base : (ds es : List Decl) (m : ℕ) → get_or (map base_clock ds ++ map base_clock es) m Base ≡ Base

@@ -17,9 +17,9 @@ use Rattle.rv_flatten.specs.declared.kept.Kept.{Kept}
 use Rattle.rv_flatten.specs.Kept.{kept_memory, AreKept}
 use Rattle.rv_flatten.specs.NodeReaders.{lists_to, AreSortedBy}
 use Rattle.rv_flatten.specs.Remembered.{read_by, reads_in, KeptAt, kept_seen, kept_at, kept_in}
-use Rattle.rv_flatten.proofs.InstanceNumbers.{in_lists, from_lists, made_of, of_map, is_node, instance_at, number_at, path_is, node_is}
-use Rattle.rv_flat.proofs.Members.{in_map}
+use Rattle.rv_flatten.proofs.InstanceNumbers.{in_lists, from_lists, made_of, is_node, instance_at, number_at, path_is, node_is}
 use Rattle.rv_flatten.proofs.OnePlace.{one_of_place}
+use Rattle.rv_types.proofs.Members.{in_map, of_map}
 
 -- the places of memories, as they are found
 pub kept_places : (ks : List Kept) → memory_places (map kept_memory ks) ≡ map (λ (k : Kept). k.place.sites) ks

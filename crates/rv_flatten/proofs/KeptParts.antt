@@ -3,7 +3,7 @@ use Rattle.std.proofs.Common.{◌≡◌, inl, inr, ℕ, [], ◌∷◌, ◌++◌,
 use Rattle.std.proofs.lemmas.List.Elements.{Contains-append_cases}
 use Rattle.std.proofs.lemmas.Option.{slice_get_within, get_or_from_slice_get}
 use Rattle.std.specs.List.{Contains}
-use Rattle.rv_flat.proofs.Members.{none_in, head_or_tail}
+use Rattle.rv_types.proofs.Members.{cons_cases as head_or_tail, nothing_in as none_in}
 
 -- what holds for the elements of a list and for one more holds for all of them
 pub and_one_more : {X : Type 0} (P : X → Type 0) (xs new : List X) (y : X) → new ≡ xs ++ y ∷ [] → ((x : X) → Contains xs x → P x) → P y → (x : X)

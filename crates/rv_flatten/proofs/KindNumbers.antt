@@ -29,9 +29,10 @@ use Rattle.rv_types.specs.Scopes.{value_kind, constant_kind, constant_value}
 use Rattle.rv_types.specs.Values.{HasKind, labels_at}
 use Rattle.rv_types.specs.WellFormed.{AreWell}
 use Rattle.rv_agreement.specs.Checks.{enumerations, all_kinds, any_of, constant_fits}
-use Rattle.rv_flat.proofs.TypedParts.{met_kind, IsTyped, minus_typed, not_typed, pre_typed, current_typed, when_typed, binary_typed, if_typed, most_typed}
+use Rattle.rv_flat.proofs.TypedParts.{IsTyped, minus_typed, not_typed, pre_typed, current_typed, when_typed, binary_typed, if_typed, most_typed}
 use Rattle.rv_flat.proofs.TypedParts.{call_typed}
 use Rattle.rv_flatten.proofs.FlowKinds.{signature_is}
+use Rattle.rv_meaning.proofs.TypedOperators.{met_kind}
 
 -- a type is one of so many enumerations, or a Boolean or an integer
 abbrev pub IsBelow : ℕ → Kind → Type 0

@@ -25,8 +25,10 @@ use Rattle.rv_flat.specs.declared.parts.FlatFlow.{FlatFlow}
 use Rattle.rv_flatten.specs.Building.{IsGiven, IsMade, kind_at, program_given, main_given}
 use Rattle.rv_agreement.specs.Translation.{Numbers}
 use Rattle.rv_flatten.proofs.FlowKinds.{kinds_many}
-use Rattle.rv_flatten.proofs.InstanceNumbers.{snoc, instance_at, path_is, node_is, same_instance}
-use Rattle.rv_flat.proofs.PlaceNumbers.{is_found, index_at}
+use Rattle.rv_flatten.proofs.InstanceNumbers.{instance_at, path_is, node_is, same_instance}
+use Rattle.rv_flatten.proofs.KeptParts.{there as slice_get_Contains}
+use Rattle.rv_instances.proofs.FlowPlaces.{snoc_parts as snoc}
+use Rattle.rv_types.proofs.Members.{among_from as is_found, index_there as index_at}
 
 -- what stands in a list with one thing more at its end
 snoc_get : {X : Type 0} (xs : List X) (x y : X) (k : ℕ) → slice_get (xs ++ x ∷ []) k ≡ Some y → (slice_get xs k ≡ Some y) ⊎ ((k ≡ length xs) × (x ≡ y))
@@ -57,10 +59,6 @@ module _ (p : ProgramTree) (main : Identifier) (numbers : Numbers) (sequence : L
           (subst (λ j. IsMade p main numbers (slice_index_or sequence j []) f) (sym (last.0 ∙ are.many)) is)
     ];
   })
-
--- what is read from a list is in it
-slice_get_Contains : {X : Type 0} (xs : List X) (k : ℕ) (x : X) → slice_get xs k ≡ Some x → Contains xs x
-slice_get_Contains xs k x at = (k, slice_get_within xs k x at, get_or_from_slice_get xs k x x at)
 
 module _ (g : Given) (given : IsGiven g) where
   abbrev p : ProgramTree

@@ -33,9 +33,10 @@ use Rattle.rv_agreement.specs.Translation.{Numbers, clock_number}
 use Rattle.rv_flatten.specs.Tables.{path_read, flow_read, clock_read, clock_of_read}
 use Rattle.rv_flat.proofs.TypedParts.{some_is}
 use Rattle.rv_flatten.proofs.ReadItems.{is_frame, giver_clock, body_given, output_given}
-use Rattle.rv_flatten.proofs.ReadTables.{is_node, path_is, clock_read_is, own_clock_is, output_is}
+use Rattle.rv_flatten.proofs.ReadTables.{path_is, clock_read_is, own_clock_is, output_is}
 use Rattle.rv_flatten.proofs.Standing.{stands_in, operand_stands, as_assertion}
 use Rattle.rv_flatten.proofs.WellInstances.{typed}
+use Rattle.rv_flatten.proofs.MainNames.{is_node}
 
 -- what a layout has of an instance
 abbrev pub HasNumbers : Type 0

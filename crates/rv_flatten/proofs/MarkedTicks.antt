@@ -23,9 +23,9 @@ use Rattle.rv_instances.specs.Layouts.{Here, IsHere, IsNumberOf, IsClockPlaced, 
 use Rattle.rv_instances.specs.NumberedNeeds.{listed, clock_number}
 use Rattle.rv_flatten.specs.Arrows.{node_arrows, arrow_numbers, arrow_numbers_to, with_marks, marked_from}
 use Rattle.rv_flatten.proofs.ArrowClocks.{node_comes, node_only, arrow_known}
-use Rattle.rv_flat.proofs.Members.{none_in, at_head, in_tail, head_or_tail, in_flat_map, from_flat_map, in_map}
 use Rattle.rv_flatten.proofs.MainNames.{is_node}
 use Rattle.rv_flatten.proofs.WellInstances.{formed, typed}
+use Rattle.rv_types.proofs.Members.{at_head, cons_cases as head_or_tail, in_flat_map, in_map, in_tail, nothing_in as none_in, of_flat_map as from_flat_map}
 
 -- Marks.
 

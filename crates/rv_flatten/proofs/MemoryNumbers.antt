@@ -1,6 +1,6 @@
 -- The memories by their instances and sites have their numbers.
 use Rattle.std.proofs.Common.{◌≡◌, inl, inr, ℕ, zero, suc, ◌-◌, ◌<◌, ◌≤◌, Bool, true, false, ◌&&◌, cond, nat_eq, List, [], ◌∷◌, ◌++◌, map, length}
-use Rattle.std.proofs.Common.{get_or, refl, sym, ◌∙◌, ap, subst, arith, Some, Result, Ok, Err, IfOk}
+use Rattle.std.proofs.Common.{get_or, refl, sym, ◌∙◌, ap, subst, arith, Some}
 use Rattle.std.proofs.lemmas.Bool.{cases_order}
 use Rattle.std.proofs.lemmas.Bool.Decides.{nat_tests}
 use Rattle.std.proofs.lemmas.List.{length-map, get_or-map}
@@ -18,9 +18,11 @@ use Rattle.rv_flatten.specs.declared.kept.Kept.{Kept}
 use Rattle.rv_flatten.specs.Kept.{kept_memory, AreKept}
 use Rattle.rv_flatten.specs.Remembered.{last_site, instance_of, site_at, number_to}
 use Rattle.rv_flat.proofs.Earliest.{not_itself}
-use Rattle.rv_flatten.proofs.InstanceNumbers.{of_map, snoc, path_is, same_number}
+use Rattle.rv_flatten.proofs.InstanceNumbers.{path_is, same_number}
 use Rattle.rv_flatten.proofs.KeptMemories.{kept_places}
 use Rattle.rv_flat.proofs.PlaceNumbers.{its_number}
+use Rattle.rv_instances.proofs.FlowPlaces.{snoc_parts as snoc}
+use Rattle.rv_types.proofs.Members.{of_map}
 
 -- the site after a path
 pub last_of : (path : Sites) (s : ℕ) → last_site (path ++ s ∷ []) ≡ s
@@ -135,7 +137,3 @@ module _ (p : ProgramTree) (main : Identifier) (instances : List Numbered) (know
       let number : index_of places (delay_place i d) ≡ n =
       ap (λ q. index_of places q) (sym (place_at n k lt is ∙ place)) ∙ its_number places once n (omega (arith, lt, long)) in
       told n lt (length ks) m s (omega arith) lt (instance_is n k lt is ∙ instance) (site_is n k lt is ∙ parts.1) ∙ ap (λ j. Some j) (sym number)
-
-pub if_ok : {X E : Type 0} (r : Result X E) (P Q : X → Type 0) → ((x : X) → P x → Q x) → IfOk r P → IfOk r Q
-if_ok (Ok x) P Q f h = f x h
-if_ok (Err e) P Q f h = tt

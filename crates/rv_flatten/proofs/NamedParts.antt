@@ -29,11 +29,13 @@ use Rattle.rv_agreement.specs.Programs.{coefficient, HasProducts, FormHasProduct
 use Rattle.rv_agreement.specs.Translation.{Names, FormNames, AllNames, AreNamed}
 use Rattle.rv_flatten.proofs.ConstantOperands.{same_number, constant_now}
 use Rattle.rv_flatten.proofs.FlowKinds.{kinds_many}
-use Rattle.rv_flat.proofs.PlaceNumbers.{found, index_past}
 use Rattle.rv_flatten.proofs.Standing.{Stands, as_child, of_not, of_minus, of_current, of_when, of_left, of_right, of_condition, of_first, of_second}
 use Rattle.rv_flatten.proofs.Standing.{of_operand, stands_in, own_delay, own_current, body_stands, argument_stands, as_assertion, operand_stands}
-use Rattle.rv_flat.proofs.TypedParts.{some_is, no_flag, IsTyped, not_typed, minus_typed, current_typed, when_typed, binary_typed, if_typed, most_typed}
+use Rattle.rv_flat.proofs.TypedParts.{some_is, IsTyped, not_typed, minus_typed, current_typed, when_typed, binary_typed, if_typed, most_typed}
 use Rattle.rv_flatten.proofs.WellInstances.{typed, is_light}
+use Rattle.rv_agreement.proofs.Controls.{no_flag}
+use Rattle.rv_meaning.proofs.Told.{index_past}
+use Rattle.rv_types.proofs.Members.{among_contains as found}
 
 -- a name with a type among the flows of a node is that of a flow
 flow_there : (program : ProgramTree) (n : NodeTree) (x : Identifier) (k : Kind) → flow_kind program n x ≡ Some k → Contains (flows n) x
@@ -128,12 +130,12 @@ module _ (program : ProgramTree) (main : Identifier) (well : AreWell program) (n
     }
 
 -- Products: one operand is constant.
-scaled_product : (b scaled : Bool) (k : Kind) → kind_in (cond b (cond scaled (Has kind.Int) Multiplies) Clashes) ≡ Some k → scaled ≡ true
+pub scaled_product : (b scaled : Bool) (k : Kind) → kind_in (cond b (cond scaled (Has kind.Int) Multiplies) Clashes) ≡ Some k → scaled ≡ true
 scaled_product true true k e = refl
 scaled_product true false k e = absurd (none-some k e)
 scaled_product false scaled k e = absurd (none-some k e)
 
-other_constant : (a b : Bool) → (a || b) ≡ true → a ≡ false → b ≡ true
+pub other_constant : (a b : Bool) → (a || b) ≡ true → a ≡ false → b ≡ true
 other_constant true b e f = no_flag (sym f)
 other_constant false b e f = e
 

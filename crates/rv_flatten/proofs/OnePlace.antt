@@ -12,9 +12,9 @@ use Rattle.rv_types.specs.WellFormed.{AreWell}
 use Rattle.rv_agreement.specs.Trees.{Item}
 use Rattle.rv_agreement.specs.Translation.{Numbers, delay_item}
 use Rattle.rv_flatten.specs.Readings.{RawItem, raw_delay}
-use Rattle.rv_flatten.proofs.InstanceNumbers.{snoc}
-use Rattle.rv_flat.proofs.PlaceNumbers.{index_at}
 use Rattle.rv_flatten.proofs.WellInstances.{node_in, formed}
+use Rattle.rv_instances.proofs.FlowPlaces.{snoc_parts as snoc}
+use Rattle.rv_types.proofs.Members.{index_there as index_at}
 
 -- the operand is a flow of this name
 abbrev pub IsName : NodeTree → Tree → Identifier → Type 0

@@ -1,22 +1,16 @@
 -- The expressions of a node stand in it, or are the call on the right side of an equation.
-use Rattle.std.proofs.Common.{◌≡◌, inl, inr, ℕ, suc, List, [], ◌∷◌, ◌++◌, sym, subst, unwrap_or, Option, flat_map}
+use Rattle.std.proofs.Common.{◌≡◌, inl, inr, ℕ, suc, ◌++◌, sym, subst, unwrap_or, Option, flat_map}
 use Rattle.std.specs.List.{Contains}
-use Rattle.std.proofs.lemmas.List.Elements.{Contains-append_left, Contains-append_right, Contains-append_cases}
+use Rattle.std.proofs.lemmas.List.Elements.{Contains-append_left, Contains-append_cases}
 use Rattle.rv_tree.specs.Tree.{Tree, Node, Form, True, False, Number, Named, Not, Minus, Pre, Current, When, Binary, If, AtMostOne, Call, Trees, None, More}
 use Rattle.rv_tree.specs.Tree.{EquationTree, AssertionTree, NodeTree}
 use Rattle.rv_tree.specs.Places.{Identifier}
 use Rattle.rv_types.specs.Variables.{parts, form_parts, parts_of_all, node_parts}
 use Rattle.rv_types.specs.Instances.{CallTree, calls_in, calls_in_all, calls_in_equations, calls_in_assertions, calls, IsArgument, head, tail}
-use Rattle.rv_flat.proofs.Members.{none_in, at_head, head_or_tail, from_flat_map}
 use Rattle.rv_flatten.proofs.Standing.{Stands, as_argument, as_assertion, as_child, of_not, of_minus, of_pre, of_current, of_when, of_left, of_right}
 use Rattle.rv_flatten.proofs.Standing.{of_condition, of_first, of_second, of_operand, of_argument, whole, called, right_stands}
-
-call_there : (qs : List EquationTree) (q : EquationTree) (c : CallTree) → Contains qs q → Contains (calls_in q.right) c → Contains (calls_in_equations qs) c
-call_there [] q c w v = none_in q w
-call_there (r ∷ rs) q c w v = elim (head_or_tail r rs q w) [
-  | inl is ↦ Contains-append_left (calls_in r.right) (calls_in_equations rs) c (subst (λ u. Contains (calls_in u.right) c) (sym is) v)
-  | inr rest ↦ Contains-append_right (calls_in r.right) (calls_in_equations rs) c (call_there rs q c rest v)
-]
+use Rattle.rv_instances.proofs.CallsInside.{in_right as call_there}
+use Rattle.rv_types.proofs.Members.{at_head, cons_cases as head_or_tail, nothing_in as none_in, of_flat_map as from_flat_map}
 
 module _ (n : NodeTree) where
   mutual

@@ -15,7 +15,7 @@ use Rattle.rv_instances.specs.Expanded.{IsExpanded, no_instance}
 use Rattle.rv_instances.specs.Layouts.{IsLayout, IsHere, IsNumberOf, IsPlaced, callee_or_main, here_of, path_at, all_places}
 use Rattle.rv_flatten.specs.Positions.{AreNumbersOf, number_from, site_number, way_from}
 use Rattle.rv_flatten.proofs.FlowTotals.{few_flows}
-use Rattle.rv_flat.proofs.PlaceNumbers.{index_at, is_found}
+use Rattle.rv_types.proofs.Members.{among_from as is_found, index_there as index_at}
 
 -- the instance to which calls lead
 abbrev walk : Layout → ℕ → Sites → ℕ

@@ -52,23 +52,24 @@ use Rattle.rv_flatten.proofs.ArrowClocks.{node_comes, node_true}
 use Rattle.rv_flatten.proofs.ComparedParts.{node_marked, node_seen}
 use Rattle.rv_flat.proofs.Earliest.{not_itself}
 use Rattle.rv_flatten.proofs.ItemClocks.{number_at, number_within, item_clock, output_clock}
-use Rattle.rv_flat.proofs.Members.{at_head, in_tail, in_map}
 use Rattle.rv_flatten.proofs.Standing.{Stands, as_child, of_not, of_minus, of_current, of_when, of_left, of_right, of_condition, of_first, of_second}
 use Rattle.rv_flatten.proofs.Standing.{of_operand, stands_in, own_delay, own_current, own_call, body_stands, argument_stands, operand_stands, as_assertion}
 use Rattle.rv_flatten.proofs.Standing.{output_call}
-use Rattle.rv_flatten.proofs.SuitedParts.{suits_own, suits_seen, grounded_taken, suits_meet, suits_binary, suits_when}
-use Rattle.rv_flat.proofs.TypedParts.{some_is, no_flag, both_hold, same_kinds, met_kind, IsTyped, named_typed, not_typed, minus_typed, pre_typed, current_typed}
+use Rattle.rv_flatten.proofs.SuitedParts.{suits_when}
+use Rattle.rv_flat.proofs.TypedParts.{some_is, IsTyped, named_typed, not_typed, minus_typed, pre_typed, current_typed}
 use Rattle.rv_flat.proofs.TypedParts.{when_typed, binary_typed, if_typed, most_typed, call_typed}
-use Rattle.rv_flat.proofs.PlaceNumbers.{found, is_found, index_at, its_number}
+use Rattle.rv_flat.proofs.PlaceNumbers.{its_number}
 use Rattle.rv_flatten.proofs.WellInstances.{node_in, formed, typed}
 use Rattle.rv_flatten.proofs.ClockKinds.{IsTrueClock, clock_taken, clock_taken_on, clock_is_true, pace_is_true, paces_are_true}
 use Rattle.rv_flatten.proofs.FlowKinds.{HasFlow, is_flow as flow_there, kinds_many, signature_is, flow_of_site, clock_flow, output_flow, input_flow, main_input}
 use Rattle.rv_flatten.proofs.KindNumbers.{IsBelow, kind_declared, kind_itself, among_kinds, value_fits}
-
--- both tests hold
-both : (a b : Bool) → a ≡ true → b ≡ true → (a && b) ≡ true
-both true b p q = q
-both false b p q = no_flag p
+use Rattle.rv_agreement.proofs.Controls.{no_flag}
+use Rattle.rv_agreement.proofs.Suited.{suits_binary}
+use Rattle.rv_flatten.proofs.Assembled.{both_told as both}
+use Rattle.rv_meaning.proofs.Suiting.{ground_taken as grounded_taken, suits_both as suits_meet, suits_seen, taken_suits as suits_own}
+use Rattle.rv_meaning.proofs.TypedOperators.{both_hold, met_kind}
+use Rattle.rv_types.proofs.ConstantContents.{kind_same as same_kinds}
+use Rattle.rv_types.proofs.Members.{among_contains as found, among_from as is_found, at_head, in_map, in_tail, index_there as index_at}
 
 either : (a b : Bool) → b ≡ true → (a || b) ≡ true
 either true b p = refl

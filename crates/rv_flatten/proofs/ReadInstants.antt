@@ -1,8 +1,7 @@
 -- A flat system that is read from its program has the instants of the program, and the same states after them.
-use Rattle.std.proofs.Common.{◌≡◌, inl, inr, ℕ, zero, suc, ◌+◌, ◌<◌, ◌≤◌, ◌↔◌, Bool, true, false, ◌||◌, cond, List, [], ◌∷◌, ◌++◌, map, length, get_or, refl}
+use Rattle.std.proofs.Common.{◌≡◌, ℕ, zero, suc, ◌+◌, ◌<◌, ◌≤◌, ◌↔◌, Bool, true, false, ◌||◌, cond, List, [], ◌∷◌, ◌++◌, map, length, get_or, refl}
 use Rattle.std.proofs.Common.{sym, ◌∙◌, ap, subst, arith, Option, Some, IsSome, None as Nothing}
-use Rattle.std.proofs.lemmas.Bool.{cases_order}
-use Rattle.std.proofs.lemmas.List.{length-map, get_or-map, get_or_default, get_or_append_left, get_or_push, length_push}
+use Rattle.std.proofs.lemmas.List.{length-map, get_or-map, get_or_default}
 use Rattle.std.proofs.lemmas.Option.{none-some, same_Some}
 use Rattle.std.proofs.lemmas.Simd.{map-map}
 use Rattle.std.specs.List.{Contains}
@@ -39,48 +38,28 @@ use Rattle.rv_flat.specs.declared.state.State.{State}
 use Rattle.rv_flat.specs.Lists.{tick_places}
 use Rattle.rv_flat.specs.FlatInstants.{Row, nth, is_on_at, value_at, found_at, nth_item, flow_items, memory_items, assertion_trees, places, memory_places}
 use Rattle.rv_flat.specs.FlatInstants.{tick_clocks, system_of, IsFlatInstant, IsFlatNext}
-use Rattle.rv_flat.specs.FlatOf.{numbers_of, flat_state, first_values, flat_inputs, row_of, instant_of, IsBroken, IsFlatBroken, no_assertion}
+use Rattle.rv_flat.specs.FlatOf.{numbers_of, flat_state, flat_inputs, row_of, instant_of, IsBroken, IsFlatBroken, no_assertion}
 use Rattle.rv_flat.specs.Inlined.{IsTable, form_inlined, table_of, inlined, tree_among}
 use Rattle.rv_flat.specs.RawTree.{RawTree, RawForm, raw_tree, form_of}
 use Rattle.rv_flat.specs.RawTree as raw
 use Rattle.rv_flatten.specs.Readings.{IsRead, presence, assertion_of, no_assumption}
 use Rattle.rv_flatten.proofs.AgreedLaws.{Laws}
 use Rattle.rv_flatten.proofs.NamedParts.{names_in, products_in}
-use Rattle.rv_flat.proofs.TypedParts.{no_flag, some_is, IsTyped}
+use Rattle.rv_flat.proofs.TypedParts.{some_is, IsTyped}
 use Rattle.rv_flatten.proofs.Standing.{Stands, body_stands, as_assertion, argument_stands, operand_stands}
-use Rattle.rv_flat.proofs.PlaceNumbers.{is_found, index_at, made_at, row_agrees, instant_agrees, instant_places}
-use Rattle.rv_flatten.proofs.Translated.{AreAlike, is_translated, memory_is, whole_shown, mapped_at, some_at, memory_there}
+use Rattle.rv_flat.proofs.PlaceNumbers.{made_at, row_agrees, instant_agrees, instant_places}
+use Rattle.rv_flatten.proofs.Translated.{AreAlike, is_translated, memory_is, whole_shown, mapped_at, memory_there}
 use Rattle.rv_flatten.proofs.WellInstances.{typed, is_light}
-
--- the first values, as many as are said
-pub first_length : (values : ℕ → Value) (n : ℕ) → length (first_values values n) ≡ n
-first_length values zero = refl
-first_length values (suc n) = length_push (first_values values n) (values n) ∙ (let h = first_length values n in omega (arith, h))
-
-pub first_at : (values : ℕ → Value) (n j : ℕ) → j < n → get_or (first_values values n) j (Flag false) ≡ values j
-first_at values zero j lt = absurd (omega (arith, lt))
-first_at values (suc n) j lt = elim (cases_order j n) [
-  | inl same ↦ get_or_push (first_values values n) (values n) (Flag false) j (first_length values n ∙ sym same) ∙ ap values (sym same)
-  | inr other ↦ elim other [
-    | inl less ↦ get_or_append_left (first_values values n) (values n ∷ []) (Flag false) j (let h = first_length values n in omega (arith, less, h))
-        ∙ first_at values n j less
-    | inr more ↦ absurd (omega (arith, lt, more))
-  ]
-]
+use Rattle.rv_agreement.proofs.Controls.{no_flag}
+use Rattle.rv_agreement.proofs.Meanings.{held_same, on_same}
+use Rattle.rv_flat.proofs.SystemRuns.{found_in as some_at}
+use Rattle.rv_flat.proofs.Typing.{value_kth as first_at}
+use Rattle.rv_types.proofs.Members.{among_from as is_found, index_there as index_at}
 
 -- what a giver makes of an instant
 abbrev pub expected_now : ProgramTree → Brought → (ℕ → Value) → Instant → Giver → Option Value
 expected_now program state inputs instant (Given j) = Some (inputs j)
 expected_now program state inputs instant (Of i k r) = right_now program state instant i k r
-
--- both words for what a flow has, and for its truth, are one
-held_same : (o : Option Value) → evaluation.held Value integers o ≡ held o
-held_same Nothing = refl
-held_same (Some v) = refl
-
-on_same : (o : Option Value) → evaluation.is_on Value integers o ≡ is_on o
-on_same Nothing = refl
-on_same (Some v) = refl
 
 held_on : (o : Option Value) → is_true (evaluation.held Value integers o) ≡ is_on o
 held_on Nothing = refl

@@ -9,8 +9,6 @@ use Rattle.rv_tree.specs.Places.{Identifier, Sites, flows as flows_of, is_among,
 use Rattle.rv_tree.specs.Bounded.{most}
 use Rattle.rv_types.specs.declared.typed.Clock.{Clock}
 use Rattle.rv_types.specs.declared.typed.Clock.TheVariants.{Base, On}
-use Rattle.rv_types.specs.declared.fault.Pace.{Pace}
-use Rattle.rv_types.specs.declared.fault.Pace.TheVariants.{Free, At, Mute, Differ}
 use Rattle.rv_types.specs.Clocks.{pace, pace_of_all}
 use Rattle.rv_types.specs.Kinds.{decl_kinds, kind_in_program, node_among, node_named}
 use Rattle.rv_types.specs.Names.{texts}
@@ -18,11 +16,11 @@ use Rattle.rv_types.specs.Settled.{node_number}
 use Rattle.rv_types.specs.Types.{kind_of}
 use Rattle.rv_types.specs.Scopes.{node_scope, constant_value}
 use Rattle.rv_types.specs.ValueTables.{value_by}
-use Rattle.rv_types.specs.Instances.{CallTree, calls, Right, Body, Output, Instance, clock_taken as taken_clock, clock_of, clock_of_args, taken, node_of}
+use Rattle.rv_types.specs.Instances.{CallTree, calls, Right, Body, Output, Instance, clock_taken as taken_clock, clock_of, clock_of_args, node_of}
 use Rattle.rv_types.specs.Instances.{no_node, callee, IsInstance, is_main, is_callee, IsNode}
 use Rattle.rv_types.specs.Needs.{Given, Of, Gives, by_equation, by_call}
 use Rattle.rv_types.specs.Variables.{node_parts}
-use Rattle.rv_types.specs.WellFormed.{AreWell, Suits}
+use Rattle.rv_types.specs.WellFormed.{AreWell}
 use Rattle.rv_instances.specs.declared.answer.Instance.{Instance as Numbered}
 use Rattle.rv_instances.specs.declared.givers.BodyOf.{BodyOf}
 use Rattle.rv_instances.specs.declared.givers.OutputOf.{OutputOf}
@@ -36,12 +34,14 @@ use Rattle.rv_flatten.specs.declared.frame.Frame.{Frame}
 use Rattle.rv_flatten.specs.Frames.{IsFrame, IsNumbering}
 use Rattle.rv_flatten.specs.NodeReaders.{scope_by}
 use Rattle.rv_agreement.specs.Translation.{Numbers}
-use Rattle.rv_flat.proofs.PlaceNumbers.{same_text}
 use Rattle.rv_flatten.proofs.Standing.{stands_in, body_stands, argument_stands, output_call}
-use Rattle.rv_flat.proofs.TypedParts.{no_flag}
 use Rattle.rv_flatten.proofs.WellInstances.{node_in, formed, typed}
 use Rattle.rv_flatten.proofs.ClockKinds.{IsTrueClock, clock_taken, clock_is_true, paces_are_true}
-use Rattle.rv_flatten.proofs.ReadTables.{is_node, clock_known}
+use Rattle.rv_flatten.proofs.ReadTables.{clock_known}
+use Rattle.rv_agreement.proofs.Controls.{no_flag}
+use Rattle.rv_flatten.proofs.MainNames.{is_node}
+use Rattle.rv_meaning.proofs.Acceptable.{suits_taken}
+use Rattle.rv_meaning.proofs.NameLemmas.{same_text}
 
 -- The number of a node that is there.
 known_name : (ns : List NodeTree) (f : Identifier) → IsSome (node_among ns f) → (unwrap_or (node_among ns f) no_node).name.text ≡ f
@@ -73,13 +73,6 @@ some_named (n ∷ ns) f e = by (is_same n.name.text f) e (some_named ns f)
         → IsSome (cond b (Some n) (node_among ns f))
     by true e again = refl
     by false e again = again e
-
--- what suits a clock takes it
-suits_taken : (k : Clock) (p : Pace) → Suits k p → taken k p ≡ k
-suits_taken k Free h = refl
-suits_taken k (At c) h = h
-suits_taken k Mute h = absurd h
-suits_taken k Differ h = absurd h
 
 module _ (p : ProgramTree) (main : Identifier) (instances : List Numbered) (known : IsExpanded p main instances) where
   abbrev well : AreWell p

@@ -2,7 +2,7 @@
 use Rattle.std.proofs.Common.{◌≡◌, ℕ, suc, ◌+◌, ◌<◌, min, Bool, true, false, ◌||◌, cond, negsuc, List, [], ◌∷◌, map, length, refl, sym, ◌∙◌, ap, subst, arith}
 use Rattle.std.proofs.Common.{length-append, unwrap_or, Option, Some, IsSome, None as Nothing}
 use Rattle.std.proofs.lemmas.List.{length-map}
-use Rattle.std.proofs.lemmas.Option.{none-some, slice_get_within}
+use Rattle.std.proofs.lemmas.Option.{slice_get_within}
 use Rattle.std.specs.List.{Contains}
 use Rattle.rv_tree.specs.declared.tree.Op.{Op}
 use Rattle.rv_tree.specs.declared.tree.Op.TheVariants as op
@@ -15,7 +15,6 @@ use Rattle.rv_types.specs.declared.typed.Kind.{Kind}
 use Rattle.rv_types.specs.declared.typed.Kind.TheVariants as kind
 use Rattle.rv_types.specs.declared.typed.Clock.{Clock}
 use Rattle.rv_types.specs.declared.typed.Clock.TheVariants.{Base, On}
-use Rattle.rv_types.specs.declared.fault.Verdict.TheVariants.{Has, Clashes, Multiplies}
 use Rattle.rv_types.specs.declared.weighing.Weighed.{Weighed}
 use Rattle.rv_types.specs.declared.fault.Pace.{Pace}
 use Rattle.rv_types.specs.Clocks.{pace}
@@ -34,7 +33,6 @@ use Rattle.rv_types.specs.Variables.{node_parts, is_arrow}
 use Rattle.rv_types.specs.WellFormed.{AreWell}
 use Rattle.rv_instances.specs.declared.answer.Instance.{Instance as Numbered}
 use Rattle.rv_instances.specs.Callees.{callee_in}
-use Rattle.rv_instances.specs.AllInstances.{names_of}
 use Rattle.rv_instances.specs.Expanded.{program_of, main_of}
 use Rattle.rv_instances.specs.Layouts.{Here, IsPlaced, IsClockPlaced, IsHere, all_places}
 use Rattle.rv_instances.specs.NumberedNeeds.{flow_number, clock_number as number_of_clock, clock_of_expression, numbers_of}
@@ -50,13 +48,17 @@ use Rattle.rv_flatten.specs.Tables.{flow_named, named_read, constant_read, outpu
 use Rattle.rv_flatten.proofs.Standing.{Stands, as_child, of_not, of_minus, of_when, of_left, of_right, of_condition, of_first, of_second, of_operand, own_delay}
 use Rattle.rv_flatten.proofs.Standing.{own_current, own_call, stands_in}
 use Rattle.rv_flatten.proofs.PartsStand.{standing, calling, part_is}
-use Rattle.rv_flat.proofs.TypedParts.{some_is, no_flag, IsTyped, not_typed, minus_typed, when_typed, binary_typed, if_typed, most_typed, call_typed}
-use Rattle.rv_flat.proofs.PlaceNumbers.{index_at, index_past}
+use Rattle.rv_flat.proofs.TypedParts.{some_is, IsTyped, not_typed, minus_typed, when_typed, binary_typed, if_typed, most_typed, call_typed}
 use Rattle.rv_flatten.proofs.TimedParts.{stands_timed}
 use Rattle.rv_flatten.proofs.WellInstances.{formed, typed}
 use Rattle.rv_flatten.proofs.ClockKinds.{IsTrueClock, clock_taken, pace_is_true}
 use Rattle.rv_flatten.proofs.FlowKinds.{kinds_many, signature_is}
 use Rattle.rv_flatten.proofs.ToldTests.{told_is}
+use Rattle.rv_agreement.proofs.Controls.{no_flag}
+use Rattle.rv_flatten.proofs.MainNames.{is_node}
+use Rattle.rv_flatten.proofs.NamedParts.{scaled_product}
+use Rattle.rv_meaning.proofs.Told.{index_past}
+use Rattle.rv_types.proofs.Members.{index_there as index_at}
 
 -- the expressions of a list, each made flat
 pub each_read : (x : Frame) (es : List Expr) → raw_trees (map (λ e. tree_read x (tree_of e)) es) ≡ trees_read x (trees (map tree_of es))
@@ -67,15 +69,6 @@ each_read x (e ∷ es) = ap (More (tree_read x (tree_of e))) (each_read x es)
 among_names : (ns : List NodeTree) (f : Identifier) → is_among (texts (map (λ n. n.name) ns)) f ≡ is_among (map (λ n. n.name.text) ns) f
 among_names [] f = refl
 among_names (n ∷ ns) f = ap (λ b. is_same n.name.text f || b) (among_names ns f)
-
-pub is_node : (p : ProgramTree) (main : Identifier) → is_among (names_of p) main ≡ true → IsNode p main
-is_node p main e = sym (among_names p.nodes main) ∙ e
-
--- in a product that has a type one operand is constant
-scaled_product : (b scaled : Bool) (k : Kind) → kind_in (cond b (cond scaled (Has kind.Int) Multiplies) Clashes) ≡ Some k → scaled ≡ true
-scaled_product true true k e = refl
-scaled_product true false k e = absurd (none-some k e)
-scaled_product false scaled k e = absurd (none-some k e)
 
 product_is : (b c : Bool) (v w : Weighed) (f g : RawTree) → (b || c) ≡ true
     → product_read (cond b (Some v) Nothing) (cond c (Some w) Nothing) f g ≡ product b (whole_in v.value) (whole_in w.value) f g

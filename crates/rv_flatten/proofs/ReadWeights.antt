@@ -1,11 +1,11 @@
 -- What is read of a program has the weights of the program, so no part of it is above the limit.
-use Rattle.std.proofs.Common.{◌≡◌, ℕ, zero, suc, ◌+◌, ◌*◌, ◌<◌, ◌≤◌, max, Bool, true, false, ◌&&◌, ◌||◌, cond, nat_lt, nat_le, pos, negsuc, nat_abs, List, []}
+use Rattle.std.proofs.Common.{◌≡◌, ℕ, zero, suc, ◌+◌, ◌*◌, ◌<◌, ◌≤◌, max, Bool, true, false, ◌||◌, cond, nat_lt, nat_le, pos, negsuc, nat_abs, List, []}
 use Rattle.std.proofs.Common.{◌∷◌, ◌++◌, length, get_or, slice_get, refl, sym, ◌∙◌, ap, subst, arith, unwrap_or, Option, Some}
 use Rattle.std.proofs.lemmas.Bool.Decides.{nat_tests}
 use Rattle.std.proofs.lemmas.Int.{ints}
 use Rattle.std.proofs.lemmas.List.{length-map, get_or_default, get_or_append_left, get_or_push, length_push}
 use Rattle.std.proofs.lemmas.List.Elements.{Contains-append_left, Contains-append_right, All-contains}
-use Rattle.std.proofs.lemmas.Option.{none-some, slice_get_within, get_or_from_slice_get}
+use Rattle.std.proofs.lemmas.Option.{slice_get_within, get_or_from_slice_get}
 use Rattle.std.specs.List.{All, Contains}
 use Rattle.rv_base.specs.declared.value.Value.{Value}
 use Rattle.rv_base.specs.declared.value.Value.TheVariants.{Flag, Label, Whole}
@@ -18,7 +18,6 @@ use Rattle.rv_types.specs.declared.typed.Kind.{Kind}
 use Rattle.rv_types.specs.declared.typed.Kind.TheVariants as kind
 use Rattle.rv_types.specs.declared.typed.Clock.{Clock}
 use Rattle.rv_types.specs.declared.typed.Clock.TheVariants.{Base}
-use Rattle.rv_types.specs.declared.fault.Verdict.TheVariants.{Has, Clashes, Multiplies}
 use Rattle.rv_types.specs.Types.{kind_in, both_are, binary_rule, is_constant}
 use Rattle.rv_types.specs.Constants.{whole_in}
 use Rattle.rv_types.specs.Scopes.{node_scope, constant_value}
@@ -33,21 +32,18 @@ use Rattle.rv_agreement.specs.Translation.{Numbers, tick_number, unplaced, flat_
 use Rattle.rv_agreement.specs.Trees.{FlatTree, TreeForm, Constant, Flow, Ticked, Scale, If, Binary, Item, Kept, System, no_item, nth_item, memory_items}
 use Rattle.rv_flat.specs.Facts.{constant_weight, flat_weight, form_flat_weight, is_light, form_is_light, all_light, weights_after, flow_weights, items_light}
 use Rattle.rv_flatten.proofs.ItemClocks.{number_at, number_within}
-use Rattle.rv_flat.proofs.Members.{at_head, in_tail}
 use Rattle.rv_flatten.proofs.Standing.{Stands, as_child, of_not, of_minus, of_current, of_when, of_left, of_right, of_condition, of_first, of_second}
 use Rattle.rv_flatten.proofs.Standing.{of_operand, own_call, body_stands, argument_stands, operand_stands, as_assertion, output_call}
-use Rattle.rv_flat.proofs.TypedParts.{some_is, no_flag, IsTyped, not_typed, minus_typed, current_typed, when_typed, binary_typed, if_typed, most_typed}
+use Rattle.rv_flat.proofs.TypedParts.{some_is, IsTyped, not_typed, minus_typed, current_typed, when_typed, binary_typed, if_typed, most_typed}
 use Rattle.rv_flat.proofs.TypedParts.{call_typed}
-use Rattle.rv_flat.proofs.PlaceNumbers.{found, its_number}
+use Rattle.rv_flat.proofs.PlaceNumbers.{its_number}
 use Rattle.rv_flatten.proofs.WellInstances.{typed, is_light as stands_light}
 use Rattle.rv_flatten.proofs.ConstantOperands.{weighs}
 use Rattle.rv_flatten.proofs.ConstantSizes.{value_size}
 use Rattle.rv_flatten.proofs.FlowKinds.{HasFlow, is_flow as flow_there, signature_is, output_flow}
-
--- both tests hold
-both : (a b : Bool) → a ≡ true → b ≡ true → (a && b) ≡ true
-both true b p q = q
-both false b p q = no_flag p
+use Rattle.rv_flatten.proofs.Assembled.{both_told as both}
+use Rattle.rv_flatten.proofs.NamedParts.{other_constant, scaled_product}
+use Rattle.rv_types.proofs.Members.{among_contains as found, at_head, in_tail}
 
 within_told : (m n : ℕ) → m ≤ n → nat_le m n ≡ true
 within_told m n le = grind (arith, nat_tests, le)
@@ -56,15 +52,6 @@ constant_weighs : (v : Value) → constant_weight v ≡ nat_abs (whole_in v)
 constant_weighs (Flag b) = refl
 constant_weighs (Label l) = refl
 constant_weighs (Whole z) = refl
-
-other_constant : (a b : Bool) → (a || b) ≡ true → a ≡ false → b ≡ true
-other_constant true b e f = no_flag (sym f)
-other_constant false b e f = e
-
-scaled_product : (b scaled : Bool) (k : Kind) → kind_in (cond b (cond scaled (Has kind.Int) Multiplies) Clashes) ≡ Some k → scaled ≡ true
-scaled_product true true k e = refl
-scaled_product true false k e = absurd (none-some k e)
-scaled_product false scaled k e = absurd (none-some k e)
 
 module _ (program : ProgramTree) (main : Identifier) (well : AreWell program) (named : IsNode program main)
     (numbers : Numbers) (s : System) (read : IsTranslated program main numbers s)

@@ -15,7 +15,7 @@ use Rattle.rv_types.specs.Lists.{AreRising}
 use Rattle.rv_types.specs.Needs.{IsBefore}
 use Rattle.rv_flatten.specs.NodeReaders.{AreSortedBy}
 use Rattle.rv_flat.proofs.Earliest.{before_tested}
-use Rattle.rv_flat.proofs.PlaceNumbers.{same_text}
+use Rattle.rv_meaning.proofs.NameLemmas.{same_text}
 
 module _ {X : Type 0} (place : X → Sites) where
   -- which of two stands before the other

@@ -13,7 +13,9 @@ use Rattle.rv_types.specs.Variables.{parts, form_parts, parts_of_all, node_parts
 use Rattle.rv_types.specs.Instances.{CallTree, calls_in, form_calls, calls_in_all, calls_in_equations, calls_in_assertions, calls, Body, Output, IsRight, alone}
 use Rattle.rv_types.specs.Instances.{in_order, IsArgument, head, tail}
 use Rattle.rv_instances.specs.Weights.{weighed_of_several, weighed_under, weighed}
-use Rattle.rv_flat.proofs.Members.{none_in, at_head, in_tail, head_or_tail, in_flat_map}
+use Rattle.rv_instances.proofs.CallsInside.{in_argument as call_of_argument, in_body as call_of_assertion, in_right as call_of_equation}
+use Rattle.rv_meaning.proofs.DelayParts.{argument_within as delay_of_argument, assertion_within as delay_of_assertion, equation_within as delay_of_equation}
+use Rattle.rv_types.proofs.Members.{at_head, cons_cases as head_or_tail, in_flat_map, in_tail, nothing_in as none_in}
 
 -- an operand or argument
 pub data IsChild : Tree → Form → Type 0 where
@@ -85,11 +87,6 @@ part_of_child _ e x (of_second {a = a} {b = b}) w = Contains-append_right (parts
 part_of_child _ e x (of_operand {es = es} j arg) w = part_of_argument es j e x arg w
 part_of_child _ e x (of_argument {es = es} j arg) w = part_of_argument es j e x arg w
 
--- The same of delays and calls.
-delay_of_argument : (es : Trees) (j : ℕ) (e : Tree) (d : Delay) → IsArgument es j e → Contains (delays e) d → Contains (delays_of_all es) d
-delay_of_argument _ _ e d (head {es = es}) w = Contains-append_left (delays e) (delays_of_all es) d w
-delay_of_argument _ _ e d (tail {e = b} {es = es} arg) w = Contains-append_right (delays b) (delays_of_all es) d (delay_of_argument es _ e d arg w)
-
 delay_of_child : (site : Option ℕ) (form : Form) (e : Tree) (d : Delay) → IsChild e form → Contains (delays e) d → Contains (form_delays site form) d
 delay_of_child site _ e d of_not w = w
 delay_of_child site _ e d of_minus w = w
@@ -105,10 +102,6 @@ delay_of_child site _ e d (of_second {a = a} {b = b}) w = Contains-append_right 
     (Contains-append_right (delays b) (delays e) d w)
 delay_of_child site _ e d (of_operand {es = es} j arg) w = delay_of_argument es j e d arg w
 delay_of_child site _ e d (of_argument {es = es} j arg) w = delay_of_argument es j e d arg w
-
-call_of_argument : (es : Trees) (j : ℕ) (e : Tree) (c : CallTree) → IsArgument es j e → Contains (calls_in e) c → Contains (calls_in_all es) c
-call_of_argument _ _ e c (head {es = es}) w = Contains-append_left (calls_in e) (calls_in_all es) c w
-call_of_argument _ _ e c (tail {e = b} {es = es} arg) w = Contains-append_right (calls_in b) (calls_in_all es) c (call_of_argument es _ e c arg w)
 
 call_of_child : (at : ℕ) (site : Option ℕ) (form : Form) (e : Tree) (c : CallTree) → IsChild e form → Contains (calls_in e) c
     → Contains (form_calls at site form) c
@@ -127,38 +120,6 @@ call_of_child at site _ e d (of_second {a = a} {b = b}) w = Contains-append_righ
 call_of_child at site _ e c (of_operand {es = es} j arg) w = call_of_argument es j e c arg w
 call_of_child at site _ e c (of_argument {f = f} {es = es} j arg) w = in_tail (record { at = at; site = unwrap_or site 0; name = f; args = es })
     (calls_in_all es) c (call_of_argument es j e c arg w)
-
--- What stands in equations and assertions.
-delay_of_equation : (qs : List EquationTree) (q : EquationTree) (d : Delay) → Contains qs q → Contains (delays q.right) d → Contains (delays_in_equations qs) d
-delay_of_equation [] q d w v = none_in q w
-delay_of_equation (r ∷ rs) q d w v = elim (head_or_tail r rs q w) [
-  | inl is ↦ Contains-append_left (delays r.right) (delays_in_equations rs) d (subst (λ u. Contains (delays u.right) d) (sym is) v)
-  | inr rest ↦ Contains-append_right (delays r.right) (delays_in_equations rs) d (delay_of_equation rs q d rest v)
-]
-
-delay_of_assertion : (qs : List AssertionTree) (q : AssertionTree) (d : Delay) → Contains qs q → Contains (delays q.body) d
-    → Contains (delays_in_assertions qs) d
-delay_of_assertion [] q d w v = none_in q w
-delay_of_assertion (r ∷ rs) q d w v = elim (head_or_tail r rs q w) [
-  | inl is ↦ Contains-append_left (delays r.body) (delays_in_assertions rs) d (subst (λ u. Contains (delays u.body) d) (sym is) v)
-  | inr rest ↦ Contains-append_right (delays r.body) (delays_in_assertions rs) d (delay_of_assertion rs q d rest v)
-]
-
-pub call_of_equation : (qs : List EquationTree) (q : EquationTree) (c : CallTree) → Contains qs q → Contains (calls_in q.right) c
-    → Contains (calls_in_equations qs) c
-call_of_equation [] q c w v = none_in q w
-call_of_equation (r ∷ rs) q c w v = elim (head_or_tail r rs q w) [
-  | inl is ↦ Contains-append_left (calls_in r.right) (calls_in_equations rs) c (subst (λ u. Contains (calls_in u.right) c) (sym is) v)
-  | inr rest ↦ Contains-append_right (calls_in r.right) (calls_in_equations rs) c (call_of_equation rs q c rest v)
-]
-
-call_of_assertion : (qs : List AssertionTree) (q : AssertionTree) (c : CallTree) → Contains qs q → Contains (calls_in q.body) c
-    → Contains (calls_in_assertions qs) c
-call_of_assertion [] q c w v = none_in q w
-call_of_assertion (r ∷ rs) q c w v = elim (head_or_tail r rs q w) [
-  | inl is ↦ Contains-append_left (calls_in r.body) (calls_in_assertions rs) c (subst (λ u. Contains (calls_in u.body) c) (sym is) v)
-  | inr rest ↦ Contains-append_right (calls_in r.body) (calls_in_assertions rs) c (call_of_assertion rs q c rest v)
-]
 
 -- the arguments of a right side that is a call have a weight
 abbrev AreWeighed : List Name → Tree → Trees → Type 0

@@ -11,8 +11,8 @@ use Rattle.rv_types.specs.Lists.{AreRising}
 use Rattle.rv_instances.specs.Flowing.{place_at}
 use Rattle.rv_flatten.specs.Positions.{AreNumbersOf, told}
 use Rattle.rv_flat.proofs.Earliest.{not_itself}
-use Rattle.rv_flat.proofs.Members.{none_in, at_head, in_tail, head_or_tail}
 use Rattle.rv_flat.proofs.PlaceNumbers.{its_number}
+use Rattle.rv_types.proofs.Members.{at_head, cons_cases as head_or_tail, in_tail, nothing_in as none_in}
 
 -- no two elements are equal
 abbrev Apart : {X : Type 0} → List X → Type 0

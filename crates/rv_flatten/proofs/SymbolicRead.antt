@@ -28,7 +28,7 @@ use Rattle.rv_agreement.specs.Agreement.{IsWell}
 use Rattle.rv_agreement.specs.Evaluation.{IsInstant}
 use Rattle.rv_agreement.specs.ProgramAgreement.{IsSystemOf}
 use Rattle.rv_agreement.specs.Programs.{label_counts, kinds_of, columns_of, found_by, IsSymbolicOf, Compared, IsComparison}
-use Rattle.rv_agreement.specs.Translation.{Numbers, clock_number, tick_number, giver_item, flat_compared, IsTranslated, IsClockOf, AreIndexed}
+use Rattle.rv_agreement.specs.Translation.{Numbers, clock_number, tick_number, giver_item, flat_compared, IsTranslated, IsClockOf}
 use Rattle.rv_agreement.specs.Trees.{System, Item, memory_kinds, memory_places}
 use Rattle.rv_agreement.specs.Valuations.{Valuation, Reading, Comparison, all_comparisons, IsSymbolic, whole_count, width, readings, found_at}
 use Rattle.rv_flat.specs.declared.parts.Bit.{Bit}
@@ -40,10 +40,12 @@ use Rattle.rv_flat.specs.Lists.{tick_places}
 use Rattle.rv_flatten.specs.Readings.{numbers_of, IsRead, AreKinds}
 use Rattle.rv_flat.specs.Systems.{places_of, memory_places_of, memory_of, kept_of, system_from}
 use Rattle.rv_flatten.proofs.AgreedLaws.{Laws, AreAllFound, AreClocked}
-use Rattle.rv_flat.proofs.Members.{at_head, in_tail, in_map}
 use Rattle.rv_flatten.proofs.NamedParts.{are_named}
-use Rattle.rv_flat.proofs.PlaceNumbers.{same_text, text_itself, is_found, index_at, made_at, made_past}
-use Rattle.rv_flat.proofs.TypedParts.{no_flag}
+use Rattle.rv_flat.proofs.PlaceNumbers.{made_at, made_past}
+use Rattle.rv_agreement.proofs.Controls.{no_flag}
+use Rattle.rv_agreement.proofs.Indexed.{indexed}
+use Rattle.rv_meaning.proofs.NameLemmas.{same_text}
+use Rattle.rv_types.proofs.Members.{among_from as is_found, at_head, in_map, in_tail, text_itself}
 
 -- Clocks that are there at the same histories are one.
 
@@ -94,9 +96,6 @@ gives_there : (program : ProgramTree) (starts : Sites → Value) (inputs : ℕ �
 gives_there program starts inputs (Given j) h = (λ x. refl, λ x. refl)
 gives_there program starts inputs (Of i k (Body e)) h = masked (is_there h (clock_in i k e) 0) _
 gives_there program starts inputs (Of i k (Output c j)) h = masked (is_there h (absolute i (clock_of_arguments i c.args)) 0) _
-
-pub indexed : (ps : List Sites) → AreIndexed ps
-indexed ps q w = index_at ps q (is_found ps q w)
 
 -- the labels of an enumeration as they are counted
 labels_counted : (ds : List TypeDecl) → map (λ (ls : List (List ℕ)). length ls) (map (λ d. texts (labels_of d)) ds) ≡ map (λ d. label_count d) ds

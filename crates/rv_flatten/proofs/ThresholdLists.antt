@@ -14,7 +14,7 @@ use Rattle.rv_types.specs.Variables.{parts, form_parts, parts_of_all, node_parts
 use Rattle.rv_flat.specs.Thresholds.{IsNumberOf, in_node, in_constant, constant, beside, IsThreshold, AreThresholds}
 use Rattle.rv_flatten.specs.Literals.{literals, form_literals, literals_of_all, equation_literals, assertion_literals, node_literals, constant_literals}
 use Rattle.rv_flatten.specs.Literals.{program_literals, around, around_literal, around_value, program_numbers, IsDistinctOf}
-use Rattle.rv_flat.proofs.Members.{none_in, at_head, in_tail, head_or_tail, in_map, in_flat_map, from_flat_map}
+use Rattle.rv_types.proofs.Members.{at_head, cons_cases as head_or_tail, in_flat_map, in_map, in_tail, nothing_in as none_in, of_flat_map as from_flat_map}
 
 -- A literal of an expression is one of its parts.
 pub record HasLiteral (xs : List Tree) (v : ℕ) : Type 0 where

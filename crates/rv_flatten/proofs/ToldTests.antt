@@ -19,7 +19,7 @@ use Rattle.rv_types.proofs.TypedParts.{left_typed}
 use Rattle.rv_agreement.specs.Programs.{is_test}
 use Rattle.rv_flatten.specs.Compared.{is_told_test, own_tests_by, tests_by, form_tests_by, tests_of_all_by, tests_in_equations_by, tests_in_assertions_by}
 use Rattle.rv_flatten.specs.Compared.{tests_in, told_tests_in}
-use Rattle.rv_flat.proofs.Members.{at_head, in_tail}
+use Rattle.rv_types.proofs.Members.{at_head, in_tail}
 
 -- the head of a left operand that has a type tells whether integers are compared
 pub told_is : (s : Scope) (o : Op) (a : Tree) (k : Kind) → kind_of s a ≡ Some k → is_told_test s o a ≡ is_test s o a

@@ -1,5 +1,5 @@
 -- What is made of a program is its flat system, where each `current` shows its memory.
-use Rattle.std.proofs.Common.{◌≡◌, ℕ, zero, suc, ◌<◌, ℤ, negsuc, Bool, true, false, cond, List, [], ◌∷◌, ◌++◌, map, length, get_or, slice_get, refl, sym, ◌∙◌}
+use Rattle.std.proofs.Common.{◌≡◌, ℕ, suc, ◌<◌, ℤ, negsuc, Bool, true, false, cond, List, [], ◌∷◌, ◌++◌, map, length, get_or, slice_get, refl, sym, ◌∙◌}
 use Rattle.std.proofs.Common.{ap, subst, arith, Option, Some}
 use Rattle.std.proofs.Common.{None as Nothing}
 use Rattle.std.proofs.lemmas.List.{length-map}
@@ -36,15 +36,10 @@ use Rattle.rv_flat.specs.RawTree.{RawTree, Node, RawForm, Constant, Flow, Ticked
 use Rattle.rv_flatten.specs.Readings.{numbers_of, unplaced, presence, product, operator, raw_of, raw_form, raws_of, RawItem, raw_flow, raw_memory, no_raw}
 use Rattle.rv_flatten.specs.Readings.{raw_giver, raw_delay, assertion_of, no_assumption, IsRead}
 use Rattle.rv_flat.specs.Systems.{memory_places_of, memory_of, flow_item, memory_item, asserted, assertion_item, kept_of, system_from}
-use Rattle.rv_flat.proofs.Members.{in_map}
-use Rattle.rv_flat.proofs.PlaceNumbers.{is_found, index_at}
 use Rattle.rv_flatten.proofs.Standing.{Stands, as_child, of_not, of_minus, of_current, of_when, of_left, of_right, of_condition, of_first, of_second}
 use Rattle.rv_flatten.proofs.Standing.{of_operand, own_current, body_stands, argument_stands, as_assertion, operand_stands}
-
-pub some_at : {X : Type 0} (xs : List X) (k : ℕ) → k < length xs → (x : X) × (slice_get xs k ≡ Some x)
-some_at [] k lt = absurd (omega (arith, lt))
-some_at (x ∷ xs) zero lt = (x, refl)
-some_at (x ∷ xs) (suc k) lt = some_at xs k (omega (arith, lt))
+use Rattle.rv_flat.proofs.SystemRuns.{found_in as some_at}
+use Rattle.rv_types.proofs.Members.{among_from as is_found, in_map, index_there as index_at}
 
 pub mapped_at : {X Y : Type 0} (f : X → Y) (xs : List X) (k : ℕ) (x : X) (d : Y) → slice_get xs k ≡ Some x → get_or (map f xs) k d ≡ f x
 mapped_at f xs k x d e = get_or_from_slice_get (map f xs) k (f x) d (slice_get-map f xs k ∙ ap (option_map f) e)

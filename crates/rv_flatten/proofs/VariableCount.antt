@@ -40,9 +40,10 @@ use Rattle.rv_flatten.proofs.ComparedParts.{equation_marks, assertion_marks, nod
 use Rattle.rv_flatten.proofs.ComparedPlaces.{has_sides}
 use Rattle.rv_flatten.proofs.CountedVariables.{total_joined, total_flat_map, total_map, total_same, around, still_there, length_copies, length_memories}
 use Rattle.rv_flatten.proofs.CountedVariables.{length_inputs, length_tests, ones, own_clocks, site, ticks_few, memories_few, tests_few}
-use Rattle.rv_flatten.proofs.InstanceNumbers.{of_map, snoc}
-use Rattle.rv_flat.proofs.Members.{none_in, at_head, in_tail, head_or_tail, in_map, from_flat_map}
-use Rattle.rv_flat.proofs.TypedParts.{no_flag}
+use Rattle.rv_agreement.proofs.Controls.{no_flag}
+use Rattle.rv_instances.proofs.FlowPlaces.{snoc_parts as snoc}
+use Rattle.rv_meaning.proofs.NameLemmas.{rest as rest_of}
+use Rattle.rv_types.proofs.Members.{at_head, cons_cases as head_or_tail, in_map, in_tail, nothing_in as none_in, of_flat_map as from_flat_map, of_map}
 
 -- A sum over elements that are told apart, all of which are in a list, is no more than that over the list.
 sum_once : {X K : Type 0} (f : X → ℕ) (key : X → K) (xs ys : List X) → IsApart key xs → ((x : X) → Contains xs x → Contains ys x) → total f xs ≤ total f ys
@@ -59,11 +60,6 @@ sum_once f key (x ∷ xs) ys apart all =
 either_false : (a b : Bool) → (a || b) ≡ false → (a ≡ false) × (b ≡ false)
 either_false true b e = no_flag (sym e)
 either_false false b e = (refl, e)
-
--- two lists that go on after one front
-rest_of : List ℕ → List ℕ
-rest_of [] = []
-rest_of (x ∷ xs) = xs
 
 next_same : (xs : List ℕ) (a b : ℕ) (q r : List ℕ) → xs ++ a ∷ q ≡ xs ++ b ∷ r → a ≡ b
 unfolding rest_of

@@ -1,39 +1,18 @@
 -- The instances of a program that keeps the rules: their nodes are well formed and well typed, and what stands there is light.
-use Rattle.std.proofs.Common.{◌≡◌, inl, inr, ℕ, ◌≤◌, Bool, true, false, ◌||◌, cond, nat_lt, List, [], ◌∷◌, map, refl, ◌∙◌, ap, subst, arith, unwrap_or, Option}
-use Rattle.std.proofs.Common.{Some, IsSome, IsTrue}
+use Rattle.std.proofs.Common.{◌≡◌, inl, inr, ℕ, ◌≤◌, Bool, true, false, cond, nat_lt, List, [], ◌∷◌, refl, ◌∙◌, ap, subst, arith, Option}
 use Rattle.std.proofs.lemmas.Bool.Decides.{nat_tests}
 use Rattle.std.proofs.lemmas.List.Elements.{Contains-append_left, Contains-append_right}
 use Rattle.std.specs.List.{Contains}
-use Rattle.rv_tree.specs.Tree.{Tree, Node, Form, NodeTree, ProgramTree}
-use Rattle.rv_tree.specs.Places.{Identifier, Sites, is_same, is_among}
-use Rattle.rv_types.specs.Kinds.{node_among}
-use Rattle.rv_types.specs.Instances.{Instance, no_node, IsInstance, is_main, is_callee, IsNode}
+use Rattle.rv_tree.specs.Tree.{Tree, Node, Form, ProgramTree}
+use Rattle.rv_tree.specs.Places.{Identifier, Sites}
+use Rattle.rv_types.specs.Instances.{Instance, IsInstance, is_main, is_callee, IsNode}
 use Rattle.rv_types.specs.WellFormed.{IsWellFormed, IsWellTyped, AreWell}
 use Rattle.rv_base.specs.Limits.{heaviest}
 use Rattle.rv_instances.specs.Weights.{weight, too_wide, weighed, IsTooWide}
-use Rattle.rv_flat.proofs.Members.{none_in, at_head, in_tail, head_or_tail}
 use Rattle.rv_flatten.proofs.Standing.{Stands, stands_weighed}
-use Rattle.rv_flat.proofs.TypedParts.{no_flag}
-
--- the first node of a name that is there is one of the nodes
-named_among : (ns : List NodeTree) (f : Identifier) → IsSome (node_among ns f) → Contains ns (unwrap_or (node_among ns f) no_node)
-named_among [] f h = no_flag h
-named_among (n ∷ ns) f h = tested (is_same n.name.text f) h (named_among ns f)
-  where
-    tested : (b : Bool) → IsSome (cond b (Some n) (node_among ns f)) → (IsSome (node_among ns f) → Contains ns (unwrap_or (node_among ns f) no_node))
-        → Contains (n ∷ ns) (unwrap_or (cond b (Some n) (node_among ns f)) no_node)
-    tested true h again = at_head n ns
-    tested false h again = in_tail n ns (unwrap_or (node_among ns f) no_node) (again h)
-
--- a name that some node has is there
-some_among : (ns : List NodeTree) (f : Identifier) → IsTrue (is_among (map (λ n. n.name.text) ns) f) → IsSome (node_among ns f)
-some_among [] f h = no_flag h
-some_among (n ∷ ns) f h = tested (is_same n.name.text f) h (some_among ns f)
-  where
-    tested : (b : Bool) → IsTrue (b || is_among (map (λ n. n.name.text) ns) f) → (IsTrue (is_among (map (λ n. n.name.text) ns) f) → IsSome (node_among ns f))
-        → IsSome (cond b (Some n) (node_among ns f))
-    tested true h again = refl
-    tested false h again = again h
+use Rattle.rv_agreement.proofs.Controls.{no_flag}
+use Rattle.rv_meaning.proofs.Acceptable.{named_among, some_among}
+use Rattle.rv_types.proofs.Members.{at_head, cons_cases as head_or_tail, nothing_in as none_in}
 
 module _ (program : ProgramTree) (main : Identifier) (well : AreWell program) (named : IsNode program main) where
   -- the node of each instance is one of the nodes

@@ -1,5 +1,5 @@
 -- The parts of a term as answers to a question.
-use Rattle.std.proofs.Common.{◌≡◌, inl, inr, ℕ, zero, suc, ◌<◌, Bool, true, false, List, [], ◌∷◌, length, refl, sym, ◌∙◌, ap, subst, arith, Some}
+use Rattle.std.proofs.Common.{◌≡◌, inl, inr, ℕ, zero, suc, ◌<◌, true, List, [], ◌∷◌, length, refl, sym, ◌∙◌, ap, subst, arith, Some}
 use Rattle.std.proofs.Common.{None as Nothing}
 use Rattle.std.specs.Prelude.{slice_get}
 use Rattle.std.proofs.lemmas.Bool.{cases_eq, cases_lt}
@@ -17,6 +17,7 @@ use Rattle.rv_flat.specs.declared.flat.Flat.{Flat}
 use Rattle.rv_control.specs.Control.{control_of}
 use Rattle.rv_forms.specs.Choices.{refs_in, forms_in, AreChoices}
 use Rattle.rv_forms.specs.Terms.{columns_of, parts_at, AreUpdatesRead}
+use Rattle.rv_cases.proofs.Gathering.{same_truth}
 
 -- the reference of an answer is that of its part
 under_at : (parts : List Part) (i : ℕ) → ref_at (refs_in parts) i ≡ (part_at parts i).under
@@ -49,12 +50,6 @@ are_answers nodes columns parts is =
 pub answer_says : (nodes : List Triple) (columns : ℕ) (parts : List Part) (b : ℕ) (v : Valuation) → IsTerm nodes columns parts → b < length parts
     → is_in nodes (refs_in parts) b v ≡ true → form_at nodes parts v ≡ (part_at parts b).form
 answer_says nodes columns parts b v is lt on = (part_iff nodes columns parts b v is lt).0 (sym (answer_is nodes parts b v) ∙ on)
-
-same_truth : (a b : Bool) → (a ≡ true → b ≡ true) → (b ≡ true → a ≡ true) → a ≡ b
-same_truth true true f g = refl
-same_truth true false f g = sym (f refl)
-same_truth false true f g = g refl
-same_truth false false f g = refl
 
 -- a part holds at both valuations, or at none, where the term has one form at them
 held_alike : (nodes : List Triple) (columns : ℕ) (parts : List Part) (b : ℕ) (v w : Valuation) → IsTerm nodes columns parts → b < length parts

@@ -1,11 +1,11 @@
 -- What bounds say of the sums and multiples of forms.
-use Rattle.std.proofs.Common.{◌≡◌, inl, inr, ℕ, ◌+◌, ◌*◌, ◌^◌, ◌<◌, ◌≤◌, ℤ, pos, negsuc, ◌+ℤ◌, ◌*ℤ◌, true, List, length, refl, sym, subst, arith}
+use Rattle.std.proofs.Common.{◌≡◌, inl, inr, ℕ, ◌+◌, ◌*◌, ◌^◌, ◌<◌, ◌≤◌, ℤ, pos, ◌+ℤ◌, ◌*ℤ◌, true, List, length, sym, subst, arith}
 use Rattle.std.specs.Prelude.{nat_abs, nat_le}
 use Rattle.std.specs.Int.RustNames.{unsigned_abs}
 use Rattle.std.proofs.Math.Nat.{mul-le-mul_left}
 use Rattle.std.proofs.Math.ListN.{get_or-eq_default}
 use Rattle.std.proofs.lemmas.Bool.{cases_lt, and_parts}
-use Rattle.std.proofs.lemmas.Int.{ints, unsigned_abs-mul}
+use Rattle.std.proofs.lemmas.Int.{unsigned_abs-mul}
 use Rattle.std.proofs.lemmas.List.Elements.{All-get_or, All-from_get_or}
 use Rattle.rv_base.specs.Limits.{heaviest}
 use Rattle.rv_tree.specs.Places.{Sites}
@@ -19,7 +19,7 @@ use Rattle.rv_terms.proofs.Combining.{form_width}
 use Rattle.rv_agreement.specs.Trees.{FlatTree, Node, TreeForm}
 use Rattle.rv_flat.specs.Facts.{form_flat_weight, is_light, form_is_light}
 use Rattle.rv_flat.specs.Tame.{IsOver}
-use Rattle.rv_control.proofs.Bounded.{IsBounded, looser}
+use Rattle.rv_control.proofs.Bounded.{IsBounded, looser, same_abs, triangle}
 use Rattle.rv_forms.specs.Terms.{IsWithin}
 
 each_small : (n : ℕ) (f : Form) → FormWithin n f → (k : ℕ) → unsigned_abs (number k f.coefficients) ≤ n
@@ -56,9 +56,6 @@ within_more nodes columns n more parts le is = record {
   small = λ v. within columns more (form_at nodes parts v) (looser columns n more (form_at nodes parts v) le (form_bounded nodes columns n parts is v));
 }
 
-triangle : (a b : ℤ) (m n : ℕ) → unsigned_abs a ≤ m → unsigned_abs b ≤ n → unsigned_abs (a +ℤ b) ≤ m + n
-triangle a b m n h k = omega (arith, ints)
-
 add_small : (a b : ℤ) → unsigned_abs a ≤ heaviest → unsigned_abs b ≤ heaviest → unsigned_abs (a +ℤ b) < 2 ^ 110
 add_small a b h k = let sum = triangle a b heaviest heaviest h k in omega (arith, sum)
 
@@ -67,10 +64,6 @@ can_add columns f g a b = record {
   coefficients = λ k. add_small (number k f.coefficients) (number k g.coefficients) (a.each k) (b.each k);
   constant = add_small f.constant g.constant a.constant b.constant;
 }
-
-same_abs : (z : ℤ) → unsigned_abs z ≡ nat_abs z
-same_abs (pos n) = refl
-same_abs (negsuc n) = refl
 
 product_small : (z c : ℤ) (n : ℕ) → nat_abs z * n ≤ heaviest → unsigned_abs c ≤ n → unsigned_abs (z *ℤ c) < 2 ^ 110
 product_small z c n h k =

@@ -50,12 +50,8 @@ use Rattle.rv_forms.proofs.Bounds.{form_bounded, term_within, within_more}
 use Rattle.rv_forms.proofs.Kept.{one_kept, wholes_kept}
 use Rattle.rv_forms.proofs.Ranks.{rank_next, forms_kth, spelled_form, kind_bounded}
 use Rattle.rv_forms.proofs.Showing.{clock_shown}
-
-nothing_some : {A : Type 0} (x : A) → Nothing ≡ Some x → ⊥
-nothing_some x e = cc
-
-some_same : {A : Type 0} (x y : A) → Some x ≡ Some y → x ≡ y
-some_same x y e = cc
+use Rattle.rv_agreement.proofs.Witnessed.{some_same}
+use Rattle.rv_bits.proofs.Flowing.{nothing_some}
 
 -- what a list says of what stands at a place of it
 pub mapped : {A B : Type 0} (g : A → B) (xs : List A) (k : ℕ) (x : A) (d : B) → slice_get xs k ≡ Some x → slice_index_or (map g xs) k d ≡ g x

@@ -23,6 +23,7 @@ use Rattle.rv_bits.specs.Shown.{AreAfter}
 use Rattle.rv_bits.proofs.Keeping.{around_kept, after_kept}
 use Rattle.rv_forms.specs.declared.over.Wholes.{Wholes}
 use Rattle.rv_forms.specs.Terms.{columns_of, weights_of, weight_in, parts_at, IsWithin, ReadsAs, AreWholes, IsAfterAs, AreKnown, IsReady}
+use Rattle.rv_agreement.proofs.Witnessed.{some_same as some_is}
 
 pub to_terms : (a b : Diagrams) → Extends a b → terms.Extends a b
 to_terms a b e = record { begins = e.begins; longer = e.longer; kept = e.kept; variables = e.variables; limit = e.limit }
@@ -72,9 +73,6 @@ one_kept f a b m parts e is =
 
 pub known_kept : (f : Flat) (a b : Diagrams) (known : List (Option Term)) → Extends a b → AreKnown f a.nodes known → AreKnown f b.nodes known
 known_kept f a b known e are = record { size = are.size; each = λ m t is. one_kept f a b m t.parts e (are.each m t is) }
-
-some_is : {A : Type 0} (x y : A) → Some x ≡ Some y → x ≡ y
-some_is x y e = cc
 
 -- what one more memory holds is known
 pub known_set : (f : Flat) (nodes : List Triple) (known : List (Option Term)) (m : ℕ) (t : Term) → m < length known → AreKnown f nodes known

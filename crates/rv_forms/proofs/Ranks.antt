@@ -17,11 +17,11 @@ use Rattle.rv_terms.specs.Parts.{IsTermOf}
 use Rattle.rv_agreement.specs.Agreement.{forms_from}
 use Rattle.rv_agreement.specs.Trees.{kind_at}
 use Rattle.rv_agreement.specs.Valuations.{form_of, spelled, whole_count, rank}
-use Rattle.rv_flat.specs.Facts.{integers}
-use Rattle.rv_control.proofs.Bounded.{IsBounded, zero_bounded, column_bounded}
+use Rattle.rv_control.proofs.Bounded.{IsBounded, zero_bounded, column_bounded, length-zeros as zeros_length, length-unit as unit_length}
 use Rattle.rv_bits.proofs.Listing.{element_before, element_last}
 use Rattle.rv_forms.specs.Columns.{kind_form}
 use Rattle.rv_forms.specs.Terms.{parts_at}
+use Rattle.rv_terms.proofs.Counting.{bit-most as one_most}
 
 pub rank_zero : (ks : List Kind) → rank ks 0 ≡ 0
 rank_zero [] = refl
@@ -39,10 +39,6 @@ pub rank_all : (ks : List Kind) → rank ks (length ks) ≡ whole_count ks
 rank_all [] = refl
 rank_all (k ∷ ks) = ap (λ n. cond (is_integer k) 1 0 + n) (rank_all ks)
 
-pub one_most : (b : Bool) → cond b 1 0 ≤ 1
-one_most true = omega arith
-one_most false = omega arith
-
 pub rank_most : (ks : List Kind) (m : ℕ) → rank ks m ≤ m
 rank_most [] m = omega arith
 rank_most (k ∷ ks) zero = omega arith
@@ -52,11 +48,6 @@ pub rank_within : (ks : List Kind) (m : ℕ) → rank ks m ≤ whole_count ks
 rank_within [] m = omega arith
 rank_within (k ∷ ks) zero = omega arith
 rank_within (k ∷ ks) (suc m) = let h = rank_within ks m in omega (arith, h)
-
--- there are few integers
-pub count_same : (ks : List Kind) → whole_count ks ≡ integers ks
-count_same [] = refl
-count_same (k ∷ ks) = λ i. cond (is_integer k) 1 0 + count_same ks i
 
 -- the form of an integer memory among those of all
 pub forms_kth : (ks : List Kind) (g : ℕ → Form) (i : ℕ) (d : Form) → i < length ks → kind_at ks i ≡ kind.Int
@@ -112,15 +103,6 @@ zeros_more n = by n ∙ ap zeros (let e : suc n ≡ n + 1 = omega arith in e)
     by : (m : ℕ) → zeros m ++ pos 0 ∷ [] ≡ zeros (suc m)
     by zero = refl
     by (suc m) = ap (λ l. pos 0 ∷ l) (by m)
-
-pub zeros_length : (n : ℕ) → length (zeros n) ≡ n
-zeros_length zero = refl
-zeros_length (suc n) = ap suc (zeros_length n)
-
-pub unit_length : (k n : ℕ) → length (unit k n) ≡ n
-unit_length k zero = refl
-unit_length zero (suc n) = ap suc (zeros_length n)
-unit_length (suc k) (suc n) = ap suc (unit_length k n)
 
 zero_at : (n i : ℕ) → slice_index_or (zeros n) i (pos 0) ≡ pos 0
 zero_at zero i = refl

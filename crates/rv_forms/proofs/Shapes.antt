@@ -1,8 +1,6 @@
 -- The tree of an expression by its form.
-use Rattle.std.proofs.Common.{◌≡◌, ℕ, ◌≤◌, ℤ, sym, ◌∙◌, ap, arith, Option, Some}
-use Rattle.std.proofs.Common.{None as Nothing}
+use Rattle.std.proofs.Common.{◌≡◌, ℕ, ◌≤◌, ℤ, sym, ◌∙◌, ap, arith}
 use Rattle.rv_tree.specs.declared.tree.Op.{Op}
-use Rattle.rv_agreement.specs.Agreement.{IsNamed}
 use Rattle.rv_agreement.specs.Trees.{FlatTree, Node, TreeForm, FlatTrees, Constant, Flow, Memory, Ticked, Input, Not, Binary, Scale, If, AtMostOne, When}
 use Rattle.rv_agreement.specs.Trees.{Current, None, More}
 use Rattle.rv_flat.specs.declared.parts.FlatExpr.{FlatExpr}
@@ -17,6 +15,7 @@ use Rattle.rv_flat.specs.RawTree as raw
 use Rattle.rv_flat.specs.Tame.{IsOver, FormIsOver, AreOver}
 use Rattle.rv_bits.specs.declared.around.Around.{Around}
 use Rattle.rv_bits.specs.Reads.{tree_in}
+use Rattle.rv_bits.proofs.Fitting.{named_more}
 
 abbrev raw_form : FlatForm → RawForm
 raw_form = fold-FlatForm RawForm RawTree form_of (λ e. raw.Node e.at.sites e.form)
@@ -49,10 +48,6 @@ pub tree_current : (x : Around) (e : FlatExpr) (m : ℕ) → e.form ≡ form.Cur
     → tree_in x e ≡ Node e.at.sites (Current m (table_of x.flat.now.memories m).clock (table_of x.flat.now.memories m).body)
 tree_current x e m is = whole x e (raw.Current m)
     (ap raw_form (is ∙ sym (rolls-Current m)) ∙ fold-roll-FlatForm RawForm RawTree form_of (λ e. raw.Node e.at.sites e.form) (step.Current m))
-
-pub named_more : (n m : ℕ) → n ≤ m → (k : Option ℕ) → IsNamed n k → IsNamed m k
-named_more n m le Nothing named = tt
-named_more n m le (Some c) named = omega arith
 
 -- an expression over the first flows is one over more flows
 module _ (n m : ℕ) (le : n ≤ m) where

@@ -122,18 +122,6 @@ light_within x d t parts light is = within_more d.nodes (columns_of x.flat.now) 
 pub flows_many : (x : Around) → length (system_of x.flat.now).flows ≡ length x.flat.now.flows
 flows_many x = length-map x.flat.now.flows (flow_item x.flat.now.memories)
 
-pub map_ok : {A E : Type 0} (o : Result A E) (P Q : A → Type 0) → ((r : A) → P r → Q r) → IfOk o P → IfOk o Q
-map_ok (Ok r) P Q f h = f r h
-map_ok (Err e) P Q f h = h
-
-pub both_ok : {A E : Type 0} (o : Result A E) (P Q R : A → Type 0) → ((r : A) → P r → Q r → R r) → IfOk o P → IfOk o Q → IfOk o R
-both_ok (Ok r) P Q R g h k = g r h k
-both_ok (Err e) P Q R g h k = h
-
-pub on_ok : {A E : Type 0} (o : Result A E) (P : A → Type 0) (Q : Type 0) → ((r : A) → P r → Q) → IfOk o P → OnOk o Q
-on_ok (Ok r) P Q g h = g r h
-on_ok (Err e) P Q g h = h
-
 pub ok_with : {A E : Type 0} (o : Result A E) (P : A → Type 0) (Q : Type 0) (R : A → Type 0) → ((r : A) → P r → Q → R r) → IfOk o P → OnOk o Q → IfOk o R
 ok_with (Ok r) P Q R g h k = g r h k
 ok_with (Err e) P Q R g h k = h

@@ -11,9 +11,10 @@ use Rattle.rv_types.specs.Names.{is_declared, node_names, is_value, names_in_nod
 use Rattle.rv_types.specs.Names.{clock_use, equation_uses, assertion_uses, node_uses}
 use Rattle.rv_types.specs.Instances.{CallTree, calls, taken, clock_of_args}
 use Rattle.rv_instances.specs.Flowing.{IsKnownClock, IsKnownPace}
-use Rattle.rv_instances.proofs.Known.{split_nil, each_nil, parts_named}
+use Rattle.rv_instances.proofs.Known.{each_nil, parts_named}
 use Rattle.rv_instances.proofs.ClockFlows.{all_known, pace_known, clocks_known}
 use Rattle.rv_instances.proofs.CallsInside.{call_known}
+use Rattle.rv_types.proofs.RightNames.{both_empty as split_nil}
 
 -- what a known pace takes of a known clock
 pub taken_known : (n : NodeTree) (k : Clock) (p : Pace) → IsKnownClock n k → IsKnownPace n p → IsKnownClock n (taken k p)

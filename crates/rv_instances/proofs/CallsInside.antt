@@ -8,7 +8,9 @@ use Rattle.rv_tree.specs.Places.{Identifier, is_flow}
 use Rattle.rv_types.specs.Parts.{faults_of_all}
 use Rattle.rv_types.specs.Names.{is_declared, node_names, is_value, node_uses, equation_uses, assertion_uses, name_faults, use_of, uses, own_uses}
 use Rattle.rv_types.specs.Instances.{CallTree, calls, calls_in, form_calls, calls_in_all, calls_in_equations, calls_in_assertions, IsArgument, head, tail}
-use Rattle.rv_instances.proofs.Known.{cons_cases, nothing_in, split_nil, each_nil, uses_of}
+use Rattle.rv_instances.proofs.Known.{each_nil, uses_of}
+use Rattle.rv_types.proofs.Members.{cons_cases, nothing_in}
+use Rattle.rv_types.proofs.RightNames.{both_empty as split_nil}
 
 -- The names in the arguments of a call of an expression of which every name is known.
 module _ (values clocks nodes : Identifier → Bool) where

@@ -21,7 +21,7 @@ use Rattle.rv_types.specs.Instances.{taken}
 use Rattle.rv_types.specs.ToldPaces.{first_pace, operator_told, told_pace, form_told, told_pace_of_all}
 use Rattle.rv_instances.specs.Layouts.{IsWithin}
 use Rattle.rv_instances.proofs.Lists.{nat_split}
-use Rattle.rv_instances.proofs.Known.{of_map}
+use Rattle.rv_types.proofs.Members.{of_map}
 
 abbrev pub IsLow : NodeTree → Clock → Type 0
 IsLow n Base = Unit {0}

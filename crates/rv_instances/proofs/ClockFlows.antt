@@ -22,7 +22,9 @@ use Rattle.rv_types.specs.Names.{clock_use, uses, own_uses, use_of, use_at}
 use Rattle.rv_types.specs.Parts.{faults_of_all}
 use Rattle.rv_instances.specs.Flowing.{IsKnownClock, IsKnownPace}
 use Rattle.rv_instances.proofs.Lists.{nat_split}
-use Rattle.rv_instances.proofs.Known.{split_nil, each_nil, of_map, index_there}
+use Rattle.rv_instances.proofs.Known.{each_nil}
+use Rattle.rv_types.proofs.Members.{index_there, of_map}
+use Rattle.rv_types.proofs.RightNames.{both_empty as split_nil}
 
 seen_known : (n : NodeTree) (p : Pace) → IsKnownPace n p → IsKnownPace n (seen p)
 seen_known n Free h = tt

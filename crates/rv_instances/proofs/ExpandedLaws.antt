@@ -19,7 +19,8 @@ use Rattle.rv_instances.specs.Layouts.{node_at, path_at, ArePaths}
 use Rattle.rv_instances.proofs.Lists.{nat_split}
 use Rattle.rv_instances.proofs.Known.{number_of_node}
 use Rattle.rv_instances.proofs.Flowing.{instance_node}
-use Rattle.rv_instances.proofs.FlowPlaces.{not_empty, snoc_parts, same_call, numbered_node}
+use Rattle.rv_instances.proofs.FlowPlaces.{not_empty, snoc_parts, numbered_node}
+use Rattle.rv_types.proofs.CallSites.{one_call as same_call}
 
 -- no place stands before itself
 pub not_itself : (a : Sites) → IsBefore a a → ⊥

@@ -3,7 +3,6 @@ use Rattle.std.proofs.Common.{◌≡◌, ℕ, ◌<◌, ◌≤◌, ◌⊎◌, inl
 use Rattle.std.specs.List.{Contains}
 use Rattle.std.proofs.lemmas.List.{append_assoc, get_or_default}
 use Rattle.std.proofs.lemmas.List.Elements.{Contains-get_or}
-use Rattle.std.proofs.lemmas.Bool.{cases_eq}
 use Rattle.rv_tree.specs.Tree.{NodeTree, ProgramTree}
 use Rattle.rv_tree.specs.Places.{Identifier, Sites, flows, site_of, is_among, index_of}
 use Rattle.rv_types.specs.Names.{name_faults}
@@ -12,12 +11,14 @@ use Rattle.rv_instances.specs.declared.flows.Flow.{Flow}
 use Rattle.rv_types.specs.Instances.{CallTree, calls, Instance, no_node, node_of, IsInstance, is_main, is_callee, IsFlow}
 use Rattle.rv_types.specs.Needs.{IsBefore}
 use Rattle.rv_instances.specs.AllInstances.{names_of, AreInstances, numbered}
-use Rattle.rv_types.specs.WellFormed.{AreSited, HasSites}
+use Rattle.rv_types.specs.WellFormed.{AreSited}
 use Rattle.rv_instances.specs.Flowing.{flow_sites, flow_places, place_at, flow_count, all_flows, AreFlowPlaces}
-use Rattle.rv_instances.proofs.Lists.{nat_split, length_map, beside}
-use Rattle.rv_instances.proofs.Known.{map_at, in_map, number_of_node}
+use Rattle.rv_instances.proofs.Lists.{length_map, beside}
+use Rattle.rv_instances.proofs.Known.{map_at, number_of_node}
 use Rattle.rv_instances.proofs.Flowing.{site_itself, instance_node}
 use Rattle.rv_instances.proofs.FlowTable.{in_flows, of_flows, flows_rise, IsEarlier}
+use Rattle.rv_types.proofs.CallSites.{one_call as same_call}
+use Rattle.rv_types.proofs.Members.{in_map}
 
 abbrev pub tail_of : List ℕ → List ℕ
 tail_of [] = []
@@ -42,21 +43,6 @@ snoc_view (x ∷ xs) = elim (snoc_view xs) [
   | inl none ↦ inr ([], x, ap (λ l. x ∷ l) none)
   | inr v ↦ inr (x ∷ v.0, v.1, ap (λ l. x ∷ l) v.2)
 ]
-
-pub same_call : (n : NodeTree) → HasSites n → (d e : CallTree) → Contains (calls n) d → Contains (calls n) e → d.site ≡ e.site → d ≡ e
-same_call n has d e w v same =
-    let k = w.0 in
-    let m = v.0 in
-    let at_m : get_or (calls n) m d ≡ e = get_or_default (calls n) m d e v.1 ∙ v.2 in
-    let sites : (get_or (calls n) k d).site ≡ (get_or (calls n) m d).site = ap (λ (c : CallTree). c.site) w.2 ∙ same
-    ∙ sym (ap (λ (c : CallTree). c.site) at_m) in
-    elim (cases_eq k m) [
-      | inl here ↦ sym w.2 ∙ ap (λ i. get_or (calls n) i d) here ∙ at_m
-      | inr other ↦ elim (nat_split k m) [
-        | inl lt ↦ absurd (has.apart k m d lt v.1 sites)
-        | inr ge ↦ elim (nat_split m k) [ inl less ↦ absurd (has.apart m k d less w.1 (sym sites)) | inr more ↦ absurd (other (omega (arith, ge, more))) ]
-      ]
-    ]
 
 -- a flow of one before another, unless the other is a call with a site that is no greater
 before_places : (a b : Sites) (s t : ℕ) → IsBefore a b → ((c : ℕ) (rest : List ℕ) → b ≡ a ++ c ∷ rest → s < c) → IsBefore (a ++ s ∷ []) (b ++ t ∷ [])

@@ -14,7 +14,8 @@ use Rattle.rv_types.specs.Instances.{no_node}
 use Rattle.rv_instances.specs.declared.flows.Flow.{Flow}
 use Rattle.rv_instances.specs.Flowing.{flows_below, flows_to, flow_count, AreOfNodes}
 use Rattle.rv_instances.proofs.Lists.{got, length_map}
-use Rattle.rv_instances.proofs.Known.{cons_cases, nothing_in, map_at, in_map}
+use Rattle.rv_instances.proofs.Known.{map_at}
+use Rattle.rv_types.proofs.Members.{cons_cases, in_map, nothing_in}
 
 pub to_more : (count : ℕ → ℕ) (now new : List Flow) (k c : ℕ) → now ≡ flows_to count k → new ≡ now ++ flows_below k c → c ≡ count k
     → new ≡ flows_to count (k + 1)

@@ -11,10 +11,12 @@ use Rattle.rv_types.specs.Names.{texts, decls, decl_names, name_faults, equation
 use Rattle.rv_types.specs.Instances.{Right, IsRight, alone, in_order, Instance, node_of, no_node, callee, main_instance, IsInstance, is_main, is_callee, IsFlow}
 use Rattle.rv_types.specs.Needs.{Giver, Gives, given, by_equation, by_call}
 use Rattle.rv_instances.specs.AllInstances.{names_of, AreFed}
-use Rattle.rv_instances.proofs.Known.{split_nil, each_nil, of_map, index_itself, index_there, called, calls_declared, uses_of, flows_once}
+use Rattle.rv_instances.proofs.Known.{each_nil, index_itself, called, calls_declared, uses_of, flows_once}
 use Rattle.rv_instances.proofs.Lists.{length_map}
+use Rattle.rv_types.proofs.Members.{among_contains, of_map}
+use Rattle.rv_types.proofs.RightNames.{both_empty as split_nil}
 
-names_texts : (ds : List Decl) → texts (decl_names ds) ≡ names ds
+pub names_texts : (ds : List Decl) → texts (decl_names ds) ≡ names ds
 names_texts [] = refl
 names_texts (d ∷ ds) = ap (λ l. d.name.text ∷ l) (names_texts ds)
 
@@ -23,10 +25,6 @@ flows_texts n =
     names_texts (decls n)
     ∙ map-append (λ (d : Decl). d.name.text) (n.inputs ++ n.outputs) n.locals
     ∙ ap (λ l. l ++ names n.locals) (map-append (λ (d : Decl). d.name.text) n.inputs n.outputs)
-
--- a name that is among some stands there
-pub among_contains : (xs : List Identifier) (x : Identifier) → is_among xs x ≡ true → Contains xs x
-among_contains xs x e = let w = index_there xs x e in (index_of xs x, w.0, get_or_default xs (index_of xs x) x [] w.0 ∙ w.1)
 
 pub inputs_first : (n : NodeTree) (j : ℕ) → j < length n.inputs → j < length (flows n)
 inputs_first n j lt =

@@ -29,10 +29,11 @@ use Rattle.rv_instances.specs.Layouts.{AreCallees, IsPlaced, IsNumberOf, callee_
 use Rattle.rv_instances.proofs.BaseClocks.{count_is, callee_number}
 use Rattle.rv_instances.proofs.ExpandedLaws.{instance_at, main_at, node_in, node_is, node_few, path_is}
 use Rattle.rv_instances.proofs.Flowing.{known_left}
-use Rattle.rv_instances.proofs.Known.{index_there, map_at}
+use Rattle.rv_instances.proofs.Known.{map_at}
 use Rattle.rv_instances.proofs.LaidFlows.{flow_placed, inputs_among}
 use Rattle.rv_instances.proofs.Lists.{length_map, got}
 use Rattle.rv_instances.proofs.ToldCalls.{element}
+use Rattle.rv_types.proofs.Members.{index_there}
 
 none_given : (n k : ℕ) (g : Told) → get_or (replicate {A = Option Told} n Nothing) k Nothing ≡ Some g → ⊥
 none_given zero k g e = cc

@@ -1,9 +1,7 @@
 -- What the rules of names give for the nodes of a program.
-use Rattle.std.proofs.Common.{◌≡◌, ℕ, zero, suc, ◌+◌, ◌<◌, ◌⊎◌, inl, inr, Bool, true, false, cond, ◌||◌, List, [], ◌∷◌, ◌++◌, map, length, get_or, refl, sym}
+use Rattle.std.proofs.Common.{◌≡◌, ℕ, zero, suc, ◌+◌, ◌<◌, inl, inr, Bool, true, false, cond, ◌||◌, List, [], ◌∷◌, ◌++◌, map, length, get_or, refl, sym}
 use Rattle.std.proofs.Common.{◌∙◌, ap, subst, arith, Option, Some, None as Nothing, unwrap_or}
 use Rattle.std.specs.List.{Contains, flat_map}
-use Rattle.std.specs.Cmp.Lexicographic.{same_text}
-use Rattle.std.proofs.lemmas.Cmp.{nat_list_eq_equiv}
 use Rattle.std.proofs.lemmas.List.Elements.{Contains-append_cases}
 use Rattle.rv_tree.specs.declared.tree.Name.{Name}
 use Rattle.rv_tree.specs.Tree.{Tree, Node, Form, True, False, Number, Named, Not, Minus, Pre, Current, When, Binary, If, AtMostOne, Call, Trees, None, More}
@@ -18,6 +16,8 @@ use Rattle.rv_types.specs.Kinds.{node_among}
 use Rattle.rv_types.specs.Instances.{CallTree, calls, calls_in, form_calls, calls_in_all, calls_in_equations, calls_in_assertions, no_node, node_of}
 use Rattle.rv_instances.specs.AllInstances.{names_of}
 use Rattle.rv_instances.proofs.Lists.{length_map}
+use Rattle.rv_types.proofs.Members.{cons_cases, index_there, nothing_in, text_itself}
+use Rattle.rv_types.proofs.RightNames.{both_empty as split_nil}
 
 -- a name that is not among some has the number of all
 pub index_past : (xs : List Identifier) (x : Identifier) → is_among xs x ≡ false → index_of xs x ≡ length xs
@@ -27,21 +27,6 @@ index_past (y ∷ ys) x e = tested (is_same y x) (is_among ys x) e (index_past y
     tested : (b a : Bool) → (b || a) ≡ false → (a ≡ false → index_of ys x ≡ length ys) → cond b 0 (index_of ys x + 1) ≡ suc (length ys)
     tested true a e again = cc
     tested false a e again = let h = again e in omega (arith, h)
-
-pub cons_cases : {X : Type 0} (x : X) (xs : List X) (y : X) → Contains (x ∷ xs) y → (x ≡ y) ⊎ Contains xs y
-cons_cases x xs y w = at w.0 w.1 w.2
-  where
-    at : (k : ℕ) → k < length (x ∷ xs) → get_or (x ∷ xs) k y ≡ y → (x ≡ y) ⊎ Contains xs y
-    at zero lt e = inl e
-    at (suc k) lt e = inr (k, omega (arith, lt), e)
-
-pub nothing_in : {X G : Type 0} (y : X) → Contains [] y → G
-nothing_in y w = absurd (let lt = w.1 in omega (arith, lt))
-
--- the parts of an empty list are empty
-pub split_nil : {X : Type 0} (xs ys : List X) → xs ++ ys ≡ [] → (xs ≡ []) × (ys ≡ [])
-split_nil [] ys e = (refl, e)
-split_nil (x ∷ xs) ys e = cc
 
 pub each_nil : {X Y : Type 0} (f : X → List Y) (xs : List X) → flat_map f xs ≡ [] → (x : X) → Contains xs x → f x ≡ []
 each_nil f [] e x w = nothing_in x w
@@ -55,28 +40,7 @@ map_at f [] k d e lt = absurd (omega (arith, lt))
 map_at f (x ∷ xs) zero d e lt = refl
 map_at f (x ∷ xs) (suc k) d e lt = map_at f xs k d e (omega (arith, lt))
 
-pub in_map : {X Y : Type 0} (f : X → Y) (xs : List X) (x : X) → Contains xs x → Contains (map f xs) (f x)
-in_map f xs x w = (w.0, (let n = length_map f xs in let lt = w.1 in omega (arith, n, lt)), map_at f xs w.0 (f x) x w.1 ∙ ap f w.2)
-
-pub of_map : {X Y : Type 0} (f : X → Y) (xs : List X) (y : Y) → Contains (map f xs) y → (x : X) × Contains xs x × (f x ≡ y)
-of_map f [] y w = nothing_in y w
-of_map f (x ∷ xs) y w = elim (cons_cases (f x) (map f xs) y w) [
-  | inl same ↦ (x, (0, omega arith, refl), same)
-  | inr rest ↦ let v = of_map f xs y rest in (
-    v.0,
-    (
-      v.1.0 + 1,
-      (let lt = v.1.1 in omega (arith, lt)),
-      (let z : v.1.0 + 1 ≡ suc v.1.0 = omega arith in ap (λ k. get_or (x ∷ xs) k v.0) z ∙ v.1.2),
-    ),
-    v.2,
-  )
-]
-
 -- Names.
-
-pub text_itself : (x : Identifier) → is_same x x ≡ true
-text_itself x = nat_list_eq_equiv.refl x
 
 -- a name that stands where none stands twice is not among those before
 pub not_before : (before xs : List Name) → repeated before xs ≡ [] → (k : ℕ) → k < length xs → is_declared before (get_or (texts xs) k []) ≡ false
@@ -108,20 +72,6 @@ index_itself before (x ∷ xs) e (suc k) lt =
         → cond a 0 (index_of (texts xs) (get_or (texts xs) k []) + 1) ≡ suc k
     tested true b e again = cc
     tested false b e again = omega (arith, again)
-
-pub index_there : (xs : List Identifier) (x : Identifier) → is_among xs x ≡ true → (index_of xs x < length xs) × (get_or xs (index_of xs x) [] ≡ x)
-index_there [] x e = cc
-index_there (y ∷ ys) x e = tested (is_same y x) refl e (index_there ys x)
-  where
-    tested : (b : Bool) → is_same y x ≡ b → (b || is_among ys x) ≡ true
-        → (is_among ys x ≡ true → (index_of ys x < length ys) × (get_or ys (index_of ys x) [] ≡ x))
-        → (cond b 0 (index_of ys x + 1) < suc (length ys)) × (get_or (y ∷ ys) (cond b 0 (index_of ys x + 1)) [] ≡ x)
-    tested true same e again = (omega arith, same_text y x (sym same))
-    tested false other e again =
-        let r = again e in
-        let lt = r.0 in
-        let next : index_of ys x + 1 ≡ suc (index_of ys x) = omega arith in
-        (omega (arith, lt), ap (λ k. get_or (y ∷ ys) k []) next ∙ r.1)
 
 -- Nodes by their names.
 

@@ -7,15 +7,11 @@ use Rattle.rv_diagram.specs.declared.Triple.{Triple}
 use Rattle.rv_invfile.specs.Rules.{Fields}
 use Rattle.rv_invfile.specs.Forms.{field}
 use Rattle.rv_invfile.specs.Texts.{natural}
-use Rattle.rv_invfile.proofs.Decimals.{natural-is}
+use Rattle.rv_invfile.proofs.Decimals.{natural-is, not-true}
 use Rattle.rv_invariant.specs.Groups.{upto}
 use Rattle.rv_invariant.specs.Pieces.{is_below, is_child, triple_at, variable_at}
 use Rattle.rv_invariant.proofs.Spelling.{below-told, below-right}
 use Rattle.rv_invariant.proofs.Upto.{upto-at}
-
-not-true : (b : Bool) → (b ≡ true → ⊥) → b ≡ false
-not-true true h = absurd (h refl)
-not-true false h = refl
 
 module _ (limit : ℕ) (text : List ℕ) (n : ℕ) (is : text ≡ decimal n) (small : n < 2 ^ 64) where
   pub too-great : limit ≤ n → is_below limit text ≡ false

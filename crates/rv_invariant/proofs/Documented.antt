@@ -50,12 +50,13 @@ use Rattle.rv_invariant.specs.Certificates.{cases_records, certificate_records, 
 use Rattle.rv_invariant.proofs.Choices.{form-left, form-right}
 use Rattle.rv_invariant.proofs.Going.{entries-none, entries-suc, locations-none, locations-suc}
 use Rattle.rv_invariant.proofs.Counting.{few-tests, tests-count}
-use Rattle.rv_invariant.proofs.Grouping.{both}
 use Rattle.rv_invariant.proofs.Knowing.{Tells, Sound, Follows, KindFits, EntryFits, LocationFits, AllLocated, row_records, row-records-more, front_records}
-use Rattle.rv_invariant.proofs.Knowing.{front-records-more, some-is}
+use Rattle.rv_invariant.proofs.Knowing.{front-records-more}
 use Rattle.rv_invariant.proofs.Ranging.{SetFits, KeptRow, ProofFits}
 use Rattle.rv_invariant.proofs.Spelling.{below-right, times-right}
 use Rattle.rv_invariant.proofs.Standing.{by-kind, diagram-right, proof-right, list-right}
+use Rattle.rv_invfile.proofs.Written.{number-is as some-is}
+use Rattle.rv_meaning.proofs.TypedOperators.{both_hold as both}
 
 -- ---- Turns.
 -- records of which the first is none of multipliers

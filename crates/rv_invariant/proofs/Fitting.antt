@@ -26,16 +26,16 @@ use Rattle.rv_invfile.specs.Parts.{bind}
 use Rattle.rv_invfile.specs.Forms.{exactly, names, counts}
 use Rattle.rv_invfile.specs.Spells.{Spells}
 use Rattle.rv_invfile.proofs.Spelled.{document-spells, bind-parts}
-use Rattle.rv_invfile.proofs.Written.{counts-written, exactly-written, names-written, lists-written}
+use Rattle.rv_invfile.proofs.Written.{counts-written, exactly-written, names-written, lists-written, number-is as some-is}
 use Rattle.rv_invariant.specs.Continues.{Known}
 use Rattle.rv_invariant.specs.Shapes.{shape, shape_of, is_state}
 use Rattle.rv_invariant.specs.Naming.{bit_texts, column_texts}
 use Rattle.rv_invariant.specs.Certificates.{first_record, last_record, location_records, certificate_records, IsPlainLocation, FitsCertificate, bits_rule}
 use Rattle.rv_invariant.specs.Certificates.{columns_rule, head_rule, all_locations, certificate_rule}
-use Rattle.rv_invariant.proofs.Grouping.{both}
-use Rattle.rv_invariant.proofs.Knowing.{KindFits, EntryFits, LocationFits, AllLocated, Sound, all-located, all-map, some-is}
+use Rattle.rv_invariant.proofs.Knowing.{KindFits, EntryFits, LocationFits, AllLocated, Sound, all-located, all-map}
 use Rattle.rv_invariant.proofs.Ranging.{SetFits, KeptRow, ProofFits, is-record}
 use Rattle.rv_invariant.proofs.Spelling.{all-of}
+use Rattle.rv_meaning.proofs.TypedOperators.{both_hold as both}
 
 all-at : {A : Type 0} (P : A → Type 0) (xs : List A) (j : ℕ) (x : A) → AllByRecursion P xs → slice_get xs j ≡ Some x → P x
 all-at P [] j x h e = cc

@@ -14,7 +14,7 @@ use Rattle.rv_invfile.specs.Ahead.{first, here}
 use Rattle.rv_invfile.specs.Forms.{field, fixed, word_of, exactly}
 use Rattle.rv_invfile.specs.Texts.{natural, same_fields}
 use Rattle.rv_invfile.specs.Parts.{bind}
-use Rattle.rv_invfile.proofs.Decimals.{bytes-same}
+use Rattle.rv_invfile.proofs.Decimals.{bytes-same, not-true}
 use Rattle.rv_invariant.specs.declared.counts.Shape.{Shape}
 use Rattle.rv_invariant.proofs.Choices.{chain-ok, chain-stops, then-here}
 use Rattle.rv_invariant.specs.Continues.{Known, Then, Waits, AllWait}
@@ -22,6 +22,7 @@ use Rattle.rv_invfile.proofs.Bound.{bind_ok}
 use Rattle.rv_invariant.specs.Pieces.{a_diagram, a_proof}
 use Rattle.rv_invariant.specs.Certificates.{a_target, reach_rule, known_at, go_entry, dead_entry, entries_rule, entry_rule, entry_forms, going, go_rule}
 use Rattle.rv_invariant.specs.Certificates.{dead_rule, whole_go, whole_dead, location_rule, locations_rule, last_record}
+use Rattle.rv_invfile.proofs.Digits.{head-passes as and-first}
 
 module _ (s : Shape) (n state : ℕ) where
   pub entries-none : (before : List Entry) (next : Then (List Entry)) (known : Known) → entries_rule s n state zero before next known ≡ next before known
@@ -88,20 +89,11 @@ module _ (s : Shape) (n i : ℕ) (before : List Location) (known : Known) (a : A
       → Reads (λ (c : Certificate). c) whole (Err e) new
   over-stops e new h = chain-stops (λ (u : ⊤). u) (λ (c : Certificate). c) (exactly last_record) ended whole a e new at-end h
 
--- ---- The two kinds of entries.
-and-first : (a b : Bool) → (a && b) ≡ true → a ≡ true
-and-first true b h = refl
-and-first false b h = cc
-
 other-word : (x : List ℕ) → x ≡ codes "go" → x ≡ codes "dead" → ⊥
 other-word x a b = absurd (clash (sym a ∙ b))
   where
     clash : codes "go" ≡ codes "dead" → ⊥
     clash e = cc
-
-not-true : (b : Bool) → (b ≡ true → ⊥) → b ≡ false
-not-true true h = absurd (h refl)
-not-true false h = refl
 
 -- a record that begins with `go` is not that of a dead entry
 pub not-dead : (r : Fields) → bytes_eq (word_of r) (codes "go") ≡ true → same_fields r (codes "dead" ∷ []) ≡ false

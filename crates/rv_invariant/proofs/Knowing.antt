@@ -21,7 +21,7 @@ use Rattle.rv_invfile.specs.Spells.{Spells}
 use Rattle.rv_invfile.specs.Texts.{natural, same_fields}
 use Rattle.rv_invfile.proofs.SameFields.{row-same}
 use Rattle.rv_invfile.proofs.Spelled.{bind-parts}
-use Rattle.rv_invfile.proofs.Written.{right-record, counts-written, exactly-written, worded}
+use Rattle.rv_invfile.proofs.Written.{right-record, counts-written, exactly-written, worded, number-is as some-is, two-fields}
 use Rattle.rv_invariant.specs.declared.counts.Shape.{Shape}
 use Rattle.rv_invariant.specs.declared.fronts.Front.{Front}
 use Rattle.rv_invariant.specs.declared.fronts.Lists.{Lists}
@@ -248,9 +248,6 @@ pub record Sound (locations : ℕ) (known : Known) : Type 0 where
 abbrev pub Follows : Known → Known → Type 0
 Follows old new = (i n : ℕ) → Tells old i n → Tells new i n
 
-pub some-is : (m n : ℕ) → Some m ≡ Some n → m ≡ n
-some-is m n e = cc
-
 none-is : (n : ℕ) → None ≡ Some n → ⊥
 none-is n e = cc
 
@@ -351,12 +348,6 @@ kind-later s locations state old new (Loop first before around rest) f h = absur
 entry-later : (s : Shape) (locations state : ℕ) (old new : Known) → Follows old new → (e : Entry) → EntryFits s locations state old e
     → EntryFits s locations state new e
 entry-later s locations state old new f e h = record { condition = h.condition; kind = kind-later s locations state old new e.kind f h.kind }
-
-two-fields : (r : Fields) → length r ≡ 2 → r ≡ field r 0 ∷ field r 1 ∷ []
-two-fields [] h = absurd (omega arith)
-two-fields (a ∷ []) h = absurd (omega arith)
-two-fields (a ∷ b ∷ []) h = refl
-two-fields (a ∷ b ∷ x ∷ r) h = absurd (omega arith)
 
 record Entered (s : Shape) (locations state : ℕ) (known : Known) (next : Then Entry) (c : Certificate) (rs : List Fields) : Type 0 where
   entry : Entry

@@ -1,6 +1,6 @@
 -- The texts of a certificate have no byte that a writer of records sets apart, so each record is written as its line.
-use Rattle.std.proofs.Common.{◌≡◌, ◌<◌, ℕ, zero, suc, Bool, true, false, List, [], ◌∷◌, ◌++◌, length, map, refl, ap, ◌∙◌, arith}
-use Rattle.std.specs.Prelude.{◌&&◌, ◌||◌, ⊤, ℤ, codes, decimal, flat_map, if◌then◌else◌}
+use Rattle.std.proofs.Common.{◌≡◌, ◌<◌, ℕ, zero, suc, true, false, List, [], ◌∷◌, ◌++◌, length, map, refl, ap, ◌∙◌, arith}
+use Rattle.std.specs.Prelude.{◌||◌, ⊤, ℤ, codes, decimal, flat_map, if◌then◌else◌}
 use Rattle.std.specs.Fmt.{signed_decimal}
 use Rattle.std.specs.List.{list_all, list_any}
 use Rattle.std.proofs.lemmas.List.Folds.{list_any-append}
@@ -33,6 +33,7 @@ use Rattle.rv_invfile.proofs.Sound.{name-sound, decimal-sound, dotted-sound, sig
 use Rattle.rv_invariant.specs.Naming.{name_at, bit_text, column_text, bit_texts, column_texts}
 use Rattle.rv_invariant.specs.Pieces.{triple_texts, diagram_record, weight_texts, by_record, list_records, row_record}
 use Rattle.rv_invariant.specs.Certificates.{first_record, last_record, kind_records, entry_records, cases_records, location_records, certificate_records}
+use Rattle.rv_meaning.proofs.TypedOperators.{both_hold as both}
 
 -- no byte of the text is set apart
 abbrev IsQuiet : List ℕ → Type 0
@@ -57,11 +58,6 @@ whole-quiet z = sound-quiet (signed_decimal z) (signed-sound z)
 
 place-quiet : (sites : List ℕ) → IsQuiet (dotted sites)
 place-quiet sites = sound-quiet (dotted sites) (dotted-sound sites)
-
-both : (a b : Bool) → (a && b) ≡ true → (a ≡ true) × (b ≡ true)
-both true true e = (refl, refl)
-both true false e = cc
-both false b e = cc
 
 input-quiet : (is : List FlatInput) (j : ℕ) → list_all (λ i. is_name i.name) is ≡ true → IsQuiet (name_at is j)
 input-quiet [] j h = refl

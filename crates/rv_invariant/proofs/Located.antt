@@ -26,10 +26,11 @@ use Rattle.rv_invfile.specs.Told.{IsTold}
 use Rattle.rv_invariant.specs.Shapes.{shape, shape_of, is_state}
 use Rattle.rv_invariant.specs.Certificates.{known_at, certificate_records, certificate_rule, FitsCertificate, IsHeld}
 use Rattle.rv_invariant.proofs.Documented.{document-right}
-use Rattle.rv_invariant.proofs.Knowing.{KindFits, EntryFits, LocationFits, AllLocated, all-map, some-is}
+use Rattle.rv_invariant.proofs.Knowing.{KindFits, EntryFits, LocationFits, AllLocated, all-map}
 use Rattle.rv_invariant.proofs.Ranging.{SetFits, KeptRow, ProofFits}
 use Rattle.rv_invariant.proofs.Spelling.{each-of}
 use Rattle.rv_invariant.proofs.Standing.{positive-is, at-most}
+use Rattle.rv_invfile.proofs.Written.{number-is as some-is}
 
 -- ---- How many entry rows there are.
 abbrev told : Location → Option ℕ

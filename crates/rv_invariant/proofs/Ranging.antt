@@ -32,10 +32,11 @@ use Rattle.rv_invariant.specs.Shapes.{may_stand}
 use Rattle.rv_invariant.specs.Pieces.{a_diagram, a_list, a_proof, a_row, by_form, coefficient_at, diagram, frozen_of, is_below, is_child, is_divisor}
 use Rattle.rv_invariant.specs.Pieces.{is_node_field, is_pair_field, is_root, is_within, least_at, multipliers_of, row_form, row_of, triple_at, variable_at}
 use Rattle.rv_invariant.specs.Pieces.{weight_at}
-use Rattle.rv_invariant.proofs.Grouping.{Width, two, three, both, grouped-is, at-group}
+use Rattle.rv_invariant.proofs.Grouping.{Width, two, three, grouped-is, at-group}
 use Rattle.rv_invariant.proofs.Rowing.{number-test}
 use Rattle.rv_invariant.proofs.Spelling.{below-told}
 use Rattle.rv_invariant.proofs.Upto.{upto-at, upto-length}
+use Rattle.rv_meaning.proofs.TypedOperators.{both_hold as both}
 
 -- ---- The fields of a record of groups.
 module _ (w : ℕ) (width : Width w) (word : List ℕ) (head : Fields → Bool) (right : Fields → ℕ → ℕ → Bool) (r : Fields)

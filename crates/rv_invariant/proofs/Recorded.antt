@@ -19,10 +19,11 @@ use Rattle.rv_invariant.specs.Shapes.{may_stand}
 use Rattle.rv_invariant.specs.Pieces.{a_diagram, a_proof, a_row, by_form, coefficient_at, diagram, diagram_record, by_record, row_record, frozen_of, is_below}
 use Rattle.rv_invariant.specs.Pieces.{is_child, is_divisor, is_node_field, is_pair_field, is_root, is_within, least_at, multipliers_of, row_form, row_of}
 use Rattle.rv_invariant.specs.Pieces.{triple_at, triple_texts, variable_at, weight_at, weight_texts}
-use Rattle.rv_invariant.proofs.Grouping.{Width, two, three, both, grouped-is}
+use Rattle.rv_invariant.proofs.Grouping.{Width, two, three, grouped-is}
 use Rattle.rv_invariant.proofs.Ranging.{head-right, group-right}
 use Rattle.rv_invariant.proofs.Rowing.{number-test}
 use Rattle.rv_invariant.proofs.Spelling.{Grows, grows-two, grows-three, wide-triple, wide-weight, same-record, below-told}
+use Rattle.rv_meaning.proofs.TypedOperators.{both_hold as both}
 
 child-text : (r : Fields) (k : ℕ) (text : List ℕ) → is_child r k text ≡ true → text ≡ decimal (natural text)
 child-text r k text h =

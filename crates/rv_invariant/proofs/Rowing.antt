@@ -7,13 +7,13 @@ use Rattle.std.specs.Int.RustNames.{unsigned_abs}
 use Rattle.std.specs.Str.{bytes_eq}
 use Rattle.std.proofs.lemmas.Bool.{leb-true, ne_eqb}
 use Rattle.rv_rows.proofs.IntLemmas.{fits_below}
-use Rattle.rv_invariant.proofs.Grouping.{both}
 use Rattle.rv_invfile.specs.Rules.{Fields, first_bad}
 use Rattle.rv_invfile.specs.Forms.{field}
 use Rattle.rv_invfile.specs.Texts.{whole}
 use Rattle.rv_invfile.proofs.Instants.{none-bad, one-bad}
 use Rattle.rv_invariant.specs.Groups.{upto}
 use Rattle.rv_invariant.specs.Pieces.{coefficient_at, is_row_field, is_within, row_of}
+use Rattle.rv_meaning.proofs.TypedOperators.{both_hold as both}
 
 module _ (r : Fields) where
   pub number-test : (k : ℕ) → is_row_field r (k + 2) ≡ is_within (2 ^ 30) (field r (k + 2))

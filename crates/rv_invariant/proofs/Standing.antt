@@ -32,11 +32,12 @@ use Rattle.rv_invariant.specs.Shapes.{may_stand}
 use Rattle.rv_invariant.specs.Pieces.{a_diagram, a_list, a_proof, a_row, by_form, coefficient_at, diagram, diagram_record, by_record, row_record, list_records}
 use Rattle.rv_invariant.specs.Pieces.{frozen_of, is_below, is_child, is_divisor, is_node_field, is_pair_field, is_root, is_row_field, is_within, least_at}
 use Rattle.rv_invariant.specs.Pieces.{multipliers_of, row_form, row_of, triple_at, triple_texts, variable_at, weight_at, weight_texts}
-use Rattle.rv_invariant.proofs.Grouping.{Width, two, three, both, all-right, of-two, of-three}
+use Rattle.rv_invariant.proofs.Grouping.{Width, two, three, all-right, of-two, of-three}
 use Rattle.rv_invariant.proofs.Ranging.{SetFits, KeptRow, ProofFits}
 use Rattle.rv_invariant.proofs.Rowing.{number-test}
 use Rattle.rv_invariant.proofs.Spelling.{grows-two, grows-three, wide-triple, wide-weight, field-at, record-length, below-right, times-right}
 use Rattle.rv_invariant.proofs.Upto.{upto-is}
+use Rattle.rv_meaning.proofs.TypedOperators.{both_hold as both}
 
 -- ---- Plain texts.
 plain-joined : (a b : Fields) → is_plain a ≡ true → is_plain b ≡ true → is_plain (a ++ b) ≡ true

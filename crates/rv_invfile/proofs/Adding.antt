@@ -65,7 +65,7 @@ no-name (l ∷ labels) zero n ls h k = past-end ls n k ∙ ap (λ x. get_or x n 
 no-name (l ∷ labels) (suc e) n ls h k = no-name labels e n ls h k
 
 -- the records of the start values, by one more
-drop-next : {A : Type 0} (xs : List A) (i : ℕ) (x : A) → slice_get xs i ≡ Some x → drop i xs ≡ x ∷ drop (suc i) xs
+pub drop-next : {A : Type 0} (xs : List A) (i : ℕ) (x : A) → slice_get xs i ≡ Some x → drop i xs ≡ x ∷ drop (suc i) xs
 drop-next [] i x h = cc
 drop-next (y ∷ ys) zero x h = ap (λ z. z ∷ ys) (same y x h)
   where

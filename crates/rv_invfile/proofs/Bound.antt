@@ -11,7 +11,7 @@ then-assoc : {A B C : Type 0} (r : Result A FileFault) (f : A → Result B FileF
 then-assoc (Ok a) f g = refl
 then-assoc (Err e) f g = refl
 
-then-same : {A B : Type 0} (r : Result A FileFault) (f g : A → Result B FileFault) → ((a : A) → f a ≡ g a) → r >>= f ≡ r >>= g
+pub then-same : {A B : Type 0} (r : Result A FileFault) (f g : A → Result B FileFault) → ((a : A) → f a ≡ g a) → r >>= f ≡ r >>= g
 then-same (Ok a) f g h = h a
 then-same (Err e) f g h = refl
 

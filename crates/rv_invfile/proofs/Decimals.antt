@@ -56,7 +56,7 @@ in-range low high n text h e =
     ap (λ b. b && nat_le low (natural text) && nat_le (natural text) high) (same-bytes text (decimal (natural text)) (e ∙ ap decimal (sym is)))
     ∙ ap (λ m. true && nat_le low m && nat_le m high) is
 
-parts : (a b c : Bool) → (a && b && c) ≡ true → (a ≡ true) × (b ≡ true) × (c ≡ true)
+pub parts : (a b c : Bool) → (a && b && c) ≡ true → (a ≡ true) × (b ≡ true) × (c ≡ true)
 parts true true true e = (refl, refl, refl)
 parts true true false e = cc
 parts true false c e = cc
@@ -69,7 +69,7 @@ natural-told low high text e =
     let p = parts (bytes_eq text (decimal (natural text))) (nat_le low (natural text)) (nat_le (natural text) high) e in
     (bytes-same text (decimal (natural text)) p.0, leb-true low (natural text) p.1, leb-true (natural text) high p.2)
 
-not-true : (b : Bool) → (b ≡ true → ⊥) → b ≡ false
+pub not-true : (b : Bool) → (b ≡ true → ⊥) → b ≡ false
 not-true true h = absurd (h refl)
 not-true false h = refl
 
@@ -94,7 +94,7 @@ low-fails low high n h = ap (λ b. b && nat_le n high) (lt-leb low n h)
 pub below : (low high n : ℕ) (text : List ℕ) → n < 2 ^ 64 → text ≡ decimal n → n < low → is_natural low high text ≡ false
 below low high n text h e l = in-range low high n text h e ∙ low-fails low high n l
 
-and-false : (b : Bool) → (b && false) ≡ false
+pub and-false : (b : Bool) → (b && false) ≡ false
 and-false true = refl
 and-false false = refl
 

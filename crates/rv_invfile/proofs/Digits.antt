@@ -9,7 +9,7 @@ use Rattle.rv_invfile.specs.Texts.{dotted}
 glyph : (d : ℕ) → d < 10 → digit_glyph false d ≡ 48 + d
 glyph d h = ap (λ b. cond b (48 + d) (87 + d)) (lt-ltb d 10 h)
 
-head-passes : (a b : Bool) → (a && b) ≡ true → a ≡ true
+pub head-passes : (a b : Bool) → (a && b) ≡ true → a ≡ true
 head-passes true b e = refl
 head-passes false b e = e
 

@@ -20,6 +20,7 @@ use Rattle.rv_invfile.specs.Texts.{value_of}
 use Rattle.rv_invfile.specs.Traces.{is_value, is_value_at, read_value, read_values, input_kinds, given, instant, tail_of, start, trace_end, trace_rule}
 use Rattle.rv_invfile.specs.Traces.{first_record, last_record}
 use Rattle.rv_invfile.proofs.Bound.{bind_ok}
+use Rattle.rv_invfile.proofs.Adding.{drop-next as drop-get}
 
 -- ---- The first field that is wrong.
 pub none-bad : (ok : ℕ → Bool) (at n : ℕ) → ((k : ℕ) → k < at + n → ok k ≡ true) → first_bad ok at n ≡ None
@@ -55,14 +56,6 @@ field-allowed f r i x h =
     ap (λ b. b || is_value_at f.labels (slice_get (input_kinds f) ((i + 1) - 1)) (field r (i + 1))) (not-zero i)
     ∙ ap (λ k. is_value_at f.labels (slice_get (input_kinds f) k) (field r (i + 1))) back
     ∙ ap (λ o. is_value_at f.labels o (field r (i + 1))) (kind-of f i x h)
-
-drop-get : {A : Type 0} (xs : List A) (i : ℕ) (x : A) → slice_get xs i ≡ Some x → drop i xs ≡ x ∷ drop (suc i) xs
-drop-get [] i x h = cc
-drop-get (y ∷ ys) zero x h = ap (λ z. z ∷ ys) (same y x h)
-  where
-    same : {A : Type 0} (a b : A) → Some a ≡ Some b → a ≡ b
-    same a b e = cc
-drop-get (y ∷ ys) (suc i) x h = drop-get ys i x h
 
 drop-field : (r : Fields) (i : ℕ) → suc i < length r → drop i (tail_of r) ≡ field r (suc i) ∷ drop (suc i) (tail_of r)
 drop-field [] i h = absurd (omega arith)

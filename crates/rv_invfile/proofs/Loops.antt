@@ -1,7 +1,7 @@
 -- Loops that read a list of parts.
 use Rattle.std.proofs.Common.{◌≡◌, ◌+◌, ◌-◌, ◌<◌, ◌≤◌, ℕ, zero, suc, List, [], ◌∷◌, ◌++◌, length, drop, get_or, refl, sym, ap, ◌∙◌, arith, append_assoc}
 use Rattle.std.proofs.Common.{add-one, drop-cons}
-use Rattle.std.specs.Prelude.{Result, Ok, Err}
+use Rattle.std.specs.Prelude.{Ok, Err}
 use Rattle.std.proofs.lemmas.List.{append-nil}
 use Rattle.rv_invfile.specs.declared.fault.FileFault.{FileFault}
 use Rattle.rv_invfile.specs.Rules.{Rule, done}
@@ -14,10 +14,6 @@ use Rattle.rv_invfile.proofs.OneRecord.{stops_with}
 -- a list of parts is a first part and the others
 abbrev pub more : {A : Type 0} → Rule A → Rule (List A) → Rule (List A)
 more p q = bind p (λ a. bind q (λ rest. done (a ∷ rest)))
-
-then-same : {A B : Type 0} (r : Result A FileFault) (f g : A → Result B FileFault) → ((a : A) → f a ≡ g a) → r >>= f ≡ r >>= g
-then-same (Ok a) f g h = h a
-then-same (Err e) f g h = refl
 
 then-front : {A : Type 0} (front : List A) (a : A) (r : Reading (List A)) → with_front front (r >>= λ y. Ok (a ∷ y.0, y.1)) ≡ with_front (front ++ a ∷ []) r
 then-front front a (Ok x) = ap (λ l. Ok (l, x.1)) (sym (append_assoc front (a ∷ []) x.0))

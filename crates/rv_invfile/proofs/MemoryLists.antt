@@ -7,9 +7,9 @@ use Rattle.rv_tree.specs.Places.{Identifier, Sites}
 use Rattle.rv_types.specs.Lists.{MemoryAt, AreMemories, AreRising, IsAny, memory_places}
 use Rattle.rv_types.specs.Needs.{IsBefore}
 use Rattle.rv_flat.proofs.Earliest.{not_itself}
-use Rattle.rv_flat.proofs.Members.{none_in, at_head, in_tail, head_or_tail}
+use Rattle.rv_types.proofs.Members.{at_head, cons_cases as head_or_tail, in_tail, nothing_in as none_in}
 
-both_before : (p q : Sites) → IsBefore p q → IsBefore q p → ⊥
+pub both_before : (p q : Sites) → IsBefore p q → IsBefore q p → ⊥
 both_before [] [] a b = b
 both_before [] (y ∷ ys) a b = b
 both_before (x ∷ xs) [] a b = a

@@ -45,6 +45,7 @@ use Rattle.rv_invfile.proofs.Spelled.{spells-document, parts-bind}
 use Rattle.rv_invfile.proofs.Loops.{more, each_more, each_none, times_more, times_none}
 use Rattle.rv_invfile.proofs.Decimals.{within}
 use Rattle.rv_invfile.proofs.SameFields.{same-row}
+use Rattle.rv_meaning.proofs.TypedOperators.{both_hold as both}
 
 -- ---- A right record is one at which nothing is at fault.
 pub right-fault : (f : Form) (r : Fields) → Right f r → fault_in (f ∷ []) r ≡ None
@@ -155,12 +156,6 @@ value-back labels d kind.Int (Whole z) h = ap (λ b. cond b (Some (Whole (whole 
 value-back labels d (kind.Labels e) (Flag b) h = absurd h
 value-back labels d (kind.Labels e) (Label n) h = ap (option_map Label) (label-found 0 (get_or labels e []) n (d e) h) ∙ ap (λ m. Some (Label m)) (omega arith)
 value-back labels d (kind.Labels e) (Whole z) h = absurd h
-
--- ---- More plain texts.
-both : (a b : Bool) → (a && b) ≡ true → (a ≡ true) × (b ≡ true)
-both true true e = (refl, refl)
-both true false e = cc
-both false b e = cc
 
 name-at : (ls : List (List ℕ)) (n : ℕ) → list_all is_name ls ≡ true → is_name (get_or ls n []) ≡ true
 name-at [] n h = refl

@@ -1,19 +1,11 @@
 -- Records that are compared field by field.
-use Rattle.std.proofs.Common.{◌≡◌, ◌+◌, ◌<◌, ℕ, zero, suc, Bool, true, false, List, [], ◌∷◌, length, get_or, map, refl, sym, ap, ◌∙◌, subst, arith, add-one}
+use Rattle.std.proofs.Common.{◌≡◌, ◌+◌, ◌<◌, ℕ, zero, suc, true, false, List, [], ◌∷◌, length, get_or, map, refl, sym, ap, ◌∙◌, subst, arith, add-one}
 use Rattle.std.specs.Prelude.{◌&&◌}
 use Rattle.std.proofs.lemmas.List.{length-map}
 use Rattle.std.specs.Str.{bytes_eq}
 use Rattle.rv_invfile.specs.Texts.{same_fields}
-use Rattle.rv_invfile.proofs.Decimals.{same-bytes, bytes-same}
-
-both : (a b : Bool) → (a && b) ≡ true → (a ≡ true) × (b ≡ true)
-both true true e = (refl, refl)
-both true false e = cc
-both false b e = cc
-
-not-true : (b : Bool) → (b ≡ true → ⊥) → b ≡ false
-not-true true h = absurd (h refl)
-not-true false h = refl
+use Rattle.rv_invfile.proofs.Decimals.{same-bytes, bytes-same, not-true}
+use Rattle.rv_meaning.proofs.TypedOperators.{both_hold as both}
 
 pub same-row : (x y : List (List ℕ)) → x ≡ y → same_fields x y ≡ true
 same-row x y e = subst (λ z. same_fields x z ≡ true) e (own x)
@@ -74,9 +66,6 @@ later-same {A = A} f x w xs l z h = all-same x (w ∷ map f xs) (omega (arith, l
         → ((k : ℕ) → k < length xs → get_or x (k + 1) [] ≡ get_or (map f xs) k []) → (i : ℕ) → i < length x → get_or x i [] ≡ get_or (w ∷ map f xs) i []
     each x w xs l z h zero k = z
     each x w xs l z h (suc i) k = ap (λ j. get_or x j []) (sym (add-one i)) ∙ h i (omega arith)
-
-pub false-true : false ≡ true → ⊥
-false-true e = cc
 
 pub text-get : {A : Type 0} (f : A → List ℕ) (xs : List A) (k : ℕ) (d : A) → k < length xs → get_or (map f xs) k [] ≡ f (get_or xs k d)
 text-get f [] k d l = absurd (omega arith)

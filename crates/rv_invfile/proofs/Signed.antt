@@ -1,23 +1,13 @@
 -- Whole numbers and their texts; values and theirs.
 use Rattle.std.proofs.Common.{◌≡◌, ◌-◌, ◌≤◌, ℕ, zero, suc, Bool, true, false, List, [], ◌∷◌, length, get_or, take, drop, refl, sym, ap, ◌∙◌, subst, arith}
-use Rattle.std.specs.Prelude.{◌&&◌, pos, negsuc, neg_ℤ, int_le, decimal, None, slice_get, option_map}
+use Rattle.std.specs.Prelude.{pos, negsuc, neg_ℤ, int_le, decimal, None, slice_get, option_map}
 use Rattle.std.specs.Str.{bytes_eq}
 use Rattle.std.specs.Fmt.{signed_decimal}
 use Rattle.std.proofs.lemmas.Int.{ints}
 use Rattle.rv_base.specs.declared.value.Value.TheVariants.{Label}
 use Rattle.rv_invfile.specs.Texts.{natural, is_natural, is_whole, least, greatest, Labels, label_from}
-use Rattle.rv_invfile.proofs.Decimals.{bytes-same, within}
+use Rattle.rv_invfile.proofs.Decimals.{bytes-same, within, not-true, parts as three}
 use Rattle.std.proofs.lemmas.Fmt.{decimal_digit}
-
-three : (a b c : Bool) → (a && b && c) ≡ true → (a ≡ true) × (b ≡ true) × (c ≡ true)
-three true true true e = (refl, refl, refl)
-three true true false e = cc
-three true false c e = cc
-three false b c e = cc
-
-not-true : (b : Bool) → (b ≡ true → ⊥) → b ≡ false
-not-true true h = absurd (h refl)
-not-true false h = refl
 
 head-of : (x y : ℕ) (xs ys : List ℕ) → x ∷ xs ≡ y ∷ ys → x ≡ y
 head-of x y xs ys e = cc

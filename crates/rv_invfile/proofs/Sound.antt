@@ -26,6 +26,7 @@ use Rattle.rv_invfile.specs.Traces.{first_record, last_record, start_records, va
 use Rattle.rv_invfile.specs.Writes.{line, lines, more_fields, wide}
 use Rattle.rv_invfile.proofs.Digits.{decimal-all, dotted-all, signed-all}
 use Rattle.rv_invfile.proofs.Lines.{HaveFields, wide-rows, written-read}
+use Rattle.rv_meaning.proofs.TypedOperators.{both_hold as both}
 
 -- letters, digits, `_`, and the signs of numbers and places
 abbrev pub is_sound : ℕ → Bool
@@ -33,11 +34,6 @@ is_sound b = is_name_byte b || nat_eq b 45 || nat_eq b 46
 
 abbrev pub is_sound_text : List ℕ → Bool
 is_sound_text text = list_all is_sound text
-
-both : (a b : Bool) → (a && b) ≡ true → (a ≡ true) × (b ≡ true)
-both true true e = (refl, refl)
-both true false e = cc
-both false b e = cc
 
 -- ---- The texts.
 pub name-sound : (text : List ℕ) → is_name text ≡ true → is_sound_text text ≡ true

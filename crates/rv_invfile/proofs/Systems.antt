@@ -28,21 +28,9 @@ use Rattle.rv_flat.specs.FlatOf.{IsFlatOf}
 use Rattle.rv_invfile.specs.Texts.{all_few}
 use Rattle.rv_invfile.specs.Told.{AreDifferent, IsAmong, IsTold}
 use Rattle.rv_tree.specs.Words.{HasPlainNames, is_name}
-
-at-head : {X : Type 0} (x : X) (xs : List X) → Contains (x ∷ xs) x
-at-head x xs = (0, omega arith, refl)
-
-in-tail : {X : Type 0} (x : X) (xs : List X) (y : X) → Contains xs y → Contains (x ∷ xs) y
-in-tail x xs y w = (suc w.0, omega (arith, w.1), w.2)
-
-both : (a b : Bool) → (a && b) ≡ true → (a ≡ true) × (b ≡ true)
-both true true e = (refl, refl)
-both true false e = cc
-both false b e = cc
-
-both-empty : {A : Type 0} (xs ys : List A) → xs ++ ys ≡ [] → (xs ≡ []) × (ys ≡ [])
-both-empty [] ys e = (refl, e)
-both-empty (x ∷ xs) ys e = absurd (let b : ⊥ = cc in b)
+use Rattle.rv_meaning.proofs.TypedOperators.{both_hold as both}
+use Rattle.rv_types.proofs.Members.{at_head as at-head, in_tail as in-tail}
+use Rattle.rv_types.proofs.RightNames.{both_empty as both-empty}
 
 same-text : (x y : List ℕ) → is_same x y ≡ true → x ≡ y
 same-text [] [] e = refl

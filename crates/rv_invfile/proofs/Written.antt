@@ -31,17 +31,13 @@ use Rattle.rv_invfile.proofs.Loops.{more, each_more, each_none, times_more, time
 use Rattle.rv_invfile.proofs.Decimals.{bytes-same, natural-told}
 use Rattle.rv_invfile.proofs.SameFields.{row-same}
 use Rattle.rv_invfile.proofs.Instants.{field-allowed}
+use Rattle.rv_meaning.proofs.TypedOperators.{both_hold as both}
 
 value-is : (v w : Value) → Some v ≡ Some w → v ≡ w
 value-is v w e = cc
 
-number-is : (m n : ℕ) → Some m ≡ Some n → m ≡ n
+pub number-is : (m n : ℕ) → Some m ≡ Some n → m ≡ n
 number-is m n e = cc
-
-both : (a b : Bool) → (a && b) ≡ true → (a ≡ true) × (b ≡ true)
-both true true e = (refl, refl)
-both true false e = cc
-both false b e = cc
 
 -- ---- A record at which nothing is at fault.
 pub record Right (f : Form) (r : Fields) : Type 0 where
@@ -96,7 +92,7 @@ single f g a (r ∷ rs) s = record { here = r; alone = ap (λ l. r ∷ l) s.1.0;
 pub worded : (w : List ℕ) (n : ℕ) (r : Fields) → is_worded w n r ≡ true → (word_of r ≡ w) × (length r ≡ n)
 worded w n r h = let p = both (bytes_eq (word_of r) w) (nat_eq (length r) n) h in (bytes-same (word_of r) w p.0, eqb-true (length r) n p.1)
 
-two-fields : (r : Fields) → length r ≡ 2 → r ≡ field r 0 ∷ field r 1 ∷ []
+pub two-fields : (r : Fields) → length r ≡ 2 → r ≡ field r 0 ∷ field r 1 ∷ []
 two-fields [] h = absurd (omega arith)
 two-fields (a ∷ []) h = absurd (omega arith)
 two-fields (a ∷ b ∷ []) h = refl

@@ -9,12 +9,12 @@ use Rattle.rv_types.specs.Instances.{CallTree, calls, node_of}
 use Rattle.rv_calls.specs.Reach.{Reaches, itself, by_call, HasNoRecursion}
 use Rattle.rv_causality.specs.Causes.{IsAccepted}
 use Rattle.rv_make.specs.Chains.{Offsets, link_node, main_node, chain_program}
-use Rattle.rv_instances.proofs.Known.{cons_cases, nothing_in}
 use Rattle.rv_made_order.proofs.Lists.{only_one}
 use Rattle.rv_made_order.proofs.Instances.{each_call}
 use Rattle.rv_made_order.proofs.Ranked.{no_cycle}
 use Rattle.rv_made_order.proofs.Sized.{within}
 use Rattle.rv_made_order.proofs.Weighed.{are_light}
+use Rattle.rv_types.proofs.Members.{cons_cases, nothing_in}
 
 not_link : codes "main" ≡ codes "link" → ⊥
 not_link e = true≢false (ap (λ x. is_same x (codes "main")) e)

@@ -17,12 +17,11 @@ use Rattle.rv_types.specs.Instances.{is_callee, unrolled, all_instances}
 use Rattle.rv_types.specs.Variables.{total, over_instances}
 use Rattle.rv_make.specs.Made.{link_name}
 use Rattle.rv_make.specs.Chains.{Offsets, flow_read, link_calls, ok_equation, link_node, main_node, chain_program}
-use Rattle.rv_instances.proofs.Known.{cons_cases, nothing_in}
-use Rattle.rv_calls.proofs.AllInstances.{of_flat_map}
 use Rattle.rv_sizes.proofs.Summing.{total_append}
 use Rattle.rv_made_order.proofs.Lists.{only_one}
 use Rattle.rv_made_order.proofs.Program.{call_equation}
 use Rattle.rv_made_order.proofs.Paced.{link_pace}
+use Rattle.rv_types.proofs.Members.{cons_cases, nothing_in, of_flat_map}
 
 calls_append : (xs ys : List EquationTree) → calls_in_equations (xs ++ ys) ≡ calls_in_equations xs ++ calls_in_equations ys
 calls_append [] ys = refl

@@ -9,8 +9,8 @@ use Rattle.rv_tree.specs.Places.{Identifier, names, is_same, is_among, index_of}
 use Rattle.rv_make.specs.Made.{link_name}
 use Rattle.rv_make.specs.Chains.{boolean, link_flows}
 use Rattle.std.proofs.lemmas.List.{map_push, length_push}
-use Rattle.rv_instances.proofs.Known.{text_itself}
 use Rattle.rv_made_order.proofs.Lists.{among_push, index_in_front, index_at_end, are_apart, apart_push}
+use Rattle.rv_types.proofs.Members.{text_itself}
 
 -- the names that the first n calls give
 abbrev pub links : ℕ → List Identifier

@@ -5,16 +5,13 @@ use Rattle.std.specs.List.{Contains, flat_map}
 use Rattle.std.specs.Prelude.{slice_get}
 use Rattle.rv_types.specs.Variables.{total}
 use Rattle.std.proofs.lemmas.Bool.{and_parts, and_from, or_parts, or_from}
-use Rattle.rv_instances.proofs.Known.{cons_cases, nothing_in, text_itself}
 use Rattle.rv_sizes.proofs.Summing.{total_append}
 use Rattle.rv_tree.specs.Places.{Identifier, is_same, is_among, index_of}
+use Rattle.rv_types.proofs.Members.{cons_cases, in_tail, nothing_in, text_itself}
 
 -- a list with one element has no other
 pub only_one : {X : Type 0} (x y : X) → Contains (x ∷ []) y → x ≡ y
 only_one x y w = elim (cons_cases x [] y w) [ inl e ↦ e | inr v ↦ nothing_in y v ]
-
-pub in_tail : {X : Type 0} (x : X) (xs : List X) (y : X) → Contains xs y → Contains (x ∷ xs) y
-in_tail x xs y w = (suc w.0, (let lt = w.1 in omega (arith, lt)), w.2)
 
 -- what gives nothing of each element gives nothing of the list
 pub none_of_each : {X Y : Type 0} (f : X → List Y) (xs : List X) → ((x : X) → Contains xs x → f x ≡ []) → flat_map f xs ≡ []

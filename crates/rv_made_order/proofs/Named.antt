@@ -17,6 +17,7 @@ use Rattle.std.proofs.lemmas.List.{map_push}
 use Rattle.rv_made_order.proofs.Lists.{both_none, none_of_each, flat_map_map, are_apart, apart_push, among_push}
 use Rattle.rv_made_order.proofs.Links.{links, flow_links, among_links, not_among, links_apart}
 use Rattle.rv_made_order.proofs.Program.{call_equation, each_equation, each_flow, flow_there}
+use Rattle.rv_instances.proofs.Flowing.{names_texts as declared_texts}
 
 -- no second declaration stands among names that are apart
 pub repeated_none : (before xs : List Name) → are_apart (texts before) (texts xs) ≡ true → repeated before xs ≡ []
@@ -25,10 +26,6 @@ repeated_none before (x ∷ xs) apart =
     let a = and_parts (not (is_declared before x.text)) (are_apart (texts (x ∷ before)) (texts xs)) apart in
     both_none (cond (is_declared before x.text) (DefinedTwice x.at ∷ []) []) (repeated (x ∷ before) xs)
     (ap (λ b. cond b (DefinedTwice x.at ∷ []) []) (not-true (is_declared before x.text) a.0)) (repeated_none (x ∷ before) xs a.1)
-
-pub declared_texts : (ds : List Decl) → texts (decl_names ds) ≡ names ds
-declared_texts [] = refl
-declared_texts (d ∷ ds) = ap (λ xs. d.name.text ∷ xs) (declared_texts ds)
 
 -- the left sides of the calls
 left_links : (o : Offsets) (first n : ℕ) → texts (flat_map (λ (q : EquationTree). q.lefts) (link_calls o first n)) ≡ links n

@@ -9,9 +9,9 @@ use Rattle.rv_tree.specs.Tree.{Node, Not, Binary, Call, None, More, EquationTree
 use Rattle.rv_tree.specs.Places.{Identifier, names, is_among, is_flow, index_of, site_of}
 use Rattle.rv_make.specs.Made.{link_name}
 use Rattle.rv_make.specs.Chains.{Offsets, boolean, flow_read, equation, link_flows, link_calls, seen_equation, ok_equation, main_node}
-use Rattle.rv_instances.proofs.Known.{cons_cases, nothing_in}
 use Rattle.std.proofs.lemmas.List.{length_push}
 use Rattle.rv_made_order.proofs.Links.{flow_links, among_links, index_links}
+use Rattle.rv_types.proofs.Members.{cons_cases, nothing_in}
 
 -- the equation of the call with this number, where the first call has this site
 abbrev pub call_equation : Offsets → ℕ → ℕ → EquationTree

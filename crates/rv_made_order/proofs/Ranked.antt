@@ -15,11 +15,11 @@ use Rattle.rv_types.specs.Instances.{clock_of_arguments, IsInstance}
 use Rattle.rv_types.specs.Needs.{needs, needs_of_right, Giver, needs_of, Gives, given, by_equation, by_call, Leads, IsCycle}
 use Rattle.rv_make.specs.Made.{link_name}
 use Rattle.rv_make.specs.Chains.{Offsets, flow_read, delayed, equation, seen_equation, ok_equation, link_node, main_node, chain_program}
-use Rattle.rv_instances.proofs.Known.{cons_cases, nothing_in}
 use Rattle.rv_made_order.proofs.Lists.{only_one}
 use Rattle.rv_made_order.proofs.Program.{call_equation, link_site, each_equation, flow_there, flow_site}
 use Rattle.rv_made_order.proofs.Paced.{link_pace}
 use Rattle.rv_made_order.proofs.Instances.{link_call, each_call, main_copy, link_copy, made}
+use Rattle.rv_types.proofs.Members.{cons_cases, nothing_in}
 
 -- an argument of a call that has one
 no_argument : (es : Trees) (j : ℕ) (e : Tree) → IsArgument es j e → es ≡ None → ⊥

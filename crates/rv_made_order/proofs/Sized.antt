@@ -16,11 +16,12 @@ use Rattle.rv_instances.specs.Counts.{size, node_size, integer_memories, instanc
 use Rattle.rv_sizes.specs.Sizes.{measures, AreWithin}
 use Rattle.rv_make.specs.Made.{link_name}
 use Rattle.rv_make.specs.Chains.{Offsets, flow_read, seen_equation, ok_equation, link_calls, main_node, chain_program}
-use Rattle.rv_instances.proofs.Known.{split_nil}
 use Rattle.rv_sizes.proofs.Summing.{total_append}
-use Rattle.rv_made_order.proofs.Lists.{both_none, in_tail, none_of_each, total_flat, length_total}
+use Rattle.rv_made_order.proofs.Lists.{both_none, none_of_each, total_flat, length_total}
 use Rattle.rv_made_order.proofs.Program.{call_equation, each_later, each_equation}
 use Rattle.rv_made_order.proofs.Instances.{main_copy, over_all, listed_made}
+use Rattle.rv_types.proofs.Members.{in_tail}
+use Rattle.rv_types.proofs.RightNames.{both_empty as split_nil}
 
 delays_none : (qs : List EquationTree) → ((q : EquationTree) → Contains qs q → delays q.right ≡ []) → delays_in_equations qs ≡ []
 delays_none qs each = joined qs ∙ none_of_each (λ (q : EquationTree). delays q.right) qs each

@@ -12,11 +12,12 @@ use Rattle.rv_types.specs.Needs.{given, by_equation, by_call}
 use Rattle.rv_instances.specs.Weights.{weight, weight_of_right, too_wide, weighed_under, weighed, AreWeights, AreLight}
 use Rattle.rv_make.specs.Made.{link_name}
 use Rattle.rv_make.specs.Chains.{Offsets, flow_read, main_node, chain_program}
-use Rattle.rv_instances.proofs.Known.{split_nil, nothing_in}
-use Rattle.rv_made_order.proofs.Lists.{both_none, in_tail}
+use Rattle.rv_made_order.proofs.Lists.{both_none}
 use Rattle.rv_made_order.proofs.Program.{link_site, each_equation, flow_there, flow_site}
 use Rattle.rv_made_order.proofs.Instances.{link_call, each_call, main_copy, link_copy, made}
 use Rattle.rv_made_order.proofs.Ranked.{each_right, link_right, sole_argument}
+use Rattle.rv_types.proofs.Members.{in_tail, nothing_in}
+use Rattle.rv_types.proofs.RightNames.{both_empty as split_nil}
 
 -- the weights of the flows of the main node, by their sites, and of the others
 abbrev pub site_weight : ℕ → ℕ

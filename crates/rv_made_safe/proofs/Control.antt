@@ -14,12 +14,12 @@ use Rattle.rv_types.specs.Variables.{parts, node_parts}
 use Rattle.rv_types.specs.Lists.{ComparisonAt, Compares}
 use Rattle.rv_types.specs.Instances.{Instance}
 use Rattle.rv_meaning.specs.Integers.{IsControl}
-use Rattle.rv_meaning.proofs.NameLemmas.{none_in, contains_head, contains_tail, contains_cases}
-use Rattle.rv_meaning.proofs.Mapped.{of_flat_map}
+use Rattle.rv_meaning.proofs.NameLemmas.{none_in}
 use Rattle.rv_make.specs.Chains.{Offsets, link_node, main_node, chain_program}
 use Rattle.rv_made_safe.proofs.Equations.{IsMainEquation, sees, calls, tells, main_equation}
 use Rattle.rv_made_safe.proofs.Flows.{IsPlain, plain_link, plain_main, no_integer}
 use Rattle.rv_made_safe.proofs.Nodes.{IsChainNode, is_main_node, is_link_node, instance_node}
+use Rattle.rv_types.proofs.Members.{at_head as contains_head, cons_cases as contains_cases, in_tail as contains_tail, of_flat_map}
 
 -- Delays.
 

@@ -6,9 +6,10 @@ use Rattle.std.specs.Prelude.{codes, Some}
 use Rattle.std.specs.List.{Contains}
 use Rattle.rv_tree.specs.Tree.{Tree, Node, Call, None, More, EquationTree}
 use Rattle.rv_types.specs.Instances.{IsRight, alone, Body}
-use Rattle.rv_meaning.proofs.NameLemmas.{none_in, contains_head, contains_tail, contains_cases}
+use Rattle.rv_meaning.proofs.NameLemmas.{none_in}
 use Rattle.rv_make.specs.Made.{link_name}
 use Rattle.rv_make.specs.Chains.{Offsets, flow_read, equation, delayed, link_node, link_calls, seen_equation, ok_equation, main_node}
+use Rattle.rv_types.proofs.Members.{at_head as contains_head, cons_cases as contains_cases, in_tail as contains_tail}
 
 -- the call after this many, where the first has this site
 abbrev pub call_tree : Offsets → ℕ → ℕ → Tree

@@ -15,11 +15,11 @@ use Rattle.rv_types.specs.declared.typed.Kind.TheVariants as kind
 use Rattle.rv_types.specs.Names.{decls}
 use Rattle.rv_types.specs.Clocks.{declared_clock, flow_clocks, clock_at}
 use Rattle.rv_types.specs.Kinds.{kind_in_program, flow_kinds, flow_kind}
-use Rattle.rv_meaning.proofs.NameLemmas.{none_in, contains_tail, contains_cases}
-use Rattle.rv_meaning.proofs.Mapped.{in_map, of_map}
+use Rattle.rv_meaning.proofs.NameLemmas.{none_in}
 use Rattle.rv_make.specs.Made.{link_name}
 use Rattle.rv_make.specs.Chains.{Offsets, boolean, link_flows, link_node, main_node}
-use Rattle.rv_made_safe.proofs.Lists.{all_at, got, among_there}
+use Rattle.rv_made_safe.proofs.Lists.{all_at, got}
+use Rattle.rv_types.proofs.Members.{among_from as among_there, cons_cases as contains_cases, in_map, in_tail as contains_tail, of_map}
 
 -- the flow of each call is declared
 flow_there : (at : ℕ → ℕ) (n i : ℕ) → i < n → Contains (link_flows at n) (boolean (at i) (link_name (suc i)))

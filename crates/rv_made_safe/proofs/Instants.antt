@@ -16,12 +16,12 @@ use Rattle.rv_types.specs.Instances.{CallTree, calls, Body, head, clock_of, cloc
 use Rattle.rv_types.specs.Instances.{Instance, place, callee, main_instance, is_main, is_callee}
 use Rattle.rv_meaning.specs.Meaning.{Cells, is_true, held, is_there, content, value, right_value}
 use Rattle.rv_meaning.specs.Runs.{History, cells, IsRun}
-use Rattle.rv_meaning.proofs.NameLemmas.{contains_head}
 use Rattle.rv_meaning.proofs.CallParts.{call_of_equation}
 use Rattle.rv_make.specs.Made.{link_name}
 use Rattle.rv_make.specs.Chains.{Offsets, flow_read, delayed, link_node, main_node, seen_equation, ok_equation, chain_program}
 use Rattle.rv_made_safe.proofs.Equations.{call_tree, call_equation, call_in_main, seen_right, call_right, ok_right, link_right}
 use Rattle.rv_made_safe.proofs.Flows.{is_flow-link_name, clock_at-main}
+use Rattle.rv_types.proofs.Members.{at_head as contains_head}
 
 -- whether a flow has true
 abbrev pub truth : Cells → ℕ → Sites → Bool

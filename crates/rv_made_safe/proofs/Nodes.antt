@@ -5,9 +5,10 @@ use Rattle.std.specs.Prelude.{codes}
 use Rattle.std.specs.List.{Contains}
 use Rattle.rv_tree.specs.Tree.{EquationTree, NodeTree}
 use Rattle.rv_types.specs.Instances.{CallTree, calls_in, calls_in_equations, calls, node_of, Instance, IsInstance, is_main, is_callee}
-use Rattle.rv_meaning.proofs.NameLemmas.{none_in, contains_head, contains_tail, contains_cases}
+use Rattle.rv_meaning.proofs.NameLemmas.{none_in}
 use Rattle.rv_make.specs.Chains.{Offsets, link_node, main_node, chain_program}
 use Rattle.rv_made_safe.proofs.Equations.{IsMainEquation, sees, calls as gives, tells, main_equation}
+use Rattle.rv_types.proofs.Members.{at_head as contains_head, cons_cases as contains_cases, in_tail as contains_tail}
 
 -- one of the two nodes
 pub data IsChainNode (o : Offsets) (n : ℕ) : NodeTree → Type 0 where

@@ -9,8 +9,8 @@ use Rattle.rv_types.specs.declared.fault.Pace.TheVariants.{Free, At, Mute, Diffe
 use Rattle.rv_types.specs.Kinds.{node_among, node_named}
 use Rattle.rv_types.specs.Instances.{Instance, taken, no_node, node_of, IsInstance, is_main, is_callee, IsNode}
 use Rattle.rv_types.specs.WellFormed.{Suits, IsWellFormed, IsWellTyped, AreWell}
-use Rattle.rv_meaning.proofs.NameLemmas.{contains_head, contains_tail}
 use Rattle.rv_meaning.proofs.Rows.{no_flag}
+use Rattle.rv_types.proofs.Members.{at_head as contains_head, in_tail as contains_tail}
 
 -- what stands on a clock, or takes it, is on it
 pub suits_taken : (k : Clock) (p : Pace) → Suits k p → taken k p ≡ k
@@ -20,7 +20,7 @@ suits_taken k Mute s = absurd s
 suits_taken k Differ s = absurd s
 
 -- the first node of a name that is there is one of the nodes
-named_among : (ns : List NodeTree) (f : Identifier) → IsSome (node_among ns f) → Contains ns (unwrap_or (node_among ns f) no_node)
+pub named_among : (ns : List NodeTree) (f : Identifier) → IsSome (node_among ns f) → Contains ns (unwrap_or (node_among ns f) no_node)
 named_among [] f h = absurd (no_flag h)
 named_among (n ∷ ns) f h = tested (is_same n.name.text f) h (named_among ns f)
   where
@@ -30,7 +30,7 @@ named_among (n ∷ ns) f h = tested (is_same n.name.text f) h (named_among ns f)
     tested false h again = contains_tail n ns (unwrap_or (node_among ns f) no_node) (again h)
 
 -- a name that some node has is there
-some_among : (ns : List NodeTree) (f : Identifier) → IsTrue (is_among (map (λ n. n.name.text) ns) f) → IsSome (node_among ns f)
+pub some_among : (ns : List NodeTree) (f : Identifier) → IsTrue (is_among (map (λ n. n.name.text) ns) f) → IsSome (node_among ns f)
 some_among [] f h = absurd (no_flag h)
 some_among (n ∷ ns) f h = tested (is_same n.name.text f) h (some_among ns f)
   where

@@ -6,7 +6,8 @@ use Rattle.rv_tree.specs.Tree.{Tree, Node, Form, True, False, Number, Named, Not
 use Rattle.rv_tree.specs.Tree.{EquationTree, AssertionTree, NodeTree}
 use Rattle.rv_tree.specs.Delays.{Delay, delays, form_delays, delays_of_all, delays_in_equations, delays_in_assertions, node_delays}
 use Rattle.rv_types.specs.Instances.{CallTree, calls, calls_in, form_calls, calls_in_all, calls_in_equations, calls_in_assertions, IsArgument, head, tail}
-use Rattle.rv_meaning.proofs.NameLemmas.{none_in, contains_tail, contains_cases}
+use Rattle.rv_meaning.proofs.NameLemmas.{none_in}
+use Rattle.rv_types.proofs.Members.{cons_cases as contains_cases, in_tail as contains_tail}
 
 -- an argument's calls are among those of the arguments
 calls_of_argument : (es : Trees) (j : ℕ) (a : Tree) (d : CallTree) → IsArgument es j a → Contains (calls_in a) d → Contains (calls_in_all es) d

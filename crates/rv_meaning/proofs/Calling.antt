@@ -12,8 +12,8 @@ use Rattle.rv_tree.specs.Delays.{Delay, delays, form_delays, delays_of_all, dela
 use Rattle.rv_types.specs.Instances.{CallTree, calls, calls_in, form_calls, calls_in_all, calls_in_equations, calls_in_assertions}
 use Rattle.rv_meaning.specs.Leading.{callee_within, callee_within_form, callee_within_all, callee_in_equations, callee_in_assertions, callee_in_node}
 use Rattle.rv_meaning.specs.Leading.{operand_within, operand_within_form, operand_within_all, operand_in_equations, operand_in_assertions, operand_in_node}
-use Rattle.rv_meaning.proofs.NameLemmas.{contains_tail}
 use Rattle.rv_meaning.proofs.States.{first_with, found}
+use Rattle.rv_types.proofs.Members.{in_tail as contains_tail}
 
 module _ {X : Type 0} (key : X → ℕ) where
   -- what is found has the number

@@ -6,10 +6,11 @@ use Rattle.rv_tree.specs.Tree.{Tree, Node, Form, True, False, Number, Named, Not
 use Rattle.rv_tree.specs.Tree.{EquationTree, AssertionTree, NodeTree}
 use Rattle.rv_tree.specs.Delays.{Delay, delays, form_delays, delays_of_all, delays_in_equations, delays_in_assertions, node_delays}
 use Rattle.rv_types.specs.Instances.{CallTree, calls, calls_in, form_calls, calls_in_all, calls_in_equations, calls_in_assertions, IsArgument, head, tail}
-use Rattle.rv_meaning.proofs.NameLemmas.{none_in, contains_tail, contains_cases}
+use Rattle.rv_meaning.proofs.NameLemmas.{none_in}
+use Rattle.rv_types.proofs.Members.{cons_cases as contains_cases, in_tail as contains_tail}
 
 -- an argument's delays are among those of the arguments
-argument_within : (es : Trees) (j : ℕ) (a : Tree) (d : Delay) → IsArgument es j a → Contains (delays a) d → Contains (delays_of_all es) d
+pub argument_within : (es : Trees) (j : ℕ) (a : Tree) (d : Delay) → IsArgument es j a → Contains (delays a) d → Contains (delays_of_all es) d
 argument_within _ _ a d (head {es = es}) w = Contains-append_left (delays a) (delays_of_all es) d w
 argument_within _ _ a d (tail {e = e} {es = es} {j = j} p) w = Contains-append_right (delays e) (delays_of_all es) d (argument_within es j a d p w)
 
@@ -72,7 +73,8 @@ module _ (c : CallTree) (j : ℕ) (a : Tree) (d : Delay) (arg : IsArgument c.arg
       (in_equations n.equations) (in_assertions n.assertions) w
 
 -- the delays of an equation's right side are among those of the equations
-equation_within : (qs : List EquationTree) (q : EquationTree) (d : Delay) → Contains qs q → Contains (delays q.right) d → Contains (delays_in_equations qs) d
+pub equation_within : (qs : List EquationTree) (q : EquationTree) (d : Delay) → Contains qs q → Contains (delays q.right) d
+    → Contains (delays_in_equations qs) d
 equation_within [] q d w inner = absurd (none_in q w)
 equation_within (r ∷ qs) q d w inner = elim (contains_cases r qs q w) [
   | inl is ↦ Contains-append_left (delays r.right) (delays_in_equations qs) d (subst (λ (q : EquationTree). Contains (delays q.right) d) (sym is) inner)
@@ -80,7 +82,8 @@ equation_within (r ∷ qs) q d w inner = elim (contains_cases r qs q w) [
 ]
 
 -- and those of an assertion among those of the assertions
-assertion_within : (qs : List AssertionTree) (q : AssertionTree) (d : Delay) → Contains qs q → Contains (delays q.body) d → Contains (delays_in_assertions qs) d
+pub assertion_within : (qs : List AssertionTree) (q : AssertionTree) (d : Delay) → Contains qs q → Contains (delays q.body) d
+    → Contains (delays_in_assertions qs) d
 assertion_within [] q d w inner = absurd (none_in q w)
 assertion_within (r ∷ qs) q d w inner = elim (contains_cases r qs q w) [
   | inl is ↦ Contains-append_left (delays r.body) (delays_in_assertions qs) d (subst (λ (q : AssertionTree). Contains (delays q.body) d) (sym is) inner)

@@ -14,8 +14,9 @@ use Rattle.rv_types.specs.Clocks.{base_clock, declared_clock, clock_at}
 use Rattle.rv_types.specs.Instances.{Instance, IsInstance, IsNode}
 use Rattle.rv_types.specs.WellFormed.{AreWell}
 use Rattle.rv_meaning.proofs.Rows.{no_flag}
-use Rattle.rv_meaning.proofs.NameLemmas.{none_in, in_rest, same_text, text_itself, contains_tail}
+use Rattle.rv_meaning.proofs.NameLemmas.{none_in, in_rest, same_text}
 use Rattle.rv_meaning.proofs.Defined.{site_is}
+use Rattle.rv_types.proofs.Members.{in_tail as contains_tail, text_itself}
 
 -- what stands in the first part of a list is found there first
 pub index_first : (xs ys : List Identifier) (x : Identifier) → Contains xs x → index_of (xs ++ ys) x < length xs

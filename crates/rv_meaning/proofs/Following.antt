@@ -19,7 +19,7 @@ use Rattle.rv_meaning.specs.Instants.{State, now, form_now, trues_now, value_now
 use Rattle.rv_meaning.specs.Following.{held_before, IsStateAt}
 use Rattle.rv_meaning.proofs.OneInstant.{on_there}
 use Rattle.rv_meaning.proofs.DelayParts.{of_argument, of_equation, of_assertion}
-use Rattle.rv_meaning.proofs.NameLemmas.{contains_head, contains_tail}
+use Rattle.rv_types.proofs.Members.{at_head as contains_head, in_tail as contains_tail}
 
 module _ (program : ProgramTree) (starts : Sites → Value) (state : State) (h : History) (t : ℕ)
     (ticks : (k : Option Sites) → state.ticked k ≡ was_there (cells h) k t) (i : Instance) where

@@ -19,8 +19,8 @@ use Rattle.rv_types.specs.Settled.{IsAnswer}
 use Rattle.rv_meaning.specs.Leading.{callee_in_node, node_texts, numbered, callee_at, led_by}
 use Rattle.rv_meaning.proofs.Acceptable.{formed}
 use Rattle.rv_meaning.proofs.NameLemmas.{index_at}
-use Rattle.rv_meaning.proofs.States.{among}
 use Rattle.rv_meaning.proofs.Calling.{callee_there, callee_found}
+use Rattle.rv_types.proofs.Members.{among_contains as among}
 
 -- the node of a name is that of its number
 pub node_is : (ns : List NodeTree) (f : Identifier) → unwrap_or (node_among ns f) no_node ≡ numbered ns (index_of (node_texts ns) f)

@@ -30,6 +30,5 @@ pub mod Told
 pub mod KindsAt
 pub mod Entering
 pub mod Sorting
-pub mod Mapped
 pub mod SitesRead
 pub mod MemoryPlaces

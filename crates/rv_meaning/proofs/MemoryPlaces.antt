@@ -14,11 +14,11 @@ use Rattle.rv_meaning.specs.Accessors.{ArePaths, IsOnePath, AreMemoryPlaces}
 use Rattle.rv_meaning.specs.Leading.{numbered, callee_at, led_by}
 use Rattle.rv_meaning.specs.Remembered.{AreSites, sites_at, places_at}
 use Rattle.rv_meaning.proofs.Acceptable.{node_in}
-use Rattle.rv_meaning.proofs.NameLemmas.{snoc, none_in, contains_head, contains_tail, contains_cases}
+use Rattle.rv_meaning.proofs.NameLemmas.{snoc, none_in}
 use Rattle.rv_meaning.proofs.Defined.{same_instance}
 use Rattle.rv_meaning.proofs.States.{IsName, memory_of_either, same_flow_site, own_beyond, same_own}
-use Rattle.rv_meaning.proofs.Mapped.{in_map, of_map, in_flat_map, of_flat_map}
 use Rattle.rv_meaning.proofs.Leads.{leads_to, led_alike}
+use Rattle.rv_types.proofs.Members.{at_head as contains_head, cons_cases as contains_cases, in_flat_map, in_map, in_tail as contains_tail, of_flat_map, of_map}
 
 -- the type of a flow's name
 named_kind : ProgramTree → NodeTree → Identifier → Kind

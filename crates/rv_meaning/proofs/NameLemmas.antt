@@ -1,5 +1,5 @@
 -- Names and sites in lists: what determines them.
-use Rattle.std.proofs.Common.{◌≡◌, ℕ, zero, suc, ◌+◌, ◌<◌, ◌↔◌, ◌⊎◌, inl, inr, Bool, true, false, cond, List, [], ◌∷◌, ◌++◌, length, refl, sym, ◌∙◌, ap, subst}
+use Rattle.std.proofs.Common.{◌≡◌, ℕ, zero, suc, ◌+◌, ◌<◌, ◌↔◌, Bool, true, false, cond, List, [], ◌∷◌, ◌++◌, length, refl, sym, ◌∙◌, ap, subst}
 use Rattle.std.proofs.Common.{arith, get_or, Some, IsSome, length-append}
 use Rattle.std.proofs.Common.{None as Nothing}
 use Rattle.std.specs.Cmp.Lexicographic.{texts_ties}
@@ -8,10 +8,11 @@ use Rattle.rv_base.specs.declared.value.Value.{Value}
 use Rattle.rv_tree.specs.Tree.{Tree, Trees}
 use Rattle.rv_tree.specs.Places.{Identifier, is_same, index_of}
 use Rattle.rv_types.specs.Instances.{IsArgument, head, tail}
-use Rattle.rv_meaning.proofs.Rows.{same_place, ties_itself, no_flag}
+use Rattle.rv_meaning.proofs.Rows.{same_place, no_flag}
+use Rattle.rv_types.proofs.Members.{text_itself}
 
 -- a list without its first number
-rest : List ℕ → List ℕ
+pub rest : List ℕ → List ℕ
 rest [] = []
 rest (x ∷ xs) = xs
 
@@ -30,29 +31,9 @@ snoc (x ∷ xs) (y ∷ ys) a b e =
 pub none_in : {X : Type 0} (x : X) → Contains [] x → ⊥
 none_in x w = absurd (omega (arith, w.1))
 
--- the head of a list is in it
-pub contains_head : {X : Type 0} (x : X) (xs : List X) → Contains (x ∷ xs) x
-contains_head x xs = (0, omega arith, refl)
-
--- and so is what is in the rest
-pub contains_tail : {X : Type 0} (y : X) (xs : List X) (x : X) → Contains xs x → Contains (y ∷ xs) x
-contains_tail y xs x w = (suc w.0, omega (arith, w.1), w.2)
-
--- and nothing else
-pub contains_cases : {X : Type 0} (y : X) (xs : List X) (x : X) → Contains (y ∷ xs) x → (y ≡ x) ⊎ Contains xs x
-contains_cases {X = X} y xs x w = at w.0 w.1 w.2
-  where
-    at : (k : ℕ) → k < length (y ∷ xs) → get_or (y ∷ xs) k x ≡ x → (y ≡ x) ⊎ Contains xs x
-    at zero lt is = inl is
-    at (suc k) lt is = inr (k, omega arith, is)
-
 -- names with the same bytes are equal
 pub same_text : (x y : Identifier) → is_same x y ≡ true → x ≡ y
 same_text x y e = same_place x y (sym (texts_ties x y) ∙ e)
-
--- a name has the bytes of itself
-pub text_itself : (x : Identifier) → is_same x x ≡ true
-text_itself x = texts_ties x x ∙ ties_itself x
 
 -- what is in a list and is not its head is in the rest
 pub in_rest : (y : Identifier) (ys : List Identifier) (x : Identifier) → (y ≡ x → ⊥) → Contains (y ∷ ys) x → Contains ys x

@@ -11,7 +11,7 @@ use Rattle.rv_tree.specs.Places.{Sites}
 use Rattle.rv_meaning.specs.Runs.{Instant}
 
 -- places in a map
-only_equal : (r : Ordering) → is_eq r ≡ true → r ≡ Equal
+pub only_equal : (r : Ordering) → is_eq r ≡ true → r ≡ Equal
 only_equal Less e = grind arith
 only_equal Equal e = refl
 only_equal Greater e = grind arith

@@ -17,7 +17,7 @@ use Rattle.rv_types.specs.Needs.{IsBefore}
 use Rattle.rv_types.specs.Lists.{sites_of}
 use Rattle.rv_meaning.specs.Remembered.{AreSorted}
 use Rattle.rv_meaning.proofs.NameLemmas.{same_text}
-use Rattle.rv_meaning.proofs.Mapped.{in_map, of_map}
+use Rattle.rv_types.proofs.Members.{in_map, of_map}
 
 -- which of two places stands before the other
 abbrev pub order : Place → Place → Ordering

@@ -8,9 +8,9 @@ use Rattle.rv_tree.specs.Tree.{Tree, Node, Pre, Current, When, Binary, If, Call,
 use Rattle.rv_tree.specs.Places.{Identifier}
 use Rattle.rv_tree.specs.Delays.{Delay, delays, node_delays}
 use Rattle.rv_types.specs.Instances.{CallTree, calls, calls_in, calls_in_all, Body, Output, IsRight, alone, in_order, IsArgument}
-use Rattle.rv_meaning.proofs.NameLemmas.{contains_head, contains_tail}
 use Rattle.rv_meaning.proofs.DelayParts.{of_argument, of_equation, of_assertion, of_delay}
 use Rattle.rv_meaning.proofs.CallParts.{call_of_argument, call_of_equation, call_of_assertion, call_of_delay}
+use Rattle.rv_types.proofs.Members.{at_head as contains_head, in_tail as contains_tail}
 
 -- Each delay and each call of the expression is one of the node.
 pub record Stands (n : NodeTree) (e : Tree) : Type 0 where

@@ -1,14 +1,14 @@
 -- A history brings a state to each instant, where each `pre` and `current` of a node has a site of its own. Without that
 -- two memories with different values could have one place, and no state would hold both.
 use Rattle.std.proofs.Common.{◌≡◌, ℕ, ◌<◌, Bool, true, false, cond, nat_eq, List, [], ◌∷◌, length, get_or, refl, sym, ◌∙◌, ap, arith, ◌⊎◌, inl, inr}
-use Rattle.std.proofs.Common.{Option, Some, unwrap_or, ◌||◌}
+use Rattle.std.proofs.Common.{Option, Some, unwrap_or}
 use Rattle.std.proofs.Common.{None as Nothing}
 use Rattle.std.specs.List.{Contains}
 use Rattle.rv_tree.specs.Tree.{Tree, Node, Named, NodeTree}
-use Rattle.rv_tree.specs.Places.{Identifier, flows, site_of, is_same, is_among, is_flow, memory_site}
+use Rattle.rv_tree.specs.Places.{Identifier, flows, site_of, is_flow, memory_site}
 use Rattle.rv_tree.specs.Delays.{Delay, node_delays, IsNumbered}
-use Rattle.rv_meaning.proofs.NameLemmas.{same_text, index_at, contains_head, contains_tail, contains_cases, none_in}
-use Rattle.rv_meaning.proofs.Rows.{no_flag}
+use Rattle.rv_meaning.proofs.NameLemmas.{index_at, none_in}
+use Rattle.rv_types.proofs.Members.{among_contains as among, at_head as contains_head, cons_cases as contains_cases, in_tail as contains_tail}
 
 module _ {X : Type 0} (key : X → ℕ) where
   -- the first of some that has a number
@@ -30,15 +30,6 @@ module _ {X : Type 0} (key : X → ℕ) where
             | inl is ↦ absurd (other is)
             | inr later ↦ let r = again later in (r.0, r.1, contains_tail z xs r.0 r.2, r.3)
           ]
-
--- a name that is among some is one of them
-pub among : (xs : List Identifier) (x : Identifier) → is_among xs x ≡ true → Contains xs x
-among [] x e = absurd (no_flag e)
-among (y ∷ ys) x e = tested (is_same y x) refl e (among ys x)
-  where
-    tested : (b : Bool) → is_same y x ≡ b → (b || is_among ys x) ≡ true → (is_among ys x ≡ true → Contains ys x) → Contains (y ∷ ys) x
-    tested true is e again = (0, omega arith, same_text y x is)
-    tested false is e again = contains_tail y ys x (again e)
 
 -- the operand is a flow of this name
 abbrev pub IsName : NodeTree → Tree → Identifier → Type 0

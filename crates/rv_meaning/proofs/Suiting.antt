@@ -14,7 +14,7 @@ use Rattle.rv_types.specs.WellFormed.{Suits}
 use Rattle.rv_meaning.proofs.Rows.{no_flag}
 
 -- clocks that are found equal are equal
-same_clocks : (c d : Clock) → same_clock c d ≡ true → c ≡ d
+pub same_clocks : (c d : Clock) → same_clock c d ≡ true → c ≡ d
 same_clocks Base Base e = refl
 same_clocks Base (On j) e = absurd (no_flag e)
 same_clocks (On i) Base e = absurd (no_flag e)

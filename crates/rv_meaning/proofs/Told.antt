@@ -161,7 +161,7 @@ module _ (p : ProgramTree) where
       tested false again e = again x e
 
 -- a name that is not among some has the number of them all
-index_past : (xs : List Identifier) (x : Identifier) → is_among xs x ≡ false → index_of xs x ≡ length xs
+pub index_past : (xs : List Identifier) (x : Identifier) → is_among xs x ≡ false → index_of xs x ≡ length xs
 index_past [] x e = refl
 index_past (y ∷ ys) x e = tested (is_same y x) e (index_past ys x)
   where

@@ -1,7 +1,6 @@
 -- What operators make of values of their types has the type of the whole.
-use Rattle.std.proofs.Common.{◌≡◌, Bool, true, false, ◌&&◌, cond, refl, sym, ◌∙◌, ap, subst, Option, Some}
+use Rattle.std.proofs.Common.{◌≡◌, Bool, true, false, ◌&&◌, cond, refl, sym, ◌∙◌, subst, Option, Some}
 use Rattle.std.proofs.Common.{None as Nothing}
-use Rattle.std.proofs.lemmas.Bool.{eqb-true}
 use Rattle.std.proofs.lemmas.Option.{none-some, same_Some}
 use Rattle.rv_base.specs.declared.value.Value.{Value}
 use Rattle.rv_tree.specs.declared.tree.Op.{Op}
@@ -15,18 +14,7 @@ use Rattle.rv_types.specs.Types.{kind_in, same_kind, where_met, one_of, two_of, 
 use Rattle.rv_types.specs.Values.{HasKind}
 use Rattle.rv_meaning.specs.Meaning.{operate}
 use Rattle.rv_meaning.proofs.Rows.{no_flag}
-
--- a type that is found equal to another is that
-pub same_kinds : (j k : Kind) → same_kind j k ≡ true → j ≡ k
-same_kinds kind.Bool kind.Bool e = refl
-same_kinds kind.Bool kind.Int e = absurd (no_flag e)
-same_kinds kind.Bool (kind.Labels m) e = absurd (no_flag e)
-same_kinds kind.Int kind.Bool e = absurd (no_flag e)
-same_kinds kind.Int kind.Int e = refl
-same_kinds kind.Int (kind.Labels m) e = absurd (no_flag e)
-same_kinds (kind.Labels n) kind.Bool e = absurd (no_flag e)
-same_kinds (kind.Labels n) kind.Int e = absurd (no_flag e)
-same_kinds (kind.Labels n) (kind.Labels m) e = ap kind.Labels (eqb-true n m e)
+use Rattle.rv_types.proofs.ConstantContents.{kind_same as same_kinds}
 
 -- a rule that is met gives its type
 pub met_kind : (met : Bool) (j k : Kind) → kind_in (where_met met j) ≡ Some k → (met ≡ true) × (j ≡ k)

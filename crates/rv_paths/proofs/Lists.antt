@@ -1,27 +1,20 @@
 -- What holds of each element of a list.
-use Rattle.std.proofs.Common.{◌≡◌, ℕ, ◌<◌, ◌^◌, ◌-◌, ℤ, pos, List, Some, All, length, reverse, get_or, slice_get, subst, sym, arith, ⊎_elim}
+use Rattle.std.proofs.Common.{◌≡◌, ℕ, ◌<◌, ◌^◌, ◌-◌, ℤ, pos, List, All, length, reverse, get_or, subst, sym, arith, ⊎_elim}
 use Rattle.std.proofs.lemmas.Bool.{cases_lt}
-use Rattle.std.proofs.lemmas.Int.{ints}
 use Rattle.std.proofs.lemmas.List.{get_or-reverse, length-reverse, get_or_past}
-use Rattle.std.proofs.lemmas.Option.{get_or_from_slice_get, slice_get_within}
 use Rattle.rv_rows.specs.Forms.{number}
 use Rattle.rv_rows.specs.declared.linear.Row.{Row}
 use Rattle.rv_rows.specs.Rows.{RowWithin}
 use Rattle.rv_rows.specs.Tight.{Fits}
 use Rattle.rv_poly.specs.Whole.{IsInReplay}
 use Rattle.rv_paths.specs.Joining.{AreJoined}
-
-pub all_at : {X : Type 0} (P : X → Type 0) (xs : List X) (i : ℕ) (x : X) → All P xs → slice_get xs i ≡ Some x → P x
-all_at P xs i x all is = subst P (get_or_from_slice_get xs i x x is) (all i x (slice_get_within xs i x is))
+use Rattle.rv_poly.proofs.WholeLemmas.{replay-zero as zero_replay}
 
 pub all_reversed : {X : Type 0} (P : X → Type 0) (xs : List X) → All P xs → All P (reverse xs)
 all_reversed P xs all k d low =
     let size : length (reverse xs) ≡ length xs = length-reverse xs in
     let within : k < length xs = omega arith in
     subst P (sym (get_or-reverse xs k d within)) (all (length xs - 1 - k) d (omega arith))
-
-zero_replay : IsInReplay (pos 0)
-zero_replay = record { low = omega (arith, ints); high = omega (arith, ints) }
 
 pub number_replay : (point : List ℤ) (k : ℕ) → All IsInReplay point → IsInReplay (number k point)
 number_replay point k all =

@@ -15,7 +15,7 @@ use Rattle.rv_paths.specs.declared.tree.Plan.{Plan}
 use Rattle.rv_paths.specs.declared.tree.Node.{Node}
 use Rattle.rv_paths.specs.Candidates.{IsSearchOf}
 use Rattle.rv_paths.specs.Searching.{AreUsable, AreNodes, IsPlanOf, IsSetting, cases_of}
-use Rattle.rv_paths.proofs.Lists.{all_at}
+use Rattle.rv_proofs.proofs.Judging.{All-at as all_at}
 
 pub relation_there : (s : System) (old new : Diagrams) (r : Relation) → new ≡ old → IsRelationOf s old r → IsRelationOf s new r
 relation_there s old new r same is = subst (λ (d : Diagrams). IsRelationOf s d r) (sym same) is

@@ -18,7 +18,7 @@ one_case s from cases i j b c v are at there first second =
     let same = are.apart i j b c v at there first second in
     same_Some b c (sym at ∙ ap (slice_get cases) same ∙ there)
 
-nothing : Row
+pub nothing : Row
 nothing = record { coefficients = []; bound = pos 0 }
 
 module _ (s : System) (c : Case) (tests : AreCaseTests s c) (v : Valuation) (inside : IsIn c.condition v) where

@@ -35,10 +35,10 @@ one_point (x ∷ y ∷ point) e = absurd (omega arith)
 one_column : (c b : ℤ) → c ≢ pos 0 → HasOneColumn (row1 c b)
 one_column c b n = (0, n, elim [ zero ↦ λ h. refl | suc k ↦ λ h. absurd (h refl) ])
 
-minus_one : negsuc 0 ≢ pos 0
+pub minus_one : negsuc 0 ≢ pos 0
 minus_one e = omega (arith, ints)
 
-plus_one : pos 1 ≢ pos 0
+pub plus_one : pos 1 ≢ pos 0
 plus_one e = omega (arith, ints)
 
 -- in the box a point meets the row of the test `x <= 9`, and with the test `x <= 10` false there is none
@@ -117,23 +117,23 @@ ten_good v taken = go (v 0) refl (v 3) refl
     go false e q f = seen v false q e f refl
 
 -- the left partition
-at_false : (v : Valuation) (x : ℕ) → v x ≡ false → IsIn (is_false_at x) v
+pub at_false : (v : Valuation) (x : ℕ) → v x ≡ false → IsIn (is_false_at x) v
 unfolding value_among
 at_false v x e = rw e refl
 
-at_true : (v : Valuation) (x : ℕ) → v x ≡ true → IsIn (is_true_at x) v
+pub at_true : (v : Valuation) (x : ℕ) → v x ≡ true → IsIn (is_true_at x) v
 unfolding value_among
 at_true v x e = rw e refl
 
-at_everywhere : (v : Valuation) → IsIn everywhere v
+pub at_everywhere : (v : Valuation) → IsIn everywhere v
 unfolding value_among
 at_everywhere v = refl
 
-off_is : (v : Valuation) → IsIn (is_false_at 0) v → v 0 ≡ false
+pub off_is : (v : Valuation) → IsIn (is_false_at 0) v → v 0 ≡ false
 unfolding value_among
 off_is v h = when_false (v 0) h
 
-on_is : (v : Valuation) → IsIn (is_true_at 0) v → v 0 ≡ true
+pub on_is : (v : Valuation) → IsIn (is_true_at 0) v → v 0 ≡ true
 unfolding value_among
 on_is v h = when_true (v 0) h
 

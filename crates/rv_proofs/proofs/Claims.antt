@@ -100,11 +100,11 @@ rows_hold s v point a (suc n) l = All-append (λ r. Holds r point) (rows_among s
     go None e = All-nil (λ r. Holds r point)
     go (Some r) e = all_one (λ q. Holds q point) r (a.rows n r (omega arith) e)
 
-updates_long : (s : System) (v : Valuation) (n : ℕ) → length (updates_among s v n) ≡ n
+pub updates_long : (s : System) (v : Valuation) (n : ℕ) → length (updates_among s v n) ≡ n
 updates_long s v zero = refl
 updates_long s v (suc n) = omega (arith, length_push (updates_among s v n) (s.update v n), updates_long s v n)
 
-update_at : (s : System) (v : Valuation) (d : Form) (n k : ℕ) → k < n → get_or (updates_among s v n) k d ≡ s.update v k
+pub update_at : (s : System) (v : Valuation) (d : Form) (n k : ℕ) → k < n → get_or (updates_among s v n) k d ≡ s.update v k
 update_at s v d zero k l = absurd (omega arith)
 update_at s v d (suc n) k l = go (update_at s v d n k) (cases_lt k n)
   where

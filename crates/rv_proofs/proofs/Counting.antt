@@ -22,18 +22,10 @@ use Rattle.rv_proofs.specs.declared.certificate.Location.{Location}
 use Rattle.rv_proofs.specs.declared.certificate.Entry.{Entry}
 use Rattle.rv_proofs.specs.declared.certificate.EntryKind.TheVariants.{Go}
 use Rattle.rv_proofs.proofs.Sampling.{all_one, all_two, after_one, record_two, record_one, record_none, all_settled, none_named, prove_one, prove_none}
-use Rattle.rv_proofs.proofs.Sampling.{refute_two, when_false, when_true, both_true, second_true, each-nil, each-cons}
+use Rattle.rv_proofs.proofs.Sampling.{refute_two, when_false, both_true, second_true, each-nil, each-cons}
 use Rattle.rv_proofs.specs.Samples.{counting, counting_row, counted, at_first, at_later, counting_on, standing_still, above_ten, names_unsettled, row1, form1}
-use Rattle.rv_proofs.specs.Samples.{by_one, by_two, by_none, node, everywhere, counts_on, stands_still, is_false_at, is_true_at}
-
--- what the diagrams say
-before_tick : (v : Valuation) → IsIn (is_false_at 0) v → v 0 ≡ false
-unfolding value_among
-before_tick v h = when_false (v 0) h
-
-after_tick : (v : Valuation) → IsIn (is_true_at 0) v → v 0 ≡ true
-unfolding value_among
-after_tick v h = when_true (v 0) h
+use Rattle.rv_proofs.specs.Samples.{by_one, by_two, by_none, node, everywhere, counts_on, stands_still, is_false_at}
+use Rattle.rv_proofs.proofs.Claiming.{at_everywhere, at_false, at_true, off_is as before_tick, on_is as after_tick}
 
 counts_on-is : (v : Valuation) → IsIn counts_on v → (v 2 ≡ true) × (v 3 ≡ true)
 unfolding value_among
@@ -46,18 +38,6 @@ stands_still-is v h = second_true (v 2) (v 3) h
 above_ten-is : (v : Valuation) → IsIn (is_false_at 3) v → v 3 ≡ false
 unfolding value_among
 above_ten-is v h = when_false (v 3) h
-
-at_false : (v : Valuation) (x : ℕ) → v x ≡ false → IsIn (is_false_at x) v
-unfolding value_among
-at_false v x e = rw e refl
-
-at_true : (v : Valuation) (x : ℕ) → v x ≡ true → IsIn (is_true_at x) v
-unfolding value_among
-at_true v x e = rw e refl
-
-at_everywhere : (v : Valuation) → IsIn everywhere v
-unfolding value_among
-at_everywhere v = refl
 
 at_counts_on : (v : Valuation) → v 2 ≡ true → v 3 ≡ true → IsIn counts_on v
 unfolding value_among
@@ -150,7 +130,7 @@ not_ten_settled = record {
   same = λ v scope. row_not_ten v (after_tick v scope.control) (above_ten-is v scope.condition);
 }
 
-two_tests : (P : ℕ → Type 0) → P 0 → P 1 → (t : ℕ) → t < 2 → P t
+pub two_tests : (P : ℕ → Type 0) → P 0 → P 1 → (t : ℕ) → t < 2 → P t
 two_tests P a b zero h = a
 two_tests P a b (suc zero) h = b
 two_tests P a b (suc (suc t)) h = absurd (omega arith)
@@ -198,7 +178,7 @@ all_five P a b c d e pa pb pc pd pe = All-cons P a (b ∷ c ∷ d ∷ e ∷ []) 
     (All-cons P b (c ∷ d ∷ e ∷ []) pb (All-cons P c (d ∷ e ∷ []) pc (all_two P d e pd pe)))
 
 -- rows over the same column
-same_column : (a b c d : ℤ) → a ≡ c → (k : ℕ) → coefficient k (row1 a b) ≡ coefficient k (row1 c d)
+pub same_column : (a b c d : ℤ) → a ≡ c → (k : ℕ) → coefficient k (row1 a b) ≡ coefficient k (row1 c d)
 same_column a b c d e zero = e
 same_column a b c d e (suc k) = refl
 
@@ -308,7 +288,7 @@ each_entry P a b c d k j l e is = each_location (λ m. (n : ℕ) (f : Entry) →
     (each-cons (P at_later) above_ten [] d (each-nil (P at_later))))) k l is.location j e is.entry
 
 -- ranges
-placed_one : (x y z : ℕ) → y < 2 → z < 2 → (i : ℕ) → i < 1 → IsPlaced (node x y z ∷ []) i
+pub placed_one : (x y z : ℕ) → y < 2 → z < 2 → (i : ℕ) → i < 1 → IsPlaced (node x y z ∷ []) i
 placed_one x y z a b zero l = record {
   lo_earlier = omega arith;
   hi_earlier = omega arith;
@@ -349,7 +329,7 @@ ordered_two y z a b = record { placed = placed; low = low_two; root = omega arit
     low_two (suc zero) l = omega arith
     low_two (suc (suc i)) l = absurd (omega arith)
 
-tick_state : IsState counting 0
+pub tick_state : IsState counting 0
 tick_state = (0, omega arith, omega arith)
 
 control_one : (y z : ℕ) → y < 2 → z < 2 → IsControlSet counting (record { nodes = node 0 y z ∷ []; root = 2 })
@@ -359,10 +339,10 @@ control_one y z a b = record { ordered = ordered_one 0 y z (omega arith) a b; st
     states_one zero l = tick_state
     states_one (suc n) l = absurd (omega arith)
 
-two_read : IsRead counting 2
+pub two_read : IsRead counting 2
 two_read = (omega arith, λ i h e. omega arith)
 
-three_read : IsRead counting 3
+pub three_read : IsRead counting 3
 three_read = (omega arith, λ i h e. omega arith)
 
 condition_everywhere : IsCondition counting everywhere

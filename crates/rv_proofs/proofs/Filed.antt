@@ -22,8 +22,8 @@ use Rattle.rv_proofs.specs.Accepted.{IsAccepted, IsEntry, IsInitial, IsIncluded,
 use Rattle.rv_proofs.specs.declared.certificate.Location.{Location}
 use Rattle.rv_proofs.specs.declared.certificate.Entry.{Entry}
 use Rattle.rv_proofs.proofs.Sampling.{all_one, all_two, record_two, record_one, record_none, none_named, prove_one, prove_none, refute_two, when_false}
-use Rattle.rv_proofs.proofs.Sampling.{when_true, both_true, each-nil, each-cons}
-use Rattle.rv_proofs.specs.Samples.{by_one, by_two, by_none, node, is_false_at, is_true_at}
+use Rattle.rv_proofs.proofs.Sampling.{both_true, each-nil, each-cons}
+use Rattle.rv_proofs.specs.Samples.{by_one, by_two, by_none, node}
 use Rattle.rv_proofs.specs.Counters.{row2, form2, pair_row, paired, both_hold, less_fails, more_fails, less, more, begins, begins_low, begins_high, beginning}
 use Rattle.rv_proofs.specs.Counters.{goes_on, drops_low, drops_high, going, filed, wrong_weight, misfiled, cut_short}
 use Rattle.rv_proofs.specs.Verdicts.{Fails, IsUncovered, IsNotIncluded, IsTarget, IsBefore, IsVerdict, place, word_of}
@@ -38,15 +38,8 @@ use Rattle.rv_rows.specs.Rows.{dot}
 use Rattle.rv_rows.specs.Multipliers.{Refutes}
 use Rattle.rv_diagram.specs.Nodes.{valuation_of}
 use Rattle.rv_proofs.specs.Implied.{form_at}
-
--- what the diagrams say
-before_tick : (v : Valuation) → IsIn (is_false_at 0) v → v 0 ≡ false
-unfolding value_among
-before_tick v h = when_false (v 0) h
-
-after_tick : (v : Valuation) → IsIn (is_true_at 0) v → v 0 ≡ true
-unfolding value_among
-after_tick v h = when_true (v 0) h
+use Rattle.rv_proofs.proofs.Claiming.{at_false, at_true, off_is as before_tick, on_is as after_tick}
+use Rattle.rv_proofs.proofs.Counting.{placed_one}
 
 both-is : (v : Valuation) → IsIn both_hold v → (v 3 ≡ true) × (v 4 ≡ true)
 unfolding value_among
@@ -56,7 +49,7 @@ less-is : (v : Valuation) → IsIn less_fails v → v 3 ≡ false
 unfolding value_among
 less-is v h = when_false (v 3) h
 
-true_then_false : (a b : Bool) → cond a (cond b false true) false ≡ true → (a ≡ true) × (b ≡ false)
+pub true_then_false : (a b : Bool) → cond a (cond b false true) false ≡ true → (a ≡ true) × (b ≡ false)
 true_then_false true false e = (refl, refl)
 true_then_false true true e = cc
 true_then_false false b e = cc
@@ -64,14 +57,6 @@ true_then_false false b e = cc
 more-is : (v : Valuation) → IsIn more_fails v → (v 3 ≡ true) × (v 4 ≡ false)
 unfolding value_among
 more-is v h = true_then_false (v 3) (v 4) h
-
-at_false : (v : Valuation) (x : ℕ) → v x ≡ false → IsIn (is_false_at x) v
-unfolding value_among
-at_false v x e = rw e refl
-
-at_true : (v : Valuation) (x : ℕ) → v x ≡ true → IsIn (is_true_at x) v
-unfolding value_among
-at_true v x e = rw e refl
 
 at_both : (v : Valuation) → v 3 ≡ true → v 4 ≡ true → IsIn both_hold v
 unfolding value_among
@@ -345,16 +330,6 @@ each_entry : (P : Location → Entry → Type 0) → P beginning begins → P be
 each_entry P a b c d e f k j l x is = each_location (λ m. (n : ℕ) (f : Entry) → slice_get m.entries n ≡ Some f → P m f)
     (three (P beginning) begins begins_low begins_high a b c) (three (P later) goes_on drops_low drops_high d e f) k l is.location j x is.entry
 
--- ranges
-placed_one : (x y z : ℕ) → y < 2 → z < 2 → (i : ℕ) → i < 1 → IsPlaced (node x y z ∷ []) i
-placed_one x y z a b zero l = record {
-  lo_earlier = omega arith;
-  hi_earlier = omega arith;
-  lo_greater = λ h. absurd (omega arith);
-  hi_greater = λ h. absurd (omega arith);
-}
-placed_one x y z a b (suc i) l = absurd (omega arith)
-
 ordered_one : (x y z : ℕ) → x < 5 → y < 2 → z < 2 → IsOrderedOver 5 (record { nodes = node x y z ∷ []; root = 2 })
 ordered_one x y z h a b = record { placed = placed_one x y z a b; low = low_one; root = omega arith }
   where
@@ -388,10 +363,10 @@ control_one y z a b = record { ordered = ordered_one 0 y z (omega arith) a b; st
     states_one zero l = (0, omega arith, omega arith)
     states_one (suc n) l = absurd (omega arith)
 
-three_read : IsRead paired 3
+pub three_read : IsRead paired 3
 three_read = (omega arith, λ i h e. omega arith)
 
-four_read : IsRead paired 4
+pub four_read : IsRead paired 4
 four_read = (omega arith, λ i h e. omega arith)
 
 condition_two : (y z : ℕ) → y < 2 → z < 2 → IsCondition paired (record { nodes = node 4 y z ∷ node 3 0 2 ∷ []; root = 3 })
@@ -674,7 +649,7 @@ short_included = record { entry = proved_both; first = λ h. absurd (no_loop_sho
 cut_included : (k : ℕ) (l : Location) → slice_get cut_short.locations k ≡ Some l → IsIncluded l
 cut_included = each-cons IsIncluded beginning (short_later ∷ []) first_included (each-cons IsIncluded short_later [] short_included (each-nil IsIncluded))
 
-not_true_false : (b : Bool) → IsTrue b → b ≡ false → ⊥
+pub not_true_false : (b : Bool) → IsTrue b → b ≡ false → ⊥
 not_true_false true h e = cc
 not_true_false false h e = cc
 

@@ -1,5 +1,5 @@
 -- There is one right verdict.
-use Rattle.std.proofs.Common.{◌≡◌, ℕ, zero, suc, ◌-◌, ◌<◌, ◌≤◌, Bool, true, false, List, [], ◌∷◌, length, get_or, All, Some, IsTrue, slice_get, arith, refl}
+use Rattle.std.proofs.Common.{◌≡◌, ℕ, zero, suc, ◌-◌, ◌<◌, ◌≤◌, Bool, true, false, List, [], ◌∷◌, length, get_or, All, Some, slice_get, arith, refl}
 use Rattle.std.proofs.Common.{sym, ap, ◌∙◌, subst, ◌⊎◌, inl, inr}
 use Rattle.std.proofs.lemmas.Bool.{cases_lt}
 use Rattle.std.proofs.lemmas.List.Elements.{Contains-get_or}
@@ -20,8 +20,9 @@ use Rattle.rv_proofs.specs.declared.verdict.Verdict.{Verdict}
 use Rattle.rv_proofs.specs.declared.verdict.Verdict.TheVariants.{Accepted, Rejected}
 use Rattle.rv_proofs.specs.declared.verdict.Reason.{Reason}
 use Rattle.rv_proofs.specs.declared.verdict.Reason.TheVariants as reason
+use Rattle.rv_proofs.proofs.Filed.{not_true_false as true_false}
 
-All-at : {X : Type 0} (P : X → Type 0) (xs : List X) (n : ℕ) (x : X) → All P xs → slice_get xs n ≡ Some x → P x
+pub All-at : {X : Type 0} (P : X → Type 0) (xs : List X) (n : ℕ) (x : X) → All P xs → slice_get xs n ≡ Some x → P x
 All-at P xs n x h at = subst P (get_or_from_slice_get xs n x x at) (h n x (slice_get_within xs n x at))
 
 -- each entry of an accepted certificate has its implications
@@ -32,10 +33,6 @@ all_implied s c acc k j l e is = go e.kind (acc.partition.steps k j l e is) (acc
     go (Dead by) step dead = dead tt
     go (Go target reach) step dead = step tt
     go (Loop first before_all around state) step dead = step tt
-
-true_false : (b : Bool) → IsTrue b → b ≡ false → ⊥
-true_false true h e = cc
-true_false false h e = cc
 
 target_reached : (s : System) (c : Certificate) (l into : Location) (e : Entry) (kind : EntryKind) (v : Valuation) → Leads s c l e kind → IsTarget c l kind into
     → IsInScope s l e v → IsIn into.control (s.next v)

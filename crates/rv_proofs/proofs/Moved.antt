@@ -18,7 +18,7 @@ use Rattle.rv_proofs.specs.declared.certificate.Location.{Location}
 use Rattle.rv_proofs.specs.declared.certificate.Entry.{Entry}
 
 -- a number is 0 or not
-zero_or : (z : ℤ) → (z ≡ pos 0) ⊎ (z ≢ pos 0)
+pub zero_or : (z : ℤ) → (z ≡ pos 0) ⊎ (z ≢ pos 0)
 zero_or (pos zero) = inl refl
 zero_or (pos (suc n)) = inr (λ e. omega (arith, ints))
 zero_or (negsuc n) = inr (λ e. omega (arith, ints))

@@ -2,7 +2,7 @@
 use Rattle.std.proofs.Common.{◌≡◌, ℕ, zero, suc, ◌+◌, ◌<◌, ℤ, pos, negsuc, List, [], ◌∷◌, ◌++◌, Bool, true, false, not, Some, slice_get, arith, refl, sym, ap}
 use Rattle.std.proofs.Common.{◌∙◌, subst}
 use Rattle.std.proofs.lemmas.Int.{ints}
-use Rattle.rv_rows.specs.Rows.{row_at, coefficient}
+use Rattle.rv_rows.specs.Rows.{row_at}
 use Rattle.std.proofs.lemmas.Option.{same_Some, none-some}
 use Rattle.rv_diagram.specs.Nodes.{Valuation, value_among}
 use Rattle.rv_rows.specs.declared.linear.Row.{Row}
@@ -23,6 +23,8 @@ use Rattle.rv_proofs.specs.Runs.{IsAbstractRun, IsSafeSystem}
 use Rattle.rv_proofs.specs.Systems.{Agrees}
 use Rattle.rv_rows.specs.Forms.{number, value}
 use Rattle.rv_rows.specs.Rows.{Holds}
+use Rattle.rv_proofs.proofs.Claiming.{at_everywhere, at_false, at_true, off_is as before_tick, on_is as after_tick}
+use Rattle.rv_proofs.proofs.Counting.{same_column}
 
 -- a run whose fourth instant is bad
 vs : ℕ → Valuation
@@ -31,7 +33,7 @@ vs (suc zero) = λ x. true
 vs (suc (suc zero)) = λ x. true
 vs (suc (suc (suc t))) = elim [ zero ↦ true | suc x ↦ false ]
 
-points : ℕ → List ℤ
+pub points : ℕ → List ℤ
 points zero = pos 0 ∷ []
 points (suc zero) = pos 0 ∷ []
 points (suc (suc zero)) = pos 1 ∷ []
@@ -89,15 +91,6 @@ pub rising_fails : ¬ IsSafeSystem rising
 unfolding vs
 rising_fails safe = let e : false ≡ true = safe 4 3 vs points run (omega arith) (λ u h. refl) in cc
 
--- the diagrams
-before_tick : (v : Valuation) → IsIn (is_false_at 0) v → v 0 ≡ false
-unfolding value_among
-before_tick v h = when_false (v 0) h
-
-after_tick : (v : Valuation) → IsIn (is_true_at 0) v → v 0 ≡ true
-unfolding value_among
-after_tick v h = when_true (v 0) h
-
 rises-is : (v : Valuation) → IsIn (is_true_at 2) v → v 2 ≡ true
 unfolding value_among
 rises-is v h = when_true (v 2) h
@@ -105,18 +98,6 @@ rises-is v h = when_true (v 2) h
 above-is : (v : Valuation) → IsIn (is_false_at 2) v → v 2 ≡ false
 unfolding value_among
 above-is v h = when_false (v 2) h
-
-at_false : (v : Valuation) (x : ℕ) → v x ≡ false → IsIn (is_false_at x) v
-unfolding value_among
-at_false v x e = rw e refl
-
-at_true : (v : Valuation) (x : ℕ) → v x ≡ true → IsIn (is_true_at x) v
-unfolding value_among
-at_true v x e = rw e refl
-
-at_everywhere : (v : Valuation) → IsIn everywhere v
-unfolding value_among
-at_everywhere v = refl
 
 abbrev first_entry : Entry
 first_entry = record { condition = everywhere; kind = Go 1 (by_none ∷ []) }
@@ -171,10 +152,6 @@ step_settled = record {
 one_test : (P : ℕ → Type 0) → P 0 → (t : ℕ) → t < 1 → P t
 one_test P a zero h = a
 one_test P a (suc t) h = absurd (omega arith)
-
-same_column : (a b c d : ℤ) → a ≡ c → (k : ℕ) → coefficient k (row1 a b) ≡ coefficient k (row1 c d)
-same_column a b c d e zero = e
-same_column a b c d e (suc k) = refl
 
 first_implied : AreImplied rising unsound starts_rising first_entry
 first_implied = all_one (IsImplied rising starts_rising first_entry) (record { given = []; wanted = after (row1 (pos 1) (pos 0)); by = by_none })

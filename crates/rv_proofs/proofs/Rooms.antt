@@ -43,7 +43,7 @@ sums_stay cs xs few h k n =
     fewer : length (take n cs) ≡ min n (length cs) → length (take n cs) ≤ 64
     fewer e = omega arith
 
-number_within : (b k : ℕ) (cs : List ℤ) → All (λ c. unsigned_abs c ≤ b) cs → unsigned_abs (number k cs) ≤ b
+pub number_within : (b k : ℕ) (cs : List ℤ) → All (λ c. unsigned_abs c ≤ b) cs → unsigned_abs (number k cs) ≤ b
 number_within b k cs h = go (cases_lt k (length cs))
   where
     go : (k < length cs) ⊎ (length cs ≤ k) → unsigned_abs (number k cs) ≤ b

@@ -23,7 +23,7 @@ pub record AreTighter (as' bs : List Row) : Type 0 where
   pub at : (i : ℕ) → i < length as' → At as' bs i
   pub apart : (i j : ℕ) (l : i < length as') (m : j < length as') → i < j → (at i l).place ≡ (at j m).place → ⊥
 
-by_places : (r : Row) (bs : List Row) (p q : ℕ) → p < length bs → q < length bs → (p ≡ q → ⊥)
+pub by_places : (r : Row) (bs : List Row) (p q : ℕ) → p < length bs → q < length bs → (p ≡ q → ⊥)
     → ((k : ℕ) → coefficient k r ≡ coefficient k (row_at bs p) +ℤ coefficient k (row_at bs q))
     → ((row_at bs p).bound +ℤ (row_at bs q).bound) ≤ℤ r.bound → ShowsAtOnce bs r
 by_places r bs p q hp hq ne two under = go (cases_lt p q) (cases_lt q p)

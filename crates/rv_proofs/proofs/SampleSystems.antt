@@ -16,6 +16,8 @@ use Rattle.rv_proofs.specs.Systems.{System, IsSystem, IsTestRow, IsUpdate, IsSta
 use Rattle.rv_proofs.specs.Samples.{counting, counting_row, rising, rising_row, row1, form1}
 use Rattle.rv_proofs.specs.Counters.{paired, paired_row, paired_update, row2, form2}
 use Rattle.rv_proofs.proofs.Sampling.{all_one, all_two}
+use Rattle.rv_proofs.proofs.Counting.{three_read, tick_state as zero_state, two_read}
+use Rattle.rv_proofs.proofs.Filed.{four_read as paired_four_read, three_read as paired_three_read}
 
 -- a row with a coefficient of magnitude 1 is tight, and so is one without coefficients other than 0
 tight_at : (r : Row) (k : ℕ) → k < length r.coefficients → unsigned_abs (coefficient k r) ≡ 1 → IsTightened r r
@@ -102,22 +104,12 @@ update_two s a b k w l m n = record { wide = w; small = (all_two (λ z. unsigned
 row_is : (s : System) (q r : Row) → IsTestRow s q → Some q ≡ Some r → IsTestRow s r
 row_is s q r h f = subst (IsTestRow s) (same_Some q r f) h
 
-off : (b : Bool) → not b ≡ true → b ≡ false
+pub off : (b : Bool) → not b ≡ true → b ≡ false
 off true e = sym e
 off false e = refl
 
--- the counter
-zero_state : IsState counting 0
-zero_state = (0, omega arith, omega arith)
-
-zero_read : IsRead counting 0
+pub zero_read : IsRead counting 0
 zero_read = (omega arith, λ i h e. omega arith)
-
-two_read : IsRead counting 2
-two_read = (omega arith, λ i h e. omega arith)
-
-three_read : IsRead counting 3
-three_read = (omega arith, λ i h e. omega arith)
 
 pub counting_system : IsSystem counting
 counting_system = record {
@@ -206,12 +198,6 @@ paired_zero_state = (0, omega arith, omega arith)
 
 paired_zero_read : IsRead paired 0
 paired_zero_read = (omega arith, λ i h e. omega arith)
-
-paired_three_read : IsRead paired 3
-paired_three_read = (omega arith, λ i h e. omega arith)
-
-paired_four_read : IsRead paired 4
-paired_four_read = (omega arith, λ i h e. omega arith)
 
 pub paired_system : IsSystem paired
 paired_system = record {

@@ -12,11 +12,7 @@ use Rattle.rv_rows.specs.declared.linear.Row.{Row}
 use Rattle.rv_rows.specs.Rows.{coefficient}
 use Rattle.rv_rows.specs.Tight.{IsTightened, IsCommonDivisor, IsDivided}
 use Rattle.rv_proofs.specs.Boxes.{IsUnitAt, HasUnit}
-
-zero_or : (z : ℤ) → (z ≡ pos 0) ⊎ (z ≢ pos 0)
-zero_or (pos zero) = inl refl
-zero_or (pos (suc n)) = inr (λ e. omega (arith, ints))
-zero_or (negsuc n) = inr (λ e. omega (arith, ints))
+use Rattle.rv_proofs.proofs.Moved.{zero_or}
 
 sized_one : (z : ℤ) → unsigned_abs z ≡ 1 → (z ≡ pos 1) ⊎ (z ≡ negsuc 0)
 sized_one (pos n) e = inl (omega (arith, ints))

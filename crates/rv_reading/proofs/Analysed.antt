@@ -1,5 +1,5 @@
 -- What is proved of the least closed row claim of a system.
-use Rattle.std.proofs.Common.{◌≡◌, ℤ, List, [], Bool, true, false, refl, sym, ◌∙◌, subst, Result, Ok, Err, IfOk, true≢false}
+use Rattle.std.proofs.Common.{◌≡◌, ℤ, List, [], Bool, true, false, refl, sym, ◌∙◌, subst, true≢false}
 use Rattle.rv_diagram.specs.Nodes.{Valuation, Diagrams}
 use Rattle.rv_proofs.specs.Systems.{System}
 use Rattle.rv_proofs.specs.Left.{IsLeftPartition}
@@ -39,7 +39,3 @@ pub proved_left : (s : System) (thresholds : List ℤ) (starts : Bool) (x : Clai
     → IsLeftPartition s x.certificate x.left
 proved_left s thresholds true x has p some = let start = has.0 refl in p.left start.0 start.1 some
 proved_left s thresholds false x has p some = absurd (some (p.claims (nothing_good s thresholds (has.1 refl))))
-
-pub map_ok : {X E : Type 0} (o : Result X E) (P Q : X → Type 0) → ((x : X) → P x → Q x) → IfOk o P → IfOk o Q
-map_ok (Ok x) P Q f h = f x h
-map_ok (Err e) P Q f h = tt

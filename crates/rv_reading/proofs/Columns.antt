@@ -18,8 +18,8 @@ use Rattle.rv_flat.specs.FlatOf.{IsFlatOf}
 use Rattle.rv_flat.specs.Lists.{column_of}
 use Rattle.rv_flat.specs.Systems.{memory_of, kept_of}
 use Rattle.rv_flat.proofs.Earliest.{not_itself}
-use Rattle.rv_flat.proofs.Members.{none_in, at_head, in_tail, head_or_tail}
 use Rattle.rv_control.specs.Control.{control_of}
+use Rattle.rv_types.proofs.Members.{at_head, cons_cases as head_or_tail, in_tail, nothing_in as none_in}
 
 -- ---- The memories of a program have one list.
 both_before : (p q : Sites) → IsBefore p q → IsBefore q p → ⊥

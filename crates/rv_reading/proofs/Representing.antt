@@ -16,7 +16,6 @@ use Rattle.rv_control.specs.Symbolic.{symbolic}
 use Rattle.rv_symbolic.specs.Represented.{AreParts, HaveRefs}
 use Rattle.rv_symbolic.specs.declared.relation.Parts.{Parts}
 use Rattle.rv_symbolic.specs.Growing.{Extends}
-use Rattle.rv_terms.specs.Growing as terms
 use Rattle.rv_cases.specs.declared.asking.Questions.{Questions}
 use Rattle.rv_cases.specs.Questions.{AreQuestions}
 use Rattle.rv_cases.proofs.Keeping.{questions_later}
@@ -32,6 +31,7 @@ use Rattle.rv_paths.specs.Candidates.{IsSearchOf}
 use Rattle.rv_reading.specs.Analysing as analysing
 use Rattle.std.specs.Int.RustNames.{unsigned_abs}
 use Rattle.rv_reading.specs.Read.{flat_of, system_read, diagrams_of, relation_of, questions_of, IsRead}
+use Rattle.rv_forms.proofs.Kept.{to_terms as terms_extends}
 
 module _ (f : Flat) (well : IsWell (system_of f)) (computed : (s : System) (w : Valuation) → IsWell s → IsSymbolic s w (symbolic s w)) (a b : Diagrams)
     (p : Parts)
@@ -54,10 +54,6 @@ module _ (f : Flat) (well : IsWell (system_of f)) (computed : (s : System) (w : 
     next = λ i lt. are.next.are_refs i (omega (arith, are.next.size));
     copies = omega (arith, system.bits, are.next.size, are.extends.variables, size, length-map f.variables variable_of);
   }
-
--- ---- What is read stays read while the store grows.
-terms_extends : (a b : Diagrams) → Extends a b → terms.Extends a b
-terms_extends a b e = record { begins = e.begins; longer = e.longer; kept = e.kept; variables = e.variables; limit = e.limit }
 
 pub questions_kept : (s : proofs.System) (a b : Diagrams) (q : Questions) → Extends a b → AreQuestions s a q → AreQuestions s b q
 questions_kept s a b q e are = questions_later s a b q (terms_extends a b e) are

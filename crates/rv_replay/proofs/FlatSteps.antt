@@ -35,6 +35,7 @@ use Rattle.rv_step.specs.Ranges.{is_outside}
 use Rattle.rv_replay.specs.Observers.{IsObserved}
 use Rattle.rv_replay.specs.Replays.{HasOutgrown}
 use Rattle.rv_replay.specs.Replays as replays
+use Rattle.rv_step.proofs.OneStep.{inside}
 
 -- What is taken from the flat systems: steps are the run.
 pub record StepsGiveRun : Type 0 where
@@ -67,9 +68,6 @@ pub record FlatPasses (f : Flat) (now : State) (inputs : List Value) (row : Row)
 abbrev pub KeepsWithin : Flat → State → Type 0
 KeepsWithin f now = (m : ℕ) → m < length f.memories → IsInRange (get_or now.kept m (Flag false))
 
-inside : (z : ℤ) → is_outside z ≡ false → IsWithin z
-inside z e = (grind (arith, ints), grind (arith, ints))
-
 within_if : (z : ℤ) → ((IsWithin z → ⊥) → ⊥) → IsWithin z
 within_if z h = tested (is_outside z) refl
   where
@@ -99,7 +97,7 @@ stays_within f now inputs row next keeps none is m lt =
     chosen false e = keeps m lt
 
 -- what is there has a value
-there_by : (o : Option (Option Value)) (v : Value) → runs.flat o ≡ Some v → IsSome o
+pub there_by : (o : Option (Option Value)) (v : Value) → runs.flat o ≡ Some v → IsSome o
 there_by Nothing v e = absurd (let bad : ⊥ = cc in bad)
 there_by (Some x) v e = refl
 

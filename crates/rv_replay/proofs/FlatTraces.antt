@@ -29,6 +29,7 @@ use Rattle.rv_flat.proofs.Typing.{length-values, memory_kth, value_kth}
 use Rattle.rv_replay.specs.Traces.{Fixes, IsFlatTrace, IsTrace, given, kinds_of}
 use Rattle.rv_replay.proofs.Observers.{InputsOfProgram, StatesOfProgram}
 use Rattle.rv_replay.proofs.Orders.{one_listing}
+use Rattle.rv_flatten.proofs.CountedVariables.{placed as place_there}
 
 abbrev pub StatesOfFlat : Type 0
 StatesOfFlat = (program : ProgramTree) (main : Identifier) (f : Flat) (state : Brought) → AreWell program → IsNode program main → IsFlatOf program main f
@@ -47,11 +48,11 @@ first_same values n e =
     let long = length-values g n in
     ext_get_or (Flag false) (first_values g n) values (omega (arith, long, e)) (λ k lt. value_kth g n k (omega (arith, long, lt)))
 
-places_same : (ms : List FlatMemory) → memory_places (map memory_of ms) ≡ map (λ m. m.place.sites) ms
+pub places_same : (ms : List FlatMemory) → memory_places (map memory_of ms) ≡ map (λ m. m.place.sites) ms
 places_same [] = refl
 places_same (x ∷ ms) = ap (λ ps. x.place.sites ∷ ps) (places_same ms)
 
-kinds_same : (ms : List FlatMemory) → kinds_of (map memory_of ms) ≡ map (λ m. m.kind) ms
+pub kinds_same : (ms : List FlatMemory) → kinds_of (map memory_of ms) ≡ map (λ m. m.kind) ms
 kinds_same [] = refl
 kinds_same (x ∷ ms) = ap (λ ks. x.kind ∷ ks) (kinds_same ms)
 
@@ -65,11 +66,6 @@ kind_there : (ms : List MemoryAt) (k : ℕ) (a : MemoryAt) → k < length ms →
 kind_there [] k a lt e = absurd (omega (arith, lt))
 kind_there (m ∷ ms) zero a lt e = ap (λ (m : MemoryAt). Some m.kind) e
 kind_there (m ∷ ms) (suc k) a lt e = kind_there ms k a (omega (arith, lt)) e
-
-place_there : (ms : List MemoryAt) (k : ℕ) (a : MemoryAt) → k < length ms → get_or ms k a ≡ a → get_or (memory_places ms) k [] ≡ a.place
-place_there [] k a lt e = absurd (omega (arith, lt))
-place_there (m ∷ ms) zero a lt e = ap (λ (m : MemoryAt). m.place) e
-place_there (m ∷ ms) (suc k) a lt e = place_there ms k a (omega (arith, lt)) e
 
 in_range_there : (values : List Value) → ((k : ℕ) → k < length values → IsInRange (get_or values k (Flag false))) → (k : ℕ)
     → IsInRange (get_or values k (Flag false))

@@ -28,6 +28,7 @@ use Rattle.rv_flat.specs.FlatOf.{flat_inputs, flat_state, instant_of, IsFlatOf}
 use Rattle.rv_flat.specs.Steps.{AreValues, IsState, input_kinds}
 use Rattle.rv_flat.proofs.Running.{within_places}
 use Rattle.rv_replay.specs.Observers.{HasTruth, IsObserved}
+use Rattle.rv_flatten.proofs.Assembled.{first_is_flag as first_boolean}
 
 -- What is taken from the layers below: instants have values of their types, and states of flat systems are states of programs.
 
@@ -50,11 +51,6 @@ boolean : (k : Kind) → is_observer (k ∷ []) ≡ true → k ≡ kind.Bool
 boolean kind.Bool e = refl
 boolean kind.Int e = let bad : false ≡ true = e in absurd (grind arith)
 boolean (kind.Labels i) e = let bad : false ≡ true = e in absurd (grind arith)
-
-first_boolean : (ks : List Kind) → is_observer ks ≡ true → slice_get ks 0 ≡ Some kind.Bool
-first_boolean [] e = let bad : false ≡ true = e in absurd (grind arith)
-first_boolean (k ∷ []) e = ap (λ j. Some j) (boolean k e)
-first_boolean (k ∷ j ∷ ks) e = let bad : false ≡ true = e in absurd (grind arith)
 
 some_of : (ks : List Kind) → is_observer ks ≡ true → 0 < length ks
 some_of [] e = let bad : false ≡ true = e in absurd (grind arith)

@@ -1,5 +1,5 @@
 -- Places stand in one order, so memories have one list, and there is one least place.
-use Rattle.std.proofs.Common.{◌≡◌, ◌⊎◌, inl, inr, ℕ, zero, suc, ◌<◌, List, [], ◌∷◌, length, get_or, refl, sym, ap, subst, arith}
+use Rattle.std.proofs.Common.{◌≡◌, ◌⊎◌, inl, inr, suc, ◌<◌, List, [], ◌∷◌, length, refl, sym, subst, arith}
 use Rattle.std.specs.List.{Contains}
 use Rattle.std.proofs.lemmas.Bool.{cases_order}
 use Rattle.std.proofs.lemmas.List.{length-map}
@@ -10,16 +10,9 @@ use Rattle.rv_types.specs.Lists.{MemoryAt, AreMemories, AreRising, IsAny, memory
 use Rattle.rv_types.specs.Needs.{IsBefore}
 use Rattle.rv_flat.specs.Steps.{IsLeast}
 use Rattle.rv_flat.proofs.Earliest.{not_itself}
-use Rattle.rv_flat.proofs.Members.{none_in, at_head, in_tail, head_or_tail}
-
-both_before : (p q : Sites) → IsBefore p q → IsBefore q p → ⊥
-both_before [] [] a b = b
-both_before [] (y ∷ ys) a b = b
-both_before (x ∷ xs) [] a b = a
-both_before (x ∷ xs) (y ∷ ys) (inl lt) (inl less) = omega arith
-both_before (x ∷ xs) (y ∷ ys) (inl lt) (inr (same, b)) = omega (arith, same)
-both_before (x ∷ xs) (y ∷ ys) (inr (same, a)) (inl less) = omega (arith, same)
-both_before (x ∷ xs) (y ∷ ys) (inr (same, a)) (inr (e, b)) = both_before xs ys a b
+use Rattle.rv_flatten.proofs.CountedVariables.{placed}
+use Rattle.rv_instances.proofs.ExpandedLaws.{not_both as both_before}
+use Rattle.rv_types.proofs.Members.{at_head, cons_cases as head_or_tail, in_tail, nothing_in as none_in}
 
 in_order : (p q : Sites) → (p ≡ q) ⊎ (IsBefore p q ⊎ IsBefore q p)
 in_order [] [] = inl refl
@@ -46,11 +39,6 @@ one_least Is p q a b =
       ]
     ] in
     λ i. record { sites = same i }
-
-placed : (ms : List MemoryAt) (j : ℕ) (a : MemoryAt) → j < length ms → get_or ms j a ≡ a → get_or (memory_places ms) j [] ≡ a.place
-placed [] j a lt e = absurd (omega (arith, lt))
-placed (m ∷ ms) zero a lt e = ap (λ (m : MemoryAt). m.place) e
-placed (m ∷ ms) (suc j) a lt e = placed ms j a (omega (arith, lt)) e
 
 -- what stands in the rest of a list that rises comes later
 later : (x : MemoryAt) (xs : List MemoryAt) → AreRising (memory_places (x ∷ xs)) → (m : MemoryAt) → Contains xs m → IsBefore x.place m.place

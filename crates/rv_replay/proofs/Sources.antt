@@ -1,16 +1,16 @@
 -- The program of an accepted source is well formed, and its main node has one output, a Boolean one.
-use Rattle.std.proofs.Common.{◌≡◌, Bool, true, false, ◌||◌, cond, List, [], ◌∷◌, map, refl, sym, subst, Option, Some, IsTrue, IsSome, unwrap_or}
+use Rattle.std.proofs.Common.{◌≡◌, Bool, true, false, cond, List, [], ◌∷◌, refl, sym, subst, Option, Some, IsSome, unwrap_or}
 use Rattle.std.proofs.Common.{None as Nothing}
 use Rattle.std.specs.Prelude.{Result, Err}
 use Rattle.rv_base.specs.declared.value.Trace.{Trace}
 use Rattle.rv_tree.specs.Tree.{NodeTree, ProgramTree}
-use Rattle.rv_tree.specs.Places.{Identifier, is_among, is_same}
+use Rattle.rv_tree.specs.Places.{Identifier}
 use Rattle.rv_tree.specs.SourceTrees.{IsSourceTree}
 use Rattle.rv_types.specs.declared.fault.NameFault.{NameFault}
 use Rattle.rv_types.specs.declared.fault.NameFault.TheVariants.{NotObserver}
 use Rattle.rv_types.specs.declared.typed.Typed.{Typed}
 use Rattle.rv_types.specs.Instances.{name_at, no_node, IsNode}
-use Rattle.rv_types.specs.Kinds.{decl_kinds, node_among, node_named}
+use Rattle.rv_types.specs.Kinds.{decl_kinds, node_named}
 use Rattle.rv_types.specs.Scopes.{is_observer}
 use Rattle.rv_types.specs.Settled.{IsSettled}
 use Rattle.rv_types.specs.WellFormed.{AreWell}
@@ -32,16 +32,7 @@ use Rattle.rv_replay.proofs.Answered.{found, only}
 use Rattle.rv_replay.proofs.Answers.{SomeRun, is_replay, only_replay}
 use Rattle.rv_replay.proofs.FlatSteps.{StepsGiveRun}
 use Rattle.rv_replay.proofs.FlatTraces.{InputsOfFlat, StatesOfFlat, flat_trace}
-
--- a name that some node has is found
-some_among : (ns : List NodeTree) (x : Identifier) → IsTrue (is_among (map (λ n. n.name.text) ns) x) → IsSome (node_among ns x)
-some_among [] x h = absurd (let bad : ⊥ = cc in bad)
-some_among (n ∷ ns) x h = tested (is_same n.name.text x) h (some_among ns x)
-  where
-    tested : (b : Bool) → IsTrue (b || is_among (map (λ n. n.name.text) ns) x) → (IsTrue (is_among (map (λ n. n.name.text) ns) x) → IsSome (node_among ns x))
-        → IsSome (cond b (Some n) (node_among ns x))
-    tested true h again = refl
-    tested false h again = again h
+use Rattle.rv_meaning.proofs.Acceptable.{some_among}
 
 observer_of : (p : ProgramTree) (o : Option NodeTree) → elim o as (λ _. List NameFault)
     [ Nothing ↦ [] | Some m ↦ cond (is_observer (decl_kinds p m.outputs)) [] (NotObserver m.name.at ∷ []) ] ≡ [] → IsSome o

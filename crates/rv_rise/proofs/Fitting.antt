@@ -1,11 +1,10 @@
 -- The premises and the updates of a case, and the numbers of left sides.
-use Rattle.std.proofs.Common.{◌≡◌, ◌≢◌, ℕ, zero, suc, ◌^◌, ◌<◌, ◌≤◌, ℤ, pos, List, [], ◌∷◌, ◌++◌, length, get_or, All, Option, arith, refl, sym, ap, ◌∙◌, subst}
+use Rattle.std.proofs.Common.{◌≡◌, ◌≢◌, ℕ, zero, suc, ◌^◌, ◌<◌, ◌≤◌, ℤ, pos, List, [], ◌++◌, length, get_or, All, Option, arith, refl, sym, ap, ◌∙◌, subst}
 use Rattle.std.proofs.Common.{◌⊎◌, inl, inr}
 use Rattle.std.specs.List.{Contains}
 use Rattle.std.specs.Int.RustNames.{unsigned_abs}
 use Rattle.std.proofs.lemmas.Bool.{cases_eq}
 use Rattle.std.proofs.lemmas.Option.{slice_get-get_or}
-use Rattle.std.proofs.lemmas.List.{length-append}
 use Rattle.std.proofs.lemmas.List.Elements.{All-append, All-push, All-weaker, All-nil, All-from_get_or, All-contains, Contains-get_or}
 use Rattle.rv_diagram.specs.Nodes.{Valuation}
 use Rattle.rv_rows.specs.declared.linear.Row.{Row}
@@ -22,14 +21,10 @@ use Rattle.rv_rise.specs.Limits.{AreAmong}
 use Rattle.rv_rise.specs.Shown.{ArePremises, CanMoveAll}
 use Rattle.rv_rise.specs.Sides.{IsSide, AreSides, rows_with}
 use Rattle.rv_rise.proofs.Listing.{IsRowAt, rows_with-from, rows_with-few}
+use Rattle.rv_proofs.proofs.Claims.{updates_long}
 
 abbrev nothing : Row
 nothing = record { coefficients = []; bound = pos 0 }
-
--- the updates of a valuation, one by one
-updates_long : (s : System) (v : Valuation) (n : ℕ) → length (updates_among s v n) ≡ n
-updates_long s v zero = refl
-updates_long s v (suc n) = omega (arith, length-append (updates_among s v n) (s.update v n ∷ []), updates_long s v n)
 
 updates_all : (s : System) (v : Valuation) → IsSystem s → (n : ℕ) → n ≤ s.memories → All (IsUpdate s) (updates_among s v n)
 updates_all s v is zero l = All-nil (IsUpdate s)

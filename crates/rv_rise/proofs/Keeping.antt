@@ -1,5 +1,5 @@
 -- A left side whose columns the updates leave as they are keeps its limit.
-use Rattle.std.proofs.Common.{◌≡◌, ◌≢◌, ℕ, zero, suc, ◌+◌, ◌<◌, ◌≤◌, ℤ, pos, negsuc, ◌+ℤ◌, ◌-ℤ◌, ◌*ℤ◌, ◌≤ℤ◌, Bool, true, false, List, [], ◌∷◌, ◌++◌, slice_get}
+use Rattle.std.proofs.Common.{◌≡◌, ◌≢◌, ℕ, zero, suc, ◌+◌, ◌<◌, ◌≤◌, ℤ, pos, ◌+ℤ◌, ◌-ℤ◌, ◌*ℤ◌, ◌≤ℤ◌, Bool, true, false, List, [], ◌∷◌, ◌++◌, slice_get}
 use Rattle.std.proofs.Common.{length, map, get_or, All, Some, arith, refl, sym, ap, ◌∙◌, subst, ◌⊎◌, inl, inr}
 use Rattle.std.specs.List.{Contains}
 use Rattle.std.proofs.lemmas.Int.{ints}
@@ -12,24 +12,13 @@ use Rattle.rv_rows.specs.Rows.{coefficient, row_at, dot}
 use Rattle.rv_rows.specs.Forms.{number, forms_width, IsSubstituted, CanSubstitute}
 use Rattle.rv_rows.specs.Multipliers.{by_one}
 use Rattle.rv_rows.proofs.RowLemmas.{dot-none}
-use Rattle.rv_proofs.proofs.Moved.{dot-read}
+use Rattle.rv_proofs.proofs.Moved.{dot-read, zero_or}
 use Rattle.rv_seek.specs.Least.{bounded}
 use Rattle.rv_rise.specs.Shown.{IsShownAfter}
 use Rattle.rv_rise.specs.Limits.{IsLoosened}
 use Rattle.rv_rise.specs.Still.{IsOwn, AreStill, IsStillSide}
-
-none_form : Form
-none_form = record { coefficients = []; constant = pos 0 }
-
-zero_or : (z : ℤ) → (z ≡ pos 0) ⊎ (z ≢ pos 0)
-zero_or (pos zero) = inl refl
-zero_or (pos (suc n)) = inr (λ e. omega (arith, ints))
-zero_or (negsuc n) = inr (λ e. omega (arith, ints))
-
--- 1 at a column, 0 at those before
-units : ℕ → List ℤ
-units zero = pos 1 ∷ []
-units (suc n) = pos 0 ∷ units n
+use Rattle.rv_cases.proofs.Differing.{no_form as none_form}
+use Rattle.rv_proofs.proofs.Rising.{points as units}
 
 units-here : (n : ℕ) → number n (units n) ≡ pos 1
 unfolding units

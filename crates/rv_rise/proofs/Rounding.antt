@@ -1,5 +1,5 @@
 -- Rounds, and the claim at which they end.
-use Rattle.std.proofs.Common.{◌≡◌, ℕ, ◌+◌, ◌^◌, ◌<◌, ◌≤◌, ℤ, negsuc, ◌≤ℤ◌, ◌<ℤ◌, Bool, true, false, cond, not, ◌&&◌, List, [], ◌++◌, length, All, Option, Some}
+use Rattle.std.proofs.Common.{◌≡◌, ℕ, ◌+◌, ◌^◌, ◌<◌, ◌≤◌, ℤ, negsuc, ◌≤ℤ◌, ◌<ℤ◌, Bool, true, false, cond, List, [], ◌++◌, length, All, Option, Some}
 use Rattle.std.proofs.Common.{IsTrue, slice_get, arith, lit≤, refl, sym, ap, ◌∙◌, subst, ◌⊎◌, inl, inr}
 use Rattle.std.proofs.Common.{None as Nothing}
 use Rattle.std.specs.List.{Contains}
@@ -37,19 +37,11 @@ use Rattle.rv_rise.specs.Rounds.{left_of, claim_in}
 use Rattle.rv_rise.proofs.Listing.{IsRowAt, rows_with-has, rows_with-from, rows_with-different}
 use Rattle.rv_rise.proofs.Fitting.{rows_kept}
 use Rattle.rv_rise.proofs.Composing.{held_above}
+use Rattle.rv_cases.proofs.Gathering.{same_truth as same_bool}
+use Rattle.rv_walk.proofs.Stages.{rest_from as and_not, rest_parts as both_parts}
 
 none_kept : (s : System) → AreKept s []
 none_kept s = (All-nil (λ (r : Row). (length r.coefficients ≡ s.memories) × Fits r), lit≤ tt)
-
-both_parts : (a b : Bool) → (a && not b) ≡ true → (a ≡ true) × (b ≡ false)
-both_parts true false e = (refl, refl)
-both_parts true true e = cc
-both_parts false b e = cc
-
-pub and_not : (a b : Bool) → a ≡ true → b ≡ false → (a && not b) ≡ true
-and_not true false e d = refl
-and_not true true e d = cc
-and_not false b e d = cc
 
 clash : (b : Bool) → b ≡ true → b ≡ false → ⊥
 clash true e d = cc
@@ -155,11 +147,6 @@ module _ (s : System) (is : IsSystem s) (f : Frame) (frame : IsFrameOf s f) (c :
             let w = others.cases in
             let (j, d, at, on) = w.covered v t.allowed i in
             subst (λ (x : Risen). IsHeld s (claim_in f c) (claim_in f x) v) (g.still e) (g.held v (j, d, slice_get_within o.cases j d at, at, on))
-
-same_bool : (a b : Bool) → (a ≡ true → b ≡ true) → (b ≡ true → a ≡ true) → a ≡ b
-same_bool true b h k = sym (h refl)
-same_bool false true h k = k refl
-same_bool false false h k = refl
 
 -- a row with the left side of a candidate is a candidate
 same_shape : (s : System) (side r : Row) → r.coefficients ≡ side.coefficients → HasOne s side ⊎ HasTwo s side → HasOne s r ⊎ HasTwo s r

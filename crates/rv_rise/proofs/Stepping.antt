@@ -24,7 +24,6 @@ use Rattle.rv_proofs.proofs.CaseRows.{case_rows}
 use Rattle.rv_walk.specs.Ends.{has}
 use Rattle.rv_walk.specs.Walks.{missing}
 use Rattle.rv_claims.specs.Order.{IsBelowClosed}
-use Rattle.rv_claims.proofs.Tighter.{claim-shows, claim-taken}
 use Rattle.rv_rise.specs.declared.frame.Frame.{Frame}
 use Rattle.rv_rise.specs.declared.risen.Risen.{Risen}
 use Rattle.rv_rise.specs.declared.limits.Loosened.{Loosened}
@@ -37,6 +36,7 @@ use Rattle.rv_rise.proofs.Listing.{IsRowAt, rows_with-has, rows_with-from}
 use Rattle.rv_rise.proofs.Loosening.{changed_le}
 use Rattle.rv_rise.proofs.Composing.{neither, some_of, above_same}
 use Rattle.rv_rise.proofs.Showing.{shown_right}
+use Rattle.rv_proofs.proofs.RowTighter.{claim-shows, claim-taken}
 
 -- limits stay among the thresholds
 pub loosened_among : (thresholds : List ℤ) (rows : List Row) (forms : List Form) (sides : List Row) (old new : List (Option ℤ))

@@ -1,17 +1,10 @@
 -- What holds of each element of a list, and the name of the main node.
-use Rattle.std.proofs.Common.{Bool, true, false, ◌||◌, cond, List, [], ◌∷◌, suc, zero, map, refl, arith, Some, IsTrue, IsSome}
-use Rattle.std.specs.List.{All, Contains}
-use Rattle.std.proofs.lemmas.List.Elements.{Contains-append_right}
+use Rattle.std.proofs.Common.{Bool, true, false, ◌||◌, cond, List, [], ◌∷◌, map, refl, Some, IsTrue, IsSome}
 use Rattle.rv_tree.specs.Tree.{NodeTree, ProgramTree}
 use Rattle.rv_tree.specs.Places.{Identifier, is_among, is_same}
 use Rattle.rv_types.specs.Kinds.{node_among, node_named}
 use Rattle.rv_types.specs.Instances.{IsNode}
-
--- what holds of each element of a list holds of it by numbers
-pub each : {X : Type 0} (P : X → Type 0) (xs : List X) → ((x : X) → Contains xs x → P x) → All P xs
-each P [] h k d lt = absurd (omega arith)
-each P (x ∷ xs) h zero d lt = h x (0, omega arith, refl)
-each P (x ∷ xs) h (suc k) d lt = each P xs (λ y w. h y (Contains-append_right (x ∷ []) xs y w)) k d (omega arith)
+use Rattle.rv_sequence.proofs.NeedsGraph.{all_from as each}
 
 -- the main node has a name
 pub named_some : (p : ProgramTree) (main : Identifier) → IsNode p main → IsSome (node_named p main)

@@ -23,22 +23,16 @@ use Rattle.rv_flat.specs.FlatOf.{IsFlatOf}
 use Rattle.rv_flat.specs.Systems.{memory_of}
 use Rattle.rv_flat.specs.Steps.{input_kinds}
 use Rattle.rv_run.specs.Judged.{IsControlSystem}
-use Rattle.rv_run.proofs.Known.{in_map, of_map, main_in}
-use Rattle.rv_run.proofs.NoIntegers.{found, within_found, not_integer}
+use Rattle.rv_run.proofs.NoIntegers.{found, not_integer}
 use Rattle.rv_run.proofs.Sites.{name_at_site, name_within, input_within, input_kind}
-use Rattle.rv_run.proofs.Found.{each}
 use Rattle.rv_run.proofs.Weighing.{weight, all_weigh, untested_total, total_untested, total_part}
-
--- a type is that of integers or is not
-is_integer_kind : (k : Kind) → is_integer k ≡ true → k ≡ kind.Int
-is_integer_kind kind.Bool is = cc
-is_integer_kind kind.Int is = refl
-is_integer_kind (kind.Labels i) is = cc
-
--- what is not an integer has a type that is not
-not_both : (b : Bool) → (b ≡ true → ⊥) → b ≡ false
-not_both true other = absurd (other refl)
-not_both false other = refl
+use Rattle.rv_invfile.proofs.Decimals.{not-true as not_both}
+use Rattle.rv_meaning.proofs.Acceptable.{main_in}
+use Rattle.rv_sequence.proofs.GiverNeeds.{got_within as within_found}
+use Rattle.rv_sequence.proofs.NeedsGraph.{all_from as each}
+use Rattle.rv_syntax.proofs.Bounds.{from-map as of_map}
+use Rattle.rv_tested.proofs.Inside.{integer_kind as is_integer_kind}
+use Rattle.rv_types.proofs.Members.{in_map}
 
 module _ (p : ProgramTree) (main : Identifier) (f : Flat) (flat : IsFlatOf p main f) (well : AreWell p) (is_node : IsNode p main) where
   flow_number : (i : Instance) (x : Identifier) → IsInstance p main i → Contains (flows i.node) x

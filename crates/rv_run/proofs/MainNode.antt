@@ -15,12 +15,10 @@ use Rattle.rv_types.specs.Kinds.{decl_kinds, node_named}
 use Rattle.rv_types.specs.Scopes.{is_observer}
 use Rattle.rv_types.specs.Settled.{IsSettled, node_number}
 use Rattle.rv_types.specs.Instances.{no_node, node_of, name_at, IsNode}
-use Rattle.rv_run.proofs.Known.{index_there, text_at}
 use Rattle.rv_run.proofs.Found.{named_some}
-
-texts_same : (ns : List NodeTree) → texts (map (λ (n : NodeTree). n.name) ns) ≡ map (λ (n : NodeTree). n.name.text) ns
-texts_same [] = refl
-texts_same (n ∷ ns) = ap (λ l. n.name.text ∷ l) (texts_same ns)
+use Rattle.rv_flatten.proofs.InstanceNumbers.{name_texts as texts_same}
+use Rattle.rv_instances.proofs.Known.{text_at}
+use Rattle.rv_types.proofs.Members.{index_there}
 
 -- an observer is an output
 some_output : (ds : List Decl) (p : ProgramTree) → is_observer (decl_kinds p ds) ≡ true → 0 < length ds

@@ -23,7 +23,7 @@ on_file held w named loaded given limit P is h same p =
     subst (λ o. IsSomeAnd o (λ n. HoldsUnder held n.0 (λ bytes. P bytes n.1))) (sym is)
     (under_name held named.0 loaded limit (λ bytes. P bytes named.1) h (subst (λ bytes. P bytes named.1) same p))
 
-same_pair : (a b : List ℕ × List ℕ) → Some a ≡ Some b → a ≡ b
+pub same_pair : (a b : List ℕ × List ℕ) → Some a ≡ Some b → a ≡ b
 same_pair a b h = cc
 
 pub loaded_is : (held : Option Shelf) (name loaded bytes : List ℕ) (limit : ℕ)

@@ -14,17 +14,13 @@ use Rattle.rv_flat.specs.Systems.{kept_of}
 use Rattle.rv_proofs.specs.Reached.{HasNoIntegers}
 use Rattle.rv_control.specs.Control.{order_tests, control_of}
 use Rattle.rv_run.specs.Judged.{is_test, IsControlSystem}
+use Rattle.rv_flat.proofs.SystemRuns.{kept_kinds}
 
 -- one of a list
 pub found : {X : Type 0} (xs : List X) (k : ℕ) (d : X) → k < length xs → slice_get xs k ≡ Some (get_or xs k d)
 found [] k d lt = absurd (omega arith)
 found (x ∷ xs) zero d lt = refl
 found (x ∷ xs) (suc k) d lt = found xs k d (omega arith)
-
-pub within_found : {X : Type 0} (xs : List X) (k : ℕ) (x : X) → slice_get xs k ≡ Some x → k < length xs
-within_found [] k x is = cc
-within_found (y ∷ ys) zero x is = omega arith
-within_found (y ∷ ys) (suc k) x is = let lt = within_found ys k x is in omega arith
 
 -- none of some types is that of integers
 pub not_integer : {X : Type 0} (kind_of : X → Kind) (xs : List X) → All (λ x. is_integer (kind_of x) ≡ false) xs → (k : ℕ) (j : Kind)
@@ -40,11 +36,6 @@ none_whole kind_of (x ∷ xs) all =
     let here = all 0 x (omega arith) in
     let rest = none_whole kind_of xs (λ k d lt. all (suc k) d (omega (arith, lt))) in
     λ i. cond (here i) 1 0 + rest i
-
--- the types of the memories of a flat system are those of its system
-kept_kinds : (all ms : List FlatMemory) → map (λ x. x.kind) (map (kept_of all) ms) ≡ map (λ m. m.kind) ms
-kept_kinds all [] = refl
-kept_kinds all (m ∷ ms) = ap (λ l. m.kind ∷ l) (kept_kinds all ms)
 
 -- no variable is an order test
 tests_more : (b : Bit) (bs : List Bit) → is_test b ≡ false → order_tests (map variable_of bs) ≡ 0 → order_tests (map variable_of (b ∷ bs)) ≡ 0

@@ -11,18 +11,9 @@ use Rattle.rv_types.specs.declared.typed.Clock.TheVariants.{Base}
 use Rattle.rv_types.specs.Kinds.{decl_kinds, flow_kinds, flow_kind, kind_in_program}
 use Rattle.rv_types.specs.Clocks.{base_clock, declared_clock, flow_clocks}
 use Rattle.rv_types.specs.Instances.{clock_of}
-use Rattle.rv_run.proofs.Known.{index_at}
-use Rattle.rv_run.proofs.NoIntegers.{within_found}
-
--- one of a list is one of a longer list
-slice_left : {X : Type 0} (xs ys : List X) (k : ℕ) (x : X) → slice_get xs k ≡ Some x → slice_get (xs ++ ys) k ≡ Some x
-slice_left [] ys k x is = cc
-slice_left (z ∷ xs) ys zero x is = is
-slice_left (z ∷ xs) ys (suc k) x is = slice_left xs ys k x is
-
-map-append : {X Y : Type 0} (g : X → Y) (xs ys : List X) → map g (xs ++ ys) ≡ map g xs ++ map g ys
-map-append g [] ys = refl
-map-append g (x ∷ xs) ys = ap (λ l. g x ∷ l) (map-append g xs ys)
+use Rattle.rv_flatten.proofs.Assembled.{front as slice_left, map_joined as map-append}
+use Rattle.rv_meaning.proofs.NameLemmas.{index_at}
+use Rattle.rv_sequence.proofs.GiverNeeds.{got_within as within_found}
 
 module _ (n : NodeTree) (once : (j k : ℕ) → j < k → k < length (flows n) → get_or (flows n) j [] ≡ get_or (flows n) k [] → ⊥) where
   -- the flow at a site

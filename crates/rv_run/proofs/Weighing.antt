@@ -11,10 +11,7 @@ use Rattle.rv_flat.specs.declared.parts.Bit.{Bit}
 use Rattle.rv_flat.specs.declared.parts.Bit.TheVariants as bit
 use Rattle.rv_flat.specs.Lists.{variable_of}
 use Rattle.rv_run.specs.Judged.{is_test}
-
-pub total-append : {X : Type 0} (f : X → ℕ) (xs ys : List X) → total f (xs ++ ys) ≡ total f xs + total f ys
-total-append f [] ys = omega arith
-total-append f (x ∷ xs) ys = let rest = total-append f xs ys in omega (arith, rest)
+use Rattle.rv_sizes.proofs.Summing.{total_append as total-append}
 
 -- weights of variables: of ticks and of bits, and of order tests; a next copy has none
 abbrev pub weight : ℕ → ℕ → Variable → ℕ

@@ -42,7 +42,7 @@ use Rattle.rv_instances.proofs.Lists.{length_map}
 use Rattle.rv_sequence.proofs.NumbersNeeded.{AreAt, at_append, needs_at, clock_flow, output_flow}
 use Rattle.rv_sequence.proofs.TypedCalls.{typed_calls, sole_output}
 
-got_within : {X : Type 0} (xs : List X) (k : ℕ) (x : X) → slice_get xs k ≡ Some x → k < length xs
+pub got_within : {X : Type 0} (xs : List X) (k : ℕ) (x : X) → slice_get xs k ≡ Some x → k < length xs
 got_within [] k x e = cc
 got_within (y ∷ ys) zero x e = omega arith
 got_within (y ∷ ys) (suc k) x e = let h = got_within ys k x e in omega (arith, h)

@@ -17,8 +17,8 @@ use Rattle.rv_instances.specs.Layouts.{Here, IsWithin, here_of, node_at}
 use Rattle.rv_instances.specs.NumberedNeeds.{IsReader, listed, clock_number, clock_of_expression, flow_number, numbers_needed, form_numbers, numbers_of_all}
 use Rattle.rv_instances.specs.NumberedNeeds.{giver_numbers, node_read, numbers_of}
 use Rattle.rv_instances.proofs.ClockBounds.{low_within, taken_low, told_low}
-use Rattle.rv_instances.proofs.Known.{nothing_in}
 use Rattle.rv_sequence.specs.Needed.{needed, form_needed, needed_by_all, giver_needed}
+use Rattle.rv_types.proofs.Members.{nothing_in}
 
 -- the clock that an expression tells is a flow with a number of 32 bits
 pub told_within : (r : Reader) → IsReader r → (e : Tree) (k : Pace) → k ≡ told_pace (node_read r) e → IsWithin (numbers_of r).offset (taken Base k)

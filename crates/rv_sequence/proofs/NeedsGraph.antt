@@ -25,7 +25,7 @@ use Rattle.rv_instances.proofs.Lists.{length_map}
 use Rattle.rv_sequence.proofs.Needed.{needed_found, found_needed}
 use Rattle.rv_sequence.proofs.NumbersNeeded.{AreAt, at_place, at_number}
 
-all_from : {X : Type 0} (P : X → Type 0) (xs : List X) → ((x : X) → Contains xs x → P x) → All P xs
+pub all_from : {X : Type 0} (P : X → Type 0) (xs : List X) → ((x : X) → Contains xs x → P x) → All P xs
 all_from P xs each k d lt = each (get_or xs k d) (Contains-get_or xs k d lt)
 
 module _ (p : ProgramTree) (main : Identifier) (instances : List Numbered) (known : IsExpanded p main instances) (l : Layout)

@@ -19,8 +19,9 @@ use Rattle.rv_instances.specs.Layouts.{Here, IsPlaced, IsClockPlaced, IsHere}
 use Rattle.rv_instances.specs.NumberedNeeds.{listed, clock_number, clock_of_expression, numbers_needed, form_numbers, numbers_of_all}
 use Rattle.rv_instances.proofs.ArgumentClocks.{taken_known}
 use Rattle.rv_instances.proofs.ClockFlows.{pace_known}
-use Rattle.rv_instances.proofs.Known.{cons_cases, nothing_in, split_nil, index_there}
 use Rattle.rv_instances.proofs.Lists.{length_map}
+use Rattle.rv_types.proofs.Members.{cons_cases, index_there, nothing_in}
+use Rattle.rv_types.proofs.RightNames.{both_empty as split_nil}
 
 -- one number after the other is that of a place
 abbrev pub AreAt : List Sites → List ℕ → List Sites → Type 0

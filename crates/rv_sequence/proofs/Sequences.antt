@@ -14,17 +14,10 @@ use Rattle.rv_sequence.specs.Cycles.{IsCycleFromLeast}
 use Rattle.rv_instances.specs.Flowing.{place_at}
 use Rattle.rv_sequence.specs.FlowGraphs.{IsFlowGraph, AreTurned}
 use Rattle.rv_instances.proofs.Lists.{nat_split, contains_at, length_map}
-use Rattle.rv_calls.proofs.Turns.{turn}
-use Rattle.rv_instances.proofs.Known.{nothing_in, cons_cases, map_at, of_map}
-
--- of two places one is not before and after the other
-pub not_both : (a b : Sites) → IsBefore a b → IsBefore b a → ⊥
-not_both a [] h k = h
-not_both [] (y ∷ ys) h k = k
-not_both (x ∷ xs) (y ∷ ys) (inl h) (inl k) = absurd (omega (arith, h, k))
-not_both (x ∷ xs) (y ∷ ys) (inl h) (inr k) = let e = k.0 in absurd (omega (arith, h, e))
-not_both (x ∷ xs) (y ∷ ys) (inr h) (inl k) = let e = h.0 in absurd (omega (arith, k, e))
-not_both (x ∷ xs) (y ∷ ys) (inr h) (inr k) = not_both xs ys h.1 k.1
+use Rattle.rv_instances.proofs.Known.{map_at}
+use Rattle.rv_instances.proofs.ExpandedLaws.{not_both}
+use Rattle.rv_types.proofs.Joined.{drop_here as turn}
+use Rattle.rv_types.proofs.Members.{cons_cases, nothing_in, of_map}
 
 -- Loops.
 

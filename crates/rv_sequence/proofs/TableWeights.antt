@@ -1,11 +1,9 @@
 -- The weights of flows in a table by numbers.
-use Rattle.std.proofs.Common.{◌≡◌, ℕ, ◌+◌, ◌<◌, ◌≤◌, inl, inr, List, [], ◌++◌, map, length, get_or, set, refl, sym, ◌∙◌, ap, subst, arith, Some, slice_get}
-use Rattle.std.proofs.Common.{length-append}
+use Rattle.std.proofs.Common.{◌≡◌, ℕ, ◌+◌, ◌<◌, ◌≤◌, inl, inr, List, [], map, length, get_or, set, refl, sym, ◌∙◌, ap, subst, arith, Some, slice_get}
 use Rattle.std.proofs.lemmas.List.{get_or_default, get_or-set_same, get_or-set_other, length-set}
 use Rattle.std.proofs.lemmas.Bool.{cases_eq}
-use Rattle.rv_tree.specs.declared.tree.Decl.{Decl}
 use Rattle.rv_tree.specs.Tree.{Tree, NodeTree, ProgramTree, tree_of}
-use Rattle.rv_tree.specs.Places.{Identifier, Sites, flows, names, site_of}
+use Rattle.rv_tree.specs.Places.{Identifier, Sites, flows, site_of}
 use Rattle.rv_types.specs.Instances.{Body, Output, Instance, callee, node_of, IsInstance, is_callee}
 use Rattle.rv_types.specs.Needs.{Giver, Given, Of, Gives, needs_of, IsBefore, IsAmongFirst}
 use Rattle.rv_types.specs.Scopes.{constant_value, is_fixed}
@@ -25,21 +23,14 @@ use Rattle.rv_sequence.specs.Weighing.{weight_in}
 use Rattle.rv_sequence.specs.WeightTables.{weighing_at, site_in, told_weight, IsToldWithin, IsNumbered, counted_weight, AreFlowWeights, AreFirstWeights}
 use Rattle.rv_instances.proofs.ExpandedLaws.{not_itself, node_in, node_is}
 use Rattle.rv_instances.proofs.FlowPlaces.{are_flow_places}
-use Rattle.rv_instances.proofs.Known.{map_at, index_there}
+use Rattle.rv_instances.proofs.Known.{map_at}
 use Rattle.rv_instances.proofs.LayoutLaws.{is_here}
 use Rattle.rv_instances.proofs.Lists.{length_map, nat_split, got}
 use Rattle.rv_sequence.proofs.Sequences.{ordered_sequence}
 use Rattle.rv_sequence.proofs.WeightFlows.{giver_output, instance_of, ReadsGiver, giver_reads, giver_flows}
 use Rattle.rv_sequence.proofs.WeightReads.{Reads, capped_weight}
-
--- outputs stand behind the inputs of a node
-pub output_within : (n : NodeTree) (j : ℕ) → j < length n.outputs → length n.inputs + j < length (flows n)
-output_within n j lt =
-    let a = length_map (λ (d : Decl). d.name.text) n.inputs in
-    let b = length_map (λ (d : Decl). d.name.text) n.outputs in
-    let s = length-append (names n.inputs) (names n.outputs) in
-    let t = length-append (names n.inputs ++ names n.outputs) (names n.locals) in
-    omega (arith, a, b, s, t, lt)
+use Rattle.rv_sequence.proofs.NumbersNeeded.{output_within}
+use Rattle.rv_types.proofs.Members.{index_there}
 
 module _ (p : ProgramTree) (main : Identifier) (instances : List Numbered) (known : IsExpanded p main instances) where
   placed : AreFlowPlaces p main (all_places p instances)

@@ -17,8 +17,8 @@ use Rattle.rv_types.specs.Types.{Signature, Scope, kind_in, one_of, two_of, thre
 use Rattle.rv_types.specs.Types.{memory_rule, when_rule, when_of, if_rule, sole, call_of, is_constant, kind_of, kinds_of_all}
 use Rattle.rv_types.specs.Scopes.{node_scope, signature_of}
 use Rattle.rv_types.specs.Instances.{CallTree, calls_in, form_calls, calls_in_all, node_of, no_node}
-use Rattle.rv_instances.proofs.Known.{cons_cases, nothing_in}
 use Rattle.rv_instances.proofs.Lists.{length_map}
+use Rattle.rv_types.proofs.Members.{cons_cases, nothing_in}
 
 -- it has a type
 abbrev IsTyped : Option Kind → Type 0

@@ -1,5 +1,5 @@
 -- Parts of expressions with their weights.
-use Rattle.std.proofs.Common.{◌≡◌, ℕ, min, Bool, true, false, cond, Option, Some, refl, ap, arith, nat_abs}
+use Rattle.std.proofs.Common.{◌≡◌, ℕ, min, Bool, true, false, cond, Option, Some, refl, ap, nat_abs}
 use Rattle.std.proofs.Common.{None as Nothing}
 use Rattle.rv_base.specs.declared.value.Value.{Value}
 use Rattle.rv_tree.specs.Tree.{Named}
@@ -20,13 +20,6 @@ named_weight s known x w fixed is = tested (s.fixed x) fixed is
         → w.weight ≡ min (nat_abs (whole_in (known x))) too_heavy
     tested true e h = let f : w ≡ record { value = known x; weight = min (nat_abs (whole_in (known x))) too_heavy } = cc in ap (λ (v : Weighed). v.weight) f
     tested false e h = cc
-
--- the lesser of three offsets
-pub lesser_more : (a b c : Option ℕ) → lesser (lesser a b) c ≡ lesser a (lesser b c)
-lesser_more Nothing b c = refl
-lesser_more (Some a) Nothing c = refl
-lesser_more (Some a) (Some b) Nothing = refl
-lesser_more (Some a) (Some b) (Some c) = ap Some (let e : min (min a b) c ≡ min a (min b c) = omega arith in e)
 
 pub lesser_none : (a : Option ℕ) → lesser a Nothing ≡ a
 lesser_none Nothing = refl

@@ -18,13 +18,12 @@ use Rattle.rv_sequence.specs.Sided.{AreSided}
 use Rattle.rv_types.specs.Variables.{parts, form_parts, parts_of_all}
 use Rattle.rv_base.specs.Limits.{heaviest}
 use Rattle.rv_instances.specs.Weights.{weight, too_wide, weighed_of_several, weighed_under, weighed, AreWeights, IsTooWide, AreLight, IsFirstTooWide}
-use Rattle.rv_calls.proofs.AllInstances.{of_flat_map}
 use Rattle.rv_instances.proofs.CallsInside.{in_argument, in_right, in_body, calls_nested}
 use Rattle.rv_instances.proofs.ExpandedLaws.{node_in}
-use Rattle.rv_instances.proofs.Known.{cons_cases, nothing_in}
 use Rattle.rv_types.proofs.TypedParts.{IsTyped, parts_typed}
 use Rattle.rv_sequence.proofs.WeightFlows.{IsInside, reads_flows, one_weight}
 use Rattle.rv_sequence.proofs.WeightReads.{same_weight}
+use Rattle.rv_types.proofs.Members.{cons_cases, nothing_in, of_flat_map}
 
 -- The calls of a part are calls of the whole.
 mutual

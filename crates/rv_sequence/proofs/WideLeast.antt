@@ -31,12 +31,12 @@ use Rattle.rv_sequence.specs.Weighing.{Weighing, weight_in, form_weight_in, firs
 use Rattle.rv_sequence.specs.WeightTables.{weighing_at, counted_weight, AreFlowWeights}
 use Rattle.rv_sequence.specs.WideNodes.{wide_in_several, wide_in_side, wide_in_equations, wide_in_assertions, wide_in_node, wide_in_first}
 use Rattle.rv_instances.proofs.ExpandedLaws.{instance_at, number_at, node_is}
-use Rattle.rv_instances.proofs.Known.{cons_cases, nothing_in}
 use Rattle.rv_sequence.proofs.TableWeights.{HasWeight, part_weight}
 use Rattle.rv_instances.proofs.Lists.{nat_split}
 use Rattle.rv_sequence.proofs.WeightFlows.{flows_read, are_weights}
-use Rattle.rv_sequence.proofs.WeightParts.{lesser_more}
 use Rattle.rv_sequence.proofs.WideFlows.{is_weighed}
+use Rattle.rv_types.proofs.Members.{cons_cases, nothing_in}
+use Rattle.rv_types.proofs.WideParts.{lesser_more}
 
 -- the least of some offsets
 abbrev pub least : List ℕ → Option ℕ

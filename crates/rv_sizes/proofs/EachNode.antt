@@ -4,8 +4,8 @@ use Rattle.std.proofs.lemmas.List.{append_assoc}
 use Rattle.std.specs.List.{Contains}
 use Rattle.rv_tree.specs.declared.tree.Node as declared
 use Rattle.rv_tree.specs.Tree.{NodeTree, node_tree}
-use Rattle.rv_instances.proofs.Known.{in_map}
-use Rattle.rv_calls.proofs.Turns.{turn}
+use Rattle.rv_types.proofs.Joined.{drop_here as turn}
+use Rattle.rv_types.proofs.Members.{in_map}
 
 module _ (xs : List declared.Node) (k : ℕ) (x : declared.Node) (within : k < length xs) (is : x ≡ get_or xs k x) where
   rest : drop k xs ≡ x ∷ drop (k + 1) xs

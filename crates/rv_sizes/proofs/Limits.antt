@@ -3,8 +3,8 @@ use Rattle.std.proofs.Common.{◌≡◌, inl, inr, ℕ, ◌<◌, ◌≤◌, Bool
 use Rattle.std.specs.Prelude.{nat_lt}
 use Rattle.std.specs.List.{Contains}
 use Rattle.std.proofs.lemmas.Bool.Decides.{nat_tests}
-use Rattle.rv_instances.proofs.Known.{cons_cases, nothing_in}
 use Rattle.rv_sizes.specs.Sizes.{first_above}
+use Rattle.rv_types.proofs.Members.{cons_cases, nothing_in}
 
 pub none_above : (limit : ℕ) (ks : List ℕ) → first_above limit ks ≤ limit → (k : ℕ) → Contains ks k → k ≤ limit
 none_above limit [] few k w = nothing_in k w

@@ -24,7 +24,8 @@ use Rattle.rv_sizes.specs.declared.memories.MemoryRead.{MemoryRead}
 use Rattle.rv_types.specs.Variables.{is_in, memories_beside}
 use Rattle.rv_types.specs.Values.{operand_kind}
 use Rattle.rv_sizes.specs.Memories.{site_in, read_of, reads, sites_read, paired, with_site, kinds_beside, memory_kinds}
-use Rattle.rv_instances.proofs.Known.{split_nil, each_nil}
+use Rattle.rv_instances.proofs.Known.{each_nil}
+use Rattle.rv_types.proofs.RightNames.{both_empty as split_nil}
 
 -- a site is among some where one of them equals it
 pub any_in : (xs : List ℕ) (k : ℕ) → list_any (nat_eq k) xs ≡ is_in xs k
@@ -35,15 +36,15 @@ any_in (x ∷ xs) k = λ i. (partial_equiv_from_equiv nat_eq_equiv).symm k x i |
 pub inserted_site : (xs : List ℕ) (k : ℕ) → insert_key nat_eq xs k ≡ with_site xs k
 inserted_site xs k = ap (λ b. cond b xs (xs ++ k ∷ [])) (any_in xs k)
 
-or_assoc : (a b c : Bool) → (a || (b || c)) ≡ ((a || b) || c)
+pub or_assoc : (a b c : Bool) → (a || (b || c)) ≡ ((a || b) || c)
 or_assoc true b c = refl
 or_assoc false b c = refl
 
-in_append : (xs ys : List ℕ) (k : ℕ) → is_in (xs ++ ys) k ≡ (is_in xs k || is_in ys k)
+pub in_append : (xs ys : List ℕ) (k : ℕ) → is_in (xs ++ ys) k ≡ (is_in xs k || is_in ys k)
 in_append [] ys k = refl
 in_append (x ∷ xs) ys k = ap (λ c. nat_eq x k || c) (in_append xs ys k) ∙ or_assoc (nat_eq x k) (is_in xs k) (is_in ys k)
 
-swapped : (a b : Bool) → (a || (b || false)) ≡ (b || a)
+pub swapped : (a b : Bool) → (a || (b || false)) ≡ (b || a)
 swapped true true = refl
 swapped true false = refl
 swapped false true = refl

@@ -20,8 +20,8 @@ use Rattle.rv_instances.proofs.Known.{called, calls_declared}
 use Rattle.rv_calls.proofs.Recursions.{tabled, graph_size}
 use Rattle.rv_calls.proofs.Lowering.{edge_of}
 use Rattle.rv_sizes.proofs.Unrolling.{total_same, total_flat_map}
-use Rattle.rv_sizes.proofs.TickLists.{flat_map_same}
 use Rattle.rv_sizes.proofs.TickPlaces.{ticks_counted}
+use Rattle.rv_calls.proofs.Expanding.{flat_map_same}
 
 module _ (p : ProgramTree) (named : name_faults p ≡ []) (order : List ℕ) (ordered : IsOrdered (call_graph (callings_of p)) order) where
   -- the node at a place in the order

@@ -3,14 +3,13 @@ use Rattle.std.proofs.Common.{◌≡◌, ℕ, suc, ◌≤◌, ◌⊎◌, inl, in
 use Rattle.std.proofs.Common.{ap, subst, arith}
 use Rattle.std.specs.List.{Contains, flat_map}
 use Rattle.std.proofs.lemmas.Bool.{eqb-true, eq-eqb}
-use Rattle.std.proofs.lemmas.List.Elements.{Contains-append_right, Contains-append_cases}
+use Rattle.std.proofs.lemmas.List.Elements.{Contains-append_cases}
 use Rattle.rv_tree.specs.Places.{Sites}
 use Rattle.rv_types.specs.declared.typed.Clock.{Clock}
 use Rattle.rv_types.specs.declared.typed.Clock.TheVariants.{Base, On}
 use Rattle.rv_types.specs.Variables.{is_in, same_place, is_place_in, different}
 use Rattle.rv_sizes.specs.Ticks.{has_base, sites_of_clocks}
-use Rattle.rv_instances.proofs.Known.{cons_cases, nothing_in, in_map, of_map}
-use Rattle.rv_calls.proofs.AllInstances.{of_flat_map}
+use Rattle.rv_types.proofs.Members.{cons_cases, in_map, in_tail as later_in, nothing_in, of_flat_map, of_map}
 
 -- no two elements are equal
 abbrev pub Apart : {X : Type 0} → List X → Type 0
@@ -19,9 +18,6 @@ Apart (x ∷ xs) = (Contains xs x → ⊥) × Apart xs
 
 pub first_in : {X : Type 0} (x : X) (xs : List X) (y : X) → x ≡ y → Contains (x ∷ xs) y
 first_in x xs y e = (0, omega arith, e)
-
-pub later_in : {X : Type 0} (x : X) (xs : List X) (y : X) → Contains xs y → Contains (x ∷ xs) y
-later_in x xs y w = Contains-append_right (x ∷ []) xs y w
 
 -- a list without one of its elements
 rest_of : {X : Type 0} (ys : List X) (x : X) → Contains ys x → (zs : List X) × (length ys ≡ suc (length zs))
@@ -82,13 +78,6 @@ apart_flat_map f number (x ∷ xs) a each tells =
     (λ z w v.
     let y = of_flat_map f xs z v in
     a.0 (subst (Contains (map number xs)) (sym (tells x y.0 z (first_in x xs x refl) (later_in x xs y.0 y.1) w y.2)) (in_map number xs y.0 y.1)))
-
-pub flat_map_same : {X Y : Type 0} (f g : X → List Y) (xs : List X) → ((x : X) → Contains xs x → f x ≡ g x) → flat_map f xs ≡ flat_map g xs
-flat_map_same f g [] each = refl
-flat_map_same f g (x ∷ xs) each =
-    let here = each x (first_in x xs x refl) in
-    let more = flat_map_same f g xs (λ y w. each y (later_in x xs y w)) in
-    λ i. here i ++ more i
 
 -- Places.
 

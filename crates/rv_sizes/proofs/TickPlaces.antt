@@ -14,11 +14,10 @@ use Rattle.rv_types.specs.Instances.{CallTree, calls, Instance, absolute, taken,
 use Rattle.rv_types.specs.WellFormed.{HasSites, AreSited}
 use Rattle.rv_types.specs.Variables.{total, node_parts, is_arrow, arrow_clocks, ticks}
 use Rattle.rv_sizes.specs.Ticks.{arrows, has_base, sites_of_clocks, ticking, tick_total}
-use Rattle.rv_instances.proofs.Known.{cons_cases, nothing_in, in_map, of_map}
 use Rattle.rv_instances.proofs.Lists.{length_map}
-use Rattle.rv_calls.proofs.AllInstances.{in_flat_map, of_flat_map}
-use Rattle.rv_sizes.proofs.TickLists.{Apart, first_in, later_in, same_length, apart_append, apart_map, apart_flat_map, different_in, in_different}
+use Rattle.rv_sizes.proofs.TickLists.{Apart, first_in, same_length, apart_append, apart_map, apart_flat_map, different_in, in_different}
 use Rattle.rv_sizes.proofs.TickLists.{different_apart, base_there, there_base, site_is, site_comes, sites_apart}
+use Rattle.rv_types.proofs.Members.{cons_cases, in_flat_map, in_map, in_tail as later_in, nothing_in, of_flat_map, of_map}
 
 -- paths that begin alike go on alike
 goes_on : (a : Sites) (r s : Sites) → a ++ r ≡ a ++ s → r ≡ s

@@ -18,23 +18,11 @@ use Rattle.rv_types.specs.Variables.{is_in, is_arrow, parts, parts_of_all, node_
 use Rattle.rv_sizes.specs.Ticks.{arrows, has_base, sites_of_clocks, ticking}
 use Rattle.rv_instances.specs.ArrowClocks.{arrow_clock}
 use Rattle.rv_sizes.specs.TickWalk.{handed_clock, is_new_site, with_clock, walked, walked_all, walked_node}
-use Rattle.rv_sizes.proofs.TickLists.{flat_map_same, same_length, base_there, there_base, site_is, site_comes, sites_apart}
+use Rattle.rv_sizes.proofs.TickLists.{same_length, base_there, there_base, site_is, site_comes, sites_apart}
+use Rattle.rv_calls.proofs.Expanding.{flat_map_same}
+use Rattle.rv_sizes.proofs.Remembered.{in_append, swapped}
 
 -- Different sites, counted one after the other.
-
-or_assoc : (a b c : Bool) → (a || (b || c)) ≡ ((a || b) || c)
-or_assoc true b c = refl
-or_assoc false b c = refl
-
-swapped : (a b : Bool) → (a || (b || false)) ≡ (b || a)
-swapped true true = refl
-swapped true false = refl
-swapped false true = refl
-swapped false false = refl
-
-in_append : (xs ys : List ℕ) (k : ℕ) → is_in (xs ++ ys) k ≡ (is_in xs k || is_in ys k)
-in_append [] ys k = refl
-in_append (x ∷ xs) ys k = ap (λ c. nat_eq x k || c) (in_append xs ys k) ∙ or_assoc (nat_eq x k) (is_in xs k) (is_in ys k)
 
 in_last : (xs : List ℕ) (c k : ℕ) → is_in (xs ++ c ∷ []) k ≡ is_in (c ∷ xs) k
 in_last xs c k = in_append xs (c ∷ []) k ∙ swapped (is_in xs k) (nat_eq c k)

@@ -21,6 +21,7 @@ use Rattle.rv_proofs.proofs.CaseRows.{case_rows}
 use Rattle.rv_state.specs.declared.value.Abstract.{Abstract}
 use Rattle.rv_state.specs.States.{HasState, IsUpdated, IsMove, IsSuccessor}
 use Rattle.rv_state.proofs.PointLemmas.{image-updated}
+use Rattle.rv_proofs.proofs.Claims.{updates_long as updates-long}
 
 -- the rows of a valuation hold at a point exactly where each row of a test does
 rows-hold : (s : System) (v : Valuation) (point : List ℤ) → Agrees s v point → (n : ℕ) → n ≤ s.tests → HasPoint (rows_among s v n) point
@@ -52,10 +53,6 @@ tests-hold s v point (suc n) h t r l at = go (λ less. tests-hold s v point n be
     go : (t < n → Holds r point) → (t < n) ⊎ (n ≤ t) → Holds r point
     go earlier (inl less) = earlier less
     go earlier (inr more) = let e : t ≡ n = omega arith in last (subst (λ (k : ℕ). s.row v k ≡ Some r) e at)
-
-updates-long : (s : System) (v : Valuation) (n : ℕ) → length (updates_among s v n) ≡ n
-updates-long s v zero = refl
-updates-long s v (suc n) = omega (arith, length_push (updates_among s v n) (s.update v n), updates-long s v n)
 
 updates-all : (s : System) (v : Valuation) (P : Form → Type 0) (n : ℕ) → ((k : ℕ) → k < n → P (s.update v k)) → All P (updates_among s v n)
 updates-all s v P zero h = All-nil P

@@ -26,7 +26,7 @@ use Rattle.rv_flat.proofs.Earliest.{least_same}
 outside : (z : ℤ) → is_outside z ≡ true → IsWithin z → ⊥
 outside z e w = grind (arith, ints, w.0, w.1)
 
-inside : (z : ℤ) → is_outside z ≡ false → IsWithin z
+pub inside : (z : ℤ) → is_outside z ≡ false → IsWithin z
 inside z e = (grind (arith, ints), grind (arith, ints))
 
 not_inside : (z : ℤ) → (IsWithin z → ⊥) → is_outside z ≡ true

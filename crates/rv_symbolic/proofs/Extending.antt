@@ -227,7 +227,7 @@ product_found a b c d e x y p q r t links refs one two three four =
       );
     }
 
-same_truth : (a b : Bool) → (a ≡ true → b ≡ true) → (b ≡ true → a ≡ true) → a ≡ b
+pub same_truth : (a b : Bool) → (a ≡ true → b ≡ true) → (b ≡ true → a ≡ true) → a ≡ b
 same_truth true true f g = refl
 same_truth true false f g = sym (f refl)
 same_truth false true f g = g refl

@@ -1,25 +1,14 @@
 -- What sets of control states and conditions read, and which variables their nodes have.
-use Rattle.std.proofs.Common.{ℕ, ◌+◌, ◌*◌, ◌/◌, ◌%◌, ◌<◌, ◌≤◌, ◌≡◌, ◌==◌, nat_lt, Bool, true, false, cond, List, length, zero, suc, refl, sym, ap}
+use Rattle.std.proofs.Common.{ℕ, ◌+◌, ◌*◌, ◌/◌, ◌%◌, ◌<◌, ◌≤◌, ◌≡◌, ◌==◌, nat_lt, Bool, true, false, cond, length, refl, sym, ap}
 use Rattle.std.proofs.Common.{◌∙◌, subst, ⊎_elim, arith}
 use Rattle.std.proofs.lemmas.Bool.{ne_eqb, eq-eqb, eqb-true, ltb-true, cases_Bool, lt-ltb, le-ltb, and_from, and_parts, and_left, and_right, both_ways}
-use Rattle.rv_diagram.specs.declared.Triple.{Triple}
 use Rattle.rv_diagram.specs.declared.frozen.Frozen.{Frozen}
 use Rattle.rv_diagram.specs.Nodes.{Valuation, node_at, value_among, value_of, put, IsOrderedOver}
 use Rattle.rv_diagram.specs.Several.{UsesNeeded, Ignores}
 use Rattle.rv_proofs.specs.Systems.{System, IsState, IsRead, HasSameState, IsSameValuation}
 use Rattle.rv_proofs.specs.Ranges.{IsControlSet, IsCondition}
 use Rattle.rv_symbolic.specs.Variables.{is_of}
-
-value_among-reads : (nodes : List Triple) (v w : Valuation) → ((i : ℕ) → i < length nodes → v (node_at nodes i).var ≡ w (node_at nodes i).var)
-    → (n : ℕ) → n ≤ length nodes → (r : ℕ) → value_among nodes n v r ≡ value_among nodes n w r
-unfolding value_among
-value_among-reads nodes v w h zero l r = refl
-value_among-reads nodes v w h (suc n) l r =
-    let here : v (node_at nodes n).var ≡ w (node_at nodes n).var = h n (omega arith) in
-    let hi = value_among-reads nodes v w h n (omega arith) (node_at nodes n).hi in
-    let lo = value_among-reads nodes v w h n (omega arith) (node_at nodes n).lo in
-    let rest = value_among-reads nodes v w h n (omega arith) r in
-    rw (here, hi, lo, rest) refl
+use Rattle.rv_proofs.proofs.ControlReads.{value_among-reads}
 
 -- one control state has one value in a control set
 pub control-value : (s : System) (set : Frozen) (v w : Valuation) → IsControlSet s set → HasSameState s v w

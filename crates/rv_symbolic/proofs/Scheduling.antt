@@ -36,7 +36,7 @@ or_same : (a b : Bool) → (a ≡ true → b ≡ true) → (a || b) ≡ b
 or_same true b h = sym (h refl)
 or_same false b h = refl
 
-or_none : (a : Bool) → (a || false) ≡ a
+pub or_none : (a : Bool) → (a || false) ≡ a
 or_none true = refl
 or_none false = refl
 

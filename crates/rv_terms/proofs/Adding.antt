@@ -19,11 +19,11 @@ pub or_right : (a b : Bool) → b ≡ true → (a || b) ≡ true
 or_right true b h = refl
 or_right false b h = h
 
-or-none : (b c : Bool) → c ≡ false → b ≡ (b || c)
+pub or-none : (b c : Bool) → c ≡ false → b ≡ (b || c)
 or-none true c e = refl
 or-none false c e = sym e
 
-or_assoc : (a b c : Bool) → ((a || b) || c) ≡ (a || (b || c))
+pub or_assoc : (a b c : Bool) → ((a || b) || c) ≡ (a || (b || c))
 or_assoc true b c = refl
 or_assoc false b c = refl
 

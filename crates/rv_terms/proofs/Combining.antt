@@ -8,11 +8,7 @@ use Rattle.rv_diagram.specs.Nodes.{Valuation, Diagrams, value_of}
 use Rattle.rv_terms.specs.declared.parted.Part.{Part}
 use Rattle.rv_terms.specs.Growing.{Extends}
 use Rattle.rv_terms.specs.Parts.{part_at, holds, form_at, AreRefs, AreDisjoint, Covers, IsTerm, IsTermOf, ArePartsOf, Adds, among}
-use Rattle.rv_terms.proofs.Adding.{or_left, or_right, parts_as, parts_later}
-
-or_assoc : (a b c : Bool) → ((a || b) || c) ≡ (a || (b || c))
-or_assoc true b c = refl
-or_assoc false b c = refl
+use Rattle.rv_terms.proofs.Adding.{or_left, or_right, parts_as, parts_later, or_assoc}
 
 -- COMPOSITION
 
@@ -100,7 +96,7 @@ form_later old new (p ∷ ps) v e refs =
 
 -- A LOOP OVER THE PARTS OF A TERM
 
-and-or : (t a h : Bool) → ((t && a) || (t && h)) ≡ (t && (a || h))
+pub and-or : (t a h : Bool) → ((t && a) || (t && h)) ≡ (t && (a || h))
 and-or true a h = refl
 and-or false a h = refl
 
@@ -122,7 +118,7 @@ adds_more s a b t q from i g whole p0 p1 p2 low refs disjoint e means forms firs
     let k : (k : ℕ) × (k < i) × (holds s.nodes from k v ≡ true) = among_some s.nodes from i v (and_parts (t v) (among s.nodes from i v) one).1 in
     disjoint k.0 i k.1 low v k.2 (and_parts (t v) (holds s.nodes from i v) two).1))
 
-and-none : (p t : Bool) → p ≡ (p || (t && false))
+pub and-none : (p t : Bool) → p ≡ (p || (t && false))
 and-none true t = refl
 and-none false true = refl
 and-none false false = refl

@@ -10,6 +10,7 @@ use Rattle.rv_diagram.proofs.Calls.{value_of-true, value_of-false}
 use Rattle.rv_diagram.proofs.Needed.{ReadsFrom, IsNew, has_from, has_fixed, length-longer, value_of-begins}
 use Rattle.rv_diagram.proofs.Building.{IsSplit, built_there, built_equal, built_found, built_push, built_split}
 use Rattle.rv_terms.specs.Counting.{count_from, count, ReadsOnly}
+use Rattle.rv_terms.proofs.Adding.{or-none as or-false}
 
 -- COUNTS
 
@@ -22,7 +23,7 @@ bits-join true false off = refl
 bits-join false true off = refl
 bits-join false false off = refl
 
-bit-most : (b : Bool) → cond b 1 0 ≤ 1
+pub bit-most : (b : Bool) → cond b 1 0 ≤ 1
 bit-most true = omega arith
 bit-most false = omega arith
 
@@ -74,7 +75,7 @@ within_half x d f b h v w same = h (put v x b) (put w x b) (λ k low high. ⊎_e
     (λ off. put-other v x b k off ∙ same k (omega arith) (omega arith) ∙ sym (put-other w x b k off))
     (cases_eq k x))
 
-same_put : (v : Valuation) (x : ℕ) (b : Bool) → v x ≡ b → (k : ℕ) → v k ≡ put v x b k
+pub same_put : (v : Valuation) (x : ℕ) (b : Bool) → v x ≡ b → (k : ℕ) → v k ≡ put v x b k
 same_put v x b is k = ⊎_elim
     (λ e. subst (λ (j : ℕ). v j ≡ put v x b j) (sym e) (is ∙ sym (put-same v x b)))
     (λ off. sym (put-other v x b k off))
@@ -247,10 +248,6 @@ none_few m n l q none h = times_none m n l (count m q) (count-same m 0 q (λ v. 
 has_longer : (longer nodes : List Triple) (f : Valuation → Bool) → BeginsWith longer nodes → Has nodes f → Has longer f
 has_longer longer nodes f begins has =
     (has.0, omega (arith, has.1, length-longer longer nodes begins), λ v. value_of-begins longer nodes begins has.0 has.1 v ∙ has.2 v)
-
-or-false : (a b : Bool) → b ≡ false → a ≡ (a || b)
-or-false true b h = refl
-or-false false b h = sym h
 
 -- the nodes that a union needs, where one of the two is had
 pub record IsJoinedFew (nodes : List Triple) (d x : ℕ) (g f : Valuation → Bool) : Type 0 where

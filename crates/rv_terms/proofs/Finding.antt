@@ -1,9 +1,9 @@
 -- Where a function of finitely many variables is true, and which parts meet it.
-use Rattle.std.proofs.Common.{ℕ, zero, suc, ◌+◌, ◌<◌, ◌≤◌, ◌≡◌, ◌≢◌, ◌⊎◌, Bool, true, false, cond, List, [], ◌∷◌, length, Option, Some, refl, sym, ap, ◌∙◌}
+use Rattle.std.proofs.Common.{ℕ, zero, suc, ◌+◌, ◌<◌, ◌≤◌, ◌≡◌, ◌≢◌, ◌⊎◌, Bool, true, false, List, [], ◌∷◌, length, Option, Some, refl, sym, ap, ◌∙◌}
 use Rattle.std.proofs.Common.{subst, ⊎_elim, inl, inr, arith}
 use Rattle.std.proofs.Common.{None as Nothing}
 use Rattle.std.specs.Prelude.{MatchOption}
-use Rattle.std.proofs.lemmas.Bool.{cases_eq, cases_Bool, ne_eqb, eq-eqb, false≢true}
+use Rattle.std.proofs.lemmas.Bool.{cases_eq, cases_Bool, false≢true}
 use Rattle.rv_rows.specs.declared.linear.Form.{Form}
 use Rattle.rv_diagram.specs.declared.Triple.{Triple}
 use Rattle.rv_diagram.specs.Nodes.{Valuation, put, value_of, IsRef, ReadsBelow}
@@ -11,27 +11,17 @@ use Rattle.rv_diagram.proofs.Calls.{value_of-true}
 use Rattle.rv_terms.specs.declared.parted.Part.{Part}
 use Rattle.rv_terms.specs.Parts.{part_at, holds, Covers, IsTerm, IsTermOf, HasNoSingle, IsSingle, IsAlone, IsMet}
 use Rattle.rv_terms.proofs.Combining.{form_is}
+use Rattle.rv_diagram.proofs.Canon.{put-other, put-same}
+use Rattle.rv_terms.proofs.Counting.{same_put as put-back}
 
 -- it has one value at valuations that agree below m
 abbrev pub ReadsOnly : ℕ → (Valuation → Bool) → Type 0
 ReadsOnly m p = (v w : Valuation) → ((k : ℕ) → k < m → v k ≡ w k) → p v ≡ p w
 
-put-same : (v : Valuation) (m : ℕ) (b : Bool) → put v m b m ≡ b
-put-same v m b = ap (λ t. cond t b (v m)) (eq-eqb m m refl)
-
-put-other : (v : Valuation) (m : ℕ) (b : Bool) (k : ℕ) → k ≢ m → put v m b k ≡ v k
-put-other v m b k off = ap (λ t. cond t b (v k)) (ne_eqb k m off)
-
 put-agree : (v w : Valuation) (m : ℕ) (b : Bool) → ((k : ℕ) → k < m → v k ≡ w k) → (k : ℕ) → k < suc m → put v m b k ≡ put w m b k
 put-agree v w m b same k low = ⊎_elim
     (λ e. subst (λ (j : ℕ). put v m b j ≡ put w m b j) (sym e) (put-same v m b ∙ sym (put-same w m b)))
     (λ off. put-other v m b k off ∙ same k (omega arith) ∙ sym (put-other w m b k off))
-    (cases_eq k m)
-
-put-back : (v : Valuation) (m : ℕ) (b : Bool) → v m ≡ b → (k : ℕ) → v k ≡ put v m b k
-put-back v m b is k = ⊎_elim
-    (λ e. subst (λ (j : ℕ). v j ≡ put v m b j) (sym e) (is ∙ sym (put-same v m b)))
-    (λ off. sym (put-other v m b k off))
     (cases_eq k m)
 
 pub some_or_none : (m : ℕ) (p : Valuation → Bool) → ReadsOnly m p → ((v : Valuation) × (p v ≡ true)) ⊎ ((v : Valuation) → p v ≡ false)

@@ -85,7 +85,7 @@ lacks_whole s f h = whole_short (length s.nodes) s.limit s.variables (count s.va
 
 -- A LOOP OVER DISJOINT PARTS
 
-and-or : (t a h : Bool) → (t && (a || h)) ≡ ((t && a) || (t && h))
+pub and-or : (t a h : Bool) → (t && (a || h)) ≡ ((t && a) || (t && h))
 and-or true a h = refl
 and-or false a h = refl
 

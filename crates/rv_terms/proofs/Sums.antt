@@ -9,10 +9,10 @@ use Rattle.rv_rows.specs.Forms.{number, IsSum, IsMultiple, CanAdd, CanScale}
 use Rattle.rv_diagram.specs.Nodes.{Valuation}
 use Rattle.rv_rows.specs.Arithmetic.{plus, times, form_sum, form_times}
 
-zero_left : (x : ℤ) → pos 0 +ℤ x ≡ x
+pub zero_left : (x : ℤ) → pos 0 +ℤ x ≡ x
 zero_left x = omega (arith, ints)
 
-zero_right : (x : ℤ) → x +ℤ pos 0 ≡ x
+pub zero_right : (x : ℤ) → x +ℤ pos 0 ≡ x
 zero_right x = omega (arith, ints)
 
 times_zero : (n : ℤ) → n *ℤ pos 0 ≡ pos 0

@@ -1,9 +1,9 @@
 -- Questions whose answers are exact are those of their system.
-use Rattle.std.proofs.Common.{◌≡◌, ◌⊎◌, inl, inr, ◌↔◌, ℕ, suc, ◌+◌, ◌-◌, ◌<◌, ◌≤◌, Bool, true, false, List, [], length, refl, sym, ◌∙◌, ap, subst}
+use Rattle.std.proofs.Common.{◌≡◌, ◌⊎◌, inl, inr, ◌↔◌, ℕ, suc, ◌+◌, ◌-◌, ◌<◌, ◌≤◌, Bool, true, List, [], length, sym, ◌∙◌, ap, subst}
 use Rattle.std.proofs.Common.{arith, Option, Some}
 use Rattle.std.specs.Prelude.{slice_get}
 use Rattle.std.proofs.lemmas.Bool.{cases_lt}
-use Rattle.std.proofs.lemmas.Option.{get_or_from_slice_get, slice_get_within}
+use Rattle.std.proofs.lemmas.Option.{get_or_from_slice_get}
 use Rattle.std.proofs.Math.ListN.{get_or-eq_default}
 use Rattle.rv_rows.specs.declared.linear.Row.{Row}
 use Rattle.rv_rows.specs.declared.linear.Form.{Form}
@@ -19,11 +19,8 @@ use Rattle.rv_cases.specs.Conditions.{is_in, list_at, AreAnswers}
 use Rattle.rv_cases.specs.Questions.{rows_at, forms_at, memory_answers, observer_answers, HaveAnswers, AreTestAnswers, AreUpdateAnswers, AreSides, AreQuestions}
 use Rattle.rv_cases.specs.Questions.{AreDistinct}
 use Rattle.rv_tested.specs.Exact.{AreExact, row_answer, form_answer, side_answer, AreAsked}
-
-both_true : (a b : Bool) → (a ≡ true → b ≡ true) → (b ≡ true → a ≡ true) → a ≡ b
-both_true true b h k = sym (h refl)
-both_true false true h k = k refl
-both_true false false h k = refl
+use Rattle.rv_cases.proofs.Gathering.{same_truth as both_true}
+use Rattle.rv_forms.proofs.Flowing.{within_list as got_low}
 
 module _ (A : Type 0) (nodes : List Triple) (f : Valuation → A) (n : ℕ) (value : ℕ → A) (refs : List ℕ) (is : AreExact A nodes f n value refs) where
   pub exact_answers : AreAnswers nodes refs
@@ -55,9 +52,6 @@ exact_later A old new f n value refs e is = record {
   covers = is.covers;
   different = is.different;
 }
-
-got_low : {A : Type 0} (xs : List A) (i : ℕ) (x : A) → slice_get xs i ≡ Some x → i < length xs
-got_low xs i x e = slice_get_within xs i x e
 
 -- which of three a number is
 data Kinds (tests memories i : ℕ) : Type 0 where

@@ -15,16 +15,13 @@ use Rattle.rv_diagram.specs.Several.{ref_at}
 use Rattle.rv_control.specs.Tightening.{tightened}
 use Rattle.rv_cases.specs.Conditions.{is_in}
 use Rattle.rv_symbolic.specs.Growing.{Extends}
-use Rattle.rv_terms.specs.Growing as terms
 use Rattle.rv_terms.specs.declared.parted.Part.{Part}
 use Rattle.rv_terms.specs.Parts.{part_at, holds, form_at, among, AreRefs, AreDisjoint, Covers}
 use Rattle.rv_terms.proofs.Combining.{among-more, among_some, among_has, form_is}
 use Rattle.rv_tested.specs.declared.rows.Answered.{Answered}
 use Rattle.rv_tested.specs.Rows.{IsLaid, HasRows, IsPut, IsAnswered, first_of}
 use Rattle.rv_tested.proofs.Putting.{rows_as, rows_later, put_none, put_both, put_as, put_after}
-
-pub as_terms : (a b : Diagrams) → Extends a b → terms.Extends a b
-as_terms a b e = record { begins = e.begins; longer = e.longer; kept = e.kept; variables = e.variables; limit = e.limit }
+use Rattle.rv_terms.proofs.Summing.{and-or as and_or}
 
 -- TWO SIDES
 
@@ -72,10 +69,6 @@ pub rows_first : (s : Diagrams) (here truth : ℕ) (parts : List Part) (a : Answ
     (λ v. tightened (test_row (value_of s.nodes truth v) (form_at s.nodes parts v))) a a
 rows_first s here truth parts a e laid = put_none s s (λ v. value_of s.nodes here v && among s.nodes parts 0 v)
     (λ v. tightened (test_row (value_of s.nodes truth v) (form_at s.nodes parts v))) a e laid (λ v. and_none (value_of s.nodes here v))
-
-and_or : (h a b : Bool) → (h && (a || b)) ≡ ((h && a) || (h && b))
-and_or true a b = refl
-and_or false a b = refl
 
 -- one part more
 pub rows_more : (s t u : Diagrams) (here truth i : ℕ) (parts : List Part) (part : Part) (a b c : Answered) → Extends s t

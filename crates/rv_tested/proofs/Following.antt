@@ -143,10 +143,6 @@ none_read f nodes questions rows one two = record {
   each = λ t lt. absurd (omega arith);
 }
 
-pub on_ok_then : {A E : Type 0} (r : Result A E) (P Q : Type 0) → (P → Q) → OnOk r P → OnOk r Q
-on_ok_then (Ok x) P Q to p = to p
-on_ok_then (Err e) P Q to p = tt
-
 pub on_ok_always : {A E : Type 0} (r : Result A E) (P : Type 0) → P → OnOk r P
 on_ok_always (Ok x) P p = p
 on_ok_always (Err e) P p = tt

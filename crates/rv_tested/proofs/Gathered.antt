@@ -1,16 +1,12 @@
 -- The comparisons of flows, memories and assertions are those of the system.
-use Rattle.std.proofs.Common.{◌≡◌, List, [], ◌∷◌, ◌++◌, map, flat_map, refl, sym, ◌∙◌, ap, append_assoc}
+use Rattle.std.proofs.Common.{◌≡◌, List, [], ◌++◌, map, flat_map, sym, ◌∙◌, ap, append_assoc}
 use Rattle.std.proofs.lemmas.Grind.{flat_map-append}
-use Rattle.rv_agreement.specs.Trees.{Item, Kept as KeptMemory, memory_items}
+use Rattle.rv_agreement.specs.Trees.{Item, memory_items}
 use Rattle.rv_agreement.specs.Valuations.{Comparison, item_comparisons, all_comparisons}
 use Rattle.rv_flat.specs.declared.flat.Flat.{Flat}
-use Rattle.rv_flat.specs.declared.parts.FlatMemory.{FlatMemory}
 use Rattle.rv_flat.specs.FlatInstants.{system_of}
-use Rattle.rv_flat.specs.Systems.{assertion_item, flow_item, kept_of, memory_item}
-
-kept_items : (all ms : List FlatMemory) → map (λ (x : KeptMemory). x.item) (map (kept_of all) ms) ≡ map (memory_item all) ms
-kept_items all [] = refl
-kept_items all (m ∷ ms) = ap (λ l. memory_item all m ∷ l) (kept_items all ms)
+use Rattle.rv_flat.specs.Systems.{assertion_item, flow_item, memory_item}
+use Rattle.rv_flat.proofs.Inlining.{items_kept as kept_items}
 
 pub gathered : (f : Flat) (a b c d : List Comparison) → a ≡ []
     → b ≡ a ++ flat_map (item_comparisons (system_of f).flows) (map (flow_item f.memories) f.flows)

@@ -15,13 +15,12 @@ use Rattle.rv_types.specs.declared.typed.Kind.TheVariants as kind
 use Rattle.rv_types.specs.Lists.{sides_of}
 use Rattle.rv_types.specs.Variables.{is_integer}
 use Rattle.rv_agreement.specs.Trees.{FlatTree, Node, TreeForm, FlatTrees, Constant, Flow, Memory, Ticked, Input, Not, Binary, Scale, If, AtMostOne, When}
-use Rattle.rv_agreement.specs.Trees.{Current, None, More, Item, nth_item, Kept as KeptMemory, System, memory_items, memory_kinds, kind_at}
+use Rattle.rv_agreement.specs.Trees.{Current, None, More, Item, nth_item, System, memory_items, memory_kinds, kind_at}
 use Rattle.rv_agreement.specs.Valuations.{Comparison, is_placed, own, comparisons, form_comparisons, comparisons_of, item_comparisons, all_items}
 use Rattle.rv_agreement.specs.Valuations.{all_comparisons}
 use Rattle.rv_agreement.specs.Agreement.{IsNamed, IsPlaced, Fits, FormFits, AllFit, ItemFits, IsWell}
-use Rattle.rv_agreement.proofs.Matching.{none_in, in_own, read_in, from_flat_map, wider_item}
+use Rattle.rv_agreement.proofs.Matching.{in_own, read_in, wider_item}
 use Rattle.rv_flat.specs.declared.flat.Flat.{Flat}
-use Rattle.rv_flat.specs.declared.parts.FlatMemory.{FlatMemory}
 use Rattle.rv_flat.specs.Facts.{form_flat_weight, is_light, form_is_light, all_light}
 use Rattle.rv_flat.specs.FlatInstants.{system_of}
 use Rattle.rv_flat.specs.Systems.{kept_of, memory_item}
@@ -29,8 +28,10 @@ use Rattle.rv_flat.proofs.FlowWeights.{item_light}
 use Rattle.rv_forms.specs.Terms.{weights_of}
 use Rattle.rv_tested.specs.declared.compared.Compared.{Compared}
 use Rattle.rv_tested.specs.Compared.{comparison_in, AreInside, IsInside}
+use Rattle.rv_flat.proofs.Inlining.{items_kept as kept_items}
+use Rattle.rv_types.proofs.Members.{nothing_in as none_in, of_flat_map as from_flat_map}
 
-integer_kind : (i : Kind) → is_integer i ≡ true → i ≡ kind.Int
+pub integer_kind : (i : Kind) → is_integer i ≡ true → i ≡ kind.Int
 integer_kind kind.Bool e = absurd (false≢true e)
 integer_kind kind.Int e = refl
 integer_kind (kind.Labels l) e = absurd (false≢true e)
@@ -122,10 +123,6 @@ module _ (s : System) (n : ℕ) (ws : List ℕ) (clocks : (j : ℕ) → j < n �
   pub inside_item : (j : Kind) (x : Item) → ItemFits s n j x → is_light ws x.body ≡ true → (c : Comparison) → Contains (item_comparisons s.flows x) c
       → Holds c
   inside_item j x fit light c w = inside x.clock j x.body fit.0 fit.1 light c w
-
-kept_items : (all ms : List FlatMemory) → map (λ (x : KeptMemory). x.item) (map (kept_of all) ms) ≡ map (memory_item all) ms
-kept_items all [] = refl
-kept_items all (m ∷ ms) = ap (λ l. memory_item all m ∷ l) (kept_items all ms)
 
 module _ (f : Flat) (well : IsWell (system_of f)) where
   abbrev s : System

@@ -15,20 +15,14 @@ use Rattle.rv_cases.specs.Conditions.{is_in}
 use Rattle.rv_symbolic.specs.Growing.{Extends}
 use Rattle.rv_tested.specs.declared.rows.Answered.{Answered}
 use Rattle.rv_tested.specs.Rows.{IsLaid, HasRows, IsPut, IsAnswered}
-
-some_is : {A : Type 0} (x y : A) → Some x ≡ Some y → x ≡ y
-some_is x y e = cc
+use Rattle.rv_agreement.proofs.Witnessed.{some_same as some_is}
+use Rattle.rv_cases.proofs.Gathering.{before-at as ref_before}
+use Rattle.rv_control.proofs.System.{always as or_true}
+use Rattle.rv_symbolic.proofs.Scheduling.{or_none as or_false}
+use Rattle.rv_terms.proofs.Adding.{or_left, or_right}
 
 no_some : (r : Row) → Nothing ≡ Some r → ⊥
 no_some r e = cc
-
-or_true : (u : Bool) → (u || true) ≡ true
-or_true true = refl
-or_true false = refl
-
-or_false : (u : Bool) → (u || false) ≡ u
-or_false true = refl
-or_false false = refl
 
 -- ONE VALUATION
 
@@ -98,14 +92,6 @@ both_put p true false g h k o e one two = ap Some (one refl) ∙ (λ i. cond (sy
 both_put p false true g h k o e one two = ap Some (two refl) ∙ (λ i. cond (sym e i) (Some k) o)
 both_put p false false g h k o e one two = λ i. cond (sym e i) (Some k) o
 
-or_left : (q r : Bool) → q ≡ true → (q || r) ≡ true
-or_left true r e = refl
-or_left false r e = absurd (false≢true e)
-
-or_right : (q r : Bool) → r ≡ true → (q || r) ≡ true
-or_right true r e = refl
-or_right false r e = e
-
 free_still : (q : Bool) (g : Row) (o : Option Row) → (q ≡ true → ⊥) → o ≡ Nothing → cond q (Some g) o ≡ Nothing
 free_still true g o off e = absurd (off refl)
 free_still false g o off e = e
@@ -152,17 +138,11 @@ put_after a b c q g x y e laid one = record {
 length_push : {A : Type 0} (xs : List A) (x : A) → length (xs ++ x ∷ []) ≡ length xs + 1
 length_push xs x = length-append xs (x ∷ [])
 
-no_row : Row
-no_row = row_at [] 0
-
 row_before : (rows : List Row) (row : Row) (i : ℕ) → i < length rows → row_at (rows ++ row ∷ []) i ≡ row_at rows i
 row_before rows row i lt = get_or_append_left rows (row ∷ []) (row_at [] 0) i lt
 
 row_last : (rows : List Row) (row : Row) (i : ℕ) → i ≡ length rows → row_at (rows ++ row ∷ []) i ≡ row
 row_last rows row i e = ap (λ n. row_at (rows ++ row ∷ []) n) e ∙ get_or-append_seam rows row [] (row_at [] 0)
-
-ref_before : (refs : List ℕ) (r i : ℕ) → i < length refs → ref_at (refs ++ r ∷ []) i ≡ ref_at refs i
-ref_before refs r i lt = get_or_append_left refs (r ∷ []) 0 i lt
 
 ref_last : (refs : List ℕ) (r i : ℕ) → i ≡ length refs → ref_at (refs ++ r ∷ []) i ≡ r
 ref_last refs r i e = ap (λ n. ref_at (refs ++ r ∷ []) n) e ∙ get_or-append_seam refs r [] 0

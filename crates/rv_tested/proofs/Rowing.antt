@@ -23,14 +23,13 @@ use Rattle.rv_agreement.specs.Trees.{System}
 use Rattle.rv_agreement.specs.Evaluation.{is_there}
 use Rattle.rv_agreement.specs.Checks.{same_sites}
 use Rattle.rv_agreement.specs.Valuations.{Valuation, Reading, Linear, Comparison, Tested, is_of_integers, reads_at, read, side_form, tested, tested_form, width}
-use Rattle.rv_agreement.proofs.Chosen.{sites_itself}
+use Rattle.rv_agreement.proofs.Chosen.{sites_itself, sites_told}
 use Rattle.rv_flat.specs.declared.flat.Flat.{Flat}
 use Rattle.rv_flat.specs.FlatInstants.{system_of}
 use Rattle.rv_control.specs.Control.{has_side, is_present, row_among}
 use Rattle.rv_control.specs.Named.{named, truth_at, variables_of}
 use Rattle.rv_control.specs.Symbolic.{symbolic}
 use Rattle.rv_control.specs.Tightening.{tightened}
-use Rattle.rv_control.proofs.Names.{sites_told}
 use Rattle.rv_control.proofs.Readings.{is_symbolic}
 use Rattle.rv_symbolic.specs.Growing.{Extends}
 use Rattle.rv_terms.specs.declared.parted.Part.{Part}
@@ -74,11 +73,11 @@ module _ (s : System) (w : Valuation) (row : List (Option Reading)) (at : Sites)
   among-none = refl
 
 -- one comparison more that is none of the test
-and_false : (a b : Bool) → a ≡ false → (a && b) ≡ false
+pub and_false : (a b : Bool) → a ≡ false → (a && b) ≡ false
 and_false true b e = absurd (false≢true (sym e))
 and_false false b e = refl
 
-and_none : (a b : Bool) → b ≡ false → (a && b) ≡ false
+pub and_none : (a b : Bool) → b ≡ false → (a && b) ≡ false
 and_none true b e = e
 and_none false b e = refl
 

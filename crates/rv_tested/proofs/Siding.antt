@@ -1,10 +1,9 @@
 -- The terms of the sides of comparisons.
-use Rattle.std.proofs.Common.{◌≡◌, ◌⊎◌, inl, inr, ℕ, ◌+◌, ◌*◌, ◌^◌, ◌<◌, ◌≤◌, ℤ, pos, negsuc, ◌+ℤ◌, ◌*ℤ◌, Bool, true, false, List, length}
+use Rattle.std.proofs.Common.{◌≡◌, inl, inr, ℕ, ◌+◌, ◌*◌, ◌^◌, ◌<◌, ◌≤◌, ℤ, pos, negsuc, ◌+ℤ◌, ◌*ℤ◌, Bool, true, false, List, length}
 use Rattle.std.proofs.Common.{sym, ◌∙◌, ap, subst, arith, Option, All, get_or}
 use Rattle.std.specs.Int.RustNames.{unsigned_abs}
 use Rattle.std.proofs.lemmas.Bool.{cases_lt, cases_Bool}
 use Rattle.std.proofs.lemmas.Int.{ints, unsigned_abs-mul}
-use Rattle.std.proofs.lemmas.List.{get_or_past}
 use Rattle.std.proofs.lemmas.List.Elements.{All-from_get_or}
 use Rattle.rv_base.specs.Limits.{heaviest}
 use Rattle.rv_types.specs.declared.typed.Kind.TheVariants as kind
@@ -23,33 +22,21 @@ use Rattle.rv_control.proofs.Bounded.{IsBounded, times_bounded, difference_bound
 use Rattle.rv_symbolic.specs.Growing.{Extends}
 use Rattle.rv_terms.specs.declared.parted.Part.{Part}
 use Rattle.rv_terms.specs.declared.parted.Term.{Term}
-use Rattle.rv_terms.specs.Parts.{part_at, holds, form_at, term_width, AreDisjoint, AreFilled, IsTerm, IsTermOf}
-use Rattle.rv_terms.proofs.Combining.{form_is, form_later, holds_later, term_later, form_width}
-use Rattle.rv_terms.proofs.Multiples.{some_part}
+use Rattle.rv_terms.specs.Parts.{part_at, holds, form_at, term_width, AreDisjoint, AreFilled, IsTermOf}
+use Rattle.rv_terms.proofs.Combining.{form_is, form_later, form_width}
 use Rattle.rv_bits.specs.Shown.{is_there_at}
 use Rattle.rv_forms.specs.Terms.{columns_of, weight_in, IsWithin, ReadsAs}
 use Rattle.rv_tested.specs.declared.compared.Compared.{Compared}
 use Rattle.rv_tested.specs.declared.testing.Sides.{Sides}
 use Rattle.rv_tested.specs.Compared.{comparison_in}
-use Rattle.rv_tested.proofs.Comparing.{as_terms}
 use Rattle.rv_tested.specs.Testing.{IsSideRead, AreSidesRead, AreAllRead, IsDifference}
+use Rattle.rv_forms.proofs.Bounds.{bounded as bounded_of, within_more}
+use Rattle.rv_forms.proofs.Kept.{to_terms as as_terms, within_kept as within_later}
 
 -- LATER
 
-pub within_later : (a b : Diagrams) (columns n : ℕ) (parts : List Part) → Extends a b → IsWithin a.nodes columns n parts → IsWithin b.nodes columns n parts
-within_later a b columns n parts e is =
-    let t = as_terms a b e in
-    record {
-      term = term_later a b columns parts t is.term;
-      filled = λ i low none. is.filled i low (λ v. sym (holds_later a b parts t is.term.refs i low v) ∙ none v);
-      small = λ v. subst (FormWithin n) (sym (form_later a b parts v t is.term.refs)) (is.small v);
-    }
-
 less_within : (n m : ℕ) (f : Form) → n ≤ m → FormWithin n f → FormWithin m f
 less_within n m f le is = (λ k d lt. let h = is.0 k d lt in omega (arith, h, le), let h = is.1 in omega (arith, h, le))
-
-within_more : (nodes : List Triple) (columns n m : ℕ) (parts : List Part) → n ≤ m → IsWithin nodes columns n parts → IsWithin nodes columns m parts
-within_more nodes columns n m parts le is = record { term = is.term; filled = is.filled; small = λ v. less_within n m (form_at nodes parts v) le (is.small v) }
 
 side_read : (f : Flat) (old mid new : Diagrams) (k : Option ℕ) (t : FlatTree) (parts : List Part) → ReadsAs f old mid t parts → Extends mid new
     → Fits (system_of f) (length (system_of f).flows) k kind.Int t → weight_in f t ≤ heaviest → IsSideRead f new.nodes k t parts
@@ -95,17 +82,6 @@ all_later f a b cs xs e is = record {
 
 -- DIFFERENCES
 
-pub bounded_of : (columns n : ℕ) (f : Form) → length f.coefficients ≡ columns → FormWithin n f → IsBounded columns n f
-bounded_of columns n f wide is = record {
-  wide = wide;
-  each = λ k. by k (cases_lt k (length f.coefficients));
-  constant = is.1;
-}
-  where
-    by : (k : ℕ) → (k < length f.coefficients) ⊎ (length f.coefficients ≤ k) → unsigned_abs (number k f.coefficients) ≤ n
-    by k (inl lt) = is.0 k (pos 0) lt
-    by k (inr ge) = let e = ap unsigned_abs (get_or_past f.coefficients k (pos 0) ge) in omega (arith, e)
-
 within_of : (columns n m : ℕ) (f : Form) → n ≤ m → IsBounded columns n f → FormWithin m f
 within_of columns n m f le is = (
   All-from_get_or (λ z. unsigned_abs z ≤ m) f.coefficients (pos 0) (λ i lt. let h = is.each i in omega (arith, h, le)),
@@ -128,12 +104,6 @@ parts_small nodes parts n disjoint filled small i low =
       λ k d lt. most_from (holds nodes parts i) (unsigned_abs (get_or (part_at parts i).form.coefficients k d)) n (filled i low) (λ v h. (at v h).0 k d lt),
       most_from (holds nodes parts i) (unsigned_abs (part_at parts i).form.constant) n (filled i low) (λ v h. (at v h).1),
     )
-
-pub own_width : (nodes : List Triple) (columns : ℕ) (parts : List Part) → IsTerm nodes columns parts → term_width parts ≡ columns
-own_width nodes columns parts t = t.widths 0 (some_part nodes columns parts t)
-
-pub own_term : (nodes : List Triple) (columns : ℕ) (parts : List Part) → IsTerm nodes columns parts → IsTerm nodes (term_width parts) parts
-own_term nodes columns parts t = subst (λ n. IsTerm nodes n parts) (sym (own_width nodes columns parts t)) t
 
 negated_small : (x : ℤ) → unsigned_abs x ≤ heaviest → unsigned_abs (negsuc 0 *ℤ x) < 2 ^ 110
 negated_small x h = let e = unsigned_abs-mul (negsuc 0) x in omega (arith, e, h)

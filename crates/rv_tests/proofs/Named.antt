@@ -3,9 +3,7 @@ use Rattle.std.proofs.Common.{◌≡◌, inl, inr, ℕ, Bool, List, Some, None, 
 use Rattle.rv_words.specs.Asked.{prove}
 use Rattle.rv_words.specs.Words.{command}
 use Rattle.rv_run.specs.Words.{IsNamed, wanted, wanted_of}
-
-same_pair : (a b : List ℕ × List ℕ) → Some a ≡ Some b → a ≡ b
-same_pair a b h = cc
+use Rattle.rv_run.proofs.Named.{same_pair}
 
 some_none : {X : Type 0} (x : X) → Some x ≡ None → ⊥
 some_none x h = cc

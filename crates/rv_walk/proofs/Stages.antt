@@ -42,15 +42,15 @@ state_self s v x is = refl
 pub state_back : (s : System) (v w : Valuation) → HasSameState s v w → HasSameState s w v
 state_back s v w same x is = sym (same x is)
 
-no_rest : (a b : Bool) → (a && not b) ≡ false → a ≡ true → b ≡ true
+pub no_rest : (a b : Bool) → (a && not b) ≡ false → a ≡ true → b ≡ true
 no_rest true true h g = refl
 no_rest true false h g = sym h ∙ refl
 no_rest false b h g = absurd (cc)
 
-rest_parts : (a b : Bool) → (a && not b) ≡ true → (a ≡ true) × (b ≡ false)
+pub rest_parts : (a b : Bool) → (a && not b) ≡ true → (a ≡ true) × (b ≡ false)
 rest_parts a b h = let p : (a ≡ true) × (not b ≡ true) = and_parts a (not b) h in (p.0, not-true b p.1)
 
-rest_from : (a b : Bool) → a ≡ true → b ≡ false → (a && not b) ≡ true
+pub rest_from : (a b : Bool) → a ≡ true → b ≡ false → (a && not b) ≡ true
 rest_from a b h g = and_from a (not b) h (ap not g)
 
 -- the last layer is reached

@@ -1,13 +1,11 @@
 -- Entries, locations and the certificate have the counts and ranges of a document.
-use Rattle.std.proofs.Common.{◌≡◌, ℕ, zero, suc, ◌+◌, ◌<◌, ◌^◌, pos, ◌≤ℤ◌, List, [], ◌∷◌, ◌++◌, length, get_or, All, Some, slice_get, ◌⊎◌, inl, inr}
+use Rattle.std.proofs.Common.{◌≡◌, ℕ, zero, suc, ◌+◌, ◌<◌, ◌^◌, List, [], ◌∷◌, ◌++◌, length, get_or, All, Some, slice_get, ◌⊎◌, inl, inr}
 use Rattle.std.proofs.Common.{arith, lit≤, refl, sym, ap, ◌∙◌, subst}
-use Rattle.std.proofs.lemmas.Int.{ints}
 use Rattle.std.proofs.lemmas.Option.{slice_get_within, get_or_from_slice_get, same_Some}
 use Rattle.std.proofs.lemmas.List.{length_push}
 use Rattle.std.proofs.lemmas.List.Elements.{All-nil, All-cons, All-push}
 use Rattle.rv_diagram.specs.declared.frozen.Frozen.{Frozen}
 use Rattle.rv_rows.specs.declared.linear.Row.{Row}
-use Rattle.rv_rows.specs.declared.farkas.Weight.{Weight}
 use Rattle.rv_rows.specs.declared.farkas.Multipliers.{Multipliers}
 use Rattle.rv_proofs.specs.Systems.{System}
 use Rattle.rv_proofs.specs.Scopes.{refutation, after, Implication, each, rows_into, implications}
@@ -23,6 +21,7 @@ use Rattle.rv_walk.specs.Plain.{ArePlain}
 use Rattle.rv_widen.specs.Ranged.{AreReach, IsRangedKind, IsRangedEntry, AreRangedEntries, IsLocationOf, IsRangedLocation, IsRanged}
 use Rattle.rv_widen.proofs.Pushing.{push_before}
 use Rattle.rv_widen.proofs.Fitting.{none_kept}
+use Rattle.rv_proofs.proofs.Sampling.{record_one as one_record}
 
 -- the multipliers of one row more
 pub reach_more : (n k : ℕ) (reach : List Multipliers) (m : Multipliers) → AreReach n k reach → IsRecord n m → AreReach n (k + 1) (reach ++ m ∷ [])
@@ -42,18 +41,6 @@ entries_more s p w n es e are is = record {
     go : (j : ℕ) (x : Entry) → (slice_get es j ≡ Some x) ⊎ ((j ≡ length es) × (e ≡ x)) → IsRangedEntry s p w x
     go j x (inl at) = are.each j x at
     go j x (inr (q, same)) = subst (IsRangedEntry s p w) same is
-
--- the weight 1 on a row has the ranges of a document
-one_record : (n j : ℕ) → j < n → IsRecord n (by_one j)
-one_record n j l = record {
-  positive = omega (arith, ints);
-  divisor = omega (arith, ints);
-  few = lit≤ tt;
-  there = All-cons (λ (w : Weight). w.premise < n) (record { premise = j; by = pos 1 }) [] l (All-nil (λ (w : Weight). w.premise < n));
-  weighted = All-cons (λ (w : Weight). (pos 1 ≤ℤ w.by) × (w.by ≤ℤ pos (2 ^ 41))) (record { premise = j; by = pos 1 }) []
-      (omega (arith, ints), omega (arith, ints)) (All-nil (λ (w : Weight). (pos 1 ≤ℤ w.by) × (w.by ≤ℤ pos (2 ^ 41))));
-  rising = λ i k u w less u_at w_at. let inside = slice_get_within (by_one j).weights k w w_at in absurd (omega (arith, inside, less));
-}
 
 -- a location of ranged entries
 pub location_ranged : (s : System) (from : Frozen) (rows : List Row) (wanted n : ℕ) (es : List Entry) (l : Location) → IsControlSet s from

@@ -1,25 +1,25 @@
 -- What a case of a system gives within the limits: its premises, and rows that can be taken before its updates.
-use Rattle.std.proofs.Common.{◌≡◌, ℕ, zero, suc, ◌<◌, ◌≤◌, ◌^◌, pos, List, [], ◌∷◌, ◌++◌, length, get_or, All, Option, Some, slice_get, arith, refl, sym, ap}
-use Rattle.std.proofs.Common.{◌∙◌, subst, ◌⊎◌, inl, inr, lit≤, take}
+use Rattle.std.proofs.Common.{◌≡◌, ℕ, zero, suc, ◌<◌, ◌≤◌, ◌^◌, pos, List, [], ◌∷◌, ◌++◌, length, get_or, All, Option, Some, slice_get, arith, sym, ap}
+use Rattle.std.proofs.Common.{◌∙◌, subst, lit≤, take}
 use Rattle.std.proofs.Common.{None as Nothing}
-use Rattle.std.proofs.lemmas.Bool.{cases_lt}
 use Rattle.std.proofs.lemmas.Option.{slice_get_within, slice_get-get_or, get_or_from_slice_get}
-use Rattle.std.proofs.lemmas.List.{get_or_append_left, length-append, length_push, length-take}
+use Rattle.std.proofs.lemmas.List.{length-append, length-take}
 use Rattle.std.proofs.lemmas.List.Elements.{All-nil, All-head, All-append, All-from_get_or, All-weaker, All-take}
-use Rattle.std.proofs.Math.Seq.{get_or-append_seam}
 use Rattle.rv_diagram.specs.Nodes.{Valuation}
 use Rattle.rv_rows.specs.declared.linear.Row.{Row}
 use Rattle.rv_rows.specs.declared.linear.Form.{Form}
 use Rattle.rv_rows.specs.Rows.{row_at, RowWithin}
 use Rattle.rv_rows.specs.Forms.{IsSubstituted, CanSubstitute, forms_width}
-use Rattle.rv_proofs.specs.Systems.{System, IsUpdate, rows_among, held_row, updates_among}
+use Rattle.rv_proofs.specs.Systems.{System, IsUpdate, rows_among, held_row}
 use Rattle.rv_proofs.specs.Scopes.{IsIn}
 use Rattle.rv_proofs.specs.Ranges.{AreKept}
 use Rattle.rv_proofs.specs.Cases.{IsCaseOf}
 use Rattle.rv_proofs.specs.declared.report.Case.{Case}
 use Rattle.rv_proofs.proofs.CaseRows.{case_rows}
-use Rattle.rv_proofs.proofs.Rooms.{has_room, stays_small, premise_of_test, premise_of_kept}
+use Rattle.rv_proofs.proofs.Rooms.{has_room, stays_small, premise_of_test}
 use Rattle.rv_widen.specs.Given.{IsKeptRow, IsSized}
+use Rattle.rv_proofs.proofs.Claims.{update_at, updates_long}
+use Rattle.rv_proofs.proofs.Records.{kept_within}
 
 abbrev pub no_row : Row
 no_row = record { coefficients = []; bound = pos 0 }
@@ -35,26 +35,6 @@ rows_few s v (suc n) = let m = rows_few s v n in omega (arith, length-append (ro
     one : (o : Option Row) → length (held_row o) ≤ 1
     one Nothing = omega arith
     one (Some r) = omega arith
-
--- the updates of a valuation, one by one
-updates_long : (s : System) (v : Valuation) (n : ℕ) → length (updates_among s v n) ≡ n
-updates_long s v zero = refl
-updates_long s v (suc n) = omega (arith, length_push (updates_among s v n) (s.update v n), updates_long s v n)
-
-update_at : (s : System) (v : Valuation) (d : Form) (n k : ℕ) → k < n → get_or (updates_among s v n) k d ≡ s.update v k
-update_at s v d zero k l = absurd (omega arith)
-update_at s v d (suc n) k l = go (update_at s v d n k) (cases_lt k n)
-  where
-    go : (k < n → get_or (updates_among s v n) k d ≡ s.update v k) → (k < n) ⊎ (n ≤ k) → get_or (updates_among s v n ++ s.update v n ∷ []) k d ≡ s.update v k
-    go before (inl less) = get_or_append_left (updates_among s v n) (s.update v n ∷ []) d k (omega (arith, updates_long s v n)) ∙ before less
-    go before (inr more) =
-        let e : k ≡ n = omega arith in
-        ap (λ (x : ℕ). get_or (updates_among s v n ++ s.update v n ∷ []) x d) (e ∙ sym (updates_long s v n))
-        ∙ get_or-append_seam (updates_among s v n) (s.update v n) [] d ∙ ap (s.update v) (sym e)
-
--- kept rows are premises within the limits of the sums
-pub kept_within : (s : System) (rows : List Row) → AreKept s rows → All (RowWithin (2 ^ 60)) rows
-kept_within s rows kept = All-weaker (IsKeptRow s) (RowWithin (2 ^ 60)) (λ r h. premise_of_kept r h.1) rows kept.0
 
 pub kept_few : (s : System) (rows : List Row) → AreKept s rows → length rows < 2 ^ 32
 kept_few s rows kept = let m = kept.1 in omega (arith, m)

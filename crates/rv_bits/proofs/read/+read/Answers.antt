@@ -12,12 +12,12 @@ use Rattle.rv_flat.specs.Tame.{AreOver}
 use Rattle.rv_control.specs.Named.{variables_of}
 use Rattle.rv_symbolic.specs.Growing.{Makes}
 use Rattle.rv_symbolic.specs.Linked.{AreRefs}
-use Rattle.rv_symbolic.proofs.Extending.{map_ok, extends_refl, extends_trans}
+use Rattle.rv_symbolic.proofs.Extending.{map_ok, extends_refl, extends_trans, refs_after as refs_kept}
 use Rattle.rv_bits.specs.Bits.{bit, count_true, Spells, IsSingle}
 use Rattle.rv_bits.specs.Operators.{operated_by}
 use Rattle.rv_bits.specs.Shown.{refs_at, clock_bit, IsAfter, AreAfter, ReadsTo}
 use Rattle.rv_bits.specs.Reads.{tree_in, trees_in, true_at, ShowsTo}
-use Rattle.rv_bits.proofs.Making.{any_ref, refs_more, refs_kept}
+use Rattle.rv_bits.proofs.Making.{any_ref, refs_more}
 use Rattle.rv_bits.proofs.Showing.{reads_constant, reads_memory, reads_tick, reads_not, reads_binary, reads_if, reads_most, reads_when, shows_after}
 use Rattle.rv_bits.proofs.Keeping.{around_kept, after_kept, after_set, trees_left, fit_more, counted_more, on_ok, both_ok, none_counted, none_after}
 use Rattle.rv_bits.proofs.Keeping.{memory_item_at}

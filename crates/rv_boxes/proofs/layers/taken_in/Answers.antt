@@ -1,11 +1,10 @@
 use Rattle.std.proofs.Common.{◌∙◌, List, sym, subst, length}
 use Rattle.rv_rows.specs.declared.linear.Row.{Row}
 use Rattle.rv_proofs.specs.Boxes.{IsTaken}
-use Rattle.rv_symbolic.proofs.Extending.{extends_trans}
+use Rattle.rv_symbolic.proofs.Extending.{extends_trans, map_ok}
 use Rattle.rv_boxes.specs.Claiming.{claim_of}
 use Rattle.rv_boxes.specs.Rounds.{IsSetting, IsInCases}
 use Rattle.rv_boxes.specs.Layering.{IsCollected, IsTakenAt}
-use Rattle.rv_boxes.proofs.Limiting.{map_ok}
 use Rattle.rv_boxes.proofs.Entering.{cases_in}
 use Rattle.rv_boxes.proofs.Assembling.{first_setting, others_setting, covered}
 use Rattle.rv_boxes.proofs.Collecting.{collected_all}

@@ -6,9 +6,9 @@ use Rattle.rv_proofs.specs.Boxes.{IsTaken}
 use Rattle.rv_walk.specs.Ends.{has}
 use Rattle.rv_boxes.specs.Boxed.{IsOpenBox}
 use Rattle.rv_boxes.specs.Layering.{IsCollected}
-use Rattle.rv_boxes.proofs.Limiting.{map_ok}
 use Rattle.rv_boxes.proofs.Stepping.{premises_are, all_taken, none_taken}
 use Rattle.rv_boxes.proofs.Collecting.{collected_open, collected_shut}
+use Rattle.rv_symbolic.proofs.Extending.{map_ok}
 use Rattle.rv_boxes.proofs.layers.with_case.Goals as goal
 
 pub open_ends-requires-clause-premises : goal.open_ends-requires-clause-premises

@@ -1,6 +1,7 @@
 use Rattle.std.proofs.Common.{◌^◌, negsuc}
 use Rattle.rv_rows.specs.Forms.{FormWithin, IsMultiple}
-use Rattle.rv_boxes.proofs.Limiting.{map_ok, multiple_within}
+use Rattle.rv_boxes.proofs.Limiting.{multiple_within}
+use Rattle.rv_symbolic.proofs.Extending.{map_ok}
 use Rattle.rv_boxes.proofs.opening.opposite_form.Goals as goal
 
 pub returns-clause-within : goal.returns-clause-within

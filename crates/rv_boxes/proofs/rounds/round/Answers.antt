@@ -2,9 +2,9 @@ use Rattle.std.proofs.Common.{Bool, length}
 use Rattle.rv_proofs.specs.Scopes.{IsIn}
 use Rattle.rv_boxes.specs.Claiming.{claim_of}
 use Rattle.rv_boxes.specs.Rounds.{HasGrown, IsInCases}
-use Rattle.rv_boxes.proofs.Limiting.{map_ok}
 use Rattle.rv_boxes.proofs.Knowing.{rest_within}
 use Rattle.rv_boxes.proofs.Rounding.{setting_others, round_of}
+use Rattle.rv_symbolic.proofs.Extending.{map_ok}
 use Rattle.rv_boxes.proofs.rounds.round.Goals as goal
 
 pub by_cases-requires : goal.by_cases-requires

@@ -1,7 +1,7 @@
 use Rattle.std.proofs.Common.{◌∙◌, ap}
 use Rattle.rv_diagram.specs.Nodes.{Diagrams}
 use Rattle.rv_boxes.specs.Rounds.{HasTaken}
-use Rattle.rv_boxes.proofs.Limiting.{map_ok}
+use Rattle.rv_symbolic.proofs.Extending.{map_ok}
 use Rattle.rv_boxes.proofs.rounds.take_image.Goals as goal
 
 pub returns-in-Some-clause-taken : goal.returns-in-Some-clause-taken

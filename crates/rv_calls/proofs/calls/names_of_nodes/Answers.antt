@@ -1,10 +1,10 @@
 use Rattle.std.proofs.Common.{length, ap, sym, ◌∙◌, arith}
 use Rattle.rv_calls.specs.Numbering.{with_names}
 use Rattle.rv_calls.specs.Callings.{node_texts}
-use Rattle.rv_calls.proofs.Turns.{drop_all}
 use Rattle.rv_calls.proofs.Collected.{collected}
 use Rattle.rv_instances.proofs.Known.{once}
 use Rattle.rv_tree.specs.Tree.{program_tree}
+use Rattle.rv_types.proofs.Fitting.{none_left as drop_all}
 use Rattle.rv_calls.proofs.calls.names_of_nodes.Goals as goal
 
 pub returns : goal.returns

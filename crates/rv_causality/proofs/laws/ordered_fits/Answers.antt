@@ -1,9 +1,10 @@
 use Rattle.std.proofs.Common.{map}
 use Rattle.rv_types.specs.Instances.{name_at}
 use Rattle.rv_types.specs.Values.{label_count}
-use Rattle.rv_instances.proofs.Known.{in_map, name_declared}
+use Rattle.rv_instances.proofs.Known.{name_declared}
 use Rattle.rv_causality.proofs.Answered.{answer_named, main_within}
 use Rattle.rv_sizes.proofs.Limits.{none_above}
+use Rattle.rv_types.proofs.Members.{in_map}
 use Rattle.rv_causality.proofs.laws.ordered_fits.Goals as goal
 
 pub returns : goal.returns

@@ -1,4 +1,4 @@
-use Rattle.rv_claimed.proofs.Mapping.{map_ok}
+use Rattle.rv_symbolic.proofs.Extending.{map_ok}
 use Rattle.rv_claimed.proofs.building.certify.Goals as goal
 
 pub returns-clause-accepted : goal.returns-clause-accepted

@@ -1,5 +1,5 @@
-use Rattle.rv_claimed.proofs.Mapping.{map_ok}
 use Rattle.rv_claimed.proofs.Entering.{reached_from}
+use Rattle.rv_symbolic.proofs.Extending.{map_ok}
 use Rattle.rv_claimed.proofs.entries.reach_row.Goals as goal
 
 pub shown-requires : goal.shown-requires

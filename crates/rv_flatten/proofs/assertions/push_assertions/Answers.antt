@@ -7,7 +7,7 @@ use Rattle.rv_flat.specs.RawTree.{raw_tree}
 use Rattle.rv_flatten.specs.Readings.{assertion_of}
 use Rattle.rv_flatten.proofs.AssertedParts.{assertions_at, made_of_trees}
 use Rattle.rv_flatten.proofs.Gathered.{gathered_more, gathered_all}
-use Rattle.rv_flat.proofs.Members.{in_map}
+use Rattle.rv_types.proofs.Members.{in_map}
 use Rattle.rv_flatten.proofs.assertions.push_assertions.Goals as goal
 
 pub loop-assertion-preserved : goal.loop-assertion-preserved

@@ -19,12 +19,12 @@ use Rattle.rv_flatten.proofs.CountedVariables.{few_labels as few_label_lists}
 use Rattle.rv_flatten.proofs.FlowTotals.{some_instance}
 use Rattle.rv_flatten.proofs.InstanceNumbers.{node_in}
 use Rattle.rv_instances.proofs.LabelCodes.{few_labels}
-use Rattle.rv_flat.proofs.PlaceNumbers.{text_itself}
 use Rattle.rv_flatten.proofs.AgreedLaws.{Laws}
 use Rattle.rv_flatten.proofs.ReadFlat.{is_flat_of}
 use Rattle.rv_flatten.proofs.ReadKeeps.{ends, flows_are, memories_are, assertions_are, clocks_are, ticks_are_apart, memories_are_apart, comparisons_are_apart}
 use Rattle.rv_flatten.proofs.ReadKeeps.{flows_are_light, memories_are_light, assertions_are_light}
 use Rattle.rv_flatten.proofs.VariableCount.{counted_variables}
+use Rattle.rv_types.proofs.Members.{text_itself}
 use Rattle.rv_flatten.proofs.build.flat_by.Goals as goal
 
 pub node-main-requires-clause-within : goal.node-main-requires-clause-within

@@ -10,7 +10,8 @@ use Rattle.rv_instances.specs.AllInstances.{AreCounted}
 use Rattle.rv_instances.specs.Fitting.{AreFew}
 use Rattle.rv_instances.specs.Counts.{expanded}
 use Rattle.rv_flat.specs.declared.flat.Flat.{Flat}
-use Rattle.rv_flatten.proofs.GivenParts.{main_name, program_same, sequence_same, light_same, if_ok}
+use Rattle.rv_flatten.proofs.GivenParts.{main_name, program_same, sequence_same, light_same}
+use Rattle.rv_instances.proofs.Lists.{if_ok}
 use Rattle.rv_flatten.proofs.build.flat_of.Goals as goal
 
 pub new-requires : goal.new-requires

@@ -8,7 +8,8 @@ use Rattle.rv_instances.specs.Callees.{callee_in}
 use Rattle.rv_instances.specs.Layouts.{IsNumberOf}
 use Rattle.rv_flatten.specs.declared.kept.Kept.{Kept}
 use Rattle.rv_flatten.specs.Remembered.{number_to}
-use Rattle.rv_flatten.proofs.MemoryNumbers.{if_ok, number_told}
+use Rattle.rv_flatten.proofs.MemoryNumbers.{number_told}
+use Rattle.rv_instances.proofs.Lists.{if_ok}
 use Rattle.rv_flatten.proofs.memories.memory_numbers.Goals as goal
 
 pub returns : goal.returns

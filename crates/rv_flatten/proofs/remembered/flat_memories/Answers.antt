@@ -7,7 +7,7 @@ use Rattle.rv_flat.specs.Systems.{memory_of}
 use Rattle.rv_flatten.specs.Kept.{kept_memory}
 use Rattle.rv_flatten.proofs.ClockedNodes.{one_more}
 use Rattle.rv_flatten.proofs.KeptParts.{and_one_more, there}
-use Rattle.rv_flat.proofs.Members.{none_in}
+use Rattle.rv_types.proofs.Members.{nothing_in as none_in}
 use Rattle.rv_flatten.proofs.remembered.flat_memories.Goals as goal
 
 pub loop-kept-init : goal.loop-kept-init

@@ -2,8 +2,9 @@ use Rattle.std.proofs.Common.{◌≡◌, pos, [], ◌∷◌, ◌++◌, ◌∙◌
 use Rattle.std.specs.Int.{w128}
 use Rattle.std.proofs.lemmas.Int.{to_z-of_z}
 use Rattle.rv_rows.specs.Arithmetic.{unit}
-use Rattle.rv_forms.proofs.Ranks.{unit_at, unit_length}
+use Rattle.rv_forms.proofs.Ranks.{unit_at}
 use Rattle.rv_forms.proofs.Taken.{taken_more, taken_whole}
+use Rattle.rv_control.proofs.Bounded.{length-unit as unit_length}
 use Rattle.rv_forms.proofs.constants.unit_of.Goals as goal
 
 pub loop-number-preserved : goal.loop-number-preserved

@@ -19,20 +19,21 @@ use Rattle.rv_flat.specs.Systems.{kept_of}
 use Rattle.rv_flat.specs.Tame.{IsOver}
 use Rattle.rv_control.proofs.Weighed.{light_weight}
 use Rattle.rv_symbolic.specs.Growing.{Extends}
-use Rattle.rv_symbolic.proofs.Extending.{extends_refl, extends_trans, grows_extends}
+use Rattle.rv_symbolic.proofs.Extending.{extends_refl, extends_trans, grows_extends, map_ok}
 use Rattle.rv_bits.specs.Reads.{tree_in}
 use Rattle.rv_bits.specs.Shown.{clock_bit}
-use Rattle.rv_bits.proofs.Keeping.{memory_item_at}
+use Rattle.rv_bits.proofs.Keeping.{memory_item_at, both_ok, on_ok}
 use Rattle.rv_bits.proofs.Making.{any_ref}
 use Rattle.rv_bits.proofs.Trees.{tree_if, tree_when}
 use Rattle.rv_forms.specs.Terms.{columns_of, weights_of, weight_in, parts_at, IsWithin, GivesTerm, ReadsAs, IsAfterAs, AreKnown, IsAfterRead}
 use Rattle.rv_forms.proofs.Bounds.{form_bounded, can_scale, light_parts}
 use Rattle.rv_forms.proofs.Flowing.{past_list}
 use Rattle.rv_forms.proofs.Kept.{width_first, own_width, within_kept, ready_kept, ready_shown, ready_known, known_set}
-use Rattle.rv_forms.proofs.Shapes.{named_more, over_more, tree_binary, tree_scale}
+use Rattle.rv_forms.proofs.Shapes.{over_more, tree_binary, tree_scale}
 use Rattle.rv_forms.proofs.Showing.{reads_when, reads_if, reads_binary, reads_scale, reads_after, none_after}
 use Rattle.rv_forms.proofs.Steps.{constant_step, flow_step, memory_step, input_step, tick_step, not_step, most_step, operator_step, zero_here, few_read}
-use Rattle.rv_forms.proofs.Steps.{low_kept, light_within, made_term, multiple_as, map_ok, both_ok, on_ok, ok_with, on_map}
+use Rattle.rv_forms.proofs.Steps.{low_kept, light_within, made_term, multiple_as, ok_with, on_map}
+use Rattle.rv_bits.proofs.Fitting.{named_more}
 use Rattle.rv_forms.proofs.expressions.+terms.Goals as goal
 
 -- LEAVES

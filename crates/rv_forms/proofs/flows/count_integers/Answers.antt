@@ -2,7 +2,8 @@ use Rattle.std.proofs.Common.{◌≡◌, ◌<◌, length, get_or, ◌∙◌, ap,
 use Rattle.rv_types.specs.declared.typed.Kind.TheVariants.{Bool}
 use Rattle.rv_types.specs.Variables.{is_integer}
 use Rattle.rv_agreement.specs.Valuations.{rank}
-use Rattle.rv_forms.proofs.Ranks.{one_most, rank_zero, rank_next, rank_all, rank_most}
+use Rattle.rv_forms.proofs.Ranks.{rank_zero, rank_next, rank_all, rank_most}
+use Rattle.rv_terms.proofs.Counting.{bit-most as one_most}
 use Rattle.rv_forms.proofs.flows.count_integers.Goals as goal
 
 pub loop-kind-init : goal.loop-kind-init

@@ -5,8 +5,8 @@ use Rattle.rv_agreement.specs.Valuations.{whole_count}
 use Rattle.rv_flat.specs.FlatInstants.{system_of}
 use Rattle.rv_flat.proofs.SystemRuns.{kept_kinds}
 use Rattle.rv_forms.specs.Columns.{AreColumnTerms}
-use Rattle.rv_forms.proofs.Ranks.{count_same}
 use Rattle.rv_forms.proofs.Flowing.{first_wholes}
+use Rattle.rv_control.proofs.System.{count_same}
 use Rattle.rv_forms.proofs.flows.first_wholes.Goals as goal
 
 pub overflow_add-columns : goal.overflow_add-columns

@@ -3,7 +3,8 @@ use Rattle.std.proofs.lemmas.List.{length-map}
 use Rattle.rv_types.specs.Variables.{is_integer}
 use Rattle.rv_flat.specs.Systems.{flow_item}
 use Rattle.rv_forms.proofs.Flowing.{flow_low, flow_kind_is, other_flow}
-use Rattle.rv_forms.proofs.Steps.{zero_here, map_ok}
+use Rattle.rv_forms.proofs.Steps.{zero_here}
+use Rattle.rv_symbolic.proofs.Extending.{map_ok}
 use Rattle.rv_forms.proofs.flows.flow_term.Goals as goal
 
 pub returns-in-Bool-clause-ok : goal.returns-in-Bool-clause-ok

@@ -10,7 +10,9 @@ use Rattle.rv_forms.specs.Terms.{columns_of, weight_in, GivesTerm}
 use Rattle.rv_forms.proofs.Bounds.{term_within}
 use Rattle.rv_forms.proofs.Flowing.{flow_fits, flow_light, whole_flow}
 use Rattle.rv_forms.proofs.Kept.{ready_kept}
-use Rattle.rv_forms.proofs.Steps.{few_read, zero_here, map_ok, on_ok}
+use Rattle.rv_forms.proofs.Steps.{few_read, zero_here}
+use Rattle.rv_bits.proofs.Keeping.{on_ok}
+use Rattle.rv_symbolic.proofs.Extending.{map_ok}
 use Rattle.rv_forms.proofs.flows.integer_flow.Goals as goal
 
 pub term_of-requires-clause-over : goal.term_of-requires-clause-over

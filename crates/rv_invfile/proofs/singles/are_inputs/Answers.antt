@@ -3,7 +3,8 @@ use Rattle.rv_invfile.specs.Ahead.{here}
 use Rattle.rv_invfile.specs.Forms.{word_of}
 use Rattle.rv_flat.specs.declared.parts.FlatInput.{FlatInput}
 use Rattle.rv_invfile.proofs.Decimals.{bytes-same}
-use Rattle.rv_invfile.proofs.SameFields.{later-differ, later-same, text-at, false-true}
+use Rattle.rv_invfile.proofs.SameFields.{later-differ, later-same, text-at}
+use Rattle.rv_meaning.proofs.Rows.{no_flag as false-true}
 use Rattle.rv_invfile.proofs.singles.are_inputs.Goals as goal
 
 pub returns-then-not-is_same : goal.returns-then-not-is_same

@@ -1,7 +1,8 @@
 use Rattle.std.proofs.Common.{[], ℕ, List, map, arith, sym, ◌∙◌, below_more}
 use Rattle.std.specs.Borrow.{Bor}
 use Rattle.rv_invfile.specs.Ahead.{here}
-use Rattle.rv_invfile.proofs.SameFields.{other-field, texts-same, text-get, false-true}
+use Rattle.rv_invfile.proofs.SameFields.{other-field, texts-same, text-get}
+use Rattle.rv_meaning.proofs.Rows.{no_flag as false-true}
 use Rattle.rv_invfile.proofs.singles.is_row.Goals as goal
 
 pub returns : goal.returns

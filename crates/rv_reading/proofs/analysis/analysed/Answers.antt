@@ -1,4 +1,5 @@
-use Rattle.rv_reading.proofs.Analysed.{rising, given_there, map_ok, proved_left}
+use Rattle.rv_reading.proofs.Analysed.{rising, given_there, proved_left}
+use Rattle.rv_symbolic.proofs.Extending.{map_ok}
 use Rattle.rv_reading.proofs.analysis.analysed.Goals as goal
 
 pub least_closed-requires-clause-system : goal.least_closed-requires-clause-system

@@ -1,8 +1,8 @@
 use Rattle.std.proofs.Common.{Bool, length}
 use Rattle.rv_rise.specs.Rounds.{HasGrown, IsInCases, claim_in}
 use Rattle.rv_rise.proofs.Listing.{own_rows}
-use Rattle.rv_rise.proofs.Taking.{map_ok}
 use Rattle.rv_rise.proofs.Rounding.{setting_others, round_of}
+use Rattle.rv_symbolic.proofs.Extending.{map_ok}
 use Rattle.rv_rise.proofs.rounds.round.Goals as goal
 
 pub rows_of-requires : goal.rows_of-requires

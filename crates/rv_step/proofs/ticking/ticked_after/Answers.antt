@@ -5,7 +5,7 @@ use Rattle.rv_flat.specs.Facts.{numbers_among}
 use Rattle.rv_flat.specs.Filling.{ticks_from}
 use Rattle.rv_flat.specs.FlatInstants.{places}
 use Rattle.rv_flat.specs.Lists.{tick_places}
-use Rattle.rv_flat.proofs.PlaceNumbers.{same_text}
+use Rattle.rv_meaning.proofs.NameLemmas.{same_text}
 use Rattle.rv_step.proofs.ticking.ticked_after.Goals as goal
 
 either : (b : Bool) → (b || true) ≡ true

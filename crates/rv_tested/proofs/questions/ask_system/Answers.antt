@@ -1,6 +1,6 @@
 use Rattle.rv_symbolic.specs.Growing.{Extends}
 use Rattle.rv_symbolic.proofs.Extending.{extends_trans}
-use Rattle.rv_tested.proofs.Following.{on_ok_then}
+use Rattle.rv_forms.proofs.Steps.{on_map as on_ok_then}
 use Rattle.rv_tested.proofs.questions.ask_system.Goals as goal
 
 pub returns-clause-extends : goal.returns-clause-extends

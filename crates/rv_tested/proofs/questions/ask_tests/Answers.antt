@@ -1,7 +1,7 @@
 use Rattle.rv_symbolic.specs.Growing.{Extends}
 use Rattle.rv_symbolic.proofs.Extending.{extends_trans}
-use Rattle.rv_tested.proofs.Following.{on_ok_then}
 use Rattle.rv_tested.proofs.Inside.{all_inside}
+use Rattle.rv_forms.proofs.Steps.{on_map as on_ok_then}
 use Rattle.rv_tested.proofs.questions.ask_tests.Goals as goal
 
 pub read_all-requires-clause-inside : goal.read_all-requires-clause-inside

@@ -10,7 +10,8 @@ use Rattle.rv_symbolic.proofs.Extending.{extends_trans, grows_extends}
 use Rattle.rv_terms.specs.Parts.{form_at}
 use Rattle.rv_terms.proofs.Combining.{covers_later, disjoint_later, form_later}
 use Rattle.rv_tested.proofs.Putting.{laid_later, put_as}
-use Rattle.rv_tested.proofs.Comparing.{as_terms, compared_put}
+use Rattle.rv_tested.proofs.Comparing.{compared_put}
+use Rattle.rv_forms.proofs.Kept.{to_terms as as_terms}
 use Rattle.rv_tested.proofs.rows.add_comparison.Goals as goal
 
 pub returns-clause-extends : goal.returns-clause-extends

@@ -7,7 +7,8 @@ use Rattle.rv_diagram.specs.Nodes.{Diagrams}
 use Rattle.rv_terms.specs.declared.parted.Term.{Term}
 use Rattle.rv_terms.specs.Parts.{form_at, term_width, IsTerm, IsTermOf}
 use Rattle.rv_tested.specs.Testing.{IsDifference}
-use Rattle.rv_tested.proofs.Siding.{own_term, own_width, can_negate, can_subtract, is_difference}
+use Rattle.rv_tested.proofs.Siding.{can_negate, can_subtract, is_difference}
+use Rattle.rv_forms.proofs.Kept.{own_width as own_term, width_first as own_width}
 use Rattle.rv_tested.proofs.testing.difference.Goals as goal
 
 pub scale-requires-clause-a : goal.scale-requires-clause-a
