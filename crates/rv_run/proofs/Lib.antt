@@ -1,6 +1,6 @@
 mod Known
 mod Found
-mod Named
+pub mod Named
 mod NoIntegers
 mod Weighing
 mod Sites

@@ -1,9 +1,9 @@
-mod Joined
+pub mod Joined
 mod Grouped
 mod FirstLaws
 mod OneFault
-mod Spaced
-mod Fitting
+pub mod Spaced
+pub mod Fitting
 mod LastFirst
 mod TypeMeanings
 mod Turned
@@ -15,7 +15,7 @@ mod KnownLaws
 mod FlowSpaces
 mod ChainLaws
 mod Meeting
-mod RightNames
+pub mod RightNames
 mod NodeScope
 mod MainNode
 mod TimingLaws
@@ -23,9 +23,9 @@ mod Answered
 mod SomeFault
 mod NodeFlows
 mod Refusals
-mod Members
-mod ConstantContents
-mod CallSites
+pub mod Members
+pub mod ConstantContents
+pub mod CallSites
 mod PartFaults
 mod ExpressionKinds
 mod ConstantKinds
@@ -35,7 +35,7 @@ mod NodeKinds
 mod WellNodes
 pub mod RisingConstants
 mod ConstantValues
-mod WideParts
+pub mod WideParts
 mod OperatorTrees
 mod PutKinds
 pub mod DelayedKinds
