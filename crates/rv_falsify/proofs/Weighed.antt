@@ -31,7 +31,7 @@ use Rattle.rv_flat.proofs.Tested.{ItemFits, flow_fits, operator_fits}
 use Rattle.rv_flat.proofs.Weighing.{size}
 use Rattle.rv_agreement.proofs.Controls.{no_flag as no_kind}
 use Rattle.rv_flatten.proofs.ConstantSizes.{product_size as product_small}
-use Rattle.rv_meaning.proofs.TypedOperators.{both_hold as both}
+use Rattle.rv_types.proofs.TypedParts.{both_true as both}
 
 -- an operator gives no more than its operands allow
 operated_small : (o : Op) (k : Kind) (x y : Value) (v w : ℕ) → gives o k ≡ true → size x ≤ v → size y ≤ w → size (operate o false x y) ≤ weight_under o v w

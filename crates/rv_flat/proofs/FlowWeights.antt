@@ -8,7 +8,7 @@ use Rattle.rv_agreement.specs.Trees.{System, kind_at, nth_item}
 use Rattle.rv_flat.specs.Facts.{weight_under, flat_weight, form_flat_weight, is_light, weights_after, items_light}
 use Rattle.rv_flat.specs.Tame.{IsOver, FormIsOver}
 use Rattle.rv_flat.proofs.NamedTicks.{over}
-use Rattle.rv_meaning.proofs.TypedOperators.{both_hold as both}
+use Rattle.rv_types.proofs.TypedParts.{both_true as both}
 
 -- a weight depends on those of the flows that are named
 module _ (ws vs : List ℕ) (n : ℕ) (agree : (k : ℕ) → k < n → get_or ws k 0 ≡ get_or vs k 0) where

@@ -18,7 +18,7 @@ use Rattle.rv_agreement.specs.Trees.{Current, None, More, System, memory_kinds, 
 use Rattle.rv_flat.specs.FlatInstants.{Row, nth, held, is_on, is_on_at}
 use Rattle.rv_flat.specs.Tame.{IsOver, FormIsOver, AreOver}
 use Rattle.rv_flat.proofs.Tested.{operator_fits}
-use Rattle.rv_meaning.proofs.TypedOperators.{both_hold as both}
+use Rattle.rv_types.proofs.TypedParts.{both_true as both}
 
 -- an expression that fits is over the first flows
 module _ (s : System) (n : ℕ) where

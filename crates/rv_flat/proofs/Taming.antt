@@ -38,7 +38,7 @@ use Rattle.rv_flat.proofs.Tested.{ItemFits, assertion_fits, memory_fits}
 use Rattle.rv_flat.proofs.OneRow.{IsItemOver, fits_kth, item_over, over_kth}
 use Rattle.rv_flat.proofs.Weighing.{size, held_small, tame, tame_held, value_small}
 use Rattle.rv_flat.proofs.FlowWeights.{item_light, weight_kth}
-use Rattle.rv_meaning.proofs.TypedOperators.{both_hold as both}
+use Rattle.rv_types.proofs.TypedParts.{both_true as both}
 
 range_small : (v : Value) → IsInRange v → size v ≤ 2 ^ 63
 range_small (Flag b) r = omega arith

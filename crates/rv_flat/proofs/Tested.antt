@@ -6,7 +6,7 @@ use Rattle.rv_types.specs.declared.typed.Kind.{Kind}
 use Rattle.rv_types.specs.declared.typed.Kind.TheVariants as kind
 use Rattle.rv_agreement.specs.Checks.{any_of, gives, operands, is_placed_for, clock_fits, fits, form_fits, item_fits, flows_fit, memories_fit, assertions_fit}
 use Rattle.rv_agreement.specs.Trees.{FlatTree, Binary, Item, Kept, System, kind_at, nth_item}
-use Rattle.rv_meaning.proofs.TypedOperators.{both_hold as both}
+use Rattle.rv_types.proofs.TypedParts.{both_true as both}
 
 -- one of the types passes
 pub some_kind : (test : Kind → Bool) (ks : List Kind) → any_of test ks ≡ true → (k : Kind) × (test k ≡ true)

@@ -15,8 +15,9 @@ use Rattle.rv_types.specs.Types.{minus_rule, memory_rule, when_of, if_rule, at_m
 use Rattle.rv_types.specs.Scopes.{value_kind, node_scope, signature_named}
 use Rattle.rv_types.specs.Instances.{IsArgument, head, tail}
 use Rattle.rv_agreement.proofs.Controls.{no_flag}
-use Rattle.rv_meaning.proofs.TypedOperators.{both_hold, met_kind}
+use Rattle.rv_meaning.proofs.TypedOperators.{met_kind}
 use Rattle.rv_types.proofs.ConstantContents.{kind_same as same_kinds}
+use Rattle.rv_types.proofs.TypedParts.{both_true as both_hold}
 
 -- what is there
 pub some_is : {X : Type 0} {o : Option X} → IsSome o → (x : X) × (o ≡ Some x)

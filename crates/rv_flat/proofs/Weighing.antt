@@ -25,7 +25,7 @@ use Rattle.rv_flat.specs.Facts.{constant_weight, weight_under, flat_weight, form
 use Rattle.rv_flat.specs.Tame.{IsHeld, IsTame, HasTame, AreTame}
 use Rattle.rv_flat.proofs.Tested.{operator_fits}
 use Rattle.rv_agreement.proofs.Controls.{no_flag as no_kind}
-use Rattle.rv_meaning.proofs.TypedOperators.{both_hold as both}
+use Rattle.rv_types.proofs.TypedParts.{both_true as both}
 
 -- how far from 0 the integer of a value is
 abbrev pub size : Value → ℕ

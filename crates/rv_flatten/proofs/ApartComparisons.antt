@@ -32,8 +32,8 @@ use Rattle.rv_flatten.proofs.Standing.{body_stands, argument_stands, operand_sta
 use Rattle.rv_flatten.proofs.WellInstances.{node_in}
 use Rattle.rv_agreement.proofs.Controls.{no_flag}
 use Rattle.rv_instances.proofs.FlowPlaces.{snoc_parts as snoc}
-use Rattle.rv_meaning.proofs.TypedOperators.{both_hold}
 use Rattle.rv_types.proofs.Members.{cons_cases as head_or_tail, nothing_in as none_in, of_flat_map as from_flat_map}
+use Rattle.rv_types.proofs.TypedParts.{both_true as both_hold}
 
 -- what an operator is itself has a place
 own_is : (o : Op) (r c : Comparison) → Contains (own o r) c → (is_placed r.at ≡ true) × (r ≡ c)

@@ -27,8 +27,8 @@ use Rattle.rv_flatten.proofs.FlowKinds.{kinds_many}
 use Rattle.rv_flat.proofs.TypedParts.{IsTyped, not_typed, minus_typed, pre_typed, current_typed, when_typed, binary_typed, if_typed, most_typed}
 use Rattle.rv_flat.proofs.TypedParts.{call_typed}
 use Rattle.rv_agreement.proofs.Controls.{no_flag}
-use Rattle.rv_instances.proofs.CallsInside.{in_right as call_of_right}
 use Rattle.rv_types.proofs.Members.{at_head, cons_cases as head_or_tail, in_flat_map, in_tail, nothing_in as none_in, of_flat_map as from_flat_map}
+use Rattle.rv_types.proofs.TypedParts.{right_calls as call_of_right}
 
 module _ (n : NodeTree) where
   -- a `->` among some expressions that stands on a clock

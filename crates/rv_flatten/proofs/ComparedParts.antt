@@ -21,8 +21,8 @@ use Rattle.rv_types.specs.Types.{Scope, kind_of}
 use Rattle.rv_types.specs.Variables.{is_integer, parts, form_parts, parts_of_all, node_parts}
 use Rattle.rv_flatten.specs.declared.comparisons.Tested.{Tested}
 use Rattle.rv_flatten.specs.Compared.{own_tests, tests, tests_of_all, tests_in_equations, tests_in_assertions, tests_in}
-use Rattle.rv_meaning.proofs.TypedOperators.{both_hold}
 use Rattle.rv_types.proofs.Members.{at_head, cons_cases as head_or_tail, in_flat_map, in_tail, nothing_in as none_in, of_flat_map as from_flat_map}
+use Rattle.rv_types.proofs.TypedParts.{both_true as both_hold}
 
 -- What is found.
 

@@ -29,7 +29,7 @@ use Rattle.rv_instances.specs.Weights.{constant_size, weight, form_weight}
 use Rattle.rv_flatten.proofs.Standing.{Stands, as_child, of_not, of_minus, of_left, of_right, of_condition, of_first, of_second, of_operand}
 use Rattle.rv_flat.proofs.TypedParts.{IsTyped, not_typed, minus_typed, binary_typed, if_typed, most_typed}
 use Rattle.rv_agreement.proofs.Controls.{no_flag}
-use Rattle.rv_meaning.proofs.TypedOperators.{both_hold}
+use Rattle.rv_types.proofs.TypedParts.{both_true as both_hold}
 
 -- Both words for the truth and the number of a value are one.
 pub same_truth : (v : Value) → is_true v ≡ flag_in v

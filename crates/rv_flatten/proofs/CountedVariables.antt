@@ -33,8 +33,8 @@ use Rattle.rv_flat.specs.Lists.{variable_of}
 use Rattle.rv_flat.specs.Systems.{memory_of}
 use Rattle.rv_flat.proofs.Earliest.{not_itself}
 use Rattle.rv_agreement.proofs.Controls.{no_flag}
-use Rattle.rv_meaning.proofs.TypedOperators.{both_hold}
 use Rattle.rv_types.proofs.Members.{at_head, cons_cases as head_or_tail, in_flat_map, in_map, in_tail, nothing_in as none_in}
+use Rattle.rv_types.proofs.TypedParts.{both_true as both_hold}
 
 -- Sums.
 

@@ -9,8 +9,8 @@ use Rattle.rv_types.specs.Variables.{parts, form_parts, parts_of_all, node_parts
 use Rattle.rv_types.specs.Instances.{CallTree, calls_in, calls_in_all, calls_in_equations, calls_in_assertions, calls, IsArgument, head, tail}
 use Rattle.rv_flatten.proofs.Standing.{Stands, as_argument, as_assertion, as_child, of_not, of_minus, of_pre, of_current, of_when, of_left, of_right}
 use Rattle.rv_flatten.proofs.Standing.{of_condition, of_first, of_second, of_operand, of_argument, whole, called, right_stands}
-use Rattle.rv_instances.proofs.CallsInside.{in_right as call_there}
 use Rattle.rv_types.proofs.Members.{at_head, cons_cases as head_or_tail, nothing_in as none_in, of_flat_map as from_flat_map}
+use Rattle.rv_types.proofs.TypedParts.{right_calls as call_there}
 
 module _ (n : NodeTree) where
   mutual

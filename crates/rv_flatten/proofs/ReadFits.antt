@@ -67,9 +67,10 @@ use Rattle.rv_agreement.proofs.Controls.{no_flag}
 use Rattle.rv_agreement.proofs.Suited.{suits_binary}
 use Rattle.rv_flatten.proofs.Assembled.{both_told as both}
 use Rattle.rv_meaning.proofs.Suiting.{ground_taken as grounded_taken, suits_both as suits_meet, suits_seen, taken_suits as suits_own}
-use Rattle.rv_meaning.proofs.TypedOperators.{both_hold, met_kind}
+use Rattle.rv_meaning.proofs.TypedOperators.{met_kind}
 use Rattle.rv_types.proofs.ConstantContents.{kind_same as same_kinds}
 use Rattle.rv_types.proofs.Members.{among_contains as found, among_from as is_found, at_head, in_map, in_tail, index_there as index_at}
+use Rattle.rv_types.proofs.TypedParts.{both_true as both_hold}
 
 either : (a b : Bool) → b ≡ true → (a || b) ≡ true
 either true b p = refl

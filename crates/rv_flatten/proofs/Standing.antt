@@ -13,9 +13,10 @@ use Rattle.rv_types.specs.Variables.{parts, form_parts, parts_of_all, node_parts
 use Rattle.rv_types.specs.Instances.{CallTree, calls_in, form_calls, calls_in_all, calls_in_equations, calls_in_assertions, calls, Body, Output, IsRight, alone}
 use Rattle.rv_types.specs.Instances.{in_order, IsArgument, head, tail}
 use Rattle.rv_instances.specs.Weights.{weighed_of_several, weighed_under, weighed}
-use Rattle.rv_instances.proofs.CallsInside.{in_argument as call_of_argument, in_body as call_of_assertion, in_right as call_of_equation}
+use Rattle.rv_instances.proofs.CallsInside.{in_argument as call_of_argument, in_body as call_of_assertion}
 use Rattle.rv_meaning.proofs.DelayParts.{argument_within as delay_of_argument, assertion_within as delay_of_assertion, equation_within as delay_of_equation}
 use Rattle.rv_types.proofs.Members.{at_head, cons_cases as head_or_tail, in_flat_map, in_tail, nothing_in as none_in}
+use Rattle.rv_types.proofs.TypedParts.{right_calls as call_of_equation}
 
 -- an operand or argument
 pub data IsChild : Tree → Form → Type 0 where

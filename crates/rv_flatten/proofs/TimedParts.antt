@@ -20,8 +20,8 @@ use Rattle.rv_types.proofs.ToldPaces.{seen_is, grounded_is, current_is, joined, 
 use Rattle.rv_instances.specs.Weights.{weighed_of_several, weighed_under}
 use Rattle.rv_flatten.proofs.Standing.{Stands, as_right, as_argument, as_assertion, as_child, IsChild, of_not, of_minus, of_pre, of_current, of_when, of_left}
 use Rattle.rv_flatten.proofs.Standing.{of_right, of_condition, of_first, of_second, of_operand, of_argument}
-use Rattle.rv_instances.proofs.CallsInside.{in_right as call_of_equation}
 use Rattle.rv_types.proofs.Members.{at_head}
+use Rattle.rv_types.proofs.TypedParts.{right_calls as call_of_equation}
 
 suits_timed : (k : Clock) (p : Pace) → Suits k p → IsTimed p
 suits_timed k Free h = tt

@@ -11,6 +11,7 @@ use Rattle.rv_types.specs.Instances.{CallTree, calls, calls_in, form_calls, call
 use Rattle.rv_instances.proofs.Known.{each_nil, uses_of}
 use Rattle.rv_types.proofs.Members.{cons_cases, nothing_in}
 use Rattle.rv_types.proofs.RightNames.{both_empty as split_nil}
+use Rattle.rv_types.proofs.TypedParts.{right_calls as in_right}
 
 -- The names in the arguments of a call of an expression of which every name is known.
 module _ (values clocks nodes : Identifier → Bool) where
@@ -109,14 +110,6 @@ mutual
 pub in_argument : (es : Trees) (j : ℕ) (e : Tree) (d : CallTree) → IsArgument es j e → Contains (calls_in e) d → Contains (calls_in_all es) d
 in_argument _ _ e d (head {es = es}) w = Contains-append_left (calls_in e) (calls_in_all es) d w
 in_argument _ _ e d (tail {e = t} {es = es} {j = j} rest) w = Contains-append_right (calls_in t) (calls_in_all es) d (in_argument es j e d rest w)
-
--- the calls in a right side
-pub in_right : (qs : List EquationTree) (q : EquationTree) (d : CallTree) → Contains qs q → Contains (calls_in q.right) d → Contains (calls_in_equations qs) d
-in_right [] q d w v = nothing_in q w
-in_right (r ∷ rs) q d w v = elim (cons_cases r rs q w) [
-  | inl same ↦ Contains-append_left (calls_in r.right) (calls_in_equations rs) d (subst (λ (t : EquationTree). Contains (calls_in t.right) d) (sym same) v)
-  | inr rest ↦ Contains-append_right (calls_in r.right) (calls_in_equations rs) d (in_right rs q d rest v)
-]
 
 of_right : (qs : List EquationTree) (d : CallTree) → Contains (calls_in_equations qs) d → (q : EquationTree) × Contains qs q × Contains (calls_in q.right) d
 of_right [] d w = nothing_in d w

@@ -56,7 +56,7 @@ use Rattle.rv_invariant.proofs.Ranging.{SetFits, KeptRow, ProofFits}
 use Rattle.rv_invariant.proofs.Spelling.{below-right, times-right}
 use Rattle.rv_invariant.proofs.Standing.{by-kind, diagram-right, proof-right, list-right}
 use Rattle.rv_invfile.proofs.Written.{number-is as some-is}
-use Rattle.rv_meaning.proofs.TypedOperators.{both_hold as both}
+use Rattle.rv_types.proofs.TypedParts.{both_true as both}
 
 -- ---- Turns.
 -- records of which the first is none of multipliers

@@ -35,7 +35,7 @@ use Rattle.rv_invariant.specs.Certificates.{columns_rule, head_rule, all_locatio
 use Rattle.rv_invariant.proofs.Knowing.{KindFits, EntryFits, LocationFits, AllLocated, Sound, all-located, all-map}
 use Rattle.rv_invariant.proofs.Ranging.{SetFits, KeptRow, ProofFits, is-record}
 use Rattle.rv_invariant.proofs.Spelling.{all-of}
-use Rattle.rv_meaning.proofs.TypedOperators.{both_hold as both}
+use Rattle.rv_types.proofs.TypedParts.{both_true as both}
 
 all-at : {A : Type 0} (P : A → Type 0) (xs : List A) (j : ℕ) (x : A) → AllByRecursion P xs → slice_get xs j ≡ Some x → P x
 all-at P [] j x h e = cc

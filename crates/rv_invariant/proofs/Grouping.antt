@@ -14,7 +14,7 @@ use Rattle.rv_invfile.proofs.Decimals.{bytes-same}
 use Rattle.rv_invfile.proofs.Instants.{none-bad, one-bad}
 use Rattle.rv_invariant.specs.Groups.{is_grouped, grouped, groups_right, in_group}
 use Rattle.rv_invariant.specs.Judging.{IsFirstWrong, AreRight, ReadsGroup, ReadsGroups}
-use Rattle.rv_meaning.proofs.TypedOperators.{both_hold as both}
+use Rattle.rv_types.proofs.TypedParts.{both_true as both}
 
 -- a record that was looked for stands here
 kind-by : (p k : Bool) (n : ℕ) → cond p (cond k None (Some (fault.WrongKind n))) (Some (fault.NotRecords n)) ≡ None → k ≡ true

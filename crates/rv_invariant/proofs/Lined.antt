@@ -33,7 +33,7 @@ use Rattle.rv_invfile.proofs.Sound.{name-sound, decimal-sound, dotted-sound, sig
 use Rattle.rv_invariant.specs.Naming.{name_at, bit_text, column_text, bit_texts, column_texts}
 use Rattle.rv_invariant.specs.Pieces.{triple_texts, diagram_record, weight_texts, by_record, list_records, row_record}
 use Rattle.rv_invariant.specs.Certificates.{first_record, last_record, kind_records, entry_records, cases_records, location_records, certificate_records}
-use Rattle.rv_meaning.proofs.TypedOperators.{both_hold as both}
+use Rattle.rv_types.proofs.TypedParts.{both_true as both}
 
 -- no byte of the text is set apart
 abbrev IsQuiet : List ℕ → Type 0

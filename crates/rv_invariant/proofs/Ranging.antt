@@ -36,7 +36,7 @@ use Rattle.rv_invariant.proofs.Grouping.{Width, two, three, grouped-is, at-group
 use Rattle.rv_invariant.proofs.Rowing.{number-test}
 use Rattle.rv_invariant.proofs.Spelling.{below-told}
 use Rattle.rv_invariant.proofs.Upto.{upto-at, upto-length}
-use Rattle.rv_meaning.proofs.TypedOperators.{both_hold as both}
+use Rattle.rv_types.proofs.TypedParts.{both_true as both}
 
 -- ---- The fields of a record of groups.
 module _ (w : ℕ) (width : Width w) (word : List ℕ) (head : Fields → Bool) (right : Fields → ℕ → ℕ → Bool) (r : Fields)

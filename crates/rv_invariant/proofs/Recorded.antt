@@ -23,7 +23,7 @@ use Rattle.rv_invariant.proofs.Grouping.{Width, two, three, grouped-is}
 use Rattle.rv_invariant.proofs.Ranging.{head-right, group-right}
 use Rattle.rv_invariant.proofs.Rowing.{number-test}
 use Rattle.rv_invariant.proofs.Spelling.{Grows, grows-two, grows-three, wide-triple, wide-weight, same-record, below-told}
-use Rattle.rv_meaning.proofs.TypedOperators.{both_hold as both}
+use Rattle.rv_types.proofs.TypedParts.{both_true as both}
 
 child-text : (r : Fields) (k : ℕ) (text : List ℕ) → is_child r k text ≡ true → text ≡ decimal (natural text)
 child-text r k text h =

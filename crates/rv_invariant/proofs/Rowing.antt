@@ -13,7 +13,7 @@ use Rattle.rv_invfile.specs.Texts.{whole}
 use Rattle.rv_invfile.proofs.Instants.{none-bad, one-bad}
 use Rattle.rv_invariant.specs.Groups.{upto}
 use Rattle.rv_invariant.specs.Pieces.{coefficient_at, is_row_field, is_within, row_of}
-use Rattle.rv_meaning.proofs.TypedOperators.{both_hold as both}
+use Rattle.rv_types.proofs.TypedParts.{both_true as both}
 
 module _ (r : Fields) where
   pub number-test : (k : ℕ) → is_row_field r (k + 2) ≡ is_within (2 ^ 30) (field r (k + 2))

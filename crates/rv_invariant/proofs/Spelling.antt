@@ -20,7 +20,7 @@ use Rattle.rv_rows.specs.declared.farkas.Weight.{Weight}
 use Rattle.rv_invariant.specs.Pieces.{is_below, triple_texts, weight_texts}
 use Rattle.rv_invariant.proofs.Grouping.{Width}
 use Rattle.rv_invariant.proofs.Upto.{upto-at, upto-length}
-use Rattle.rv_meaning.proofs.TypedOperators.{both_hold as both}
+use Rattle.rv_types.proofs.TypedParts.{both_true as both}
 
 -- what a number below a limit tells
 pub below-told : (limit : ℕ) (text : List ℕ) → is_below limit text ≡ true → (text ≡ decimal (natural text)) × (natural text < limit) × (natural text < 2 ^ 32)

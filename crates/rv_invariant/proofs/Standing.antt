@@ -37,7 +37,7 @@ use Rattle.rv_invariant.proofs.Ranging.{SetFits, KeptRow, ProofFits}
 use Rattle.rv_invariant.proofs.Rowing.{number-test}
 use Rattle.rv_invariant.proofs.Spelling.{grows-two, grows-three, wide-triple, wide-weight, field-at, record-length, below-right, times-right}
 use Rattle.rv_invariant.proofs.Upto.{upto-is}
-use Rattle.rv_meaning.proofs.TypedOperators.{both_hold as both}
+use Rattle.rv_types.proofs.TypedParts.{both_true as both}
 
 -- ---- Plain texts.
 plain-joined : (a b : Fields) → is_plain a ≡ true → is_plain b ≡ true → is_plain (a ++ b) ≡ true

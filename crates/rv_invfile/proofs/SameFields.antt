@@ -5,7 +5,7 @@ use Rattle.std.proofs.lemmas.List.{length-map}
 use Rattle.std.specs.Str.{bytes_eq}
 use Rattle.rv_invfile.specs.Texts.{same_fields}
 use Rattle.rv_invfile.proofs.Decimals.{same-bytes, bytes-same, not-true}
-use Rattle.rv_meaning.proofs.TypedOperators.{both_hold as both}
+use Rattle.rv_types.proofs.TypedParts.{both_true as both}
 
 pub same-row : (x y : List (List ℕ)) → x ≡ y → same_fields x y ≡ true
 same-row x y e = subst (λ z. same_fields x z ≡ true) e (own x)

@@ -26,7 +26,7 @@ use Rattle.rv_invfile.specs.Traces.{first_record, last_record, start_records, va
 use Rattle.rv_invfile.specs.Writes.{line, lines, more_fields, wide}
 use Rattle.rv_invfile.proofs.Digits.{decimal-all, dotted-all, signed-all}
 use Rattle.rv_invfile.proofs.Lines.{HaveFields, wide-rows, written-read}
-use Rattle.rv_meaning.proofs.TypedOperators.{both_hold as both}
+use Rattle.rv_types.proofs.TypedParts.{both_true as both}
 
 -- letters, digits, `_`, and the signs of numbers and places
 abbrev pub is_sound : ℕ → Bool

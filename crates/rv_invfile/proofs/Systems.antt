@@ -28,9 +28,9 @@ use Rattle.rv_flat.specs.FlatOf.{IsFlatOf}
 use Rattle.rv_invfile.specs.Texts.{all_few}
 use Rattle.rv_invfile.specs.Told.{AreDifferent, IsAmong, IsTold}
 use Rattle.rv_tree.specs.Words.{HasPlainNames, is_name}
-use Rattle.rv_meaning.proofs.TypedOperators.{both_hold as both}
 use Rattle.rv_types.proofs.Members.{at_head as at-head, in_tail as in-tail}
 use Rattle.rv_types.proofs.RightNames.{both_empty as both-empty}
+use Rattle.rv_types.proofs.TypedParts.{both_true as both}
 
 same-text : (x y : List ℕ) → is_same x y ≡ true → x ≡ y
 same-text [] [] e = refl

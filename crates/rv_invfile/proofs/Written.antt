@@ -31,7 +31,7 @@ use Rattle.rv_invfile.proofs.Loops.{more, each_more, each_none, times_more, time
 use Rattle.rv_invfile.proofs.Decimals.{bytes-same, natural-told}
 use Rattle.rv_invfile.proofs.SameFields.{row-same}
 use Rattle.rv_invfile.proofs.Instants.{field-allowed}
-use Rattle.rv_meaning.proofs.TypedOperators.{both_hold as both}
+use Rattle.rv_types.proofs.TypedParts.{both_true as both}
 
 value-is : (v w : Value) → Some v ≡ Some w → v ≡ w
 value-is v w e = cc

@@ -8,6 +8,7 @@ use Rattle.rv_tree.specs.Delays.{Delay, delays, form_delays, delays_of_all, dela
 use Rattle.rv_types.specs.Instances.{CallTree, calls, calls_in, form_calls, calls_in_all, calls_in_equations, calls_in_assertions, IsArgument, head, tail}
 use Rattle.rv_meaning.proofs.NameLemmas.{none_in}
 use Rattle.rv_types.proofs.Members.{cons_cases as contains_cases, in_tail as contains_tail}
+use Rattle.rv_types.proofs.TypedParts.{right_calls as equation_within}
 
 -- an argument's calls are among those of the arguments
 calls_of_argument : (es : Trees) (j : ℕ) (a : Tree) (d : CallTree) → IsArgument es j a → Contains (calls_in a) d → Contains (calls_in_all es) d
@@ -69,15 +70,6 @@ module _ (c : CallTree) (j : ℕ) (a : Tree) (d : CallTree) (arg : IsArgument c.
   -- so those in an argument of a call of a node are calls of the node
   pub call_of_argument : (n : NodeTree) → Passes (calls n)
   call_of_argument n w = both (calls_in_equations n.equations) (calls_in_assertions n.assertions) (equations_pass n.equations) (assertions_pass n.assertions) w
-
--- the calls of an equation's right side are among those of the equations
-equation_within : (qs : List EquationTree) (q : EquationTree) (d : CallTree) → Contains qs q → Contains (calls_in q.right) d
-    → Contains (calls_in_equations qs) d
-equation_within [] q d w inner = absurd (none_in q w)
-equation_within (r ∷ qs) q d w inner = elim (contains_cases r qs q w) [
-  | inl is ↦ Contains-append_left (calls_in r.right) (calls_in_equations qs) d (subst (λ (q : EquationTree). Contains (calls_in q.right) d) (sym is) inner)
-  | inr there ↦ Contains-append_right (calls_in r.right) (calls_in_equations qs) d (equation_within qs q d there inner)
-]
 
 -- and those of an assertion among those of the assertions
 assertion_within : (qs : List AssertionTree) (q : AssertionTree) (d : CallTree) → Contains qs q → Contains (calls_in q.body) d

@@ -13,8 +13,8 @@ use Rattle.rv_types.specs.declared.fault.Verdict.TheVariants.{Has, Clashes, Mult
 use Rattle.rv_types.specs.Types.{kind_in, same_kind, where_met, one_of, two_of, three_of, both_are, binary_rule, if_rule}
 use Rattle.rv_types.specs.Values.{HasKind}
 use Rattle.rv_meaning.specs.Meaning.{operate}
-use Rattle.rv_meaning.proofs.Rows.{no_flag}
 use Rattle.rv_types.proofs.ConstantContents.{kind_same as same_kinds}
+use Rattle.rv_types.proofs.TypedParts.{both_true as both_hold}
 
 -- a rule that is met gives its type
 pub met_kind : (met : Bool) (j k : Kind) → kind_in (where_met met j) ≡ Some k → (met ≡ true) × (j ≡ k)
@@ -38,11 +38,6 @@ three_kinds rule Nothing b c k e = absurd (none-some k e)
 three_kinds rule (Some h) Nothing c k e = absurd (none-some k e)
 three_kinds rule (Some h) (Some i) Nothing k e = absurd (none-some k e)
 three_kinds rule (Some h) (Some i) (Some j) k e = (h, i, j, refl, refl, refl, e)
-
--- of two tests that both hold
-pub both_hold : (a b : Bool) → (a && b) ≡ true → (a ≡ true) × (b ≡ true)
-both_hold true b e = (refl, e)
-both_hold false b e = absurd (no_flag e)
 
 module _ (program : ProgramTree) where
   -- one of two values of a type

@@ -34,13 +34,14 @@ use Rattle.rv_instances.specs.Layouts.{IsPlaced, IsLayout, IsWithin, IsNumberOf,
 use Rattle.rv_instances.specs.NumberedNeeds.{listed, clock_number, numbers_needed, site_in, giver_numbers, IsGiver}
 use Rattle.rv_instances.proofs.ArgumentClocks.{flow_clock_known, arguments_clock_known}
 use Rattle.rv_instances.proofs.BaseClocks.{clock_within}
-use Rattle.rv_instances.proofs.CallsInside.{right_known, call_known, argument_known, in_right, in_argument, calls_nested}
+use Rattle.rv_instances.proofs.CallsInside.{right_known, call_known, argument_known, in_argument, calls_nested}
 use Rattle.rv_instances.proofs.ExpandedLaws.{node_in, node_is, node_few}
 use Rattle.rv_instances.proofs.LaidFlows.{few_before, places_size}
 use Rattle.rv_instances.proofs.LayoutLaws.{laid_there, is_here}
 use Rattle.rv_instances.proofs.Lists.{length_map}
 use Rattle.rv_sequence.proofs.NumbersNeeded.{AreAt, at_append, needs_at, clock_flow, output_flow}
 use Rattle.rv_sequence.proofs.TypedCalls.{typed_calls, sole_output}
+use Rattle.rv_types.proofs.TypedParts.{right_calls as in_right}
 
 pub got_within : {X : Type 0} (xs : List X) (k : ℕ) (x : X) → slice_get xs k ≡ Some x → k < length xs
 got_within [] k x e = cc

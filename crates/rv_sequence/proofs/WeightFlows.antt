@@ -27,12 +27,13 @@ use Rattle.rv_instances.specs.AllInstances.{AreFed}
 use Rattle.rv_instances.specs.Expanded.{IsExpanded}
 use Rattle.rv_types.specs.Variables.{same_place}
 use Rattle.rv_instances.specs.Weights.{weight_of_giver, AreWeights}
-use Rattle.rv_instances.proofs.CallsInside.{in_argument, in_right, calls_nested}
+use Rattle.rv_instances.proofs.CallsInside.{in_argument, calls_nested}
 use Rattle.rv_instances.proofs.ExpandedLaws.{node_in}
 use Rattle.rv_instances.proofs.Flowing.{site_itself, flow_of_giver}
 use Rattle.rv_instances.proofs.GiverLaws.{flow_giver, one_giver}
 use Rattle.rv_instances.proofs.Lists.{length_map, nat_split}
 use Rattle.rv_types.proofs.TypedParts.{IsTyped, operands_typed, one_constant, branches_typed, minus_typed, current_typed, when_typed, call_output}
+use Rattle.rv_types.proofs.TypedParts.{right_calls as in_right}
 use Rattle.rv_sequence.proofs.WeightReads.{IsScaled, Reads, FormReads, same_weight}
 use Rattle.rv_types.proofs.Members.{among_contains}
 

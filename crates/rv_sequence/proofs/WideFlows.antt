@@ -1,5 +1,5 @@
 -- Which expressions are too wide does not depend on the choice of the weights.
-use Rattle.std.proofs.Common.{◌≡◌, ℕ, suc, inl, inr, cond, nat_lt, List, [], ◌∷◌, ◌++◌, length, refl, sym, ap, subst, arith, Option, unwrap_or}
+use Rattle.std.proofs.Common.{◌≡◌, ℕ, inl, inr, cond, nat_lt, List, [], ◌∷◌, ◌++◌, length, refl, sym, ap, subst, arith, Option, unwrap_or}
 use Rattle.std.specs.List.{Contains, flat_map}
 use Rattle.std.proofs.lemmas.List.Elements.{Contains-append_left, Contains-append_right, Contains-append_cases}
 use Rattle.rv_tree.specs.declared.tree.Name.{Name}
@@ -8,8 +8,8 @@ use Rattle.rv_tree.specs.Tree.{EquationTree, AssertionTree, ProgramTree}
 use Rattle.rv_tree.specs.Places.{Identifier, Sites}
 use Rattle.rv_types.specs.declared.typed.Kind.TheVariants as kind
 use Rattle.rv_types.specs.Names.{texts}
-use Rattle.rv_types.specs.Instances.{CallTree, calls, calls_in, form_calls, calls_in_all, calls_in_equations, calls_in_assertions, alone, IsArgument, head}
-use Rattle.rv_types.specs.Instances.{tail, Instance, IsInstance, IsFlow}
+use Rattle.rv_types.specs.Instances.{CallTree, calls, calls_in, form_calls, calls_in_all, calls_in_equations, calls_in_assertions, alone}
+use Rattle.rv_types.specs.Instances.{Instance, IsInstance, IsFlow}
 use Rattle.rv_types.specs.Needs.{IsSequence}
 use Rattle.rv_types.specs.Scopes.{node_scope}
 use Rattle.rv_instances.specs.declared.answer.Instance.{Instance as Numbered}
@@ -18,9 +18,9 @@ use Rattle.rv_sequence.specs.Sided.{AreSided}
 use Rattle.rv_types.specs.Variables.{parts, form_parts, parts_of_all}
 use Rattle.rv_base.specs.Limits.{heaviest}
 use Rattle.rv_instances.specs.Weights.{weight, too_wide, weighed_of_several, weighed_under, weighed, AreWeights, IsTooWide, AreLight, IsFirstTooWide}
-use Rattle.rv_instances.proofs.CallsInside.{in_argument, in_right, in_body, calls_nested}
+use Rattle.rv_instances.proofs.CallsInside.{in_argument, in_body, calls_nested}
 use Rattle.rv_instances.proofs.ExpandedLaws.{node_in}
-use Rattle.rv_types.proofs.TypedParts.{IsTyped, parts_typed}
+use Rattle.rv_types.proofs.TypedParts.{IsTyped, parts_typed, right_calls as in_right, argument_part}
 use Rattle.rv_sequence.proofs.WeightFlows.{IsInside, reads_flows, one_weight}
 use Rattle.rv_sequence.proofs.WeightReads.{same_weight}
 use Rattle.rv_types.proofs.Members.{cons_cases, nothing_in, of_flat_map}
@@ -65,14 +65,6 @@ mutual
     | inl u ↦ Contains-append_left (calls_in e) (calls_in_all es) c (parts_inside e t u c w)
     | inr u ↦ Contains-append_right (calls_in e) (calls_in_all es) c (all_inside es t u c w)
   ]
-
--- a part of some expressions is one of one of them
-argument_part : (es : Trees) (t : Tree) → Contains (parts_of_all es) t → (j : ℕ) × (e : Tree) × IsArgument es j e × Contains (parts e) t
-argument_part None t v = nothing_in t v
-argument_part (More e es) t v = elim (Contains-append_cases (parts e) (parts_of_all es) t v) [
-  | inl u ↦ (0, e, head, u)
-  | inr u ↦ let w = argument_part es t u in (suc w.0, w.1, tail w.2, w.3)
-]
 
 -- the same offsets are too wide
 pub too_same : (w u : Tree → ℕ) (es : List Tree) → ((e : Tree) → Contains es e → w e ≡ u e) → too_wide w es ≡ too_wide u es

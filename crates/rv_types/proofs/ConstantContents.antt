@@ -29,7 +29,7 @@ use Rattle.rv_types.specs.Scopes.{constant_value}
 use Rattle.rv_types.specs.Values.{HasKind, labels_at}
 
 -- what a rule gives where it is met, and nothing otherwise
-met_kind : (b : Bool) (j k : Kind) → kind_in (where_met b j) ≡ Some k → j ≡ k
+pub met_kind : (b : Bool) (j k : Kind) → kind_in (where_met b j) ≡ Some k → j ≡ k
 met_kind true j k e = cc
 met_kind false j k e = cc
 

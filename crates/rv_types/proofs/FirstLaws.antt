@@ -2,13 +2,13 @@
 use Rattle.std.proofs.Common.{◌≡◌, ℕ, ◌+◌, ◌*◌, ◌<◌, ◌≤◌, ◌⊎◌, inl, inr, Bool, true, false, cond, nat_le, List, [], ◌∷◌, Option, Some, None, Contains, refl}
 use Rattle.std.proofs.Common.{sym, ap, subst, arith, length, get_or, zero, suc}
 use Rattle.std.proofs.lemmas.Bool.{cases_lt}
-use Rattle.std.proofs.lemmas.List.Elements.{Contains-get_or, Contains-append_right}
 use Rattle.std.proofs.lemmas.Bool.Decides.{nat_tests}
 use Rattle.rv_types.specs.declared.fault.NameFault.{NameFault}
 use Rattle.rv_types.specs.declared.fault.NameFault.TheVariants.{NoNode, UnknownName, DefinedTwice, Undefined, TypeClash, Nonlinear, ClockClash, NotObserver}
 use Rattle.rv_types.specs.declared.fault.NameFault.TheVariants.{Memory}
 use Rattle.rv_types.specs.Faults.{offset, number, ComesBefore, IsFirst}
 use Rattle.rv_types.specs.Earliest.{rank, sooner, first}
+use Rattle.rv_types.proofs.Members.{at_head as here, cons_cases as contains_cases, in_tail as there}
 
 number_small : (f : NameFault) → number f < 16
 number_small NoNode = omega arith
@@ -27,18 +27,9 @@ by_rank a n b m h k l = elim (cases_lt a b) as (λ _. (a < b) ⊎ ((a ≡ b) × 
 pub before_from_rank : (f g : NameFault) → rank f ≤ rank g → ComesBefore f g
 before_from_rank f g h = by_rank (offset f) (number f) (offset g) (number g) (number_small f) (number_small g) h
 
-there : {X : Type 0} (x : X) (xs : List X) (y : X) → Contains xs y → Contains (x ∷ xs) y
-there x xs y h = Contains-append_right (x ∷ []) xs y h
-
-here : {X : Type 0} (x : X) (xs : List X) → Contains (x ∷ xs) x
-here x xs = Contains-get_or (x ∷ xs) 0 x (omega arith)
-
 at_or_after : {X : Type 0} (x : X) (xs : List X) (y : X) (k : ℕ) → k < length (x ∷ xs) → get_or (x ∷ xs) k y ≡ y → (x ≡ y) ⊎ Contains xs y
 at_or_after x xs y zero h e = inl e
 at_or_after x xs y (suc k) h e = inr (k, omega arith, e)
-
-pub contains_cases : {X : Type 0} (x : X) (xs : List X) (y : X) → Contains (x ∷ xs) y → (x ≡ y) ⊎ Contains xs y
-contains_cases x xs y h = at_or_after x xs y h.0 h.1 h.2
 
 not_none : (x : NameFault) (o : Option NameFault) → sooner (Some x) o ≡ None → ⊥
 not_none x None h = cc

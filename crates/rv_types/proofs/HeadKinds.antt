@@ -12,11 +12,7 @@ use Rattle.rv_types.specs.Heads.{kind_given, first_kind, first_output, head_kind
 use Rattle.rv_types.specs.Types.{Scope, Signature, same_kind, kind_in, where_met, one_of, two_of, three_of, both_are, all_typed, all_suit, fit, binary_rule}
 use Rattle.rv_types.specs.Types.{not_rule, minus_rule, memory_rule, when_of, if_rule, at_most_one_of, sole, call_of, is_constant, kind_of, form_verdict}
 use Rattle.rv_types.specs.Types.{kinds_of_all}
-
--- a rule that is met gives its type
-met : (b : Bool) (j k : Kind) → kind_in (where_met b j) ≡ Some k → j ≡ k
-met true j k e = same_Some j k e
-met false j k e = absurd (none-some k e)
+use Rattle.rv_types.proofs.ConstantContents.{met_kind as met}
 
 named_is : (o : Option Kind) (k : Kind) → kind_in (one_of Has o) ≡ Some k → unwrap_or o Boolean ≡ k
 named_is Nothing k e = absurd (none-some k e)

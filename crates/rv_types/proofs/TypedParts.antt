@@ -100,7 +100,7 @@ of_call true (Some g) ks w = tested (all_typed ks) refl w
     tested true e w = record { signature = g; there = refl; one = fitting (fit g.takes ks) w; typed = e }
     tested false e w = absurd (no_kind w.0 w.1)
 
-both_true : (a b : Bool) → (a && b) ≡ true → (a ≡ true) × (b ≡ true)
+pub both_true : (a b : Bool) → (a && b) ≡ true → (a ≡ true) × (b ≡ true)
 both_true true b e = (refl, e)
 both_true false b e = cc
 
@@ -181,7 +181,7 @@ call_output p n at site f es w = named (node_named p f) (of_call true (signature
         sym (length-map m.outputs (λ (d : Decl). kind_in_program p d.kind)) ∙ ap (λ (g : Signature). length g.gives) e ∙ c.one
 
 -- a part of some expressions is one of one of them
-argument_part : (es : Trees) (t : Tree) → Contains (parts_of_all es) t → (j : ℕ) × (e : Tree) × IsArgument es j e × Contains (parts e) t
+pub argument_part : (es : Trees) (t : Tree) → Contains (parts_of_all es) t → (j : ℕ) × (e : Tree) × IsArgument es j e × Contains (parts e) t
 argument_part None t v = nothing_in t v
 argument_part (More e es) t v = elim (Contains-append_cases (parts e) (parts_of_all es) t v) [
   | inl u ↦ (0, e, head, u)
@@ -189,7 +189,7 @@ argument_part (More e es) t v = elim (Contains-append_cases (parts e) (parts_of_
 ]
 
 -- the calls of the right side of an equation are among those of all
-right_calls : (qs : List EquationTree) (q : EquationTree) (c : CallTree) → Contains qs q → Contains (calls_in q.right) c → Contains (calls_in_equations qs) c
+pub right_calls : (qs : List EquationTree) (q : EquationTree) (c : CallTree) → Contains qs q → Contains (calls_in q.right) c → Contains (calls_in_equations qs) c
 right_calls [] q c w v = nothing_in q w
 right_calls (p ∷ qs) q c w v = elim (cons_cases p qs q w) [
   | inl same ↦ Contains-append_left (calls_in p.right) (calls_in_equations qs) c (subst (λ (r : EquationTree). Contains (calls_in r.right) c) (sym same) v)
