@@ -189,7 +189,8 @@ argument_part (More e es) t v = elim (Contains-append_cases (parts e) (parts_of_
 ]
 
 -- the calls of the right side of an equation are among those of all
-pub right_calls : (qs : List EquationTree) (q : EquationTree) (c : CallTree) → Contains qs q → Contains (calls_in q.right) c → Contains (calls_in_equations qs) c
+pub right_calls : (qs : List EquationTree) (q : EquationTree) (c : CallTree) → Contains qs q → Contains (calls_in q.right) c
+    → Contains (calls_in_equations qs) c
 right_calls [] q c w v = nothing_in q w
 right_calls (p ∷ qs) q c w v = elim (cons_cases p qs q w) [
   | inl same ↦ Contains-append_left (calls_in p.right) (calls_in_equations qs) c (subst (λ (r : EquationTree). Contains (calls_in r.right) c) (sym same) v)
