@@ -5,7 +5,7 @@ use Rattle.rv_tree.specs.Tree.{NodeTree, ProgramTree}
 use Rattle.rv_tree.specs.Places.{Identifier}
 use Rattle.rv_types.specs.Instances.{CallTree, calls, Instance, clock_of_args, IsInstance}
 use Rattle.rv_instances.specs.declared.answer.Instance.{Instance as Numbered}
-use Rattle.rv_instances.specs.declared.clocked_calls.ClockedCall.{ClockedCall}
+use Rattle.rv_instances.specs.declared.timed.ClockedCall.{ClockedCall}
 use Rattle.rv_instances.specs.declared.layout.Laid.{Laid}
 use Rattle.rv_instances.specs.AllInstances.{numbered}
 use Rattle.rv_instances.specs.Expanded.{IsExpanded, IsCallOf, ToldCall, told, calls_told, no_instance}

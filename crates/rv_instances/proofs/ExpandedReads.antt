@@ -5,7 +5,7 @@ use Rattle.rv_tree.specs.Tree.{node_tree, program_tree}
 use Rattle.rv_types.specs.declared.reading_clocks.NodeClocks.{NodeClocks}
 use Rattle.rv_types.specs.Instances.{no_node, name_at}
 use Rattle.rv_instances.specs.declared.answer.Instance.{Instance as Numbered}
-use Rattle.rv_instances.specs.declared.clocked_calls.ClockedCall.{ClockedCall}
+use Rattle.rv_instances.specs.declared.timed.ClockedCall.{ClockedCall}
 use Rattle.rv_instances.specs.declared.expanded.Expanded.{Expanded}
 use Rattle.rv_instances.specs.Expanded.{IsKnown, ToldCall, told, calls_told, no_instance}
 use Rattle.rv_instances.specs.Layouts.{node_at}

@@ -17,7 +17,7 @@ use Rattle.rv_types.specs.Instances.{main_instance, node_of, IsInstance, is_main
 use Rattle.rv_types.specs.Instances as right
 use Rattle.rv_types.specs.Needs.{Giver, Given, Of, Gives, given as by_input, by_equation, by_call}
 use Rattle.rv_instances.specs.declared.answer.Instance.{Instance as Numbered}
-use Rattle.rv_instances.specs.declared.clocked_calls.ClockedCall.{ClockedCall}
+use Rattle.rv_instances.specs.declared.timed.ClockedCall.{ClockedCall}
 use Rattle.rv_instances.specs.declared.givers.Giver.{Giver as Told}
 use Rattle.rv_instances.specs.declared.givers.Giver.TheVariants.{Input, Body, Output}
 use Rattle.rv_instances.specs.AllInstances.{numbered}

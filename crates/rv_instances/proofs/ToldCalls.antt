@@ -4,7 +4,7 @@ use Rattle.std.specs.List.{Contains}
 use Rattle.std.proofs.lemmas.List.Elements.{Contains-get_or}
 use Rattle.rv_tree.specs.Tree.{None, NodeTree}
 use Rattle.rv_types.specs.Instances.{CallTree, calls}
-use Rattle.rv_instances.specs.declared.clocked_calls.ClockedCall.{ClockedCall}
+use Rattle.rv_instances.specs.declared.timed.ClockedCall.{ClockedCall}
 use Rattle.rv_instances.specs.Expanded.{ToldCall, told, call_told, calls_told}
 use Rattle.rv_instances.proofs.Known.{map_at}
 use Rattle.rv_instances.proofs.Lists.{length_map}

@@ -9,7 +9,7 @@ use Rattle.rv_types.specs.Names.{name_faults}
 use Rattle.rv_types.specs.Instances.{CallTree, calls, clock_of_args, Instance, IsInstance, name_at}
 use Rattle.rv_types.specs.WellFormed.{AreWell, AreSited}
 use Rattle.rv_instances.specs.declared.answer.Instance.{Instance as Numbered}
-use Rattle.rv_instances.specs.declared.clocked_calls.ClockedCall.{ClockedCall}
+use Rattle.rv_instances.specs.declared.timed.ClockedCall.{ClockedCall}
 use Rattle.rv_instances.specs.declared.expanded.Expanded.{Expanded}
 use Rattle.rv_instances.specs.AllInstances.{names_of, AreInstances, numbered}
 
@@ -23,19 +23,20 @@ pub record IsExpanded (p : ProgramTree) (main : Identifier) (instances : List Nu
   pub all : AreInstances p main instances
   pub few : length instances ≤ 4000
 
--- a call by its site, its arguments and the clock on which these stand
+-- a call by its site, the name of its node, its arguments and the clock on which these stand
 pub record ToldCall : Type 0 where
   pub site : ℕ
+  pub callee : Identifier
   pub arguments : Trees
   pub clock : Clock
 
 -- a call as it is listed
 abbrev pub told : ClockedCall → ToldCall
-told c = record { site = c.site; arguments = trees (map tree_of c.arguments.now); clock = c.clock }
+told c = record { site = c.site; callee = c.callee.now; arguments = trees (map tree_of c.arguments.now); clock = c.clock }
 
 -- a call of a node
 abbrev pub call_told : NodeTree → CallTree → ToldCall
-call_told n c = record { site = c.site; arguments = c.args; clock = clock_of_args n c.args }
+call_told n c = record { site = c.site; callee = c.name; arguments = c.args; clock = clock_of_args n c.args }
 
 -- the calls of a node
 abbrev pub calls_told : NodeTree → List ToldCall

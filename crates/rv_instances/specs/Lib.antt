@@ -11,3 +11,4 @@ pub mod Fitting
 pub mod AllInstances
 pub mod ArrowClocks
 pub mod Counts
+pub mod Timed

@@ -9,8 +9,8 @@ ghost use Rattle.rv_instances.specs.Flowing.{flow_count};
 ghost use Rattle.rv_instances.specs.Layouts.{node_at};
 
 use crate::answer::Instance;
-use crate::clocked_calls::{ClockedCall, clocked_calls};
 use crate::flows::count_flows;
+use crate::timed::{ClockedCall, clocked_calls};
 use rv_base::{Many, Memory};
 use rv_tree::{Node, Program};
 use rv_types::{NodeClocks, program_clocks};

@@ -11,10 +11,10 @@ ghost use Rattle.rv_instances.specs.Givers.{AreGivers};
 ghost use Rattle.rv_instances.specs.Giving.{AreGiven, IsGiven, KeepsGiven, IsGiving, IsBodyOf, IsRightOf, has_call, first_of, number_at};
 ghost use Rattle.rv_instances.specs.Layouts.{IsLayout, all_places, callee_or_main, node_at};
 
-use crate::clocked_calls::ClockedCall;
 use crate::equal::all_equal;
 use crate::expanded::Expanded;
 use crate::layout::Layout;
+use crate::timed::ClockedCall;
 use rv_base::{Many, Memory};
 use rv_tree::{Equation, Expr, ExprForm};
 use rv_types::Clock;

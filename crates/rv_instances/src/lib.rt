@@ -9,7 +9,6 @@
 
 mod answer;
 mod callees;
-mod clocked_calls;
 mod codes;
 mod equal;
 mod expanded;
@@ -19,6 +18,7 @@ mod laws;
 mod layout;
 mod reader;
 mod source;
+mod timed;
 
 pub use answer::{Instance, Order};
 pub use callees::Callees;
@@ -31,3 +31,4 @@ pub use laws::{flow_places, instance_numbers, known_clocks, numbered_instances, 
 pub use layout::{Laid, Layout, layout_of, number_of_clock};
 pub use reader::Reader;
 pub use source::Source;
+pub use timed::{ClockedCall, ClockedDelay, ClockedOperator, Timed, timed_of};

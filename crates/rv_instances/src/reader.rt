@@ -8,9 +8,9 @@ ghost use Rattle.rv_instances.specs.Expanded.{IsKnown, program_of, main_of};
 ghost use Rattle.rv_instances.specs.Layouts.{IsLayout, IsWithin, node_at};
 ghost use Rattle.rv_instances.specs.NumberedNeeds.{IsReader, clock_number, clock_of_expression, flow_number, node_read, numbers_of};
 
-use crate::clocked_calls::clock_or_base;
 use crate::expanded::Expanded;
 use crate::layout::{Layout, number_of_clock};
+use crate::timed::clock_or_base;
 use rv_base::Text;
 use rv_tree::Expr;
 use rv_types::{Clock, NodeClocks};

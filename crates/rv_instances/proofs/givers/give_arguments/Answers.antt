@@ -3,7 +3,7 @@ use Rattle.std.proofs.lemmas.Bool.{cases_eq}
 use Rattle.std.proofs.lemmas.List.{get_or_default}
 use Rattle.rv_tree.specs.Tree.{Trees}
 use Rattle.rv_types.specs.Instances.{IsArgument}
-use Rattle.rv_instances.specs.declared.clocked_calls.ClockedCall.{ClockedCall}
+use Rattle.rv_instances.specs.declared.timed.ClockedCall.{ClockedCall}
 use Rattle.rv_instances.specs.Expanded.{ToldCall, program_of, main_of}
 use Rattle.rv_instances.specs.Giving.{IsGiven, first_of}
 use Rattle.rv_instances.specs.Layouts.{callee_or_main, node_at}

@@ -1,5 +1,5 @@
 use Rattle.std.proofs.Common.{ℕ, ◌+◌, ◌<◌, length, get_or}
-use Rattle.rv_instances.specs.declared.clocked_calls.ClockedCall.{ClockedCall}
+use Rattle.rv_instances.specs.declared.timed.ClockedCall.{ClockedCall}
 use Rattle.rv_instances.specs.Expanded.{program_of, main_of}
 use Rattle.rv_instances.specs.Giving.{AreGiven, IsGiven, KeepsGiven, first_of}
 use Rattle.rv_instances.specs.Layouts.{callee_or_main}
