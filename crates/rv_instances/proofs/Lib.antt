@@ -22,3 +22,4 @@ pub mod Lists
 pub mod Placed
 pub mod PutCalls
 pub mod LabelCodes
+pub mod TimedParts

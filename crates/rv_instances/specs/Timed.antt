@@ -69,5 +69,11 @@ module _ (n : NodeTree) where
     operators_of_all None = []
     operators_of_all (More e es) = operators_in e ++ operators_of_all es
 
+  -- the operator that an expression is
+  abbrev pub own_operator : Tree → List ToldOperator
+  own_operator (Node at site (Binary o a b)) = record { site = site; operator = o; left = a; clock = taken Base (pace n (Node at site (Binary o a b))) } ∷ []
+  own_operator _ = []
+
+  -- all of the node
   abbrev pub operators_told : List ToldOperator
   operators_told = flat_map (λ q. operators_in q.right) n.equations ++ flat_map (λ a. operators_in a.body) n.assertions
