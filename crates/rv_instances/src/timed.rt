@@ -143,11 +143,7 @@ fn gather<'a>(clocks: &NodeClocks<'a>, e: &'a Expr, found: &mut Timed<'a>) -> Re
             let one = gather(clocks, left, found)?;
             let other = gather(clocks, right, found)?;
             let pace = operator_pace(*operator, one, other);
-            put_operator(
-                number,
-                made_operator(e.site, *operator, left, pace),
-                &mut found.operators,
-            );
+            put_operator(number, e.site, *operator, left, pace, &mut found.operators);
             Ok(pace)
         }
         ExprForm::When(operand, clock) => {
@@ -217,7 +213,7 @@ fn gather_delay<'a>(
 {
     let number = add_delay(site, operand, found)?;
     let pace = gather(clocks, operand, found)?;
-    put_delay(number, made_delay(site, operand, pace), &mut found.delays);
+    put_delay(number, site, operand, pace, &mut found.delays);
     Ok(pace)
 }
 
@@ -269,11 +265,7 @@ fn gather_call<'a>(
 {
     let number = add_call(site, callee, arguments, found)?;
     let together = gather_all(clocks, arguments, found)?;
-    put_call(
-        number,
-        made_call(site, callee, arguments, together),
-        &mut found.calls,
-    );
+    put_call(number, site, callee, arguments, together, &mut found.calls);
     Ok(called_pace(together))
 }
 
@@ -411,40 +403,61 @@ fn add_operator<'a>(
     Ok(number)
 }
 
-/// Puts a call in the place of the one with a number.
+/// Puts a call, of whose arguments this is the pace, in the place of the one with a number.
 #[tactic(auto, using(crate::proofs::PutCalls::within))]
-fn put_call<'a>(number: usize, call: ClockedCall<'a>, found: &mut Many<ClockedCall<'a>>)
+fn put_call<'a>(
+    number: usize,
+    site: Option<u32>,
+    callee: &'a Text,
+    arguments: &'a [Expr],
+    pace: Pace,
+    found: &mut Many<ClockedCall<'a>>,
+)
     ensures { (before after : List ToldCall) (c : ToldCall) → number ≡ length before → map told found.old ≡ before ++ c ∷ after
-        → map told found.new ≡ before ++ told call.entry ∷ after }
+        → map told found.new ≡ before ++ record {
+          site = unwrap_or site 0;
+          callee = callee.now;
+          arguments = trees (map tree_of arguments.now);
+          clock = taken OnBase pace;
+        } ∷ after }
 {
     if number < found.len() {
-        found.set(number, call);
+        found.set(number, made_call(site, callee, arguments, pace));
     }
 }
 
-/// Puts a `pre` or `current` in the place of the one with a number.
+/// Puts a `pre` or `current`, of whose operand this is the pace, in the place of the one with a number.
 #[tactic(auto, using(crate::proofs::PutCalls::within))]
-fn put_delay<'a>(number: usize, delay: ClockedDelay<'a>, found: &mut Many<ClockedDelay<'a>>)
+fn put_delay<'a>(
+    number: usize,
+    site: Option<u32>,
+    operand: &'a Expr,
+    pace: Pace,
+    found: &mut Many<ClockedDelay<'a>>,
+)
     ensures { (before after : List ToldDelay) (d : ToldDelay) → number ≡ length before → map delay_listed found.old ≡ before ++ d ∷ after
-        → map delay_listed found.new ≡ before ++ delay_listed delay.entry ∷ after }
+        → map delay_listed found.new ≡ before ++ record { site = site; operand = tree_of operand.now; clock = taken OnBase pace } ∷ after }
 {
     if number < found.len() {
-        found.set(number, delay);
+        found.set(number, made_delay(site, operand, pace));
     }
 }
 
-/// Puts an operator in the place of the one with a number.
+/// Puts an operator of this pace in the place of the one with a number.
 #[tactic(auto, using(crate::proofs::PutCalls::within))]
 fn put_operator<'a>(
     number: usize,
-    operator: ClockedOperator<'a>,
+    site: Option<u32>,
+    operator: Op,
+    left: &'a Expr,
+    pace: Pace,
     found: &mut Many<ClockedOperator<'a>>,
 )
     ensures { (before after : List ToldOperator) (o : ToldOperator) → number ≡ length before → map operator_listed found.old ≡ before ++ o ∷ after
-        → map operator_listed found.new ≡ before ++ operator_listed operator.entry ∷ after }
+        → map operator_listed found.new ≡ before ++ record { site = site; operator = operator; left = tree_of left.now; clock = taken OnBase pace } ∷ after }
 {
     if number < found.len() {
-        found.set(number, operator);
+        found.set(number, made_operator(site, operator, left, pace));
     }
 }
 
