@@ -1,9 +1,9 @@
 -- The memories of a node, found by the tables of its expressions.
-use Rattle.std.proofs.Common.{◌≡◌, ℕ, Bool, true, false, cond, ◌||◌, nat_eq, List, [], ◌∷◌, ◌++◌, map, flat_map, unwrap_or, Option, refl, sym, ◌∙◌, ap, ◌+◌}
+use Rattle.std.proofs.Common.{◌≡◌, ℕ, Bool, true, false, cond, ◌||◌, nat_eq, List, [], ◌∷◌, ◌++◌, map, unwrap_or, Option, refl, sym, ◌∙◌, ap, ◌+◌}
 use Rattle.std.proofs.Common.{length, length-append}
 use Rattle.std.specs.Prelude.{slice_index_or}
 use Rattle.std.proofs.lemmas.List.{append_assoc}
-use Rattle.std.specs.List.{Contains, list_any}
+use Rattle.std.specs.List.{list_any}
 use Rattle.std.specs.Cmp.{nat_eq_equiv, partial_equiv_from_equiv}
 use Rattle.indexmap.specs.IndexSet.{insert_key}
 use Rattle.rv_tree.specs.Tree.{Tree, Node, Named, NodeTree, ProgramTree}
@@ -14,18 +14,15 @@ use Rattle.rv_types.specs.declared.typed.Kind.TheVariants as kind
 use Rattle.rv_types.specs.declared.reading.ProgramTables.{ProgramTables}
 use Rattle.rv_types.specs.declared.reading.NodeTables.{NodeTables}
 use Rattle.rv_types.specs.Delayed.{delayed_kinds}
-use Rattle.rv_types.specs.Names.{texts, decls, decl_names, lefts, repeated, repeated_values, node_names, type_names, alias_use, constant_uses, names_in_node}
-use Rattle.rv_types.specs.Names.{name_faults, undefined_unless, flow_use, clock_use, equation_uses, assertion_uses}
+use Rattle.rv_types.specs.Names.{texts}
 use Rattle.rv_types.specs.Readings.{view_of}
 use Rattle.rv_types.specs.Scopes.{node_scope}
 use Rattle.rv_types.specs.Tables.{scope_of}
 use Rattle.rv_types.specs.Types.{Scope, kind_of}
-use Rattle.rv_sizes.specs.declared.memories.MemoryRead.{MemoryRead}
+use Rattle.rv_instances.specs.Timed.{ToldDelay, delay_told, delays_told}
 use Rattle.rv_types.specs.Variables.{is_in, memories_beside}
 use Rattle.rv_types.specs.Values.{operand_kind}
-use Rattle.rv_sizes.specs.Memories.{site_in, read_of, reads, sites_read, paired, with_site, kinds_beside, memory_kinds}
-use Rattle.rv_instances.proofs.Known.{each_nil}
-use Rattle.rv_types.proofs.RightNames.{both_empty as split_nil}
+use Rattle.rv_sizes.specs.Memories.{site_in, read_of, sites_read, paired, with_site, kinds_beside, memory_kinds}
 
 -- a site is among some where one of them equals it
 pub any_in : (xs : List ℕ) (k : ℕ) → list_any (nat_eq k) xs ≡ is_in xs k
@@ -85,41 +82,26 @@ module _ (p : ProgramTree) (n : NodeTree) (s : Scope) (names : List Identifier) 
       tested false true e k m at j is more = absurd (let b : ⊥ = cc in b)
 
 -- sites and types of the same reads, put together
-paired_from : (s : Scope) (names : List Identifier) (ks : List Kind) (ds : List Delay)
-    → paired (ks ++ delayed_kinds s ds) (length ks) (sites_read names ds) ≡ map (read_of s names) ds
-paired_from s names ks [] = refl
-paired_from s names ks (d ∷ ds) =
+paired_from : (n : NodeTree) (s : Scope) (names : List Identifier) (ks : List Kind) (ds : List Delay)
+    → paired (ks ++ delayed_kinds s ds) (length ks) (sites_read names (map (delay_told n) ds)) ≡ map (read_of s names) ds
+paired_from n s names ks [] = refl
+paired_from n s names ks (d ∷ ds) =
     let k = unwrap_or (kind_of s d.operand) kind.Bool in
     let here : slice_index_or (ks ++ k ∷ delayed_kinds s ds) (length ks) kind.Bool ≡ k = index_here ks k (delayed_kinds s ds) in
-    let on : paired (ks ++ k ∷ delayed_kinds s ds) (length ks + 1) (sites_read names ds) ≡ map (read_of s names) ds =
-    (λ i. paired (sym (append_assoc ks (k ∷ []) (delayed_kinds s ds)) i) (sym (length-append ks (k ∷ [])) i) (sites_read names ds))
-    ∙ paired_from s names (ks ++ k ∷ []) ds in
+    let on : paired (ks ++ k ∷ delayed_kinds s ds) (length ks + 1) (sites_read names (map (delay_told n) ds)) ≡ map (read_of s names) ds =
+    (λ i. paired (sym (append_assoc ks (k ∷ []) (delayed_kinds s ds)) i) (sym (length-append ks (k ∷ [])) i) (sites_read names (map (delay_told n) ds)))
+    ∙ paired_from n s names (ks ++ k ∷ []) ds in
     λ i. record { site = site_in names d.site d.operand; kind = here i } ∷ on i
   where
     index_here : (xs : List Kind) (x : Kind) (ys : List Kind) → slice_index_or (xs ++ x ∷ ys) (length xs) kind.Bool ≡ x
     index_here [] x ys = refl
     index_here (y ∷ xs) x ys = index_here xs x ys
 
-pub paired_reads : (t : ProgramTables) (own : NodeTables) (ds : List Delay)
-    → paired (delayed_kinds (scope_of (view_of t own)) ds) 0 (sites_read (texts own.flows) ds) ≡ reads t own ds
-paired_reads t own ds = paired_from (scope_of (view_of t own)) (texts own.flows) [] ds
-
 -- the types of the memories of a node
-pub remembered : (p : ProgramTree) (n : NodeTree) (t : ProgramTables) (own : NodeTables) (found : List MemoryRead) → scope_of (view_of t own) ≡ node_scope p n
-    → texts own.flows ≡ flows n
-    → found ≡ reads t own (node_delays n) → kinds_beside [] found ≡ memory_kinds p n
-remembered p n t own found scope flow is =
-    ap (kinds_beside []) is ∙ beside_same p n (scope_of (view_of t own)) (texts own.flows) scope flow (node_delays n) [] [] (λ k. refl)
-
--- The flows of a node have different names.
-pub flows_once : (p : ProgramTree) → name_faults p ≡ [] → (n : NodeTree) → Contains p.nodes n → repeated [] (decl_names (decls n)) ≡ []
-flows_once p named n w =
-    let a = split_nil (repeated [] (node_names p) ++ (repeated [] (type_names p) ++ repeated_values p))
-    ((flat_map (alias_use p) p.types ++ flat_map (constant_uses p) p.constants) ++ flat_map (names_in_node p) p.nodes) named in
-    let b = split_nil (flat_map (alias_use p) p.types ++ flat_map (constant_uses p) p.constants) (flat_map (names_in_node p) p.nodes) a.1 in
-    let all = each_nil (names_in_node p) p.nodes b.1 n w in
-    let c = split_nil (repeated [] (decl_names (decls n)) ++ repeated (decl_names n.inputs) (lefts n))
-    (flat_map (undefined_unless (lefts n)) (decl_names (n.outputs ++ n.locals))
-    ++ ((flat_map (flow_use p) (decls n) ++ flat_map (clock_use n) n.locals)
-    ++ (flat_map (equation_uses p n) n.equations ++ flat_map (assertion_uses p n) n.assertions))) all in
-    (split_nil (repeated [] (decl_names (decls n))) (repeated (decl_names n.inputs) (lefts n)) c.0).0
+pub remembered : (p : ProgramTree) (n : NodeTree) (t : ProgramTables) (own : NodeTables) (ds : List ToldDelay) (ks : List Kind)
+    → scope_of (view_of t own) ≡ node_scope p n → texts own.flows ≡ flows n → ds ≡ delays_told n
+    → ks ≡ delayed_kinds (scope_of (view_of t own)) (node_delays n) → kinds_beside [] (paired ks 0 (sites_read (texts own.flows) ds)) ≡ memory_kinds p n
+remembered p n t own ds ks scope flow are kinds =
+    (λ i. kinds_beside [] (paired (kinds i) 0 (sites_read (texts own.flows) (are i))))
+    ∙ ap (kinds_beside []) (paired_from n (scope_of (view_of t own)) (texts own.flows) [] (node_delays n))
+    ∙ beside_same p n (scope_of (view_of t own)) (texts own.flows) scope flow (node_delays n) [] [] (λ k. refl)

@@ -14,13 +14,13 @@ use Rattle.rv_sizes.specs.Capped.{capped}
 use Rattle.rv_calls.specs.Callings.{callings_of, call_graph}
 use Rattle.rv_instances.specs.AllInstances.{names_of}
 use Rattle.rv_calls.specs.Graphs.{IsOrdered}
-use Rattle.rv_sizes.specs.Ticks.{has_base, sites_of_clocks, ticking, own_ticks}
-use Rattle.rv_sizes.specs.TickWalk.{ticks_on_base, walked_node, AreTicked}
+use Rattle.rv_sizes.specs.Ticks.{has_base, sites_of_clocks, ticking, ticking_where, own_ticks}
+use Rattle.rv_sizes.specs.TickWalk.{ticks_on_base, AreTicked}
 use Rattle.rv_instances.proofs.Lists.{contains_at, got, length_map}
 use Rattle.rv_instances.proofs.Known.{map_at}
 use Rattle.rv_calls.proofs.Recursions.{graph_size}
 use Rattle.rv_sizes.proofs.TickLevels.{at_is, among, number_within, enough, earlier, steady}
-use Rattle.rv_sizes.proofs.TickWalks.{Same, walk_same, same_base, same_sites}
+use Rattle.rv_sizes.proofs.TickWalks.{ticks_known}
 
 -- lists with the same numbers are the same
 lists_same : (xs ys : List ℕ) → length xs ≡ length ys → ((k : ℕ) → k < length xs → get_or xs k 0 ≡ get_or ys k 0) → xs ≡ ys
@@ -45,15 +45,13 @@ module _ (p : ProgramTree) (named : name_faults p ≡ []) (order : List ℕ) (or
     count = λ j less. absurd (omega (arith, less));
   }
 
-  -- the walk over the next node comes to what ticks in it
-  walk_is : (j : ℕ) (bases : List Bool) (own : List ℕ) → AreTicked p order j bases own → j < length order
-      → Same (walked_node (get_or p.nodes (get_or order j 0) no_node) (ticks_on_base (names_of p) bases))
-      (ticking p (length p.nodes) (get_or p.nodes (get_or order j 0) no_node))
-  walk_is j bases own t lt =
+  -- what is found in the next node is what ticks in it
+  found_is : (j : ℕ) (bases : List Bool) (own : List ℕ) → AreTicked p order j bases own → j < length order
+      → ticking_where (get_or p.nodes (get_or order j 0) no_node) (ticks_on_base (names_of p) bases)
+      ≡ ticking p (length p.nodes) (get_or p.nodes (get_or order j 0) no_node)
+  found_is j bases own t lt =
       let m = one_less (length p.nodes) j (enough p named order ordered j lt) in
-      subst (λ levels. Same (walked_node (get_or p.nodes (get_or order j 0) no_node) (ticks_on_base (names_of p) bases))
-      (ticking p levels (get_or p.nodes (get_or order j 0) no_node))) (sym m.1)
-      (walk_same (get_or p.nodes (get_or order j 0) no_node) (ticks_on_base (names_of p) bases) p m.0
+      ticks_known (get_or p.nodes (get_or order j 0) no_node) (ticks_on_base (names_of p) bases) p m.0
       (λ c w.
       let e = earlier p named order ordered j lt c (subst (λ (n : NodeTree). Contains (calls n) c) (sym (at_is p named order ordered j)) w) in
       let less = e.1 in
@@ -64,53 +62,41 @@ module _ (p : ProgramTree) (named : name_faults p ≡ []) (order : List ℕ) (or
       ∙ ap (λ (n : NodeTree). has_base (ticking p (length p.nodes) n)) (sym (at_is p named order ordered e.0))
       ∙ ap has_base (steady p named order ordered (length p.nodes) m.0 e.0 (omega (arith, less, lt)) (omega (arith, less, within))
       (omega (arith, less, within, size)))
-      ∙ ap (λ (n : NodeTree). has_base (ticking p m.0 n)) (sym e.3)))
+      ∙ ap (λ (n : NodeTree). has_base (ticking p m.0 n)) (sym e.3))
+      ∙ ap (λ levels. ticking p levels (get_or p.nodes (get_or order j 0) no_node)) (sym m.1)
 
   pub ticked_step : (j : ℕ) (bases new_bases : List Bool) (own new_own : List ℕ) → AreTicked p order j bases own → j < length order
-      → new_bases ≡ set bases (get_or order j 0) (has_base (walked_node (get_or p.nodes (get_or order j 0) no_node) (ticks_on_base (names_of p) bases)))
-      → new_own ≡ set own (get_or order j 0) (capped (length (sites_of_clocks []
-      (walked_node (get_or p.nodes (get_or order j 0) no_node) (ticks_on_base (names_of p) bases)))))
+      → new_bases ≡ set bases (get_or order j 0) (has_base (ticking p (length p.nodes) (get_or p.nodes (get_or order j 0) no_node)))
+      → new_own ≡ set own (get_or order j 0) (capped (own_ticks p (get_or p.nodes (get_or order j 0) no_node)))
       → AreTicked p order (j + 1) new_bases new_own
   ticked_step j bases new_bases own new_own t lt bases_are own_are = record {
-    bases_size = ap length bases_are ∙ length-set bases (get_or order j 0)
-        (has_base (walked_node (get_or p.nodes (get_or order j 0) no_node) (ticks_on_base (names_of p) bases))) ∙ t.bases_size;
-    own_size = ap length own_are ∙ length-set own (get_or order j 0) (capped
-        (length (sites_of_clocks [] (walked_node (get_or p.nodes (get_or order j 0) no_node) (ticks_on_base (names_of p) bases))))) ∙ t.own_size;
+    bases_size = ap length bases_are ∙ length-set bases (get_or order j 0) base_here ∙ t.bases_size;
+    own_size = ap length own_are ∙ length-set own (get_or order j 0) count_here ∙ t.own_size;
     base = λ i less inside. ap (λ (l : List Bool). get_or l (get_or order i 0) false) bases_are ∙ elim (cases_eq i j) [
       | inl same ↦ subst (λ i. get_or (set bases (get_or order j 0) base_here) (get_or order i 0) false ≡ has_base
           (ticking p (length p.nodes) (get_or p.nodes (get_or order i 0) no_node))) (sym same)
           (get_or-set_same bases (get_or order j 0) base_here false (subst (λ n. get_or order j 0 < n) (sym t.bases_size)
-          (number_within p named order ordered j lt)) ∙ same_base walk ticks is)
+          (number_within p named order ordered j lt)))
       | inr other ↦
           let before : i < j = omega (arith, less, other) in
           get_or-set_other bases (get_or order j 0) (get_or order i 0) base_here false (ordered.once i j before lt) ∙ t.base i before inside
     ];
     count = λ i less inside. ap (λ (l : List ℕ). get_or l (get_or order i 0) 0) own_are ∙ elim (cases_eq i j) [
-      | inl same ↦ subst (λ i. get_or (set own (get_or order j 0) (capped count_here)) (get_or order i 0) 0 ≡ capped
+      | inl same ↦ subst (λ i. get_or (set own (get_or order j 0) count_here) (get_or order i 0) 0 ≡ capped
           (own_ticks p (get_or p.nodes (get_or order i 0) no_node))) (sym same)
-          (get_or-set_same own (get_or order j 0) (capped count_here) 0
-          (subst (λ n. get_or order j 0 < n) (sym t.own_size) (number_within p named order ordered j lt)) ∙ ap capped (same_sites walk ticks is))
+          (get_or-set_same own (get_or order j 0) count_here 0 (subst (λ n. get_or order j 0 < n) (sym t.own_size)
+          (number_within p named order ordered j lt)))
       | inr other ↦
           let before : i < j = omega (arith, less, other) in
-          get_or-set_other own (get_or order j 0) (get_or order i 0) (capped count_here) 0 (ordered.once i j before lt) ∙ t.count i before inside
+          get_or-set_other own (get_or order j 0) (get_or order i 0) count_here 0 (ordered.once i j before lt) ∙ t.count i before inside
     ];
   }
     where
-      walk : List Clock
-      walk = walked_node (get_or p.nodes (get_or order j 0) no_node) (ticks_on_base (names_of p) bases)
-
-      ticks : List Clock
-      ticks = ticking p (length p.nodes) (get_or p.nodes (get_or order j 0) no_node)
-
       base_here : Bool
-      base_here = has_base (walked_node (get_or p.nodes (get_or order j 0) no_node) (ticks_on_base (names_of p) bases))
+      base_here = has_base (ticking p (length p.nodes) (get_or p.nodes (get_or order j 0) no_node))
 
       count_here : ℕ
-      count_here = length (sites_of_clocks [] (walked_node (get_or p.nodes (get_or order j 0) no_node) (ticks_on_base (names_of p) bases)))
-
-      is : Same (walked_node (get_or p.nodes (get_or order j 0) no_node) (ticks_on_base (names_of p) bases))
-          (ticking p (length p.nodes) (get_or p.nodes (get_or order j 0) no_node))
-      is = walk_is j bases own t lt
+      count_here = capped (own_ticks p (get_or p.nodes (get_or order j 0) no_node))
 
   -- at the end all nodes have been walked over
   pub ticked_end : (j : ℕ) (bases : List Bool) (own : List ℕ) → AreTicked p order j bases own → length order ≤ j
@@ -148,11 +134,13 @@ module _ (p : ProgramTree) (named : name_faults p ≡ []) (order : List ℕ) (or
         (subst (λ k. get_or order j 0 < k) (sym size) (number_within p named order ordered j in_order))
 
     pub read_step : (names : List Identifier) (bases new_bases : List Bool) (own new_own : List ℕ) → names ≡ names_of p → AreTicked p order j bases own
-        → new_bases ≡ set bases (get_or items j 0) (has_base (walked_node (node_tree n) (ticks_on_base names bases)))
-        → new_own ≡ set own (get_or items j 0) (capped (length (sites_of_clocks [] (walked_node (node_tree n) (ticks_on_base names bases)))))
+        → new_bases ≡ set bases (get_or items j 0) (has_base (ticking_where (node_tree n) (ticks_on_base names bases)))
+        → new_own ≡ set own (get_or items j 0) (capped (length (sites_of_clocks [] (ticking_where (node_tree n) (ticks_on_base names bases)))))
         → AreTicked p order (j + 1) new_bases new_own
     read_step names bases new_bases own new_own names_are t bases_are own_are =
         ticked_step j bases new_bases own new_own t in_order
-        (bases_are ∙ (λ i. set bases (get_or (same i) j 0) (has_base (walked_node (sym node_read i) (ticks_on_base (names_are i) bases)))))
+        (bases_are ∙ (λ i. set bases (get_or (same i) j 0) (has_base (ticking_where (sym node_read i) (ticks_on_base (names_are i) bases))))
+        ∙ ap (λ (ks : List Clock). set bases (get_or order j 0) (has_base ks)) (found_is j bases own t in_order))
         (own_are ∙ (λ i. set own (get_or (same i) j 0) (capped (length
-        (sites_of_clocks [] (walked_node (sym node_read i) (ticks_on_base (names_are i) bases)))))))
+        (sites_of_clocks [] (ticking_where (sym node_read i) (ticks_on_base (names_are i) bases))))))
+        ∙ ap (λ (ks : List Clock). set own (get_or order j 0) (capped (length (sites_of_clocks [] ks)))) (found_is j bases own t in_order))

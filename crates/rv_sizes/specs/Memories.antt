@@ -3,13 +3,9 @@ use Rattle.std.specs.Prelude.{ℕ, ◌+◌, cond, List, [], ◌∷◌, ◌++◌,
 use Rattle.rv_tree.specs.Tree.{Tree, Node, Form, Named, NodeTree, ProgramTree}
 use Rattle.rv_tree.specs.Places.{Identifier, index_of, is_among}
 use Rattle.rv_tree.specs.Delays.{Delay}
+use Rattle.rv_instances.specs.Timed.{ToldDelay}
 use Rattle.rv_types.specs.declared.typed.Kind.{Kind}
 use Rattle.rv_types.specs.declared.typed.Kind.TheVariants as kind
-use Rattle.rv_types.specs.declared.reading.ProgramTables.{ProgramTables}
-use Rattle.rv_types.specs.declared.reading.NodeTables.{NodeTables}
-use Rattle.rv_types.specs.Names.{texts}
-use Rattle.rv_types.specs.Readings.{view_of}
-use Rattle.rv_types.specs.Tables.{scope_of}
 use Rattle.rv_types.specs.Types.{Scope, kind_of}
 use Rattle.rv_sizes.specs.declared.memories.MemoryRead.{MemoryRead}
 use Rattle.rv_types.specs.Variables.{total, is_in, is_integer, memories}
@@ -28,12 +24,8 @@ abbrev mutual
 abbrev pub read_of : Scope → List Identifier → Delay → MemoryRead
 read_of s names d = record { site = site_in names d.site d.operand; kind = unwrap_or (kind_of s d.operand) kind.Bool }
 
--- what some read, by the tables of a node
-abbrev pub reads : ProgramTables → NodeTables → List Delay → List MemoryRead
-reads t n ds = map (read_of (scope_of (view_of t n)) (texts n.flows)) ds
-
 -- the sites of the memories that some read, where the flows have these names
-abbrev pub sites_read : List Identifier → List Delay → List ℕ
+abbrev pub sites_read : List Identifier → List ToldDelay → List ℕ
 sites_read names ds = map (λ d. site_in names d.site d.operand) ds
 
 -- sites with the types that stand at the numbers from j on

@@ -1,27 +1,35 @@
--- The clocks that tick in a node, in the order in which a walk over its expressions comes to them, and what is known
--- of the nodes that have been walked over.
-use Rattle.std.specs.Prelude.{◌≡◌, ℕ, ◌<◌, Bool, false, not, cond, List, [], ◌∷◌, ◌++◌, flat_map, length, slice_index_or}
-use Rattle.rv_tree.specs.Tree.{Tree, Node, Form, True, False, Number, Named, Not, Minus, Pre, Current, When, Binary, If, AtMostOne, Call, Trees, None, More}
-use Rattle.rv_tree.specs.Tree.{NodeTree, ProgramTree}
+-- The clocks that tick in a node, found among its operators and calls, and what is known of the nodes that have been
+-- walked over.
+use Rattle.std.specs.Prelude.{◌≡◌, ℕ, ◌<◌, Bool, false, not, cond, List, [], ◌∷◌, length, slice_index_or}
+use Rattle.rv_tree.specs.declared.tree.Op.{Op}
+use Rattle.rv_tree.specs.declared.tree.Op.TheVariants as op
+use Rattle.rv_tree.specs.Tree.{ProgramTree}
 use Rattle.rv_tree.specs.Places.{Identifier, index_of}
 use Rattle.rv_types.specs.declared.typed.Clock.{Clock}
 use Rattle.rv_types.specs.declared.typed.Clock.TheVariants.{Base, On}
-use Rattle.rv_types.specs.declared.fault.Pace.{Pace}
-use Rattle.rv_types.specs.Clocks.{seen, binary_pace, pace, pace_of_all}
-use Rattle.rv_types.specs.Instances.{taken, no_node}
+use Rattle.rv_types.specs.Instances.{no_node}
+use Rattle.rv_instances.specs.Expanded.{ToldCall}
+use Rattle.rv_instances.specs.Timed.{ToldOperator}
 use Rattle.rv_sizes.specs.Capped.{capped}
 use Rattle.rv_sizes.specs.Memories.{with_site}
 use Rattle.rv_types.specs.Variables.{is_in}
 use Rattle.rv_sizes.specs.Ticks.{has_base, ticking, own_ticks}
-use Rattle.rv_instances.specs.ArrowClocks.{arrow_clock}
 
 -- whether the node of a name has a tick on its base clock, by the numbers of nodes
 abbrev pub ticks_on_base : List Identifier → List Bool → Identifier → Bool
 ticks_on_base names bases f = slice_index_or bases (index_of names f) false
 
--- the clock of the arguments of a call, of this pace, where the node that is called has a tick on its base clock
-abbrev pub handed_clock : (Identifier → Bool) → Identifier → Pace → List Clock
-handed_clock on_base f p = cond (on_base f) (taken Base p ∷ []) []
+-- the clock of an operator, where it is a `->`
+abbrev pub arrow_on : Op → Clock → List Clock
+arrow_on op.Arrow k = k ∷ []
+arrow_on _ k = []
+
+abbrev pub arrow_told : ToldOperator → List Clock
+arrow_told o = arrow_on o.operator o.clock
+
+-- the clock of the arguments of a call, where the node that is called has a tick on its base clock
+abbrev pub handed_told : (Identifier → Bool) → ToldCall → List Clock
+handed_told on_base c = cond (on_base c.callee) (c.clock ∷ []) []
 
 -- whether a clock is a flow that is not among some
 abbrev pub is_new_site : List ℕ → Clock → Bool
@@ -32,35 +40,6 @@ is_new_site seen (On c) = not (is_in seen c)
 abbrev pub with_clock : List ℕ → Clock → List ℕ
 with_clock seen Base = seen
 with_clock seen (On c) = with_site seen c
-
-module _ (n : NodeTree) (on_base : Identifier → Bool) where
-  abbrev mutual
-    -- the clocks that tick in an expression, after those of its parts
-    pub walked : Tree → List Clock
-    walked (Node at site form) = form_walked form
-
-    pub form_walked : Form → List Clock
-    form_walked True = []
-    form_walked False = []
-    form_walked (Number v) = []
-    form_walked (Named x) = []
-    form_walked (Not e) = walked e
-    form_walked (Minus e) = walked e
-    form_walked (Pre e) = walked e
-    form_walked (Current e) = walked e
-    form_walked (When e c) = walked e
-    form_walked (Binary o a b) = walked a ++ (walked b ++ arrow_clock o (binary_pace o (seen (pace n a)) (seen (pace n b))))
-    form_walked (If a b c) = walked a ++ (walked b ++ walked c)
-    form_walked (AtMostOne es) = walked_all es
-    form_walked (Call f es) = walked_all es ++ handed_clock on_base f (pace_of_all n es)
-
-    pub walked_all : Trees → List Clock
-    walked_all None = []
-    walked_all (More e es) = walked e ++ walked_all es
-
-  -- the clocks that tick in the node
-  abbrev pub walked_node : List Clock
-  walked_node = flat_map (λ q. walked q.right) n.equations ++ flat_map (λ a. walked a.body) n.assertions
 
 -- What holds while nodes are walked over in an order in which each stands after those that it calls: of the first ones
 -- it is known whether they have a tick on their base clock, and how many others.

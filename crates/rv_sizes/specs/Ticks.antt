@@ -1,6 +1,7 @@
 -- The ticks of a node: the clocks on which a `->` stands in it, or in a copy of a node that it calls on that clock.
 use Rattle.std.specs.Prelude.{ℕ, zero, suc, ◌+◌, Bool, true, false, cond, List, [], ◌∷◌, ◌++◌, flat_map, length}
 use Rattle.rv_tree.specs.Tree.{Tree, NodeTree, ProgramTree}
+use Rattle.rv_tree.specs.Places.{Identifier}
 use Rattle.rv_types.specs.declared.typed.Clock.{Clock}
 use Rattle.rv_types.specs.declared.typed.Clock.TheVariants.{Base, On}
 use Rattle.rv_types.specs.Clocks.{pace, pace_of_all}
@@ -24,12 +25,15 @@ sites_of_clocks seen [] = []
 sites_of_clocks seen (Base ∷ ks) = sites_of_clocks seen ks
 sites_of_clocks seen (On c ∷ ks) = cond (is_in seen c) (sites_of_clocks seen ks) (c ∷ sites_of_clocks (c ∷ seen) ks)
 
--- The clocks with a tick, down to a number of levels of calls: those of the `->` of the node, and that of the
--- arguments of a call whose node has a tick on its base clock.
+-- The clocks with a tick, where it is known which nodes have a tick on their base clock: those of the `->` of the node,
+-- and that of the arguments of a call of such a node.
+abbrev pub ticking_where : NodeTree → (Identifier → Bool) → List Clock
+ticking_where n on_base = arrows n (node_parts n) ++ flat_map (λ c. cond (on_base c.name) (taken Base (pace_of_all n c.args) ∷ []) []) (calls n)
+
+-- the clocks with a tick, down to a number of levels of calls
 abbrev pub ticking : ProgramTree → ℕ → NodeTree → List Clock
 ticking p zero n = []
-ticking p (suc levels) n = arrows n (node_parts n)
-    ++ flat_map (λ c. cond (has_base (ticking p levels (node_of p c.name))) (taken Base (pace_of_all n c.args) ∷ []) []) (calls n)
+ticking p (suc levels) n = ticking_where n (λ f. has_base (ticking p levels (node_of p f)))
 
 -- the ticks of a node and of all copies below it, the base clock's left out
 abbrev pub tick_total : ProgramTree → ℕ → NodeTree → ℕ

@@ -3,28 +3,25 @@
 ghost use Rattle.std.specs.Prelude.{◌≡◌, ◌<◌, ◌^◌, ◌++◌, [], length, map, flat_map, slice_set, IfOk, OnOk};
 ghost use Rattle.rv_tree.specs.Bounded.{IsBounded};
 ghost use Rattle.rv_tree.specs.Places.{Identifier, flows};
-ghost use Rattle.rv_tree.specs.Tree.{ProgramTree, tree_of, trees, node_tree, equation_tree, assertion_tree, program_tree};
-ghost use Rattle.rv_types.specs.Clocks.{pace, pace_of_all, binary_pace, current_pace, seen, grounded, meet};
+ghost use Rattle.rv_tree.specs.Tree.{ProgramTree, node_tree, program_tree};
 ghost use Rattle.rv_types.specs.Instances.{node_of, name_at};
 ghost use Rattle.rv_types.specs.Names.{name_faults, repeated, decl_names, decls};
 ghost use Rattle.rv_sizes.specs.Capped.{capped};
 ghost use Rattle.rv_types.specs.WellFormed.{AreSited};
 ghost use Rattle.rv_calls.specs.Nodes.{AreOrderedNodes};
 ghost use Rattle.rv_types.specs.Variables.{ticks as tick_places};
-ghost use Rattle.rv_sizes.specs.Ticks.{has_base, sites_of_clocks, tick_total, own_ticks};
-ghost use Rattle.rv_instances.specs.ArrowClocks.{arrow_clock};
-ghost use Rattle.rv_sizes.specs.TickWalk.{handed_clock, is_new_site, with_clock, ticks_on_base, walked, walked_all, walked_node};
+ghost use Rattle.rv_instances.specs.Expanded.{told};
+ghost use Rattle.rv_instances.specs.Timed.{operator_listed};
+ghost use Rattle.rv_sizes.specs.Ticks.{has_base, sites_of_clocks, tick_total, ticking_where, own_ticks};
+ghost use Rattle.rv_sizes.specs.TickWalk.{arrow_told, handed_told, is_new_site, with_clock, ticks_on_base};
 
 use crate::measure::total_of;
 use crate::sites::Sites;
 use rv_base::{Many, Memory, Text};
-use rv_calls::{Names, Nodes, clock_of};
-use rv_instances::all_equal;
-use rv_tree::{Assertion, Equation, Expr, ExprForm, HEAVIEST, Node, Op, Program};
-use rv_types::{
-    Clock, NodeClocks, Pace, called_pace, choice_pace, delayed_pace, joined_pace, kept_pace,
-    node_clocks, operator_pace,
-};
+use rv_calls::{Names, Nodes};
+use rv_instances::{ClockedCall, ClockedOperator, Timed, all_equal, timed_of};
+use rv_tree::{HEAVIEST, Node, Op, Program};
+use rv_types::{Clock, node_clocks};
 use std::alloc::Global;
 
 /// The ticks of all instances are those of the nodes, summed along calls.
@@ -38,14 +35,6 @@ pub(crate) fn tick_counts()
 struct NodeTicks {
     bases: Many<bool>,
     own: Many<u64>,
-}
-
-/// What a walk over the expressions of a node needs to know.
-#[derive(Drop)]
-struct Walk<'a> {
-    clocks: &'a NodeClocks<'a>,
-    names: &'a Names,
-    bases: &'a Many<bool>,
 }
 
 /// The number of ticks of all instances below the main node but for main's own, or 2^40 where that is less.
@@ -93,9 +82,9 @@ fn add_node(
     requires bases { at < length ticks.old.bases }
     requires own { at < length ticks.old.own }
     ensures bases { OnOk result (ticks.new.bases ≡ slice_set ticks.old.bases at
-        (has_base (walked_node (node_tree node.now) (ticks_on_base names.now ticks.old.bases)))) }
+        (has_base (ticking_where (node_tree node.now) (ticks_on_base names.now ticks.old.bases)))) }
     ensures own { OnOk result (ticks.new.own ≡ slice_set ticks.old.own at
-        (capped (length (sites_of_clocks [] (walked_node (node_tree node.now) (ticks_on_base names.now ticks.old.bases)))))) }
+        (capped (length (sites_of_clocks [] (ticking_where (node_tree node.now) (ticks_on_base names.now ticks.old.bases)))))) }
 {
     let found = ticking_in(alloc, node, names, &ticks.bases)?;
     let own = different_sites(alloc, found.as_slice())?;
@@ -150,226 +139,53 @@ fn ticking_in(
 ) -> Result<Many<Clock>, Memory>
     requires different { repeated [] (decl_names (decls (node_tree node.now))) ≡ [] }
     requires few { length (flows (node_tree node.now)) < 2 ^ 32 }
-    ensures { IfOk result (λ found. found ≡ walked_node (node_tree node.now) (ticks_on_base names.now bases.now)) }
+    ensures { IfOk result (λ found. found ≡ ticking_where (node_tree node.now) (ticks_on_base names.now bases.now)) }
 {
     let clocks = node_clocks(alloc, node)?;
-    let walk = Walk {
-        clocks: &clocks,
-        names,
-        bases,
-    };
-    let mut found = Many::new(alloc);
-    gather_equations(&walk, node.equations.as_slice(), &mut found)?;
-    gather_assertions(&walk, node.assertions.as_slice(), &mut found)?;
+    let Timed {
+        calls,
+        operators,
+        ..
+    } = timed_of(alloc, &clocks)?;
+    let mut found = arrows_among(alloc, operators.as_slice())?;
+    add_handed(names, bases, calls.as_slice(), &mut found)?;
     Ok(found)
 }
 
-/// Adds those of right sides.
-fn gather_equations(
-    walk: &Walk,
-    equations: &[Equation],
+/// The clocks of the `->` among some operators.
+fn arrows_among(alloc: Global, operators: &[ClockedOperator]) -> Result<Many<Clock>, Memory>
+    ensures { IfOk result (λ found. found ≡ flat_map arrow_told (map operator_listed operators.now)) }
+{
+    let mut found = Many::new(alloc);
+    for operator in operators {
+        if matches!(operator.operator, Op::Arrow) {
+            found.push(operator.clock)?;
+        }
+    }
+    Ok(found)
+}
+
+/// Adds the clocks of those calls whose node is known to have a tick on its base clock.
+fn add_handed(
+    names: &Names,
+    bases: &Many<bool>,
+    calls: &[ClockedCall],
     found: &mut Many<Clock>,
 ) -> Result<(), Memory>
-    ensures { OnOk result (found.new ≡ found.old ++ flat_map (λ q. walked (node_tree walk.now.clocks.now.node.now)
-        (ticks_on_base walk.now.names.now walk.now.bases.now) q.right) (map equation_tree equations.now)) }
+    ensures { OnOk result (found.new ≡ found.old ++ flat_map (handed_told (ticks_on_base names.now bases.now)) (map told calls.now)) }
 {
-    for equation in equations {
-        gather(walk, &equation.right, found)?;
+    for call in calls {
+        if has_tick_on_base(names, bases, call.callee) {
+            found.push(call.clock)?;
+        }
     }
     Ok(())
-}
-
-/// Adds those of assertions.
-fn gather_assertions(
-    walk: &Walk,
-    assertions: &[Assertion],
-    found: &mut Many<Clock>,
-) -> Result<(), Memory>
-    ensures { OnOk result (found.new ≡ found.old ++ flat_map (λ a. walked (node_tree walk.now.clocks.now.node.now)
-        (ticks_on_base walk.now.names.now walk.now.bases.now) a.body) (map assertion_tree assertions.now)) }
-{
-    for assertion in assertions {
-        gather(walk, &assertion.body, found)?;
-    }
-    Ok(())
-}
-
-/// Adds those of an expression, and answers its pace. It calls itself for each operand, so as deep as the tree is:
-/// 20,301 levels at most, all but 200 of them left operands and operands of `when`. So little else stands in the frame
-/// of this function.
-#[cycle(gather)]
-fn gather(walk: &Walk, e: &Expr, found: &mut Many<Clock>) -> Result<Pace, Memory>
-    ensures pace { IfOk result (λ p. p ≡ pace (node_tree walk.now.clocks.now.node.now) (tree_of e.now)) }
-    ensures found { OnOk result (found.new ≡ found.old ++ walked (node_tree walk.now.clocks.now.node.now) (ticks_on_base walk.now.names.now walk.now.bases.now)
-        (tree_of e.now)) }
-{
-    match &e.form {
-        ExprForm::Binary(op, left, right) => {
-            let left = gather(walk, left, found)?;
-            gather_right(walk, *op, left, right, found)
-        }
-        ExprForm::When(operand, clock) => {
-            let operand = gather(walk, operand, found)?;
-            Ok(walk.clocks.when_pace(operand, &clock.text))
-        }
-        ExprForm::True | ExprForm::False | ExprForm::Number(_) => Ok(Pace::Free),
-        ExprForm::Named(name) => Ok(walk.clocks.name_pace(name)),
-        ExprForm::Not(operand) | ExprForm::Minus(operand) => gather_kept(walk, operand, found),
-        ExprForm::Pre(operand) => gather_delayed(walk, operand, found),
-        ExprForm::Current(operand) => gather_current(walk, operand, found),
-        ExprForm::If(condition, first, second) => {
-            let condition = gather(walk, condition, found)?;
-            let first = gather(walk, first, found)?;
-            gather_else(walk, condition, first, second, found)
-        }
-        ExprForm::AtMostOne(operands) => gather_all(walk, operands.as_slice(), found),
-        ExprForm::Call(callee, arguments) => {
-            gather_call(walk, callee, arguments.as_slice(), found)
-        }
-    }
-}
-
-/// Adds those of the right operand of an operator, whose left one has this pace, and that of the operator.
-#[cycle(gather)]
-#[inline(never)]
-fn gather_right(
-    walk: &Walk,
-    op: Op,
-    left: Pace,
-    right: &Expr,
-    found: &mut Many<Clock>,
-) -> Result<Pace, Memory>
-    ensures pace { IfOk result (λ p. p ≡ binary_pace op (seen left) (seen (pace (node_tree walk.now.clocks.now.node.now) (tree_of right.now)))) }
-    ensures found { OnOk result (found.new ≡ found.old ++ (walked (node_tree walk.now.clocks.now.node.now) (ticks_on_base walk.now.names.now walk.now.bases.now)
-        (tree_of right.now) ++ arrow_clock op (binary_pace op (seen left) (seen (pace (node_tree walk.now.clocks.now.node.now) (tree_of right.now)))))) }
-{
-    let right = gather(walk, right, found)?;
-    add_operator(op, operator_pace(op, left, right), found)
-}
-
-/// The same of an operator that keeps the clock of its operand.
-#[cycle(gather)]
-#[inline(never)]
-fn gather_kept(walk: &Walk, operand: &Expr, found: &mut Many<Clock>) -> Result<Pace, Memory>
-    ensures pace { IfOk result (λ p. p ≡ seen (pace (node_tree walk.now.clocks.now.node.now) (tree_of operand.now))) }
-    ensures found { OnOk result (found.new ≡ found.old ++ walked (node_tree walk.now.clocks.now.node.now) (ticks_on_base walk.now.names.now walk.now.bases.now)
-        (tree_of operand.now)) }
-{
-    Ok(kept_pace(gather(walk, operand, found)?))
-}
-
-/// The same of `pre`.
-#[cycle(gather)]
-#[inline(never)]
-fn gather_delayed(walk: &Walk, operand: &Expr, found: &mut Many<Clock>) -> Result<Pace, Memory>
-    ensures pace { IfOk result (λ p. p ≡ grounded (seen (pace (node_tree walk.now.clocks.now.node.now) (tree_of operand.now)))) }
-    ensures found { OnOk result (found.new ≡ found.old ++ walked (node_tree walk.now.clocks.now.node.now) (ticks_on_base walk.now.names.now walk.now.bases.now)
-        (tree_of operand.now)) }
-{
-    Ok(delayed_pace(gather(walk, operand, found)?))
-}
-
-/// The same of `current`.
-#[cycle(gather)]
-#[inline(never)]
-fn gather_current(walk: &Walk, operand: &Expr, found: &mut Many<Clock>) -> Result<Pace, Memory>
-    ensures pace { IfOk result (λ p. p ≡ current_pace (node_tree walk.now.clocks.now.node.now)
-        (seen (pace (node_tree walk.now.clocks.now.node.now) (tree_of operand.now)))) }
-    ensures found { OnOk result (found.new ≡ found.old ++ walked (node_tree walk.now.clocks.now.node.now) (ticks_on_base walk.now.names.now walk.now.bases.now)
-        (tree_of operand.now)) }
-{
-    let operand = gather(walk, operand, found)?;
-    Ok(walk.clocks.current_pace(operand))
-}
-
-/// The same of an `if`, whose condition and first part have these paces, from its second one.
-#[cycle(gather)]
-#[inline(never)]
-fn gather_else(
-    walk: &Walk,
-    condition: Pace,
-    first: Pace,
-    second: &Expr,
-    found: &mut Many<Clock>,
-) -> Result<Pace, Memory>
-    ensures pace { IfOk result (λ p. p ≡ meet (seen condition) (meet (seen first)
-        (seen (pace (node_tree walk.now.clocks.now.node.now) (tree_of second.now))))) }
-    ensures found { OnOk result (found.new ≡ found.old ++ walked (node_tree walk.now.clocks.now.node.now) (ticks_on_base walk.now.names.now walk.now.bases.now)
-        (tree_of second.now)) }
-{
-    let second = gather(walk, second, found)?;
-    Ok(choice_pace(condition, first, second))
-}
-
-/// The same of a call.
-#[cycle(gather)]
-#[inline(never)]
-fn gather_call(
-    walk: &Walk,
-    callee: &Text,
-    arguments: &[Expr],
-    found: &mut Many<Clock>,
-) -> Result<Pace, Memory>
-    ensures pace { IfOk result (λ p. p ≡ grounded (pace_of_all (node_tree walk.now.clocks.now.node.now) (trees (map tree_of arguments.now)))) }
-    ensures found { OnOk result (found.new ≡ found.old ++ (walked_all (node_tree walk.now.clocks.now.node.now)
-        (ticks_on_base walk.now.names.now walk.now.bases.now) (trees (map tree_of arguments.now))
-        ++ handed_clock (ticks_on_base walk.now.names.now walk.now.bases.now) callee.now
-        (pace_of_all (node_tree walk.now.clocks.now.node.now) (trees (map tree_of arguments.now))))) }
-{
-    let together = gather_all(walk, arguments, found)?;
-    add_call(walk, callee, together, found)
-}
-
-/// Adds those of some expressions, and answers their pace together.
-#[cycle(gather)]
-#[inline(never)]
-fn gather_all(walk: &Walk, expressions: &[Expr], found: &mut Many<Clock>) -> Result<Pace, Memory>
-    ensures pace { IfOk result (λ p. p ≡ pace_of_all (node_tree walk.now.clocks.now.node.now) (trees (map tree_of expressions.now))) }
-    ensures found { OnOk result (found.new ≡ found.old ++ walked_all (node_tree walk.now.clocks.now.node.now)
-        (ticks_on_base walk.now.names.now walk.now.bases.now) (trees (map tree_of expressions.now))) }
-{
-    let mut together = Pace::Free;
-    for e in expressions {
-        let one = gather(walk, e, found)?;
-        together = joined_pace(together, one);
-    }
-    Ok(together)
-}
-
-/// Adds the clock of an operator of this pace where it is a `->`, and answers the pace.
-#[inline(never)]
-fn add_operator(op: Op, pace: Pace, found: &mut Many<Clock>) -> Result<Pace, Memory>
-    ensures pace { IfOk result (λ p. p ≡ pace) }
-    ensures found { OnOk result (found.new ≡ found.old ++ arrow_clock op pace) }
-{
-    if matches!(op, Op::Arrow) {
-        found.push(clock_of(pace))?;
-    }
-    Ok(pace)
-}
-
-/// Adds the clock of the arguments of a call, of this pace, where the node that is called has a tick on its base clock,
-/// and answers the pace of the call.
-#[inline(never)]
-fn add_call(
-    walk: &Walk,
-    callee: &Text,
-    arguments: Pace,
-    found: &mut Many<Clock>,
-) -> Result<Pace, Memory>
-    ensures pace { IfOk result (λ p. p ≡ grounded arguments) }
-    ensures found { OnOk result (found.new ≡ found.old ++ handed_clock (ticks_on_base walk.now.names.now walk.now.bases.now) callee.now arguments) }
-{
-    if has_tick_on_base(walk, callee) {
-        found.push(clock_of(arguments))?;
-    }
-    Ok(called_pace(arguments))
 }
 
 /// Whether the node of a name is known to have a tick on its base clock.
-fn has_tick_on_base(walk: &Walk, callee: &Text) -> bool
-    ensures { result ≡ ticks_on_base walk.now.names.now walk.now.bases.now callee.now }
+fn has_tick_on_base(names: &Names, bases: &Many<bool>, callee: &Text) -> bool
+    ensures { result ≡ ticks_on_base names.now bases.now callee.now }
 {
-    let number = walk.names.place(callee);
-    number < walk.bases.len() && *walk.bases.at(number)
+    let number = names.place(callee);
+    number < bases.len() && *bases.at(number)
 }

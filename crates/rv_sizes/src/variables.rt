@@ -91,6 +91,7 @@ fn order_test_total(
     main: u32,
     nodes: &Nodes,
 ) -> Result<u64, Memory>
+    requires bounded { IsBounded (program_tree p.now) }
     requires tables { AreTables (program_tree p.now) tables.now }
     requires named { name_faults (program_tree p.now) ≡ [] }
     requires well { AreWell (program_tree p.now) }

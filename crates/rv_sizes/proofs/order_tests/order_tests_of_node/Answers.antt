@@ -1,22 +1,19 @@
-use Rattle.std.proofs.Common.{List, map, ◌∙◌, ap}
-use Rattle.rv_tree.specs.declared.tree.Equation.{Equation}
-use Rattle.rv_tree.specs.declared.tree.Assertion.{Assertion}
-use Rattle.rv_tree.specs.Tree.{EquationTree, AssertionTree, node_tree, equation_tree, assertion_tree}
+use Rattle.std.proofs.Common.{◌≡◌, List, map, ◌∙◌, ap}
+use Rattle.rv_tree.specs.declared.tree.Node as declared
+use Rattle.rv_tree.specs.Tree.{node_tree}
 use Rattle.rv_types.specs.Readings.{view_of}
 use Rattle.rv_types.specs.Tables.{scope_of}
-use Rattle.rv_types.specs.Variables.{total}
-use Rattle.rv_sizes.specs.Tests.{tests}
-use Rattle.rv_sizes.specs.Capped.{capped}
-use Rattle.rv_sizes.proofs.Tested.{capped_tests}
+use Rattle.rv_instances.specs.Timed.{operator_listed, operators_told}
+use Rattle.rv_instances.specs.declared.timed.ClockedOperator.{ClockedOperator}
+use Rattle.rv_sizes.proofs.Tested.{tested}
 use Rattle.rv_sizes.proofs.order_tests.order_tests_of_node.Goals as goal
 
 pub returns : goal.returns
-returns c p t different formed typed =
+returns c p t formed typed =
     let n = node_tree c.args.node.now in
-    let s = scope_of (view_of c.args.tables.now c.in_ok-own.own) in
-    c.capped_sum.ensures
-    ∙ capped_tests p n s c.tests_in_equations.result c.tests_in_assertions.result (c.in_ok-own.ensures.scope p t different) formed typed
-    (c.tests_in_equations.ensures ∙ ap (λ (es : List Equation). capped (total (λ (q : EquationTree). tests s q.right) (map equation_tree es)))
-    c.as_slice.ensures)
-    (c.tests_in_assertions.ensures ∙ ap (λ (es : List Assertion). capped (total (λ (a : AssertionTree). tests s a.body) (map assertion_tree es)))
-    c.as_slice-2.ensures)
+    let operators : map operator_listed c.as_slice.result.now ≡ operators_told n =
+    ap (λ (os : List ClockedOperator). map operator_listed os) c.as_slice.ensures ∙ c.in_ok-operators.ensures.operators
+    ∙ ap (λ (m : declared.Node). operators_told (node_tree m)) c.in_ok-clocks.ensures in
+    c.tests_among.ensures
+    ∙ tested p n formed typed (scope_of (view_of c.args.tables.now c.in_ok-own.own)) (map operator_listed c.as_slice.result.now)
+    (c.in_ok-own.ensures.scope p t c.requires.different) operators

@@ -1,8 +1,7 @@
-use Rattle.std.proofs.Common.{◌≤◌, ◌≡◌, length, refl, ap, arith}
-use Rattle.rv_base.specs.Limits.{source_limit}
-use Rattle.rv_tree.specs.Places.{flows}
+use Rattle.std.proofs.Common.{◌≡◌, length, refl, ap, arith}
 use Rattle.rv_tree.specs.Tree.{node_tree, program_tree}
 use Rattle.rv_instances.proofs.Known.{flows_once}
+use Rattle.rv_sizes.proofs.EachNode.{flows_few}
 use Rattle.rv_sizes.proofs.TickSteps.{ticked_end, read_among, read_step}
 use Rattle.rv_sizes.proofs.ticks.ticks_of.Goals as goal
 
@@ -16,10 +15,9 @@ add_node-requires-clause-different c =
 pub add_node-requires-clause-few : goal.add_node-requires-clause-few
 add_node-requires-clause-few c =
     let p = program_tree c.args.p.now in
-    let few : length (flows (node_tree c.at.result.now)) ≤ source_limit = c.requires.bounded.node_flows (node_tree c.at.result.now)
+    flows_few p c.requires.bounded (node_tree c.at.result.now)
     (read_among p c.requires.named c.args.nodes.now.order c.requires.nodes.order c.args.p.now.nodes refl c.as_slice-node-items.result.now
-    c.as_slice-node-items.ensures c.loop-node.node-index c.loop-node-test.true c.at.result.now c.at.ensures.value) in
-    omega (arith, few)
+    c.as_slice-node-items.ensures c.loop-node.node-index c.loop-node-test.true c.at.result.now c.at.ensures.value)
 
 pub loop-node-preserved : goal.loop-node-preserved
 loop-node-preserved c =
