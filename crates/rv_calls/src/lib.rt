@@ -13,7 +13,6 @@ mod fault;
 mod finishing;
 mod graph;
 mod names;
-mod paces;
 mod reach;
 mod recursion;
 
@@ -22,5 +21,4 @@ pub use expansion::instances;
 pub use fault::{CauseFault, Quantity};
 pub use graph::{Sorted, sort};
 pub use names::Names;
-pub use paces::clock_of;
 pub use recursion::{Nodes, check};
