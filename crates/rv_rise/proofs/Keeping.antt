@@ -18,7 +18,11 @@ use Rattle.rv_rise.specs.Shown.{IsShownAfter}
 use Rattle.rv_rise.specs.Limits.{IsLoosened}
 use Rattle.rv_rise.specs.Still.{IsOwn, AreStill, IsStillSide}
 use Rattle.rv_cases.proofs.Differing.{no_form as none_form}
-use Rattle.rv_proofs.proofs.Rising.{points as units}
+
+-- 1 at a column, 0 at those before
+units : ℕ → List ℤ
+units zero = pos 1 ∷ []
+units (suc n) = pos 0 ∷ units n
 
 units-here : (n : ℕ) → number n (units n) ≡ pos 1
 unfolding units
