@@ -1,6 +1,6 @@
 -- Lists whose elements are told apart by a key.
-use Rattle.std.proofs.Common.{◌≡◌, inl, inr, ℕ, suc, ◌+◌, ◌<◌, List, [], ◌∷◌, ◌++◌, map, flat_map, length, get_or, sym, ◌∙◌, ap, arith}
-use Rattle.std.proofs.lemmas.List.Elements.{Contains-append_left, Contains-append_right, Contains-append_cases}
+use Rattle.std.proofs.Common.{◌≡◌, inl, inr, ℕ, suc, ◌<◌, List, [], ◌∷◌, ◌++◌, map, flat_map, length, get_or, sym, ◌∙◌, ap, arith}
+use Rattle.std.proofs.lemmas.List.Elements.{Contains-append_cases}
 use Rattle.std.specs.List.{Contains}
 use Rattle.rv_types.proofs.Members.{at_head, cons_cases as head_or_tail, in_tail, nothing_in as none_in, of_flat_map as from_flat_map}
 
@@ -40,7 +40,7 @@ apart_map {X = X} {Y = Y} key g (x ∷ xs) p = (first, apart_map key g xs p.1)
     first y w e = let r = from_map xs y w in p.0 r.0 r.1 (e ∙ ap key (sym r.2))
 
 -- of two lists one after the other
-pub apart_both : {X K : Type 0} (key : X → K) (xs ys : List X) → IsApart key xs → IsApart key ys
+apart_both : {X K : Type 0} (key : X → K) (xs ys : List X) → IsApart key xs → IsApart key ys
     → ((x y : X) → Contains xs x → Contains ys y → key x ≡ key y → ⊥) → IsApart key (xs ++ ys)
 apart_both key [] ys p q cross = q
 apart_both {X = X} key (x ∷ xs) ys p q cross = (first, apart_both key xs ys p.1 q (λ a b v w. cross a b (in_tail x xs a v) w))
@@ -50,21 +50,6 @@ apart_both {X = X} key (x ∷ xs) ys p q cross = (first, apart_both key xs ys p.
       | inl v ↦ p.0 y v e
       | inr v ↦ cross x y (at_head x xs) v e
     ]
-
-pub apart_left : {X K : Type 0} (key : X → K) (xs ys : List X) → IsApart key (xs ++ ys) → IsApart key xs
-apart_left key [] ys p = tt
-apart_left key (x ∷ xs) ys p = (λ y w e. p.0 y (Contains-append_left xs ys y w) e, apart_left key xs ys p.1)
-
-pub apart_right : {X K : Type 0} (key : X → K) (xs ys : List X) → IsApart key (xs ++ ys) → IsApart key ys
-apart_right key [] ys p = p
-apart_right key (x ∷ xs) ys p = apart_right key xs ys p.1
-
-pub apart_across : {X K : Type 0} (key : X → K) (xs ys : List X) → IsApart key (xs ++ ys) → (x y : X) → Contains xs x → Contains ys y → key x ≡ key y → ⊥
-apart_across key [] ys p x y v w e = none_in x v
-apart_across key (z ∷ xs) ys p x y v w e = elim (head_or_tail z xs x v) [
-  | inl is ↦ p.0 y (Contains-append_right xs ys y w) (ap key is ∙ e)
-  | inr rest ↦ apart_across key xs ys p.1 x y rest w e
-]
 
 -- of the lists of elements that are apart themselves
 pub apart_flat : {X Y J K : Type 0} (outer : X → J) (key : Y → K) (g : X → List Y) (xs : List X) → IsApart outer xs

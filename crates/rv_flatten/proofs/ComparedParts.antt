@@ -1,340 +1,239 @@
--- The comparisons of integers that are found in the expressions of a node are those of its parts, and of one site there
--- is one.
-use Rattle.std.proofs.Common.{◌≡◌, inl, inr, ℕ, ◌<◌, Bool, true, false, ◌&&◌, cond, List, [], ◌∷◌, ◌++◌, map, flat_map, length, get_or, refl, sym, ◌∙◌, ap}
+-- The comparisons of integers of a node are those that its parts are, and of one site there is one.
+use Rattle.std.proofs.Common.{◌≡◌, inl, inr, ℕ, ◌+◌, ◌≤◌, Bool, true, false, ◌&&◌, cond, nat_eq, List, [], ◌∷◌, ◌++◌, flat_map, refl, sym, ◌∙◌, ap}
 use Rattle.std.proofs.Common.{subst, arith, unwrap_or, Option, Some}
 use Rattle.std.proofs.Common.{None as Nothing}
-use Rattle.std.proofs.lemmas.Bool.{cases_order}
-use Rattle.std.proofs.lemmas.List.{map-append, length-map, get_or-map, get_or_default}
-use Rattle.std.proofs.lemmas.List.Concat.{flat_map-append}
-use Rattle.std.proofs.lemmas.List.Elements.{Contains-append_left, Contains-append_right, Contains-append_cases}
+use Rattle.std.proofs.lemmas.Bool.Decides.{nat_tests}
+use Rattle.std.proofs.lemmas.Grind.{flat_map-append}
 use Rattle.std.specs.List.{Contains}
 use Rattle.rv_tree.specs.declared.tree.Op.{Op}
 use Rattle.rv_tree.specs.Delays.{IsNumbered}
 use Rattle.rv_tree.specs.Sites.{is_comparison}
 use Rattle.rv_tree.specs.SitedParts as sited
 use Rattle.rv_tree.specs.SitedParts.{SitedPart, part}
-use Rattle.rv_tree.specs.Tree.{Tree, Node, Form, True, False, Number, Named, Not, Minus, Pre, Current, When, Binary, If, AtMostOne, Call, Trees, None, More}
+use Rattle.rv_tree.specs.Tree.{Tree, Node, True, False, Number, Named, Not, Minus, Pre, Current, When, Binary, If, AtMostOne, Call, Trees, None, More}
 use Rattle.rv_tree.specs.Tree.{EquationTree, AssertionTree, NodeTree, ProgramTree}
 use Rattle.rv_types.specs.declared.typed.Kind.TheVariants as kind
 use Rattle.rv_types.specs.Scopes.{node_scope}
 use Rattle.rv_types.specs.Types.{Scope, kind_of}
-use Rattle.rv_types.specs.Variables.{is_integer, parts, form_parts, parts_of_all, node_parts}
+use Rattle.rv_types.specs.Variables.{total, is_integer, parts, parts_of_all, node_parts}
+use Rattle.rv_agreement.specs.Programs.{is_test}
+use Rattle.rv_instances.specs.Timed.{own_operator, operators_told}
 use Rattle.rv_flatten.specs.declared.comparisons.Tested.{Tested}
-use Rattle.rv_flatten.specs.Compared.{own_tests, tests, tests_of_all, tests_in_equations, tests_in_assertions, tests_in}
+use Rattle.rv_flatten.specs.Compared.{own_test, tests_in}
+use Rattle.rv_flatten.proofs.Apart.{IsApart, apart_told}
+use Rattle.rv_flatten.proofs.CountedVariables.{total_joined}
+use Rattle.rv_agreement.proofs.Controls.{no_flag}
+use Rattle.rv_instances.proofs.TimedParts.{node_operators}
 use Rattle.rv_types.proofs.Members.{at_head, cons_cases as head_or_tail, in_flat_map, in_tail, nothing_in as none_in, of_flat_map as from_flat_map}
 use Rattle.rv_types.proofs.TypedParts.{both_true as both_hold}
 
 -- What is found.
 
-module _ (s : Scope) where
-  -- the comparison that an expression itself is
+flat_again : {X Y Z : Type 0} (f : X → List Y) (g : Y → List Z) (xs : List X) → flat_map g (flat_map f xs) ≡ flat_map (λ x. flat_map g (f x)) xs
+flat_again f g [] = refl
+flat_again f g (x ∷ xs) = flat_map-append g (f x) (flat_map f xs) ∙ ap (λ l. flat_map g (f x) ++ l) (flat_again f g xs)
+
+module _ (n : NodeTree) (compares : Op → Tree → Bool) where
+  -- the comparison that a part itself is
   abbrev pub own_of : Tree → List Tested
-  own_of (Node at site (Binary o a b)) = own_tests s site o a
-  own_of _ = []
+  own_of e = flat_map (own_test compares) (own_operator n e)
 
-  mutual
-    pub tests_are : (e : Tree) → tests s e ≡ flat_map own_of (parts e)
-    tests_are (Node at site True) = refl
-    tests_are (Node at site False) = refl
-    tests_are (Node at site (Number n)) = refl
-    tests_are (Node at site (Named x)) = refl
-    tests_are (Node at site (Not e)) = tests_are e
-    tests_are (Node at site (Minus e)) = tests_are e
-    tests_are (Node at site (Pre e)) = tests_are e
-    tests_are (Node at site (Current e)) = tests_are e
-    tests_are (Node at site (When e c)) = tests_are e
-    tests_are (Node at site (Binary o a b)) =
-        ap (λ l. own_tests s site o a ++ l) ((λ i. tests_are a i ++ tests_are b i) ∙ sym (flat_map-append own_of (parts a) (parts b)))
-    tests_are (Node at site (If a b c)) =
-        (λ i. tests_are a i ++ (tests_are b i ++ tests_are c i))
-        ∙ ap (λ l. flat_map own_of (parts a) ++ l) (sym (flat_map-append own_of (parts b) (parts c)))
-        ∙ sym (flat_map-append own_of (parts a) (parts b ++ parts c))
-    tests_are (Node at site (AtMostOne es)) = all_are es
-    tests_are (Node at site (Call f es)) = all_are es
+  pub node_is : flat_map (own_test compares) (operators_told n) ≡ flat_map own_of (node_parts n)
+  node_is = ap (λ l. flat_map (own_test compares) l) (node_operators n) ∙ flat_again (own_operator n) (own_test compares) (node_parts n)
 
-    pub all_are : (es : Trees) → tests_of_all s es ≡ flat_map own_of (parts_of_all es)
-    all_are None = refl
-    all_are (More e es) = (λ i. tests_are e i ++ all_are es i) ∙ sym (flat_map-append own_of (parts e) (parts_of_all es))
+-- An expression that is a comparison of integers.
+pub record IsTest (s : Scope) (e : Tree) (t : Tested) : Type 0 where
+  pub at : ℕ
+  pub left : Tree
+  pub right : Tree
+  pub is : e ≡ Node at (Some t.site) (Binary t.operator left right)
+  pub compares : is_comparison t.operator ≡ true
+  pub integer : is_integer (unwrap_or (kind_of s left) kind.Bool) ≡ true
 
-  pub equations_are : (qs : List EquationTree) → tests_in_equations s qs ≡ flat_map own_of (flat_map (λ (q : EquationTree). parts q.right) qs)
-  equations_are [] = refl
-  equations_are (q ∷ qs) =
-      (λ i. tests_are q.right i ++ equations_are qs i) ∙ sym (flat_map-append own_of (parts q.right) (flat_map (λ (q : EquationTree). parts q.right) qs))
-
-  pub assertions_are : (rest : List AssertionTree) → tests_in_assertions s rest ≡ flat_map own_of (flat_map (λ (a : AssertionTree). parts a.body) rest)
-  assertions_are [] = refl
-  assertions_are (a ∷ rest) =
-      (λ i. tests_are a.body i ++ assertions_are rest i) ∙ sym (flat_map-append own_of (parts a.body) (flat_map (λ (a : AssertionTree). parts a.body) rest))
-
-  -- a comparison of integers is what is found of it, and nothing else is found
-  own_found : (at k : ℕ) (o : Op) (a b : Tree) → is_comparison o ≡ true → is_integer (unwrap_or (kind_of s a) kind.Bool) ≡ true
-      → Contains {X = Tested} (own_of (Node at (Some k) (Binary o a b))) (record { site = k; operator = o })
-  own_found at k o a b c i =
-      let t : Tested = record { site = k; operator = o } in
-      subst (λ (x : Bool). Contains (cond x (t ∷ []) []) t) (λ j. sym c j && sym i j) (at_head t [])
-
-  -- An expression that is a comparison of integers.
-  pub record IsTest (e : Tree) (t : Tested) : Type 0 where
-    pub at : ℕ
-    pub left : Tree
-    pub right : Tree
-    pub is : e ≡ Node at (Some t.site) (Binary t.operator left right)
-    pub compares : is_comparison t.operator ≡ true
-    pub integer : is_integer (unwrap_or (kind_of s left) kind.Bool) ≡ true
-
-  pub own_is : (e : Tree) (t : Tested) → Contains (own_of e) t → IsTest e t
-  own_is (Node at site True) t w = none_in t w
-  own_is (Node at site False) t w = none_in t w
-  own_is (Node at site (Number n)) t w = none_in t w
-  own_is (Node at site (Named x)) t w = none_in t w
-  own_is (Node at site (Not e)) t w = none_in t w
-  own_is (Node at site (Minus e)) t w = none_in t w
-  own_is (Node at site (Pre e)) t w = none_in t w
-  own_is (Node at site (Current e)) t w = none_in t w
-  own_is (Node at site (When e c)) t w = none_in t w
+module _ (p : ProgramTree) (n : NodeTree) where
+  own_is : (e : Tree) (t : Tested) → Contains (own_of n (is_test (node_scope p n)) e) t → IsTest (node_scope p n) e t
   own_is (Node at Nothing (Binary o a b)) t w = none_in t w
-  own_is (Node at (Some k) (Binary o a b)) t w = tested (is_comparison o && is_integer (unwrap_or (kind_of s a) kind.Bool)) refl w
+  own_is (Node at (Some k) (Binary o a b)) t w = tested (is_comparison o && is_integer (unwrap_or (kind_of (node_scope p n) a) kind.Bool)) refl w
     where
-      tested : (x : Bool) → (is_comparison o && is_integer (unwrap_or (kind_of s a) kind.Bool)) ≡ x
-          → Contains {X = Tested} (cond x (record { site = k; operator = o } ∷ []) []) t → IsTest (Node at (Some k) (Binary o a b)) t
+      tested : (x : Bool) → (is_comparison o && is_integer (unwrap_or (kind_of (node_scope p n) a) kind.Bool)) ≡ x
+          → Contains {X = Tested} (cond x (record { site = k; operator = o } ∷ []) [] ++ []) t → IsTest (node_scope p n) (Node at (Some k) (Binary o a b)) t
       tested true e w = elim (head_or_tail (record { site = k; operator = o }) [] t w) [
-        | inl is ↦ subst (λ (t : Tested). IsTest (Node at (Some k) (Binary o a b)) t) is
-            (let both = both_hold (is_comparison o) (is_integer (unwrap_or (kind_of s a) kind.Bool)) e in
+        | inl is ↦ subst (λ (t : Tested). IsTest (node_scope p n) (Node at (Some k) (Binary o a b)) t) is
+            (let both = both_hold (is_comparison o) (is_integer (unwrap_or (kind_of (node_scope p n) a) kind.Bool)) e in
             record { at = at; left = a; right = b; is = refl; compares = both.0; integer = both.1 })
         | inr none ↦ none_in t none
       ]
       tested false e w = none_in t w
-  own_is (Node at site (If a b c)) t w = none_in t w
-  own_is (Node at site (AtMostOne es)) t w = none_in t w
-  own_is (Node at site (Call f es)) t w = none_in t w
-
-module _ (p : ProgramTree) (n : NodeTree) where
-  pub node_is : tests_in p n ≡ flat_map (own_of (node_scope p n)) (node_parts n)
-  node_is =
-      (λ i. equations_are (node_scope p n) n.equations i ++ assertions_are (node_scope p n) n.assertions i)
-      ∙ sym (flat_map-append (own_of (node_scope p n)) (flat_map (λ (q : EquationTree). parts q.right) n.equations)
-      (flat_map (λ (a : AssertionTree). parts a.body) n.assertions))
+  own_is (Node at site _) t w = none_in t w
 
   pub test_found : (at k : ℕ) (o : Op) (a b : Tree) → Contains (node_parts n) (Node at (Some k) (Binary o a b)) → is_comparison o ≡ true
       → is_integer (unwrap_or (kind_of (node_scope p n) a) kind.Bool) ≡ true
       → Contains {X = Tested} (tests_in p n) (record { site = k; operator = o })
   test_found at k o a b w c i =
       let t : Tested = record { site = k; operator = o } in
-      subst (λ (l : List Tested). Contains l t) (sym node_is)
-      (in_flat_map (own_of (node_scope p n)) (node_parts n) (Node at (Some k) (Binary o a b)) t w (own_found (node_scope p n) at k o a b c i))
+      let own = subst (λ (x : Bool). Contains (cond x (t ∷ []) [] ++ []) t) (λ j. sym c j && sym i j) (at_head t []) in
+      subst (λ (l : List Tested). Contains l t) (sym (node_is n (is_test (node_scope p n))))
+      (in_flat_map (own_of n (is_test (node_scope p n))) (node_parts n) (Node at (Some k) (Binary o a b)) t w own)
 
   pub found_test : (t : Tested) → Contains (tests_in p n) t → (e : Tree) × Contains (node_parts n) e × IsTest (node_scope p n) e t
   found_test t w =
-      let r = from_flat_map (own_of (node_scope p n)) (node_parts n) t (subst (λ (l : List Tested). Contains l t) node_is w) in
-      (r.0, r.1, own_is (node_scope p n) r.0 t r.2)
+      let r = from_flat_map (own_of n (is_test (node_scope p n))) (node_parts n) t
+      (subst (λ (l : List Tested). Contains l t) (node_is n (is_test (node_scope p n))) w) in
+      (r.0, r.1, own_is r.0 t r.2)
 
--- What has a site, as a whole.
+-- The comparisons with a site that is marked are no more than what has such a site.
+module _ (marked : Option ℕ → Bool) where
+  abbrev pub sited_count : SitedPart → ℕ
+  sited_count q = cond (marked q.site) 1 0
 
-pub record Marked : Type 0 where
-  pub at_site : SitedPart
-  pub whole : Tree
+  abbrev pub own_count : Tree → ℕ
+  own_count (Node at site (Binary o a b)) = total sited_count (sited.comparison o at site)
+  own_count _ = 0
 
-abbrev pub marked_comparison : Op → ℕ → Option ℕ → Tree → List Marked
-marked_comparison o at site e = cond (is_comparison o) (record { at_site = part at site; whole = e } ∷ []) []
-
-abbrev mutual
-  pub marks : Tree → List Marked
-  marks (Node at site form) = form_marks at site form
-
-  pub form_marks : ℕ → Option ℕ → Form → List Marked
-  form_marks at site True = []
-  form_marks at site False = []
-  form_marks at site (Number n) = []
-  form_marks at site (Named x) = []
-  form_marks at site (Not t) = marks t
-  form_marks at site (Minus t) = marks t
-  form_marks at site (Pre t) = record { at_site = part at site; whole = Node at site (Pre t) } ∷ marks t
-  form_marks at site (Current t) = record { at_site = part at site; whole = Node at site (Current t) } ∷ marks t
-  form_marks at site (When t c) = marks t
-  form_marks at site (Binary o a b) = marks a ++ (marked_comparison o at site (Node at site (Binary o a b)) ++ marks b)
-  form_marks at site (If a b c) = marks a ++ (marks b ++ marks c)
-  form_marks at site (AtMostOne ts) = marks_of_all ts
-  form_marks at site (Call f ts) = record { at_site = part at site; whole = Node at site (Call f ts) } ∷ marks_of_all ts
-
-  pub marks_of_all : Trees → List Marked
-  marks_of_all None = []
-  marks_of_all (More t ts) = marks t ++ marks_of_all ts
-
-abbrev pub equation_marks : List EquationTree → List Marked
-equation_marks [] = []
-equation_marks (q ∷ qs) = marks q.right ++ equation_marks qs
-
-abbrev pub assertion_marks : List AssertionTree → List Marked
-assertion_marks [] = []
-assertion_marks (a ∷ rest) = record { at_site = part a.at (Some a.site); whole = a.body } ∷ (marks a.body ++ assertion_marks rest)
-
-abbrev pub node_marks : NodeTree → List Marked
-node_marks n = equation_marks n.equations ++ assertion_marks n.assertions
-
-abbrev pub parts_seen : List Marked → List SitedPart
-parts_seen ms = map (λ (m : Marked). m.at_site) ms
-
-seen_both : (xs ys : List Marked) → parts_seen (xs ++ ys) ≡ parts_seen xs ++ parts_seen ys
-seen_both xs ys = map-append (λ (m : Marked). m.at_site) xs ys
-
-comparison_seen : (o : Op) (at : ℕ) (site : Option ℕ) (e : Tree) → parts_seen (marked_comparison o at site e) ≡ sited.comparison o at site
-comparison_seen o at site e = tested (is_comparison o)
-  where
-    tested : (b : Bool) → parts_seen (cond b (record { at_site = part at site; whole = e } ∷ []) []) ≡ cond b (part at site ∷ []) []
-    tested true = refl
-    tested false = refl
-
-mutual
-  marks_seen : (e : Tree) → parts_seen (marks e) ≡ sited.parts e
-  marks_seen (Node at site True) = refl
-  marks_seen (Node at site False) = refl
-  marks_seen (Node at site (Number n)) = refl
-  marks_seen (Node at site (Named x)) = refl
-  marks_seen (Node at site (Not t)) = marks_seen t
-  marks_seen (Node at site (Minus t)) = marks_seen t
-  marks_seen (Node at site (Pre t)) = ap (λ l. part at site ∷ l) (marks_seen t)
-  marks_seen (Node at site (Current t)) = ap (λ l. part at site ∷ l) (marks_seen t)
-  marks_seen (Node at site (When t c)) = marks_seen t
-  marks_seen (Node at site (Binary o a b)) =
-      let own = marked_comparison o at site (Node at site (Binary o a b)) in
-      seen_both (marks a) (own ++ marks b)
-      ∙ ap (λ l. parts_seen (marks a) ++ l) (seen_both own (marks b))
-      ∙ (λ i. marks_seen a i ++ (comparison_seen o at site (Node at site (Binary o a b)) i ++ marks_seen b i))
-  marks_seen (Node at site (If a b c)) =
-      seen_both (marks a) (marks b ++ marks c)
-      ∙ ap (λ l. parts_seen (marks a) ++ l) (seen_both (marks b) (marks c))
-      ∙ (λ i. marks_seen a i ++ (marks_seen b i ++ marks_seen c i))
-  marks_seen (Node at site (AtMostOne ts)) = all_seen ts
-  marks_seen (Node at site (Call f ts)) = ap (λ l. part at site ∷ l) (all_seen ts)
-
-  all_seen : (ts : Trees) → parts_seen (marks_of_all ts) ≡ sited.trees_parts ts
-  all_seen None = refl
-  all_seen (More t ts) = seen_both (marks t) (marks_of_all ts) ∙ (λ i. marks_seen t i ++ all_seen ts i)
-
-equations_seen : (qs : List EquationTree) → parts_seen (equation_marks qs) ≡ sited.equation_parts qs
-equations_seen [] = refl
-equations_seen (q ∷ qs) = seen_both (marks q.right) (equation_marks qs) ∙ (λ i. marks_seen q.right i ++ equations_seen qs i)
-
-assertions_seen : (rest : List AssertionTree) → parts_seen (assertion_marks rest) ≡ sited.assertion_parts rest
-assertions_seen [] = refl
-assertions_seen (a ∷ rest) =
-    ap (λ l. part a.at (Some a.site) ∷ l) (seen_both (marks a.body) (assertion_marks rest) ∙ (λ i. marks_seen a.body i ++ assertions_seen rest i))
-
-pub node_seen : (n : NodeTree) → parts_seen (node_marks n) ≡ sited.node_parts n
-node_seen n = seen_both (equation_marks n.equations) (assertion_marks n.assertions) ∙ (λ i. equations_seen n.equations i ++ assertions_seen n.assertions i)
-
--- Each comparison is marked.
-module _ (at : ℕ) (site : Option ℕ) (o : Op) (a b : Tree) (compares : is_comparison o ≡ true) where
-  abbrev pub it : Tree
-  it = Node at site (Binary o a b)
-
-  abbrev pub its : Marked
-  its = record { at_site = part at site; whole = it }
-
-  -- the expression itself
-  itself : (e : Tree) → e ≡ it → Contains (marks e) its
-  itself e is =
-      subst (λ t. Contains (marks t) its) (sym is)
-      (Contains-append_right (marks a) (marked_comparison o at site it ++ marks b) its
-      (Contains-append_left (marked_comparison o at site it) (marks b) its
-      (subst (λ (t : Bool). Contains (cond t (its ∷ []) []) its) (sym compares) (at_head its []))))
+  both_counted : (xs ys : List Tree) (ps qs : List SitedPart) → total own_count xs ≤ total sited_count ps → total own_count ys ≤ total sited_count qs
+      → total own_count (xs ++ ys) ≤ total sited_count (ps ++ qs)
+  both_counted xs ys ps qs h k =
+      let a = total_joined own_count xs ys in
+      let b = total_joined sited_count ps qs in
+      omega (arith, h, k, a, b)
 
   mutual
-    pub marked : (e : Tree) → Contains (parts e) it → Contains (marks e) its
-    marked (Node k s form) w = elim (head_or_tail (Node k s form) (form_parts form) it w) [
-      | inl is ↦ itself (Node k s form) is
-      | inr below ↦ form_marked k s form below
-    ]
+    counted : (e : Tree) → total own_count (parts e) ≤ total sited_count (sited.parts e)
+    counted (Node at site True) = omega arith
+    counted (Node at site False) = omega arith
+    counted (Node at site (Number v)) = omega arith
+    counted (Node at site (Named x)) = omega arith
+    counted (Node at site (Not e)) = let h = counted e in omega (arith, h)
+    counted (Node at site (Minus e)) = let h = counted e in omega (arith, h)
+    counted (Node at site (Pre e)) = let h = counted e in omega (arith, h)
+    counted (Node at site (Current e)) = let h = counted e in omega (arith, h)
+    counted (Node at site (When e c)) = let h = counted e in omega (arith, h)
+    counted (Node at site (Binary o a b)) =
+        let own = sited.comparison o at site in
+        let x = counted a in
+        let y = counted b in
+        let i = total_joined own_count (parts a) (parts b) in
+        let j = total_joined sited_count (sited.parts a) (own ++ sited.parts b) in
+        let k = total_joined sited_count own (sited.parts b) in
+        omega (arith, x, y, i, j, k)
+    counted (Node at site (If a b c)) =
+        let h = both_counted (parts a) (parts b ++ parts c) (sited.parts a) (sited.parts b ++ sited.parts c) (counted a)
+        (both_counted (parts b) (parts c) (sited.parts b) (sited.parts c) (counted b) (counted c)) in
+        omega (arith, h)
+    counted (Node at site (AtMostOne es)) = let h = all_counted es in omega (arith, h)
+    counted (Node at site (Call f es)) = let h = all_counted es in omega (arith, h)
 
-    form_marked : (k : ℕ) (s : Option ℕ) (form : Form) → Contains (form_parts form) it → Contains (form_marks k s form) its
-    form_marked k s True w = none_in it w
-    form_marked k s False w = none_in it w
-    form_marked k s (Number n) w = none_in it w
-    form_marked k s (Named x) w = none_in it w
-    form_marked k s (Not t) w = marked t w
-    form_marked k s (Minus t) w = marked t w
-    form_marked k s (Pre t) w = in_tail (record { at_site = part k s; whole = Node k s (Pre t) }) (marks t) its (marked t w)
-    form_marked k s (Current t) w = in_tail (record { at_site = part k s; whole = Node k s (Current t) }) (marks t) its (marked t w)
-    form_marked k s (When t c) w = marked t w
-    form_marked k s (Binary q c d) w = elim (Contains-append_cases (parts c) (parts d) it w) [
-      | inl left ↦ Contains-append_left (marks c) (marked_comparison q k s (Node k s (Binary q c d)) ++ marks d) its (marked c left)
-      | inr right ↦ Contains-append_right (marks c) (marked_comparison q k s (Node k s (Binary q c d)) ++ marks d) its
-          (Contains-append_right (marked_comparison q k s (Node k s (Binary q c d))) (marks d) its (marked d right))
-    ]
-    form_marked k s (If c d e) w = elim (Contains-append_cases (parts c) (parts d ++ parts e) it w) [
-      | inl first ↦ Contains-append_left (marks c) (marks d ++ marks e) its (marked c first)
-      | inr rest ↦ Contains-append_right (marks c) (marks d ++ marks e) its (elim (Contains-append_cases (parts d) (parts e) it rest) [
-        | inl second ↦ Contains-append_left (marks d) (marks e) its (marked d second)
-        | inr third ↦ Contains-append_right (marks d) (marks e) its (marked e third)
-      ])
-    ]
-    form_marked k s (AtMostOne ts) w = all_marked ts w
-    form_marked k s (Call f ts) w = in_tail (record { at_site = part k s; whole = Node k s (Call f ts) }) (marks_of_all ts) its (all_marked ts w)
+    all_counted : (es : Trees) → total own_count (parts_of_all es) ≤ total sited_count (sited.trees_parts es)
+    all_counted None = omega arith
+    all_counted (More e es) = both_counted (parts e) (parts_of_all es) (sited.parts e) (sited.trees_parts es) (counted e) (all_counted es)
 
-    pub all_marked : (ts : Trees) → Contains (parts_of_all ts) it → Contains (marks_of_all ts) its
-    all_marked None w = none_in it w
-    all_marked (More t ts) w = elim (Contains-append_cases (parts t) (parts_of_all ts) it w) [
-      | inl here ↦ Contains-append_left (marks t) (marks_of_all ts) its (marked t here)
-      | inr rest ↦ Contains-append_right (marks t) (marks_of_all ts) its (all_marked ts rest)
-    ]
+  equations_counted : (qs : List EquationTree)
+      → total own_count (flat_map (λ (q : EquationTree). parts q.right) qs) ≤ total sited_count (sited.equation_parts qs)
+  equations_counted [] = omega arith
+  equations_counted (q ∷ qs) =
+      both_counted (parts q.right) (flat_map (λ (q : EquationTree). parts q.right) qs) (sited.parts q.right) (sited.equation_parts qs)
+      (counted q.right) (equations_counted qs)
 
-  equations_marked : (qs : List EquationTree) → Contains (flat_map (λ (q : EquationTree). parts q.right) qs) it → Contains (equation_marks qs) its
-  equations_marked [] w = none_in it w
-  equations_marked (q ∷ qs) w = elim (Contains-append_cases (parts q.right) (flat_map (λ (q : EquationTree). parts q.right) qs) it w) [
-    | inl here ↦ Contains-append_left (marks q.right) (equation_marks qs) its (marked q.right here)
-    | inr rest ↦ Contains-append_right (marks q.right) (equation_marks qs) its (equations_marked qs rest)
+  assertions_counted : (xs : List AssertionTree)
+      → total own_count (flat_map (λ (x : AssertionTree). parts x.body) xs) ≤ total sited_count (sited.assertion_parts xs)
+  assertions_counted [] = omega arith
+  assertions_counted (x ∷ xs) =
+      let h = both_counted (parts x.body) (flat_map (λ (x : AssertionTree). parts x.body) xs) (sited.parts x.body) (sited.assertion_parts xs)
+      (counted x.body) (assertions_counted xs) in
+      omega (arith, h)
+
+  node_counted : (n : NodeTree) → total own_count (node_parts n) ≤ total sited_count (sited.node_parts n)
+  node_counted n =
+      both_counted (flat_map (λ (q : EquationTree). parts q.right) n.equations) (flat_map (λ (x : AssertionTree). parts x.body) n.assertions)
+      (sited.equation_parts n.equations) (sited.assertion_parts n.assertions) (equations_counted n.equations) (assertions_counted n.assertions)
+
+  none_marked : (qs : List SitedPart) → ((q : SitedPart) → Contains qs q → marked q.site ≡ true → ⊥) → total sited_count qs ≡ 0
+  none_marked [] not = refl
+  none_marked (q ∷ qs) not = by (marked q.site) refl (none_marked qs (λ r w. not r (in_tail q qs r w)))
+    where
+      by : (b : Bool) → marked q.site ≡ b → total sited_count qs ≡ 0 → cond b 1 0 + total sited_count qs ≡ 0
+      by true e h = absurd (not q (at_head q qs) e)
+      by false e h = omega (arith, h)
+
+  -- one at most, where sites are apart and one alone is marked
+  few_marked : ((s t : Option ℕ) → marked s ≡ true → marked t ≡ true → s ≡ t) → (qs : List SitedPart) → IsApart (λ (q : SitedPart). q.site) qs
+      → total sited_count qs ≤ 1
+  few_marked alike [] apart = omega arith
+  few_marked alike (q ∷ qs) apart = by (marked q.site) refl (few_marked alike qs apart.1)
+    where
+      by : (b : Bool) → marked q.site ≡ b → total sited_count qs ≤ 1 → cond b 1 0 + total sited_count qs ≤ 1
+      by true e h = let none = none_marked qs (λ r w f. apart.0 r w (alike q.site r.site e f)) in omega (arith, none)
+      by false e h = omega (arith, h)
+
+  counts : (at : ℕ) (site : Option ℕ) (o : Op) (a b : Tree) → is_comparison o ≡ true → marked site ≡ true → own_count (Node at site (Binary o a b)) ≡ 1
+  counts at site o a b compares is =
+      ap (λ (c : Bool). total sited_count (cond c (part at site ∷ []) [])) compares ∙ ap (λ (c : Bool). cond c 1 0 + 0) is
+
+-- what is counted is no more than all
+pub counted_among : {X : Type 0} (f : X → ℕ) (xs : List X) (x : X) → Contains xs x → f x ≤ total f xs
+counted_among f [] x w = none_in x w
+counted_among f (y ∷ ys) x w = elim (head_or_tail y ys x w) [
+  | inl is ↦ let e = ap f is in omega (arith, e)
+  | inr later ↦ let h = counted_among f ys x later in omega (arith, h)
+]
+
+-- where one is counted, those that are counted are one
+one_counted : {X : Type 0} (f : X → ℕ) (xs : List X) → total f xs ≤ 1 → (x y : X) → Contains xs x → Contains xs y → f x ≡ 1 → f y ≡ 1 → x ≡ y
+one_counted f [] few x y w v p q = none_in x w
+one_counted f (z ∷ zs) few x y w v p q = elim (head_or_tail z zs x w) [
+  | inl first ↦ elim (head_or_tail z zs y v) [
+    | inl second ↦ sym first ∙ second
+    | inr later ↦ let e = ap f first in let h = counted_among f zs y later in absurd (omega (arith, few, p, q, e, h))
   ]
+  | inr later ↦ elim (head_or_tail z zs y v) [
+    | inl second ↦ let e = ap f second in let h = counted_among f zs x later in absurd (omega (arith, few, p, q, e, h))
+    | inr both ↦ one_counted f zs (omega (arith, few)) x y later both p q
+  ]
+]
 
-  assertions_marked : (xs : List AssertionTree) → Contains (flat_map (λ (x : AssertionTree). parts x.body) xs) it → Contains (assertion_marks xs) its
-  assertions_marked [] w = none_in it w
-  assertions_marked (x ∷ xs) w =
-      in_tail (record { at_site = part x.at (Some x.site); whole = x.body }) (marks x.body ++ assertion_marks xs) its
-      (elim (Contains-append_cases (parts x.body) (flat_map (λ (x : AssertionTree). parts x.body) xs) it w) [
-        | inl here ↦ Contains-append_left (marks x.body) (assertion_marks xs) its (marked x.body here)
-        | inr rest ↦ Contains-append_right (marks x.body) (assertion_marks xs) its (assertions_marked xs rest)
-      ])
+abbrev pub is_site : ℕ → Option ℕ → Bool
+is_site k Nothing = false
+is_site k (Some m) = nat_eq m k
 
-  pub node_marked : (n : NodeTree) → Contains (node_parts n) it → Contains (node_marks n) its
-  node_marked n w = elim (Contains-append_cases (flat_map (λ (q : EquationTree). parts q.right) n.equations)
-      (flat_map (λ (x : AssertionTree). parts x.body) n.assertions) it w) [
-        | inl here ↦ Contains-append_left (equation_marks n.equations) (assertion_marks n.assertions) its (equations_marked n.equations here)
-        | inr rest ↦ Contains-append_right (equation_marks n.equations) (assertion_marks n.assertions) its (assertions_marked n.assertions rest)
-      ]
+one_site : (k : ℕ) (s t : Option ℕ) → is_site k s ≡ true → is_site k t ≡ true → s ≡ t
+one_site k Nothing t e f = no_flag e
+one_site k (Some a) Nothing e f = no_flag f
+one_site k (Some a) (Some b) e f = let same : a ≡ b = grind (arith, nat_tests, e, f) in ap Some same
+
+abbrev no_site : Option ℕ → Bool
+no_site Nothing = true
+no_site (Some m) = false
 
 module _ (n : NodeTree) (numbered : IsNumbered n) where
-  -- marks with one site are one
-  one_mark : (x y : Marked) → Contains (node_marks n) x → Contains (node_marks n) y → x.at_site.site ≡ y.at_site.site → x ≡ y
-  one_mark x y w v same =
-      let ms = node_marks n in
-      let long = length-map ms (λ (m : Marked). m.at_site) in
-      let seen = ap length (node_seen n) in
-      let site_at : (k : ℕ) (z : Marked) (lt : k < length ms) → get_or ms k z ≡ z → (d : SitedPart) → get_or (sited.node_parts n) k d ≡ z.at_site =
-      λ k z lt is d. ap (λ (l : List SitedPart). get_or l k d) (sym (node_seen n)) ∙ get_or-map (λ (m : Marked). m.at_site) ms k z d lt
-      ∙ ap (λ (m : Marked). m.at_site) is in
-      elim (cases_order w.0 v.0) [
-        | inl is ↦ sym w.2 ∙ get_or_default ms w.0 x y w.1 ∙ ap (λ k. get_or ms k y) is ∙ v.2
-        | inr other ↦ elim other [
-          | inl before ↦ absurd (numbered.apart w.0 v.0 x.at_site before (let lt = v.1 in omega (arith, lt, long, seen))
-              (ap (λ (q : SitedPart). q.site) (site_at w.0 x w.1 w.2 x.at_site) ∙ same
-              ∙ sym (ap (λ (q : SitedPart). q.site) (site_at v.0 y v.1 v.2 x.at_site))))
-          | inr after ↦ absurd (numbered.apart v.0 w.0 x.at_site after (let lt = w.1 in omega (arith, lt, long, seen))
-              (ap (λ (q : SitedPart). q.site) (site_at v.0 y v.1 v.2 x.at_site) ∙ sym same
-              ∙ sym (ap (λ (q : SitedPart). q.site) (site_at w.0 x w.1 w.2 x.at_site))))
-        ]
-      ]
+  pub one_at : (k : ℕ) → total (own_count (is_site k)) (node_parts n) ≤ 1
+  one_at k =
+      let few = node_counted (is_site k) n in
+      let one = few_marked (is_site k) (one_site k) (sited.node_parts n)
+      (apart_told (λ (q : SitedPart). q.site) (sited.node_parts n) (λ i j d lt less same. numbered.apart i j d lt less same)) in
+      omega (arith, few, one)
 
   -- comparisons with one site are one
   pub one_tree : (j k : ℕ) (s : ℕ) (o q : Op) (a b c d : Tree) → Contains (node_parts n) (Node j (Some s) (Binary o a b))
       → Contains (node_parts n) (Node k (Some s) (Binary q c d))
       → is_comparison o ≡ true → is_comparison q ≡ true → Node j (Some s) (Binary o a b) ≡ Node k (Some s) (Binary q c d)
   one_tree j k s o q a b c d w v is are =
-      ap (λ (m : Marked). m.whole)
-      (one_mark (record { at_site = part j (Some s); whole = Node j (Some s) (Binary o a b) })
-      (record { at_site = part k (Some s); whole = Node k (Some s) (Binary q c d) })
-      (node_marked j (Some s) o a b is n w) (node_marked k (Some s) q c d are n v) refl)
+      let same : nat_eq s s ≡ true = grind (arith, nat_tests) in
+      one_counted (own_count (is_site s)) (node_parts n) (one_at s) (Node j (Some s) (Binary o a b)) (Node k (Some s) (Binary q c d)) w v
+      (counts (is_site s) j (Some s) o a b is same) (counts (is_site s) k (Some s) q c d are same)
 
   -- so they have one operator
   pub one_operator : (j k : ℕ) (s : ℕ) (o q : Op) (a b c d : Tree) → Contains (node_parts n) (Node j (Some s) (Binary o a b))
       → Contains (node_parts n) (Node k (Some s) (Binary q c d))
       → is_comparison o ≡ true → is_comparison q ≡ true → o ≡ q
   one_operator j k s o q a b c d w v is are = let e = one_tree j k s o q a b c d w v is are in cc
+
+  -- a comparison has a site
+  pub has_site : (at : ℕ) (site : Option ℕ) (o : Op) (a b : Tree) → Contains (node_parts n) (Node at site (Binary o a b)) → is_comparison o ≡ true
+      → (m : ℕ) × (site ≡ Some m)
+  has_site at (Some m) o a b w is = (m, refl)
+  has_site at Nothing o a b w is =
+      let one = counts no_site at Nothing o a b is refl in
+      let there = counted_among (own_count no_site) (node_parts n) (Node at Nothing (Binary o a b)) w in
+      let few = node_counted no_site n in
+      let none = none_marked no_site (sited.node_parts n) (λ q v e. no_flag (sym (ap no_site (numbered.next q v).1) ∙ e)) in
+      absurd (omega (arith, one, there, few, none))

@@ -15,7 +15,6 @@ use Rattle.rv_base.specs.declared.value.Value.TheVariants.{Flag}
 use Rattle.rv_base.specs.declared.value.Value.TheVariants as value
 use Rattle.rv_tree.specs.declared.tree.Op.{Op}
 use Rattle.rv_tree.specs.declared.tree.Op.TheVariants as op
-use Rattle.rv_tree.specs.SitedParts.{SitedPart, part}
 use Rattle.rv_tree.specs.Sites.{is_comparison}
 use Rattle.rv_tree.specs.Tree as tree
 use Rattle.rv_tree.specs.Tree.{Tree, Form, Trees, ProgramTree}
@@ -49,7 +48,7 @@ use Rattle.rv_agreement.specs.Trees.{memory_places, kind_at}
 use Rattle.rv_agreement.specs.Valuations.{is_placed}
 use Rattle.rv_flatten.specs.Kinded.{IsKinded}
 use Rattle.rv_flatten.proofs.ArrowClocks.{node_comes, node_true}
-use Rattle.rv_flatten.proofs.ComparedParts.{node_marked, node_seen}
+use Rattle.rv_flatten.proofs.ComparedParts.{has_site}
 use Rattle.rv_flat.proofs.Earliest.{not_itself}
 use Rattle.rv_flatten.proofs.ItemClocks.{number_at, number_within, item_clock, output_clock}
 use Rattle.rv_flatten.proofs.Standing.{Stands, as_child, of_not, of_minus, of_current, of_when, of_left, of_right, of_condition, of_first, of_second}
@@ -358,10 +357,8 @@ module _ (program : ProgramTree) (main : Identifier) (well : AreWell program) (n
       sited_there : (at : ℕ) (site : Option ℕ) (o : Op) (a b : Tree) → Stands i.node (tree.Node at site (tree.Binary o a b)) → is_comparison o ≡ true
           → (m : ℕ) × (site ≡ Some m)
       sited_there at site o a b t is =
-          let marked = in_map (λ m. m.at_site) _ _ (node_marked at site o a b is i.node (stands_in i.node (tree.Node at site (tree.Binary o a b)) t)) in
-          let r = (well.numbered i.node (node_in program main well named i of)).next (part at site)
-          (subst (λ (l : List SitedPart). Contains l (part at site)) (node_seen i.node) marked) in
-          (r.0, r.1)
+          has_site i.node (well.numbered i.node (node_in program main well named i of)) at site o a b
+          (stands_in i.node (tree.Node at site (tree.Binary o a b)) t) is
 
       placed_there : (at : ℕ) (site : Option ℕ) (o : Op) (a b : Tree) (l : Kind) → Stands i.node (tree.Node at site (tree.Binary o a b))
           → IsTyped program i.node a l → is_placed_for (operator_place program i site o a) o l ≡ true

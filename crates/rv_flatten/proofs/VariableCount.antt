@@ -1,49 +1,46 @@
 -- A program has as many diagram variables as are counted, and no fewer.
-use Rattle.std.proofs.Common.{◌≡◌, inl, inr, ℕ, zero, suc, ◌≤◌, Bool, true, false, ◌&&◌, ◌||◌, cond, nat_eq, List, [], ◌∷◌, ◌++◌, map, flat_map, length, get_or}
+use Rattle.std.proofs.Common.{◌≡◌, inl, inr, ℕ, zero, suc, ◌+◌, ◌≤◌, Bool, true, false, ◌&&◌, ◌||◌, cond, nat_eq, List, [], ◌∷◌, ◌++◌, map, flat_map, length, get_or}
 use Rattle.std.proofs.Common.{refl, sym, ◌∙◌, ap, subst, arith, unwrap_or, append_assoc, length-append, Option, Some}
 use Rattle.std.proofs.Common.{None as Nothing}
 use Rattle.std.proofs.lemmas.Bool.Decides.{nat_tests}
 use Rattle.std.proofs.lemmas.List.{length-map}
-use Rattle.std.proofs.lemmas.List.Elements.{Contains-append_left, Contains-append_right, Contains-append_cases}
+use Rattle.std.proofs.lemmas.List.Elements.{Contains-append_cases}
 use Rattle.std.specs.List.{Contains}
 use Rattle.rv_tree.specs.declared.tree.Op.{Op}
 use Rattle.rv_tree.specs.declared.tree.Op.TheVariants as op
 use Rattle.rv_tree.specs.Delays.{Delay, node_delays, IsNumbered}
 use Rattle.rv_tree.specs.Places.{Identifier, Sites}
 use Rattle.rv_tree.specs.Sites.{is_comparison}
-use Rattle.rv_tree.specs.SitedParts as sited
-use Rattle.rv_tree.specs.SitedParts.{SitedPart, part}
-use Rattle.rv_tree.specs.Tree.{Tree, Node, True, False, Number, Named, Not, Minus, Pre, Current, When, Binary, If, AtMostOne, Call, Trees, None, More}
-use Rattle.rv_tree.specs.Tree.{EquationTree, AssertionTree, NodeTree, ProgramTree}
+use Rattle.rv_tree.specs.SitedParts.{part}
+use Rattle.rv_tree.specs.Tree.{Tree, Node, Binary}
+use Rattle.rv_tree.specs.Tree.{NodeTree, ProgramTree}
 use Rattle.rv_types.specs.declared.typed.Kind.TheVariants as kind
 use Rattle.rv_types.specs.declared.typed.Clock.TheVariants.{Base}
 use Rattle.rv_types.specs.Kinds.{decl_kinds}
 use Rattle.rv_types.specs.Scopes.{node_scope}
-use Rattle.rv_types.specs.Types.{Scope, kind_of}
+use Rattle.rv_types.specs.Types.{kind_of}
 use Rattle.rv_types.specs.Values.{operand_kind}
 use Rattle.rv_types.specs.Instances.{CallTree, calls, Instance, callee, unrolled, main_instance, IsInstance, is_main, is_callee, all_instances, clock_in}
 use Rattle.rv_types.specs.Instances.{node_of}
 use Rattle.rv_types.specs.Lists.{AreTicks, AreMemories, AreComparisons, AreVariables, IsAny, MemoryAt, ComparisonAt, MainTick, Tick, with_copies}
 use Rattle.rv_types.specs.Lists.{memory_variables, input_variables, test_variables, sides_of, memory_at}
-use Rattle.rv_types.specs.Variables.{total, is_integer, is_in, memories, memories_beside, node_parts, parts, parts_of_all, kind_bits, memory_bits, tests_of}
+use Rattle.rv_types.specs.Variables.{total, is_integer, is_in, memories, memories_beside, node_parts, kind_bits, memory_bits, tests_of}
 use Rattle.rv_types.specs.Variables.{own_tests, order_tests, is_arrow, arrow_clocks, same_place, is_place_in, different, over_instances, ticks, variable_count}
 use Rattle.rv_types.specs.WellFormed.{AreSited}
 use Rattle.rv_agreement.specs.Programs.{is_test}
 use Rattle.rv_flatten.specs.Compared as compared
 use Rattle.rv_flatten.specs.declared.comparisons.Tested.{Tested}
 use Rattle.rv_flat.specs.declared.parts.Bit.{Bit}
-use Rattle.rv_flatten.specs.Compared.{tests, tests_of_all, tests_in_equations, tests_in_assertions, tests_in}
+use Rattle.rv_flatten.specs.Compared.{tests_in}
 use Rattle.rv_flat.specs.Lists.{variable_of}
-use Rattle.rv_flatten.proofs.Apart.{IsApart, apart_told, apart_by, apart_map, apart_both, apart_left, apart_right, apart_across, apart_flat}
-use Rattle.rv_flatten.proofs.ComparedParts.{found_test, own_of, own_is, tests_are, all_are, node_is, Marked, marks, marks_of_all, marked_comparison}
-use Rattle.rv_flatten.proofs.ComparedParts.{equation_marks, assertion_marks, node_marks, node_seen, marked, all_marked, node_marked}
+use Rattle.rv_flatten.proofs.Apart.{IsApart, apart_told, apart_by, apart_map, apart_flat}
+use Rattle.rv_flatten.proofs.ComparedParts.{found_test, own_of, node_is, sited_count, own_count, counted_among, is_site, one_at, has_site}
 use Rattle.rv_flatten.proofs.ComparedPlaces.{has_sides}
 use Rattle.rv_flatten.proofs.CountedVariables.{total_joined, total_flat_map, total_map, total_same, around, still_there, length_copies, length_memories}
 use Rattle.rv_flatten.proofs.CountedVariables.{length_inputs, length_tests, ones, own_clocks, site, ticks_few, memories_few, tests_few}
 use Rattle.rv_agreement.proofs.Controls.{no_flag}
 use Rattle.rv_instances.proofs.FlowPlaces.{snoc_parts as snoc}
-use Rattle.rv_meaning.proofs.NameLemmas.{rest as rest_of}
-use Rattle.rv_types.proofs.Members.{at_head, cons_cases as head_or_tail, in_map, in_tail, nothing_in as none_in, of_flat_map as from_flat_map, of_map}
+use Rattle.rv_types.proofs.Members.{at_head, cons_cases as head_or_tail, in_tail, nothing_in as none_in, of_flat_map as from_flat_map, of_map}
 
 -- A sum over elements that are told apart, all of which are in a list, is no more than that over the list.
 sum_once : {X K : Type 0} (f : X → ℕ) (key : X → K) (xs ys : List X) → IsApart key xs → ((x : X) → Contains xs x → Contains ys x) → total f xs ≤ total f ys
@@ -62,9 +59,11 @@ either_false true b e = no_flag (sym e)
 either_false false b e = (refl, e)
 
 next_same : (xs : List ℕ) (a b : ℕ) (q r : List ℕ) → xs ++ a ∷ q ≡ xs ++ b ∷ r → a ≡ b
-unfolding rest_of
 next_same [] a b q r e = ap (λ l. get_or l 0 0) e
-next_same (x ∷ xs) a b q r e = next_same xs a b q r (ap rest_of e)
+next_same (x ∷ xs) a b q r e =
+    let all : x ∷ (xs ++ a ∷ q) ≡ x ∷ (xs ++ b ∷ r) = e in
+    let rest : (xs ++ a ∷ q) ≡ (xs ++ b ∷ r) = cc all in
+    next_same xs a b q r rest
 
 -- Instances.
 module _ (p : ProgramTree) (main : Identifier) (sited_calls : AreSited p) (node_in : (i : Instance) → IsInstance p main i → Contains p.nodes i.node) where
@@ -203,166 +202,28 @@ from_arrow i (e ∷ es) q w = elim (Contains-append_cases (own_clocks i e) (arro
     own false arrow o at w = none_in q w
 
 -- Comparisons.
-abbrev site_of_mark : Marked → Option ℕ
-site_of_mark m = m.at_site.site
 
-abbrev site_of_test : Tested → ℕ
-site_of_test t = t.site
+-- elements are told apart, where one at most has each key
+apart_once : {X : Type 0} (key : X → ℕ) (xs : List X) → ((k : ℕ) → total (λ x. cond (nat_eq (key x) k) 1 0) xs ≤ 1) → IsApart key xs
+apart_once key [] once = tt
+apart_once {X = X} key (x ∷ xs) once = (other, apart_once key xs (λ k. let h = once k in omega (arith, h)))
+  where
+    other : (y : X) → Contains xs y → key x ≡ key y → ⊥
+    other y w e =
+        let count : X → ℕ = λ z. cond (nat_eq (key z) (key x)) 1 0 in
+        let here : nat_eq (key x) (key x) ≡ true = grind (arith, nat_tests) in
+        let first : count x ≡ 1 = ap (λ (b : Bool). cond b 1 0) here in
+        let second : count y ≡ 1 = ap (λ k. cond (nat_eq k (key x)) 1 0) (sym e) ∙ first in
+        let among = counted_among count xs y w in
+        let all : count x + total count xs ≤ 1 = once (key x) in
+        absurd (omega (arith, first, second, among, all))
 
-module _ (s : Scope) where
-  -- a comparison of integers is marked
-  test_marked : (e : Tree) (t : Tested) → Contains (tests s e) t → (m : Marked) × Contains (marks e) m × (m.at_site.site ≡ Some t.site)
-  test_marked e t w =
-      let r = from_flat_map (own_of s) (parts e) t (subst (λ (l : List Tested). Contains l t) (tests_are s e) w) in
-      let v = own_is s r.0 t r.2 in (
-        record { at_site = part v.at (Some t.site); whole = Node v.at (Some t.site) (Binary t.operator v.left v.right) },
-        marked v.at (Some t.site) t.operator v.left v.right v.compares e (subst (λ (x : Tree). Contains (parts e) x) v.is r.1),
-        refl,
-      )
-
-  tests_marked : (es : Trees) (t : Tested) → Contains (tests_of_all s es) t → (m : Marked) × Contains (marks_of_all es) m × (m.at_site.site ≡ Some t.site)
-  tests_marked es t w =
-      let r = from_flat_map (own_of s) (parts_of_all es) t (subst (λ (l : List Tested). Contains l t) (all_are s es) w) in
-      let v = own_is s r.0 t r.2 in (
-        record { at_site = part v.at (Some t.site); whole = Node v.at (Some t.site) (Binary t.operator v.left v.right) },
-        all_marked v.at (Some t.site) t.operator v.left v.right v.compares es (subst (λ (x : Tree). Contains (parts_of_all es) x) v.is r.1),
-        refl,
-      )
-
-  -- two lists of comparisons that are marked in lists whose sites are apart
-  tests_both : (xs ys : List Tested) (ms ns : List Marked) → IsApart site_of_mark (ms ++ ns)
-      → ((t : Tested) → Contains xs t → (m : Marked) × Contains ms m × (m.at_site.site ≡ Some t.site))
-      → ((t : Tested) → Contains ys t → (m : Marked) × Contains ns m × (m.at_site.site ≡ Some t.site))
-      → IsApart site_of_test xs → IsApart site_of_test ys → IsApart site_of_test (xs ++ ys)
-  tests_both xs ys ms ns apart in_ms in_ns p q =
-      apart_both site_of_test xs ys p q
-      (λ t u v w e. let a = in_ms t v in let b = in_ns u w in apart_across site_of_mark ms ns apart a.0 b.0 a.1 b.1 (a.2 ∙ ap Some e ∙ sym b.2))
-
-  own_marked : (at : ℕ) (k : Option ℕ) (o : Op) (a e : Tree) (t : Tested) → Contains (compared.own_tests s k o a) t
-      → (m : Marked) × Contains (marked_comparison o at k e) m × (m.at_site.site ≡ Some t.site)
-  own_marked at Nothing o a e t w = none_in t w
-  own_marked at (Some k) o a e t w = by (is_comparison o) (is_integer (unwrap_or (kind_of s a) kind.Bool)) w
-    where
-      by : (b c : Bool) → Contains {X = Tested} (cond (b && c) (record { site = k; operator = o } ∷ []) []) t
-          → (m : Marked) × Contains (cond b (record { at_site = part at (Some k); whole = e } ∷ []) []) m × (m.at_site.site ≡ Some t.site)
-      by true true w = elim (head_or_tail (record { site = k; operator = o }) [] t w) [
-        | inl same ↦ (
-          record { at_site = part at (Some k); whole = e },
-          at_head (record { at_site = part at (Some k); whole = e }) [],
-          ap (λ (t : Tested). Some t.site) same,
-        )
-        | inr none ↦ none_in t none
-      ]
-      by true false w = none_in t w
-      by false c w = none_in t w
-
-  own_apart : (k : Option ℕ) (o : Op) (a : Tree) → IsApart site_of_test (compared.own_tests s k o a)
-  own_apart Nothing o a = tt
-  own_apart (Some k) o a = by (is_test s o a)
-    where
-      by : (b : Bool) → IsApart site_of_test (cond b (record { site = k; operator = o } ∷ []) [])
-      by true = (λ y w e. none_in y w, tt)
-      by false = tt
-
-  -- both sides of an operator, and the operator itself
-  own_first : (at : ℕ) (k : Option ℕ) (o : Op) (a b : Tree) → IsApart site_of_mark (marks a ++ (marked_comparison o at k (Node at k (Binary o a b)) ++ marks b))
-      → IsApart site_of_test (tests s a) → IsApart site_of_test (tests s b)
-      → IsApart site_of_test (compared.own_tests s k o a ++ (tests s a ++ tests s b))
-  own_first at k o a b apart p q =
-      let right = apart_right site_of_mark (marks a) (marked_comparison o at k (Node at k (Binary o a b)) ++ marks b) apart in
-      let across = apart_across site_of_mark (marks a) (marked_comparison o at k (Node at k (Binary o a b)) ++ marks b) apart in
-      let both = apart_both site_of_test (tests s a) (tests s b) p q
-      (λ t u v w e. let m = test_marked a t v in let n = test_marked b u w in
-      across m.0 n.0 m.1 (Contains-append_right (marked_comparison o at k (Node at k (Binary o a b))) (marks b) n.0 n.1) (m.2 ∙ ap Some e ∙ sym n.2)) in
-      apart_both site_of_test (compared.own_tests s k o a) (tests s a ++ tests s b) (own_apart k o a) both
-      (λ t u v w e. let m = own_marked at k o a (Node at k (Binary o a b)) t v in
-      elim (Contains-append_cases (tests s a) (tests s b) u w) [
-        | inl left ↦ let n = test_marked a u left in across n.0 m.0 n.1
-            (Contains-append_left (marked_comparison o at k (Node at k (Binary o a b))) (marks b) m.0 m.1) (n.2 ∙ sym (m.2 ∙ ap Some e))
-        | inr below ↦ let n = test_marked b u below in apart_across site_of_mark (marked_comparison o at k (Node at k (Binary o a b)))
-            (marks b) right m.0 n.0 m.1 n.1 (m.2 ∙ ap Some e ∙ sym n.2)
-      ])
-
-  mutual
-    tests_apart : (e : Tree) → IsApart site_of_mark (marks e) → IsApart site_of_test (tests s e)
-    tests_apart (Node at k True) h = tt
-    tests_apart (Node at k False) h = tt
-    tests_apart (Node at k (Number n)) h = tt
-    tests_apart (Node at k (Named x)) h = tt
-    tests_apart (Node at k (Not e)) h = tests_apart e h
-    tests_apart (Node at k (Minus e)) h = tests_apart e h
-    tests_apart (Node at k (Pre e)) h = tests_apart e h.1
-    tests_apart (Node at k (Current e)) h = tests_apart e h.1
-    tests_apart (Node at k (When e c)) h = tests_apart e h
-    tests_apart (Node at k (Binary o a b)) h =
-        own_first at k o a b h (tests_apart a (apart_left site_of_mark (marks a) (marked_comparison o at k (Node at k (Binary o a b)) ++ marks b) h))
-        (tests_apart b (apart_right site_of_mark (marked_comparison o at k (Node at k (Binary o a b))) (marks b)
-        (apart_right site_of_mark (marks a) (marked_comparison o at k (Node at k (Binary o a b)) ++ marks b) h)))
-    tests_apart (Node at k (If a b c)) h =
-        let right = apart_right site_of_mark (marks a) (marks b ++ marks c) h in
-        tests_both (tests s a) (tests s b ++ tests s c) (marks a) (marks b ++ marks c) h (test_marked a)
-        (λ t w. elim (Contains-append_cases (tests s b) (tests s c) t w) [
-          | inl v ↦ let m = test_marked b t v in (m.0, Contains-append_left (marks b) (marks c) m.0 m.1, m.2)
-          | inr v ↦ let m = test_marked c t v in (m.0, Contains-append_right (marks b) (marks c) m.0 m.1, m.2)
-        ])
-        (tests_apart a (apart_left site_of_mark (marks a) (marks b ++ marks c) h))
-        (tests_both (tests s b) (tests s c) (marks b) (marks c) right (test_marked b) (test_marked c)
-        (tests_apart b (apart_left site_of_mark (marks b) (marks c) right)) (tests_apart c (apart_right site_of_mark (marks b) (marks c) right)))
-    tests_apart (Node at k (AtMostOne es)) h = all_apart es h
-    tests_apart (Node at k (Call f es)) h = all_apart es h.1
-
-    all_apart : (es : Trees) → IsApart site_of_mark (marks_of_all es) → IsApart site_of_test (tests_of_all s es)
-    all_apart None h = tt
-    all_apart (More e es) h =
-        tests_both (tests s e) (tests_of_all s es) (marks e) (marks_of_all es) h (test_marked e) (tests_marked es)
-        (tests_apart e (apart_left site_of_mark (marks e) (marks_of_all es) h)) (all_apart es (apart_right site_of_mark (marks e) (marks_of_all es) h))
-
-  equation_marked : (qs : List EquationTree) (t : Tested) → Contains (tests_in_equations s qs) t
-      → (m : Marked) × Contains (equation_marks qs) m × (m.at_site.site ≡ Some t.site)
-  equation_marked [] t w = none_in t w
-  equation_marked (q ∷ qs) t w = elim (Contains-append_cases (tests s q.right) (tests_in_equations s qs) t w) [
-    | inl v ↦ let m = test_marked q.right t v in (m.0, Contains-append_left (marks q.right) (equation_marks qs) m.0 m.1, m.2)
-    | inr v ↦ let m = equation_marked qs t v in (m.0, Contains-append_right (marks q.right) (equation_marks qs) m.0 m.1, m.2)
-  ]
-
-  equations_apart : (qs : List EquationTree) → IsApart site_of_mark (equation_marks qs) → IsApart site_of_test (tests_in_equations s qs)
-  equations_apart [] h = tt
-  equations_apart (q ∷ qs) h =
-      tests_both (tests s q.right) (tests_in_equations s qs) (marks q.right) (equation_marks qs) h (test_marked q.right) (equation_marked qs)
-      (tests_apart q.right (apart_left site_of_mark (marks q.right) (equation_marks qs) h))
-      (equations_apart qs (apart_right site_of_mark (marks q.right) (equation_marks qs) h))
-
-  assertion_marked : (xs : List AssertionTree) (t : Tested) → Contains (tests_in_assertions s xs) t
-      → (m : Marked) × Contains (assertion_marks xs) m × (m.at_site.site ≡ Some t.site)
-  assertion_marked [] t w = none_in t w
-  assertion_marked (x ∷ xs) t w = elim (Contains-append_cases (tests s x.body) (tests_in_assertions s xs) t w) [
-    | inl v ↦ let m = test_marked x.body t v in (
-      m.0,
-      in_tail (record { at_site = part x.at (Some x.site); whole = x.body })
-          (marks x.body ++ assertion_marks xs) m.0 (Contains-append_left (marks x.body) (assertion_marks xs) m.0 m.1),
-      m.2,
-    )
-    | inr v ↦ let m = assertion_marked xs t v in (
-      m.0,
-      in_tail (record { at_site = part x.at (Some x.site); whole = x.body })
-          (marks x.body ++ assertion_marks xs) m.0 (Contains-append_right (marks x.body) (assertion_marks xs) m.0 m.1),
-      m.2,
-    )
-  ]
-
-  assertions_apart : (xs : List AssertionTree) → IsApart site_of_mark (assertion_marks xs) → IsApart site_of_test (tests_in_assertions s xs)
-  assertions_apart [] h = tt
-  assertions_apart (x ∷ xs) h =
-      tests_both (tests s x.body) (tests_in_assertions s xs) (marks x.body) (assertion_marks xs) h.1 (test_marked x.body) (assertion_marked xs)
-      (tests_apart x.body (apart_left site_of_mark (marks x.body) (assertion_marks xs) h.1))
-      (assertions_apart xs (apart_right site_of_mark (marks x.body) (assertion_marks xs) h.1))
-
-abbrev key_of_part : SitedPart → Option ℕ
-key_of_part q = q.site
-
-apart_unmap : (ms : List Marked) → IsApart key_of_part (map (λ (m : Marked). m.at_site) ms) → IsApart site_of_mark ms
-apart_unmap [] h = tt
-apart_unmap (m ∷ ms) h = (λ y w e. h.0 y.at_site (in_map (λ (m : Marked). m.at_site) ms y w) e, apart_unmap ms h.1)
+total_less_in : {X : Type 0} (f g : X → ℕ) (xs : List X) → ((x : X) → Contains xs x → f x ≤ g x) → total f xs ≤ total g xs
+total_less_in f g [] less = omega arith
+total_less_in f g (x ∷ xs) less =
+    let h = total_less_in f g xs (λ y w. less y (in_tail x xs y w)) in
+    let a = less x (at_head x xs) in
+    omega (arith, h, a)
 
 total_same_in : {X : Type 0} (f g : X → ℕ) (xs : List X) → ((x : X) → Contains xs x → f x ≡ g x) → total f xs ≡ total g xs
 total_same_in f g [] same = refl
@@ -373,19 +234,29 @@ total_same_in f g (x ∷ xs) same =
 
 -- A node's comparisons of integers have sites of their own, and there are as many order tests of them as are counted.
 module _ (p : ProgramTree) (n : NodeTree) (numbered : IsNumbered n) where
-  marks_apart : IsApart site_of_mark (node_marks n)
-  marks_apart =
-      apart_unmap (node_marks n)
-      (subst (λ (l : List SitedPart). IsApart key_of_part l) (sym (node_seen n))
-      (apart_told key_of_part (sited.node_parts n) (λ i j d lt less same. numbered.apart i j d lt less same)))
+  own_once : (k : ℕ) (e : Tree) → total (λ (t : Tested). cond (nat_eq t.site k) 1 0) (own_of n (is_test (node_scope p n)) e) ≤ own_count (is_site k) e
+  own_once k (Node at Nothing (Binary o a b)) = omega arith
+  own_once k (Node at (Some m) (Binary o a b)) = by (is_comparison o) (is_integer (unwrap_or (kind_of (node_scope p n) a) kind.Bool))
+    where
+      by : (c i : Bool) → total (λ (t : Tested). cond (nat_eq t.site k) 1 0) (cond (c && i) (record { site = m; operator = o } ∷ []) [] ++ [])
+          ≤ total (sited_count (is_site k)) (cond c (part at (Some m) ∷ []) [])
+      by true true = omega arith
+      by true false = omega arith
+      by false i = omega arith
+  own_once k (Node at site _) = omega arith
 
   node_tests_apart : IsApart (λ (t : Tested). t.site) (tests_in p n)
-  node_tests_apart =
-      tests_both (node_scope p n) (tests_in_equations (node_scope p n) n.equations) (tests_in_assertions (node_scope p n) n.assertions)
-      (equation_marks n.equations) (assertion_marks n.assertions) marks_apart
-      (equation_marked (node_scope p n) n.equations) (assertion_marked (node_scope p n) n.assertions)
-      (equations_apart (node_scope p n) n.equations (apart_left site_of_mark (equation_marks n.equations) (assertion_marks n.assertions) marks_apart))
-      (assertions_apart (node_scope p n) n.assertions (apart_right site_of_mark (equation_marks n.equations) (assertion_marks n.assertions) marks_apart))
+  node_tests_apart = apart_once (λ (t : Tested). t.site) (tests_in p n) once
+    where
+      once : (k : ℕ) → total (λ (t : Tested). cond (nat_eq t.site k) 1 0) (tests_in p n) ≤ 1
+      once k =
+          let count : Tested → ℕ = λ t. cond (nat_eq t.site k) 1 0 in
+          let own = own_of n (is_test (node_scope p n)) in
+          let are = ap (total count) (node_is n (is_test (node_scope p n))) in
+          let each = total_flat_map count own (node_parts n) in
+          let less = total_less_in (λ (e : Tree). total count (own e)) (own_count (is_site k)) (node_parts n) (λ e w. own_once k e) in
+          let one = one_at n numbered k in
+          omega (arith, are, each, less, one)
 
   abbrev test_count : Tested → ℕ
   test_count t = tests_of t.operator
@@ -399,20 +270,11 @@ module _ (p : ProgramTree) (n : NodeTree) (numbered : IsNumbered n) where
   no_tests op.AtLeast e = no_flag (sym e)
   no_tests _ e = refl
 
-  -- a comparison has a site
-  has_site : (at : ℕ) (o : Op) (a b : Tree) → Contains (node_parts n) (Node at Nothing (Binary o a b)) → is_comparison o ≡ true → ⊥
-  has_site at o a b w e =
-      let mark = node_marked at Nothing o a b e n w in
-      let there = subst (λ (l : List SitedPart). Contains l (part at Nothing)) (node_seen n)
-      (in_map (λ (m : Marked). m.at_site) (node_marks n) (record { at_site = part at Nothing; whole = Node at Nothing (Binary o a b) }) mark) in
-      let next = numbered.next (part at Nothing) there in
-      let no : Nothing ≡ Some next.0 = next.1 in
-      cc
-
-  own_counted : (e : Tree) → Contains (node_parts n) e → total test_count (own_of (node_scope p n) e) ≡ own_tests p n e
+  own_counted : (e : Tree) → Contains (node_parts n) e → total test_count (own_of n (is_test (node_scope p n)) e) ≡ own_tests p n e
   own_counted (Node at (Some k) (Binary o a b)) w = by (is_comparison o) refl (is_integer (operand_kind p n a))
     where
-      by : (c : Bool) → is_comparison o ≡ c → (i : Bool) → total test_count (cond (c && i) (record { site = k; operator = o } ∷ []) []) ≡ cond i (tests_of o) 0
+      by : (c : Bool) → is_comparison o ≡ c → (i : Bool)
+          → total test_count (cond (c && i) (record { site = k; operator = o } ∷ []) [] ++ []) ≡ cond i (tests_of o) 0
       by true e true = omega arith
       by true e false = refl
       by false e true = sym (no_tests o e)
@@ -420,27 +282,17 @@ module _ (p : ProgramTree) (n : NodeTree) (numbered : IsNumbered n) where
   own_counted (Node at Nothing (Binary o a b)) w = by (is_comparison o) refl (is_integer (operand_kind p n a))
     where
       by : (c : Bool) → is_comparison o ≡ c → (i : Bool) → 0 ≡ cond i (tests_of o) 0
-      by true e i = absurd (has_site at o a b w e)
+      by true e i = let r = has_site n numbered at Nothing o a b w e in let no : Nothing ≡ Some r.0 = r.1 in cc
       by false e true = sym (no_tests o e)
       by false e false = refl
-  own_counted (Node at k True) w = refl
-  own_counted (Node at k False) w = refl
-  own_counted (Node at k (Number m)) w = refl
-  own_counted (Node at k (Named x)) w = refl
-  own_counted (Node at k (Not e)) w = refl
-  own_counted (Node at k (Minus e)) w = refl
-  own_counted (Node at k (Pre e)) w = refl
-  own_counted (Node at k (Current e)) w = refl
-  own_counted (Node at k (When e c)) w = refl
-  own_counted (Node at k (If a b c)) w = refl
-  own_counted (Node at k (AtMostOne es)) w = refl
-  own_counted (Node at k (Call f es)) w = refl
+  own_counted (Node at k _) w = refl
 
   order_tests_are : order_tests p n ≡ total test_count (tests_in p n)
   order_tests_are =
-      sym (total_same_in (λ (e : Tree). total test_count (own_of (node_scope p n) e)) (own_tests p n) (node_parts n) own_counted)
-      ∙ sym (total_flat_map test_count (own_of (node_scope p n)) (node_parts n))
-      ∙ ap (total test_count) (sym (node_is p n))
+      let own = own_of n (is_test (node_scope p n)) in
+      sym (total_same_in (λ (e : Tree). total test_count (own e)) (own_tests p n) (node_parts n) own_counted)
+      ∙ sym (total_flat_map test_count own (node_parts n))
+      ∙ ap (total test_count) (sym (node_is n (is_test (node_scope p n))))
 
 -- All together.
 module _ (p : ProgramTree) (main : Identifier) (sited_calls : AreSited p) (numbered : (n : NodeTree) → Contains p.nodes n → IsNumbered n)
@@ -503,13 +355,6 @@ module _ (p : ProgramTree) (main : Identifier) (sited_calls : AreSited p) (numbe
     sides_many op.Greater = omega arith
     sides_many op.AtLeast = omega arith
     sides_many _ = omega arith
-
-    total_less_in : {X : Type 0} (f g : X → ℕ) (xs : List X) → ((x : X) → Contains xs x → f x ≤ g x) → total f xs ≤ total g xs
-    total_less_in f g [] less = omega arith
-    total_less_in f g (x ∷ xs) less =
-        let h = total_less_in f g xs (λ y w. less y (in_tail x xs y w)) in
-        let a = less x (at_head x xs) in
-        omega (arith, h, a)
 
     tests_many : (cs : List ComparisonAt) → AreComparisons p main cs → over_instances p main (order_tests p) ≤ total sides cs
     tests_many cs are =

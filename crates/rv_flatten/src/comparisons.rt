@@ -1,11 +1,11 @@
 //! The comparisons of integers of all instances, in the order of their places.
 
-ghost use Rattle.std.specs.Prelude.{◌≡◌, ◌++◌, [], map, length, slice_index_or, IfOk, OnOk};
+ghost use Rattle.std.specs.Prelude.{◌≡◌, ◌++◌, [], map, flat_map, length, slice_index_or, IfOk, OnOk};
 ghost use Rattle.std.specs.Cmp.Lexicographic.{slice_cmp};
 ghost use Rattle.std.specs.Ordering.{nat_cmp};
 ghost use Rattle.rv_tree.specs.Places.{is_same};
 ghost use Rattle.rv_tree.specs.Sites.{is_comparison};
-ghost use Rattle.rv_tree.specs.Tree.{ProgramTree, tree_of, trees, node_tree, equation_tree, assertion_tree};
+ghost use Rattle.rv_tree.specs.Tree.{ProgramTree, tree_of, node_tree};
 ghost use Rattle.rv_types.specs.Known.{flow_names};
 ghost use Rattle.rv_types.specs.Lists.{AreComparisons};
 ghost use Rattle.rv_types.specs.Names.{repeated};
@@ -13,8 +13,8 @@ ghost use Rattle.rv_types.specs.Readings.{AreTables, view_of};
 ghost use Rattle.rv_types.specs.Tables.{scope_of};
 ghost use Rattle.rv_types.specs.Variables.{is_integer};
 ghost use Rattle.rv_instances.specs.Expanded.{IsKnown, program_of, main_of};
-ghost use Rattle.rv_flatten.specs.Compared.{is_told_test, own_tests_by, tests_by, tests_of_all_by, tests_in_equations_by, tests_in_assertions_by, tests_in};
-ghost use Rattle.rv_flatten.specs.Compared.{told_tests_in, compared_at, compared_in};
+ghost use Rattle.rv_instances.specs.Timed.{operator_listed};
+ghost use Rattle.rv_flatten.specs.Compared.{is_told_test, own_test, tests_in, told_tests_in, compared_at, compared_in};
 ghost use Rattle.rv_flatten.specs.Kept.{found_comparison};
 ghost use Rattle.rv_flatten.specs.NodeReaders.{scope_read, lists_to, AreSortedBy};
 
@@ -22,8 +22,8 @@ use crate::kept::Comparison;
 use crate::memories::place_of;
 use crate::node_reader::NodeReader;
 use rv_base::{Many, Memory, Path};
-use rv_instances::{Expanded, Instance};
-use rv_tree::{Assertion, Equation, Expr, ExprForm, Op};
+use rv_instances::{ClockedOperator, Expanded, Instance, Timed, timed_of};
+use rv_tree::{Expr, Op};
 use rv_types::{Kind, NodeClocks, NodeTables, ProgramTables, head_kind};
 use std::alloc::Global;
 use std::cmp::Ordering;
@@ -143,96 +143,36 @@ fn tests_of_node(
         → IfOk result (λ tested. tested ≡ told_tests_in p (node_tree clocks.now.node.now)) }
 {
     let reader = NodeReader::new(alloc, tables, clocks)?;
-    let node = clocks.node;
+    let Timed { operators, .. } = timed_of(alloc, clocks)?;
+    tests_among(alloc, &reader, operators.as_slice())
+}
+
+/// Those among the operators of a node.
+fn tests_among(
+    alloc: Global,
+    reader: &NodeReader,
+    operators: &[ClockedOperator],
+) -> Result<Many<Tested>, Memory>
+    ensures { IfOk result (λ tested. tested ≡ flat_map (own_test (is_told_test (scope_read reader.now))) (map operator_listed operators.now)) }
+{
     let mut found = Many::new(alloc);
-    gather_equations(&reader, node.equations.as_slice(), &mut found)?;
-    gather_assertions(&reader, node.assertions.as_slice(), &mut found)?;
+    for one in operators {
+        push_test(reader, one, &mut found)?;
+    }
     Ok(found)
 }
 
-/// Adds those of right sides.
-fn gather_equations(
+/// Adds an operator, where it has a site and is a comparison of integers.
+fn push_test(
     reader: &NodeReader,
-    equations: &[Equation],
+    one: &ClockedOperator,
     found: &mut Many<Tested>,
 ) -> Result<(), Memory>
-    ensures { OnOk result (found.new ≡ found.old ++ tests_in_equations_by (is_told_test (scope_read reader.now)) (map equation_tree equations.now)) }
+    ensures { OnOk result (found.new ≡ found.old ++ own_test (is_told_test (scope_read reader.now)) (operator_listed one.now)) }
 {
-    for equation in equations {
-        gather(reader, &equation.right, found)?;
-    }
-    Ok(())
-}
-
-/// Adds those of assertions.
-fn gather_assertions(
-    reader: &NodeReader,
-    assertions: &[Assertion],
-    found: &mut Many<Tested>,
-) -> Result<(), Memory>
-    ensures { OnOk result (found.new ≡ found.old ++ tests_in_assertions_by (is_told_test (scope_read reader.now)) (map assertion_tree assertions.now)) }
-{
-    for assertion in assertions {
-        gather(reader, &assertion.body, found)?;
-    }
-    Ok(())
-}
-
-/// Adds those of an expression. It calls itself for each operand, so as deep as the tree is: 20,301 levels at most.
-#[cycle(gather)]
-fn gather(reader: &NodeReader, e: &Expr, found: &mut Many<Tested>) -> Result<(), Memory>
-    ensures { OnOk result (found.new ≡ found.old ++ tests_by (is_told_test (scope_read reader.now)) (tree_of e.now)) }
-{
-    match &e.form {
-        ExprForm::True | ExprForm::False | ExprForm::Number(_) | ExprForm::Named(_) => Ok(()),
-        ExprForm::Not(operand)
-        | ExprForm::Minus(operand)
-        | ExprForm::Pre(operand)
-        | ExprForm::Current(operand)
-        | ExprForm::When(operand, _) => gather(reader, operand, found),
-        ExprForm::Binary(operator, left, right) => {
-            add_test(reader, e.site, *operator, left, found)?;
-            gather(reader, left, found)?;
-            gather(reader, right, found)
-        }
-        ExprForm::If(condition, first, second) => {
-            gather(reader, condition, found)?;
-            gather(reader, first, found)?;
-            gather(reader, second, found)
-        }
-        ExprForm::AtMostOne(operands) => gather_all(reader, operands.as_slice(), found),
-        ExprForm::Call(_, arguments) => gather_all(reader, arguments.as_slice(), found),
-    }
-}
-
-/// Adds those of the expressions.
-#[cycle(gather)]
-fn gather_all(
-    reader: &NodeReader,
-    expressions: &[Expr],
-    found: &mut Many<Tested>,
-) -> Result<(), Memory>
-    ensures { OnOk result (found.new ≡ found.old ++ tests_of_all_by (is_told_test (scope_read reader.now)) (trees (map tree_of expressions.now))) }
-{
-    for e in expressions {
-        gather(reader, e, found)?;
-    }
-    Ok(())
-}
-
-/// Adds an operator of this site and left operand, where it is a comparison of integers.
-#[inline(never)]
-fn add_test(
-    reader: &NodeReader,
-    site: Option<u32>,
-    operator: Op,
-    left: &Expr,
-    found: &mut Many<Tested>,
-) -> Result<(), Memory>
-    ensures { OnOk result (found.new ≡ found.old ++ own_tests_by (is_told_test (scope_read reader.now)) site operator (tree_of left.now)) }
-{
-    if let Some(site) = site {
-        if is_test(reader.tables, &reader.own, operator, left) {
+    let operator = one.operator;
+    if let Some(site) = one.site {
+        if is_test(reader.tables, &reader.own, operator, one.left) {
             found.push(Tested { site, operator })?;
         }
     }
