@@ -1,11 +1,15 @@
 -- A program that is accepted has few memories: no more than expressions in all its instances.
-use Rattle.std.proofs.Common.{◌≡◌, inl, inr, ℕ, zero, suc, ◌+◌, ◌<◌, ◌≤◌, List, [], ◌∷◌, ◌++◌, map, flat_map, length, get_or, refl, sym, ◌∙◌, ap, subst, arith}
-use Rattle.std.proofs.Common.{Option, length-append}
-use Rattle.std.proofs.lemmas.List.{length-map}
-use Rattle.std.specs.List.{Contains}
+use Rattle.std.proofs.Common.{◌≡◌, ℕ, ◌+◌, ◌≤◌, List, [], ◌∷◌, ◌++◌, map, flat_map, length, get_or, refl, sym, ◌∙◌, ap, subst, arith, Option, length-append}
+use Rattle.std.proofs.lemmas.Bool.Decides.{Decides-eqb}
+use Rattle.std.proofs.lemmas.Cmp.{nat_list_eq_equiv}
+use Rattle.std.proofs.lemmas.List.{get_or_default, length-map}
+use Rattle.std.proofs.lemmas.Map.Made.{length-le_from_is_member, is_member-Decides, IsDistinct-from_AllPairs}
+use Rattle.std.proofs.lemmas.Slice.Eq.{slice_eq-Decides}
+use Rattle.std.specs.Bool.{Decides}
+use Rattle.std.specs.List.{AllPairs, Contains}
 use Rattle.rv_tree.specs.Tree.{Tree, Node, Form, True, False, Number, Named, Not, Minus, Pre, Current, When, Binary, If, AtMostOne, Call, Trees, None, More}
 use Rattle.rv_tree.specs.Tree.{EquationTree, AssertionTree, NodeTree, ProgramTree}
-use Rattle.rv_tree.specs.Places.{Identifier, Sites}
+use Rattle.rv_tree.specs.Places.{Identifier, Sites, is_same}
 use Rattle.rv_tree.specs.Delays.{delays, form_delays, delays_of_all, delays_in_equations, delays_in_assertions, node_delays}
 use Rattle.rv_types.specs.Instances.{Instance, IsInstance, all_instances}
 use Rattle.rv_types.specs.Lists.{AreRising, AreMemories, IsAny, MemoryAt, memory_places, delay_place}
@@ -13,55 +17,20 @@ use Rattle.rv_types.specs.Needs.{IsBefore}
 use Rattle.rv_types.specs.Variables.{total}
 use Rattle.rv_instances.specs.Counts.{size, form_size, size_of_all, node_size, expanded}
 use Rattle.rv_flat.proofs.Earliest.{not_itself}
-use Rattle.rv_types.proofs.Members.{at_head, cons_cases as head_or_tail, in_flat_map, in_map, in_tail, nothing_in as none_in, of_map}
+use Rattle.rv_types.proofs.Members.{in_flat_map, in_map, of_map}
 
--- Different elements of a list are no more than it has.
-
--- a list without the element at a number
-without : {X : Type 0} → ℕ → List X → List X
-without k [] = []
-without zero (x ∷ xs) = xs
-without (suc k) (x ∷ xs) = x ∷ without k xs
-
-length_without : {X : Type 0} (k : ℕ) (xs : List X) → k < length xs → length (without k xs) + 1 ≡ length xs
-unfolding without
-length_without k [] lt = absurd (omega (arith, lt))
-length_without zero (x ∷ xs) lt = omega arith
-length_without (suc k) (x ∷ xs) lt = let e = length_without k xs (omega (arith, lt)) in omega (arith, e)
-
-still_there : {X : Type 0} (k : ℕ) (xs : List X) (x y : X) → k < length xs → get_or xs k x ≡ x → (x ≡ y → ⊥) → Contains xs y → Contains (without k xs) y
-unfolding without
-still_there k [] x y lt is other w = none_in y w
-still_there zero (z ∷ xs) x y lt is other w = elim (head_or_tail z xs y w) [
-  | inl same ↦ absurd (other (sym is ∙ same))
-  | inr rest ↦ rest
-]
-still_there (suc k) (z ∷ xs) x y lt is other w = elim (head_or_tail z xs y w) [
-  | inl same ↦ subst (λ u. Contains (u ∷ without k xs) y) (sym same) (at_head y (without k xs))
-  | inr rest ↦ in_tail z (without k xs) y (still_there k xs x y (omega (arith, lt)) is other rest)
-]
-
+-- places that rise are no more than those of a list that has them all
 no_more : (xs ys : List Sites) → AreRising xs → ((x : Sites) → Contains xs x → Contains ys x) → length xs ≤ length ys
-no_more [] ys up all = omega arith
-no_more (x ∷ xs) ys up all =
-    let w = all x (at_head x xs) in
-    let fewer = no_more xs (without w.0 ys) (λ j k lt within. up (suc j) (suc k) (omega (arith, lt)) (omega (arith, within)))
-    (λ y v. still_there w.0 ys x y w.1 w.2 (differs y v) (all y (in_tail x xs y v))) in
-    let long = length_without w.0 ys w.1 in
-    omega (arith, fewer, long)
+no_more xs ys up all = length-le_from_is_member nat_list_eq_equiv xs ys (IsDistinct-from_AllPairs same xs apart)
+    (λ q w. (is_member-Decides same ys q).1 (all q ((is_member-Decides same xs q).0 w)))
   where
-    differs : (y : Sites) → Contains xs y → x ≡ y → ⊥
-    differs y v e =
-        let at = at_number v.0 v.1 v.2 in
-        not_itself y (subst (λ z. IsBefore z y) e at)
-      where
-        at_number : (k : ℕ) → k < length xs → get_or xs k y ≡ y → IsBefore x y
-        at_number k lt is = subst (IsBefore x) (default xs k lt ∙ is) (up 0 (suc k) (omega arith) (omega (arith, lt)))
-          where
-            default : (l : List Sites) (k : ℕ) → k < length l → get_or l k [] ≡ get_or l k y
-            default [] k lt = absurd (omega (arith, lt))
-            default (z ∷ l) zero lt = refl
-            default (z ∷ l) (suc k) lt = default l k (omega (arith, lt))
+    same : (a b : Sites) → Decides (is_same a b) (a ≡ b)
+    same a b = slice_eq-Decides Decides-eqb a b (is_same a b) refl
+
+    apart : AllPairs (λ (a b : Sites). a ≡ b → ⊥) xs
+    apart i j d lt within e =
+        let there : get_or xs i [] ≡ get_or xs j [] = get_or_default xs i [] d (omega (arith, lt, within)) ∙ e ∙ sym (get_or_default xs j [] d within) in
+        not_itself (get_or xs j []) (subst (λ (q : Sites). IsBefore q (get_or xs j [])) there (up i j lt within))
 
 -- There are no more `pre` and `current` than expressions.
 
@@ -74,56 +43,32 @@ mutual
   form_few site False = omega arith
   form_few site (Number n) = omega arith
   form_few site (Named x) = omega arith
-  form_few site (Not e) = let h = delays_few e in omega (arith, h)
-  form_few site (Minus e) = let h = delays_few e in omega (arith, h)
-  form_few site (Pre e) = let h = delays_few e in omega (arith, h)
-  form_few site (Current e) = let h = delays_few e in omega (arith, h)
-  form_few site (When e c) = let h = delays_few e in omega (arith, h)
-  form_few site (Binary o a b) =
-      let h = delays_few a in
-      let k = delays_few b in
-      let l = length-append (delays a) (delays b) in
-      omega (arith, h, k, l)
+  form_few site (Not e) = omega (arith, delays_few e)
+  form_few site (Minus e) = omega (arith, delays_few e)
+  form_few site (Pre e) = omega (arith, delays_few e)
+  form_few site (Current e) = omega (arith, delays_few e)
+  form_few site (When e c) = omega (arith, delays_few e)
+  form_few site (Binary o a b) = omega (arith, delays_few a, delays_few b, length-append (delays a) (delays b))
   form_few site (If a b c) =
-      let h = delays_few a in
-      let k = delays_few b in
-      let m = delays_few c in
-      let l = length-append (delays a) (delays b ++ delays c) in
-      let r = length-append (delays b) (delays c) in
-      omega (arith, h, k, m, l, r)
-  form_few site (AtMostOne es) = let h = all_few es in omega (arith, h)
-  form_few site (Call f es) = let h = all_few es in omega (arith, h)
+      omega (arith, delays_few a, delays_few b, delays_few c, length-append (delays a) (delays b ++ delays c), length-append (delays b) (delays c))
+  form_few site (AtMostOne es) = omega (arith, all_few es)
+  form_few site (Call f es) = omega (arith, all_few es)
 
   all_few : (es : Trees) → length (delays_of_all es) ≤ size_of_all es
   all_few None = omega arith
-  all_few (More e es) =
-      let h = delays_few e in
-      let k = all_few es in
-      let l = length-append (delays e) (delays_of_all es) in
-      omega (arith, h, k, l)
+  all_few (More e es) = omega (arith, delays_few e, all_few es, length-append (delays e) (delays_of_all es))
 
 equations_few : (qs : List EquationTree) → length (delays_in_equations qs) ≤ total (λ (q : EquationTree). size q.right) qs
 equations_few [] = omega arith
-equations_few (q ∷ qs) =
-    let h = delays_few q.right in
-    let k = equations_few qs in
-    let l = length-append (delays q.right) (delays_in_equations qs) in
-    omega (arith, h, k, l)
+equations_few (q ∷ qs) = omega (arith, delays_few q.right, equations_few qs, length-append (delays q.right) (delays_in_equations qs))
 
 assertions_few : (rest : List AssertionTree) → length (delays_in_assertions rest) ≤ total (λ (a : AssertionTree). size a.body) rest
 assertions_few [] = omega arith
-assertions_few (a ∷ rest) =
-    let h = delays_few a.body in
-    let k = assertions_few rest in
-    let l = length-append (delays a.body) (delays_in_assertions rest) in
-    omega (arith, h, k, l)
+assertions_few (a ∷ rest) = omega (arith, delays_few a.body, assertions_few rest, length-append (delays a.body) (delays_in_assertions rest))
 
 node_few : (n : NodeTree) → length (node_delays n) ≤ node_size n
 node_few n =
-    let h = equations_few n.equations in
-    let k = assertions_few n.assertions in
-    let l = length-append (delays_in_equations n.equations) (delays_in_assertions n.assertions) in
-    omega (arith, h, k, l)
+    omega (arith, equations_few n.equations, assertions_few n.assertions, length-append (delays_in_equations n.equations) (delays_in_assertions n.assertions))
 
 -- the places of the memories of some instances
 places_in : Instance → List Sites
@@ -133,11 +78,8 @@ places_few : (is : List Instance) → length (flat_map places_in is) ≤ total (
 unfolding places_in
 places_few [] = omega arith
 places_few (i ∷ is) =
-    let h = node_few i.node in
-    let m = length-map (node_delays i.node) (delay_place i) in
-    let k = places_few is in
-    let l = length-append (map (delay_place i) (node_delays i.node)) (flat_map places_in is) in
-    omega (arith, h, m, k, l)
+    let own = map (delay_place i) (node_delays i.node) in
+    omega (arith, node_few i.node, length-map (node_delays i.node) (delay_place i), places_few is, length-append own (flat_map places_in is))
 
 pub few_memories : (p : ProgramTree) (main : Identifier) (ms : List MemoryAt) → ((i : Instance) → IsInstance p main i → Contains (all_instances p main) i)
     → AreMemories p main IsAny ms

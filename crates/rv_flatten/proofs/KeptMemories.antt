@@ -14,7 +14,7 @@ use Rattle.rv_instances.specs.AllInstances.{numbered}
 use Rattle.rv_instances.specs.Expanded.{IsExpanded, no_instance}
 use Rattle.rv_instances.specs.Layouts.{IsNumberOf}
 use Rattle.rv_flatten.specs.declared.kept.Kept.{Kept}
-use Rattle.rv_flatten.specs.Kept.{kept_memory, AreKept}
+use Rattle.rv_flatten.specs.Kept.{kept_memory, AreKept, IsKept}
 use Rattle.rv_flatten.specs.NodeReaders.{lists_to, AreSortedBy}
 use Rattle.rv_flatten.specs.Remembered.{read_by, reads_in, KeptAt, kept_seen, kept_at, kept_in}
 use Rattle.rv_flatten.proofs.InstanceNumbers.{in_lists, from_lists, made_of, is_node, instance_at, number_at, path_is, node_is}
@@ -25,15 +25,6 @@ use Rattle.rv_types.proofs.Members.{in_map, of_map}
 pub kept_places : (ks : List Kept) → memory_places (map kept_memory ks) ≡ map (λ (k : Kept). k.place.sites) ks
 kept_places [] = refl
 kept_places (k ∷ ks) = ap (λ l. k.place.sites ∷ l) (kept_places ks)
-
--- A memory that is read where it says.
-record IsSeen (p : ProgramTree) (main : Identifier) (instances : List Numbered) (k : Kept) : Type 0 where
-  i : Instance
-  d : Delay
-  is : IsInstance p main i
-  number : IsNumberOf p instances k.instance i
-  there : Contains (node_delays i.node) d
-  seen : kept_at i.path k.instance (read_by i.node (node_scope p i.node) d) ≡ kept_seen k
 
 module _ (p : ProgramTree) (main : Identifier) (instances : List Numbered) (known : IsExpanded p main instances) where
   -- memories with one place are one
@@ -57,7 +48,8 @@ module _ (p : ProgramTree) (main : Identifier) (instances : List Numbered) (know
       λ t. map (kept_at (path t) m) (node t)
 
   module _ (found : List Kept) (is : map kept_seen found ≡ lists_to own (length instances)) where
-    seen_there : (k : Kept) → Contains found k → IsSeen p main instances k
+    -- a memory is read where it says, and is that memory of the instance
+    seen_there : (k : Kept) → Contains found k → (s : IsKept p main instances k) × (kept_memory k ≡ memory_at p s.i s.d)
     seen_there k w =
         let all = subst (λ (l : List KeptAt). Contains l (kept_seen k)) is (in_map kept_seen found k w) in
         let a = from_lists own (length instances) (kept_seen k) all in
@@ -65,16 +57,20 @@ module _ (p : ProgramTree) (main : Identifier) (instances : List Numbered) (know
         let here = subst (λ (l : List KeptAt). Contains l (kept_seen k)) (own_is a.0 b.0 b.1 b.2) a.2 in
         let r = of_map (kept_at b.0.path a.0) (reads_in p b.0.node) (kept_seen k) here in
         let d = of_map (read_by b.0.node (node_scope p b.0.node)) (node_delays b.0.node) r.0 r.1 in
-        let same = ap (kept_at b.0.path a.0) d.2 ∙ r.2 in
-        let m : a.0 ≡ k.instance = ap (λ (x : KeptAt). x.instance) same in
-        record {
-          i = b.0;
-          d = d.0;
-          is = b.1;
-          number = subst (λ m. IsNumberOf p instances m b.0) m (a.1, b.2);
-          there = d.1;
-          seen = subst (λ m. kept_at b.0.path m (read_by b.0.node (node_scope p b.0.node) d.0) ≡ kept_seen k) m same;
-        }
+        let seen : kept_seen k ≡ kept_at b.0.path a.0 (read_by b.0.node (node_scope p b.0.node) d.0) =
+        sym (ap (kept_at b.0.path a.0) d.2 ∙ r.2) in (
+          record {
+            i = b.0;
+            d = d.0;
+            is = b.1;
+            number = subst (λ m. IsNumberOf p instances m b.0) (ap (λ (x : KeptAt). x.instance) (sym seen)) (a.1, b.2);
+            there = d.1;
+            operand = ap (λ (x : KeptAt). x.operand) seen;
+            clock = ap (λ (x : KeptAt). x.clock) seen;
+            place = ap (λ (x : KeptAt). x.place) seen;
+          },
+          ap (λ (x : KeptAt). record { place = x.place; kind = x.kind }) seen,
+        )
 
     all_seen : (i : Instance) (d : Delay) → IsInstance p main i → Contains (node_delays i.node) d
         → (k : Kept) × Contains found k × (k.place.sites ≡ delay_place i d)
@@ -88,40 +84,20 @@ module _ (p : ProgramTree) (main : Identifier) (instances : List Numbered) (know
         let k = of_map kept_seen found x (subst (λ (l : List KeptAt). Contains l x) (sym is) all) in
         (k.0, k.1, ap (λ (x : KeptAt). x.place) k.2)
 
-    -- it is that memory of the instance
-    memory_is : (k : Kept) (s : IsSeen p main instances k) → kept_memory k ≡ memory_at p s.i s.d
-    memory_is k s = ap (λ (x : KeptAt). record { place = x.place; kind = x.kind }) (sym s.seen)
-
-    module _ (ks : List Kept) (up : AreSortedBy (λ (k : Kept). k.place.sites) found ks) where
-      seen_of : (k : Kept) → Contains ks k → IsSeen p main instances k
-      seen_of k w = seen_there k (up.only k w)
-
-      pub are_kept : AreKept p main instances ks
-      are_kept = record {
-        list = record {
-          rising = subst AreRising (sym (kept_places ks)) up.rising;
-          all = λ i d inst taken w.
-              let a = all_seen i d inst w in
-              let y = up.all a.0 a.1 in
-              let s = seen_of y.0 y.1 in
-              let at : delay_place s.i s.d ≡ delay_place i d = ap (λ (x : KeptAt). x.place) s.seen ∙ y.2 ∙ a.2 in
-              subst (λ (m : MemoryAt). Contains (map kept_memory ks) m) (memory_is y.0 s ∙ one_memory s.i i s.d d s.is inst s.there w at)
-              (in_map kept_memory ks y.0 y.1);
-          only = λ m w.
-              let y = of_map kept_memory ks m w in
-              let s = seen_of y.0 y.1 in
-              (s.i, s.d, s.is, tt, s.there, sym y.2 ∙ memory_is y.0 s);
-        };
-        each = λ k w.
-            let s = seen_of k w in
-            record {
-              i = s.i;
-              d = s.d;
-              is = s.is;
-              number = s.number;
-              there = s.there;
-              operand = ap (λ (x : KeptAt). x.operand) (sym s.seen);
-              clock = ap (λ (x : KeptAt). x.clock) (sym s.seen);
-              place = ap (λ (x : KeptAt). x.place) (sym s.seen);
-            };
-      }
+    pub are_kept : (ks : List Kept) → AreSortedBy (λ (k : Kept). k.place.sites) found ks → AreKept p main instances ks
+    are_kept ks up = record {
+      list = record {
+        rising = subst AreRising (sym (kept_places ks)) up.rising;
+        all = λ i d inst taken w.
+            let a = all_seen i d inst w in
+            let y = up.all a.0 a.1 in
+            let s = seen_there y.0 (up.only y.0 y.1) in
+            subst (λ (m : MemoryAt). Contains (map kept_memory ks) m)
+            (s.1 ∙ one_memory s.0.i i s.0.d d s.0.is inst s.0.there w (sym s.0.place ∙ y.2 ∙ a.2)) (in_map kept_memory ks y.0 y.1);
+        only = λ m w.
+            let y = of_map kept_memory ks m w in
+            let s = seen_there y.0 (up.only y.0 y.1) in
+            (s.0.i, s.0.d, s.0.is, tt, s.0.there, sym y.2 ∙ s.1);
+      };
+      each = λ k w. (seen_there k (up.only k w)).0;
+    }

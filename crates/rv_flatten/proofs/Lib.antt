@@ -46,7 +46,6 @@ pub mod MainNames
 pub mod PlaceWalks
 pub mod Standings
 pub mod ArrowClocks
-pub mod PutClocks
 pub mod JoinedReads
 pub mod MarkedTicks
 pub mod FoundNumbers

@@ -1,139 +1,95 @@
 -- The memories by their instances and sites have their numbers.
-use Rattle.std.proofs.Common.{◌≡◌, inl, inr, ℕ, zero, suc, ◌-◌, ◌<◌, ◌≤◌, Bool, true, false, ◌&&◌, cond, nat_eq, List, [], ◌∷◌, ◌++◌, map, length}
-use Rattle.std.proofs.Common.{get_or, refl, sym, ◌∙◌, ap, subst, arith, Some}
-use Rattle.std.proofs.lemmas.Bool.{cases_order}
-use Rattle.std.proofs.lemmas.Bool.Decides.{nat_tests}
-use Rattle.std.proofs.lemmas.List.{length-map, get_or-map}
+use Rattle.std.proofs.Common.{◌≡◌, ℕ, ◌+◌, ◌<◌, ◌≤◌, Bool, true, false, ◌&&◌, cond, nat_eq, List, [], ◌∷◌, ◌++◌, map, length, get_or, sym, ◌∙◌, ap, subst}
+use Rattle.std.proofs.Common.{refl, arith, Option, Some}
+use Rattle.std.proofs.lemmas.Bool.Decides.{Decides-and, Decides-eqb, not_from_Decides}
+use Rattle.std.proofs.lemmas.List.{get_or_default, get_or-map, length-map}
+use Rattle.std.specs.Bool.{Decides}
 use Rattle.std.specs.List.{Contains}
 use Rattle.rv_tree.specs.Tree.{ProgramTree}
 use Rattle.rv_tree.specs.Places.{Identifier, Sites, index_of, memory_site}
 use Rattle.rv_tree.specs.Delays.{Delay, node_delays}
 use Rattle.rv_types.specs.Instances.{Instance, IsInstance}
 use Rattle.rv_types.specs.Lists.{AreRising, MemoryAt, memory_at, delay_place}
-use Rattle.rv_types.specs.Needs.{IsBefore}
 use Rattle.rv_instances.specs.declared.answer.Instance.{Instance as Numbered}
 use Rattle.rv_instances.specs.Expanded.{IsExpanded}
 use Rattle.rv_instances.specs.Layouts.{IsNumberOf, path_at}
 use Rattle.rv_flatten.specs.declared.kept.Kept.{Kept}
 use Rattle.rv_flatten.specs.Kept.{kept_memory, AreKept}
-use Rattle.rv_flatten.specs.Remembered.{last_site, instance_of, site_at, number_to}
-use Rattle.rv_flat.proofs.Earliest.{not_itself}
 use Rattle.rv_flatten.proofs.InstanceNumbers.{path_is, same_number}
 use Rattle.rv_flatten.proofs.KeptMemories.{kept_places}
-use Rattle.rv_flat.proofs.PlaceNumbers.{its_number}
+use Rattle.rv_flat.proofs.TickList.{number_at}
 use Rattle.rv_instances.proofs.FlowPlaces.{snoc_parts as snoc}
 use Rattle.rv_types.proofs.Members.{of_map}
 
--- the site after a path
-pub last_of : (path : Sites) (s : ℕ) → last_site (path ++ s ∷ []) ≡ s
-last_of [] s = refl
-last_of (x ∷ []) s = refl
-last_of (x ∷ y ∷ rest) s = last_of (y ∷ rest) s
-
 -- a test of two numbers
-both_same : (a b m s : ℕ) → (nat_eq a m && nat_eq b s) ≡ true → (a ≡ m) × (b ≡ s)
-both_same a b m s e = tested (nat_eq a m) (nat_eq b s) refl refl e
-  where
-    tested : (x y : Bool) → nat_eq a m ≡ x → nat_eq b s ≡ y → (x && y) ≡ true → (a ≡ m) × (b ≡ s)
-    tested true true p q e = (grind (arith, nat_tests), grind (arith, nat_tests))
-    tested true false p q e = absurd (let bad : ⊥ = cc in bad)
-    tested false y p q e = absurd (let bad : ⊥ = cc in bad)
+same_pair : (a b m s : ℕ) → Decides (nat_eq a m && nat_eq b s) ((a ≡ m) × (b ≡ s))
+same_pair a b m s = Decides-and (nat_eq a m) (nat_eq b s) (Decides-eqb a m) (Decides-eqb b s)
 
-same_both : (a b m s : ℕ) → (nat_eq a m && nat_eq b s) ≡ false → a ≡ m → b ≡ s → ⊥
-same_both a b m s e f g = grind (arith, nat_tests)
-
-module _ (p : ProgramTree) (main : Identifier) (instances : List Numbered) (known : IsExpanded p main instances) (ks : List Kept)
-    (kept : AreKept p main instances ks) where
+module _ (instances : List Numbered) (ks : List Kept) where
   abbrev places : List Sites
   places = map (λ (k : Kept). k.place.sites) ks
 
-  places_rise : AreRising places
-  places_rise = subst AreRising (kept_places ks) kept.list.rising
+  -- By their instances and sites the first memories have their numbers.
+  abbrev pub AreTold : (ℕ → ℕ → Option ℕ) → ℕ → Type 0
+  AreTold told n = (k : Kept) (w : Contains ks k) (s : ℕ) → w.0 < n → k.place.sites ≡ path_at instances k.instance ++ s ∷ []
+      → told k.instance s ≡ Some (index_of places k.place.sites)
 
-  once : (j k : ℕ) → j < k → k < length places → get_or places j [] ≡ get_or places k [] → ⊥
-  once j k lt within e = not_itself (get_or places k []) (subst (λ q. IsBefore q (get_or places k [])) e (places_rise j k lt within))
+module _ (p : ProgramTree) (main : Identifier) (instances : List Numbered) (known : IsExpanded p main instances) (ks : List Kept)
+    (kept : AreKept p main instances ks) where
+  -- a memory stands at the number of its place
+  number_is : (k : Kept) (w : Contains ks k) → index_of (places instances ks) k.place.sites ≡ w.0
+  number_is k w =
+      let long = length-map ks (λ (k : Kept). k.place.sites) in
+      let rising = subst AreRising (kept_places ks) kept.list.rising in
+      let lt = w.1 in
+      let at : get_or (places instances ks) w.0 [] ≡ k.place.sites = get_or-map (λ (k : Kept). k.place.sites) ks w.0 k [] lt
+      ∙ ap (λ (k : Kept). k.place.sites) w.2 in
+      ap (λ q. index_of (places instances ks) q) (sym at) ∙ number_at (places instances ks) rising w.0 (omega (arith, lt, long))
 
-  -- a memory by its number
-  place_at : (n : ℕ) (k : Kept) → n < length ks → get_or ks n k ≡ k → get_or places n [] ≡ k.place.sites
-  place_at n k lt is = get_or-map (λ (k : Kept). k.place.sites) ks n k [] lt ∙ ap (λ (k : Kept). k.place.sites) is
-
-  instance_is : (n : ℕ) (k : Kept) → n < length ks → get_or ks n k ≡ k → instance_of ks n ≡ k.instance
-  instance_is n k lt is = get_or-map (λ (k : Kept). k.instance) ks n k 0 lt ∙ ap (λ (k : Kept). k.instance) is
-
-  site_is : (n : ℕ) (k : Kept) → n < length ks → get_or ks n k ≡ k → site_at ks n ≡ last_site k.place.sites
-  site_is n k lt is = get_or-map (λ (k : Kept). last_site k.place.sites) ks n k 0 lt ∙ ap (λ (k : Kept). last_site k.place.sites) is
-
-  -- its place, by its instance and its site
-  place_told : (k : Kept) → Contains ks k → k.place.sites ≡ path_at instances k.instance ++ last_site k.place.sites ∷ []
-  place_told k w =
+  -- the site of a memory in its instance
+  own_site : (k : Kept) → Contains ks k → (t : ℕ) → ((path : Sites) (s : ℕ) → k.place.sites ≡ path ++ s ∷ [] → t ≡ s)
+      → k.place.sites ≡ path_at instances k.instance ++ t ∷ []
+  own_site k w t last =
       let e = kept.each k w in
       let path = path_is p main instances known k.instance e.i e.number.1 in
-      let site : last_site k.place.sites ≡ memory_site e.i.node e.d.site e.d.operand = ap last_site e.place
-      ∙ last_of e.i.path (memory_site e.i.node e.d.site e.d.operand) in
+      let site = last e.i.path (memory_site e.i.node e.d.site e.d.operand) e.place in
       e.place ∙ (λ t. sym path t ++ sym site t ∷ [])
 
-  one_of : (n : ℕ) (lt : n < length ks) → (k : Kept) × (get_or ks n k ≡ k)
-  one_of n lt = by ks n lt
+  -- one more is told
+  pub one_more_told : (n : ℕ) (x : Kept) → n < length ks → x ≡ get_or ks n x → (t : ℕ) → ((path : Sites) (s : ℕ) → x.place.sites ≡ path ++ s ∷ [] → t ≡ s)
+      → (old new : ℕ → ℕ → Option ℕ) → ((m s : ℕ) → new m s ≡ cond (nat_eq x.instance m && nat_eq t s) (Some n) (old m s))
+      → AreTold instances ks old n → AreTold instances ks new (n + 1)
+  one_more_told n x lt is t last old new grown so_far k w s less place =
+      grown k.instance s ∙ tested (nat_eq x.instance k.instance && nat_eq t s) refl
     where
-      by : (l : List Kept) (n : ℕ) → n < length l → (k : Kept) × (get_or l n k ≡ k)
-      by [] n lt = absurd (omega (arith, lt))
-      by (x ∷ l) zero lt = (x, refl)
-      by (x ∷ l) (suc n) lt = by l n (omega (arith, lt))
+      other : (nat_eq x.instance k.instance && nat_eq t s) ≡ false → w.0 ≡ n → ⊥
+      other e at =
+          let one : x ≡ k = is ∙ get_or_default ks n x k lt ∙ ap (λ n. get_or ks n k) (sym at) ∙ w.2 in
+          not_from_Decides (nat_eq x.instance k.instance && nat_eq t s) (same_pair x.instance t k.instance s) e
+          (ap (λ (k : Kept). k.instance) one, last (path_at instances k.instance) s (ap (λ (k : Kept). k.place.sites) one ∙ place))
 
-  -- memories with one instance and one site are one
-  one_number : (n m : ℕ) → n < length ks → m < length ks → instance_of ks n ≡ instance_of ks m → site_at ks n ≡ site_at ks m → n ≡ m
-  one_number n m lt less e f =
-      let a = one_of n lt in
-      let b = one_of m less in
-      let i : a.0.instance ≡ b.0.instance = sym (instance_is n a.0 lt a.1) ∙ e ∙ instance_is m b.0 less b.1 in
-      let s : last_site a.0.place.sites ≡ last_site b.0.place.sites = sym (site_is n a.0 lt a.1) ∙ f ∙ site_is m b.0 less b.1 in
-      let same : get_or places n [] ≡ get_or places m [] =
-      place_at n a.0 lt a.1 ∙ place_told a.0 (n, lt, a.1) ∙ (λ t. path_at instances (i t) ++ s t ∷ []) ∙ sym (place_told b.0 (m, less, b.1))
-      ∙ sym (place_at m b.0 less b.1) in
-      let long = length-map ks (λ (k : Kept). k.place.sites) in
-      elim (cases_order n m) [
-        | inl is ↦ is
-        | inr other ↦ elim other [
-          | inl before ↦ absurd (once n m before (omega (arith, less, long)) same)
-          | inr after ↦ absurd (once m n after (omega (arith, lt, long)) (sym same))
-        ]
-      ]
-
-  -- so the last one is the only one
-  told : (n : ℕ) → n < length ks → (so_far m s : ℕ) → so_far ≤ length ks → n < so_far → instance_of ks n ≡ m → site_at ks n ≡ s
-      → number_to ks so_far m s ≡ Some n
-  told n lt zero m s le less e f = absurd (omega (arith, less))
-  told n lt (suc k) m s le less e f = tested (nat_eq (instance_of ks k) m && nat_eq (site_at ks k) s) refl
-      (λ before. told n lt k m s (omega (arith, le)) before e f)
-    where
-      tested : (b : Bool) → (nat_eq (instance_of ks k) m && nat_eq (site_at ks k) s) ≡ b → (n < k → number_to ks k m s ≡ Some n)
-          → cond b (Some k) (number_to ks k m s) ≡ Some n
-      tested true is again =
-          let r = both_same (instance_of ks k) (site_at ks k) m s is in
-          ap (λ j. Some j) (one_number k n (omega (arith, le)) lt (r.0 ∙ sym e) (r.1 ∙ sym f))
-      tested false is again = elim (cases_order n k) [
-        | inl same ↦ absurd (same_both (instance_of ks k) (site_at ks k) m s is (ap (instance_of ks) (sym same) ∙ e) (ap (site_at ks) (sym same) ∙ f))
-        | inr other ↦ elim other [
-          | inl before ↦ again before
-          | inr after ↦ absurd (omega (arith, less, after))
-        ]
-      ]
+      tested : (b : Bool) → (nat_eq x.instance k.instance && nat_eq t s) ≡ b
+          → cond b (Some n) (old k.instance s) ≡ Some (index_of (places instances ks) k.place.sites)
+      tested true e =
+          let r = (same_pair x.instance t k.instance s).0 e in
+          let at : Contains ks x = (n, lt, sym is) in
+          let same : x.place.sites ≡ k.place.sites = own_site x at t last ∙ (λ i. path_at instances (r.0 i) ++ r.1 i ∷ []) ∙ sym place in
+          ap (λ j. Some j) (sym (number_is x at) ∙ ap (λ q. index_of (places instances ks) q) same)
+      tested false e = let differs = other e in so_far k w s (omega (arith, less, differs)) place
 
   -- the number of the memory of a `pre` or `current`
-  pub number_told : (m : ℕ) (i : Instance) (d : Delay) → IsInstance p main i → IsNumberOf p instances m i → Contains (node_delays i.node) d
-      → number_to ks (length ks) m (memory_site i.node d.site d.operand) ≡ Some (index_of places (delay_place i d))
-  number_told m i d inst at w =
+  pub number_told : (told : ℕ → ℕ → Option ℕ) (n : ℕ) → length ks ≤ n → AreTold instances ks told n → (m : ℕ) (i : Instance) (d : Delay)
+      → IsInstance p main i → IsNumberOf p instances m i → Contains (node_delays i.node) d
+      → told m (memory_site i.node d.site d.operand) ≡ Some (index_of (places instances ks) (delay_place i d))
+  number_told told n le all m i d inst at w =
       let s = memory_site i.node d.site d.operand in
       let a = of_map kept_memory ks (memory_at p i d) (kept.list.all i d inst tt w) in
       let k = a.0 in
-      let n = a.1.0 in
       let lt = a.1.1 in
-      let is : get_or ks n k ≡ k = a.1.2 in
       let place : k.place.sites ≡ delay_place i d = ap (λ (x : MemoryAt). x.place) a.2 in
-      let parts = snoc (path_at instances k.instance) i.path (last_site k.place.sites) s (sym (place_told k a.1) ∙ place) in
-      let within = (kept.each k a.1).number.0 in
-      let instance : k.instance ≡ m = same_number p main instances known k.instance m within at.0 (parts.0 ∙ sym (path_is p main instances known m i at.1)) in
-      let long = length-map ks (λ (k : Kept). k.place.sites) in
-      let number : index_of places (delay_place i d) ≡ n =
-      ap (λ q. index_of places q) (sym (place_at n k lt is ∙ place)) ∙ its_number places once n (omega (arith, lt, long)) in
-      told n lt (length ks) m s (omega arith) lt (instance_is n k lt is ∙ instance) (site_is n k lt is ∙ parts.1) ∙ ap (λ j. Some j) (sym number)
+      let e = kept.each k a.1 in
+      let parts = snoc e.i.path i.path (memory_site e.i.node e.d.site e.d.operand) s (sym e.place ∙ place) in
+      let path : path_at instances k.instance ≡ i.path = path_is p main instances known k.instance e.i e.number.1 ∙ parts.0 in
+      let instance : k.instance ≡ m = same_number p main instances known k.instance m e.number.0 at.0 (path ∙ sym (path_is p main instances known m i at.1)) in
+      ap (λ m. told m s) (sym instance) ∙ all k a.1 s (omega (arith, lt, le)) (place ∙ ap (λ q. q ++ s ∷ []) (sym path))
+      ∙ ap (λ q. Some (index_of (places instances ks) q)) place

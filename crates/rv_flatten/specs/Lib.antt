@@ -11,5 +11,4 @@ pub mod Remembered
 pub mod Compared
 pub mod VariableLists
 pub mod Arrows
-pub mod Delayed
 pub mod Kinded

@@ -9,7 +9,6 @@ mod arrows;
 mod assertions;
 mod build;
 mod comparisons;
-mod delayed;
 mod expressions;
 mod flows;
 mod found;

@@ -4,43 +4,35 @@ ghost use Rattle.std.specs.Prelude.{◌≡◌, ◌≤◌, ◌^◌, ◌++◌, ◌
 ghost use Rattle.std.specs.List.{Contains};
 ghost use Rattle.std.specs.Cmp.Lexicographic.{slice_cmp};
 ghost use Rattle.std.specs.Ordering.{nat_cmp};
-ghost use Rattle.rv_tree.specs.Delays.{Delay, delays, delays_of_all, delays_in_equations, delays_in_assertions, node_delays};
+ghost use Rattle.rv_tree.specs.Delays.{Delay, node_delays};
 ghost use Rattle.rv_tree.specs.Places.{Identifier, index_of, is_same, memory_site};
-ghost use Rattle.rv_tree.specs.Tree.{ProgramTree, tree_of, trees, node_tree, equation_tree, assertion_tree};
+ghost use Rattle.rv_tree.specs.Tree.{ProgramTree, node_tree};
 ghost use Rattle.rv_types.specs.Instances.{Instance as InstanceTree, IsInstance};
 ghost use Rattle.rv_types.specs.Known.{flow_names};
 ghost use Rattle.rv_types.specs.Lists.{delay_place};
 ghost use Rattle.rv_types.specs.Names.{repeated};
 ghost use Rattle.rv_types.specs.Readings.{AreTables};
-ghost use Rattle.rv_types.specs.declared.typed.Clock.TheVariants.{Base};
 ghost use Rattle.rv_types.specs.declared.typed.Kind.TheVariants as kind;
 ghost use Rattle.rv_instances.specs.Callees.{callee_in};
 ghost use Rattle.rv_instances.specs.AllInstances.{AreCounted};
 ghost use Rattle.rv_instances.specs.Expanded.{IsExpanded, IsKnown, program_of, main_of};
 ghost use Rattle.rv_instances.specs.Fitting.{AreFew};
 ghost use Rattle.rv_instances.specs.Layouts.{IsNumberOf};
+ghost use Rattle.rv_instances.specs.Timed.{delay_listed};
 ghost use Rattle.rv_instances.specs.declared.answer.Instance.{Instance as InstanceModel};
 ghost use Rattle.rv_flatten.specs.declared.kept.Kept.{Kept as KeptModel};
 ghost use Rattle.rv_flatten.specs.Kept.{AreKept};
 ghost use Rattle.rv_flatten.specs.NodeReaders.{node_read, lists_to, AreSortedBy};
-ghost use Rattle.rv_flatten.specs.Remembered.{delayed_seen, delayed, joined, read_seen, reads_in, kept_seen, kept_at, kept_in, last_site, number_to};
+ghost use Rattle.rv_flatten.specs.Remembered.{joined, read_seen, reads_in, kept_seen, kept_at, kept_in};
 
-use crate::delayed::delay_clocks;
 use crate::kept::Kept;
 use crate::node_reader::NodeReader;
 use rv_base::{Many, Memory, Path, Place, Sites};
-use rv_instances::{Callees, Expanded, Instance};
-use rv_tree::{Assertion, Equation, Expr, ExprForm};
+use rv_instances::{Callees, ClockedDelay, Expanded, Instance, Timed, timed_of};
+use rv_tree::Expr;
 use rv_types::{Clock, Kind, NodeClocks, ProgramTables, delay_kinds};
 use std::alloc::Global;
 use std::cmp::Ordering;
-
-/// A `pre` or `current`: the site of the memory that it reads in its node, and its operand.
-#[derive(Clone, Copy)]
-pub struct Delayed<'a> {
-    pub site: u32,
-    pub operand: &'a Expr,
-}
 
 /// What a `pre` or `current` reads: the site of a memory in its node, the type of what it holds, and the operand with its
 /// clock.
@@ -77,7 +69,11 @@ pub fn memory_numbers(alloc: Global, kept: &[Kept]) -> Result<Callees, Memory>
         → IfOk result (λ numbers. (m : ℕ) (i : InstanceTree) (d : Delay) → IsInstance p main i → IsNumberOf p instances m i → Contains (node_delays i.node) d
         → callee_in numbers m (memory_site i.node d.site d.operand) ≡ Some (index_of (map (λ k. k.place.sites) kept.now) (delay_place i d))) }
 {
-    tell_all(alloc, kept)
+    let mut numbers = Callees::new(alloc);
+    for (number, memory) in kept.iter().enumerate() {
+        numbers.tell(memory.instance, site_of(memory), number as u32)?;
+    }
+    Ok(numbers)
 }
 
 /// The memories of a program with few expressions are few.
@@ -86,21 +82,9 @@ pub fn few_memories()
         → AreFew p main → AreKept p main instances ks → length ks ≤ 200000 }
 {}
 
-/// By the numbers of instances and the sites there the numbers of memories, the last one where several are alike.
-fn tell_all(alloc: Global, kept: &[Kept]) -> Result<Callees, Memory>
-    requires few { length kept.now ≤ 2 ^ 32 }
-    ensures { IfOk result (λ numbers. (m s : ℕ) → callee_in numbers m s ≡ number_to kept.now (length kept.now) m s) }
-{
-    let mut numbers = Callees::new(alloc);
-    for (number, memory) in kept.iter().enumerate() {
-        numbers.tell(memory.instance, site_of(memory), number as u32)?;
-    }
-    Ok(numbers)
-}
-
 /// The site of a memory in its instance: the last number of its place.
 fn site_of(memory: &Kept) -> u32
-    ensures { result ≡ last_site memory.now.place.sites }
+    ensures { (path : List ℕ) (s : ℕ) → memory.now.place.sites ≡ path ++ s ∷ [] → result ≡ s }
 {
     match memory.place.sites.last() {
         None => 0,
@@ -223,30 +207,27 @@ fn reads_of_node<'a>(
 {
     let reader = NodeReader::new(alloc, tables, clocks)?;
     let kinds = delay_kinds(alloc, reader.tables, &reader.own, reader.clocks.node)?;
-    let times = delay_clocks(alloc, reader.clocks)?;
-    let node = clocks.node;
-    let mut found = Many::new(alloc);
-    gather_equations(&reader, node.equations.as_slice(), &mut found)?;
-    gather_assertions(&reader, node.assertions.as_slice(), &mut found)?;
-    together(alloc, found.as_slice(), kinds.as_slice(), times.as_slice())
+    let Timed { delays, .. } = timed_of(alloc, reader.clocks)?;
+    together(alloc, &reader, delays.as_slice(), kinds.as_slice())
 }
 
-/// What is read, with the types and the clocks of the operands.
+/// What some `pre` and `current` of a node read, with the types of their operands, which stand in the same order.
+#[tactic(auto, using(crate::proofs::JoinedReads::joined_more))]
 fn together<'a>(
     alloc: Global,
-    found: &[Delayed<'a>],
+    reader: &NodeReader<'a, '_>,
+    delays: &[ClockedDelay<'a>],
     kinds: &[Kind],
-    clocks: &[Clock],
 ) -> Result<Many<MemoryRead<'a>>, Memory>
-    ensures { IfOk result (λ read. map read_seen read ≡ joined kinds.now clocks.now 0 (map delayed_seen found.now)) }
+    ensures { IfOk result (λ read. map read_seen read ≡ joined (node_read reader.now) kinds.now (map delay_listed delays.now)) }
 {
     let mut read = Many::new(alloc);
-    for (number, one) in found.iter().enumerate() {
+    for (number, delay) in delays.iter().enumerate() {
         read.push(MemoryRead {
-            site: one.site,
+            site: reader.memory_site(delay.site, delay.operand),
             kind: kind_at(kinds, number),
-            clock: clock_at(clocks, number),
-            operand: one.operand,
+            clock: delay.clock,
+            operand: delay.operand,
         })?;
     }
     Ok(read)
@@ -260,108 +241,4 @@ fn kind_at(kinds: &[Kind], number: usize) -> Kind
         Some(kind) => *kind,
         None => Kind::Bool,
     }
-}
-
-/// The clock with a number, the base clock where there is none.
-fn clock_at(clocks: &[Clock], number: usize) -> Clock
-    ensures { result ≡ slice_index_or clocks.now number Base }
-{
-    match clocks.get(number) {
-        Some(clock) => *clock,
-        None => Clock::Base,
-    }
-}
-
-/// Adds the `pre` and `current` of right sides.
-fn gather_equations<'a>(
-    reader: &NodeReader<'a, '_>,
-    equations: &'a [Equation],
-    found: &mut Many<Delayed<'a>>,
-) -> Result<(), Memory>
-    ensures { OnOk result (map delayed_seen found.new ≡ map delayed_seen found.old ++ delayed (node_read reader.now)
-        (delays_in_equations (map equation_tree equations.now))) }
-{
-    for equation in equations {
-        gather(reader, &equation.right, found)?;
-    }
-    Ok(())
-}
-
-/// Adds those of assertions.
-fn gather_assertions<'a>(
-    reader: &NodeReader<'a, '_>,
-    assertions: &'a [Assertion],
-    found: &mut Many<Delayed<'a>>,
-) -> Result<(), Memory>
-    ensures { OnOk result (map delayed_seen found.new ≡ map delayed_seen found.old ++ delayed (node_read reader.now)
-        (delays_in_assertions (map assertion_tree assertions.now))) }
-{
-    for assertion in assertions {
-        gather(reader, &assertion.body, found)?;
-    }
-    Ok(())
-}
-
-/// Adds those of an expression. It calls itself for each operand, so as deep as the tree is: 20,301 levels at most.
-#[cycle(gather)]
-fn gather<'a>(
-    reader: &NodeReader<'a, '_>,
-    e: &'a Expr,
-    found: &mut Many<Delayed<'a>>,
-) -> Result<(), Memory>
-    ensures { OnOk result (map delayed_seen found.new ≡ map delayed_seen found.old ++ delayed (node_read reader.now) (delays (tree_of e.now))) }
-{
-    match &e.form {
-        ExprForm::True | ExprForm::False | ExprForm::Number(_) | ExprForm::Named(_) => Ok(()),
-        ExprForm::Not(operand) | ExprForm::Minus(operand) | ExprForm::When(operand, _) => {
-            gather(reader, operand, found)
-        }
-        ExprForm::Pre(operand) | ExprForm::Current(operand) => {
-            add_read(reader, e.site, operand, found)?;
-            gather(reader, operand, found)
-        }
-        ExprForm::Binary(_, left, right) => {
-            gather(reader, left, found)?;
-            gather(reader, right, found)
-        }
-        ExprForm::If(condition, first, second) => {
-            gather(reader, condition, found)?;
-            gather(reader, first, found)?;
-            gather(reader, second, found)
-        }
-        ExprForm::AtMostOne(operands) => gather_all(reader, operands.as_slice(), found),
-        ExprForm::Call(_, arguments) => gather_all(reader, arguments.as_slice(), found),
-    }
-}
-
-/// Adds those of the expressions.
-#[cycle(gather)]
-fn gather_all<'a>(
-    reader: &NodeReader<'a, '_>,
-    expressions: &'a [Expr],
-    found: &mut Many<Delayed<'a>>,
-) -> Result<(), Memory>
-    ensures { OnOk result (map delayed_seen found.new ≡ map delayed_seen found.old ++ delayed (node_read reader.now)
-        (delays_of_all (trees (map tree_of expressions.now)))) }
-{
-    for e in expressions {
-        gather(reader, e, found)?;
-    }
-    Ok(())
-}
-
-/// Adds a `pre` or `current` of this site and operand.
-#[inline(never)]
-fn add_read<'a>(
-    reader: &NodeReader<'a, '_>,
-    site: Option<u32>,
-    operand: &'a Expr,
-    found: &mut Many<Delayed<'a>>,
-) -> Result<(), Memory>
-    ensures { OnOk result (map delayed_seen found.new ≡ map delayed_seen found.old ++ delayed (node_read reader.now)
-        (record { site = site; operand = tree_of operand.now } ∷ [])) }
-{
-    let site = reader.memory_site(site, operand);
-    found.push(Delayed { site, operand })?;
-    Ok(())
 }

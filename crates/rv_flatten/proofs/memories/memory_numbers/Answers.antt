@@ -1,21 +1,18 @@
-use Rattle.std.proofs.Common.{◌≡◌, ℕ, length, map, Some, ◌∙◌}
-use Rattle.std.specs.List.{Contains}
-use Rattle.rv_tree.specs.Places.{index_of, memory_site}
-use Rattle.rv_tree.specs.Delays.{Delay, node_delays}
-use Rattle.rv_types.specs.Instances.{Instance, IsInstance}
-use Rattle.rv_types.specs.Lists.{delay_place}
+use Rattle.std.proofs.Common.{arith}
 use Rattle.rv_instances.specs.Callees.{callee_in}
-use Rattle.rv_instances.specs.Layouts.{IsNumberOf}
-use Rattle.rv_flatten.specs.declared.kept.Kept.{Kept}
-use Rattle.rv_flatten.specs.Remembered.{number_to}
-use Rattle.rv_flatten.proofs.MemoryNumbers.{number_told}
-use Rattle.rv_instances.proofs.Lists.{if_ok}
+use Rattle.rv_flatten.proofs.MemoryNumbers.{one_more_told, number_told}
 use Rattle.rv_flatten.proofs.memories.memory_numbers.Goals as goal
+
+pub loop-number-init : goal.loop-number-init
+loop-number-init c p main instances known kept k w s before place = absurd (omega (arith, before))
+
+pub loop-number-preserved : goal.loop-number-preserved
+loop-number-preserved c p main instances known kept =
+    one_more_told p main instances known c.args.kept.now kept c.loop-number.number c.index-kept-number.result c.loop-number-test.true c.index-kept-number.is
+    c.site_of.result c.site_of.ensures (callee_in c.loop-number.numbers) (callee_in c.tell.new.self) c.in_ok-tell.ensures
+    (c.loop-number.invariant p main instances known kept)
 
 pub returns : goal.returns
 returns c p main instances known kept =
-    let ks = c.args.kept.now in
-    if_ok c.tell_all.result (λ numbers. (m s : ℕ) → callee_in numbers m s ≡ number_to ks (length ks) m s)
-    (λ numbers. (m : ℕ) (i : Instance) (d : Delay) → IsInstance p main i → IsNumberOf p instances m i → Contains (node_delays i.node) d
-    → callee_in numbers m (memory_site i.node d.site d.operand) ≡ Some (index_of (map (λ (k : Kept). k.place.sites) ks) (delay_place i d)))
-    (λ numbers is m i d inst at w. is m (memory_site i.node d.site d.operand) ∙ number_told p main instances known ks kept m i d inst at w) c.tell_all.ensures
+    number_told p main instances known c.args.kept.now kept (callee_in c.loop-number.numbers) c.loop-number.number c.loop-number-test.false
+    (c.loop-number.invariant p main instances known kept)
