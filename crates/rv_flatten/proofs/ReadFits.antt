@@ -47,7 +47,7 @@ use Rattle.rv_agreement.specs.Trees.{FlatTree, Constant, Flow, Ticked, Scale, If
 use Rattle.rv_agreement.specs.Trees.{memory_places, kind_at}
 use Rattle.rv_agreement.specs.Valuations.{is_placed}
 use Rattle.rv_flatten.specs.Kinded.{IsKinded}
-use Rattle.rv_flatten.proofs.ArrowClocks.{node_comes, node_true}
+use Rattle.rv_flatten.proofs.ArrowClocks.{arrow_true}
 use Rattle.rv_flatten.proofs.ComparedParts.{has_site}
 use Rattle.rv_flat.proofs.Earliest.{not_itself}
 use Rattle.rv_flatten.proofs.ItemClocks.{number_at, number_within, item_clock, output_clock}
@@ -682,8 +682,7 @@ module _ (program : ProgramTree) (main : Identifier) (well : AreWell program) (n
         let i : Instance = r.0 in
         let e : Tree = r.1 in
         clock_flow program main well named i (taken_clock i Base e) q r.2
-        (node_true program i.node (typed program main well named i r.2) (formed program main well named i r.2) (taken_clock i Base e)
-        (node_comes i.node e r.3 r.4)) r.5
+        (arrow_true program i.node (typed program main well named i r.2) (formed program main well named i r.2) e r.3 r.4) r.5
 
     ticks_fit : (qs : List Sites) → ((q : Sites) → Contains qs q → Contains numbers.ticks q) → clocks_fit s (map (λ q. Some (number q)) qs) ≡ true
     ticks_fit [] into = refl

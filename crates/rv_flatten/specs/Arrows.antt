@@ -1,44 +1,24 @@
--- The clocks on which the `->` of a node stand, in the order in which a walk over its expressions comes to them, and the
--- numbers of their flows in all instances.
+-- The clocks on which the `->` of a node stand, in the order in which they are written, and the numbers of their flows in all
+-- instances.
 use Rattle.std.specs.Prelude.{ℕ, zero, suc, ◌+◌, Bool, true, cond, List, [], ◌∷◌, ◌++◌, flat_map, slice_set}
-use Rattle.rv_tree.specs.Tree.{Tree, Node, Form, True, False, Number, Named, Not, Minus, Pre, Current, When, Binary, If, AtMostOne, Call, Trees, None, More}
+use Rattle.rv_tree.specs.declared.tree.Op.{Op}
+use Rattle.rv_tree.specs.declared.tree.Op.TheVariants as op
 use Rattle.rv_tree.specs.Tree.{NodeTree, ProgramTree}
 use Rattle.rv_types.specs.declared.typed.Clock.{Clock}
-use Rattle.rv_types.specs.Clocks.{seen, binary_pace, pace}
 use Rattle.rv_instances.specs.declared.answer.Instance.{Instance as Numbered}
 use Rattle.rv_instances.specs.declared.layout.Layout.{Layout}
 use Rattle.rv_instances.specs.Layouts.{Here, here_of, node_at}
 use Rattle.rv_instances.specs.NumberedNeeds.{listed, clock_number}
-use Rattle.rv_instances.specs.ArrowClocks.{arrow_clock}
+use Rattle.rv_instances.specs.Timed.{operators_told}
 
-module _ (n : NodeTree) where
-  abbrev mutual
-    -- the clocks of the `->` of an expression, after those of its parts
-    pub arrows_in : Tree → List Clock
-    arrows_in (Node at site form) = form_arrows form
+-- the clock of an operator, where it is a `->`
+abbrev pub arrow_of : Op → Clock → List Clock
+arrow_of op.Arrow k = k ∷ []
+arrow_of _ k = []
 
-    pub form_arrows : Form → List Clock
-    form_arrows True = []
-    form_arrows False = []
-    form_arrows (Number v) = []
-    form_arrows (Named x) = []
-    form_arrows (Not e) = arrows_in e
-    form_arrows (Minus e) = arrows_in e
-    form_arrows (Pre e) = arrows_in e
-    form_arrows (Current e) = arrows_in e
-    form_arrows (When e c) = arrows_in e
-    form_arrows (Binary o a b) = arrows_in a ++ (arrows_in b ++ arrow_clock o (binary_pace o (seen (pace n a)) (seen (pace n b))))
-    form_arrows (If a b c) = arrows_in a ++ (arrows_in b ++ arrows_in c)
-    form_arrows (AtMostOne es) = arrows_in_all es
-    form_arrows (Call f es) = arrows_in_all es
-
-    pub arrows_in_all : Trees → List Clock
-    arrows_in_all None = []
-    arrows_in_all (More e es) = arrows_in e ++ arrows_in_all es
-
-  -- those of all expressions of the node
-  abbrev pub node_arrows : List Clock
-  node_arrows = flat_map (λ q. arrows_in q.right) n.equations ++ flat_map (λ a. arrows_in a.body) n.assertions
+-- the clocks of the `->` of a node
+abbrev pub node_arrows : NodeTree → List Clock
+node_arrows n = flat_map (λ o. arrow_of o.operator o.clock) (operators_told n)
 
 -- the numbers of the flows of some clocks of an instance
 abbrev pub numbers_of_clocks : Here → List Clock → List ℕ

@@ -5,7 +5,6 @@
 //! program. Begin with build.rt, then specs/Building.antt.
 #![tactic(auto)]
 
-mod arrows;
 mod assertions;
 mod build;
 mod comparisons;

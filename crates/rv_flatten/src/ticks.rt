@@ -4,19 +4,22 @@ ghost use Rattle.std.specs.Prelude.{◌≡◌, ◌+◌, ◌<◌, ◌^◌, ◌++�
 ghost use Rattle.std.specs.Prelude.{OnOk};
 ghost use Rattle.std.specs.List.{Contains};
 ghost use Rattle.rv_tree.specs.Places.{Sites, index_of};
+ghost use Rattle.rv_tree.specs.Tree.{node_tree};
 ghost use Rattle.rv_types.specs.declared.typed.Clock.{Clock as ClockModel};
 ghost use Rattle.rv_types.specs.Lists.{AreRising, AreTicks};
 ghost use Rattle.rv_instances.specs.Expanded.{IsKnown, program_of, main_of};
 ghost use Rattle.rv_instances.specs.Flowing.{place_at};
 ghost use Rattle.rv_instances.specs.Layouts.{IsLayout, IsWithin, all_places};
 ghost use Rattle.rv_instances.specs.NumberedNeeds.{IsReader, listed, numbers_of};
-ghost use Rattle.rv_flatten.specs.Arrows.{arrow_numbers, arrow_numbers_to, marked_from, numbers_of_clocks, with_marks};
+ghost use Rattle.rv_flatten.specs.Arrows.{arrow_numbers, arrow_numbers_to, arrow_of, marked_from, node_arrows, numbers_of_clocks, with_marks};
 
-use crate::arrows::arrow_clocks;
 use crate::positions::{flow_count, standing};
 use rv_base::{Many, Memory};
-use rv_instances::{Expanded, Layout, Reader, flow_places, instance_numbers, numbered_instances};
-use rv_types::Clock;
+use rv_instances::{
+    Expanded, Layout, Reader, Timed, flow_places, instance_numbers, numbered_instances, timed_of,
+};
+use rv_tree::Op;
+use rv_types::{Clock, NodeClocks};
 use std::alloc::{AllocError, Global};
 
 /// The numbers of the flows of the clocks on which a `->` stands, rising; main's base clock left out.
@@ -67,6 +70,29 @@ fn add_instance(
     let reader = Reader::new(expanded, layout, instance);
     let clocks = arrow_clocks(alloc, reader.clocks)?;
     add_numbers(&reader, clocks.as_slice(), found)
+}
+
+/// The clocks of the `->` of a node.
+fn arrow_clocks(alloc: Global, clocks: &NodeClocks) -> Result<Many<Clock>, Memory>
+    ensures { IfOk result (λ found. found ≡ node_arrows (node_tree clocks.now.node.now)) }
+{
+    let Timed { operators, .. } = timed_of(alloc, clocks)?;
+    let mut found = Many::new(alloc);
+    for operator in operators.as_slice() {
+        add_arrow(operator.operator, operator.clock, &mut found)?;
+    }
+    Ok(found)
+}
+
+/// Adds the clock of an operator, if that is a `->`.
+fn add_arrow(operator: Op, clock: Clock, found: &mut Many<Clock>) -> Result<(), AllocError>
+    ensures { OnOk result (found.new ≡ found.old ++ arrow_of operator clock) }
+{
+    if matches!(operator, Op::Arrow) {
+        found.push(clock)
+    } else {
+        Ok(())
+    }
 }
 
 /// Adds the numbers of the flows of some clocks of an instance.

@@ -1,9 +1,0 @@
-use Rattle.std.proofs.Common.{◌≡◌, ◌++◌, map, flat_map, drop}
-use Rattle.rv_tree.specs.Tree.{AssertionTree, assertion_tree, node_tree}
-use Rattle.rv_flatten.specs.Arrows.{arrows_in}
-use Rattle.rv_flatten.proofs.arrows.gather_assertions.Given as goal
-
-abbrev pub invariant-loop-assertion : goal.invariant-loop-assertion
-invariant-loop-assertion l =
-    l.found ++ flat_map (λ (a : AssertionTree). arrows_in (node_tree l.clocks.node.now) a.body) (map assertion_tree (drop l.assertion-index l.assertions))
-    ≡ l.initial.found ++ flat_map (λ (a : AssertionTree). arrows_in (node_tree l.clocks.node.now) a.body) (map assertion_tree l.assertions)
