@@ -8,6 +8,7 @@
 mod flow_graph;
 mod flow_weights;
 mod needs;
+mod paces;
 mod sequence;
 mod sequencing;
 mod shown;

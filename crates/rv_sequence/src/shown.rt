@@ -13,8 +13,8 @@ ghost use Rattle.rv_instances.specs.NumberedNeeds.{IsReader, clock_number, flow_
 ghost use Rattle.rv_sequence.specs.Needed.{told_needed, told_needed_by_all};
 
 use crate::needs::{add_flow, add_output};
+use crate::paces::clock_of;
 use rv_base::{Many, Memory, Text};
-use rv_calls::clock_of;
 use rv_instances::Reader;
 use rv_tree::{Expr, ExprForm, Op};
 use rv_types::{Pace, called_pace, told_choice_pace, told_joined_pace, told_operator_pace};
