@@ -105,3 +105,6 @@ module _ (p : ProgramTree) (main : Identifier) where
     labels = below 256 l (first_above 256 (map label_count p.types)) named fits (omega arith);
     variables = below 4096 n (variable_count p main) is small (omega arith);
   }
+
+-- what tells, quantity by quantity, the first that is too large, or that none is
+pub ruleset judged = (memories_above, inputs_above, labels_above, variables_above, is_sized)

@@ -51,8 +51,7 @@ const MOST_VARIABLES: u64 = 4_096;
 /// Checks the sizes of a program in their order, and answers how many expressions there are, or the first that is too
 /// large (`TooLarge`). Sums are taken over nodes, so a program that doubles at each level costs no more than its text. `Memory` comes
 /// only for want of memory.
-#[tactic(auto, using(crate::proofs::Sized::memories_above, crate::proofs::Sized::inputs_above, crate::proofs::Sized::labels_above,
-    crate::proofs::Sized::variables_above, crate::proofs::Sized::is_sized))]
+#[tactic(auto, using(crate::proofs::Sized::judged))]
 pub fn check_sizes(alloc: Global, p: &Program, t: &Typed, nodes: &Nodes) -> Result<u64, CauseFault>
     requires bounded { IsBounded (program_tree p.now) }
     requires named { name_faults (program_tree p.now) ≡ [] }
