@@ -1,10 +1,11 @@
 //! The spaces of names of a whole program.
 
-ghost use Rattle.std.specs.Prelude.{◌≡◌, ◌∷◌, [], IfOk, map, flat_map, cond};
+ghost use Rattle.std.specs.Prelude.{◌≡◌, ◌∷◌, ◌++◌, [], IfOk, map, flat_map, cond};
 ghost use Rattle.rv_tree.specs.Tree.{program_tree, constant_tree, node_tree};
 ghost use Rattle.rv_types.specs.declared.fault.NameFault.TheVariants.{DefinedTwice};
-ghost use Rattle.rv_types.specs.Names.{is_declared, labels_of, decl_names, repeated, repeated_after};
-ghost use Rattle.rv_types.specs.Firsts.{with_name, firsts_after};
+ghost use Rattle.rv_types.specs.Names.{is_declared, labels_of, decl_names, repeated, repeated_after, repeated_values};
+ghost use Rattle.rv_types.specs.Names.{type_names, constant_names, label_names, node_names};
+ghost use Rattle.rv_types.specs.Firsts.{with_name, firsts_after, firsts};
 ghost use Rattle.rv_types.specs.Known.{first_spaces, second_declarations};
 ghost use Rattle.rv_types.specs.Earliest.{first};
 
@@ -177,6 +178,61 @@ pub struct Declared {
     pub fault: Option<NameFault>,
 }
 
+/// The first name that is a constant and a label, at the later of the two.
+fn fault_between(constants: &Space, labels: &Space, p: &Program) -> Option<NameFault>
+    requires constants { constants.now ≡ firsts (constant_names (program_tree p.now)) }
+    requires labels { labels.now ≡ firsts (label_names (program_tree p.now)) }
+    ensures { result ≡ first (flat_map (repeated_after (label_names (program_tree p.now))) (constant_names (program_tree p.now))
+        ++ flat_map (repeated_after (constant_names (program_tree p.now))) (label_names (program_tree p.now))) }
+{
+    sooner_of(
+        constants_after(labels, p.constants.as_slice()),
+        labels_after(constants, p.types.as_slice()),
+    )
+}
+
+/// Declares the constants and the labels of a program; the fault is the first second declaration of these.
+fn declare_values(
+    constants: &mut Space,
+    labels: &mut Space,
+    p: &Program,
+) -> Result<Option<NameFault>, Memory>
+    requires no_constants { constants.old ≡ [] }
+    requires no_labels { labels.old ≡ [] }
+    ensures constants { IfOk result (λ fault. constants.new ≡ firsts (constant_names (program_tree p.now))) }
+    ensures labels { IfOk result (λ fault. labels.new ≡ firsts (label_names (program_tree p.now))) }
+    ensures fault { IfOk result (λ fault. fault ≡ first (repeated_values (program_tree p.now))) }
+{
+    let second_constants = declare_constants(constants, p.constants.as_slice())?;
+    let second_labels = declare_labels(labels, p.types.as_slice())?;
+    let own = sooner_of(second_constants, second_labels);
+    Ok(sooner_of(own, fault_between(constants, labels, p)))
+}
+
+/// Declares all names of a program; the fault is the first second declaration.
+fn declare_all(
+    types: &mut Space,
+    constants: &mut Space,
+    labels: &mut Space,
+    nodes: &mut Space,
+    p: &Program,
+) -> Result<Option<NameFault>, Memory>
+    requires no_types { types.old ≡ [] }
+    requires no_constants { constants.old ≡ [] }
+    requires no_labels { labels.old ≡ [] }
+    requires no_nodes { nodes.old ≡ [] }
+    ensures types { IfOk result (λ fault. types.new ≡ firsts (type_names (program_tree p.now))) }
+    ensures constants { IfOk result (λ fault. constants.new ≡ firsts (constant_names (program_tree p.now))) }
+    ensures labels { IfOk result (λ fault. labels.new ≡ firsts (label_names (program_tree p.now))) }
+    ensures nodes { IfOk result (λ fault. nodes.new ≡ firsts (node_names (program_tree p.now))) }
+    ensures fault { IfOk result (λ fault. fault ≡ first (second_declarations (program_tree p.now))) }
+{
+    let second_nodes = declare_nodes(nodes, p.nodes.as_slice())?;
+    let second_types = declare_types(types, p.types.as_slice())?;
+    let second_values = declare_values(constants, labels, p)?;
+    Ok(sooner_of(second_nodes, sooner_of(second_types, second_values)))
+}
+
 /// The spaces of a program.
 pub fn spaces_of(alloc: Global, p: &Program) -> Result<Declared, Memory>
     ensures spaces { IfOk result (λ d. d.spaces ≡ first_spaces (program_tree p.now)) }
@@ -186,16 +242,7 @@ pub fn spaces_of(alloc: Global, p: &Program) -> Result<Declared, Memory>
     let mut constants = Space::new(alloc);
     let mut labels = Space::new(alloc);
     let mut nodes = Space::new(alloc);
-    let second_nodes = declare_nodes(&mut nodes, p.nodes.as_slice())?;
-    let second_types = declare_types(&mut types, p.types.as_slice())?;
-    let second_constants = declare_constants(&mut constants, p.constants.as_slice())?;
-    let second_labels = declare_labels(&mut labels, p.types.as_slice())?;
-    let between = sooner_of(
-        constants_after(&labels, p.constants.as_slice()),
-        labels_after(&constants, p.types.as_slice()),
-    );
-    let values = sooner_of(sooner_of(second_constants, second_labels), between);
-    let fault = sooner_of(second_nodes, sooner_of(second_types, values));
+    let fault = declare_all(&mut types, &mut constants, &mut labels, &mut nodes, p)?;
     let spaces = Spaces {
         types,
         constants,
