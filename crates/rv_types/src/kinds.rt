@@ -187,3 +187,24 @@ pub fn label_places(alloc: Global, types: &[TypeDecl]) -> Result<Many<Label>, Me
     }
     Ok(places)
 }
+
+/// What the types of a program mean, and its labels.
+#[derive(Drop)]
+pub struct TypeTables {
+    pub kinds: Many<Kind>,
+    pub places: Many<Label>,
+}
+
+/// What the types of a program mean, and its labels.
+pub fn type_tables(alloc: Global, names: &Space, types: &[TypeDecl]) -> Result<TypeTables, Memory>
+    requires names { names.now ≡ map (λ d. d.name) types.now }
+    requires different { repeated [] names.now ≡ [] }
+    requires few { length types.now ≤ source_limit }
+    requires few_labels { (d : AnyType) → Contains types.now d → length (labels_of d) ≤ source_limit }
+    ensures kinds { IfOk result (λ t. t.kinds ≡ declared_kinds (reverse types.now)) }
+    ensures places { IfOk result (λ t. t.places ≡ places_from 0 types.now) }
+{
+    let kinds = type_kinds(alloc, names, types)?;
+    let places = label_places(alloc, types)?;
+    Ok(TypeTables { kinds, places })
+}

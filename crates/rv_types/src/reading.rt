@@ -1,21 +1,22 @@
 //! The types of the expressions of a program whose names are right.
 
-ghost use Rattle.std.specs.Prelude.{◌≡◌, [], Some, is_some, IfOk, IfSome};
+ghost use Rattle.std.specs.Prelude.{◌≡◌, [], Some, is_some, map, reverse, IfOk, IfSome};
 ghost use Rattle.rv_tree.specs.Bounded.{IsBounded};
 ghost use Rattle.rv_tree.specs.Places.{index_of, flows};
 ghost use Rattle.rv_tree.specs.Tree.{ProgramTree, node_tree, program_tree, tree_of};
+ghost use Rattle.rv_types.specs.ConstantTables.{AreTablesOf};
 ghost use Rattle.rv_types.specs.Heads.{head_kind as told_by_head};
 ghost use Rattle.rv_types.specs.Known.{flow_names};
 ghost use Rattle.rv_types.specs.Names.{is_declared, name_faults, repeated, texts};
 ghost use Rattle.rv_types.specs.Readings.{AreTables, view_of};
-ghost use Rattle.rv_types.specs.Scopes.{node_scope};
+ghost use Rattle.rv_types.specs.Scopes.{node_scope, constant_kinds_of, signature_of};
 ghost use Rattle.rv_types.specs.Tables.{scope_of};
 ghost use Rattle.rv_types.specs.Types.{kind_of};
 ghost use Rattle.rv_types.specs.declared.typed.Kind.{Kind as AnyKind};
 
 use crate::constants::{Globals, constants_of};
 use crate::heads::head;
-use crate::kinds::{flow_kinds, label_places, signatures, type_kinds};
+use crate::kinds::{TypeTables, flow_kinds, signatures, type_tables};
 use crate::names::flows_of;
 use crate::space::Space;
 use crate::spaces::{Spaces, spaces_of};
@@ -42,6 +43,28 @@ pub struct NodeTables {
     kinds: Many<Kind>,
 }
 
+/// The types of a program's constants, and what its nodes take and give.
+#[derive(Drop)]
+struct BodyTables {
+    constant_kinds: Many<Option<Kind>>,
+    signatures: Many<Signature>,
+}
+
+/// The types of a program's constants, and what its nodes take and give.
+fn body_tables(alloc: Global, globals: &Globals, p: &Program) -> Result<BodyTables, Memory>
+    requires { AreTablesOf (program_tree p.now) globals.now.types.now globals.now.type_kinds.now globals.now.constants.now globals.now.labels.now
+        globals.now.places.now }
+    ensures constants { IfOk result (λ b. b.constant_kinds ≡ constant_kinds_of (program_tree p.now) (reverse (program_tree p.now).constants)) }
+    ensures signatures { IfOk result (λ b. b.signatures ≡ map (signature_of (program_tree p.now)) (program_tree p.now).nodes) }
+{
+    let signatures = signatures(alloc, globals.types, globals.type_kinds, p.nodes.as_slice())?;
+    let constant_kinds = constants_of(alloc, globals, p)?.kinds;
+    Ok(BodyTables {
+        constant_kinds,
+        signatures,
+    })
+}
+
 /// The tables of a program whose names are right.
 pub fn program_tables(alloc: Global, p: &Program) -> Result<ProgramTables, Memory>
     requires bounded { IsBounded (program_tree p.now) }
@@ -49,8 +72,10 @@ pub fn program_tables(alloc: Global, p: &Program) -> Result<ProgramTables, Memor
     ensures { IfOk result (AreTables (program_tree p.now)) }
 {
     let spaces = spaces_of(alloc, p)?.spaces;
-    let types = type_kinds(alloc, &spaces.types, p.types.as_slice())?;
-    let places = label_places(alloc, p.types.as_slice())?;
+    let TypeTables {
+        kinds: types,
+        places,
+    } = type_tables(alloc, &spaces.types, p.types.as_slice())?;
     let globals = Globals {
         types: &spaces.types,
         type_kinds: types.as_slice(),
@@ -58,8 +83,10 @@ pub fn program_tables(alloc: Global, p: &Program) -> Result<ProgramTables, Memor
         labels: &spaces.labels,
         places: places.as_slice(),
     };
-    let constant_kinds = constants_of(alloc, &globals, p)?.kinds;
-    let signatures = signatures(alloc, &spaces.types, types.as_slice(), p.nodes.as_slice())?;
+    let BodyTables {
+        constant_kinds,
+        signatures,
+    } = body_tables(alloc, &globals, p)?;
     Ok(ProgramTables {
         spaces,
         types,

@@ -26,6 +26,23 @@ pub struct Spaces {
     pub nodes: Space,
 }
 
+impl Spaces {
+    /// No names.
+    fn new(alloc: Global) -> Spaces
+        ensures types { result.types ≡ [] }
+        ensures constants { result.constants ≡ [] }
+        ensures labels { result.labels ≡ [] }
+        ensures nodes { result.nodes ≡ [] }
+    {
+        Spaces {
+            types: Space::new(alloc),
+            constants: Space::new(alloc),
+            labels: Space::new(alloc),
+            nodes: Space::new(alloc),
+        }
+    }
+}
+
 /// Declares a name, and tells whether that is a second declaration.
 fn declare(space: &mut Space, name: &Name) -> Result<Option<NameFault>, Memory>
     ensures space { IfOk result (λ fault. space.new ≡ with_name space.old name.now) }
@@ -210,26 +227,17 @@ fn declare_values(
 }
 
 /// Declares all names of a program; the fault is the first second declaration.
-fn declare_all(
-    types: &mut Space,
-    constants: &mut Space,
-    labels: &mut Space,
-    nodes: &mut Space,
-    p: &Program,
-) -> Result<Option<NameFault>, Memory>
-    requires no_types { types.old ≡ [] }
-    requires no_constants { constants.old ≡ [] }
-    requires no_labels { labels.old ≡ [] }
-    requires no_nodes { nodes.old ≡ [] }
-    ensures types { IfOk result (λ fault. types.new ≡ firsts (type_names (program_tree p.now))) }
-    ensures constants { IfOk result (λ fault. constants.new ≡ firsts (constant_names (program_tree p.now))) }
-    ensures labels { IfOk result (λ fault. labels.new ≡ firsts (label_names (program_tree p.now))) }
-    ensures nodes { IfOk result (λ fault. nodes.new ≡ firsts (node_names (program_tree p.now))) }
+fn declare_all(spaces: &mut Spaces, p: &Program) -> Result<Option<NameFault>, Memory>
+    requires no_types { spaces.old.types ≡ [] }
+    requires no_constants { spaces.old.constants ≡ [] }
+    requires no_labels { spaces.old.labels ≡ [] }
+    requires no_nodes { spaces.old.nodes ≡ [] }
+    ensures spaces { IfOk result (λ fault. spaces.new ≡ first_spaces (program_tree p.now)) }
     ensures fault { IfOk result (λ fault. fault ≡ first (second_declarations (program_tree p.now))) }
 {
-    let second_nodes = declare_nodes(nodes, p.nodes.as_slice())?;
-    let second_types = declare_types(types, p.types.as_slice())?;
-    let second_values = declare_values(constants, labels, p)?;
+    let second_nodes = declare_nodes(&mut spaces.nodes, p.nodes.as_slice())?;
+    let second_types = declare_types(&mut spaces.types, p.types.as_slice())?;
+    let second_values = declare_values(&mut spaces.constants, &mut spaces.labels, p)?;
     Ok(sooner_of(second_nodes, sooner_of(second_types, second_values)))
 }
 
@@ -238,16 +246,7 @@ pub fn spaces_of(alloc: Global, p: &Program) -> Result<Declared, Memory>
     ensures spaces { IfOk result (λ d. d.spaces ≡ first_spaces (program_tree p.now)) }
     ensures fault { IfOk result (λ d. d.fault ≡ first (second_declarations (program_tree p.now))) }
 {
-    let mut types = Space::new(alloc);
-    let mut constants = Space::new(alloc);
-    let mut labels = Space::new(alloc);
-    let mut nodes = Space::new(alloc);
-    let fault = declare_all(&mut types, &mut constants, &mut labels, &mut nodes, p)?;
-    let spaces = Spaces {
-        types,
-        constants,
-        labels,
-        nodes,
-    };
+    let mut spaces = Spaces::new(alloc);
+    let fault = declare_all(&mut spaces, p)?;
     Ok(Declared { spaces, fault })
 }

@@ -1,55 +1,49 @@
 use Rattle.std.proofs.Common.{List, [], ap, sym, ◌∙◌, map, reverse, subst}
 use Rattle.std.specs.List.{Contains}
 use Rattle.rv_tree.specs.declared.tree.TypeDecl.{TypeDecl}
-use Rattle.rv_tree.specs.Tree.{program_tree, node_tree}
+use Rattle.rv_tree.specs.Tree.{program_tree}
 use Rattle.rv_types.specs.declared.spaces.Spaces.{Spaces}
-use Rattle.rv_types.specs.ConstantTables.{AreTablesOf}
 use Rattle.rv_types.specs.Names.{type_names, repeated}
-use Rattle.rv_types.specs.TypeTables.{declared_kinds, places_from, signature_by}
+use Rattle.rv_types.specs.TypeTables.{declared_kinds, places_from}
 use Rattle.rv_types.proofs.FirstNames.{all_first}
 use Rattle.rv_types.proofs.RightNames.{all_different, few_labels, tables_are, node_table_is}
-use Rattle.rv_types.proofs.ConstantMeanings.{types_named}
 use Rattle.rv_types.proofs.reading.program_tables.Goals as goal
 
-pub type_kinds-requires-clause-names : goal.type_kinds-requires-clause-names
-type_kinds-requires-clause-names c =
+pub type_tables-requires-clause-names : goal.type_tables-requires-clause-names
+type_tables-requires-clause-names c =
     let p = program_tree c.args.p.now in
     ap (λ (s : Spaces). s.types) c.in_ok-spaces.ensures.spaces ∙ all_first (type_names p) (all_different p c.requires.names).types
     ∙ ap (map (λ (d : TypeDecl). d.name)) (sym c.as_slice.ensures)
 
-pub type_kinds-requires-clause-different : goal.type_kinds-requires-clause-different
-type_kinds-requires-clause-different c =
+pub type_tables-requires-clause-different : goal.type_tables-requires-clause-different
+type_tables-requires-clause-different c =
     let p = program_tree c.args.p.now in
     let d = (all_different p c.requires.names).types in
     ap (λ (s : Spaces). repeated [] s.types) c.in_ok-spaces.ensures.spaces ∙ ap (repeated []) (all_first (type_names p) d) ∙ d
 
-pub label_places-requires-clause-few_labels : goal.label_places-requires-clause-few_labels
-label_places-requires-clause-few_labels c d h =
-    few_labels d (λ xs e. c.requires.bounded.labels d xs (subst (λ (ds : List TypeDecl). Contains ds d) c.as_slice-2.ensures h) e)
+pub type_tables-requires-clause-few_labels : goal.type_tables-requires-clause-few_labels
+type_tables-requires-clause-few_labels c d h =
+    few_labels d (λ xs e. c.requires.bounded.labels d xs (subst (λ (ds : List TypeDecl). Contains ds d) c.as_slice.ensures h) e)
 
-pub constants_of-requires : goal.constants_of-requires
-constants_of-requires c =
-    tables_are (program_tree c.args.p.now) c.in_ok-spaces.field-0.spaces c.as_slice-3.result.now c.as_slice-4.result.now c.requires.names
+pub body_tables-requires : goal.body_tables-requires
+body_tables-requires c =
+    tables_are (program_tree c.args.p.now) c.in_ok-spaces.field-0.spaces c.as_slice-2.result.now c.as_slice-3.result.now c.requires.names
     c.in_ok-spaces.ensures.spaces
-    (c.as_slice-3.ensures ∙ c.in_ok-types.ensures ∙ ap (λ (ds : List TypeDecl). declared_kinds (reverse ds)) c.as_slice.ensures)
-    (c.as_slice-4.ensures ∙ c.in_ok-places.ensures ∙ ap (places_from 0) c.as_slice-2.ensures)
+    (c.as_slice-2.ensures ∙ c.in_ok-types.ensures.kinds ∙ ap (λ (ds : List TypeDecl). declared_kinds (reverse ds)) c.as_slice.ensures)
+    (c.as_slice-3.ensures ∙ c.in_ok-types.ensures.places ∙ ap (places_from 0) c.as_slice.ensures)
 
 pub returns : goal.returns
 returns c =
     let p = program_tree c.args.p.now in
     let s = c.in_ok-spaces.field-0.spaces in
-    let tables : AreTablesOf p s.types c.in_ok-types.types s.constants s.labels c.in_ok-places.places =
-    tables_are p s c.in_ok-types.types c.in_ok-places.places c.requires.names c.in_ok-spaces.ensures.spaces
-    (c.in_ok-types.ensures ∙ ap (λ (ds : List TypeDecl). declared_kinds (reverse ds)) c.as_slice.ensures)
-    (c.in_ok-places.ensures ∙ ap (places_from 0) c.as_slice-2.ensures) in
-    let seen : AreTablesOf p s.types c.as_slice-5.result.now s.constants s.labels c.in_ok-places.places =
-    subst (λ ks. AreTablesOf p s.types ks s.constants s.labels c.in_ok-places.places) (sym c.as_slice-5.ensures) tables in
-    let named = types_named p s.types c.as_slice-5.result.now s.constants s.labels c.in_ok-places.places seen in
+    let t = c.in_ok-types.field-0 in
     record {
-      globals = tables;
+      globals = tables_are p s t.kinds t.places c.requires.names c.in_ok-spaces.ensures.spaces
+          (c.in_ok-types.ensures.kinds ∙ ap (λ (ds : List TypeDecl). declared_kinds (reverse ds)) c.as_slice.ensures)
+          (c.in_ok-types.ensures.places ∙ ap (places_from 0) c.as_slice.ensures);
       nodes = record {
-        constant_kind_table = c.in_ok-constant_kinds.ensures.kinds;
+        constant_kind_table = c.in_ok-constant_kinds.ensures.constants;
         node_table = node_table_is p s c.requires.names c.in_ok-spaces.ensures.spaces;
-        signature_table = c.in_ok-signatures.ensures ∙ (λ i. map (signature_by (named i)) (map node_tree (c.as_slice-6.ensures i)));
+        signature_table = c.in_ok-constant_kinds.ensures.signatures;
       };
     }
