@@ -4,9 +4,9 @@ ghost use Rattle.std.specs.Prelude.{◌≡◌, [], Some, is_some, map, reverse, 
 ghost use Rattle.rv_tree.specs.Bounded.{IsBounded};
 ghost use Rattle.rv_tree.specs.Places.{index_of, flows};
 ghost use Rattle.rv_tree.specs.Tree.{ProgramTree, node_tree, program_tree, tree_of};
-ghost use Rattle.rv_types.specs.ConstantTables.{AreTablesOf};
+ghost use Rattle.rv_types.specs.ConstantTables.{AreTablesOf, AreNodeTablesOf};
 ghost use Rattle.rv_types.specs.Heads.{head_kind as told_by_head};
-ghost use Rattle.rv_types.specs.Known.{flow_names};
+ghost use Rattle.rv_types.specs.Known.{first_spaces, flow_names};
 ghost use Rattle.rv_types.specs.Names.{is_declared, name_faults, repeated, texts};
 ghost use Rattle.rv_types.specs.Readings.{AreTables, view_of};
 ghost use Rattle.rv_types.specs.Scopes.{node_scope, constant_kinds_of, signature_of};
@@ -19,7 +19,7 @@ use crate::heads::head;
 use crate::kinds::{TypeTables, flow_kinds, signatures, type_tables};
 use crate::names::flows_of;
 use crate::space::Space;
-use crate::spaces::{Spaces, spaces_of};
+use crate::spaces::{Declared, Spaces, spaces_of};
 use crate::typed::Kind;
 use crate::view::{Label, Signature, Values, View};
 use rv_base::{Many, Memory, Text};
@@ -65,13 +65,23 @@ fn body_tables(alloc: Global, globals: &Globals, p: &Program) -> Result<BodyTabl
     })
 }
 
-/// The tables of a program whose names are right.
-pub fn program_tables(alloc: Global, p: &Program) -> Result<ProgramTables, Memory>
+/// What the types and the labels of a program mean, the types of its constants, and what its nodes take and give.
+#[derive(Drop)]
+struct Meanings {
+    types: Many<Kind>,
+    places: Many<Label>,
+    constant_kinds: Many<Option<Kind>>,
+    signatures: Many<Signature>,
+}
+
+/// What is declared in a program whose names are right, by its spaces.
+fn meanings_of(alloc: Global, spaces: &Spaces, p: &Program) -> Result<Meanings, Memory>
     requires bounded { IsBounded (program_tree p.now) }
+    requires spaces { spaces.now ≡ first_spaces (program_tree p.now) }
     requires names { name_faults (program_tree p.now) ≡ [] }
-    ensures { IfOk result (AreTables (program_tree p.now)) }
+    ensures globals { IfOk result (λ m. AreTablesOf (program_tree p.now) spaces.now.types m.types spaces.now.constants spaces.now.labels m.places) }
+    ensures nodes { IfOk result (λ m. AreNodeTablesOf (program_tree p.now) m.constant_kinds spaces.now.nodes m.signatures) }
 {
-    let spaces = spaces_of(alloc, p)?.spaces;
     let TypeTables {
         kinds: types,
         places,
@@ -87,6 +97,27 @@ pub fn program_tables(alloc: Global, p: &Program) -> Result<ProgramTables, Memor
         constant_kinds,
         signatures,
     } = body_tables(alloc, &globals, p)?;
+    Ok(Meanings {
+        types,
+        places,
+        constant_kinds,
+        signatures,
+    })
+}
+
+/// The tables of a program whose names are right.
+pub fn program_tables(alloc: Global, p: &Program) -> Result<ProgramTables, Memory>
+    requires bounded { IsBounded (program_tree p.now) }
+    requires names { name_faults (program_tree p.now) ≡ [] }
+    ensures { IfOk result (AreTables (program_tree p.now)) }
+{
+    let Declared { spaces, fault: _ } = spaces_of(alloc, p)?;
+    let Meanings {
+        types,
+        places,
+        constant_kinds,
+        signatures,
+    } = meanings_of(alloc, &spaces, p)?;
     Ok(ProgramTables {
         spaces,
         types,

@@ -7,19 +7,19 @@ use Rattle.rv_types.specs.Names.{type_names, repeated}
 use Rattle.rv_types.specs.TypeTables.{declared_kinds, places_from}
 use Rattle.rv_types.proofs.FirstNames.{all_first}
 use Rattle.rv_types.proofs.RightNames.{all_different, few_labels, tables_are, node_table_is}
-use Rattle.rv_types.proofs.reading.program_tables.Goals as goal
+use Rattle.rv_types.proofs.reading.meanings_of.Goals as goal
 
 pub type_tables-requires-clause-names : goal.type_tables-requires-clause-names
 type_tables-requires-clause-names c =
     let p = program_tree c.args.p.now in
-    ap (λ (s : Spaces). s.types) c.in_ok-spaces.ensures.spaces ∙ all_first (type_names p) (all_different p c.requires.names).types
+    ap (λ (s : Spaces). s.types) c.requires.spaces ∙ all_first (type_names p) (all_different p c.requires.names).types
     ∙ ap (map (λ (d : TypeDecl). d.name)) (sym c.as_slice.ensures)
 
 pub type_tables-requires-clause-different : goal.type_tables-requires-clause-different
 type_tables-requires-clause-different c =
     let p = program_tree c.args.p.now in
     let d = (all_different p c.requires.names).types in
-    ap (λ (s : Spaces). repeated [] s.types) c.in_ok-spaces.ensures.spaces ∙ ap (repeated []) (all_first (type_names p) d) ∙ d
+    ap (λ (s : Spaces). repeated [] s.types) c.requires.spaces ∙ ap (repeated []) (all_first (type_names p) d) ∙ d
 
 pub type_tables-requires-clause-few_labels : goal.type_tables-requires-clause-few_labels
 type_tables-requires-clause-few_labels c d h =
@@ -27,23 +27,20 @@ type_tables-requires-clause-few_labels c d h =
 
 pub body_tables-requires : goal.body_tables-requires
 body_tables-requires c =
-    tables_are (program_tree c.args.p.now) c.in_ok-spaces.field-0.spaces c.as_slice-2.result.now c.as_slice-3.result.now c.requires.names
-    c.in_ok-spaces.ensures.spaces
+    tables_are (program_tree c.args.p.now) c.args.spaces.now c.as_slice-2.result.now c.as_slice-3.result.now c.requires.names
+    c.requires.spaces
     (c.as_slice-2.ensures ∙ c.in_ok-types.ensures.kinds ∙ ap (λ (ds : List TypeDecl). declared_kinds (reverse ds)) c.as_slice.ensures)
     (c.as_slice-3.ensures ∙ c.in_ok-types.ensures.places ∙ ap (places_from 0) c.as_slice.ensures)
 
-pub returns : goal.returns
-returns c =
-    let p = program_tree c.args.p.now in
-    let s = c.in_ok-spaces.field-0.spaces in
-    let t = c.in_ok-types.field-0 in
-    record {
-      globals = tables_are p s t.kinds t.places c.requires.names c.in_ok-spaces.ensures.spaces
-          (c.in_ok-types.ensures.kinds ∙ ap (λ (ds : List TypeDecl). declared_kinds (reverse ds)) c.as_slice.ensures)
-          (c.in_ok-types.ensures.places ∙ ap (places_from 0) c.as_slice.ensures);
-      nodes = record {
-        constant_kind_table = c.in_ok-constant_kinds.ensures.constants;
-        node_table = node_table_is p s c.requires.names c.in_ok-spaces.ensures.spaces;
-        signature_table = c.in_ok-constant_kinds.ensures.signatures;
-      };
-    }
+pub returns-clause-globals : goal.returns-clause-globals
+returns-clause-globals c =
+    tables_are (program_tree c.args.p.now) c.args.spaces.now _ _ c.requires.names c.requires.spaces
+    (c.in_ok-types.ensures.kinds ∙ ap (λ (ds : List TypeDecl). declared_kinds (reverse ds)) c.as_slice.ensures)
+    (c.in_ok-types.ensures.places ∙ ap (places_from 0) c.as_slice.ensures)
+
+pub returns-clause-nodes : goal.returns-clause-nodes
+returns-clause-nodes c = record {
+  constant_kind_table = c.in_ok-constant_kinds.ensures.constants;
+  node_table = node_table_is (program_tree c.args.p.now) c.args.spaces.now c.requires.names c.requires.spaces;
+  signature_table = c.in_ok-constant_kinds.ensures.signatures;
+}
