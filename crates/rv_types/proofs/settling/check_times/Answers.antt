@@ -1,0 +1,21 @@
+use Rattle.std.proofs.Common.{◌≡◌, [], IfErr, Result, Err, subst, sym, rules}
+use Rattle.rv_tree.specs.Tree.{program_tree}
+use Rattle.rv_types.specs.Clocks.{clock_faults}
+use Rattle.rv_types.specs.Settled.{HasCause}
+use Rattle.rv_types.proofs.Refusals.{of_clocks, of_observer}
+use Rattle.rv_types.proofs.settling.check_times.Goals as goal
+
+pub returns-in_err-clocks-clause-refused : goal.returns-in_err-clocks-clause-refused
+returns-in_err-clocks-clause-refused c x named =
+    let p = program_tree c.args.p.now in
+    let cause : HasCause p x c.in_err-clocks.field-0.0 =
+    of_clocks p x c.in_err-clocks.field-0.0 named.has_main named.names c.requires.types c.in_err-clocks.ensures.refused in
+    search rules
+
+pub returns-in_err-check_observer-clause-refused : goal.returns-in_err-check_observer-clause-refused
+returns-in_err-check_observer-clause-refused c x named =
+    let p = program_tree c.args.p.now in
+    let cause : HasCause p x c.in_err-check_observer.field-0.0 =
+    of_observer p x c.in_err-check_observer.field-0.0 named.has_main named.names c.requires.types c.in_ok-clocks.ensures.right
+    (c.in_err-check_observer.ensures.refused x named.main_number) in
+    search rules
