@@ -1,6 +1,6 @@
 //! The rules of names.
 
-ghost use Rattle.std.specs.Prelude.{◌≡◌, ◌+◌, ◌<◌, ℕ, [], IfOk, map, flat_map, length, slice_get};
+ghost use Rattle.std.specs.Prelude.{◌≡◌, ◌+◌, ◌<◌, ◌++◌, ℕ, [], IfOk, map, flat_map, length, slice_get};
 ghost use Rattle.rv_tree.specs.declared.tree.Decl.{Decl as AnyDecl};
 ghost use Rattle.rv_tree.specs.Tree.{program_tree, constant_tree, node_tree, equation_tree, assertion_tree};
 ghost use Rattle.rv_types.specs.Names.{is_declared, stands_before, decls, decl_names, lefts, repeated, type_use, use_of, undefined_unless, name_faults};
@@ -327,19 +327,33 @@ fn name_nodes(alloc: Global, spaces: &Spaces, nodes: &[Node]) -> Result<Option<N
     Ok(fault)
 }
 
+/// The first unknown name of an alias or a constant.
+fn unknown_in_globals(alloc: Global, spaces: &Spaces, p: &Program) -> Option<NameFault>
+    ensures { result ≡ first (flat_map (alias_use_in spaces.now.types) (program_tree p.now).types
+        ++ flat_map (constant_use_in spaces.now []) (program_tree p.now).constants) }
+{
+    let none = Space::new(alloc);
+    let aliases = unknown_in_aliases(&spaces.types, p.types.as_slice());
+    let constants = unknown_in_constants(spaces, &none, p.constants.as_slice());
+    sooner_of(aliases, constants)
+}
+
+/// The first fault of names beside the second declarations of the program.
+fn name_uses(alloc: Global, spaces: &Spaces, p: &Program) -> Result<Option<NameFault>, Memory>
+    ensures { IfOk result (λ fault. fault ≡ first ((flat_map (alias_use_in spaces.now.types) (program_tree p.now).types
+        ++ flat_map (constant_use_in spaces.now []) (program_tree p.now).constants) ++ flat_map (names_in spaces.now) (program_tree p.now).nodes)) }
+{
+    let nodes = name_nodes(alloc, spaces, p.nodes.as_slice())?;
+    Ok(sooner_of(unknown_in_globals(alloc, spaces, p), nodes))
+}
+
 /// The spaces of a program, and the first fault of names.
 pub fn name_all(alloc: Global, p: &Program) -> Result<Declared, Memory>
     ensures spaces { IfOk result (λ d. d.spaces ≡ first_spaces (program_tree p.now)) }
     ensures fault { IfOk result (λ d. d.fault ≡ first (name_faults (program_tree p.now))) }
 {
-    let Declared {
-        spaces,
-        fault: second,
-    } = spaces_of(alloc, p)?;
-    let none = Space::new(alloc);
-    let aliases = unknown_in_aliases(&spaces.types, p.types.as_slice());
-    let constants = unknown_in_constants(&spaces, &none, p.constants.as_slice());
-    let nodes = name_nodes(alloc, &spaces, p.nodes.as_slice())?;
-    let fault = sooner_of(second, sooner_of(sooner_of(aliases, constants), nodes));
-    Ok(Declared { spaces, fault })
+    let mut declared = spaces_of(alloc, p)?;
+    let used = name_uses(alloc, &declared.spaces, p)?;
+    declared.fault = sooner_of(declared.fault, used);
+    Ok(declared)
 }
