@@ -310,9 +310,10 @@ fn unknown_in_node(spaces: &Spaces, flows: &Space, node: &Node) -> Option<NameFa
 fn name_node(alloc: Global, spaces: &Spaces, node: &Node) -> Result<Option<NameFault>, Memory>
     ensures { IfOk result (λ fault. fault ≡ first (names_in spaces.now (node_tree node.now))) }
 {
-    let flows = flows_of(alloc, node)?;
-    let second = sooner_of(flows.fault, second_left(alloc, node)?);
+    let left = second_left(alloc, node)?;
     let undefined = undefined_flow(alloc, node)?;
+    let flows = flows_of(alloc, node)?;
+    let second = sooner_of(flows.fault, left);
     let unknown = unknown_in_node(spaces, &flows.space, node);
     Ok(sooner_of(second, sooner_of(undefined, unknown)))
 }

@@ -133,8 +133,8 @@ pub fn node_tables(alloc: Global, tables: &ProgramTables, node: &Node) -> Result
         → IfOk result (λ n. scope_of (view_of tables.now n) ≡ node_scope p (node_tree node.now)) }
     ensures flows { repeated [] (flow_names (node_tree node.now)) ≡ [] → IfOk result (λ n. texts n.flows ≡ flows (node_tree node.now)) }
 {
-    let flows = flows_of(alloc, node)?.space;
     let kinds = flow_kinds(alloc, &tables.spaces.types, tables.types.as_slice(), node)?;
+    let flows = flows_of(alloc, node)?.space;
     Ok(NodeTables { flows, kinds })
 }
 

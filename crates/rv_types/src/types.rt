@@ -14,7 +14,7 @@ ghost use Rattle.std.specs.Prelude.{flat_map};
 use crate::constants::{Constants, Globals, constants_of};
 use crate::fault::NameFault;
 use crate::first::sooner_of;
-use crate::kinds::{flow_kinds, label_places, signatures, type_kinds};
+use crate::kinds::{TypeTables, flow_kinds, signatures, type_tables};
 use crate::names::{Flows, flows_of};
 use crate::sides::type_fault;
 use crate::space::Space;
@@ -53,8 +53,8 @@ fn node_types(
         globals.now.places.now → AreNodeTablesOf p nodes.now.constant_kinds.now nodes.now.names.now nodes.now.signatures.now
         → repeated [] (flow_names (node_tree node.now)) ≡ [] → IfOk result (λ t. t.fault ≡ first (types_in_node p (node_tree node.now))) }
 {
-    let Flows { space, fault: _ } = flows_of(alloc, node)?;
     let kinds = flow_kinds(alloc, globals.types, globals.type_kinds, node)?;
+    let Flows { space, fault: _ } = flows_of(alloc, node)?;
     let view = View {
         flows: &space,
         flow_kinds: kinds.as_slice(),
@@ -123,8 +123,11 @@ pub fn types_of(alloc: Global, p: &Program, spaces: &Spaces) -> Result<ProgramTy
     ensures constants { IfOk result (λ t. t.constants ≡ constant_values (program_tree p.now)) }
     ensures fault { IfOk result (λ t. t.fault ≡ first (type_faults (program_tree p.now))) }
 {
-    let types = type_kinds(alloc, &spaces.types, p.types.as_slice())?;
-    let places = label_places(alloc, p.types.as_slice())?;
+    let TypeTables {
+        kinds: types,
+        places,
+    } = type_tables(alloc, &spaces.types, p.types.as_slice())?;
+    let known = signatures(alloc, &spaces.types, types.as_slice(), p.nodes.as_slice())?;
     let globals = Globals {
         types: &spaces.types,
         type_kinds: types.as_slice(),
@@ -137,7 +140,6 @@ pub fn types_of(alloc: Global, p: &Program, spaces: &Spaces) -> Result<ProgramTy
         values,
         fault,
     } = constants_of(alloc, &globals, p)?;
-    let known = signatures(alloc, &spaces.types, types.as_slice(), p.nodes.as_slice())?;
     let nodes = Nodes {
         names: &spaces.nodes,
         signatures: known.as_slice(),
