@@ -1,4 +1,4 @@
-use Rattle.std.proofs.Common.{◌≡◌, ◌∙◌, ap, rules, ◌++◌, map, flat_map}
+use Rattle.std.proofs.Common.{◌≡◌, ◌∙◌, ap, rules, map, flat_map}
 use Rattle.rv_tree.specs.Tree.{program_tree, constant_tree}
 use Rattle.rv_types.specs.Names.{repeated_after, constant_names, label_names, labels_of}
 use Rattle.rv_types.specs.Earliest.{first}
