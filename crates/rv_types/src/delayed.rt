@@ -48,11 +48,17 @@ fn walked(
 ) -> Result<Many<Kind>, Memory>
     ensures { IfOk result (λ kinds. kinds ≡ node_delayed (scope_of (view_of tables.now own.now)) (node_tree node.now)) }
 {
-    let view = view(tables, own);
     let mut found = Many::new(alloc);
-    gather_equations(&view, node.equations.as_slice(), &mut found)?;
-    gather_assertions(&view, node.assertions.as_slice(), &mut found)?;
+    gather_node(&view(tables, own), node, &mut found)?;
     Ok(found)
+}
+
+/// Adds those of right sides and then those of assertions.
+fn gather_node(view: &View, node: &Node, found: &mut Many<Kind>) -> Result<(), Memory>
+    ensures { OnOk result (found.new ≡ found.old ++ node_delayed (scope_of view.now) (node_tree node.now)) }
+{
+    gather_equations(view, node.equations.as_slice(), found)?;
+    gather_assertions(view, node.assertions.as_slice(), found)
 }
 
 /// Adds those of right sides.
