@@ -43,7 +43,7 @@ fn declared(names: &Space, kinds: &[Kind], number: u32, body: &TypeBody) -> Kind
 }
 
 /// What each declaration of a type means, in order. An alias names one that stands before it.
-pub fn type_kinds(alloc: Global, names: &Space, types: &[TypeDecl]) -> Result<Many<Kind>, Memory>
+fn type_kinds(alloc: Global, names: &Space, types: &[TypeDecl]) -> Result<Many<Kind>, Memory>
     requires names { names.now ≡ map (λ d. d.name) types.now }
     requires different { repeated [] names.now ≡ [] }
     requires few { length types.now ≤ source_limit }
@@ -174,7 +174,7 @@ fn push_labels_of(places: &mut Many<Label>, declaration: u32, d: &TypeDecl) -> R
 }
 
 /// All labels, in the order of their declarations.
-pub fn label_places(alloc: Global, types: &[TypeDecl]) -> Result<Many<Label>, Memory>
+fn label_places(alloc: Global, types: &[TypeDecl]) -> Result<Many<Label>, Memory>
     requires few { length types.now ≤ source_limit }
     requires few_labels { (d : AnyType) → Contains types.now d → length (labels_of d) ≤ source_limit }
     ensures { IfOk result (λ ls. ls ≡ places_from 0 types.now) }
