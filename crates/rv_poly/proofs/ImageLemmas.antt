@@ -21,10 +21,10 @@ use Rattle.rv_rows.proofs.RowLemmas.{dot-cons, get_or-tail, dot-none, tail_of}
 use Rattle.rv_rows.proofs.FormLemmas.{substituted_same}
 use Rattle.rv_seek.specs.Least.{bounded}
 use Rattle.rv_poly.specs.Points.{HasPoint}
-use Rattle.rv_poly.specs.Closing.{AreSidesAdded, AreUnitsAdded}
+use Rattle.rv_poly.specs.Closing.{AreClosing}
 use Rattle.rv_poly.specs.Images.{IsImage, AreUpdates, ShowsAfter, AreMoves, IsNarrow, StaysWithin, IsCut, AreCut}
 use Rattle.rv_poly.proofs.EliminateLemmas.{number_within}
-use Rattle.rv_poly.proofs.ClosingLemmas.{own_shown, keeps-later, covers-side}
+use Rattle.rv_poly.proofs.ClosingLemmas.{own_shown, covers-side}
 
 -- a sum of products is at most as many products of the greatest numbers
 dot-within : (a b m : ℕ) → a * b ≡ m → (cs xs : List ℤ) → All (λ c. unsigned_abs c ≤ a) cs → All (λ x. unsigned_abs x ≤ b) xs
@@ -223,9 +223,8 @@ dot-back (c ∷ cs) (x ∷ xs) (f ∷ fs) e =
     regroup p a b q s t h k = omega (arith, ints)
 
 -- Where all updates are moves, the rows have no other points than the images.
-module _ (premises : List Row) (updates : List Form) (sides one two : List Row) (cut : AreCut (length updates) premises (length premises) sides)
-    (first : AreSidesAdded (IsImage premises updates) (ShowsAfter premises updates) (length updates) sides (length sides) [] one)
-    (second : AreUnitsAdded (IsImage premises updates) (ShowsAfter premises updates) (length updates) one two)
+module _ (premises : List Row) (updates : List Form) (sides two : List Row) (cut : AreCut (length updates) premises (length premises) sides)
+    (made : AreClosing (IsImage premises updates) (ShowsAfter premises updates) (length updates) sides two)
     (few : length premises ≤ 1024) (moves : AreMoves updates) (narrow : All (IsNarrow (length updates)) premises) (stay : All (StaysWithin updates) premises)
     (new : List ℤ) (size : length new ≡ length updates) (h : HasPoint two new) where
   none_row : Row
@@ -278,8 +277,7 @@ module _ (premises : List Row) (updates : List Form) (sides one two : List Row) 
         bound = taken r.bound (dot r.coefficients (map (λ f. f.constant) updates)) (dot c.coefficients (map (λ f. f.constant) updates)) same_constants;
         shown = own_shown premises i d l;
       } in
-      let there = keeps-later (IsImage premises updates) (ShowsAfter premises updates) (length updates) c.coefficients one two second.grown
-      (first.found (omega arith) i none_row inside inside) x (stay i d l) shown in
+      let there = made.sides (omega arith) i none_row inside x (stay i d l) shown in
       let met : dot c.coefficients new ≤ℤ x = covers-side two c.coefficients x there new h in
       let whole = length-back new updates size in
       let agree : dot c.coefficients (back new updates) ≡ dot r.coefficients (back new updates) = dot-agree (back new updates) c.coefficients r.coefficients

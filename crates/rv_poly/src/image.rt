@@ -8,6 +8,7 @@ ghost use Rattle.rv_rows.specs.Tight.{Fits};
 ghost use Rattle.rv_seek.specs.Least.{bounded};
 ghost use Rattle.rv_poly.specs.Points.{HasPoint};
 ghost use Rattle.rv_poly.specs.Polys.{IsPoly};
+ghost use Rattle.rv_poly.specs.Closing.{AreClosing};
 ghost use Rattle.rv_poly.specs.Images.{IsImage, ShowsAfter, AreUpdates, AreMoves, IsNarrow, StaysWithin, IsCut, AreCut};
 
 use crate::bounds::{Bounding, form_bound};
@@ -165,6 +166,48 @@ fn cut_rows(alloc: Global, rows: &Many<Row>, width: usize) -> Result<Many<Row>, 
     Ok(new)
 }
 
+/// Rows that each point of the set meets: those with the left sides of a list, and those with 1 or -1 at one or two columns.
+fn closing_rows<B: Bounding>(
+    alloc: Global,
+    set: &B,
+    sides: &Many<Row>,
+    width: usize,
+) -> Result<Poly, Memory>
+    requires ready { B.ready set.now }
+    requires takes { (side : List ℤ) → length side ≡ width → B.takes set.now side }
+    requires fits { All Fits sides.now }
+    requires widths { All (λ r. length r.coefficients ≡ width) sides.now }
+    ensures { IfOk result (λ p. AreClosing (B.has set.now) (B.shows set.now) width sides.now p.rows) }
+{
+    let mut rows = Many::new(alloc);
+    add_sides(alloc, set, sides, width, &mut rows)?;
+    add_units(alloc, set, width, &mut rows)?;
+    Ok(Poly { rows })
+}
+
+/// Such rows that each updated point of the premises meets.
+fn image_rows(
+    alloc: Global,
+    premises: &Many<Row>,
+    updates: &Many<Form>,
+    sides: &Many<Row>,
+) -> Result<Poly, Memory>
+    requires premises { All Fits premises.now }
+    requires few { length premises.now ≤ 1024 }
+    requires updates { AreUpdates updates.now }
+    requires sides { All Fits sides.now }
+    requires widths { All (λ r. length r.coefficients ≡ length updates.now) sides.now }
+    ensures { IfOk result (λ p. AreClosing (IsImage premises.now updates.now) (ShowsAfter premises.now updates.now) (length updates.now)
+        sides.now p.rows) }
+{
+    let search = Search::new(alloc, premises)?;
+    let set = Image {
+        rows: &search,
+        updates,
+    };
+    closing_rows(alloc, &set, sides, updates.len())
+}
+
 /// Rows that each updated point of the premises meets.
 fn updated_rows(alloc: Global, premises: &Many<Row>, updates: &Many<Form>) -> Result<Poly, Memory>
     requires fits { All Fits premises.now }
@@ -178,17 +221,9 @@ fn updated_rows(alloc: Global, premises: &Many<Row>, updates: &Many<Form>) -> Re
         → All (StaysWithin updates.now) premises.now → (point : List ℤ) → length point ≡ length updates.now → HasPoint p.rows point
         → IsImage premises.now updates.now point) }
 {
-    let width = updates.len();
-    let sides = cut_rows(alloc, premises, width)?;
-    let search = Search::new(alloc, premises)?;
-    let set = Image {
-        rows: &search,
-        updates,
-    };
-    let mut rows = Many::new(alloc);
-    add_sides(alloc, &set, &sides, width, &mut rows)?;
-    add_units(alloc, &set, width, &mut rows)?;
-    Ok(Poly { rows })
+    let sides = cut_rows(alloc, premises, updates.len())?;
+    let found = image_rows(alloc, premises, updates, &sides)?;
+    Ok(found)
 }
 
 impl Poly {

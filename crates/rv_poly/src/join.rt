@@ -3,12 +3,13 @@ ghost use Rattle.std.specs.Prelude.{◌≡◌, ◌⊎◌, ℕ, ◌<◌, ◌≤�
 ghost use Rattle.std.specs.Int.RustNames.{unsigned_abs};
 ghost use Rattle.rv_rows.specs.declared.linear.Row.{Row as RowModel};
 ghost use Rattle.rv_rows.specs.Multipliers.{ShowsAtOnce};
+ghost use Rattle.rv_rows.specs.Tight.{Fits};
 ghost use Rattle.rv_seek.specs.Least.{bounded};
 ghost use Rattle.rv_poly.specs.Points.{HasPoint, Covers};
 ghost use Rattle.rv_poly.specs.Polys.{IsPoly, HaveOneWidth, rows_width};
-ghost use Rattle.rv_poly.specs.Closing.{HasSide, IsUnitSide};
+ghost use Rattle.rv_poly.specs.Closing.{HasSide, IsUnitSide, AreClosing, HasEither, BothShow};
 
-use crate::bounds::Either;
+use crate::bounds::{Bounding, Either};
 use crate::close::add_sides;
 use crate::poly::Poly;
 use crate::units::add_units;
@@ -36,6 +37,51 @@ fn width_of_both(first: &Many<Row>, second: &Many<Row>) -> usize
     width_of(first)
 }
 
+/// Rows that each point of the set meets: those with the left sides of the rows of two lists, and those with 1 or -1 at one or two columns.
+fn joined_rows<B: Bounding>(
+    alloc: Global,
+    set: &B,
+    first: &Many<Row>,
+    second: &Many<Row>,
+    width: usize,
+) -> Result<Poly, Memory>
+    requires ready { B.ready set.now }
+    requires takes { (side : List ℤ) → length side ≡ width → B.takes set.now side }
+    requires fits { All Fits first.now }
+    requires other { All Fits second.now }
+    requires widths { All (λ r. length r.coefficients ≡ width) first.now }
+    requires other_widths { All (λ r. length r.coefficients ≡ width) second.now }
+    ensures { IfOk result (λ p. AreClosing (B.has set.now) (B.shows set.now) width (first.now ++ second.now) p.rows) }
+{
+    let mut rows = Many::new(alloc);
+    add_sides(alloc, set, first, width, &mut rows)?;
+    add_sides(alloc, set, second, width, &mut rows)?;
+    add_units(alloc, set, width, &mut rows)?;
+    Ok(Poly { rows })
+}
+
+/// The join of two lists, the first of which is also given ready for searches.
+fn join_with(
+    alloc: Global,
+    first: &Search,
+    own: &Many<Row>,
+    other: &Many<Row>,
+) -> Result<Poly, Memory>
+    requires same { first.now ≡ own.now }
+    requires own { All Fits own.now }
+    requires other { IsPoly other.now }
+    requires widths { HaveOneWidth (own.now ++ other.now) }
+    ensures { IfOk result (λ p. AreClosing (HasEither own.now other.now) (BothShow own.now other.now) (rows_width (own.now ++ other.now))
+        (own.now ++ other.now) p.rows) }
+{
+    let second = Search::new(alloc, other)?;
+    let set = Either {
+        first,
+        second: &second,
+    };
+    joined_rows(alloc, &set, own, other, width_of_both(own, other))
+}
+
 impl Poly {
     /// A polyhedron with all points of both. Its rows have the left sides of the rows of either, and those with 1 or -1 at one or two columns,
     /// each with the greater of the bounds that are found for the two, as long as there are at most 1,024 rows. Where the two have at most
@@ -61,17 +107,8 @@ impl Poly {
             → IsUnitSide (rows_width (self.now.rows ++ other.now.rows)) side → unsigned_abs x ≤ 2 ^ 60 → ShowsAtOnce self.now.rows (bounded side x)
             → ShowsAtOnce other.now.rows (bounded side x) → HasSide p.rows side x) }
     {
-        let width = width_of_both(&self.rows, &other.rows);
         let first = Search::new(alloc, &self.rows)?;
-        let second = Search::new(alloc, &other.rows)?;
-        let set = Either {
-            first: &first,
-            second: &second,
-        };
-        let mut rows = Many::new(alloc);
-        add_sides(alloc, &set, &self.rows, width, &mut rows)?;
-        add_sides(alloc, &set, &other.rows, width, &mut rows)?;
-        add_units(alloc, &set, width, &mut rows)?;
-        Ok(Poly { rows })
+        let found = join_with(alloc, &first, &self.rows, &other.rows)?;
+        Ok(found)
     }
 }

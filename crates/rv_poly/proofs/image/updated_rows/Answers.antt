@@ -1,23 +1,33 @@
-use Rattle.std.proofs.Common.{[], List, ℤ}
-use Rattle.rv_rows.specs.declared.linear.Row.{Row}
+use Rattle.std.proofs.Common.{length}
 use Rattle.rv_poly.specs.Images.{IsImage, ShowsAfter}
-use Rattle.rv_poly.proofs.ClosingLemmas.{grown-more, made-poly}
+use Rattle.rv_poly.proofs.ClosingLemmas.{made-poly, made-few, made-width, made-contains}
 use Rattle.rv_poly.proofs.ImageLemmas.{moved-image}
 use Rattle.rv_poly.proofs.image.updated_rows.Goals as goal
 
-pub returns-clause-exact : goal.returns-clause-exact
-returns-clause-exact c moves narrow stay point size h =
-    let cut = rw c.len-width.ensures at c.in_ok-sides.ensures in
-    let first = rw (c.in_ok-search.ensures, c.len-width.ensures, c.new-rows.ensures) at c.in_ok-add_sides.ensures in
-    let second = rw (c.in_ok-search.ensures, c.len-width.ensures) at c.in_ok-add_units.ensures in
-    moved-image c.args.premises.now c.args.updates.now c.in_ok-sides.sides c.add_sides.new.rows c.add_units.new.rows cut first second c.requires.few moves
-    narrow stay point size h
+pub image_rows-requires-clause-widths : goal.image_rows-requires-clause-widths
+image_rows-requires-clause-widths c = rw c.len.ensures at c.in_ok-sides.ensures.widths
 
 pub returns-clause-poly : goal.returns-clause-poly
 returns-clause-poly c =
-    let has : List ℤ → Type 0 = IsImage c.args.premises.now c.args.updates.now in
-    let shows : Row → Type 0 = ShowsAfter c.args.premises.now c.args.updates.now in
-    let first = rw (c.in_ok-search.ensures, c.new-rows.ensures) at c.in_ok-add_sides.ensures in
-    let second = rw c.in_ok-search.ensures at c.in_ok-add_units.ensures in
-    made-poly has shows c.len-width.result c.add_units.new.rows
-    (grown-more has shows c.len-width.result [] c.add_sides.new.rows c.add_units.new.rows first.grown second.grown)
+    made-poly (IsImage c.args.premises.now c.args.updates.now) (ShowsAfter c.args.premises.now c.args.updates.now) (length c.args.updates.now)
+    c.in_ok-found.found.rows c.in_ok-found.ensures.grown
+
+pub returns-clause-few : goal.returns-clause-few
+returns-clause-few c =
+    made-few (IsImage c.args.premises.now c.args.updates.now) (ShowsAfter c.args.premises.now c.args.updates.now) (length c.args.updates.now)
+    c.in_ok-found.found.rows c.in_ok-found.ensures.grown
+
+pub returns-clause-width : goal.returns-clause-width
+returns-clause-width c =
+    made-width (IsImage c.args.premises.now c.args.updates.now) (ShowsAfter c.args.premises.now c.args.updates.now) (length c.args.updates.now)
+    c.in_ok-found.found.rows c.in_ok-found.ensures.grown
+
+pub returns-clause-contains : goal.returns-clause-contains
+returns-clause-contains c =
+    made-contains (IsImage c.args.premises.now c.args.updates.now) (ShowsAfter c.args.premises.now c.args.updates.now) (length c.args.updates.now)
+    c.in_ok-found.found.rows c.in_ok-found.ensures.grown
+
+pub returns-clause-exact : goal.returns-clause-exact
+returns-clause-exact c moves narrow stay point size h =
+    moved-image c.args.premises.now c.args.updates.now c.in_ok-sides.sides c.in_ok-found.found.rows (rw c.len.ensures at c.in_ok-sides.ensures)
+    c.in_ok-found.ensures c.requires.few moves narrow stay point size h
