@@ -41,9 +41,39 @@ pub fn sequence_of(
     ensures fault { IfErr result (IsSequenceFault (program_tree p.now) (name_at (program_tree p.now) t.now.main)) }
 {
     let expanded = Expanded::new(alloc, p, t.main, instances)?;
-    let layout = layout_of(alloc, &expanded)?;
-    let givers = givers_of(alloc, &expanded, &layout)?;
-    sequence_by_givers(alloc, &expanded, t.constants.as_slice(), &layout, &givers)
+    sequence_in(alloc, &expanded, t.constants.as_slice())
+}
+
+/// The same in a program with its instances.
+fn sequence_in(
+    alloc: Global,
+    expanded: &Expanded,
+    constants: &[Value],
+) -> Result<Many<Place>, CauseFault>
+    requires known { IsKnown expanded.now }
+    requires constants { constants.now ≡ constant_values (program_of expanded.now) }
+    ensures sequence { IfOk result (AreSequenced (program_of expanded.now) (main_of expanded.now)) }
+    ensures fault { IfErr result (IsSequenceFault (program_of expanded.now) (main_of expanded.now)) }
+{
+    let layout = layout_of(alloc, expanded)?;
+    sequence_by_layout(alloc, expanded, constants, &layout)
+}
+
+/// The same by the layout of the flows.
+fn sequence_by_layout(
+    alloc: Global,
+    expanded: &Expanded,
+    constants: &[Value],
+    layout: &Layout,
+) -> Result<Many<Place>, CauseFault>
+    requires known { IsKnown expanded.now }
+    requires constants { constants.now ≡ constant_values (program_of expanded.now) }
+    requires layout { IsLayout (program_of expanded.now) (main_of expanded.now) expanded.now.instances.now layout.now }
+    ensures sequence { IfOk result (AreSequenced (program_of expanded.now) (main_of expanded.now)) }
+    ensures fault { IfErr result (IsSequenceFault (program_of expanded.now) (main_of expanded.now)) }
+{
+    let givers = givers_of(alloc, expanded, layout)?;
+    sequence_by_givers(alloc, expanded, constants, layout, &givers)
 }
 
 /// The same by the layout of the flows and by what gives them their values.
