@@ -13,7 +13,7 @@ ghost use Rattle.rv_poly.specs.Images.{IsImage, ShowsAfter, AreUpdates, AreMoves
 
 use crate::bounds::{Bounding, form_bound};
 use crate::close::{add_sides, copy};
-use crate::meet::add_rows;
+use crate::meet::both_rows;
 use crate::poly::Poly;
 use crate::units::add_units;
 use rv_base::{Many, Memory};
@@ -255,9 +255,7 @@ impl Poly {
                 rows: Many::new(alloc),
             });
         }
-        let mut premises = Many::new(alloc);
-        add_rows(alloc, &mut premises, &self.rows)?;
-        add_rows(alloc, &mut premises, rows)?;
+        let premises = both_rows(alloc, &self.rows, rows)?;
         let found = updated_rows(alloc, &premises, updates)?;
         Ok(found)
     }

@@ -8,28 +8,28 @@ use Rattle.rv_poly.proofs.poly.Poly.after.Goals as goal
 
 pub updated_rows-requires-clause-fits : goal.updated_rows-requires-clause-fits
 updated_rows-requires-clause-fits c =
-    met-fits c.args.self.now.rows c.args.rows.now c.add_rows.new.rows c.add_rows-2.new.rows c.requires.poly
-    (rw c.new-premises.ensures at c.in_ok-add_rows.ensures) c.in_ok-add_rows-2.ensures
+    let made = c.in_ok-premises.ensures in
+    met-fits c.args.self.now.rows c.args.rows.now made.one c.in_ok-premises.premises c.requires.poly made.first made.second
 
 pub updated_rows-requires-clause-few : goal.updated_rows-requires-clause-few
 updated_rows-requires-clause-few c =
-    met-few c.args.self.now.rows c.args.rows.now c.add_rows.new.rows c.add_rows-2.new.rows c.requires.poly
-    (rw c.new-premises.ensures at c.in_ok-add_rows.ensures) c.in_ok-add_rows-2.ensures
+    let made = c.in_ok-premises.ensures in
+    met-few c.args.self.now.rows c.args.rows.now made.one c.in_ok-premises.premises c.requires.poly made.first made.second
 
 pub returns-clause-contains : goal.returns-clause-contains
 returns-clause-contains c point h k =
+    let made = c.in_ok-premises.ensures in
     c.in_ok-found.ensures.contains (values c.args.updates.now point) (record {
       point = point;
-      has = met-contains c.args.self.now.rows c.args.rows.now c.add_rows.new.rows c.add_rows-2.new.rows c.requires.poly
-          (rw c.new-premises.ensures at c.in_ok-add_rows.ensures) c.in_ok-add_rows-2.ensures point h k;
+      has = met-contains c.args.self.now.rows c.args.rows.now made.one c.in_ok-premises.premises c.requires.poly made.first made.second point h k;
       updated = refl;
     })
 
 pub returns-clause-exact : goal.returns-clause-exact
 returns-clause-exact c limits moves narrow fits stay room point size h =
-    let whole : c.add_rows-2.new.rows ≡ c.args.self.now.rows ++ c.args.rows.now =
-    met-whole c.args.self.now.rows c.args.rows.now c.add_rows.new.rows c.add_rows-2.new.rows c.requires.poly
-    (rw c.new-premises.ensures at c.in_ok-add_rows.ensures) c.in_ok-add_rows-2.ensures fits room in
+    let made = c.in_ok-premises.ensures in
+    let whole : c.in_ok-premises.premises ≡ c.args.self.now.rows ++ c.args.rows.now =
+    met-whole c.args.self.now.rows c.args.rows.now made.one c.in_ok-premises.premises c.requires.poly made.first made.second fits room in
     let P : List Row → Type 0 = λ rows. All (IsNarrow (length c.args.updates.now)) rows → All (StaysWithin c.args.updates.now) rows
     → IsImage rows c.args.updates.now point in
     subst P whole (λ n s. c.in_ok-found.ensures.exact moves n s point size h)
