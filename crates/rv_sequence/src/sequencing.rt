@@ -122,7 +122,9 @@ fn check_light(
     ensures wide { IfErr result (IsWideFault (program_of expanded.now) (main_of expanded.now)) }
 {
     let tables = program_tables(alloc, expanded.program)?;
-    check_weights(alloc, expanded, &tables, constants, layout, givers, numbers)
+    let checked = check_weights(alloc, expanded, &tables, constants, layout, givers, numbers);
+    drop(tables);
+    checked
 }
 
 /// The numbers of the flows in such a sequence, or a cycle.
