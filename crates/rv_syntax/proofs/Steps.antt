@@ -1,6 +1,6 @@
 -- The steps of the limited machine, as the parser's methods take them.
 use Rattle.std.proofs.Common.{◌≡◌, ℕ, ◌+◌, ◌<◌, ◌≤◌, Bool, true, false, cond, List, [], ◌∷◌, ◌++◌, length, refl, sym, ap, ◌∙◌, subst, arith}
-use Rattle.std.specs.Prelude.{Some, None, Ok, Err, nat_le}
+use Rattle.std.specs.Prelude.{Some, None, Result, Ok, Err, IfOk, IfErr, nat_le}
 use Rattle.std.proofs.lemmas.Bool.{le-leb, lt-leb, and_parts}
 use Rattle.rv_syntax.specs.declared.token.Mark.{Mark}
 use Rattle.rv_syntax.specs.declared.token.Mark.TheVariants as mark
@@ -15,6 +15,7 @@ use Rattle.rv_syntax.specs.declared.parser.Next.{Next}
 use Rattle.rv_syntax.specs.declared.parser.Next.TheVariants as next
 use Rattle.rv_syntax.specs.declared.parser.Link.{Link}
 use Rattle.rv_syntax.specs.declared.parser.Link.TheVariants as link
+use Rattle.rv_syntax.specs.declared.parser.Operand.{Operand}
 use Rattle.rv_syntax.specs.declared.fault.Stop.{Stop}
 use Rattle.rv_syntax.specs.declared.fault.Stop.TheVariants as stop
 use Rattle.rv_syntax.specs.declared.fault.Why.TheVariants.{Offends, TooDeep}
@@ -28,7 +29,8 @@ use Rattle.rv_syntax.specs.Machine.{wrapped, closed, answered, otherwise, argued
 use Rattle.rv_syntax.specs.Limited.{Counts, counts, count, at_end, going, limited, Limited, meets, left_to, leave}
 use Rattle.rv_syntax.specs.Parse.{starts}
 use Rattle.rv_syntax.specs.Reads.{Ahead, tail, Stops, Around, from, Wanting, Calling, argued_from, TakesLeaf, starts_call, link_next, linked, SeesLink, Enters}
-use Rattle.rv_syntax.specs.Reads.{TakesName, Passes, TakesMark}
+use Rattle.rv_syntax.specs.Reads.{TakesName, Passes, TakesMark, Part, Test, Yes, mark_behind, frame_of, next_frame, Choosing}
+use Rattle.rv_syntax.specs.Reads.{held_of, chosen_held, ReadsAs}
 use Rattle.rv_syntax.proofs.Marked.{token-mark}
 use Rattle.rv_syntax.proofs.Complete.{settle-taken}
 
@@ -667,3 +669,46 @@ went-on (t ∷ ts) l h = omega arith
 pub marked : (m : Mark) (ts : List Token) → starts (is_mark m) ts ≡ true → length (tail ts) < length ts
 marked m [] h = cc
 marked m (t ∷ ts) h = omega arith
+
+-- ---- A part of an `if` and the word behind it.
+word-goes : (q : Part) (mid new : Ahead) (h : Held) → Passes (mark_behind q) mid (Ok tt) new → (x : Around)
+    → leave (counts mid.depth x.outside) h (frame_of q ∷ x.frames) mid.rest ≡ from new (λ s. Want (next_frame q h.body ∷ s)) x
+word-goes (Test at) mid new h p x = then-goes mid new at h p x
+word-goes (Yes at a) mid new h p x = else-goes mid new at a h p x
+
+word-missing : (q : Part) (ts : List Token) (c : Counts) (h : Held) (s : List Frame) → starts (is_mark (mark_behind q)) ts ≡ false
+    → leave c h (frame_of q ∷ s) ts ≡ Err (Offends, ts)
+word-missing (Test at) ts c h s n = then-missing ts c at h s n
+word-missing (Yes at a) ts c h s n = else-missing ts c at a h s n
+
+pub part-goes : (m : Mark) (mid new : Ahead) (h : Held) → Passes m mid (Ok tt) new → (x : Choosing m)
+    → leave (counts mid.depth x.around.outside) h (frame_of x.part ∷ x.around.frames) mid.rest
+    ≡ from new (λ s. Want (next_frame x.part h.body ∷ s)) x.around
+part-goes m mid new h p x = word-goes x.part mid new h (subst (λ n. Passes n mid (Ok tt) new) (sym x.behind) p) x.around
+
+pub part-missing : (m : Mark) (mid : Ahead) (h : Held) → starts (is_mark m) mid.rest ≡ false → (x : Choosing m)
+    → leave (counts mid.depth x.around.outside) h (frame_of x.part ∷ x.around.frames) mid.rest ≡ Err (Offends, mid.rest)
+part-missing m mid h n x =
+    word-missing x.part mid.rest (counts mid.depth x.around.outside) h x.around.frames (subst (λ k. starts (is_mark k) mid.rest ≡ false) (sym x.behind) n)
+
+-- a part is an operand of level 0
+pub part-need : (q : Part) (s : List Frame) → need (frame_of q ∷ s) ≡ 0
+part-need (Test at) s = refl
+part-need (Yes at a) s = refl
+
+abbrev pub part-wanted : (m : Mark) → Choosing m → Wanting 0
+part-wanted m x = wanted 0 (frame_of x.part ∷ x.around.frames) x.around.outside (part-need x.part x.around.frames)
+
+-- the test of an `if`, and what it is where that holds
+abbrev pub as-test : ℕ → Around → Choosing mark.Then
+as-test at x = record { part = Test at; around = x; behind = refl }
+
+abbrev pub as-yes : ℕ → Tree → Around → Choosing mark.Else
+as-yes at a x = record { part = Yes at a; around = x; behind = refl }
+
+-- an `if` that has been read
+pub choice-read : (at : ℕ) (old new : Ahead) (a b : Tree) (h : Held) (r : Result Operand Stop) → IfOk r (λ o. held_of o ≡ chosen_held at a b h.body)
+    → IfErr r (λ e. e ≡ stop.Memory)
+    → ((x : Around) → from old Want x ≡ leave (counts new.depth x.outside) h (Else at a b ∷ x.frames) new.rest) → ReadsAs old Want r new
+choice-read at old new a b h (Ok o) v m f = (omega (arith, ap (λ o. o.grade) v), λ x. f x ∙ ap (λ o. from new (Have o) x) (sym v))
+choice-read at old new a b h (Err e) v m f = subst (λ e. Stops Around (from old Want) e new) (sym m) tt

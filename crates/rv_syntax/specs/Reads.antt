@@ -15,10 +15,10 @@ use Rattle.rv_syntax.specs.declared.fault.Stop.{Stop}
 use Rattle.rv_syntax.specs.declared.fault.Stop.TheVariants as stop
 use Rattle.rv_syntax.specs.declared.fault.Why.TheVariants.{Offends, TooDeep}
 use Rattle.rv_tree.specs.Tree.{Tree, tree_of}
-use Rattle.rv_syntax.specs.Grammar.{name_token, Callee, Invoked}
+use Rattle.rv_syntax.specs.Grammar.{name_token, Callee, Chosen, Invoked}
 use Rattle.rv_syntax.specs.Nesting.{limit}
 use Rattle.rv_syntax.specs.Marks.{is_mark, is_name}
-use Rattle.rv_syntax.specs.Machine.{Frame, After, Within, need, Held, held, whole, State, Want, Have, Clock, accepts, starting, following, leaf_tree}
+use Rattle.rv_syntax.specs.Machine.{Frame, Asked, Answered, Else, After, Within, need, Held, held, whole, State, Want, Have, Clock, accepts, starting, following, leaf_tree}
 use Rattle.rv_syntax.specs.Limited.{counts, limited, Limited, leave}
 use Rattle.rv_syntax.specs.Parse.{Reading, Parse, starts}
 
@@ -80,6 +80,43 @@ pub record Wanting (k : ℕ) : Type 0 where
 abbrev pub ReadsExpr : ℕ → Ahead → Result Operand Stop → Ahead → Type 0
 ReadsExpr k old (Ok o) new = (x : Wanting k) → from old Want x.around ≡ leave (counts new.depth x.around.outside) (held_of o) x.around.frames new.rest
 ReadsExpr k old (Err e) new = Stops (Wanting k) (λ x. from old Want x.around) e new
+
+-- a part of an `if` that has a word behind it: its test, or what it is where that holds
+pub data Part : Type 0 where
+  Test : (at : ℕ) → Part
+  Yes : (at : ℕ) → Tree → Part
+
+abbrev pub mark_behind : Part → Mark
+mark_behind (Test at) = mark.Then
+mark_behind (Yes at a) = mark.Else
+
+-- the frame around the part, and the one around what follows its word
+abbrev pub frame_of : Part → Frame
+frame_of (Test at) = Asked at
+frame_of (Yes at a) = Answered at a
+
+abbrev pub next_frame : Part → Tree → Frame
+next_frame (Test at) t = Answered at t
+next_frame (Yes at a) t = Else at a t
+
+-- a part with this word behind it, and what is around its `if`
+pub record Choosing (m : Mark) : Type 0 where
+  pub part : Part
+  pub around : Around
+  pub behind : mark_behind part ≡ m
+
+-- reading a part of an `if` from these tokens on
+abbrev pub part_from : {m : Mark} → Ahead → Choosing m → Limited
+part_from a x = from a (λ s. Want (frame_of x.part ∷ s)) x.around
+
+-- a part of an `if` and the word behind it
+abbrev pub ReadsPart : Mark → Ahead → Result Expr Stop → Ahead → Type 0
+ReadsPart m old (Ok e) new = (x : Choosing m) → part_from old x ≡ from new (λ s. Want (next_frame x.part (tree_of e) ∷ s)) x.around
+ReadsPart m old (Err e) new = Stops (Choosing m) (part_from old) e new
+
+-- the operand that an `if` is
+abbrev pub chosen_held : ℕ → Tree → Tree → Tree → Held
+chosen_held at a b c = held 10 true (Chosen at a b c)
 
 -- what is called, and what is around
 pub record Calling : Type 0 where

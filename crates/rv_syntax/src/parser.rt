@@ -168,16 +168,27 @@ fn applied(alloc: Global, op: Prefix, at: u32, operand: Expr) -> Result<Expr, St
     })
 }
 
-fn chosen(alloc: Global, at: u32, test: Expr, yes: Expr, no: Expr) -> Result<Expr, Stop>
-    ensures value { IfOk result (λ e. tree_of e ≡ Chosen at (tree_of test) (tree_of yes) (tree_of no)) }
+/// An `if` as an operand, its test and its first part already in memory of their own.
+fn chosen(
+    alloc: Global,
+    at: u32,
+    test: Box<Expr>,
+    yes: Box<Expr>,
+    no: Expr,
+) -> Result<Operand, Stop>
+    ensures value { IfOk result (λ o. spec.held_of o ≡ spec.chosen_held at (tree_of test) (tree_of yes) (tree_of no)) }
     ensures memory { IfErr result (λ e. e ≡ Stop.Memory) }
 {
-    let test = Box::new(alloc, test)?;
-    let form = ExprForm::If(test, Box::new(alloc, yes)?, Box::new(alloc, no)?);
-    Ok(Expr {
+    let form = ExprForm::If(test, yes, Box::new(alloc, no)?);
+    let tree = Expr {
         at,
         site: None,
         form,
+    };
+    Ok(Operand {
+        tree,
+        level: 10,
+        is_open: true,
     })
 }
 
@@ -617,16 +628,21 @@ impl<'a> Parser<'a> {
         ensures reads { spec.ReadsOperand self.old result self.new }
     {
         self.enter()?;
-        let test = self.expr(alloc, 0)?;
-        self.pass(Mark::Then)?;
-        let yes = self.expr(alloc, 0)?;
-        self.pass(Mark::Else)?;
+        let test = self.part(alloc, Mark::Then)?;
+        let yes = self.part(alloc, Mark::Else)?;
         let no = self.expr(alloc, 0)?;
-        Ok(Operand {
-            tree: chosen(alloc, at, test.tree, yes.tree, no.tree)?,
-            level: 10,
-            is_open: true,
-        })
+        chosen(alloc, at, test, yes, no.tree)
+    }
+
+    /// A part of an `if` and the word behind it, the part in memory of its own.
+    #[cycle(parser)]
+    fn part(&mut self, alloc: Global, mark: Mark) -> Result<Box<Expr>, Stop>
+        ensures shorter { length self.new.rest ≤ length self.old.rest }
+        ensures reads { spec.ReadsPart mark self.old result self.new }
+    {
+        let part = self.expr(alloc, 0)?;
+        self.pass(mark)?;
+        Ok(Box::new(alloc, part.tree)?)
     }
 
     /// A `#` with its arguments.

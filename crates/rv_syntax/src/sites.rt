@@ -303,6 +303,15 @@ fn sited_all(alloc: Global, all: &[Expr], sites: &Sites) -> Result<Many<Expr>, A
     Ok(made)
 }
 
+/// The same of an equation.
+fn sited_equation(alloc: Global, equation: Equation, sites: &Sites) -> Result<Equation, AllocError>
+    ensures { IfOk result (λ q. equation_tree q ≡ spec.sited_equation (spec.numbered_from sites.now.first sites.now.offsets.items) (equation_tree equation)) }
+{
+    let Equation { lefts, right } = equation;
+    let right = sited(alloc, &right, sites)?.into_inner();
+    Ok(Equation { lefts, right })
+}
+
 /// The same of equations.
 fn sited_equations(
     alloc: Global,
@@ -314,14 +323,28 @@ fn sited_equations(
 {
     let mut made = Many::new(alloc);
     'each: for equation in equations.into_vec() {
-        let Equation { lefts, right } = equation;
-        let right = sited(alloc, &right, sites)?.into_inner();
-        made.push(Equation { lefts, right })?;
+        made.push(sited_equation(alloc, equation, sites)?)?;
     }
     Ok(made)
 }
 
-/// The same of assertions, which have sites themselves.
+/// The same of an assertion, which has a site itself.
+fn sited_assertion(
+    alloc: Global,
+    assertion: &Assertion,
+    sites: &Sites,
+) -> Result<Assertion, AllocError>
+    ensures { IfOk result (λ a. assertion_tree a ≡ spec.sited_assertion (spec.numbered_from sites.now.first sites.now.offsets.items)
+        (assertion_tree assertion.now)) }
+{
+    Ok(Assertion {
+        at: assertion.at,
+        site: sites.at(assertion.at),
+        body: sited(alloc, &assertion.body, sites)?.into_inner(),
+    })
+}
+
+/// The same of assertions.
 fn sited_assertions(
     alloc: Global,
     assertions: Many<Assertion>,
@@ -332,12 +355,26 @@ fn sited_assertions(
 {
     let mut made = Many::new(alloc);
     'each: for assertion in assertions.into_vec() {
-        let at = assertion.at;
-        let body = sited(alloc, &assertion.body, sites)?.into_inner();
-        let site = sites.at(at);
-        made.push(Assertion { at, site, body })?;
+        made.push(sited_assertion(alloc, &assertion, sites)?)?;
     }
     Ok(made)
+}
+
+/// The same of the equations and assertions of a node.
+fn sited_parts(
+    alloc: Global,
+    equations: Many<Equation>,
+    assertions: Many<Assertion>,
+    sites: &Sites,
+) -> Result<(Many<Equation>, Many<Assertion>), AllocError>
+    ensures equations { IfOk result (λ p. map equation_tree p.0 ≡ map (spec.sited_equation (spec.numbered_from sites.now.first sites.now.offsets.items))
+        (map equation_tree equations)) }
+    ensures assertions { IfOk result (λ p. map assertion_tree p.1 ≡ map (spec.sited_assertion (spec.numbered_from sites.now.first sites.now.offsets.items))
+        (map assertion_tree assertions)) }
+{
+    let equations = sited_equations(alloc, equations, sites)?;
+    let assertions = sited_assertions(alloc, assertions, sites)?;
+    Ok((equations, assertions))
 }
 
 /// The node with the sites of its expressions and assertions.
@@ -354,8 +391,7 @@ fn with_sites(alloc: Global, node: Node) -> Result<Node, AllocError>
         equations,
         assertions,
     } = node;
-    let equations = sited_equations(alloc, equations, &sites)?;
-    let assertions = sited_assertions(alloc, assertions, &sites)?;
+    let (equations, assertions) = sited_parts(alloc, equations, assertions, &sites)?;
     Ok(Node {
         name,
         inputs,

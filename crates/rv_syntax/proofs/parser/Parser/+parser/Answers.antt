@@ -1,4 +1,4 @@
-use Rattle.std.proofs.Common.{true, false, [], ◌∷◌, ◌++◌, map, length, refl, sym, ap, ◌∙◌, arith}
+use Rattle.std.proofs.Common.{false, [], ◌∷◌, ◌++◌, map, length, refl, sym, ap, ◌∙◌, arith}
 use Rattle.std.specs.Prelude.{Err}
 use Rattle.std.proofs.lemmas.Result.{err_from_is_err_and}
 use Rattle.std.proofs.lemmas.List.{map_push}
@@ -8,14 +8,15 @@ use Rattle.rv_syntax.specs.declared.parser.Link.TheVariants as link
 use Rattle.rv_syntax.specs.declared.fault.Why.TheVariants.{Offends}
 use Rattle.rv_tree.specs.Tree.{tree_of}
 use Rattle.rv_syntax.specs.Grammar.{Function, Hash, Joined, Invoked}
-use Rattle.rv_syntax.specs.Machine.{Brackets, Under, After, Asked, Answered, Else, Within, held, whole, Want, Have, Hashed}
+use Rattle.rv_syntax.specs.Machine.{Brackets, Under, After, Asked, Else, Within, held, whole, Want, Have, Hashed}
 use Rattle.rv_syntax.specs.Limited.{counts, leave}
 use Rattle.rv_syntax.specs.Marks.{is_mark}
 use Rattle.rv_syntax.specs.Parse.{starts}
-use Rattle.rv_syntax.specs.Reads.{Around, from, Wanting, Calling, argued_from, held_of, linked}
+use Rattle.rv_syntax.specs.Reads.{Around, from, Wanting, Choosing, next_frame, part_from, Calling, argued_from, held_of, linked}
 use Rattle.rv_syntax.proofs.Complete.{below-eight}
 use Rattle.rv_syntax.proofs.Steps.{operator-goes, operator-deep, bracket-goes, bracket-deep, none-begins, leaf-goes, leaf-none, link-goes, link-deep, leaves}
-use Rattle.rv_syntax.proofs.Steps.{then-goes, else-goes, close-goes, comma-goes, last-goes, then-missing, else-missing, close-missing, last-missing}
+use Rattle.rv_syntax.proofs.Steps.{close-goes, comma-goes, last-goes, close-missing, last-missing}
+use Rattle.rv_syntax.proofs.Steps.{part-goes, part-missing, part-wanted, as-test, as-yes, choice-read}
 use Rattle.rv_syntax.proofs.Steps.{clock-missing, clock-goes, calling, call-goes, call-deep, call-none, hash-goes, hash-deep, hash-missing, deep-stop}
 use Rattle.rv_syntax.proofs.Steps.{pass-stop, name-stop, stop-from, tail-short, wanted}
 use Rattle.rv_syntax.proofs.parser.Parser.+parser.Goals as goal
@@ -155,69 +156,59 @@ choice-returns-in_err-enter-clause-reads t c =
 pub choice-returns-in_err-test-clause-reads : goal.choice-returns-in_err-test-clause-reads
 choice-returns-in_err-test-clause-reads t c =
     let p = err_from_is_err_and c.from_residual-in_err-test.result c.from_residual-in_err-test.ensures.1 in
-    rw (p.1, p.2) (stop-from Around (Wanting 0) (from c.args.self.now Want) (λ x. from c.enter.new.self Want x.around) c.in_err-test.field-0.0 c.expr.new.self
+    rw (p.1, p.2) (stop-from Around (Choosing mark.Then) (from c.args.self.now Want) (part_from c.enter.new.self) c.in_err-test.field-0.0 c.part.new.self
     (λ x. (
-      wanted 0 (Asked c.args.at ∷ x.frames) x.outside refl,
-      operator-goes c.args.self.now (start.Asks c.args.at) (λ s. Want (Asked c.args.at ∷ s))
-          c.requires (λ h s. refl) (λ w e. e) c.enter.new.self c.in_ok-enter.ensures x,
+      as-test c.args.at x,
+      operator-goes c.args.self.now (start.Asks c.args.at) (λ s. Want (Asked c.args.at ∷ s)) c.requires (λ h s. refl) (λ w e. e) c.enter.new.self c.in_ok-enter.ensures x,
     )) c.in_err-test.ensures.reads)
-
-pub choice-returns-in_err-pass-clause-reads : goal.choice-returns-in_err-pass-clause-reads
-choice-returns-in_err-pass-clause-reads t c =
-    let p = err_from_is_err_and c.from_residual-in_err-pass.result c.from_residual-in_err-pass.ensures.1 in
-    rw (p.1, p.2) (pass-stop Around (from c.args.self.now Want) mark.Then c.in_err-pass.field-0.0 c.expr.new.self c.pass.new.self c.in_err-pass.ensures
-    (λ n x. operator-goes c.args.self.now (start.Asks c.args.at) (λ s. Want (Asked c.args.at ∷ s)) c.requires (λ h s. refl) (λ w e. e) c.enter.new.self
-    c.in_ok-enter.ensures x ∙ c.in_ok-test.ensures.reads (wanted 0 (Asked c.args.at ∷ x.frames) x.outside refl)
-    ∙ then-missing c.expr.new.self.rest (counts c.expr.new.self.depth x.outside) c.args.at (held_of c.in_ok-test.test) x.frames n))
 
 pub choice-returns-in_err-yes-clause-reads : goal.choice-returns-in_err-yes-clause-reads
 choice-returns-in_err-yes-clause-reads t c =
     let p = err_from_is_err_and c.from_residual-in_err-yes.result c.from_residual-in_err-yes.ensures.1 in
-    rw (p.1, p.2) (stop-from Around (Wanting 0) (from c.args.self.now Want) (λ x. from c.pass.new.self Want x.around) c.in_err-yes.field-0.0 c.expr-2.new.self
+    rw (p.1, p.2) (stop-from Around (Choosing mark.Else) (from c.args.self.now Want) (part_from c.part.new.self) c.in_err-yes.field-0.0 c.part-2.new.self
     (λ x. (
-      wanted 0 (Answered c.args.at (tree_of c.in_ok-test.test.tree) ∷ x.frames) x.outside refl,
-      operator-goes c.args.self.now (start.Asks c.args.at)
-          (λ s. Want (Asked c.args.at ∷ s)) c.requires (λ h s. refl) (λ w e. e) c.enter.new.self c.in_ok-enter.ensures x
-          ∙ c.in_ok-test.ensures.reads (wanted 0 (Asked c.args.at ∷ x.frames) x.outside refl)
-          ∙ then-goes c.expr.new.self c.pass.new.self c.args.at (held_of c.in_ok-test.test) c.in_ok-pass.ensures x,
+      as-yes c.args.at (tree_of c.in_ok-test.test) x,
+      operator-goes c.args.self.now (start.Asks c.args.at) (λ s. Want (Asked c.args.at ∷ s)) c.requires (λ h s. refl) (λ w e. e) c.enter.new.self c.in_ok-enter.ensures x
+          ∙ c.in_ok-test.ensures.reads (as-test c.args.at x),
     )) c.in_err-yes.ensures.reads)
-
-pub choice-returns-in_err-pass-2-clause-reads : goal.choice-returns-in_err-pass-2-clause-reads
-choice-returns-in_err-pass-2-clause-reads t c =
-    let p = err_from_is_err_and c.from_residual-in_err-pass-2.result c.from_residual-in_err-pass-2.ensures.1 in
-    rw (p.1, p.2) (pass-stop Around (from c.args.self.now Want) mark.Else c.in_err-pass-2.field-0.0 c.expr-2.new.self c.pass-2.new.self c.in_err-pass-2.ensures
-    (λ n x. operator-goes c.args.self.now (start.Asks c.args.at) (λ s. Want (Asked c.args.at ∷ s)) c.requires (λ h s. refl) (λ w e. e) c.enter.new.self
-    c.in_ok-enter.ensures x ∙ c.in_ok-test.ensures.reads (wanted 0 (Asked c.args.at ∷ x.frames) x.outside refl)
-    ∙ then-goes c.expr.new.self c.pass.new.self c.args.at (held_of c.in_ok-test.test) c.in_ok-pass.ensures x
-    ∙ c.in_ok-yes.ensures.reads (wanted 0 (Answered c.args.at (tree_of c.in_ok-test.test.tree) ∷ x.frames) x.outside refl)
-    ∙ else-missing c.expr-2.new.self.rest (counts c.expr-2.new.self.depth x.outside) c.args.at (tree_of c.in_ok-test.test.tree) (held_of c.in_ok-yes.yes)
-    x.frames n))
 
 pub choice-returns-in_err-no-clause-reads : goal.choice-returns-in_err-no-clause-reads
 choice-returns-in_err-no-clause-reads t c =
     let p = err_from_is_err_and c.from_residual-in_err-no.result c.from_residual-in_err-no.ensures.1 in
-    rw (p.1, p.2) (stop-from Around (Wanting 0) (from c.args.self.now Want) (λ x. from c.pass-2.new.self Want x.around) c.in_err-no.field-0.0 c.expr-3.new.self
+    rw (p.1, p.2) (stop-from Around (Wanting 0) (from c.args.self.now Want) (λ x. from c.part-2.new.self Want x.around) c.in_err-no.field-0.0 c.expr.new.self
     (λ x. (
-      wanted 0 (Else c.args.at (tree_of c.in_ok-test.test.tree) (tree_of c.in_ok-yes.yes.tree) ∷ x.frames) x.outside refl,
-      operator-goes c.args.self.now (start.Asks c.args.at) (λ s. Want (Asked c.args.at ∷ s)) c.requires (λ h s. refl) (λ w e. e) c.enter.new.self
-          c.in_ok-enter.ensures x ∙ c.in_ok-test.ensures.reads (wanted 0 (Asked c.args.at ∷ x.frames) x.outside refl)
-          ∙ then-goes c.expr.new.self c.pass.new.self c.args.at (held_of c.in_ok-test.test) c.in_ok-pass.ensures x
-          ∙ c.in_ok-yes.ensures.reads (wanted 0 (Answered c.args.at (tree_of c.in_ok-test.test.tree) ∷ x.frames) x.outside refl)
-          ∙ else-goes c.expr-2.new.self c.pass-2.new.self c.args.at (tree_of c.in_ok-test.test.tree) (held_of c.in_ok-yes.yes) c.in_ok-pass-2.ensures x,
+      wanted 0 (Else c.args.at (tree_of c.in_ok-test.test) (tree_of c.in_ok-yes.yes) ∷ x.frames) x.outside refl,
+      operator-goes c.args.self.now (start.Asks c.args.at) (λ s. Want (Asked c.args.at ∷ s)) c.requires (λ h s. refl) (λ w e. e) c.enter.new.self c.in_ok-enter.ensures x
+          ∙ c.in_ok-test.ensures.reads (as-test c.args.at x) ∙ c.in_ok-yes.ensures.reads (as-yes c.args.at (tree_of c.in_ok-test.test) x),
     ))
     c.in_err-no.ensures.reads)
 
 pub choice-returns-clause-reads : goal.choice-returns-clause-reads
-choice-returns-clause-reads t c = (
-  omega arith,
-  λ x. operator-goes c.args.self.now (start.Asks c.args.at) (λ s. Want (Asked c.args.at ∷ s)) c.requires (λ h s. refl)
-      (λ w e. e) c.enter.new.self c.in_ok-enter.ensures x ∙ c.in_ok-test.ensures.reads (wanted 0 (Asked c.args.at ∷ x.frames) x.outside refl)
-      ∙ then-goes c.expr.new.self c.pass.new.self c.args.at (held_of c.in_ok-test.test) c.in_ok-pass.ensures x
-      ∙ c.in_ok-yes.ensures.reads (wanted 0 (Answered c.args.at (tree_of c.in_ok-test.test.tree) ∷ x.frames) x.outside refl)
-      ∙ else-goes c.expr-2.new.self c.pass-2.new.self c.args.at (tree_of c.in_ok-test.test.tree) (held_of c.in_ok-yes.yes) c.in_ok-pass-2.ensures x
-      ∙ c.in_ok-no.ensures.reads (wanted 0 (Else c.args.at (tree_of c.in_ok-test.test.tree) (tree_of c.in_ok-yes.yes.tree) ∷ x.frames) x.outside refl)
-      ∙ ap (λ e. from c.expr-3.new.self (Have (held 10 true e)) x) (sym c.in_ok-chosen.ensures.value),
-)
+choice-returns-clause-reads t c = choice-read c.args.at c.args.self.now c.expr.new.self (tree_of c.in_ok-test.test) (tree_of c.in_ok-yes.yes)
+    (held_of c.in_ok-no.no) c.chosen.result c.chosen.ensures.value c.chosen.ensures.memory
+    (λ x. operator-goes c.args.self.now (start.Asks c.args.at) (λ s. Want (Asked c.args.at ∷ s)) c.requires (λ h s. refl) (λ w e. e) c.enter.new.self c.in_ok-enter.ensures x
+    ∙ c.in_ok-test.ensures.reads (as-test c.args.at x) ∙ c.in_ok-yes.ensures.reads (as-yes c.args.at (tree_of c.in_ok-test.test) x)
+    ∙ c.in_ok-no.ensures.reads (wanted 0 (Else c.args.at (tree_of c.in_ok-test.test) (tree_of c.in_ok-yes.yes) ∷ x.frames) x.outside refl))
+
+-- ---- part
+pub part-returns-in_err-part-clause-reads : goal.part-returns-in_err-part-clause-reads
+part-returns-in_err-part-clause-reads t c =
+    let p = err_from_is_err_and c.from_residual.result c.from_residual.ensures.1 in
+    rw (p.1, p.2) (stop-from (Choosing c.args.mark) (Wanting 0) (part_from c.args.self.now) (λ x. from c.args.self.now Want x.around)
+    c.in_err-part.field-0.0 c.expr.new.self (λ x. (part-wanted c.args.mark x, refl)) c.in_err-part.ensures.reads)
+
+pub part-returns-in_err-pass-clause-reads : goal.part-returns-in_err-pass-clause-reads
+part-returns-in_err-pass-clause-reads t c =
+    let p = err_from_is_err_and c.from_residual-in_err-pass.result c.from_residual-in_err-pass.ensures.1 in
+    rw (p.1, p.2) (pass-stop (Choosing c.args.mark) (part_from c.args.self.now) c.args.mark c.in_err-pass.field-0.0 c.expr.new.self c.pass.new.self
+    c.in_err-pass.ensures
+    (λ n x. c.in_ok-part.ensures.reads (part-wanted c.args.mark x) ∙ part-missing c.args.mark c.expr.new.self (held_of c.in_ok-part.part) n x))
+
+pub part-returns-clause-reads : goal.part-returns-clause-reads
+part-returns-clause-reads t c = λ x.
+    c.in_ok-part.ensures.reads (part-wanted c.args.mark x)
+    ∙ part-goes c.args.mark c.expr.new.self c.pass.new.self (held_of c.in_ok-part.part) c.in_ok-pass.ensures x
+    ∙ ap (λ e. from c.pass.new.self (λ s. Want (next_frame x.part (tree_of e) ∷ s)) x.around) (sym c.in_ok-new.ensures)
 
 pub hashed-returns-in_err-enter-clause-reads : goal.hashed-returns-in_err-enter-clause-reads
 hashed-returns-in_err-enter-clause-reads t c =

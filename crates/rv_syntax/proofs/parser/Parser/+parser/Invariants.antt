@@ -11,6 +11,9 @@ decreases-linked l = 4 * length l.self.now.rest + 4
 abbrev pub decreases-arguments : goal.decreases-arguments
 decreases-arguments l = 4 * length l.self.now.rest + 4
 
+abbrev pub decreases-part : goal.decreases-part
+decreases-part l = 4 * length l.self.now.rest + 4
+
 abbrev pub decreases-expr : goal.decreases-expr
 decreases-expr l = 4 * length l.self.now.rest + 3
 
