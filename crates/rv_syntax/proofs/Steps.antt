@@ -30,7 +30,7 @@ use Rattle.rv_syntax.specs.Limited.{Counts, counts, count, at_end, going, limite
 use Rattle.rv_syntax.specs.Parse.{starts}
 use Rattle.rv_syntax.specs.Reads.{Ahead, tail, Stops, Around, from, Wanting, Calling, argued_from, TakesLeaf, starts_call, link_next, linked, SeesLink, Enters}
 use Rattle.rv_syntax.specs.Reads.{TakesName, Passes, TakesMark, Part, Test, Yes, mark_behind, frame_of, next_frame, Choosing}
-use Rattle.rv_syntax.specs.Reads.{held_of, chosen_held, ReadsAs}
+use Rattle.rv_syntax.specs.Reads.{held_of, ReadsAs}
 use Rattle.rv_syntax.proofs.Marked.{token-mark}
 use Rattle.rv_syntax.proofs.Complete.{settle-taken}
 
@@ -706,9 +706,8 @@ as-test at x = record { part = Test at; around = x; behind = refl }
 abbrev pub as-yes : ℕ → Tree → Around → Choosing mark.Else
 as-yes at a x = record { part = Yes at a; around = x; behind = refl }
 
--- an `if` that has been read
-pub choice-read : (at : ℕ) (old new : Ahead) (a b : Tree) (h : Held) (r : Result Operand Stop) → IfOk r (λ o. held_of o ≡ chosen_held at a b h.body)
-    → IfErr r (λ e. e ≡ stop.Memory)
-    → ((x : Around) → from old Want x ≡ leave (counts new.depth x.outside) h (Else at a b ∷ x.frames) new.rest) → ReadsAs old Want r new
-choice-read at old new a b h (Ok o) v m f = (omega (arith, ap (λ o. o.grade) v), λ x. f x ∙ ap (λ o. from new (Have o) x) (sym v))
-choice-read at old new a b h (Err e) v m f = subst (λ e. Stops Around (from old Want) e new) (sym m) tt
+-- an operand that has been made of what was read
+pub made-read : (old new : Ahead) (state : List Frame → State) (k : Held) (r : Result Operand Stop) → k.grade ≤ 10 → IfOk r (λ o. held_of o ≡ k)
+    → IfErr r (λ e. e ≡ stop.Memory) → ((x : Around) → from old state x ≡ from new (Have k) x) → ReadsAs old state r new
+made-read old new state k (Ok o) le v m f = (omega (arith, le, ap (λ h. h.grade) v), λ x. f x ∙ ap (λ h. from new (Have h) x) (sym v))
+made-read old new state k (Err e) le v m f = subst (λ e. Stops Around (from old state) e new) (sym m) tt

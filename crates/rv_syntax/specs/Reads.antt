@@ -4,6 +4,7 @@ use Rattle.rv_syntax.specs.declared.token.Mark.{Mark}
 use Rattle.rv_syntax.specs.declared.token.Mark.TheVariants as mark
 use Rattle.rv_syntax.specs.declared.token.Token.{Token}
 use Rattle.rv_tree.specs.declared.tree.Name.{Name}
+use Rattle.rv_tree.specs.declared.tree.Op.{Op}
 use Rattle.rv_tree.specs.declared.tree.Expr.{Expr}
 use Rattle.rv_syntax.specs.declared.parser.Start.TheVariants as start
 use Rattle.rv_syntax.specs.declared.parser.Next.{Next}
@@ -15,7 +16,7 @@ use Rattle.rv_syntax.specs.declared.fault.Stop.{Stop}
 use Rattle.rv_syntax.specs.declared.fault.Stop.TheVariants as stop
 use Rattle.rv_syntax.specs.declared.fault.Why.TheVariants.{Offends, TooDeep}
 use Rattle.rv_tree.specs.Tree.{Tree, tree_of}
-use Rattle.rv_syntax.specs.Grammar.{name_token, Callee, Chosen, Invoked}
+use Rattle.rv_syntax.specs.Grammar.{name_token, Callee, Chosen, Invoked, Joined, Sampled, level_of}
 use Rattle.rv_syntax.specs.Nesting.{limit}
 use Rattle.rv_syntax.specs.Marks.{is_mark, is_name}
 use Rattle.rv_syntax.specs.Machine.{Frame, Asked, Answered, Else, After, Within, need, Held, held, whole, State, Want, Have, Clock, accepts, starting, following, leaf_tree}
@@ -47,6 +48,16 @@ same a = a
 -- the operand that has been read
 abbrev pub held_of : Operand → Held
 held_of o = held o.level o.is_open (tree_of o.tree)
+
+-- the operands that an operator, a `when` and an `if` make
+abbrev pub joined_held : Op → ℕ → Tree → Held → Held
+joined_held o at l h = held (level_of o) h.ends_open (Joined o at l h.body)
+
+abbrev pub sampled_held : ℕ → Tree → Name → Held
+sampled_held at t clock = held 8 false (Sampled at t clock)
+
+abbrev pub chosen_held : ℕ → Tree → Tree → Tree → Held
+chosen_held at a b c = held 10 true (Chosen at a b c)
 
 -- A stop at these tokens: reading comes to it from each of these.
 abbrev pub Stops : (X : Type 0) → (X → Limited) → Stop → Ahead → Type 0
@@ -113,10 +124,6 @@ part_from a x = from a (λ s. Want (frame_of x.part ∷ s)) x.around
 abbrev pub ReadsPart : Mark → Ahead → Result Expr Stop → Ahead → Type 0
 ReadsPart m old (Ok e) new = (x : Choosing m) → part_from old x ≡ from new (λ s. Want (next_frame x.part (tree_of e) ∷ s)) x.around
 ReadsPart m old (Err e) new = Stops (Choosing m) (part_from old) e new
-
--- the operand that an `if` is
-abbrev pub chosen_held : ℕ → Tree → Tree → Tree → Held
-chosen_held at a b c = held 10 true (Chosen at a b c)
 
 -- what is called, and what is around
 pub record Calling : Type 0 where

@@ -1,7 +1,7 @@
 //! Reading tokens: single ones, and expressions.
 
 ghost use Rattle.std.specs.Prelude.{⊤, ◌≡◌, ◌<◌, ◌≤◌, ℕ, [], map, length, IfOk, IfErr, IsTrue, ◌↔◌};
-ghost use Rattle.rv_syntax.specs.Grammar.{Applied, Chosen, Function, Hash, Invoked, Joined, Sampled};
+ghost use Rattle.rv_syntax.specs.Grammar.{Applied, Function, Hash, Invoked};
 ghost use Rattle.rv_syntax.specs.Machine as machine;
 ghost use Rattle.rv_syntax.specs.Machine.{leaf_tree};
 ghost use Rattle.rv_syntax.specs.Marks as marks;
@@ -126,28 +126,39 @@ fn next_of(token: &Token) -> Next
     }
 }
 
-fn joined(alloc: Global, op: Op, at: u32, left: Expr, right: Expr) -> Result<Expr, Stop>
-    ensures value { IfOk result (λ e. tree_of e ≡ Joined op at (tree_of left) (tree_of right)) }
+/// Two operands with an operator between them, the left one already in memory of its own.
+fn joined(alloc: Global, op: Op, at: u32, left: Box<Expr>, right: Operand) -> Result<Operand, Stop>
+    ensures value { IfOk result (λ o. spec.held_of o ≡ spec.joined_held op at (tree_of left) (spec.held_of right)) }
     ensures memory { IfErr result (λ e. e ≡ Stop.Memory) }
 {
-    let form = ExprForm::Binary(op, Box::new(alloc, left)?, Box::new(alloc, right)?);
-    Ok(Expr {
+    let is_open = right.is_open;
+    let form = ExprForm::Binary(op, left, Box::new(alloc, right.tree)?);
+    let tree = Expr {
         at,
         site: None,
         form,
+    };
+    Ok(Operand {
+        tree,
+        level: level(op),
+        is_open,
     })
 }
 
-fn sampled(alloc: Global, at: u32, operand: Expr, clock: Name) -> Result<Expr, Stop>
-    ensures value { IfOk result (λ e. tree_of e ≡ Sampled at (tree_of operand) clock) }
-    ensures memory { IfErr result (λ e. e ≡ Stop.Memory) }
+/// An expression and the clock that it is sampled by.
+fn sampled(at: u32, operand: Box<Expr>, clock: Name) -> Operand
+    ensures { spec.held_of result ≡ spec.sampled_held at (tree_of operand) clock }
 {
-    let form = ExprForm::When(Box::new(alloc, operand)?, clock);
-    Ok(Expr {
+    let tree = Expr {
         at,
         site: None,
-        form,
-    })
+        form: ExprForm::When(operand, clock),
+    };
+    Operand {
+        tree,
+        level: 8,
+        is_open: false,
+    }
 }
 
 fn applied(alloc: Global, op: Prefix, at: u32, operand: Expr) -> Result<Expr, Stop>
@@ -693,22 +704,15 @@ impl<'a> Parser<'a> {
         ensures shorter { length self.new.rest ≤ length self.old.rest }
         ensures reads { spec.ReadsAs self.old (spec.linked link (spec.held_of left)) result self.new }
     {
+        let left = Box::new(alloc, left.tree)?;
         match link {
             Link::Between(op, at) => {
                 let right = self.expr(alloc, right_need(op))?;
-                Ok(Operand {
-                    tree: joined(alloc, op, at, left.tree, right.tree)?,
-                    level: level(op),
-                    is_open: right.is_open,
-                })
+                joined(alloc, op, at, left, right)
             }
             Link::When(at) => {
                 let clock = self.inner_name(alloc)?;
-                Ok(Operand {
-                    tree: sampled(alloc, at, left.tree, clock)?,
-                    level: 8,
-                    is_open: false,
-                })
+                Ok(sampled(at, left, clock))
             }
         }
     }

@@ -307,9 +307,11 @@ fn sited_all(alloc: Global, all: &[Expr], sites: &Sites) -> Result<Many<Expr>, A
 fn sited_equation(alloc: Global, equation: Equation, sites: &Sites) -> Result<Equation, AllocError>
     ensures { IfOk result (λ q. equation_tree q ≡ spec.sited_equation (spec.numbered_from sites.now.first sites.now.offsets.items) (equation_tree equation)) }
 {
-    let Equation { lefts, right } = equation;
-    let right = sited(alloc, &right, sites)?.into_inner();
-    Ok(Equation { lefts, right })
+    let right = sited(alloc, &equation.right, sites)?.into_inner();
+    Ok(Equation {
+        lefts: equation.lefts,
+        right,
+    })
 }
 
 /// The same of equations.
@@ -383,20 +385,12 @@ fn with_sites(alloc: Global, node: Node) -> Result<Node, AllocError>
     ensures { IfOk result (λ n. node_tree n ≡ spec.with_sites (node_tree node)) }
 {
     let sites = sites_of(alloc, &node)?;
-    let Node {
-        name,
-        inputs,
-        outputs,
-        locals,
-        equations,
-        assertions,
-    } = node;
-    let (equations, assertions) = sited_parts(alloc, equations, assertions, &sites)?;
+    let (equations, assertions) = sited_parts(alloc, node.equations, node.assertions, &sites)?;
     Ok(Node {
-        name,
-        inputs,
-        outputs,
-        locals,
+        name: node.name,
+        inputs: node.inputs,
+        outputs: node.outputs,
+        locals: node.locals,
         equations,
         assertions,
     })

@@ -1,5 +1,5 @@
 use Rattle.std.proofs.Common.{false, [], ◌∷◌, ◌++◌, map, length, refl, sym, ap, ◌∙◌, arith}
-use Rattle.std.specs.Prelude.{Err}
+use Rattle.std.specs.Prelude.{Ok, Err}
 use Rattle.std.proofs.lemmas.Result.{err_from_is_err_and}
 use Rattle.std.proofs.lemmas.List.{map_push}
 use Rattle.rv_syntax.specs.declared.token.Mark.TheVariants as mark
@@ -12,11 +12,11 @@ use Rattle.rv_syntax.specs.Machine.{Brackets, Under, After, Asked, Else, Within,
 use Rattle.rv_syntax.specs.Limited.{counts, leave}
 use Rattle.rv_syntax.specs.Marks.{is_mark}
 use Rattle.rv_syntax.specs.Parse.{starts}
-use Rattle.rv_syntax.specs.Reads.{Around, from, Wanting, Choosing, next_frame, part_from, Calling, argued_from, held_of, linked}
+use Rattle.rv_syntax.specs.Reads.{Around, from, Wanting, Choosing, next_frame, part_from, Calling, argued_from, held_of, linked, joined_held, sampled_held, chosen_held}
 use Rattle.rv_syntax.proofs.Complete.{below-eight}
 use Rattle.rv_syntax.proofs.Steps.{operator-goes, operator-deep, bracket-goes, bracket-deep, none-begins, leaf-goes, leaf-none, link-goes, link-deep, leaves}
 use Rattle.rv_syntax.proofs.Steps.{close-goes, comma-goes, last-goes, close-missing, last-missing}
-use Rattle.rv_syntax.proofs.Steps.{part-goes, part-missing, part-wanted, as-test, as-yes, choice-read}
+use Rattle.rv_syntax.proofs.Steps.{part-goes, part-missing, part-wanted, as-test, as-yes, made-read}
 use Rattle.rv_syntax.proofs.Steps.{clock-missing, clock-goes, calling, call-goes, call-deep, call-none, hash-goes, hash-deep, hash-missing, deep-stop}
 use Rattle.rv_syntax.proofs.Steps.{pass-stop, name-stop, stop-from, tail-short, wanted}
 use Rattle.rv_syntax.proofs.parser.Parser.+parser.Goals as goal
@@ -140,7 +140,7 @@ operand-returns-in-Other-clause-reads t c = rw c.fault.ensures (refl, λ x. none
 -- ---- linked
 pub linked-returns-in_err-right-in-Between-clause-reads : goal.linked-returns-in_err-right-in-Between-clause-reads
 linked-returns-in_err-right-in-Between-clause-reads t c =
-    let p = err_from_is_err_and c.from_residual.result c.from_residual.ensures.1 in
+    let p = err_from_is_err_and c.from_residual-in_err-right-in-Between.result c.from_residual-in_err-right-in-Between.ensures.1 in
     rw (p.1, p.2, c.in-Between.is) (stop-from Around (Wanting c.right_need.result)
     (from c.args.self.now (linked (link.Between c.in-Between.op c.in-Between.at) (held_of c.args.left))) (λ x. from c.args.self.now Want x.around)
     c.in_err-right-in-Between.field-0.0 c.expr.new.self
@@ -184,8 +184,9 @@ choice-returns-in_err-no-clause-reads t c =
     c.in_err-no.ensures.reads)
 
 pub choice-returns-clause-reads : goal.choice-returns-clause-reads
-choice-returns-clause-reads t c = choice-read c.args.at c.args.self.now c.expr.new.self (tree_of c.in_ok-test.test) (tree_of c.in_ok-yes.yes)
-    (held_of c.in_ok-no.no) c.chosen.result c.chosen.ensures.value c.chosen.ensures.memory
+choice-returns-clause-reads t c = made-read c.args.self.now c.expr.new.self Want
+    (chosen_held c.args.at (tree_of c.in_ok-test.test) (tree_of c.in_ok-yes.yes) (tree_of c.in_ok-no.no.tree)) c.chosen.result (omega arith)
+    c.chosen.ensures.value c.chosen.ensures.memory
     (λ x. operator-goes c.args.self.now (start.Asks c.args.at) (λ s. Want (Asked c.args.at ∷ s)) c.requires (λ h s. refl) (λ w e. e) c.enter.new.self c.in_ok-enter.ensures x
     ∙ c.in_ok-test.ensures.reads (as-test c.args.at x) ∙ c.in_ok-yes.ensures.reads (as-yes c.args.at (tree_of c.in_ok-test.test) x)
     ∙ c.in_ok-no.ensures.reads (wanted 0 (Else c.args.at (tree_of c.in_ok-test.test) (tree_of c.in_ok-yes.yes) ∷ x.frames) x.outside refl))
@@ -365,18 +366,15 @@ arguments-returns-else-takes-clause-reads t c =
           ∙ ap (λ a. Err (Offends, a.rest)) (sym o.1),
     )
 
-pub linked-returns-in_ok-joined-in-Between-clause-reads : goal.linked-returns-in_ok-joined-in-Between-clause-reads
-linked-returns-in_ok-joined-in-Between-clause-reads t c =
-    rw c.in-Between.is (
-      omega (arith, below-eight c.in-Between.op, c.level.ensures),
-      λ x.
-          c.in_ok-right-in-Between.ensures.reads (wanted c.right_need.result (After c.in-Between.op c.in-Between.at (tree_of c.args.left.tree) ∷ x.frames)
-          x.outside (sym c.right_need.ensures))
-          ∙ ap (λ n. from c.expr.new.self (Have (held n c.in_ok-right-in-Between.right.is_open
-          (Joined c.in-Between.op c.in-Between.at (tree_of c.args.left.tree) (tree_of c.in_ok-right-in-Between.right.tree)))) x) (sym c.level.ensures)
-          ∙ ap (λ e. from c.expr.new.self (Have (held c.level.result c.in_ok-right-in-Between.right.is_open e)) x)
-          (sym c.in_ok-joined-in-Between.ensures.value),
-    )
+pub linked-returns-in_ok-right-in-Between-clause-reads : goal.linked-returns-in_ok-right-in-Between-clause-reads
+linked-returns-in_ok-right-in-Between-clause-reads t c =
+    rw c.in-Between.is (made-read c.args.self.now c.expr.new.self (linked (link.Between c.in-Between.op c.in-Between.at) (held_of c.args.left))
+    (joined_held c.in-Between.op c.in-Between.at (tree_of c.in_ok-left.left) (held_of c.in_ok-right-in-Between.right)) c.joined.result
+    (omega (arith, below-eight c.in-Between.op)) c.joined.ensures.value c.joined.ensures.memory
+    (λ x. c.in_ok-right-in-Between.ensures.reads (wanted c.right_need.result (After c.in-Between.op c.in-Between.at (tree_of c.args.left.tree) ∷ x.frames)
+    x.outside (sym c.right_need.ensures))
+    ∙ ap (λ e. from c.expr.new.self (Have (joined_held c.in-Between.op c.in-Between.at (tree_of e) (held_of c.in_ok-right-in-Between.right))) x)
+    (sym c.in_ok-left.ensures)))
 
 pub linked-returns-in_err-clock-in-When-clause-reads : goal.linked-returns-in_err-clock-in-When-clause-reads
 linked-returns-in_err-clock-in-When-clause-reads t c =
@@ -385,14 +383,14 @@ linked-returns-in_err-clock-in-When-clause-reads t c =
     c.in_err-clock-in-When.field-0.0 c.args.self.now c.inner_name.new.self c.in_err-clock-in-When.ensures.takes
     (λ n x. clock-missing c.args.self.now.rest (counts c.args.self.now.depth x.outside) c.in-When.at (tree_of c.args.left.tree) x.frames n))
 
-pub linked-returns-in_ok-sampled-in-When-clause-reads : goal.linked-returns-in_ok-sampled-in-When-clause-reads
-linked-returns-in_ok-sampled-in-When-clause-reads t c =
+pub linked-returns-in_ok-clock-in-When-clause-reads : goal.linked-returns-in_ok-clock-in-When-clause-reads
+linked-returns-in_ok-clock-in-When-clause-reads t c =
     let p = c.in_ok-clock-in-When.ensures.takes in
-    rw c.in-When.is (
-      omega arith,
-      λ x. clock-goes c.args.self.now c.inner_name.new.self c.in-When.at (tree_of c.args.left.tree) c.in_ok-clock-in-When.clock p.0
-          p.1 p.2 x ∙ ap (λ e. from c.inner_name.new.self (Have (held 8 false e)) x) (sym c.in_ok-sampled-in-When.ensures.value),
-    )
+    rw c.in-When.is (made-read c.args.self.now c.inner_name.new.self (linked (link.When c.in-When.at) (held_of c.args.left))
+    (sampled_held c.in-When.at (tree_of c.in_ok-left.left) c.in_ok-clock-in-When.clock) (Ok c.sampled.result) (omega arith)
+    c.sampled.ensures tt
+    (λ x. clock-goes c.args.self.now c.inner_name.new.self c.in-When.at (tree_of c.args.left.tree) c.in_ok-clock-in-When.clock p.0 p.1 p.2 x
+    ∙ ap (λ e. from c.inner_name.new.self (Have (sampled_held c.in-When.at (tree_of e) c.in_ok-clock-in-When.clock)) x) (sym c.in_ok-left.ensures)))
 
 pub operand-returns-in-Operand-clause-reads : goal.operand-returns-in-Operand-clause-reads
 operand-returns-in-Operand-clause-reads t c =
