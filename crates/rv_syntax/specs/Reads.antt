@@ -19,7 +19,8 @@ use Rattle.rv_tree.specs.Tree.{Tree, tree_of}
 use Rattle.rv_syntax.specs.Grammar.{name_token, Callee, Chosen, Invoked, Joined, Sampled, level_of}
 use Rattle.rv_syntax.specs.Nesting.{limit}
 use Rattle.rv_syntax.specs.Marks.{is_mark, is_name}
-use Rattle.rv_syntax.specs.Machine.{Frame, Asked, Answered, Else, After, Within, need, Held, held, whole, State, Want, Have, Clock, accepts, starting, following, leaf_tree}
+use Rattle.rv_syntax.specs.Machine.{Frame, Asked, Answered, Else, After, Within, need, Held, held, whole, State, Want, Have, Clock}
+use Rattle.rv_syntax.specs.Machine.{accepts, starting, following, leaf_tree}
 use Rattle.rv_syntax.specs.Limited.{counts, limited, Limited, leave}
 use Rattle.rv_syntax.specs.Parse.{Reading, Parse, starts}
 

@@ -12,7 +12,8 @@ use Rattle.rv_syntax.specs.Machine.{Brackets, Under, After, Asked, Else, Within,
 use Rattle.rv_syntax.specs.Limited.{counts, leave}
 use Rattle.rv_syntax.specs.Marks.{is_mark}
 use Rattle.rv_syntax.specs.Parse.{starts}
-use Rattle.rv_syntax.specs.Reads.{Around, from, Wanting, Choosing, next_frame, part_from, Calling, argued_from, held_of, linked, joined_held, sampled_held, chosen_held}
+use Rattle.rv_syntax.specs.Reads.{Around, from, Wanting, Choosing, next_frame, part_from}
+use Rattle.rv_syntax.specs.Reads.{Calling, argued_from, held_of, linked, joined_held, sampled_held, chosen_held}
 use Rattle.rv_syntax.proofs.Complete.{below-eight}
 use Rattle.rv_syntax.proofs.Steps.{operator-goes, operator-deep, bracket-goes, bracket-deep, none-begins, leaf-goes, leaf-none, link-goes, link-deep, leaves}
 use Rattle.rv_syntax.proofs.Steps.{close-goes, comma-goes, last-goes, close-missing, last-missing}
@@ -159,7 +160,8 @@ choice-returns-in_err-test-clause-reads t c =
     rw (p.1, p.2) (stop-from Around (Choosing mark.Then) (from c.args.self.now Want) (part_from c.enter.new.self) c.in_err-test.field-0.0 c.part.new.self
     (λ x. (
       as-test c.args.at x,
-      operator-goes c.args.self.now (start.Asks c.args.at) (λ s. Want (Asked c.args.at ∷ s)) c.requires (λ h s. refl) (λ w e. e) c.enter.new.self c.in_ok-enter.ensures x,
+      operator-goes c.args.self.now (start.Asks c.args.at) (λ s. Want (Asked c.args.at ∷ s))
+          c.requires (λ h s. refl) (λ w e. e) c.enter.new.self c.in_ok-enter.ensures x,
     )) c.in_err-test.ensures.reads)
 
 pub choice-returns-in_err-yes-clause-reads : goal.choice-returns-in_err-yes-clause-reads
@@ -168,7 +170,8 @@ choice-returns-in_err-yes-clause-reads t c =
     rw (p.1, p.2) (stop-from Around (Choosing mark.Else) (from c.args.self.now Want) (part_from c.part.new.self) c.in_err-yes.field-0.0 c.part-2.new.self
     (λ x. (
       as-yes c.args.at (tree_of c.in_ok-test.test) x,
-      operator-goes c.args.self.now (start.Asks c.args.at) (λ s. Want (Asked c.args.at ∷ s)) c.requires (λ h s. refl) (λ w e. e) c.enter.new.self c.in_ok-enter.ensures x
+      operator-goes c.args.self.now (start.Asks c.args.at) (λ s. Want (Asked c.args.at ∷ s))
+          c.requires (λ h s. refl) (λ w e. e) c.enter.new.self c.in_ok-enter.ensures x
           ∙ c.in_ok-test.ensures.reads (as-test c.args.at x),
     )) c.in_err-yes.ensures.reads)
 
@@ -178,7 +181,8 @@ choice-returns-in_err-no-clause-reads t c =
     rw (p.1, p.2) (stop-from Around (Wanting 0) (from c.args.self.now Want) (λ x. from c.part-2.new.self Want x.around) c.in_err-no.field-0.0 c.expr.new.self
     (λ x. (
       wanted 0 (Else c.args.at (tree_of c.in_ok-test.test) (tree_of c.in_ok-yes.yes) ∷ x.frames) x.outside refl,
-      operator-goes c.args.self.now (start.Asks c.args.at) (λ s. Want (Asked c.args.at ∷ s)) c.requires (λ h s. refl) (λ w e. e) c.enter.new.self c.in_ok-enter.ensures x
+      operator-goes c.args.self.now (start.Asks c.args.at) (λ s. Want (Asked c.args.at ∷ s))
+          c.requires (λ h s. refl) (λ w e. e) c.enter.new.self c.in_ok-enter.ensures x
           ∙ c.in_ok-test.ensures.reads (as-test c.args.at x) ∙ c.in_ok-yes.ensures.reads (as-yes c.args.at (tree_of c.in_ok-test.test) x),
     ))
     c.in_err-no.ensures.reads)
@@ -187,7 +191,8 @@ pub choice-returns-clause-reads : goal.choice-returns-clause-reads
 choice-returns-clause-reads t c = made-read c.args.self.now c.expr.new.self Want
     (chosen_held c.args.at (tree_of c.in_ok-test.test) (tree_of c.in_ok-yes.yes) (tree_of c.in_ok-no.no.tree)) c.chosen.result (omega arith)
     c.chosen.ensures.value c.chosen.ensures.memory
-    (λ x. operator-goes c.args.self.now (start.Asks c.args.at) (λ s. Want (Asked c.args.at ∷ s)) c.requires (λ h s. refl) (λ w e. e) c.enter.new.self c.in_ok-enter.ensures x
+    (λ x. operator-goes c.args.self.now (start.Asks c.args.at) (λ s. Want (Asked c.args.at ∷ s))
+    c.requires (λ h s. refl) (λ w e. e) c.enter.new.self c.in_ok-enter.ensures x
     ∙ c.in_ok-test.ensures.reads (as-test c.args.at x) ∙ c.in_ok-yes.ensures.reads (as-yes c.args.at (tree_of c.in_ok-test.test) x)
     ∙ c.in_ok-no.ensures.reads (wanted 0 (Else c.args.at (tree_of c.in_ok-test.test) (tree_of c.in_ok-yes.yes) ∷ x.frames) x.outside refl))
 
