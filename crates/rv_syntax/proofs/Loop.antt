@@ -11,6 +11,7 @@ use Rattle.rv_tree.specs.declared.tree.Equation.{Equation}
 use Rattle.rv_tree.specs.declared.tree.Assertion.{Assertion}
 use Rattle.rv_tree.specs.declared.tree.ConstDecl.{ConstDecl}
 use Rattle.rv_tree.specs.declared.tree.Node.{Node}
+use Rattle.rv_syntax.specs.declared.rules.Signature.{Signature}
 use Rattle.rv_tree.specs.Tree.{ConstantTree, NodeTree, ProgramTree, program_tree}
 use Rattle.rv_syntax.specs.declared.token.Token.{Token}
 use Rattle.rv_syntax.specs.declared.fault.Why.{Why}
@@ -265,37 +266,60 @@ all-sections p h r = made-same (read.with_sections p) program_of (λ sections. a
 abbrev pub of-statements : Name → List Decl → List Decl → List Decl → read.Statements → NodeTree
 of-statements x ins outs locals s = record { name = x; inputs = ins; outputs = outs; locals = locals; equations = s.equations; assertions = s.assertions }
 
-module _ (ts one-on two-on three-on : List Token) (x : Name) (ins outs : List Decl) (t : read.title ts ≡ Ok (x, one-on))
-    (i : read.inputs one-on ≡ Ok (ins, two-on)) (o : read.outputs two-on ≡ Ok (outs, three-on)) where
-  up-to-vars : read.node ts ≡ bind (read.vars three-on) (λ vs. then read.body (λ is. done (node_of x ins outs vs is)))
-  unfolding read.node
+-- the title, the inputs and the outputs at once
+module _ {A : Type 0} (go : Name → List Decl → List Decl → Parse A) where
+  signed-outputs : (x : Name) (ins : List Decl) (r : Reading (List Decl)) → bind r (λ outs. go x ins outs)
+      ≡ bind (bind r (λ outs. done (read.signature_of x ins outs))) (λ s. go s.name s.inputs s.outputs)
+  signed-outputs x ins (Ok o) = refl
+  signed-outputs x ins (Err e) = refl
+
+  signed-inputs : (x : Name) (r : Reading (List Decl)) → bind r (λ ins. then read.outputs (λ outs. go x ins outs))
+      ≡ bind (bind r (λ ins. then read.outputs (λ outs. done (read.signature_of x ins outs)))) (λ s. go s.name s.inputs s.outputs)
+  signed-inputs x (Ok i) = signed-outputs x i.0 (read.outputs i.1)
+  signed-inputs x (Err e) = refl
+
+  signed : (r : Reading Name) → bind r (λ x. then read.inputs (λ ins. then read.outputs (λ outs. go x ins outs)))
+      ≡ bind (bind r (λ x. then read.inputs (λ ins. then read.outputs (λ outs. done (read.signature_of x ins outs))))) (λ s. go s.name s.inputs s.outputs)
+  signed (Ok x) = signed-inputs x.0 (read.inputs x.1)
+  signed (Err e) = refl
+
+node-signed : (ts : List Token) → read.node ts
+    ≡ bind (read.signature ts) (λ s. then read.vars (λ vs. then read.body (λ is. done (node_of s.name s.inputs s.outputs vs is))))
+unfolding read.node read.signature
+node-signed ts = signed (λ x ins outs. then read.vars (λ vs. then read.body (λ is. done (node_of x ins outs vs is)))) (read.title ts)
+
+pub node-stops-at-signature : (ts : List Token) (e : Why × List Token) → read.signature ts ≡ Err e → read.node ts ≡ Err e
+node-stops-at-signature ts e h =
+    node-signed ts ∙ ap (λ r. bind r (λ s. then read.vars (λ vs. then read.body (λ is. done (node_of s.name s.inputs s.outputs vs is))))) h
+
+module _ (ts three-on : List Token) (s : Signature) (h : read.signature ts ≡ Ok (s, three-on)) where
+  up-to-vars : read.node ts ≡ bind (read.vars three-on) (λ vs. then read.body (λ is. done (node_of s.name s.inputs s.outputs vs is)))
   up-to-vars =
-      ap (λ r. bind r (λ y. then read.inputs (λ a. then read.outputs (λ b. then read.vars (λ vs. then read.body (λ is. done (node_of y a b vs is))))))) t
-      ∙ ap (λ r. bind r (λ a. then read.outputs (λ b. then read.vars (λ vs. then read.body (λ is. done (node_of x a b vs is)))))) i
-      ∙ ap (λ r. bind r (λ b. then read.vars (λ vs. then read.body (λ is. done (node_of x ins b vs is))))) o
+      node-signed ts ∙ ap (λ r. bind r (λ s. then read.vars (λ vs. then read.body (λ is. done (node_of s.name s.inputs s.outputs vs is))))) h
 
   pub node-stops-at-vars : (e : Why × List Token) → mapped joined (read.vars three-on) ≡ Err e → read.node ts ≡ Err e
-  node-stops-at-vars e h = up-to-vars ∙ ap (λ r. bind r (λ vs. then read.body (λ is. done (node_of x ins outs vs is))))
+  node-stops-at-vars e h = up-to-vars ∙ ap (λ r. bind r (λ vs. then read.body (λ is. done (node_of s.name s.inputs s.outputs vs is))))
       (stop-of joined (read.vars three-on) e h)
 
   module _ (locals : List Decl) (four-on : List Token) (v : mapped joined (read.vars three-on) ≡ Ok (locals, four-on)) where
-    up-to-body : (vs : List (List Decl)) × (joined vs ≡ locals) × (read.node ts ≡ bind (read.body four-on) (λ is. done (node_of x ins outs vs is)))
+    up-to-body : (vs : List (List Decl)) × (joined vs ≡ locals) × (read.node ts ≡ bind (read.body four-on)
+        (λ is. done (node_of s.name s.inputs s.outputs vs is)))
     up-to-body =
         let m = made-of joined (read.vars three-on) locals four-on v in
-        (m.0, m.2, up-to-vars ∙ ap (λ r. bind r (λ vs. then read.body (λ is. done (node_of x ins outs vs is)))) m.1)
+        (m.0, m.2, up-to-vars ∙ ap (λ r. bind r (λ vs. then read.body (λ is. done (node_of s.name s.inputs s.outputs vs is)))) m.1)
 
     pub node-stops-at-body : (e : Why × List Token) → mapped read.statements_of (read.body four-on) ≡ Err e → read.node ts ≡ Err e
-    node-stops-at-body e h = let u = up-to-body in u.2 ∙ ap (λ r. bind r (λ is. done (node_of x ins outs u.0 is)))
+    node-stops-at-body e h = let u = up-to-body in u.2 ∙ ap (λ r. bind r (λ is. done (node_of s.name s.inputs s.outputs u.0 is)))
         (stop-of read.statements_of (read.body four-on) e h)
 
-    pub whole-node : (s : read.Statements) (five-on : List Token) → mapped read.statements_of (read.body four-on) ≡ Ok (s, five-on)
-        → read.node ts ≡ Ok (of-statements x ins outs locals s, five-on)
-    whole-node s five-on h =
+    pub whole-node : (b : read.Statements) (five-on : List Token) → mapped read.statements_of (read.body four-on) ≡ Ok (b, five-on)
+        → read.node ts ≡ Ok (of-statements s.name s.inputs s.outputs locals b, five-on)
+    whole-node b five-on k =
         let u = up-to-body in
-        let m = made-of read.statements_of (read.body four-on) s five-on h in
-        u.2 ∙ ap (λ r. bind r (λ is. done (node_of x ins outs u.0 is))) m.1
-        ∙ ap (λ l. Ok (of-statements x ins outs l (read.statements_of m.0), five-on)) u.1
-        ∙ ap (λ z. Ok (of-statements x ins outs locals z, five-on)) m.2
+        let m = made-of read.statements_of (read.body four-on) b five-on k in
+        u.2 ∙ ap (λ r. bind r (λ is. done (node_of s.name s.inputs s.outputs u.0 is))) m.1
+        ∙ ap (λ l. Ok (of-statements s.name s.inputs s.outputs l (read.statements_of m.0), five-on)) u.1
+        ∙ ap (λ z. Ok (of-statements s.name s.inputs s.outputs locals z, five-on)) m.2
 
 -- ---- The local flows of a node.
 -- The stop of a section of locals is that of all.

@@ -16,6 +16,7 @@ use Rattle.rv_syntax.specs.declared.rules.Local as local_written
 use Rattle.rv_syntax.specs.declared.rules.Statement as statement_written
 use Rattle.rv_syntax.specs.declared.rules.Statement.TheVariants as statement
 use Rattle.rv_syntax.specs.declared.rules.Body as body_written
+use Rattle.rv_syntax.specs.declared.rules.Signature.{Signature}
 use Rattle.rv_tree.specs.Tree.{equation_tree, assertion_tree, Tree, EquationTree, AssertionTree, ConstantTree, NodeTree, ProgramTree}
 use Rattle.rv_syntax.specs.Marks.{is_mark, is_name, has_mark, mark_at, name_of}
 use Rattle.rv_syntax.specs.Parse.{Reading, Parse, bind, then, done, one, choose, loop, many, maybe}
@@ -154,6 +155,12 @@ node_end = maybe ends_node (choose (is_mark mark.Semi) (only mark.Semi) (only ma
 
 unfoldable pub body : Parse (List Item)
 body = word mark.Let (then items (λ is. word mark.Tel (then node_end (λ _. done is))))
+
+abbrev pub signature_of : Name → List Decl → List Decl → Signature
+signature_of x ins outs = record { name = x; inputs = ins; outputs = outs }
+
+unfoldable pub signature : Parse Signature
+signature = then title (λ x. then inputs (λ ins. then outputs (λ outs. done (signature_of x ins outs))))
 
 unfoldable pub node : Parse NodeTree
 node = then title (λ x. then inputs (λ ins. then outputs (λ outs. then vars (λ vs. then body (λ is. done (node_of x ins outs vs is))))))

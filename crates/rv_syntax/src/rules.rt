@@ -6,6 +6,7 @@ ghost use Rattle.rv_syntax.specs.Marks.{is_mark};
 ghost use Rattle.rv_syntax.specs.ProgramText.{all_flows, joined};
 ghost use Rattle.rv_tree.specs.Groups.{flows_of};
 ghost use Rattle.rv_tree.specs.declared.tree.Decl.{Decl as DeclModel};
+ghost use Rattle.rv_syntax.specs.declared.rules.Signature.{Signature as SignatureModel};
 ghost use Rattle.rv_syntax.specs.Reading as spec;
 ghost use Rattle.rv_syntax.specs.Reads.{Reads, same};
 ghost use Rattle.rv_tree.specs.Tree.{constant_tree, node_tree, program_tree, tree_of};
@@ -45,6 +46,14 @@ pub enum Statement {
 pub struct Body {
     pub equations: Many<Equation>,
     pub assertions: Many<Assertion>,
+}
+
+/// What stands of a node before its local flows.
+#[derive(Drop)]
+pub struct Signature {
+    pub name: Name,
+    pub inputs: Decls,
+    pub outputs: Decls,
 }
 
 /// The list of one element.
@@ -545,20 +554,32 @@ fn read_body(alloc: Global, parser: &mut Parser<'_>) -> Result<Body, Stop>
     Ok(body)
 }
 
-/// A node.
-#[tactic(auto, unfolding(crate::specs::Reading::node))]
-fn read_node(alloc: Global, parser: &mut Parser<'_>) -> Result<Node, Stop>
-    ensures { Reads node_tree (spec.node parser.old.rest) result parser.new.rest }
+/// The title of a node, its inputs and its outputs.
+#[tactic(auto, unfolding(crate::specs::Reading::signature))]
+fn read_signature(alloc: Global, parser: &mut Parser<'_>) -> Result<Signature, Stop>
+    ensures { Reads (same {A = SignatureModel}) (spec.signature parser.old.rest) result parser.new.rest }
 {
     let name = read_title(alloc, parser)?;
     let inputs = read_inputs(alloc, parser)?;
     let outputs = read_outputs(alloc, parser)?;
-    let locals = read_vars(alloc, parser)?;
-    let body = read_body(alloc, parser)?;
-    Ok(Node {
+    Ok(Signature {
         name,
         inputs,
         outputs,
+    })
+}
+
+/// A node.
+fn read_node(alloc: Global, parser: &mut Parser<'_>) -> Result<Node, Stop>
+    ensures { Reads node_tree (spec.node parser.old.rest) result parser.new.rest }
+{
+    let signature = read_signature(alloc, parser)?;
+    let locals = read_vars(alloc, parser)?;
+    let body = read_body(alloc, parser)?;
+    Ok(Node {
+        name: signature.name,
+        inputs: signature.inputs,
+        outputs: signature.outputs,
         locals,
         equations: body.equations,
         assertions: body.assertions,

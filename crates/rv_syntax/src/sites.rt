@@ -387,12 +387,9 @@ fn with_sites(alloc: Global, node: Node) -> Result<Node, AllocError>
     let sites = sites_of(alloc, &node)?;
     let (equations, assertions) = sited_parts(alloc, node.equations, node.assertions, &sites)?;
     Ok(Node {
-        name: node.name,
-        inputs: node.inputs,
-        outputs: node.outputs,
-        locals: node.locals,
         equations,
         assertions,
+        ..node
     })
 }
 

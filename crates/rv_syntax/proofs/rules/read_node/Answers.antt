@@ -3,21 +3,28 @@ use Rattle.std.proofs.lemmas.Result.{err_from_is_err_and}
 use Rattle.rv_tree.specs.declared.tree.Decl.{Decl}
 use Rattle.rv_tree.specs.declared.tree.Node.{Node}
 use Rattle.rv_syntax.specs.declared.rules.Body.{Body}
+use Rattle.rv_syntax.specs.declared.rules.Signature.{Signature}
 use Rattle.rv_syntax.specs.ProgramText.{joined}
 use Rattle.rv_syntax.specs.Reads.{same}
 use Rattle.rv_tree.specs.Tree.{node_tree}
-use Rattle.rv_syntax.specs.Reading.{body, mapped, node, statements, statements_of, vars}
-use Rattle.rv_syntax.proofs.Loop.{node-stops-at-vars, node-stops-at-body, whole-node, stop-through}
+use Rattle.rv_syntax.specs.Reading.{body, mapped, node, signature, statements, statements_of, vars}
+use Rattle.rv_syntax.proofs.Loop.{node-stops-at-signature, node-stops-at-vars, node-stops-at-body, whole-node, stop-through}
 use Rattle.rv_syntax.proofs.rules.read_node.Goals as goal
+
+pub returns-in_err-signature : goal.returns-in_err-signature
+returns-in_err-signature c =
+    let p = err_from_is_err_and c.from_residual.result c.from_residual.ensures.1 in
+    let ts = c.args.parser.now.rest in
+    rw (p.1, p.2) (stop-through {X = Node} {Y = Signature} node_tree same (node ts) (signature ts)
+    c.in_err-signature.field-0.0 c.read_signature.new.parser.rest (node-stops-at-signature ts) c.in_err-signature.ensures)
 
 pub returns-in_err-locals : goal.returns-in_err-locals
 returns-in_err-locals c =
     let p = err_from_is_err_and c.from_residual-in_err-locals.result c.from_residual-in_err-locals.ensures.1 in
     let ts = c.args.parser.now.rest in
-    rw (p.1, p.2) (stop-through {X = Node} {Y = List Decl} node_tree same (node ts) (mapped joined (vars c.read_outputs.new.parser.rest))
+    rw (p.1, p.2) (stop-through {X = Node} {Y = List Decl} node_tree same (node ts) (mapped joined (vars c.read_signature.new.parser.rest))
     c.in_err-locals.field-0.0 c.read_vars.new.parser.rest
-    (node-stops-at-vars ts c.read_title.new.parser.rest c.read_inputs.new.parser.rest c.read_outputs.new.parser.rest c.in_ok-name.name c.in_ok-inputs.inputs
-    c.in_ok-outputs.outputs c.in_ok-name.ensures c.in_ok-inputs.ensures c.in_ok-outputs.ensures)
+    (node-stops-at-vars ts c.read_signature.new.parser.rest c.in_ok-signature.signature c.in_ok-signature.ensures)
     c.in_err-locals.ensures)
 
 pub returns-in_err-body : goal.returns-in_err-body
@@ -26,13 +33,11 @@ returns-in_err-body c =
     let ts = c.args.parser.now.rest in
     rw (p.1, p.2) (stop-through {X = Node} {Y = Body} node_tree statements (node ts) (mapped statements_of (body c.read_vars.new.parser.rest))
     c.in_err-body.field-0.0 c.read_body.new.parser.rest
-    (node-stops-at-body ts c.read_title.new.parser.rest c.read_inputs.new.parser.rest c.read_outputs.new.parser.rest c.in_ok-name.name c.in_ok-inputs.inputs
-    c.in_ok-outputs.outputs c.in_ok-name.ensures c.in_ok-inputs.ensures c.in_ok-outputs.ensures
+    (node-stops-at-body ts c.read_signature.new.parser.rest c.in_ok-signature.signature c.in_ok-signature.ensures
     c.in_ok-locals.locals c.read_vars.new.parser.rest c.in_ok-locals.ensures)
     c.in_err-body.ensures)
 
 pub returns : goal.returns
 returns c =
-    whole-node c.args.parser.now.rest c.read_title.new.parser.rest c.read_inputs.new.parser.rest c.read_outputs.new.parser.rest c.in_ok-name.name
-    c.in_ok-inputs.inputs c.in_ok-outputs.outputs c.in_ok-name.ensures c.in_ok-inputs.ensures c.in_ok-outputs.ensures
+    whole-node c.args.parser.now.rest c.read_signature.new.parser.rest c.in_ok-signature.signature c.in_ok-signature.ensures
     c.in_ok-locals.locals c.read_vars.new.parser.rest c.in_ok-locals.ensures (statements c.in_ok-body.body) c.read_body.new.parser.rest c.in_ok-body.ensures

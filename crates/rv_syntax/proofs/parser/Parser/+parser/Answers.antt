@@ -7,7 +7,7 @@ use Rattle.rv_syntax.specs.declared.parser.Start.TheVariants as start
 use Rattle.rv_syntax.specs.declared.parser.Link.TheVariants as link
 use Rattle.rv_syntax.specs.declared.fault.Why.TheVariants.{Offends}
 use Rattle.rv_tree.specs.Tree.{tree_of}
-use Rattle.rv_syntax.specs.Grammar.{Function, Hash, Joined, Invoked}
+use Rattle.rv_syntax.specs.Grammar.{Function, Hash, Invoked}
 use Rattle.rv_syntax.specs.Machine.{Brackets, Under, After, Asked, Else, Within, held, whole, Want, Have, Hashed}
 use Rattle.rv_syntax.specs.Limited.{counts, leave}
 use Rattle.rv_syntax.specs.Marks.{is_mark}
