@@ -379,18 +379,25 @@ fn sited_parts(
     Ok((equations, assertions))
 }
 
+/// The same of a node.
+fn sited_node(alloc: Global, node: Node, sites: &Sites) -> Result<Node, AllocError>
+    ensures { IfOk result (λ n. node_tree n ≡ spec.with_sites_by (spec.numbered_from sites.now.first sites.now.offsets.items) (node_tree node)) }
+{
+    let (equations, assertions) = sited_parts(alloc, node.equations, node.assertions, sites)?;
+    Ok(Node {
+        equations,
+        assertions,
+        ..node
+    })
+}
+
 /// The node with the sites of its expressions and assertions.
 fn with_sites(alloc: Global, node: Node) -> Result<Node, AllocError>
     requires { spec.site_count (node_tree node) ≤ source_limit }
     ensures { IfOk result (λ n. node_tree n ≡ spec.with_sites (node_tree node)) }
 {
     let sites = sites_of(alloc, &node)?;
-    let (equations, assertions) = sited_parts(alloc, node.equations, node.assertions, &sites)?;
-    Ok(Node {
-        equations,
-        assertions,
-        ..node
-    })
+    sited_node(alloc, node, &sites)
 }
 
 /// The program with the sites of its nodes, each of which has at most 1,048,576.
