@@ -13,7 +13,7 @@ ghost use Rattle.rv_types.specs.Readings.{AreTables, view_of};
 ghost use Rattle.rv_types.specs.Tables.{scope_of};
 ghost use Rattle.rv_types.specs.Variables.{is_integer};
 ghost use Rattle.rv_instances.specs.Expanded.{IsKnown, program_of, main_of};
-ghost use Rattle.rv_instances.specs.Timed.{operator_listed, operators_told};
+ghost use Rattle.rv_instances.specs.Timed.{operator_listed};
 ghost use Rattle.rv_flatten.specs.Compared.{is_told_test, own_test, tests_in, told_tests_in, compared_at, compared_in};
 ghost use Rattle.rv_flatten.specs.Kept.{found_comparison};
 ghost use Rattle.rv_flatten.specs.NodeReaders.{scope_read, lists_to, AreSortedBy};
@@ -142,20 +142,9 @@ fn tests_of_node(
     ensures { (p : ProgramTree) → AreTables p tables.now → repeated [] (flow_names (node_tree clocks.now.node.now)) ≡ []
         → IfOk result (λ tested. tested ≡ told_tests_in p (node_tree clocks.now.node.now)) }
 {
-    let operators = operators_of(alloc, clocks)?;
     let reader = NodeReader::new(alloc, tables, clocks)?;
-    tests_among(alloc, &reader, operators.as_slice())
-}
-
-/// The operators of a node.
-fn operators_of<'a>(
-    alloc: Global,
-    clocks: &NodeClocks<'a>,
-) -> Result<Many<ClockedOperator<'a>>, Memory>
-    ensures { IfOk result (λ operators. map operator_listed operators ≡ operators_told (node_tree clocks.now.node.now)) }
-{
     let Timed { operators, .. } = timed_of(alloc, clocks)?;
-    Ok(operators)
+    tests_among(alloc, &reader, operators.as_slice())
 }
 
 /// Those among the operators of a node.

@@ -1,6 +1,6 @@
 //! What gives each flow its value, what each memory takes, and what is assumed, as flat expressions.
 
-ghost use Rattle.std.specs.Prelude.{◌≡◌, ◌<◌, List, length, true, IfOk};
+ghost use Rattle.std.specs.Prelude.{◌≡◌, ◌<◌, List, length, IfOk};
 ghost use Rattle.std.specs.List.{Contains};
 ghost use Rattle.rv_tree.specs.Tree.{ProgramTree, assertion_tree, tree_of};
 ghost use Rattle.rv_tree.specs.Delays.{Delay, node_delays};
@@ -18,7 +18,7 @@ ghost use Rattle.rv_instances.specs.Layouts.{IsLayout, IsNumberOf, node_at};
 ghost use Rattle.rv_instances.specs.NumberedNeeds.{IsGiver, clock_of_expression, site_in};
 ghost use Rattle.rv_instances.specs.Weights.{AreLight};
 ghost use Rattle.rv_flatten.specs.Frames.{IsNumbering};
-ghost use Rattle.rv_flat.specs.RawTree.{Constant, Node, If, raw_tree};
+ghost use Rattle.rv_flat.specs.RawTree.{Node, If, raw_tree};
 ghost use Rattle.rv_flatten.specs.Items.{made_item};
 ghost use Rattle.rv_flatten.specs.NodeReaders.{AreOwnTables};
 ghost use Rattle.rv_flatten.specs.Readings as readings;
@@ -266,22 +266,21 @@ pub fn flat_assertion(
         values,
         numbering,
     };
-    let at = spot_of(alloc, &frame, Some(assertion.site))?;
     let made = flat_of(alloc, &frame, &assertion.body)?;
+    let body = Box::new(alloc, made)?;
     let clock = frame.reader.clock_of(&assertion.body);
-    assumed(alloc, at, clock_number(&frame, clock), made)
+    let there = made_presence(alloc, clock_number(&frame, clock))?;
+    let absent = made_constant(alloc, Value::Flag(true))?;
+    let at = spot_of(alloc, &frame, Some(assertion.site))?;
+    Ok(assumed(at, there, body, absent))
 }
 
-/// What is assumed at a place: an expression, where its clock is there.
-fn assumed(alloc: Global, at: Place, clock: Option<u32>, body: FlatExpr) -> Result<FlatExpr, Memory>
-    ensures { IfOk result (λ f. raw_tree f ≡ Node at.sites (If (readings.unplaced (readings.presence clock)) (raw_tree body)
-        (readings.unplaced (Constant (Value.Flag true))))) }
+/// What is assumed at a place: the second expression, where the first is true.
+fn assumed(at: Place, there: Box<FlatExpr>, body: Box<FlatExpr>, absent: Box<FlatExpr>) -> FlatExpr
+    ensures { raw_tree result ≡ Node at.sites (If (raw_tree there) (raw_tree body) (raw_tree absent)) }
 {
-    let there = made_presence(alloc, clock)?;
-    let absent = made_constant(alloc, Value::Flag(true))?;
-    let body = Box::new(alloc, body)?;
-    Ok(FlatExpr {
+    FlatExpr {
         at,
         form: FlatForm::If(there, body, absent),
-    })
+    }
 }
