@@ -121,10 +121,10 @@ fn flat_read(
     ensures flat { IfOk result (IsFlatOf (program_of expanded.now) (main_of expanded.now)) }
     ensures expanded { IfOk result (λ f. f.expanded ≡ order.now.expanded) }
 {
+    let values = named_values(expanded.program, tables, typed.constants.as_slice());
+    let flows = flows_in(alloc, expanded)?;
     let layout = layout_of(alloc, expanded)?;
     let givers = givers_of(alloc, expanded, &layout)?;
-    let flows = flows_in(alloc, expanded)?;
-    let values = named_values(expanded.program, tables, typed.constants.as_slice());
     let given = Given {
         expanded,
         layout: &layout,
