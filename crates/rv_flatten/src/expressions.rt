@@ -160,29 +160,9 @@ fn flat_right(
     let right = flat_part(alloc, frame, right, constant)?;
     let second = *constant;
     *constant = constant_binary(op, &first, &second);
-    made_operator(alloc, frame, e, op, &first, left, &second, right)
-}
-
-/// An operator, of its operands and of what is known of them.
-#[inline(never)]
-fn made_operator(
-    alloc: Global,
-    frame: &Frame,
-    e: &Expr,
-    op: Op,
-    first: &Option<Weighed>,
-    left: Box<FlatExpr>,
-    second: &Option<Weighed>,
-    right: Box<FlatExpr>,
-) -> Result<Box<FlatExpr>, Memory>
-    requires { IsReader frame.now.reader }
-    ensures { (x y : Tree) → tree_of e.now ≡ tree.Node e.now.at e.now.site (tree.Binary op x y) → raw_tree left ≡ tree_read frame.now x
-        → raw_tree right ≡ tree_read frame.now y → first.now ≡ constant_read frame.now x → second.now ≡ constant_read frame.now y
-        → IfOk result (λ f. raw_tree f ≡ form_read frame.now e.now.site (tree.Binary op x y)) }
-{
     match op {
         Op::Arrow => made_arrow(alloc, frame, e, left, right),
-        Op::Times => made_product(alloc, first, left, second, right),
+        Op::Times => made_product(alloc, &first, left, &second, right),
         _ => made_binary(alloc, place_of(alloc, frame, e)?, op, left, right),
     }
 }
