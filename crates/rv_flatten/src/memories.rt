@@ -8,7 +8,6 @@ ghost use Rattle.rv_tree.specs.Delays.{Delay, node_delays};
 ghost use Rattle.rv_tree.specs.Places.{Identifier, index_of, is_same, memory_site};
 ghost use Rattle.rv_tree.specs.Tree.{ProgramTree, node_tree};
 ghost use Rattle.rv_types.specs.Instances.{Instance as InstanceTree, IsInstance};
-ghost use Rattle.rv_types.specs.Delayed.{delayed_kinds};
 ghost use Rattle.rv_types.specs.Known.{flow_names};
 ghost use Rattle.rv_types.specs.Lists.{delay_place};
 ghost use Rattle.rv_types.specs.Names.{repeated};
@@ -19,11 +18,11 @@ ghost use Rattle.rv_instances.specs.AllInstances.{AreCounted};
 ghost use Rattle.rv_instances.specs.Expanded.{IsExpanded, IsKnown, program_of, main_of};
 ghost use Rattle.rv_instances.specs.Fitting.{AreFew};
 ghost use Rattle.rv_instances.specs.Layouts.{IsNumberOf};
-ghost use Rattle.rv_instances.specs.Timed.{delay_listed, delays_told};
+ghost use Rattle.rv_instances.specs.Timed.{delay_listed};
 ghost use Rattle.rv_instances.specs.declared.answer.Instance.{Instance as InstanceModel};
 ghost use Rattle.rv_flatten.specs.declared.kept.Kept.{Kept as KeptModel};
 ghost use Rattle.rv_flatten.specs.Kept.{AreKept};
-ghost use Rattle.rv_flatten.specs.NodeReaders.{node_read, scope_read, lists_to, AreSortedBy};
+ghost use Rattle.rv_flatten.specs.NodeReaders.{node_read, lists_to, AreSortedBy};
 ghost use Rattle.rv_flatten.specs.Remembered.{joined, read_seen, reads_in, kept_seen, kept_at, kept_in};
 
 use crate::kept::Kept;
@@ -206,30 +205,10 @@ fn reads_of_node<'a>(
     ensures { (p : ProgramTree) → AreTables p tables.now → repeated [] (flow_names (node_tree clocks.now.node.now)) ≡ []
         → IfOk result (λ read. map read_seen read ≡ reads_in p (node_tree clocks.now.node.now)) }
 {
-    let delays = delays_of(alloc, clocks)?;
     let reader = NodeReader::new(alloc, tables, clocks)?;
-    reads_by(alloc, &reader, delays.as_slice())
-}
-
-/// The `pre` and `current` of a node.
-fn delays_of<'a>(alloc: Global, clocks: &NodeClocks<'a>) -> Result<Many<ClockedDelay<'a>>, Memory>
-    ensures { IfOk result (λ delays. map delay_listed delays ≡ delays_told (node_tree clocks.now.node.now)) }
-{
-    let Timed { delays, .. } = timed_of(alloc, clocks)?;
-    Ok(delays)
-}
-
-/// What the `pre` and `current` of a node read, which are these.
-fn reads_by<'a>(
-    alloc: Global,
-    reader: &NodeReader<'a, '_>,
-    delays: &[ClockedDelay<'a>],
-) -> Result<Many<MemoryRead<'a>>, Memory>
-    ensures { IfOk result (λ read. map read_seen read ≡ joined (node_read reader.now)
-        (delayed_kinds (scope_read reader.now) (node_delays (node_read reader.now))) (map delay_listed delays.now)) }
-{
     let kinds = delay_kinds(alloc, reader.tables, &reader.own, reader.clocks.node)?;
-    together(alloc, reader, delays, kinds.as_slice())
+    let Timed { delays, .. } = timed_of(alloc, reader.clocks)?;
+    together(alloc, &reader, delays.as_slice(), kinds.as_slice())
 }
 
 /// What some `pre` and `current` of a node read, with the types of their operands, which stand in the same order.

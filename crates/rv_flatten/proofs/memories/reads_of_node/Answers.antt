@@ -18,10 +18,12 @@ returns c p t different =
     let reader = c.in_ok-reader.reader in
     let node : node_read reader ≡ n = c.in_ok-reader.ensures.node in
     let scope : scope_read reader ≡ s = c.in_ok-reader.ensures.scope p t different in
-    let delays : map delay_listed c.as_slice.result.now ≡ delays_told n = ap (map delay_listed) c.as_slice.ensures ∙ c.in_ok-delays.ensures in
-    let all : joined (node_read reader) (delayed_kinds (scope_read reader) (node_delays (node_read reader))) (map delay_listed c.as_slice.result.now)
-    ≡ reads_in p n =
-    (λ i. joined (node i) (delayed_kinds (scope i) (node_delays (node i))) (delays i)) ∙ joined_reads n s (node_delays n) in
-    if_ok c.reads_by.result (λ (read : List MemoryRead). map read_seen read ≡ joined (node_read reader)
-    (delayed_kinds (scope_read reader) (node_delays (node_read reader))) (map delay_listed c.as_slice.result.now))
-    (λ (read : List MemoryRead). map read_seen read ≡ reads_in p n) (λ read is. is ∙ all) c.reads_by.ensures
+    let kinds : c.as_slice-2.result.now ≡ delayed_kinds s (node_delays n) =
+    c.as_slice-2.ensures ∙ c.in_ok-kinds.ensures ∙ (λ i. delayed_kinds (scope i) (node_delays (node i))) in
+    let delays : map delay_listed c.as_slice.result.now ≡ delays_told n =
+    ap (map delay_listed) c.as_slice.ensures ∙ c.in_ok-delays.ensures.delays ∙ ap delays_told node in
+    let all : joined (node_read reader) c.as_slice-2.result.now (map delay_listed c.as_slice.result.now) ≡ reads_in p n =
+    (λ i. joined (node i) (kinds i) (delays i)) ∙ joined_reads n s (node_delays n) in
+    if_ok c.together.result (λ (read : List MemoryRead). map read_seen read ≡ joined (node_read reader) c.as_slice-2.result.now
+    (map delay_listed c.as_slice.result.now)) (λ (read : List MemoryRead). map read_seen read ≡ reads_in p n)
+    (λ read is. is ∙ all) c.together.ensures
