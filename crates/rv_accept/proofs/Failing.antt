@@ -1,5 +1,5 @@
 -- The least words that fail.
-use Rattle.std.proofs.Common.{ℕ, ◌/◌, ◌≡◌, ◌⊎◌, Bool, true, false, not, ◌&&◌, List, [], sym, ap, ◌∙◌, ⊎_elim}
+use Rattle.std.proofs.Common.{ℕ, ◌/◌, ◌≡◌, ◌⊎◌, Bool, false, not, ◌&&◌, List, [], sym, ap, ◌∙◌, ⊎_elim}
 use Rattle.std.proofs.Common.{arith, Option, Some, MatchOption, IsTrue, slice_get}
 use Rattle.std.proofs.lemmas.Bool.{cases_Bool}
 use Rattle.rv_diagram.specs.declared.frozen.Frozen.{Frozen}
@@ -16,12 +16,11 @@ use Rattle.rv_diagram.specs.Several.{ref_at}
 use Rattle.rv_accept.specs.Steps.{IsTrueOf, IsLeastWord, has}
 use Rattle.rv_accept.specs.Held.{IsHeld, IsWithin, IsScope, follow, IsUnseen, IsElsewhere}
 use Rattle.rv_symbolic.specs.declared.relation.Parts.{Parts}
-use Rattle.rv_accept.proofs.Growing.{clash, and_not}
+use Rattle.rv_accept.proofs.Growing.{and_not}
 use Rattle.rv_proofs.proofs.ControlReads.{control_same, condition_same}
 use Rattle.rv_accept.proofs.Least.{Picked, picked, match_map, same_states, scope_same, value_reads}
-
-pub not_true : (b : Bool) → (b ≡ true → ⊥) → b ≡ false
-not_true b n = ⊎_elim (λ y. absurd (n y)) (λ z. z) (cases_Bool b)
+use Rattle.rv_base.proofs.Truths.{clash}
+use Rattle.std.proofs.lemmas.Bool.{false_from_ne_true}
 
 -- what the pick of the first set without the second says
 abbrev pub PickOf : Diagrams → ℕ → Option (List Bool) → Type 0
@@ -74,7 +73,7 @@ module _ (s : System) (l : Location) (e : Entry) (a d : Diagrams) (x r : ℕ) (o
         found = found;
         exact = λ v. let m = and_not (value_of a.nodes x v) (y v) (value_of d.nodes r v) (means v) in (
           λ h. ((scope.exact v).0 (m.0 h).0, λ t. clash (y v) (is v ∙ t) (m.0 h).1),
-          λ (h, n). m.1 ((scope.exact v).1 h, not_true (y v) (λ t. n (sym (is v) ∙ t))),
+          λ (h, n). m.1 ((scope.exact v).1 h, false_from_ne_true (y v) (λ t. n (sym (is v) ∙ t))),
         );
       }
 
@@ -115,7 +114,7 @@ without_cover s l a b d x y r o fits variables control conditions within met fou
         λ h. let i = (within.exact v).0 (m.0 h).0 in (i.0, i.1, λ j e at t. clash (value_of b.nodes y v) ((met.exact v).1 (j, e, at, t)) (m.0 h).1),
         λ (allowed, there, none). m.1 (
           (within.exact v).1 (allowed, there),
-          not_true (value_of b.nodes y v) (λ t. let (j, e, at, h) =
+          false_from_ne_true (value_of b.nodes y v) (λ t. let (j, e, at, h) =
               (met.exact v).0 t in none j e at h),
         ),
       );
@@ -158,7 +157,7 @@ without_start s c p a b d y r o read range variables entered found means kept pi
       found = found;
       exact = λ v. let m = and_not (value_of b.nodes p.initial v) (value_of b.nodes y v) (value_of d.nodes r v) (means v) in (
         λ h. (sym (starts v) ∙ (m.0 h).0, λ k l at em t. clash (value_of b.nodes y v) ((entered.exact v).1 (k, l, at, em, t)) (m.0 h).1),
-        λ (i, none). m.1 (starts v ∙ i, not_true (value_of b.nodes y v) (λ t. let (k, l, at, em, h) = (entered.exact v).0 t in none k l at em h)),
+        λ (i, none). m.1 (starts v ∙ i, false_from_ne_true (value_of b.nodes y v) (λ t. let (k, l, at, em, h) = (entered.exact v).0 t in none k l at em h)),
       );
     }
 

@@ -22,10 +22,10 @@ use Rattle.rv_proofs.specs.declared.verdict.Reason.{Reason}
 use Rattle.rv_proofs.specs.declared.verdict.Reason.TheVariants as reason
 use Rattle.rv_accept.specs.Steps.{IsLeastWord}
 use Rattle.rv_accept.specs.Passing.{NoneBefore, Passes, AllPass}
-use Rattle.rv_accept.proofs.Growing.{clash}
 use Rattle.rv_accept.proofs.Order.{split_next, split_first, never_self, is_initial, is_inclusion, is_uncovered, is_unsettled, is_observer, is_target}
 use Rattle.rv_accept.proofs.Order.{is_multipliers, some_inclusion, not_top, not_location, not_rows, not_entries, not_entry}
 use Rattle.rv_accept.proofs.Order.{not_implications, nth, apart}
+use Rattle.rv_base.proofs.Truths.{clash}
 
 -- WHAT PASSES DOES NOT FAIL
 

@@ -9,20 +9,17 @@ use Rattle.rv_proofs.specs.declared.certificate.Location.{Location}
 use Rattle.rv_proofs.specs.declared.certificate.Entry.{Entry}
 use Rattle.rv_terms.specs.Growing.{Extends}
 use Rattle.rv_accept.specs.Steps.{has}
-use Rattle.rv_proofs.proofs.SampleSystems.{off}
-use Rattle.rv_terms.proofs.Adding.{or_left, or_right}
+use Rattle.rv_base.proofs.Truths.{clash, of_not_true}
+use Rattle.std.proofs.lemmas.Bool.{or_left}
+use Rattle.std.proofs.lemmas.Bool.{or_right}
 
 pub found_later : (a b : Diagrams) (r : ℕ) → Extends a b → IsRef a.nodes r → IsRef b.nodes r
 found_later a b r e h = let k : length a.nodes ≤ length b.nodes = e.longer in omega arith
 
 -- TRUTH VALUES
 
-pub clash : (x : Bool) → x ≡ true → x ≡ false → ⊥
-clash true a b = let e : true ≡ false = b in absurd (cc)
-clash false a b = let e : false ≡ true = a in absurd (cc)
-
 pub and_not : (x y z : Bool) → z ≡ (x && not y) → (z ≡ true) ↔ ((x ≡ true) × (y ≡ false))
-and_not x y z e = (λ h. let p = and_parts x (not y) (sym e ∙ h) in (p.0, off y p.1), λ (a, b). e ∙ and_from x (not y) a (ap not b))
+and_not x y z e = (λ h. let p = and_parts x (not y) (sym e ∙ h) in (p.0, of_not_true y p.1), λ (a, b). e ∙ and_from x (not y) a (ap not b))
 
 -- WHAT IS GATHERED
 

@@ -3,7 +3,7 @@ use Rattle.std.proofs.Common.{ℕ, ◌+◌, ◌-◌, ◌*◌, ◌/◌, ◌<◌, 
 use Rattle.std.proofs.Common.{inl, inr, arith}
 use Rattle.std.proofs.Common.{Result, Ok, Err, IfOk, Option, Some, MatchOption, MatchBool, IsTrue, slice_get}
 use Rattle.std.proofs.Common.{None as Nothing}
-use Rattle.std.proofs.lemmas.Option.{same_Some, slice_get_within, slice_get_cases}
+use Rattle.std.proofs.lemmas.Option.{same_Some, slice_get_within}
 use Rattle.std.proofs.lemmas.Bool.{and_parts, and_from}
 use Rattle.rv_diagram.specs.declared.frozen.Frozen.{Frozen}
 use Rattle.rv_diagram.specs.Nodes.{Valuation, Diagrams, IsRef, IsOrderedOver, value_of, valuation_of, node_at}
@@ -159,9 +159,6 @@ pub counted_target : (c : Certificate) (l : Location) (e : Entry) (kind : EntryK
     → kind ≡ Go target reach → target < length c.locations
 counted_target c l e kind target reach h is = let (into, at, size) = subst (λ
     (x : EntryKind). HasKindCounts c l x) is h in slice_get_within c.locations target into at
-
-pub there_is : {X : Type 0} (xs : List X) (i : ℕ) → i < length xs → (x : X) × (slice_get xs i ≡ Some x)
-there_is xs i low = ⊎_elim (λ (x, l, at, e). (x, at)) (λ (more, e). absurd (omega (arith, more))) (slice_get_cases xs i).1
 
 pub within_made : (s : System) (l : Location) (a b : Diagrams) (p : Parts) (r : ℕ) → IsHeld s a p → IsRef b.nodes r → ((v : Valuation)
     → value_of b.nodes r v ≡ (value_of a.nodes p.allowed v && has l.control v)) → IsWithin s l b r

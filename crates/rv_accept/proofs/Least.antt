@@ -12,8 +12,8 @@ use Rattle.rv_proofs.specs.declared.certificate.Location.{Location}
 use Rattle.rv_proofs.specs.declared.certificate.Entry.{Entry}
 use Rattle.rv_proofs.proofs.ControlReads.{value_among-reads, control_same, condition_same}
 use Rattle.rv_accept.specs.Steps.{IsTrueOf}
-use Rattle.rv_accept.proofs.Growing.{clash}
-use Rattle.rv_diagram.proofs.Canon.{put-same as put_at}
+use Rattle.rv_diagram.proofs.Canon.{put-same}
+use Rattle.rv_base.proofs.Truths.{clash}
 
 put_off : (v : Valuation) (x : ℕ) (b : Bool) (y : ℕ) → (y ≡ x → ⊥) → put v x b y ≡ v y
 put_off v x b y other = ap (λ t. cond t b (v y)) (ne_eqb y x other)
@@ -39,7 +39,7 @@ module _ (K : ℕ → Type 0) (d : Diagrams) (P : Valuation → Type 0) (r : ℕ
 
       others : (x : ℕ) → ¬ K x → valuation_of word x ≡ false
       others x none = ⊎_elim (λ up. absurd (l.least (put (valuation_of word) x false) ((is.exact (put (valuation_of word) x false)).1 (moved x none))
-          (x, λ k low. put_off (valuation_of word) x false k (λ e. let z : k ≢ x = omega (arith, low) in z e), put_at (valuation_of word) x false, up)))
+          (x, λ k low. put_off (valuation_of word) x false k (λ e. let z : k ≢ x = omega (arith, low) in z e), put-same (valuation_of word) x false, up)))
           (λ down. down) (cases_Bool (valuation_of word x))
 
   pub picked : (o : Option (List Bool)) → MatchOption o ((v : Valuation) → value_of d.nodes r v ≡ false) (λ word. IsLeast d.nodes d.variables r word)

@@ -9,7 +9,7 @@ use Rattle.rv_rows.specs.declared.farkas.Multipliers.{Multipliers}
 use Rattle.rv_rows.specs.Rows.{coefficient}
 use Rattle.rv_proofs.specs.Scopes.{Wanted, before, after, Implication, each, NamesTest, NeedsUpdate}
 use Rattle.rv_accept.specs.Needs.{SomeAt, IsNamed, IsNeeded, Names}
-use Rattle.rv_accept.proofs.Later.{there_is}
+use Rattle.rv_base.proofs.Lists.{item_at}
 
 module _ {X : Type 0} where
   pub get_left : (xs ys : List X) (n : ℕ) (x : X) → slice_get xs n ≡ Some x → slice_get (xs ++ ys) n ≡ Some x
@@ -79,7 +79,7 @@ module _ (want : Row → Wanted) (given : List Row) where
       to : SomeAt (λ m. Names (length given) m t) ms → IsNamed (each want given rs ms) t
       to (n, m, at, (p, w, there, is)) =
           let low : n < length ms = slice_get_within ms n m at in
-          let (r, got) = there_is rs n (omega arith) in
+          let (r, got) = item_at rs n (omega arith) in
           (n, asks want given r m, each_at rs ms n r m got at, (w, get_contains m.weights p w there, is))
 
       from : IsNamed (each want given rs ms) t → SomeAt (λ m. Names (length given) m t) ms
@@ -97,7 +97,7 @@ needed_each given rs ms k size = (to, from)
     to : SomeAt (λ r. coefficient k r ≢ pos 0) rs → IsNeeded (each after given rs ms) k
     to (n, r, at, is) =
         let low : n < length rs = slice_get_within rs n r at in
-        let (m, got) = there_is ms n (omega arith) in
+        let (m, got) = item_at ms n (omega arith) in
         (n, asks after given r m, each_at after given rs ms n r m at got, is)
 
     from : IsNeeded (each after given rs ms) k → SomeAt (λ r. coefficient k r ≢ pos 0) rs

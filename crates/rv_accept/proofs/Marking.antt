@@ -6,7 +6,7 @@ use Rattle.std.proofs.lemmas.Bool.{cases_lt, cases_eq}
 use Rattle.std.proofs.lemmas.List.{length-set, get_or-set_same, get_or-set_other, append-nil, drop_all, take_all}
 use Rattle.std.proofs.lemmas.Option.{same_Some, slice_get_within}
 use Rattle.rv_accept.specs.Needs.{SomeAt, IsMarked, AreFlags, flag_at}
-use Rattle.rv_accept.proofs.Growing.{clash}
+use Rattle.rv_base.proofs.Truths.{clash}
 
 pub marked_as : (p q : ℕ → Type 0) (a b : List Bool) → ((t : ℕ) → t < length a → p t ↔ q t) → IsMarked p a b → IsMarked q a b
 marked_as p q a b same m = record {

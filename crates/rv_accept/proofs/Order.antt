@@ -6,7 +6,7 @@ use Rattle.rv_diagram.specs.Nodes.{Valuation, ComesBefore}
 use Rattle.rv_proofs.specs.Verdicts.{place, IsBefore}
 use Rattle.rv_proofs.specs.declared.verdict.Reason.{Reason}
 use Rattle.rv_proofs.specs.declared.verdict.Reason.TheVariants as reason
-use Rattle.rv_accept.proofs.Growing.{clash}
+use Rattle.rv_base.proofs.Truths.{clash}
 
 -- PLACES
 

@@ -23,8 +23,8 @@ use Rattle.rv_accept.specs.Needs.{SomeAt, IsNamed, IsNeeded, Names, IsMarked}
 use Rattle.rv_accept.specs.Passing.{AreAsked, AreKindAsked}
 use Rattle.rv_accept.proofs.Listing.{get_left, get_right, all_at, all_from, contains_get, get_contains, some_append, asks, each_at, named_each, needed_each}
 use Rattle.rv_accept.proofs.Listing.{needed_never}
-use Rattle.rv_accept.proofs.Later.{there_is}
 use Rattle.rv_accept.proofs.Marking.{marked_as, marked_then, marked_none}
+use Rattle.rv_base.proofs.Lists.{item_at}
 
 -- an implication is within the limits
 abbrev pub IsRanged : ℕ → Implication → Type 0
@@ -46,7 +46,7 @@ each_records tests want given rs ms size h = all_from (IsRecord (length given + 
     there : (n : ℕ) (m : Multipliers) → slice_get ms n ≡ Some m → IsRecord (length given + tests) m
     there n m at =
         let low : n < length ms = slice_get_within ms n m at in
-        let (r, got) = there_is rs n (omega arith) in
+        let (r, got) = item_at rs n (omega arith) in
         (h n (asks want given r m) (each_at want given rs ms n r m got at)).0
 
 asked : (s : System) (want : Row → Wanted) (given rs : List Row) (ms : List Multipliers) → All (RowWithin (2 ^ 60)) given → AreKept s rs → length ms ≡ length rs

@@ -13,10 +13,7 @@ use Rattle.rv_cases.proofs.Sampling.{asked, at_one, at_six, at_eleven}
 use Rattle.rv_symbolic.specs.Represented.{HaveRefs, AreParts}
 use Rattle.rv_accept.specs.Samples.{counting_parts}
 use Rattle.rv_accept.specs.Passing.{IsGiven}
-
-turned : (b : Bool) → cond b false true ≡ not b
-turned true = refl
-turned false = refl
+use Rattle.rv_diagram.proofs.Calls.{cond-not}
 
 same_side : (t u : Bool) → cond t (cond u true false) true ≡ cond t u true
 same_side true true = refl
@@ -47,7 +44,7 @@ means = record {
   states = refl;
   allowed = at_one;
   observer = λ v. at_eleven v ∙ same_side (v 0) (v 3);
-  initial = λ v. at_six v ∙ turned (v 0);
+  initial = λ v. at_six v ∙ cond-not (v 0);
   next = one;
 }
   where

@@ -18,7 +18,7 @@ use Rattle.rv_terms.specs.Growing.{Extends}
 use Rattle.rv_cases.specs.Conditions.{is_in, AreAnswers}
 use Rattle.rv_cases.specs.Questions.{AreTestAnswers, AreUpdateAnswers}
 use Rattle.rv_accept.specs.Steps.{IsTrueOf}
-use Rattle.rv_accept.proofs.Growing.{clash}
+use Rattle.rv_base.proofs.Truths.{clash}
 
 pub row_same : (a b : Row) → a.coefficients ≡ b.coefficients → a.bound ≡ b.bound → a ≡ b
 row_same a b p q = ap (λ (l : List ℤ). record { coefficients = l; bound = a.bound }) p ∙ ap (λ (z : ℤ). record { coefficients = b.coefficients; bound = z }) q

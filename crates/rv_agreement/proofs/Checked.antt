@@ -24,11 +24,11 @@ use Rattle.rv_agreement.specs.Agreement.{HasKind, IsRule, IsPlaced, IsNamed, Fit
 use Rattle.rv_agreement.specs.Checks.{same_sites, same_flow, same_clock, is_among, are_distinct, any_of, is_of, constant_fits, gives, operands, is_placed_for}
 use Rattle.rv_agreement.specs.Checks.{clock_fits, fits, form_fits, all_fit, IsShared, FormIsShared, AreShared, item_fits, flows_fit, memories_fit}
 use Rattle.rv_agreement.specs.Checks.{assertions_fit, clocks_fit, IsChecked, IsInlined}
-use Rattle.rv_agreement.proofs.Controls.{no_flag}
 use Rattle.rv_agreement.proofs.Matching.{only_one}
 use Rattle.rv_agreement.proofs.Chosen.{sites_itself, flow_itself}
-use Rattle.rv_types.proofs.ConstantContents.{kind_same as kind_told}
+use Rattle.rv_types.proofs.ConstantContents.{kind_same}
 use Rattle.rv_types.proofs.Members.{in_tail}
+use Rattle.rv_types.proofs.ChainLaws.{no_flag}
 
 clock_told : (k j : Option ℕ) → same_clock k j ≡ true → k ≡ j
 clock_told Nothing Nothing e = refl
@@ -42,7 +42,7 @@ of_told j ks n e = by (slice_get ks n) refl e
   where
     by : (o : Option Kind) → slice_get ks n ≡ o → is_of j o ≡ true → (n < length ks) × (kind_at ks n ≡ j)
     by Nothing is e = no_flag e
-    by (Some k) is e = (slice_get_within ks n k is, get_or_from_slice_get ks n k kind.Bool is ∙ kind_told k j e)
+    by (Some k) is e = (slice_get_within ks n k is, get_or_from_slice_get ks n k kind.Bool is ∙ kind_same k j e)
 
 constant_told : (labels : List ℕ) (j : Kind) (c : Value) → constant_fits labels j c ≡ true → HasKind labels j c
 constant_told labels kind.Bool (value.Flag b) e = tt
@@ -65,18 +65,18 @@ any_told test (k ∷ ks) e = elim (or_cases (test k) (any_of test ks) e) [
 
 rule_told : (labels : List ℕ) (o : Op) (i j : Kind) → gives o j ≡ true → Contains (operands labels o) i → IsRule o i j
 rule_told labels op.Arrow i j e w = no_flag e
-rule_told labels op.Implies i j e w = (sym (only_one kind.Bool i w), kind_told j kind.Bool e)
-rule_told labels op.Or i j e w = (sym (only_one kind.Bool i w), kind_told j kind.Bool e)
-rule_told labels op.Xor i j e w = (sym (only_one kind.Bool i w), kind_told j kind.Bool e)
-rule_told labels op.And i j e w = (sym (only_one kind.Bool i w), kind_told j kind.Bool e)
-rule_told labels op.Equal i j e w = kind_told j kind.Bool e
-rule_told labels op.Differs i j e w = kind_told j kind.Bool e
-rule_told labels op.Less i j e w = (sym (only_one kind.Int i w), kind_told j kind.Bool e)
-rule_told labels op.AtMost i j e w = (sym (only_one kind.Int i w), kind_told j kind.Bool e)
-rule_told labels op.Greater i j e w = (sym (only_one kind.Int i w), kind_told j kind.Bool e)
-rule_told labels op.AtLeast i j e w = (sym (only_one kind.Int i w), kind_told j kind.Bool e)
-rule_told labels op.Plus i j e w = (sym (only_one kind.Int i w), kind_told j kind.Int e)
-rule_told labels op.Minus i j e w = (sym (only_one kind.Int i w), kind_told j kind.Int e)
+rule_told labels op.Implies i j e w = (sym (only_one kind.Bool i w), kind_same j kind.Bool e)
+rule_told labels op.Or i j e w = (sym (only_one kind.Bool i w), kind_same j kind.Bool e)
+rule_told labels op.Xor i j e w = (sym (only_one kind.Bool i w), kind_same j kind.Bool e)
+rule_told labels op.And i j e w = (sym (only_one kind.Bool i w), kind_same j kind.Bool e)
+rule_told labels op.Equal i j e w = kind_same j kind.Bool e
+rule_told labels op.Differs i j e w = kind_same j kind.Bool e
+rule_told labels op.Less i j e w = (sym (only_one kind.Int i w), kind_same j kind.Bool e)
+rule_told labels op.AtMost i j e w = (sym (only_one kind.Int i w), kind_same j kind.Bool e)
+rule_told labels op.Greater i j e w = (sym (only_one kind.Int i w), kind_same j kind.Bool e)
+rule_told labels op.AtLeast i j e w = (sym (only_one kind.Int i w), kind_same j kind.Bool e)
+rule_told labels op.Plus i j e w = (sym (only_one kind.Int i w), kind_same j kind.Int e)
+rule_told labels op.Minus i j e w = (sym (only_one kind.Int i w), kind_same j kind.Int e)
 rule_told labels op.Times i j e w = no_flag e
 rule_told labels op.Slash i j e w = no_flag e
 rule_told labels op.Div i j e w = no_flag e
@@ -116,11 +116,11 @@ module _ (s : System) where
     form_told n k j at (Memory m) e shared = memory_told j m e
     form_told n k j at (Ticked t) e shared =
         let p = and_parts (same_kind j kind.Bool) (nat_lt t (length s.ticks)) e in
-        (ltb-true t (length s.ticks) p.1, kind_told j kind.Bool p.0)
+        (ltb-true t (length s.ticks) p.1, kind_same j kind.Bool p.0)
     form_told n k j at (Input i) e shared = of_told j s.inputs i e
     form_told n k j at (Not x) e shared =
         let p = and_parts (same_kind j kind.Bool) (fits s n k kind.Bool x) e in
-        (kind_told j kind.Bool p.0, fits_told n k kind.Bool x p.1 shared)
+        (kind_same j kind.Bool p.0, fits_told n k kind.Bool x p.1 shared)
     form_told n k j at (Binary o a b) e shared =
         let test : Kind → Bool = λ i. is_placed_for at o i && (fits s n k i a && fits s n k i b) in
         let p = and_parts (gives o j) (any_of test (operands s.labels o)) e in
@@ -130,14 +130,14 @@ module _ (s : System) where
         (one.0, rule_told s.labels o one.0 j p.0 one.1, placed_told at o one.0 q.0, fits_told n k one.0 a r.0 shared.0, fits_told n k one.0 b r.1 shared.1)
     form_told n k j at (Scale z x) e shared =
         let p = and_parts (same_kind j kind.Int) (fits s n k kind.Int x) e in
-        (kind_told j kind.Int p.0, fits_told n k kind.Int x p.1 shared)
+        (kind_same j kind.Int p.0, fits_told n k kind.Int x p.1 shared)
     form_told n k j at (If c a b) e shared =
         let p = and_parts (fits s n k kind.Bool c) (fits s n k j a && fits s n k j b) e in
         let q = and_parts (fits s n k j a) (fits s n k j b) p.1 in
         (fits_told n k kind.Bool c p.0 shared.0, fits_told n k j a q.0 shared.1, fits_told n k j b q.1 shared.2)
     form_told n k j at (AtMostOne es) e shared =
         let p = and_parts (same_kind j kind.Bool) (all_fit s n k es) e in
-        (kind_told j kind.Bool p.0, all_told n k es p.1 shared)
+        (kind_same j kind.Bool p.0, all_told n k es p.1 shared)
     form_told n k j at (When c x) e shared =
         let p = and_parts (same_clock k (Some c)) (clock_fits s n (Some c) && fits s n (nth_item s.flows c).clock j x) e in
         let q = and_parts (clock_fits s n (Some c)) (fits s n (nth_item s.flows c).clock j x) p.1 in

@@ -19,8 +19,8 @@ use Rattle.rv_agreement.specs.Valuations.{Valuation, Comparison, all_comparisons
 use Rattle.rv_agreement.specs.Agreement.{State, found_in, IsTyped, IsSpelled, Spells, IsWell}
 use Rattle.rv_agreement.specs.Checks.{same_sites, same_flow}
 use Rattle.rv_agreement.proofs.LinearLemmas.{told}
-use Rattle.rv_agreement.proofs.Controls.{no_flag}
 use Rattle.rv_agreement.proofs.Spelled.{bits_of, is_spelled, is_coded_as}
+use Rattle.rv_types.proofs.ChainLaws.{no_flag}
 
 pub sites_told : (p q : Sites) → same_sites p q ≡ true → p ≡ q
 sites_told [] [] e = refl

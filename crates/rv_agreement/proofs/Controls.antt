@@ -21,9 +21,7 @@ use Rattle.rv_agreement.specs.Evaluation.{nth, held, is_there, form_value}
 use Rattle.rv_agreement.specs.Valuations.{Valuation, Reading, is_linear, constant_reading, operated, is_of_integers, spelled, width, reads_at, found_at}
 use Rattle.rv_agreement.specs.Valuations.{holds_true, IsSymbolic, read}
 use Rattle.rv_agreement.specs.Agreement.{HasKind, IsRule, Fits, FormFits, IsWell}
-
-pub no_flag : {A : Type 0} → false ≡ true → A
-no_flag e = absurd (grind arith)
+use Rattle.rv_types.proofs.ChainLaws.{no_flag}
 
 -- an integer's type is not one of control values
 no_integer : {A : Type 0} (j : Kind) → j ≡ kind.Int → is_integer j ≡ false → A

@@ -11,9 +11,9 @@ use Rattle.std.specs.List.{Contains}
 use Rattle.std.specs.FinMap.{slice_cmp-IsAntisymmetric, nat_cmp-IsAntisymmetric}
 use Rattle.rv_tree.specs.Places.{Sites, is_same, index_of}
 use Rattle.rv_agreement.specs.Translation.{AreIndexed}
-use Rattle.rv_agreement.proofs.Controls.{no_flag}
 use Rattle.rv_meaning.proofs.Rows.{only_equal}
-use Rattle.rv_types.proofs.Members.{cons_cases as head_or_tail, nothing_in as none_in}
+use Rattle.rv_types.proofs.Members.{cons_cases, nothing_in}
+use Rattle.rv_types.proofs.ChainLaws.{no_flag}
 
 -- places with the same numbers are equal
 same_sites : (p q : Sites) → is_same p q ≡ true → p ≡ q
@@ -36,8 +36,8 @@ index_is (p ∷ ps) q lt = tested (is_same p q) refl lt (index_is ps q)
 
 -- the number of what is there is within
 index_within : (ps : List Sites) (q : Sites) → Contains ps q → index_of ps q < length ps
-index_within [] q w = none_in q w
-index_within (p ∷ ps) q w = tested (is_same p q) refl (head_or_tail p ps q w) (index_within ps q)
+index_within [] q w = nothing_in q w
+index_within (p ∷ ps) q w = tested (is_same p q) refl (cons_cases p ps q w) (index_within ps q)
   where
     tested : (b : Bool) → is_same p q ≡ b → (p ≡ q) ⊎ Contains ps q → (Contains ps q → index_of ps q < length ps)
         → cond b 0 (index_of ps q + 1) < length (p ∷ ps)

@@ -10,6 +10,7 @@ use Rattle.rv_rows.specs.Tight.{IsTightened}
 use Rattle.rv_rows.specs.Arithmetic.{constant_form, column_form, form_sum, form_times, form_difference, test_row}
 use Rattle.rv_types.specs.Lists.{Side, AtMost, AtLeast}
 use Rattle.rv_agreement.specs.Valuations.{side_form}
+use Rattle.rv_rows.proofs.FormValues.{less_times}
 
 -- the laws of rows and forms
 pub record Laws : Type 0 where
@@ -20,9 +21,6 @@ pub record Laws : Type 0 where
   pub tests : (b : Bool) (f : Form) (x : List ℤ) → Holds (test_row b f) x ↔ (b ≡ int_le (forms.value f x) (pos 0))
   pub some_tightened : (r : Row) → (t : Row) × IsTightened r t
   pub same_points : (r t : Row) → IsTightened r t → (x : List ℤ) → Holds t x ↔ Holds r x
-
-pub less_times : (x : ℤ) → negsuc 0 *ℤ x ≡ pos 0 -ℤ x
-less_times x = omega (arith, ints)
 
 -- the truth of a test at two integers
 abbrev pub told : Side → ℤ → ℤ → Bool

@@ -28,13 +28,13 @@ use Rattle.rv_agreement.specs.Agreement.{State, found_in, IsWholeInstant, value_
 use Rattle.rv_agreement.proofs.LinearLemmas.{Laws, told}
 use Rattle.rv_agreement.proofs.Operators.{truth_at, constant_at, scaled_at, operated_at}
 use Rattle.rv_agreement.proofs.Controls.{of_integers, never_linear}
-use Rattle.rv_types.proofs.Members.{cons_cases as head_or_tail, in_flat_map, nothing_in as none_in, of_flat_map as from_flat_map}
+use Rattle.rv_types.proofs.Members.{cons_cases, in_flat_map, nothing_in, of_flat_map}
 
 -- Lists.
 
 -- an element of the list of one is it
 pub only_one : {X : Type 0} (y x : X) → Contains (y ∷ []) x → y ≡ x
-only_one y x w = elim (head_or_tail y [] x w) [ inl is ↦ is | inr rest ↦ none_in x rest ]
+only_one y x w = elim (cons_cases y [] x w) [ inl is ↦ is | inr rest ↦ nothing_in x rest ]
 
 -- where a value is there, its clock is
 pub there_of_on : {V : Type 0} (b : Bool) (x : V) (test : V → Bool) (on : Option V → Bool) → (on Nothing ≡ false) → on (cond b (Some x) Nothing) ≡ true
@@ -47,7 +47,7 @@ chosen_at x true p q = refl
 chosen_at x false p q = refl
 
 pub some_side : {X : Type 0} (xs : List X) (x : X) → Contains xs x → nat_eq (length xs) 0 ≡ false
-some_side [] x w = none_in x w
+some_side [] x w = nothing_in x w
 some_side (y ∷ ys) x w = ne_eqb (suc (length ys)) 0 (λ e. absurd (omega (arith, e)))
 
 some_sides : {X : Type 0} (xs : List X) (x : X) → Contains xs x → 0 < length xs
@@ -66,9 +66,9 @@ read_in xs y w = get_or_default xs w.0 no_item y w.1 ∙ w.2
 
 -- what stands alone where one test holds and another does not
 pub in_own : {X : Type 0} (p b : Bool) (y c : X) → Contains (cond p (cond b [] (y ∷ [])) []) c → y ≡ c
-in_own true true y c w = none_in c w
+in_own true true y c w = nothing_in c w
 in_own true false y c w = only_one y c w
-in_own false b y c w = none_in c w
+in_own false b y c w = nothing_in c w
 
 module _ (s : System) where
   -- what is over the first flows is over more
@@ -120,11 +120,11 @@ module _ (s : System) where
       inside_form : (k : Option ℕ) (j : Kind) (at : Sites) (form : TreeForm) → IsNamed n k → FormFits s n k j at form
           → ((d : Comparison) → Contains (form_comparisons s.flows k at form) d → P d)
           → (c : Comparison) → Contains (form_comparisons s.flows k at form) c → Inside P n c
-      inside_form k j at (Constant z) named fit all c w = none_in c w
-      inside_form k j at (Flow x) named fit all c w = none_in c w
-      inside_form k j at (Memory m) named fit all c w = none_in c w
-      inside_form k j at (Ticked t) named fit all c w = none_in c w
-      inside_form k j at (Input x) named fit all c w = none_in c w
+      inside_form k j at (Constant z) named fit all c w = nothing_in c w
+      inside_form k j at (Flow x) named fit all c w = nothing_in c w
+      inside_form k j at (Memory m) named fit all c w = nothing_in c w
+      inside_form k j at (Ticked t) named fit all c w = nothing_in c w
+      inside_form k j at (Input x) named fit all c w = nothing_in c w
       inside_form k j at (Not e) named fit all c w = inside k kind.Bool e named fit.1 all c w
       inside_form k j at (Binary o a b) named fit all c w =
           let y : Comparison = record { at = at; clock = k; operator = o; left = a; right = b } in
@@ -156,11 +156,11 @@ module _ (s : System) where
           ]
       inside_form k j at (AtMostOne es) named fit all c w = inside_all k es named fit.1 all c w
       inside_form k j at (When x e) named fit all c w = inside (nth_item s.flows x).clock j e (clocks x fit.1) fit.2 all c w
-      inside_form k j at (Current m i e) named fit all c w = none_in c w
+      inside_form k j at (Current m i e) named fit all c w = nothing_in c w
 
       inside_all : (k : Option ℕ) (es : FlatTrees) → IsNamed n k → AllFit s n k es → ((d : Comparison) → Contains (comparisons_of s.flows k es) d → P d)
           → (c : Comparison) → Contains (comparisons_of s.flows k es) c → Inside P n c
-      inside_all k None named fit all c w = none_in c w
+      inside_all k None named fit all c w = nothing_in c w
       inside_all k (More e es) named fit all c w =
           elim (Contains-append_cases (comparisons s.flows k e) (comparisons_of s.flows k es) c w) [
             | inl here ↦ inside k kind.Bool e named fit.0 (λ d u. all d (Contains-append_left (comparisons s.flows k e) (comparisons_of s.flows k es) d u)) c
@@ -405,7 +405,7 @@ module _ (s : System) (v : Valuation) (now : State) (inputs : List Value) (row :
       -- the operands of a comparison are on its clock, which is that of a flow
       within : (c : Comparison) → Contains (all_comparisons s) c → Inside s IsTold (length s.flows) c
       within c w =
-          let y = from_flat_map (item_comparisons s.flows) (all_items s) c w in
+          let y = of_flat_map (item_comparisons s.flows) (all_items s) c w in
           let f = fits_all y.0 y.1 in
           inside s IsTold (length s.flows) clocks_named y.0.clock f.0 y.0.body f.1.0 f.1.1 (item_told y.0 y.1) c y.2
 

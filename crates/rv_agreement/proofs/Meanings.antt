@@ -21,7 +21,7 @@ use Rattle.rv_agreement.specs.Evaluation.{integers}
 use Rattle.rv_agreement.specs.Evaluation as by
 use Rattle.rv_agreement.specs.Programs.{found_of, coefficient, operation, is_there, meant, form_meant, trues_meant, HasProducts, FormHasProducts}
 use Rattle.rv_agreement.specs.Programs.{AllHaveProducts}
-use Rattle.rv_agreement.proofs.LinearLemmas.{less_times}
+use Rattle.rv_rows.proofs.FormValues.{less_times}
 
 pub held_same : (o : Option Value) → by.held Value integers o ≡ held o
 held_same Nothing = refl

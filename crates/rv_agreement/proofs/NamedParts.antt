@@ -9,7 +9,7 @@ use Rattle.rv_types.specs.Instances.{Instance, absolute, clock_of}
 use Rattle.rv_agreement.specs.Programs.{Compared, compared, form_compared, compared_all}
 use Rattle.rv_agreement.specs.Translation.{Names, FormNames, AllNames}
 use Rattle.rv_agreement.proofs.Suited.{stands}
-use Rattle.rv_types.proofs.Members.{nothing_in as none_in}
+use Rattle.rv_types.proofs.Members.{nothing_in}
 
 module _ (i : Instance) (P R : Sites → Type 0) (Q S : Option Sites → Type 0) (T U : Identifier → Type 0)
     (kept : (q : Sites) → P q → R q) (ticked : (k : Option Sites) → Q k → S k) (clocked : (x : Identifier) → T x → U x) where
@@ -51,14 +51,14 @@ module _ (program : ProgramTree) (P : Sites → Type 0) (Q : Option Sites → Ty
 
       form_named : (k : Option Sites) (site : Option ℕ) (form : Form) → FormNames i P Q Any site form → (c : Compared)
           → Contains (form_compared program i k site form) c → AreNamedIn c
-      form_named k site tree.True names c w = none_in c w
-      form_named k site tree.False names c w = none_in c w
-      form_named k site (tree.Number n) names c w = none_in c w
-      form_named k site (tree.Named x) names c w = none_in c w
+      form_named k site tree.True names c w = nothing_in c w
+      form_named k site tree.False names c w = nothing_in c w
+      form_named k site (tree.Number n) names c w = nothing_in c w
+      form_named k site (tree.Named x) names c w = nothing_in c w
       form_named k site (tree.Not e) names c w = operands_named k e names c w
       form_named k site (tree.Minus e) names c w = operands_named k e names c w
-      form_named k site (tree.Pre e) names c w = none_in c w
-      form_named k site (tree.Current e) names c w = none_in c w
+      form_named k site (tree.Pre e) names c w = nothing_in c w
+      form_named k site (tree.Current e) names c w = nothing_in c w
       form_named k site (tree.When e x) names c w = operands_named (absolute i (clock_of i.node x.text)) e names.1 c w
       form_named k site (tree.Binary o a b) names c w = elim (stands program i k site o a b c w) [
         | inl own ↦ subst AreNamedIn own (names.1, names.2)
@@ -76,10 +76,10 @@ module _ (program : ProgramTree) (P : Sites → Type 0) (Q : Option Sites → Ty
             ]
           ]
       form_named k site (tree.AtMostOne es) names c w = all_named k es names c w
-      form_named k site (tree.Call f args) names c w = none_in c w
+      form_named k site (tree.Call f args) names c w = nothing_in c w
 
       all_named : (k : Option Sites) (es : Trees) → AllNames i P Q Any es → (c : Compared) → Contains (compared_all program i k es) c → AreNamedIn c
-      all_named k tree.None names c w = none_in c w
+      all_named k tree.None names c w = nothing_in c w
       all_named k (tree.More e es) names c w = elim (Contains-append_cases (compared program i k e) (compared_all program i k es) c w) [
         | inl u ↦ operands_named k e names.0 c u
         | inr u ↦ all_named k es names.1 c u

@@ -17,7 +17,7 @@ use Rattle.rv_agreement.specs.Valuations.{Reading, Truth, Name, Linear, at_point
 use Rattle.rv_types.specs.declared.typed.Kind.{Kind}
 use Rattle.rv_agreement.specs.Agreement.{IsRule}
 use Rattle.rv_agreement.proofs.LinearLemmas.{Laws, told, difference_value}
-use Rattle.rv_types.proofs.Members.{at_head as head_in}
+use Rattle.rv_types.proofs.Members.{at_head}
 
 pub second_in : {X : Type 0} (x y : X) (xs : List X) → Contains (x ∷ y ∷ xs) y
 second_in x y xs = (1, omega arith, refl)
@@ -64,7 +64,7 @@ module _ (laws : Laws) (x : List ℤ) where
     same_at at (Linear a) (Name b) tell = refl
     same_at at (Linear a) (Linear b) tell =
         int_equal (forms.value a x) (forms.value b x)
-        ∙ (λ i. sym (tell refl AtMost (head_in AtMost (AtLeast ∷ []))) i && sym (tell refl AtLeast (second_in AtMost AtLeast [])) i)
+        ∙ (λ i. sym (tell refl AtMost (at_head AtMost (AtLeast ∷ []))) i && sym (tell refl AtLeast (second_in AtMost AtLeast [])) i)
 
     pub operated_at : (at : Sites) (o : Op) (i j : Kind) (a b : Reading) → IsRule o i j → IsTold at o a b
         → operate o false (at_point x a) (at_point x b) ≡ at_point x (operated n test at o a b)
@@ -76,11 +76,11 @@ module _ (laws : Laws) (x : List ℤ) where
     operated_at at op.Equal i j a b rule tell = ap Flag (same_at at a b tell)
     operated_at at op.Differs i j a b rule tell = ap (λ t. Flag (not t)) (same_at at a b tell)
     operated_at at op.Less i j a b rule tell =
-        ap Flag (int_less (number (at_point x a)) (number (at_point x b)) ∙ ap not (sym (tell refl AtLeast (head_in AtLeast []))))
-    operated_at at op.AtMost i j a b rule tell = ap Flag (sym (tell refl AtMost (head_in AtMost [])))
+        ap Flag (int_less (number (at_point x a)) (number (at_point x b)) ∙ ap not (sym (tell refl AtLeast (at_head AtLeast []))))
+    operated_at at op.AtMost i j a b rule tell = ap Flag (sym (tell refl AtMost (at_head AtMost [])))
     operated_at at op.Greater i j a b rule tell =
-        ap Flag (int_less (number (at_point x b)) (number (at_point x a)) ∙ ap not (sym (tell refl AtMost (head_in AtMost []))))
-    operated_at at op.AtLeast i j a b rule tell = ap Flag (sym (tell refl AtLeast (head_in AtLeast [])))
+        ap Flag (int_less (number (at_point x b)) (number (at_point x a)) ∙ ap not (sym (tell refl AtMost (at_head AtMost []))))
+    operated_at at op.AtLeast i j a b rule tell = ap Flag (sym (tell refl AtLeast (at_head AtLeast [])))
     operated_at at op.Plus i j a b rule tell =
         ap Whole ((λ t. number_at a t +ℤ number_at b t) ∙ sym (laws.sums (form_of n test a) (form_of n test b) x))
     operated_at at op.Minus i j a b rule tell =

@@ -20,15 +20,16 @@ use Rattle.rv_types.specs.WellFormed.{Suits}
 use Rattle.rv_agreement.specs.Valuations.{is_placed}
 use Rattle.rv_agreement.specs.Programs.{operator_place, operation, Compared, own_compared, compared, form_compared, compared_all}
 use Rattle.rv_agreement.proofs.Matching.{in_own}
-use Rattle.rv_meaning.proofs.Suiting.{same_clocks as clock_told, suits_both as suits_meet, suits_ground as suits_grounded, suits_seen}
-use Rattle.rv_types.proofs.Members.{nothing_in as none_in}
+use Rattle.rv_meaning.proofs.Suiting.{suits_both as suits_meet, suits_ground, suits_seen}
+use Rattle.rv_types.proofs.Members.{nothing_in}
+use Rattle.rv_types.proofs.Paces.{clock_same}
 
 pub suits_both : (k c d : Clock) (b : Bool) → same_clock c d ≡ b → Suits k (cond b (At c) Differ) → (c ≡ k) × (d ≡ k)
-suits_both k c d true e h = (h, sym (clock_told c d e) ∙ h)
+suits_both k c d true e h = (h, sym (clock_same c d e) ∙ h)
 suits_both k c d false e h = absurd h
 
 pub suits_binary : (k : Clock) (o : Op) (p q : Pace) → Suits k (binary_pace o p q) → Suits k p × Suits k q
-suits_binary k op.Arrow p q h = suits_meet k p q (suits_grounded k (meet p q) h)
+suits_binary k op.Arrow p q h = suits_meet k p q (suits_ground k (meet p q) h)
 suits_binary k op.Implies p q h = suits_meet k p q h
 suits_binary k op.Or p q h = suits_meet k p q h
 suits_binary k op.Xor p q h = suits_meet k p q h
@@ -53,7 +54,7 @@ suits_when k n (At c) j h = by (same_clock c (clock_at n j)) refl h
   where
     by : (b : Bool) → same_clock c (clock_at n j) ≡ b → Suits k (elim (cond b (At c) Differ) as
         (λ _. Pace) [ Free ↦ At (On j) | At d ↦ At (On j) | Mute ↦ Mute | Differ ↦ Differ ]) → c ≡ clock_at n j
-    by true e h = clock_told c (clock_at n j) e
+    by true e h = clock_same c (clock_at n j) e
     by false e h = absurd h
 suits_when k n Mute j h = absurd h
 suits_when k n Differ j h = absurd h
@@ -110,14 +111,14 @@ module _ (program : ProgramTree) (i : Instance) where
 
     form_suited : (k : Clock) (site : Option ℕ) (form : Form) → Suits k (form_pace i.node form) → (c : Compared)
         → Contains (form_compared program i (absolute i k) site form) c → IsSuited c
-    form_suited k site tree.True h c w = none_in c w
-    form_suited k site tree.False h c w = none_in c w
-    form_suited k site (tree.Number n) h c w = none_in c w
-    form_suited k site (tree.Named x) h c w = none_in c w
+    form_suited k site tree.True h c w = nothing_in c w
+    form_suited k site tree.False h c w = nothing_in c w
+    form_suited k site (tree.Number n) h c w = nothing_in c w
+    form_suited k site (tree.Named x) h c w = nothing_in c w
     form_suited k site (tree.Not e) h c w = suited k e (suits_seen k (pace i.node e) h) c w
     form_suited k site (tree.Minus e) h c w = suited k e (suits_seen k (pace i.node e) h) c w
-    form_suited k site (tree.Pre e) h c w = none_in c w
-    form_suited k site (tree.Current e) h c w = none_in c w
+    form_suited k site (tree.Pre e) h c w = nothing_in c w
+    form_suited k site (tree.Current e) h c w = nothing_in c w
     form_suited k site (tree.When e x) h c w =
         suited (clock_of i.node x.text) e (suits_seen (clock_of i.node x.text) (pace i.node e)
         (suits_when k i.node (seen (pace i.node e)) (site_of i.node x.text) h)) c w
@@ -141,11 +142,11 @@ module _ (program : ProgramTree) (i : Instance) where
           ]
         ]
     form_suited k site (tree.AtMostOne es) h c w = all_suited k es h c w
-    form_suited k site (tree.Call f args) h c w = none_in c w
+    form_suited k site (tree.Call f args) h c w = nothing_in c w
 
     all_suited : (k : Clock) (es : Trees) → Suits k (pace_of_all i.node es) → (c : Compared) → Contains (compared_all program i (absolute i k) es) c
         → IsSuited c
-    all_suited k tree.None h c w = none_in c w
+    all_suited k tree.None h c w = nothing_in c w
     all_suited k (tree.More e es) h c w =
         let parts = suits_meet k (seen (pace i.node e)) (pace_of_all i.node es) h in
         elim (Contains-append_cases (compared program i (absolute i k) e) (compared_all program i (absolute i k) es) c w) [

@@ -21,7 +21,7 @@ use Rattle.rv_agreement.specs.Translation.{Names, Numbers, clock_number, tick_nu
 use Rattle.rv_agreement.specs.Translation.{AreIndexed, flat_compared}
 use Rattle.rv_agreement.proofs.Translated.{value_read, on_clock, compared_read}
 use Rattle.rv_agreement.proofs.Matching.{read_in}
-use Rattle.rv_types.proofs.Members.{cons_cases as head_or_tail, in_flat_map, in_map, in_tail, nothing_in as none_in, of_flat_map as from_flat_map}
+use Rattle.rv_types.proofs.Members.{cons_cases, in_flat_map, in_map, in_tail, nothing_in, of_flat_map}
 
 module _ (V : Type 0) (r : Reads V) (flagged : (b : Bool) → r.truth (r.flag b) ≡ b) (p : ProgramTree) (main : Identifier) (numbers : Numbers) (s : System)
     (translated : IsTranslated p main numbers s)
@@ -68,8 +68,8 @@ module _ (V : Type 0) (r : Reads V) (flagged : (b : Bool) → r.truth (r.flag b)
       ∙ ap (given_by V r p at_place (λ u. nth V r row (index_of numbers.flows u))) (defined.one q f.0 g here gives)
 
 pub from_map : {X Y : Type 0} (f : X → Y) (xs : List X) (y : Y) → Contains (map f xs) y → (x : X) × Contains xs x × (y ≡ f x)
-from_map f [] y w = none_in y w
-from_map f (x ∷ xs) y w = elim (head_or_tail (f x) (map f xs) y w) [
+from_map f [] y w = nothing_in y w
+from_map f (x ∷ xs) y w = elim (cons_cases (f x) (map f xs) y w) [
   | inl is ↦ (x, (0, omega arith, refl), sym is)
   | inr rest ↦ let r = from_map f xs y rest in (r.0, in_tail x xs r.0 r.1, r.2)
 ]
@@ -127,7 +127,7 @@ module _ (p : ProgramTree) (main : Identifier) (numbers : Numbers) (s : System) 
 
   pub comparison_from : (d : Comparison) → Contains (all_comparisons s) d → (c : Compared) × IsComparison p main c × (d ≡ flat_compared p numbers c)
   comparison_from d w =
-      let y = from_flat_map (item_comparisons s.flows) (all_items s) d w in
+      let y = of_flat_map (item_comparisons s.flows) (all_items s) d w in
       elim (Contains-append_cases s.flows (memory_items s ++ s.assertions) y.0 y.1) [
         | inl flow ↦ by_giver y.0 flow (translated.flow flow.0 flow.1) y.2
         | inr rest ↦ elim (Contains-append_cases (memory_items s) s.assertions y.0 rest) [
@@ -147,9 +147,9 @@ module _ (p : ProgramTree) (main : Identifier) (numbers : Numbers) (s : System) 
       by_giver : (y : Item) (flow : Contains s.flows y) → ((g : Giver) × Gives p main (slice_index_or numbers.flows flow.0 []) g
           × (nth_item s.flows flow.0 ≡ giver_item p numbers g))
           → Contains (item_comparisons s.flows y) d → (c : Compared) × IsComparison p main c × (d ≡ flat_compared p numbers c)
-      by_giver y flow (Given j, gives, is) w = none_in d (subst (λ z. Contains (item_comparisons s.flows z) d) (sym (read_in s.flows y flow) ∙ is) w)
+      by_giver y flow (Given j, gives, is) w = nothing_in d (subst (λ z. Contains (item_comparisons s.flows z) d) (sym (read_in s.flows y flow) ∙ is) w)
       by_giver y flow (Of i k (Body e), gives, is) w =
           let f = from_item y i (clock_in i k e) e d (sym (read_in s.flows y flow) ∙ is) (names.flows (slice_index_or numbers.flows flow.0 []) i k e gives) w in
           (f.0, in_flow (slice_index_or numbers.flows flow.0 []) i k e gives f.1, f.2)
-      by_giver y flow (Of i k (Output c j), gives, is) w = none_in d (subst (λ z. Contains (item_comparisons s.flows z) d) (sym (read_in s.flows y flow) ∙ is)
+      by_giver y flow (Of i k (Output c j), gives, is) w = nothing_in d (subst (λ z. Contains (item_comparisons s.flows z) d) (sym (read_in s.flows y flow) ∙ is)
           w)

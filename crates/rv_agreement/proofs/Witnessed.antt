@@ -29,7 +29,8 @@ use Rattle.rv_agreement.specs.Translation.{Numbers, clock_number, tick_number}
 use Rattle.rv_agreement.specs.ProgramAgreement.{integers_of, IsTick, IsDelay, IsSystemOf, memories_of}
 use Rattle.rv_agreement.proofs.Systems.{from_map}
 use Rattle.rv_agreement.proofs.Indexed.{indexed}
-use Rattle.rv_types.proofs.Members.{cons_cases as head_or_tail, in_map, in_tail}
+use Rattle.rv_types.proofs.Members.{cons_cases, in_map, in_tail}
+use Rattle.rv_base.proofs.Options.{some_same}
 
 map_twice : {X Y Z : Type 0} (f : X → Y) (g : Y → Z) (h : X → Z) → ((x : X) → g (f x) ≡ h x) → (xs : List X) → map g (map f xs) ≡ map h xs
 map_twice f g h same [] = refl
@@ -78,9 +79,6 @@ has_kind program kind.Int (value.Whole z) has = tt
 has_kind program (kind.Labels i) (value.Flag b) has = absurd has
 has_kind program (kind.Labels i) (value.Label l) has = subst (λ n. l < n) (labels_same program.types i) has
 has_kind program (kind.Labels i) (value.Whole z) has = absurd has
-
-pub some_same : {X : Type 0} (x y : X) → Some x ≡ Some y → x ≡ y
-some_same x y e = let f : x ≡ y = cc in f
 
 module _ (program : ProgramTree) (main : Identifier) (numbers : Numbers) (s : System) (witness : IsSystemOf program main numbers s) where
   abbrev listed_memories : List MemoryAt
@@ -161,7 +159,7 @@ module _ (program : ProgramTree) (main : Identifier) (numbers : Numbers) (s : Sy
             omega (arith, e),
         ap (λ ks. slice_index_or ks 0 Nothing) witness.translated.tick_places,
       )
-      by (Some q) v = elim (head_or_tail Nothing (map Some numbers.ticks) (Some q) v) [
+      by (Some q) v = elim (cons_cases Nothing (map Some numbers.ticks) (Some q) v) [
         | inl is ↦ absurd (let e : Nothing ≡ Some q = is in cc)
         | inr rest ↦
             let f = from_map Some numbers.ticks (Some q) rest in
@@ -192,7 +190,7 @@ module _ (program : ProgramTree) (main : Identifier) (numbers : Numbers) (s : Sy
     where
       by : (k : Option Sites) → Contains (Nothing ∷ map Some numbers.ticks) k → IsTick program main k
       by Nothing w = tt
-      by (Some q) w = elim (head_or_tail Nothing (map Some numbers.ticks) (Some q) w) [
+      by (Some q) w = elim (cons_cases Nothing (map Some numbers.ticks) (Some q) w) [
         | inl is ↦ absurd (let e : Nothing ≡ Some q = is in cc)
         | inr rest ↦
             let f = from_map Some numbers.ticks (Some q) rest in

@@ -5,8 +5,8 @@ use Rattle.std.proofs.lemmas.List.{length-map, get_or-map, get_or_default}
 use Rattle.rv_tree.specs.Places.{Sites}
 use Rattle.rv_types.specs.Lists.{AreRising}
 use Rattle.rv_types.specs.Needs.{IsBefore}
-use Rattle.rv_invfile.proofs.MemoryLists.{both_before as before_once}
-use Rattle.rv_types.proofs.Members.{at_head, cons_cases as head_or_tail, in_tail, nothing_in as none_in}
+use Rattle.rv_invfile.proofs.MemoryLists.{both_before}
+use Rattle.rv_types.proofs.Members.{at_head, cons_cases, in_tail, nothing_in}
 
 module _ (A : Type 0) (Before : A → A → Type 0) where
   -- Each element stands before those after it.
@@ -27,13 +27,13 @@ module _ (A : Type 0) (Before : A → A → Type 0) where
     pub one_sorted : (xs ys : List A) → AreSorted xs → AreSorted ys → ((z : A) → Contains xs z → Contains ys z) → ((z : A) → Contains ys z → Contains xs z)
         → xs ≡ ys
     one_sorted [] [] p q to from = refl
-    one_sorted [] (y ∷ ys) p q to from = none_in y (from y (at_head y ys))
-    one_sorted (x ∷ xs) [] p q to from = none_in x (to x (at_head x xs))
+    one_sorted [] (y ∷ ys) p q to from = nothing_in y (from y (at_head y ys))
+    one_sorted (x ∷ xs) [] p q to from = nothing_in x (to x (at_head x xs))
     one_sorted (x ∷ xs) (y ∷ ys) p q to from =
-        let same = heads (head_or_tail y ys x (to x (at_head x xs))) (head_or_tail x xs y (from y (at_head y ys))) in
+        let same = heads (cons_cases y ys x (to x (at_head x xs))) (cons_cases x xs y (from y (at_head y ys))) in
         λ i. same i ∷ one_sorted xs ys p.1 q.1
-        (λ z w. later y ys z (head_or_tail y ys z (to z (in_tail x xs z w))) (subst (λ u. Before u z) same (p.0 z w)))
-        (λ z w. later x xs z (head_or_tail x xs z (from z (in_tail y ys z w))) (subst (λ u. Before u z) (sym same) (q.0 z w))) i
+        (λ z w. later y ys z (cons_cases y ys z (to z (in_tail x xs z w))) (subst (λ u. Before u z) same (p.0 z w)))
+        (λ z w. later x xs z (cons_cases x xs z (from z (in_tail y ys z w))) (subst (λ u. Before u z) (sym same) (q.0 z w))) i
       where
         heads : (y ≡ x) ⊎ Contains ys x → (x ≡ y) ⊎ Contains xs y → x ≡ y
         heads (inl is) other = sym is
@@ -57,7 +57,7 @@ pub one_rising : {A : Type 0} (place : A → Sites) (xs ys : List A) → AreRisi
     → ((z : A) → Contains xs z → Contains ys z)
     → ((z : A) → Contains ys z → Contains xs z) → xs ≡ ys
 one_rising {A = A} place xs ys p q to from =
-    one_sorted A (λ x y. IsBefore (place x) (place y)) (λ x y. before_once (place x) (place y)) xs ys (rising_sorted place xs p) (rising_sorted place ys q) to
+    one_sorted A (λ x y. IsBefore (place x) (place y)) (λ x y. both_before (place x) (place y)) xs ys (rising_sorted place xs p) (rising_sorted place ys q) to
     from
 
 -- the same of places themselves
@@ -65,7 +65,7 @@ pub one_places : (ps qs : List Sites) → AreRising ps → AreRising qs → ((z 
     → ((z : Sites) → Contains qs z → Contains ps z)
     → ps ≡ qs
 one_places ps qs a b to from =
-    one_sorted Sites IsBefore before_once ps qs (places_sorted ps a) (places_sorted qs b) to from
+    one_sorted Sites IsBefore both_before ps qs (places_sorted ps a) (places_sorted qs b) to from
   where
     places_sorted : (ps : List Sites) → AreRising ps → AreSorted Sites IsBefore ps
     places_sorted ps rising = sorted_by Sites IsBefore ps

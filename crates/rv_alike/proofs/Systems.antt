@@ -33,6 +33,7 @@ use Rattle.rv_control.proofs.Abstract.{allowed_there, allowed_told}
 use Rattle.rv_control.proofs.Readings.{is_symbolic}
 use Rattle.rv_alike.proofs.Lists.{one_memories, one_ticks}
 use Rattle.rv_alike.proofs.Rows.{TightensOnce, HaveTested, same_rows}
+use Rattle.rv_diagram.proofs.Several.{same_truth}
 
 -- What is taken from the symbolic instants of a program.
 pub record Laws (program : ProgramTree) (main : Identifier) : Type 0 where
@@ -64,11 +65,6 @@ pub record AreSameAt (s t : System) (w : Valuation) (row other : List (Option Re
   pub forms : updates s w row ≡ updates t w other
   pub observer : is_on Reading (reads_at s w) (observed s w row) ≡ is_on Reading (reads_at t w) (observed t w other)
   pub next : (x : Variable) → next_truth s w row x ≡ next_truth t w other x
-
-one_truth : (a b : Bool) → (a ≡ true → b ≡ true) → (b ≡ true → a ≡ true) → a ≡ b
-one_truth true b to from = sym (to refl)
-one_truth false true to from = from refl
-one_truth false false to from = refl
 
 -- the memories' codes by places and types
 abbrev all_named : List ℕ → Valuation → List MemoryAt → Bool
@@ -177,7 +173,7 @@ module _ (program : ProgramTree) (main : Identifier) (laws : Laws program main) 
       agrees_other = (laws.from_program others t w cells second at_other).1
 
       same_allowed : is_allowed s w row ≡ is_allowed t w other
-      same_allowed = one_truth (is_allowed s w row) (is_allowed t w other)
+      same_allowed = same_truth (is_allowed s w row) (is_allowed t w other)
           (λ e. allowed_there t w other ((laws.allowed others t w cells second at_other).0
           (subst (λ ms. IsAllowedOf program main ms w cells) same_memories ((laws.allowed numbers s w cells first at).1 (allowed_told s w row e)))))
           (λ e. allowed_there s w row ((laws.allowed numbers s w cells first at).0

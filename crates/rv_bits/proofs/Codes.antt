@@ -11,10 +11,10 @@ use Rattle.rv_types.specs.Variables.{bits_for}
 use Rattle.rv_meaning.specs.Codes.{code}
 use Rattle.rv_bits.specs.Bits.{bit_of, is_same, are_same}
 use Rattle.rv_agreement.proofs.Spelled.{below_power, code_below, code_bits, enough, one_bit}
-use Rattle.rv_symbolic.proofs.Extending.{same_truth as both_ways}
+use Rattle.rv_diagram.proofs.Several.{same_truth}
 
 le_alike : (a b c d : ℕ) → (a ≤ b → c ≤ d) → (c ≤ d → a ≤ b) → nat_le a b ≡ nat_le c d
-le_alike a b c d f g = both_ways (nat_le a b) (nat_le c d) (λ e. le-leb c d (f (leb-true a b e))) (λ e. le-leb a b (g (leb-true c d e)))
+le_alike a b c d f g = same_truth (nat_le a b) (nat_le c d) (λ e. le-leb c d (f (leb-true a b e))) (λ e. le-leb a b (g (leb-true c d e)))
 
 -- the first bits of a number spell what is left of it
 pub code_of_bits : (n l : ℕ) → code n (bit_of l) ≡ l % 2 ^ n
@@ -96,7 +96,7 @@ are_same_to (suc n) f g same = and_from (are_same n f g) (is_same (f n) (g n)) (
 pub same_numbers : (n l m : ℕ) (f g : ℕ → Bool) → ((b : ℕ) → f b ≡ bit_of l b) → ((b : ℕ) → g b ≡ bit_of m b) → ((b : ℕ) → n ≤ b → f b ≡ false)
     → ((b : ℕ) → n ≤ b → g b ≡ false)
     → are_same n f g ≡ nat_eq l m
-same_numbers n l m f g left right none_left none_right = both_ways (are_same n f g) (nat_eq l m)
+same_numbers n l m f g left right none_left none_right = same_truth (are_same n f g) (nat_eq l m)
     (λ e. eq-eqb l m (same_from_bits l m (λ b. bit_from l m b (sym (left b) ∙ at (are_same_from n f g e) b ∙ right b))))
     (λ e. are_same_to n f g (λ b lt. left b ∙ ap (λ k. bit_of k b) (eqb-true l m e) ∙ sym (right b)))
   where
@@ -113,14 +113,14 @@ code_within n f g = by (f n) (g n) (code_below n f) (code_below n g)
     by : (p q : Bool) → code n f < 2 ^ n → code n g < 2 ^ n
         → cond p (q && nat_le (code n f) (code n g)) (q || nat_le (code n f) (code n g)) ≡ nat_le (code n f + cond p (2 ^ n) 0) (code n g + cond q (2 ^ n) 0)
     by true true l m = le_alike (code n f) (code n g) (code n f + 2 ^ n) (code n g + 2 ^ n) (λ h. omega arith) (λ h. omega arith)
-    by true false l m = both_ways false (nat_le (code n f + 2 ^ n) (code n g + 0)) (λ e. let bad : false ≡ true = e in absurd (grind arith))
+    by true false l m = same_truth false (nat_le (code n f + 2 ^ n) (code n g + 0)) (λ e. let bad : false ≡ true = e in absurd (grind arith))
         (λ e. let h : code n f + 2 ^ n ≤ code n g + 0 = leb-true (code n f + 2 ^ n) (code n g + 0) e in absurd (omega arith))
     by false true l m = sym (le-leb (code n f + 0) (code n g + 2 ^ n) (omega arith))
     by false false l m = le_alike (code n f) (code n g) (code n f + 0) (code n g + 0) (λ h. omega arith) (λ h. omega arith)
 
 -- at most the last label is below the number of labels
 pub within_below : (a last count : ℕ) → count ≡ last + 1 → nat_le a last ≡ nat_lt a count
-within_below a last count e = both_ways (nat_le a last) (nat_lt a count)
+within_below a last count e = same_truth (nat_le a last) (nat_lt a count)
     (λ h. let le : a ≤ last = leb-true a last h in lt-ltb a count (omega arith))
     (λ h. let lt : a < count = ltb-true a count h in le-leb a last (omega arith))
 
@@ -132,7 +132,7 @@ none_more count true = sym (ne_eqb (count + 1) 0 (λ e. omega arith))
 none_more count false = let e : count ≡ count + 0 = omega arith in ap (λ n. nat_eq n 0) e
 
 pub most_more : (count : ℕ) (b : Bool) → cond b (nat_eq count 0) (nat_le count 1) ≡ nat_le (count + cond b 1 0) 1
-most_more count true = both_ways (nat_eq count 0) (nat_le (count + 1) 1)
+most_more count true = same_truth (nat_eq count 0) (nat_le (count + 1) 1)
     (λ e. let h : count ≡ 0 = eqb-true count 0 e in le-leb (count + 1) 1 (omega arith))
     (λ e. let h : count + 1 ≤ 1 = leb-true (count + 1) 1 e in eq-eqb count 0 (omega arith))
 most_more count false = let e : count ≡ count + 0 = omega arith in ap (λ n. nat_le n 1) e

@@ -18,7 +18,7 @@ use Rattle.rv_flat.specs.FlatInstants.{system_of}
 use Rattle.rv_control.specs.Named.{named}
 use Rattle.rv_symbolic.specs.Growing.{Extends}
 use Rattle.rv_symbolic.specs.Linked.{AreRefs}
-use Rattle.rv_symbolic.proofs.Extending.{extends_refl, extends_trans, refs_after as refs_kept}
+use Rattle.rv_symbolic.proofs.Extending.{extends_refl, extends_trans, refs_after}
 use Rattle.rv_bits.specs.declared.around.FlowRefs.{FlowRefs}
 use Rattle.rv_bits.specs.Bits.{bit}
 use Rattle.rv_bits.specs.Flows.{on_bit, AreFlowsRead, AreAfters}
@@ -29,13 +29,13 @@ use Rattle.rv_bits.proofs.Showing.{shows_kept, shows_truth}
 use Rattle.rv_bits.proofs.Keeping.{flows_kept, one_after_kept}
 use Rattle.rv_bits.proofs.Listing.{element_before, element_last}
 use Rattle.rv_bits.proofs.Fitting.{fits_more}
-use Rattle.rv_agreement.proofs.Controls.{no_flag}
-use Rattle.rv_agreement.proofs.Witnessed.{some_same}
+use Rattle.rv_base.proofs.Options.{some_same}
+use Rattle.rv_types.proofs.ChainLaws.{no_flag}
 
 pub reads_longer : (f : Flat) (a b c : Diagrams) (t : FlatTree) (refs : List ℕ) → ReadsTo f a b t refs → Extends b c → ReadsTo f a c t refs
 reads_longer f a b c t refs r e = record {
   extends = extends_trans a b c r.extends e;
-  are_refs = refs_kept b c refs e r.are_refs;
+  are_refs = refs_after b c refs e r.are_refs;
   shows = λ v row k j instant fits there. shows_kept b c v j refs (read (system_of f) (named f v) row t) e r.are_refs (r.shows v row k j instant fits there);
 }
 

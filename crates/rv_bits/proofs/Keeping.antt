@@ -22,7 +22,7 @@ use Rattle.rv_flat.specs.FlatInstants.{system_of}
 use Rattle.rv_control.specs.Named.{named}
 use Rattle.rv_symbolic.specs.Growing.{Extends}
 use Rattle.rv_symbolic.specs.Linked.{AreRefs}
-use Rattle.rv_symbolic.proofs.Extending.{extends_refl, refs_after as refs_kept}
+use Rattle.rv_symbolic.proofs.Extending.{extends_refl, refs_after}
 use Rattle.rv_bits.specs.declared.around.Around.{Around}
 use Rattle.rv_bits.specs.declared.around.Tables.{Tables}
 use Rattle.rv_bits.specs.declared.around.FlowRefs.{FlowRefs}
@@ -31,23 +31,23 @@ use Rattle.rv_bits.specs.Shown.{refs_at, found, is_there_at, AreTables, AreFlowR
 use Rattle.rv_bits.specs.Reads.{trees_in, tree_in, true_at, ShowsTo}
 use Rattle.rv_bits.proofs.Making.{any_ref, bits_kept, ref_before, ref_last}
 use Rattle.rv_bits.proofs.Showing.{shows_same, shows_kept, shows_truth}
-use Rattle.rv_agreement.proofs.Witnessed.{some_same as some_is}
+use Rattle.rv_base.proofs.Options.{some_same}
 
 pub tables_kept : (f : Flat) (a b : Diagrams) (t : Tables) → Extends a b → AreTables f a.nodes t → AreTables f b.nodes t
 tables_kept f a b t e are = record {
-  tick_refs = refs_kept a b t.ticks e are.tick_refs;
+  tick_refs = refs_after a b t.ticks e are.tick_refs;
   ticks = λ k v lt. e.kept (ref_at t.ticks k) (any_ref a.nodes t.ticks are.tick_refs k) v ∙ are.ticks k v lt;
-  kept_refs = λ m. refs_kept a b (refs_at t.kept m) e (are.kept_refs m);
+  kept_refs = λ m. refs_after a b (refs_at t.kept m) e (are.kept_refs m);
   kept = λ m v lt. shows_kept a b v (kind_at (memory_kinds (system_of f)) m) (refs_at t.kept m) ((found f v).kept m) e (are.kept_refs m) (are.kept m v lt);
-  given_refs = λ j. refs_kept a b (refs_at t.given j) e (are.given_refs j);
+  given_refs = λ j. refs_after a b (refs_at t.given j) e (are.given_refs j);
   given = λ j v lt. shows_kept a b v (kind_at (system_of f).inputs j) (refs_at t.given j) ((found f v).given j) e (are.given_refs j) (are.given j v lt);
 }
 
 pub flows_kept : (f : Flat) (a b : Diagrams) (r : FlowRefs) → Extends a b → AreFlowRefs f a.nodes r → AreFlowRefs f b.nodes r
 flows_kept f a b r e are = record {
   size = are.size;
-  on_refs = refs_kept a b r.on e are.on_refs;
-  bit_refs = λ k. refs_kept a b (refs_at r.bits k) e (are.bit_refs k);
+  on_refs = refs_after a b r.on e are.on_refs;
+  bit_refs = λ k. refs_after a b (refs_at r.bits k) e (are.bit_refs k);
   on_shows = λ k v row lt instant. e.kept (ref_at r.on k) (any_ref a.nodes r.on are.on_refs k) v ∙ are.on_shows k v row lt instant;
   shows = λ k v row x lt instant here. shows_kept a b v (kind_at (system_of f).kinds k) (refs_at r.bits k) x e (are.bit_refs k)
       (are.shows k v row x lt instant here);
@@ -65,7 +65,7 @@ around_kept a b x e is = record {
 
 pub one_after_kept : (f : Flat) (a b : Diagrams) (m : ℕ) (refs : List ℕ) → Extends a b → IsAfter f a.nodes m refs → IsAfter f b.nodes m refs
 one_after_kept f a b m refs e is = record {
-  are_refs = refs_kept a b refs e is.are_refs;
+  are_refs = refs_after a b refs e is.are_refs;
   shows = λ v row lt instant. shows_same a.nodes b.nodes v (kind_at (memory_kinds (system_of f)) m) refs refs _ (bits_kept a b refs e is.are_refs v)
       (is.shows v row lt instant);
 }
@@ -83,7 +83,7 @@ after_set f nodes shown m refs lt are is = record {
     | inl same ↦
         let here : slice_index_or (slice_set shown m (Some refs)) k Nothing ≡ Some refs = ap (λ n. slice_index_or (slice_set shown m (Some refs)) n Nothing)
         same ∙ get_or-set_same shown m (Some refs) Nothing lt in
-        let list : refs ≡ other = some_is refs other (sym here ∙ e) in
+        let list : refs ≡ other = some_same refs other (sym here ∙ e) in
         subst (λ (l : List ℕ). IsAfter f nodes k l) list (subst (λ n. IsAfter f nodes n refs) (sym same) is)
     | inr apart ↦ are.each k other (sym (get_or-set_other shown m k (Some refs) Nothing apart) ∙ e)
   ];
@@ -196,5 +196,5 @@ memory_item_at f m memory table is = by f.memories m is
     by : (ms : List FlatMemory) (k : ℕ) → slice_get ms k ≡ Some memory
         → nth_item (map (λ (y : Kept). y.item) (map (kept_of f.memories) ms)) k ≡ memory_item f.memories memory
     by [] k e = let bad : Nothing ≡ Some memory = e in absurd (cc)
-    by (y ∷ ys) zero e = ap (memory_item f.memories) (some_is y memory e)
+    by (y ∷ ys) zero e = ap (memory_item f.memories) (some_same y memory e)
     by (y ∷ ys) (suc k) e = by ys k e

@@ -17,7 +17,7 @@ use Rattle.rv_flat.specs.declared.parts.Bit.TheVariants as variant
 use Rattle.rv_flat.specs.Lists.{tick_places}
 use Rattle.rv_control.specs.Named.{truth_at, tick_variable}
 use Rattle.rv_symbolic.specs.Growing.{Extends, Makes}
-use Rattle.rv_symbolic.proofs.Extending.{extends_refl, extends_trans, refs_after as refs_kept}
+use Rattle.rv_symbolic.proofs.Extending.{extends_refl, extends_trans, refs_after}
 use Rattle.rv_bits.specs.Bits.{Spells}
 use Rattle.rv_bits.specs.Shown.{refs_at}
 use Rattle.rv_bits.specs.Tables.{AreTickRefs, AreBits, AreBitLists, ticks_in}
@@ -35,7 +35,7 @@ pub tick_pushed : (names : List Variable) (a b c : Diagrams) (ticks : List (Opti
 tick_pushed names a b c ticks t refs r are made = record {
   extends = extends_trans a b c are.extends made.extends;
   size = length-append refs (r ∷ []) ∙ ap (λ n. n + 1) are.size ∙ sym (length-append ticks (t ∷ []));
-  found = refs_more c.nodes refs r (refs_kept b c refs made.extends are.found) made.found;
+  found = refs_more c.nodes refs r (refs_after b c refs made.extends are.found) made.found;
   means = λ k v lt. elim (cases_lt k (length ticks)) [
     | inl below ↦ ap (λ x. value_of c.nodes x v) (ref_before refs r k (omega (arith, are.size)))
         ∙ made.extends.kept (ref_at refs k) (any_ref b.nodes refs are.found k) v ∙ are.means k v below
@@ -90,7 +90,7 @@ pub are_bits_kept : (a b : Diagrams) (names : List Variable) (owned : ℕ → Va
     → AreBits a.nodes names owned count refs → AreBits b.nodes names owned count refs
 are_bits_kept a b names owned count refs e are = record {
   size = are.size;
-  found = refs_kept a b refs e are.found;
+  found = refs_after a b refs e are.found;
   means = λ n v lt. bits_kept a b refs e are.found v n ∙ are.means n v lt;
 }
 

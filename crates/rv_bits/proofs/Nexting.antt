@@ -37,7 +37,7 @@ use Rattle.rv_bits.proofs.Keeping.{one_after_kept}
 use Rattle.rv_bits.specs.Tables.{ticks_in}
 use Rattle.rv_bits.proofs.Making.{any_ref, ref_before, ref_last}
 use Rattle.rv_bits.proofs.Showing.{shows_truth}
-use Rattle.rv_agreement.proofs.Controls.{no_flag}
+use Rattle.rv_types.proofs.ChainLaws.{no_flag}
 
 -- one variable more is counted
 pub copies_more : (vs : List Bit) (i : ℕ) (x : Bit) → drop i vs ≡ x ∷ drop (i + 1) vs

@@ -38,7 +38,7 @@ use Rattle.rv_bits.specs.Shown.{IsNumber, as_number, Shows, refs_at, found, is_t
 use Rattle.rv_bits.specs.Reads.{AreCountedIn, ShowsTo, true_at}
 use Rattle.rv_bits.proofs.Codes.{bit_past, same_numbers}
 use Rattle.rv_bits.proofs.Making.{any_ref, bit_none, bits_kept}
-use Rattle.rv_agreement.proofs.Controls.{no_flag}
+use Rattle.rv_types.proofs.ChainLaws.{no_flag}
 
 -- NUMBERS
 

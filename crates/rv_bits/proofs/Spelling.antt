@@ -28,7 +28,7 @@ use Rattle.rv_flat.specs.Steps.{label_counts, memory_kinds, input_kinds}
 use Rattle.rv_flat.specs.Systems.{kept_of, tick_flows_of}
 use Rattle.rv_symbolic.specs.Growing.{Extends}
 use Rattle.rv_symbolic.specs.Linked.{AreRefs}
-use Rattle.rv_symbolic.proofs.Extending.{extends_trans, refs_after as refs_kept}
+use Rattle.rv_symbolic.proofs.Extending.{extends_trans, refs_after}
 use Rattle.rv_bits.specs.Shown.{IsNumber, as_number, Shows, refs_at}
 use Rattle.rv_bits.specs.Tables.{AreTickRefs, AreBits, AreBitLists, AreAllBits, memory_bit}
 use Rattle.rv_bits.specs.Whole.{AreTablesRead}
@@ -88,7 +88,7 @@ tables_read f old a b c t ticks kept given =
       kept = all_kept;
       given = given.each;
       tables = record {
-        tick_refs = refs_kept a c t.ticks ac ticks.found;
+        tick_refs = refs_after a c t.ticks ac ticks.found;
         ticks = λ k v lt. ac.kept (ref_at t.ticks k) (any_ref a.nodes t.ticks ticks.found k) v ∙ ticks.means k v lt;
         kept_refs = list_refs labels names (memory_bit f) (kind_at (memory_kinds f)) c.nodes (length f.memories) t.kept kept.size all_kept;
         kept = λ m v lt.

@@ -1,5 +1,5 @@
 -- The certificate of a closed claim, put together from its parts.
-use Rattle.std.proofs.Common.{◌≡◌, ℕ, zero, suc, ◌^◌, ◌<◌, true, false, List, [], ◌∷◌, length, Some, IsTrue, slice_get, arith, refl, sym, ap, ◌∙◌}
+use Rattle.std.proofs.Common.{◌≡◌, ℕ, ◌^◌, ◌<◌, true, false, List, [], ◌∷◌, length, Some, IsTrue, slice_get, arith, sym, ap, ◌∙◌}
 use Rattle.std.proofs.Common.{subst, ◌⊎◌, inl, inr}
 use Rattle.std.proofs.lemmas.Bool.{cases_Bool}
 use Rattle.std.proofs.lemmas.Option.{slice_get_within}
@@ -26,12 +26,8 @@ use Rattle.rv_boxes.specs.Certifying.{IsJudgeable, AreEntriesOf, IsLocationOf, I
 use Rattle.rv_boxes.specs.Passing.{IsProof}
 use Rattle.rv_boxes.proofs.Building.{accepted, plain}
 use Rattle.rv_boxes.proofs.Rounding.{setting_first, setting_others, in_a_case}
-use Rattle.rv_walk.proofs.Stages.{rest_from as and_not}
-
-some_at : {X : Type 0} (xs : List X) (j : ℕ) → j < length xs → (x : X) × (slice_get xs j ≡ Some x)
-some_at [] j l = absurd (omega arith)
-some_at (x ∷ xs) zero l = (x, refl)
-some_at (x ∷ xs) (suc j) l = some_at xs j (omega arith)
+use Rattle.rv_walk.proofs.Stages.{rest_from}
+use Rattle.rv_base.proofs.Lists.{item_at}
 
 module _ (s : System) (c : BoxClaim) (from : Frozen) (rows wanted : List Row) (setting : IsSetting s c from rows) (cases : List Case)
     (are : AreCases s from cases)
@@ -44,13 +40,13 @@ module _ (s : System) (c : BoxClaim) (from : Frozen) (rows wanted : List Row) (s
   in_from v i = subst (λ (f : Frozen). IsIn f v) is.control i
 
   entry_there : (j : ℕ) → j < length cases → (e : Entry) × (slice_get es j ≡ Some e)
-  entry_there j m = let size = entries.size in some_at es j (omega (arith, m, size))
+  entry_there j m = let size = entries.size in item_at es j (omega (arith, m, size))
 
   built_entry : (j : ℕ) (e : Entry) → slice_get l.entries j ≡ Some e → IsBuiltEntry s l wanted e
   built_entry j e at =
       let there : slice_get es j ≡ Some e = ap (λ (xs : List Entry). slice_get xs j) (sym is.entries) ∙ at in
       let size = entries.size in
-      let (case, case_at) = some_at cases j (omega (arith, slice_get_within es j e there, size)) in
+      let (case, case_at) = item_at cases j (omega (arith, slice_get_within es j e there, size)) in
       let x = entries.each j case e case_at there in
       x.built l is.control is.state
 
@@ -129,7 +125,7 @@ module _ (s : System) (f : Frame) (c : Claim) (first : Frozen) (from_first : Lis
       where
         go : (has first v ≡ true) ⊎ (has first v ≡ false) → IsTrue (s.observer v)
         go (inl i) = one.good v i t
-        go (inr n) = let os = can.others in let r = os.rest in two.good v (r.exact v ∙ and_not (has c.reached v) (has first v) t.reached n) t
+        go (inr n) = let os = can.others in let r = os.rest in two.good v (r.exact v ∙ rest_from (has c.reached v) (has first v) t.reached n) t
 
     pub built_certificate : (x : Certificate) → x.locations ≡ initial ∷ rest ∷ [] → IsProof s x
     built_certificate x are = let l = can.least in let m = l.least in record {
@@ -149,7 +145,7 @@ module _ (s : System) (f : Frame) (c : Claim) (first : Frozen) (from_first : Lis
           starts = λ v i. subst (λ (g : Frozen). IsIn g v) (sym one.control) ((initial_set.exact v).1 i);
           no_rows = one.entry;
           others = λ v r denied. let os = can.others in let rest_is = os.rest in
-              subst (λ (g : Frozen). IsIn g v) (sym two.control) (rest_is.exact v ∙ and_not (has c.reached v) (has first v) r
+              subst (λ (g : Frozen). IsIn g v) (sym two.control) (rest_is.exact v ∙ rest_from (has c.reached v) (has first v) r
               (not_first v denied (cases_Bool (has first v))));
           bounds = let st = others_setting in subst (AreBounds s (claim_of c)) (sym two.entry) st.bounds;
           initial_is = subst (λ (rows : List Row). IsBuiltLocation s (claim_of c) rows initial) (sym two.entry) one.built;

@@ -2,7 +2,6 @@
 use Rattle.std.proofs.Common.{◌≡◌, ◌≢◌, ℕ, ◌+◌, ◌<◌, ◌≤◌, ℤ, pos, negsuc, ◌≤ℤ◌, List, length, Option, Some, arith, sym, ◌∙◌, subst, ◌⊎◌, inl, inr}
 use Rattle.std.proofs.Common.{None as Nothing}
 use Rattle.std.specs.Prelude.{slice_set, IfSome}
-use Rattle.std.proofs.lemmas.Int.{ints}
 use Rattle.std.proofs.lemmas.Bool.{cases_lt, cases_eq}
 use Rattle.std.proofs.lemmas.List.{get_or-set_other, get_or-set_same, length-set}
 use Rattle.std.proofs.lemmas.Option.{same_Some}
@@ -12,10 +11,8 @@ use Rattle.rv_proofs.specs.Boxes.{HasOneColumn, IsUnitAt}
 use Rattle.rv_boxes.specs.declared.ends.End.{End}
 use Rattle.rv_boxes.specs.Ends.{IsOnlyColumn, IsClosest, IsEnd, IsCloser, IsEndWith, AreEndsAmong, end_at, no_end}
 use Rattle.rv_boxes.proofs.BoxLemmas.{unit_has_one}
-use Rattle.rv_proofs.proofs.Claiming.{minus_one as not_less, plus_one as not_one}
-
-chain : (a b c : ℤ) → a ≤ℤ b → b ≤ℤ c → a ≤ℤ c
-chain a b c l m = omega (arith, ints)
+use Rattle.rv_proofs.proofs.Claiming.{minus_one, plus_one}
+use Rattle.rv_base.proofs.Numbers.{le_chain}
 
 -- a row with one column has it
 pub only_has_one : (r : Row) (k : ℕ) → IsOnlyColumn r k → HasOneColumn r
@@ -74,7 +71,7 @@ module _ (rows : List Row) (n : ℕ) where
           is_unit (inr same) = subst (λ (i : ℕ). IsUnitAt (row_at rows i) k c) (sym same) unit
 
           go : (j : ℕ) → j < n + 1 → IsUnitAt (row_at rows j) k c → (j < n) ⊎ (n ≤ j) → (row_at rows closer.at).bound ≤ℤ (row_at rows j).bound
-          go j l u (inl less) = let x = e.some in chain (row_at rows closer.at).bound (row_at rows p).bound (row_at rows j).bound before (x.closest j less u)
+          go j l u (inl less) = let x = e.some in le_chain (row_at rows closer.at).bound (row_at rows p).bound (row_at rows j).bound before (x.closest j less u)
           go j l u (inr more) = last j l more
       found Nothing e kept before = record {
         there = let q = here kept in omega (arith, q);
@@ -106,15 +103,15 @@ module _ (rows : List Row) (n : ℕ) where
     pub ends_none : ¬ HasOneColumn (row_at rows n) → AreEndsAmong rows (n + 1) (length ends) ends
     ends_none none = record {
       size = are.size;
-      high = λ k l. end_same k (pos 1) (end_at ends k).high (are.high k l) (λ u. none (unit_has_one (row_at rows n) k (pos 1) not_one u));
-      low = λ k l. end_same k (negsuc 0) (end_at ends k).low (are.low k l) (λ u. none (unit_has_one (row_at rows n) k (negsuc 0) not_less u));
+      high = λ k l. end_same k (pos 1) (end_at ends k).high (are.high k l) (λ u. none (unit_has_one (row_at rows n) k (pos 1) plus_one u));
+      low = λ k l. end_same k (negsuc 0) (end_at ends k).low (are.low k l) (λ u. none (unit_has_one (row_at rows n) k (negsuc 0) minus_one u));
     }
 
     pub ends_outside : (k : ℕ) → IsOnlyColumn (row_at rows n) k → length ends ≤ k → AreEndsAmong rows (n + 1) (length ends) ends
     ends_outside k only past = record {
       size = are.size;
-      high = λ j l. end_beside j k (pos 1) (end_at ends j).high not_one only (λ e. omega (arith, l, past, e)) (are.high j l);
-      low = λ j l. end_beside j k (negsuc 0) (end_at ends j).low not_less only (λ e. omega (arith, l, past, e)) (are.low j l);
+      high = λ j l. end_beside j k (pos 1) (end_at ends j).high plus_one only (λ e. omega (arith, l, past, e)) (are.high j l);
+      low = λ j l. end_beside j k (negsuc 0) (end_at ends j).low minus_one only (λ e. omega (arith, l, past, e)) (are.low j l);
     }
 
     pub ends_taken : (k : ℕ) → IsOnlyColumn (row_at rows n) k → k < length ends → (number : ℤ) → number ≡ coefficient k (row_at rows n) → (old next : End)
@@ -129,7 +126,7 @@ module _ (rows : List Row) (n : ℕ) where
             (end_step k (pos 1) old.high next.high number only is (subst (λ (x : End). IsEnd rows n k (pos 1) x.high) was (are.high k inside)) high))
         | inr apart ↦
             subst (λ (x : End). IsEnd rows (n + 1) j (pos 1) x.high) (sym (get_or-set_other ends k j next no_end apart))
-            (end_beside j k (pos 1) (end_at ends j).high not_one only apart (are.high j l))
+            (end_beside j k (pos 1) (end_at ends j).high plus_one only apart (are.high j l))
       ];
       low = λ j l. elim (cases_eq j k) [
         | inl e ↦
@@ -138,7 +135,7 @@ module _ (rows : List Row) (n : ℕ) where
             (end_step k (negsuc 0) old.low next.low number only is (subst (λ (x : End). IsEnd rows n k (negsuc 0) x.low) was (are.low k inside)) low))
         | inr apart ↦
             subst (λ (x : End). IsEnd rows (n + 1) j (negsuc 0) x.low) (sym (get_or-set_other ends k j next no_end apart))
-            (end_beside j k (negsuc 0) (end_at ends j).low not_less only apart (are.low j l))
+            (end_beside j k (negsuc 0) (end_at ends j).low minus_one only apart (are.low j l))
       ];
     }
       where

@@ -11,7 +11,8 @@ use Rattle.rv_symbolic.proofs.Extending.{extends_trans, grows_extends}
 use Rattle.rv_walk.specs.Ends.{has}
 use Rattle.rv_boxes.specs.Rounds.{IsInCases}
 use Rattle.rv_boxes.specs.Layering.{IsCollected, IsTakenAt}
-use Rattle.rv_boxes.proofs.Composing.{some_of, more_cases}
+use Rattle.rv_boxes.proofs.Composing.{more_cases}
+use Rattle.rv_base.proofs.Truths.{either_then}
 
 -- a condition more, in a store
 module _ (s0 s1 s2 : Diagrams) (condition : Frozen) (sum set all : ℕ) (found : IsRef s0.nodes sum)
@@ -34,7 +35,7 @@ module _ (s : System) (c : BoxClaim) where
   collected_open old new sum r condition found means all = record { found = found; exact = λ v. (there v, back v) }
     where
       there : (v : Valuation) → value_of new.nodes r v ≡ true → (value_of old.nodes sum v ≡ true) ⊎ (IsIn condition v × IsTaken s c v)
-      there v e = go (some_of (value_of old.nodes sum v) (has condition v) (sym (means v) ∙ e))
+      there v e = go (either_then (value_of old.nodes sum v) (has condition v) (sym (means v) ∙ e))
         where
           go : (value_of old.nodes sum v ≡ true) ⊎ ((value_of old.nodes sum v ≡ false) × (has condition v ≡ true)) → (value_of old.nodes sum v ≡ true)
               ⊎ (IsIn condition v × IsTaken s c v)

@@ -17,14 +17,8 @@ use Rattle.rv_boxes.specs.declared.claim.Claim.{Claim}
 use Rattle.rv_boxes.specs.Claiming.{turned, claim_of}
 use Rattle.rv_boxes.specs.Limits.{HaveNotFallen, limit_at}
 use Rattle.rv_boxes.specs.Rounds.{IsKeptClaim, IsHeld, IsAbove, HasGrown, IsInCases, left_of}
-
-pub neither : (a b : Bool) → (a || b) ≡ false → (a ≡ false) × (b ≡ false)
-neither false b e = (refl, e)
-neither true b e = cc
-
-pub some_of : (a b : Bool) → (a || b) ≡ true → (a ≡ true) ⊎ ((a ≡ false) × (b ≡ true))
-some_of true b e = inl refl
-some_of false b e = inr (refl, e)
+use Rattle.rv_base.proofs.Truths.{either_then}
+use Rattle.std.proofs.lemmas.Bool.{or_parts}
 
 -- bounds from below as limits of opposites
 pub turned_back : (o : Option ℤ) (b : ℤ) → turned o ≡ Some b → o ≡ Some (pos 0 -ℤ b)
@@ -110,9 +104,9 @@ module _ (s : System) (f : Frame) (base : BoxClaim) where
     kept = h.kept;
     above = above_both x y z g.above h.above;
     below = λ m k. h.below m (g.below m k);
-    still = λ e. h.still (neither a b e).1 ∙ g.still (neither a b e).0;
+    still = λ e. h.still (or_parts a b e).1 ∙ g.still (or_parts a b e).0;
     held = held;
-    less = λ e v. less (some_of a b e) v;
+    less = λ e v. less (either_then a b e) v;
   }
     where
       held : (v : Valuation) → P v ⊎ Q v → IsHeld s base (claim_of z) v

@@ -1,5 +1,5 @@
 -- Cases that are cut out of others.
-use Rattle.std.proofs.Common.{◌≡◌, ◌⊎◌, ℕ, ◌+◌, ◌<◌, ◌≤◌, Bool, true, false, ◌&&◌, List, [], ◌∷◌, ◌++◌, length, Option, Some, slice_get, arith, refl, sym, ap}
+use Rattle.std.proofs.Common.{◌≡◌, ◌⊎◌, ℕ, ◌+◌, ◌<◌, ◌≤◌, Bool, true, false, ◌&&◌, List, [], ◌∷◌, ◌++◌, length, Option, Some, slice_get, arith, sym, ap}
 use Rattle.std.proofs.Common.{◌∙◌, subst, inl, inr}
 use Rattle.std.proofs.Common.{None as Nothing}
 use Rattle.std.specs.Prelude.{MatchOption, MatchBool}
@@ -17,20 +17,10 @@ use Rattle.rv_symbolic.proofs.Extending.{extends_trans, grows_extends, needed_sa
 use Rattle.rv_symbolic.proofs.Reading.{control-value, condition-value, condition_set, valuation_state}
 use Rattle.rv_walk.specs.Ends.{has}
 use Rattle.rv_boxes.specs.Cutting.{both_of, IsFrozenSome, IsMeet, case_with, HasCut, AreCut}
-use Rattle.rv_boxes.proofs.Reaching.{push_before}
-use Rattle.rv_symbolic.proofs.Parting.{kept-append as push_kept, new-append as push_last}
-
-pub both_true : (a b : Bool) → (a && b) ≡ true → (a ≡ true) × (b ≡ true)
-both_true true b e = (refl, e)
-both_true false b e = cc
-
-pub true_both : (a b : Bool) → a ≡ true → b ≡ true → (a && b) ≡ true
-true_both true b e d = d
-true_both false b e d = cc
-
-pub clash : (b : Bool) → b ≡ true → b ≡ false → ⊥
-clash true e d = cc
-clash false e d = cc
+use Rattle.rv_symbolic.proofs.Parting.{kept-append}
+use Rattle.rv_base.proofs.Lists.{get_push, push_cases}
+use Rattle.rv_base.proofs.Truths.{both_of as both_true, clash}
+use Rattle.std.proofs.lemmas.Bool.{and_from}
 
 -- two sets meet in a store
 module _ (s0 s1 s2 s3 : Diagrams) (a b : Frozen) (one other both : ℕ) (p : Answers s0 s1 (value_of a.nodes a.root) one)
@@ -120,7 +110,7 @@ module _ (s : System) (is : IsSystem s) (from : Frozen) (known : List Case) (are
           go v i b at on inside l (inr more) =
               let e : i ≡ n = omega (arith, l, more) in
               let on_c : IsIn c.condition v = subst (λ (x : Case). IsIn x.condition v) (same_there i b e at) on in
-              absurd (clash (both_of c.condition control v) (true_both (has c.condition v) (has control v) on_c inside) (none v))
+              absurd (clash (both_of c.condition control v) (and_from (has c.condition v) (has control v) on_c inside) (none v))
 
       module _ (old : List Case) (h : AreCut s known n control old) (cut : Case) (f : Frozen) (meet : IsMeet s.variables c.condition control f)
           (made : cut ≡ case_with c f) where
@@ -139,10 +129,10 @@ module _ (s : System) (is : IsSystem s) (from : Frozen) (known : List Case) (are
 
         cut_some : AreCut s known (n + 1) control (old ++ cut ∷ [])
         cut_some = record {
-          each = λ j x at. each x j (push_before old cut x j at);
+          each = λ j x at. each x j (push_cases old cut x j at);
           covered = λ v i b l at on inside. go v i b at on inside l (cases_lt i n);
-          apart = λ i j b x v b_at x_at b_on x_on. apart i j b x v (push_before old cut b i b_at) (push_before old cut x j x_at) b_on x_on;
-          within = λ j x v at on. within x v j (push_before old cut x j at) on;
+          apart = λ i j b x v b_at x_at b_on x_on. apart i j b x v (push_cases old cut b i b_at) (push_cases old cut x j x_at) b_on x_on;
+          within = λ j x v at on. within x v j (push_cases old cut x j at) on;
         }
           where
             each : (x : Case) (j : ℕ) → (slice_get old j ≡ Some x) ⊎ ((j ≡ length old) × (cut ≡ x)) → IsCaseOf s x
@@ -152,12 +142,12 @@ module _ (s : System) (is : IsSystem s) (from : Frozen) (known : List Case) (are
             go : (v : Valuation) (i : ℕ) (b : Case) → slice_get known i ≡ Some b → IsIn b.condition v → IsIn control v → i < n + 1 → (i < n) ⊎ (n ≤ i)
                 → (j : ℕ) × (x : Case) × (slice_get (old ++ cut ∷ []) j ≡ Some x) × IsIn x.condition v
             go v i b at on inside l (inl less) =
-                let (j, x, j_at, j_on) = h.covered v i b less at on inside in (j, x, push_kept old cut x j j_at, j_on)
+                let (j, x, j_at, j_on) = h.covered v i b less at on inside in (j, x, kept-append old cut x j j_at, j_on)
             go v i b at on inside l (inr more) =
                 let e : i ≡ n = omega (arith, l, more) in
                 let on_c : IsIn c.condition v = subst (λ (x : Case). IsIn x.condition v) (same_there i b e at) on in
-                let on_f : IsIn f v = meet.exact v ∙ true_both (has c.condition v) (has control v) on_c inside in
-                (length old, cut, push_last old cut, subst (λ (x : Case). IsIn x.condition v) (sym made) on_f)
+                let on_f : IsIn f v = meet.exact v ∙ and_from (has c.condition v) (has control v) on_c inside in
+                (length old, cut, get_push old cut, subst (λ (x : Case). IsIn x.condition v) (sym made) on_f)
 
             apart : (i j : ℕ) (b x : Case) (v : Valuation) → (slice_get old i ≡ Some b) ⊎ ((i ≡ length old) × (cut ≡ b))
                 → (slice_get old j ≡ Some x) ⊎ ((j ≡ length old) × (cut ≡ x)) → IsIn b.condition v → IsIn x.condition v → i ≡ j

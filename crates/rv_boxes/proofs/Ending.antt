@@ -15,7 +15,7 @@ use Rattle.rv_boxes.specs.Claiming.{claim_of}
 use Rattle.rv_boxes.specs.Rounds.{IsLeastClaim}
 use Rattle.rv_boxes.specs.Certifying.{IsBad}
 use Rattle.rv_boxes.specs.Passing.{IsProof, IsEndOf}
-use Rattle.rv_boxes.proofs.Cuts.{clash}
+use Rattle.rv_base.proofs.Truths.{clash}
 
 pub ends_good : (s : System) (f : Frame) (c : Claim) (x : Certificate) → IsLeastClaim s f c → IsProof s x → IsGood s (claim_of c)
     → IsEndOf s f.thresholds (Good x)

@@ -1,10 +1,9 @@
 -- The premises and the updates of a case.
-use Rattle.std.proofs.Common.{◌≡◌, ◌≢◌, ℕ, zero, suc, ◌^◌, ◌<◌, ◌≤◌, ℤ, pos, negsuc, List, [], ◌∷◌, ◌++◌, length, get_or, All, Some, slice_get, arith}
+use Rattle.std.proofs.Common.{◌≡◌, ℕ, ◌^◌, ◌<◌, ◌≤◌, ℤ, pos, negsuc, List, [], ◌++◌, length, get_or, All, Some, slice_get, arith}
 use Rattle.std.proofs.Common.{refl, sym, ap, ◌∙◌, subst, ◌⊎◌, inl, inr}
 use Rattle.std.proofs.Common.{None as Nothing}
 use Rattle.std.specs.Int.RustNames.{unsigned_abs}
-use Rattle.std.proofs.lemmas.Bool.{cases_eq}
-use Rattle.std.proofs.lemmas.Option.{slice_get_within, same_Some, slice_get-get_or}
+use Rattle.std.proofs.lemmas.Option.{slice_get_within, slice_get-get_or}
 use Rattle.std.proofs.lemmas.List.{length-append}
 use Rattle.std.proofs.lemmas.List.Elements.{All-append, All-weaker, All-nil, All-from_get_or}
 use Rattle.rv_diagram.specs.Nodes.{Valuation}
@@ -30,21 +29,7 @@ use Rattle.rv_boxes.specs.Opening.{IsFrameOf, IsTold, HasTests, AreUpdates, AreO
 use Rattle.rv_proofs.specs.Cases.{IsCaseOf}
 use Rattle.rv_boxes.specs.Rounds.{IsSetting}
 use Rattle.rv_proofs.proofs.Claims.{update_at, updates_long}
-
--- a number is in a list, with its place, or it is not
-find_in : (xs : List ℕ) (t : ℕ) → ((i : ℕ) × (slice_get xs i ≡ Some t)) ⊎ ((i : ℕ) → slice_get xs i ≡ Some t → ⊥)
-find_in [] t = inr (λ i e. cc)
-find_in (x ∷ xs) t = go (cases_eq x t) (find_in xs t)
-  where
-    go : (x ≡ t) ⊎ (x ≢ t) → ((i : ℕ) × (slice_get xs i ≡ Some t)) ⊎ ((i : ℕ) → slice_get xs i ≡ Some t → ⊥)
-        → ((i : ℕ) × (slice_get (x ∷ xs) i ≡ Some t)) ⊎ ((i : ℕ) → slice_get (x ∷ xs) i ≡ Some t → ⊥)
-    go (inl e) r = inl (0, ap Some e)
-    go (inr ne) (inl (i, at)) = inl (suc i, at)
-    go (inr ne) (inr none) = inr no
-      where
-        no : (i : ℕ) → slice_get (x ∷ xs) i ≡ Some t → ⊥
-        no zero e = ne (same_Some x t e)
-        no (suc i) e = none i e
+use Rattle.rv_base.proofs.Lists.{found_or_not}
 
 -- the opposites of updates can be updates
 pub opposite_updates : (width many : ℕ) (forms opposites : List Form) → AreUpdates width many forms → AreOppositeForms forms opposites
@@ -130,7 +115,7 @@ module _ (s : System) (is : IsSystem s) (f : Frame) (frame : IsFrameOf s f) (cas
     pub told_row : (t : ℕ) → t < s.tests
         → ((v : Valuation) → IsIn case.condition v → s.row v t ≡ Some (row_at told t))
         ⊎ (((v : Valuation) → IsIn case.condition v → s.row v t ≡ Nothing) × (row_at told t ≡ nothing))
-    told_row t known = go (find_in case.tests t)
+    told_row t known = go (found_or_not case.tests t)
       where
         go : ((i : ℕ) × (slice_get case.tests i ≡ Some t)) ⊎ ((i : ℕ) → slice_get case.tests i ≡ Some t → ⊥)
             → ((v : Valuation) → IsIn case.condition v → s.row v t ≡ Some (row_at told t))

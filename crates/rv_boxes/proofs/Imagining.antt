@@ -16,7 +16,8 @@ use Rattle.rv_proofs.specs.Systems.{System}
 use Rattle.rv_proofs.specs.Cases.{IsImage}
 use Rattle.rv_proofs.specs.declared.report.Case.{Case}
 use Rattle.rv_boxes.specs.Imaging.{AreImages, AreNone}
-use Rattle.rv_boxes.proofs.Cuts.{both_true as and_both}
+use Rattle.rv_base.proofs.Truths.{all_three, both_of, of_not_false}
+use Rattle.rv_diagram.proofs.Canon.{same_triple}
 
 some_nothing : {X : Type 0} (x : X) (o : Option X) → o ≡ Nothing → o ≡ Some x → ⊥
 some_nothing x o none some = different x (sym none ∙ some)
@@ -64,38 +65,22 @@ image_there s from cases images are place lt c at image is =
     go Nothing e = tt
     go (Some set) e = are.each place c set at (sym e)
 
-all_three : (a b c : Bool) → a ≡ true → b ≡ true → c ≡ true → (a && (b && c)) ≡ true
-all_three true true true p q r = refl
-all_three true true false p q r = r
-all_three true false c p q r = q
-all_three false b c p q r = p
-
 abbrev pub is_triple : Triple → Triple → Bool
 is_triple x y = eqb x.var y.var && (eqb x.lo y.lo && eqb x.hi y.hi)
 
-same_triple : (x y : Triple) → x.var ≡ y.var → x.lo ≡ y.lo → x.hi ≡ y.hi → x ≡ y
-same_triple x y p q r =
-    ap (λ (n : ℕ). (let t : Triple = record { var = n; lo = x.lo; hi = x.hi } in t)) p
-    ∙ ap (λ (n : ℕ). (let t : Triple = record { var = y.var; lo = n; hi = x.hi } in t)) q
-    ∙ ap (λ (n : ℕ). (let t : Triple = record { var = y.var; lo = y.lo; hi = n } in t)) r
-
 triple_decides : (x y : Triple) → Decides (is_triple x y) (x ≡ y)
 triple_decides x y = (
-  λ e. let both = and_both (eqb x.var y.var) (eqb x.lo y.lo && eqb x.hi y.hi) e in
-      let rest = and_both (eqb x.lo y.lo) (eqb x.hi y.hi) both.1 in
+  λ e. let both = both_of (eqb x.var y.var) (eqb x.lo y.lo && eqb x.hi y.hi) e in
+      let rest = both_of (eqb x.lo y.lo) (eqb x.hi y.hi) both.1 in
       same_triple x y ((Decides-eqb x.var y.var).0 both.0) ((Decides-eqb x.lo y.lo).0 rest.0) ((Decides-eqb x.hi y.hi).0 rest.1),
   λ e. subst (λ (z : Triple). is_triple x z ≡ true) e (all_three (eqb x.var x.var) (eqb x.lo x.lo) (eqb x.hi x.hi) ((Decides-eqb x.var x.var).1 refl)
       ((Decides-eqb x.lo x.lo).1 refl) ((Decides-eqb x.hi x.hi).1 refl)),
 )
 
-not_false : (b : Bool) → not b ≡ false → b ≡ true
-not_false true e = refl
-not_false false e = cc
-
 pub same_set : (a b : Frozen) (differ : Bool) → differ ≡ not (pointwise is_triple a.nodes b.nodes && eqb a.root b.root) → differ ≡ false → a ≡ b
 same_set a b differ is none =
-    let both = and_both (pointwise is_triple a.nodes b.nodes) (eqb a.root b.root)
-    (not_false (pointwise is_triple a.nodes b.nodes && eqb a.root b.root) (sym is ∙ none)) in
+    let both = both_of (pointwise is_triple a.nodes b.nodes) (eqb a.root b.root)
+    (of_not_false (pointwise is_triple a.nodes b.nodes && eqb a.root b.root) (sym is ∙ none)) in
     let nodes : a.nodes ≡ b.nodes = (slice_eq-Decides triple_decides a.nodes b.nodes (pointwise is_triple a.nodes b.nodes) refl).0 both.0 in
     let root : a.root ≡ b.root = (Decides-eqb a.root b.root).0 both.1 in
     ap (λ (ns : List Triple). (let f : Frozen = record { nodes = ns; root = a.root } in f)) nodes

@@ -15,8 +15,8 @@ use Rattle.rv_boxes.specs.declared.known.Known.{Known}
 use Rattle.rv_boxes.specs.declared.claim.Claim.{Claim}
 use Rattle.rv_boxes.specs.Rounds.{IsRest}
 use Rattle.rv_boxes.specs.Knowing.{IsWithin, IsWider, IsKnown, Knows}
-use Rattle.rv_terms.proofs.Adding.{or_right as into}
-use Rattle.rv_walk.proofs.Stages.{no_rest as not_out, rest_from as and_out, rest_parts as both_parts}
+use Rattle.rv_walk.proofs.Stages.{no_rest, rest_from, rest_parts}
+use Rattle.std.proofs.lemmas.Bool.{or_right}
 
 never : (a : Bool) → (a && not a) ≡ true → ⊥
 never true e = cc
@@ -41,7 +41,7 @@ nothing_is s m first from control without = record {
 pub wider_by : (s : System) (m : ℕ) (set next : Frozen) (e : Extended) → IsExtended m set next e → IsControlSet s e.all → IsWider s set e.all
 wider_by s m set next e x control = record {
   control = control;
-  within = λ v i. x.all_is v ∙ into (has next v) (has set v) i;
+  within = λ v i. x.all_is v ∙ or_right (has next v) (has set v) i;
 }
 
 pub wider_self : (s : System) (a b : Frozen) → b ≡ a → IsControlSet s a → IsWider s a b
@@ -51,14 +51,14 @@ pub wider_both : (s : System) (a b c : Frozen) → IsWider s a b → IsWider s b
 wider_both s a b c g h = record { control = h.control; within = λ v i. h.within v (g.within v i) }
 
 pub within_is : (a b : Frozen) → ((v : Valuation) → fresh_of b a v ≡ false) → IsWithin a b
-within_is a b none v i = not_out (has a v) (has b v) (none v) i
+within_is a b none v i = no_rest (has a v) (has b v) (none v) i
 
 -- what is known of what lies ahead
 pub knows_ahead : (s : System) (m : ℕ) (first reached all from : Frozen) (cases : List Case) → IsWider s reached all → IsWithout m all first from
     → IsControlSet s from → AreCases s from cases → Knows s first reached (record { from = from; cases = cases })
 knows_ahead s m first reached all from cases wider without control are = record {
   known = record { control = control; cases = are };
-  covers = λ v i off. without.exact v ∙ and_out (has all v) (has first v) (wider.within v i) off;
+  covers = λ v i off. without.exact v ∙ rest_from (has all v) (has first v) (wider.within v i) off;
 }
 
 -- what was known is enough
@@ -66,22 +66,22 @@ pub knows_still : (s : System) (m : ℕ) (first reached others : Frozen) (k : Kn
     → IsWithin others k.from → Knows s first reached k
 knows_still s m first reached others k known without within = record {
   known = known;
-  covers = λ v i off. within v (without.exact v ∙ and_out (has reached v) (has first v) i off);
+  covers = λ v i off. within v (without.exact v ∙ rest_from (has reached v) (has first v) i off);
 }
 
 -- what is known holds the control states that are not initial
 pub covered : (s : System) (m : ℕ) (first reached control : Frozen) (k : Known) → Knows s first reached k → IsWithout m reached first control
     → IsWithin control k.from
 covered s m first reached control k knows without v i =
-    let (on, off) = both_parts (has reached v) (has first v) (sym (without.exact v) ∙ i) in
+    let (on, off) = rest_parts (has reached v) (has first v) (sym (without.exact v) ∙ i) in
     knows.covers v on off
 
 -- the control states of a claim that are not initial are still there once it has grown
 pub rest_kept : (s : System) (first : Frozen) (before c : Claim) (old new : Frozen) (given : List Row) → IsRest s first before old given
     → IsWithin before.reached c.reached → ((v : Valuation) → has new v ≡ (has c.reached v && not (has first v))) → IsWithin old new
 rest_kept s first before c old new given rest within exact v i =
-    let (on, off) = both_parts (has before.reached v) (has first v) (sym (rest.exact v) ∙ i) in
-    exact v ∙ and_out (has c.reached v) (has first v) (within v on) off
+    let (on, off) = rest_parts (has before.reached v) (has first v) (sym (rest.exact v) ∙ i) in
+    exact v ∙ rest_from (has c.reached v) (has first v) (within v on) off
 
 -- what was known is enough where these are the same
 pub knows_kept : (s : System) (first : Frozen) (before c : Claim) (control : Frozen) (given : List Row) (k : Known) → Knows s first before.reached k
@@ -89,8 +89,8 @@ pub knows_kept : (s : System) (first : Frozen) (before c : Claim) (control : Fro
 knows_kept s first before c control given k knows rest exact = record {
   known = knows.known;
   covers = λ v i off.
-      let there = exact v ∙ and_out (has c.reached v) (has first v) i off in
-      let (on, out) = both_parts (has before.reached v) (has first v) (sym (rest.exact v) ∙ there) in
+      let there = exact v ∙ rest_from (has c.reached v) (has first v) i off in
+      let (on, out) = rest_parts (has before.reached v) (has first v) (sym (rest.exact v) ∙ there) in
       knows.covers v on out;
 }
 
@@ -98,5 +98,5 @@ knows_kept s first before c control given k knows rest exact = record {
 pub rest_within : (s : System) (first : Frozen) (c : Claim) (control : Frozen) (given : List Row) (k : Known) → Knows s first c.reached k
     → IsRest s first c control given → IsWithin control k.from
 rest_within s first c control given k knows rest v i =
-    let (on, off) = both_parts (has c.reached v) (has first v) (sym (rest.exact v) ∙ i) in
+    let (on, off) = rest_parts (has c.reached v) (has first v) (sym (rest.exact v) ∙ i) in
     knows.covers v on off

@@ -1,12 +1,12 @@
 -- Lists that grow along a loop: copies, rows of limits, loosened limits.
 use Rattle.std.proofs.Common.{◌≡◌, ◌≢◌, ℕ, suc, ◌+◌, ◌^◌, ◌<◌, ◌≤◌, ℤ, pos, negsuc, ◌+ℤ◌, ◌-ℤ◌, ◌*ℤ◌, ◌≤ℤ◌, ◌<ℤ◌, Bool, true, false, ◌||◌, List, []}
-use Rattle.std.proofs.Common.{◌∷◌, ◌++◌, length, take, All, Option, Some, slice_get, arith, refl, sym, ap, ◌∙◌, subst, ◌⊎◌, inl, inr}
+use Rattle.std.proofs.Common.{◌∷◌, ◌++◌, length, All, Option, Some, arith, refl, sym, ap, ◌∙◌, subst, ◌⊎◌, inl, inr}
 use Rattle.std.proofs.Common.{None as Nothing}
 use Rattle.std.specs.Int.RustNames.{unsigned_abs}
 use Rattle.std.proofs.lemmas.Int.{ints}
 use Rattle.std.proofs.lemmas.Bool.{cases_lt}
-use Rattle.std.proofs.lemmas.Option.{same_Some, slice_get_within, get_or_from_slice_get}
-use Rattle.std.proofs.lemmas.List.{take_more, length_push, get_or_push, get_or_append_left}
+use Rattle.std.proofs.lemmas.Option.{same_Some}
+use Rattle.std.proofs.lemmas.List.{length_push, get_or_push, get_or_append_left}
 use Rattle.std.proofs.lemmas.List.Elements.{All-contains, All-from_get_or}
 use Rattle.rv_rows.specs.declared.linear.Row.{Row}
 use Rattle.rv_rows.specs.declared.linear.Form.{Form}
@@ -21,13 +21,6 @@ use Rattle.rv_boxes.specs.Orders.{IsLeastAbove}
 use Rattle.rv_boxes.specs.Built.{nothing}
 use Rattle.rv_boxes.specs.Bounding.{IsLimitRow, AreLimitRows, IsNoted}
 use Rattle.rv_boxes.specs.Limits.{limit_at, IsLoosened, AreLoosened, HasChanged, room_of, room}
-
--- one element more of a copy
-pub take_push : {X : Type 0} (xs ys : List X) (i : ℕ) (x : X) → ys ≡ take i xs → slice_get xs i ≡ Some x → ys ++ x ∷ [] ≡ take (i + 1) xs
-take_push xs ys i x e at =
-    let l = slice_get_within xs i x at in
-    ap (λ zs. zs ++ x ∷ []) e
-    ∙ ap (λ y. take i xs ++ y ∷ []) (sym (get_or_from_slice_get xs i x x at)) ∙ sym (take_more xs i x l)
 
 -- the row of one memory's limit more
 pub limit_noted : (limits : List (Option ℤ)) (memories : ℕ) (sign : ℤ) (n : ℕ) (old new : List Row) → n < memories → AreLimitRows limits memories sign n old

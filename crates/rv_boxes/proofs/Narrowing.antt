@@ -10,7 +10,7 @@ use Rattle.rv_proofs.specs.declared.certificate.Certificate.{Certificate}
 use Rattle.rv_proofs.specs.declared.report.Layers.{Layers}
 use Rattle.rv_walk.specs.Ends.{has, IsLeastControl, IsGoodCertificate, AreBadLayers}
 use Rattle.rv_boxes.specs.Narrowed.{narrowed}
-use Rattle.rv_cases.proofs.Gathering.{same_truth as same_bool}
+use Rattle.rv_diagram.proofs.Several.{same_truth}
 
 module _ (s : System) (is : IsSystem s) (thresholds : List ℤ) (c : BoxClaim) (least : IsLeastClosed s thresholds c)
     (some_states : (v : Valuation) → IsTrue (c.reached v) → 0 < s.states)
@@ -58,7 +58,7 @@ module _ (s : System) (is : IsSystem s) (thresholds : List ℤ) (c : BoxClaim) (
     initial = is.initial;
     unticked = is.unticked;
     ticks = is.ticks;
-    allowed = λ v w same. same_bool (open_at v) (open_at w)
+    allowed = λ v w same. same_truth (open_at v) (open_at w)
         (λ i. (exact w).1 (taken_same v w same ((exact v).0 i)))
         (λ i. (exact v).1 (taken_same w v (λ x read. sym (same x read)) ((exact w).0 i)));
     row = is.row;

@@ -17,7 +17,8 @@ use Rattle.rv_boxes.specs.Cutting.{both_of}
 use Rattle.rv_boxes.specs.Opening.{IsToldOf}
 use Rattle.rv_boxes.specs.Rounds.{IsMet}
 use Rattle.rv_boxes.specs.Marking.{IsMarkOf, AreMarked, HasMarked}
-use Rattle.rv_boxes.proofs.Cuts.{both_true, true_both, clash}
+use Rattle.rv_base.proofs.Truths.{both_of as both_true, clash}
+use Rattle.std.proofs.lemmas.Bool.{and_from}
 
 some_nothing : {X : Type 0} (x : X) (o : Option X) → o ≡ Some x → o ≡ Nothing → ⊥
 some_nothing x (Some y) some none = cc
@@ -27,7 +28,7 @@ met_from : (from : Frozen) (c : Case) → (v : Valuation) × (both_of c.conditio
 met_from from c (v, e) = let (on, inside) = both_true (has c.condition v) (has from v) e in (v, on, inside)
 
 none_from : (from : Frozen) (c : Case) → ((v : Valuation) → both_of c.condition from v ≡ false) → (v : Valuation) → IsIn c.condition v → IsIn from v → ⊥
-none_from from c none v on inside = clash (both_of c.condition from v) (true_both (has c.condition v) (has from v) on inside) (none v)
+none_from from c none v on inside = clash (both_of c.condition from v) (and_from (has c.condition v) (has from v) on inside) (none v)
 
 module _ (f : Frame) (from : Frozen) (cases : List Case) where
   -- no marks

@@ -1,9 +1,7 @@
 -- Lists of multipliers and of entries that grow along a loop.
-use Rattle.std.proofs.Common.{◌≡◌, ℕ, ◌+◌, ◌<◌, ◌≤◌, List, [], ◌∷◌, ◌++◌, length, Some, slice_get, arith, sym, ap, ◌∙◌, subst, ◌⊎◌, inl, inr}
-use Rattle.std.proofs.lemmas.Bool.{cases_lt}
+use Rattle.std.proofs.Common.{◌≡◌, ℕ, ◌+◌, List, [], ◌∷◌, ◌++◌, length, Some, slice_get, arith, sym, ap, ◌∙◌, subst, ◌⊎◌, inl, inr}
 use Rattle.std.proofs.lemmas.Option.{same_Some, slice_get_within, slice_get-get_or, get_or_from_slice_get}
-use Rattle.std.proofs.lemmas.List.{length_push, length-append, get_or_push, get_or_append_left, append_assoc, append-nil, nil_from_length}
-use Rattle.std.proofs.Math.Seq.{get_or-append_seam}
+use Rattle.std.proofs.lemmas.List.{length_push, get_or_append_left}
 use Rattle.rv_diagram.specs.declared.frozen.Frozen.{Frozen}
 use Rattle.rv_rows.specs.declared.linear.Row.{Row}
 use Rattle.rv_rows.specs.declared.linear.Form.{Form}
@@ -14,26 +12,14 @@ use Rattle.rv_proofs.specs.declared.certificate.Entry.{Entry}
 use Rattle.rv_proofs.specs.declared.report.Case.{Case}
 use Rattle.rv_boxes.specs.Built.{IsReached}
 use Rattle.rv_boxes.specs.Certifying.{AreReached, AreCasesIn, IsEntryOf, AreEntriesOf}
-
--- what was there stays, and the new one stands at the end
-pub push_before : {X : Type 0} (xs : List X) (x y : X) (k : ℕ) → slice_get (xs ++ x ∷ []) k ≡ Some y → (slice_get xs k ≡ Some y) ⊎ ((k ≡ length xs) × (x ≡ y))
-push_before xs x y k at = go (cases_lt k (length xs))
-  where
-    go : (k < length xs) ⊎ (length xs ≤ k) → (slice_get xs k ≡ Some y) ⊎ ((k ≡ length xs) × (x ≡ y))
-    go (inl l) =
-        let e = get_or_from_slice_get (xs ++ x ∷ []) k y x at in
-        inl (slice_get-get_or xs k x l ∙ ap Some (sym (get_or_append_left xs (x ∷ []) x k l) ∙ e))
-    go (inr m) =
-        let inside = slice_get_within (xs ++ x ∷ []) k y at in
-        let e : k ≡ length xs = omega (arith, inside, m, length_push xs x) in
-        inr (e, sym (get_or_push xs x x k (sym e)) ∙ get_or_from_slice_get (xs ++ x ∷ []) k y x at)
+use Rattle.rv_base.proofs.Lists.{push_cases}
 
 pub reached_more : (width : ℕ) (premises : List Row) (forms : List Form) (wanted : List Row) (n : ℕ) (reach : List Multipliers) (m : Multipliers) (r : Row)
     → AreReached width premises forms wanted n reach → slice_get wanted n ≡ Some r → IsReached width premises forms r m
     → AreReached width premises forms wanted (n + 1) (reach ++ m ∷ [])
 reached_more width premises forms wanted n reach m r are at here = record {
   size = let s = are.size in omega (arith, s, length_push reach m);
-  each = λ k w x w_at x_at. go k w x w_at (push_before reach m x k x_at);
+  each = λ k w x w_at x_at. go k w x w_at (push_cases reach m x k x_at);
 }
   where
     go : (k : ℕ) (w : Row) (x : Multipliers) → slice_get wanted k ≡ Some w → (slice_get reach k ≡ Some x) ⊎ ((k ≡ length reach) × (m ≡ x))
@@ -50,7 +36,7 @@ module _ (s : System) (c : BoxClaim) (from : Frozen) (given wanted : List Row) w
       → IsEntryOf s c from given wanted x e → AreEntriesOf s c from given wanted (cases ++ x ∷ []) (length (cases ++ x ∷ [])) (es ++ e ∷ [])
   entries_more cases es x e are here = record {
     size = let n = are.size in omega (arith, n, length_push cases x, length_push es e);
-    each = λ j y z y_at z_at. go j y z (push_before cases x y j y_at) (push_before es e z j z_at);
+    each = λ j y z y_at z_at. go j y z (push_cases cases x y j y_at) (push_cases es e z j z_at);
   }
     where
       clash : (j : ℕ) (y : Case) → slice_get cases j ≡ Some y → j ≡ length es → IsEntryOf s c from given wanted y e
@@ -70,14 +56,3 @@ module _ (s : System) (c : BoxClaim) (from : Frozen) (given wanted : List Row) w
       let l = slice_get_within cases j y at in
       are j y (slice_get-get_or (cases ++ x ∷ []) j y (omega (arith, l, length_push cases x))
       ∙ ap Some (get_or_append_left cases (x ∷ []) y j l ∙ get_or_from_slice_get cases j y y at))
-
-pub seam_at : {X : Type 0} (all ys zs : List X) (x : X) → all ≡ ys ++ (x ∷ zs) → slice_get all (length ys) ≡ Some x
-seam_at all ys zs x e =
-    ap (λ xs. slice_get xs (length ys)) e
-    ∙ slice_get-get_or (ys ++ (x ∷ zs)) (length ys) x (omega (arith, length-append ys (x ∷ zs))) ∙ ap Some (get_or-append_seam ys x zs x)
-
-pub one_along : {X : Type 0} (all ys rest zs : List X) (x : X) → all ≡ ys ++ rest → rest ≡ x ∷ zs → all ≡ (ys ++ x ∷ []) ++ zs
-one_along all ys rest zs x e d = e ∙ ap (λ xs. ys ++ xs) d ∙ sym (append_assoc ys (x ∷ []) zs)
-
-pub none_left : {X : Type 0} (all ys rest : List X) → all ≡ ys ++ rest → length rest ≡ 0 → ys ≡ all
-none_left all ys rest e d = sym (e ∙ ap (λ xs. ys ++ xs) (nil_from_length rest d) ∙ append-nil ys)

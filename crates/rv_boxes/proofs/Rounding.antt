@@ -34,9 +34,9 @@ use Rattle.rv_boxes.specs.Claiming.{turned, claim_with, claim_of}
 use Rattle.rv_boxes.specs.Rounds.{IsSetting, IsHeld, IsKeptClaim, HasGrown, IsInCases, IsRising, IsRound, IsRest, AreFirst, IsLeastClaim, left_of}
 use Rattle.rv_boxes.proofs.Composing.{turned_back, held_above}
 use Rattle.rv_boxes.proofs.Stepping.{opposite_in}
-use Rattle.rv_boxes.proofs.Cuts.{clash}
-use Rattle.rv_cases.proofs.Gathering.{same_truth as same_bool}
-use Rattle.rv_walk.proofs.Stages.{rest_from as and_not, rest_parts as both_parts}
+use Rattle.rv_walk.proofs.Stages.{rest_from, rest_parts}
+use Rattle.rv_base.proofs.Truths.{clash}
+use Rattle.rv_diagram.proofs.Several.{same_truth}
 
 -- the rows of both lists are those of the claim's bounds
 module _ (s : System) (reached : Valuation → Bool) (upper lower : List (Option ℤ)) (rows : List Row) (are : AreBothRows upper lower s.memories rows) where
@@ -194,7 +194,7 @@ module _ (s : System) (is : IsSystem s) (f : Frame) (frame : IsFrameOf s f) (c :
 
   module _ (control : Frozen) (given : List Row) (rest : IsRest s first c control given) where
     apart : (v : Valuation) → IsIn control v → (has c.reached v ≡ true) × (has first v ≡ false)
-    apart v i = both_parts (has c.reached v) (has first v) (sym (rest.exact v) ∙ i)
+    apart v i = rest_parts (has c.reached v) (has first v) (sym (rest.exact v) ∙ i)
 
     both_rows : AreBothRows c.upper c.lower s.memories given
     both_rows = subst (λ (m : ℕ). AreBothRows c.upper c.lower m given) kept.uppers rest.rows
@@ -225,7 +225,7 @@ module _ (s : System) (is : IsSystem s) (f : Frame) (frame : IsFrameOf s f) (c :
     module _ (from : Frozen) (known : List Case) (are : AreCases s from known) (within : (v : Valuation) → IsIn control v → IsIn from v) where
       in_known : (v : Valuation) → IsTaken s (claim_of c) v → has first v ≡ false → IsInCases known (length known) v × IsIn control v
       in_known v t n =
-          let i : has control v ≡ true = rest.exact v ∙ and_not (has c.reached v) (has first v) t.reached n in
+          let i : has control v ≡ true = rest.exact v ∙ rest_from (has c.reached v) (has first v) t.reached n in
           let (j, d, at, on) = are.covered v t.allowed (within v i) in ((j, d, slice_get_within known j d at, at, on), i)
 
       -- each taken valuation is in a case of one of the two, and its control state in its set
@@ -276,7 +276,7 @@ opposite_out numbers opposites are b (k, l, at) =
 
 pub kept_claim : (s : System) (f : Frame) → IsFrameOf s f → (c : Claim) → IsKeptClaim s f c → IsBoxClaim s f.thresholds (claim_of c)
 kept_claim s f frame c kept = record {
-  reached = λ v w same. same_bool (has c.reached v) (has c.reached w) (λ i. control_same s c.reached v w kept.control same i)
+  reached = λ v w same. same_truth (has c.reached v) (has c.reached w) (λ i. control_same s c.reached v w kept.control same i)
       (λ i. control_same s c.reached w v kept.control (λ x state. sym (same x state)) i);
   lower = λ k b known at. opposite_out f.thresholds f.opposites frame.turned b (kept.lower_among k (pos 0 -ℤ b) (turned_back (limit_at c.lower k) b at));
   upper = λ k b known at. kept.upper_among k b at;

@@ -34,10 +34,12 @@ use Rattle.rv_boxes.specs.Limits.{limit_at, IsLoosened, AreLoosened, AreAmong, H
 use Rattle.rv_boxes.specs.Opening.{IsFrameOf, ArePremisesOf, AreOpposite, AreOppositeForms, IsOpened}
 use Rattle.rv_boxes.specs.Claiming.{turned, claim_of}
 use Rattle.rv_boxes.specs.Rounds.{place, IsSetting, IsHeld, IsKeptClaim, IsAbove, HasGrown, HasTaken, IsMet, left_of}
-use Rattle.rv_boxes.proofs.Building.{in_box, taken, boxed_back, open_back, test_at as row_after}
+use Rattle.rv_boxes.proofs.Building.{in_box, taken, boxed_back, open_back, test_at}
 use Rattle.rv_boxes.proofs.Fitting.{case_entry, here, updates_of_case, many_updates, premises_fit}
-use Rattle.rv_boxes.proofs.Composing.{neither, some_of, turned_back, above_same}
+use Rattle.rv_boxes.proofs.Composing.{turned_back, above_same}
 use Rattle.rv_boxes.proofs.Limiting.{changed_le}
+use Rattle.rv_base.proofs.Truths.{either_then}
+use Rattle.std.proofs.lemmas.Bool.{or_parts}
 
 -- limits stay among the thresholds
 pub loosened_among : (thresholds : List ℤ) (width : ℕ) (rows : List Row) (forms : List Form) (old new : List (Option ℤ))
@@ -138,8 +140,8 @@ boxed_after : (width : ℕ) (given told : List Row) (point : List ℤ) → IsBox
 boxed_after width given told point b = record {
   size = b.size;
   holds = λ p l one.
-      subst (λ (r : Row). Holds r point) (row_after given told p)
-      (b.holds (length given + p) (omega (arith, l, length-append given told)) (subst HasOneColumn (sym (row_after given told p)) one));
+      subst (λ (r : Row). Holds r point) (test_at given told p)
+      (b.holds (length given + p) (omega (arith, l, length-append given told)) (subst HasOneColumn (sym (test_at given told p)) one));
 }
 
 open_after : (width : ℕ) (given told : List Row) → IsOpenBox width (given ++ told) → IsOpenBox width told
@@ -147,7 +149,7 @@ open_after width given told o = record {
   some = (o.some.0, boxed_after width given told o.some.0 o.some.1);
   each = λ p l.
       let (point, boxed, holds) = o.each (length given + p) (omega (arith, l, length-append given told)) in
-      (point, boxed_after width given told point boxed, subst (λ (r : Row). Holds r point) (row_after given told p) holds);
+      (point, boxed_after width given told point boxed, subst (λ (r : Row). Holds r point) (test_at given told p) holds);
 }
 
 module _ (s : System) (is : IsSystem s) (f : Frame) (frame : IsFrameOf s f) (base : BoxClaim) (from : Frozen) (given : List Row)
@@ -274,7 +276,7 @@ module _ (s : System) (is : IsSystem s) (f : Frame) (frame : IsFrameOf s f) (bas
     kept_ticked v (inr i) = kept.ticked v i
 
     either : (v : Valuation) → IsIn new.reached v → (IsIn set v) ⊎ (IsIn old.reached v)
-    either v i = go (some_of (has set v) (has old.reached v) (sym (has_new v) ∙ i))
+    either v i = go (either_then (has set v) (has old.reached v) (sym (has_new v) ∙ i))
       where
         go : (has set v ≡ true) ⊎ ((has set v ≡ false) × (has old.reached v ≡ true)) → (IsIn set v) ⊎ (IsIn old.reached v)
         go (inl e) = inl e
@@ -387,7 +389,7 @@ module _ (s : System) (is : IsSystem s) (f : Frame) (frame : IsFrameOf s f) (bas
         less y x b e l = omega (arith, ints)
 
     parts : (fresh || (x.upper.changed || x.lower.changed)) ≡ false → (fresh ≡ false) × (x.upper.changed ≡ false) × (x.lower.changed ≡ false)
-    parts e = let (a, r) = neither fresh (x.upper.changed || x.lower.changed) e in let (b, c) = neither x.upper.changed x.lower.changed r in (a, b, c)
+    parts e = let (a, r) = or_parts fresh (x.upper.changed || x.lower.changed) e in let (b, c) = or_parts x.upper.changed x.lower.changed r in (a, b, c)
 
     -- there is less left, in all parts or in none
     upper_le : room new.upper ≤ room old.upper
@@ -421,7 +423,7 @@ module _ (s : System) (is : IsSystem s) (f : Frame) (frame : IsFrameOf s f) (bas
 
     less : (fresh || (x.upper.changed || x.lower.changed)) ≡ true → (v : Valuation) → left_of s.states new v < left_of s.states old v
     unfolding left_of
-    less e v = go (some_of fresh (x.upper.changed || x.lower.changed) e)
+    less e v = go (either_then fresh (x.upper.changed || x.lower.changed) e)
       where
         rest : (x.upper.changed ≡ true) ⊎ ((x.upper.changed ≡ false) × (x.lower.changed ≡ true)) → left_of s.states new v < left_of s.states old v
         rest (inl d) = let l = upper_less d in let m = lower_le in let n = reached_le v in omega (arith, l, m, n)
@@ -429,7 +431,7 @@ module _ (s : System) (is : IsSystem s) (f : Frame) (frame : IsFrameOf s f) (bas
 
         go : (fresh ≡ true) ⊎ ((fresh ≡ false) × ((x.upper.changed || x.lower.changed) ≡ true)) → left_of s.states new v < left_of s.states old v
         go (inl d) = let l = upper_le in let m = lower_le in let n = reached_less d v in omega (arith, l, m, n)
-        go (inr (_, d)) = rest (some_of x.upper.changed x.lower.changed d)
+        go (inr (_, d)) = rest (either_then x.upper.changed x.lower.changed d)
 
     pub grown_open : HasGrown s f base (λ v. IsIn case.condition v × IsIn from v) (fresh || (x.upper.changed || x.lower.changed)) old new
     grown_open = record {

@@ -22,7 +22,8 @@ use Rattle.rv_boxes.specs.Weighing.{IsInserted}
 use Rattle.rv_boxes.specs.Boxed.{ArePremises, IsTowards, IsColumnWeight, IsSummed}
 use Rattle.rv_boxes.proofs.WeightLemmas.{weighted-inserted, All-inserted, length-inserted, Rises-inserted}
 use Rattle.rv_boxes.proofs.BoxLemmas.{closest, unit_once}
-use Rattle.rv_terms.proofs.Sums.{zero_left as none-plus, zero_right as plus-none}
+use Rattle.rv_terms.proofs.Sums.{zero_right}
+use Rattle.rv_base.proofs.Numbers.{zero_add}
 
 -- The premise at which a column has its end has 1 or -1 at it, so its row times the magnitude has the number.
 pub record IsTurned (rows : List Row) (k : ℕ) (c : ℤ) (p : ℕ) : Type 0 where
@@ -118,12 +119,12 @@ module _ (rows : List Row) (width : ℕ) (pre : ArePremises width rows) (ends : 
 
         below : (m : ℕ) → m < k + 1 → (m < k) ⊎ (k ≤ m) → (pos (unsigned_abs (number k numbers)) *ℤ coefficient m (row_at rows p)) +ℤ weighted
             (coefficient m) rows g.weights ≡ number m numbers
-        below m l (inl less) = rw (other m (λ (q : m ≡ k). omega arith), sum.below m less) (none-plus (number m numbers))
+        below m l (inl less) = rw (other m (λ (q : m ≡ k). omega arith), sum.below m less) (zero_add (number m numbers))
         below m l (inr more) =
             let e : m ≡ k = omega arith in
             let u = turned.unit in
             let t = turned.turned in
-            rw (e, sum.above k (omega arith), u.here, t) (plus-none (number k numbers))
+            rw (e, sum.above k (omega arith), u.here, t) (zero_right (number k numbers))
 
         above : (m : ℕ) → k + 1 ≤ m → (pos (unsigned_abs (number k numbers)) *ℤ coefficient m (row_at rows p)) +ℤ weighted (coefficient m) rows
             g.weights ≡ pos 0

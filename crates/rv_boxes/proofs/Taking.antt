@@ -1,5 +1,5 @@
 -- A set that is taken into a claim.
-use Rattle.std.proofs.Common.{◌≡◌, ℕ, Bool, true, false, not, ◌&&◌, ◌||◌, refl, sym, ap, ◌∙◌, subst}
+use Rattle.std.proofs.Common.{◌≡◌, ℕ, true, false, ◌||◌, refl, sym, ap, ◌∙◌, subst}
 use Rattle.rv_diagram.specs.Nodes.{Valuation}
 use Rattle.rv_diagram.specs.declared.frozen.Frozen.{Frozen}
 use Rattle.rv_proofs.specs.Systems.{System, HasSameState}
@@ -11,28 +11,20 @@ use Rattle.rv_walk.specs.declared.sets.Extended.{Extended}
 use Rattle.rv_walk.proofs.Counting.{missing_less}
 use Rattle.rv_boxes.specs.declared.claim.Claim.{Claim}
 use Rattle.rv_boxes.specs.Rounds.{HasTaken}
-use Rattle.rv_cases.proofs.Gathering.{same_truth as same_bool}
-use Rattle.rv_terms.proofs.Adding.{or_left as from_first, or_right as into_either}
+use Rattle.rv_base.proofs.Truths.{covered, none_new}
+use Rattle.rv_diagram.proofs.Several.{same_truth}
+use Rattle.std.proofs.lemmas.Bool.{or_left as from_first}
+use Rattle.std.proofs.lemmas.Bool.{or_right}
 
 pub same_states : (s : System) (set : Frozen) → IsControlSet s set → (v w : Valuation) → HasSameState s v w → has set v ≡ has set w
 same_states s set control v w same =
-    same_bool (has set v) (has set w) (control_same s set v w control same) (control_same s set w v control (λ x state. sym (same x state)))
-
-or_left : (a b : Bool) → (a && not b) ≡ false → b ≡ (a || b)
-or_left true true e = refl
-or_left true false e = cc
-or_left false b e = refl
-
-nothing_new : (a b : Bool) → (a ≡ true → b ≡ true) → (a && not b) ≡ false
-nothing_new true true h = refl
-nothing_new true false h = let e : false ≡ true = h refl in cc
-nothing_new false b h = refl
+    same_truth (has set v) (has set w) (control_same s set v w control same) (control_same s set w v control (λ x state. sym (same x state)))
 
 module _ (s : System) (old : Claim) (set : Frozen) (control : IsControlSet s old.reached) where
   pub taken_none : ((v : Valuation) → fresh_of old.reached set v ≡ false) → HasTaken s set false old old
   taken_none none = record {
     control = control;
-    exact = λ v. or_left (has set v) (has old.reached v) (none v);
+    exact = λ v. covered (has set v) (has old.reached v) (none v);
     upper = refl;
     lower = refl;
     still = λ e. refl;
@@ -48,8 +40,8 @@ module _ (s : System) (old : Claim) (set : Frozen) (control : IsControlSet s old
     lower = lower;
     still = λ (d : true ≡ false). cc;
     less = λ d v. missing_less s (has old.reached) (has new.reached) v (same_states s old.reached control) (same_states s new.reached there)
-        (λ u i. exact u ∙ into_either (has set u) (has old.reached u) i)
-        (λ within. x.some (λ u. x.fresh_is u ∙ nothing_new (has set u) (has old.reached u) (λ i. within u (exact u
+        (λ u i. exact u ∙ or_right (has set u) (has old.reached u) i)
+        (λ within. x.some (λ u. x.fresh_is u ∙ none_new (has set u) (has old.reached u) (λ i. within u (exact u
         ∙ from_first (has set u) (has old.reached u) i))));
   }
     where

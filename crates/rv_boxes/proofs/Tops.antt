@@ -22,7 +22,7 @@ use Rattle.rv_boxes.proofs.Weighted.{weighted-dot, weighted-holds, weighted-met}
 use Rattle.rv_boxes.proofs.BoxLemmas.{InEnd, at_high, at_low, high_in, low_in, listed, number-listed, boxed_from, unit_has_one, unit_value}
 use Rattle.rv_boxes.proofs.BoxLemmas.{dot-listed-add, dot-listed-one}
 use Rattle.rv_boxes.proofs.Summing.{IsTurned, turned_from}
-use Rattle.rv_terms.proofs.Sums.{zero_right as add_none}
+use Rattle.rv_terms.proofs.Sums.{zero_right}
 
 -- the number of a column at the end towards which a multiple of it grows
 abbrev pub at_end : List Row → End → ℤ → ℤ
@@ -200,7 +200,7 @@ module _ (rows : List Row) (width : ℕ) (pre : ArePremises width rows) (ends : 
             go : (j ≡ k) ⊎ (j ≢ k) → InEnd rows (end_at ends j) (top j +ℤ at_one k d j)
             go (inl q) = subst (λ (i : ℕ). InEnd rows (end_at ends i) (top i +ℤ at_one k d i)) (sym q)
                 (rw (at_same k d) (here (number k numbers) d n refl e loose))
-            go (inr q) = rw (at_other k d j q) (rw (add_none (top j)) (top_in j m))
+            go (inr q) = rw (at_other k d j q) (rw (zero_right (top j)) (top_in j m))
 
 -- a box whose ends exclude each other in no column has a point
 pub some_boxed : (rows : List Row) (width : ℕ) → ArePremises width rows → (ends : List End) → AreEnds rows width ends → IsUncrossed rows ends width

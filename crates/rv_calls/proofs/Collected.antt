@@ -10,7 +10,7 @@ use Rattle.rv_calls.specs.Numbering.{with_names}
 use Rattle.rv_calls.specs.Callings.{node_texts}
 use Rattle.std.proofs.lemmas.List.{append-nil, append_assoc}
 use Rattle.rv_instances.proofs.Known.{not_before}
-use Rattle.rv_types.proofs.RightNames.{both_empty as split_nil}
+use Rattle.rv_types.proofs.RightNames.{both_empty}
 
 -- names of which none stands twice, one after the other
 pub among_append : (xs ys : List Identifier) (z : Identifier) → is_among (xs ++ ys) z ≡ (is_among xs z || is_among ys z)
@@ -27,7 +27,7 @@ with_distinct ys before [] e same = sym (append-nil ys)
 with_distinct ys before (x ∷ xs) e same =
     let new : is_among ys x.text ≡ false = same x.text ∙ not_before before (x ∷ xs) e 0 (omega arith) in
     ap (λ b. with_names (cond b ys (ys ++ x.text ∷ [])) (texts xs)) new
-    ∙ with_distinct (ys ++ x.text ∷ []) (x ∷ before) xs (split_nil (cond (is_declared before x.text) (DefinedTwice x.at ∷ []) []) (repeated (x ∷ before) xs)
+    ∙ with_distinct (ys ++ x.text ∷ []) (x ∷ before) xs (both_empty (cond (is_declared before x.text) (DefinedTwice x.at ∷ []) []) (repeated (x ∷ before) xs)
     e).1
     (λ z. among_append ys (x.text ∷ []) z ∙ turned (is_among ys z) (is_same x.text z) (is_declared before z) (same z))
     ∙ append_assoc ys (x.text ∷ []) (texts xs)

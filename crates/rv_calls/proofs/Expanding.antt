@@ -2,7 +2,7 @@
 use Rattle.std.proofs.Common.{◌≡◌, ℕ, zero, suc, ◌+◌, ◌<◌, inl, inr, List, [], ◌∷◌, ◌++◌, map, reverse, length, get_or, drop, refl, sym, ◌∙◌, ap, subst, arith}
 use Rattle.std.specs.List.{Contains, flat_map}
 use Rattle.std.proofs.lemmas.List.{append_assoc, append-nil, reverse-append}
-use Rattle.std.proofs.lemmas.List.Elements.{Contains-append_left, Contains-append_right, Contains-append_cases, Contains-push}
+use Rattle.std.proofs.lemmas.List.Elements.{Contains-append_left, Contains-append_cases, Contains-push}
 use Rattle.rv_instances.specs.declared.answer.Instance.{Instance}
 use Rattle.rv_calls.specs.declared.calls.Calling.{Calling}
 use Rattle.rv_calls.specs.Graphs.{IsGraph, IsOrdered}
@@ -10,20 +10,9 @@ use Rattle.rv_calls.specs.Callings.{callees, call_graph}
 use Rattle.rv_calls.specs.Listing.{called_instance, listed, all_listed, ahead, IsExpansion}
 use Rattle.rv_instances.proofs.Lists.{contains_at, length_map}
 use Rattle.rv_calls.proofs.Lowering.{edge_of}
-use Rattle.rv_types.proofs.Joined.{drop_here as turn}
-use Rattle.rv_types.proofs.Members.{cons_cases, nothing_in, of_map}
-
-pub flat_map_same : {X Y : Type 0} (f g : X → List Y) (xs : List X) → ((x : X) → Contains xs x → f x ≡ g x) → flat_map f xs ≡ flat_map g xs
-flat_map_same f g [] each = refl
-flat_map_same f g (x ∷ xs) each =
-    let here = each x (0, omega arith, refl) in
-    let more = flat_map_same f g xs (λ y w. each y (
-      w.0 + 1,
-      (let lt = w.1 in omega (arith, lt)),
-      ap (λ k. get_or (x ∷ xs) k y)
-          (let e : w.0 + 1 ≡ suc w.0 = omega arith in e) ∙ w.2,
-    )) in
-    λ i. here i ++ more i
+use Rattle.rv_types.proofs.Members.{cons_cases, nothing_in}
+use Rattle.rv_base.proofs.Lists.{flat_map_same, from_map, next_of}
+use Rattle.rv_types.proofs.ConstantKinds.{of_reverse}
 
 module _ (t : List (List Calling)) (order : List ℕ) (ordered : IsOrdered (call_graph t) order) where
   -- more levels than a node's number in the order give nothing more
@@ -69,13 +58,6 @@ ahead_callees t path ws (c ∷ cs) =
     ∙ ap (λ l. all_listed t (path ++ c.site ∷ []) c.callee ++ l) (ahead_callees t path ws cs)
     ∙ sym (append_assoc (all_listed t (path ++ c.site ∷ []) c.callee) (flat_map (λ (c : Calling). all_listed t (path ++ c.site ∷ []) c.callee) cs) (ahead t ws))
 
-in_reverse : {X : Type 0} (xs : List X) (x : X) → Contains (reverse xs) x → Contains xs x
-in_reverse [] x w = w
-in_reverse (y ∷ ys) x w = elim (Contains-append_cases (reverse ys) (y ∷ []) x (subst (λ l. Contains l x) (reverse-append (y ∷ []) ys) w)) [
-  | inl front ↦ Contains-append_right (y ∷ []) ys x (in_reverse ys x front)
-  | inr last ↦ Contains-append_left (y ∷ []) ys x last
-]
-
 pub expansion_start : (t : List (List Calling)) (root : ℕ) → root < length t → IsExpansion t root [] (record { path = []; node = root } ∷ [])
 expansion_start t root lt = record {
   whole = refl;
@@ -118,7 +100,7 @@ module _ (t : List (List Calling)) (graph : IsGraph (call_graph t)) (order : Lis
         within = λ w v. elim (Contains-append_cases rest (reverse (map (called_instance i.path) (get_or t i.node []))) w (subst (λ l. Contains l w) new v)) [
           | inl old ↦ is.within w (subst (λ l. Contains l w) (sym taken) (Contains-append_left rest (i ∷ []) w old))
           | inr one ↦
-              let c = of_map (called_instance i.path) (get_or t i.node []) w (in_reverse (map (called_instance i.path) (get_or t i.node [])) w one) in
+              let c = from_map (called_instance i.path) (get_or t i.node []) w (of_reverse (map (called_instance i.path) (get_or t i.node [])) w one) in
               subst (λ (j : Instance). j.node < length t) c.2 (callee_within i.node c.0 lt c.1)
         ];
       }
@@ -141,4 +123,4 @@ callees_more path calls old now k c lt is inv =
     ap (λ l. l ++ called_instance path c ∷ []) inv
     ∙ append_assoc old (reverse (map (called_instance path) (drop (k + 1) calls))) (called_instance path c ∷ [])
     ∙ ap (λ l. old ++ l) (sym (reverse-append (called_instance path c ∷ []) (map (called_instance path) (drop (k + 1) calls))))
-    ∙ ap (λ (l : List Calling). old ++ reverse (map (called_instance path) l)) (sym (turn calls k c lt is))
+    ∙ ap (λ (l : List Calling). old ++ reverse (map (called_instance path) l)) (sym (next_of calls k c lt is))

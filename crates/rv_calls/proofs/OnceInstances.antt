@@ -12,15 +12,12 @@ use Rattle.rv_types.specs.WellFormed.{AreSited}
 use Rattle.rv_instances.specs.AllInstances.{names_of}
 use Rattle.rv_instances.proofs.Known.{called, node_missing}
 use Rattle.rv_types.proofs.Members.{cons_cases, nothing_in, of_flat_map}
+use Rattle.rv_base.proofs.Lists.{same_next}
 
 -- Paths that differ.
 
 apart_under : (path : List ℕ) (x : ℕ) (rest : List ℕ) → path ≡ path ++ x ∷ rest → ⊥
 apart_under path x rest e = let n = ap length e ∙ length-append path (x ∷ rest) in omega (arith, n)
-
-same_site : (path : List ℕ) (x y : ℕ) (more rest : List ℕ) → path ++ x ∷ more ≡ path ++ y ∷ rest → x ≡ y
-same_site [] x y more rest e = cc
-same_site (z ∷ path) x y more rest e = let f : path ++ x ∷ more ≡ path ++ y ∷ rest = cc in same_site path x y more rest f
 
 -- no path stands twice
 abbrev AreOnce : List Instance → Type 0
@@ -90,7 +87,7 @@ module _ (p : ProgramTree) (named : name_faults p ≡ []) (sited : AreSited p) w
       let d = of_flat_map (λ (c : CallTree). unrolled p levels (callee p a c)) cs y v in
       let t = under levels (callee p a d.0) y d.2 in
       s.0 d.0 d.1
-      (same_site a.path c.site d.0.site u.0 t.0
+      (same_next a.path c.site d.0.site u.0 t.0
       (sym (u.1 ∙ append_assoc a.path (c.site ∷ []) u.0) ∙ e ∙ (t.1 ∙ append_assoc a.path (d.0.site ∷ []) t.0))))
 
   once_unrolled : (levels : ℕ) (a : Instance) → HaveSites (calls a.node) → AreOnce (unrolled p levels a)

@@ -19,7 +19,8 @@ use Rattle.rv_calls.specs.Nodes.{IsRecursionOf}
 use Rattle.rv_instances.proofs.Known.{map_at, number_of_node, node_of_number, called, calls_declared, node_missing}
 use Rattle.rv_instances.proofs.Lists.{length_map}
 use Rattle.rv_calls.proofs.Lowering.{edge_of, call_of}
-use Rattle.rv_types.proofs.Members.{in_map, nothing_in, of_map}
+use Rattle.rv_types.proofs.Members.{in_map, nothing_in}
+use Rattle.rv_base.proofs.Lists.{from_map}
 
 module _ (p : ProgramTree) (named : name_faults p ≡ []) where
   -- the calls of the node with a number, in the table
@@ -41,7 +42,7 @@ module _ (p : ProgramTree) (named : name_faults p ≡ []) where
   -- and back
   pub untabled : (k : ℕ) (c : Calling) → k < length p.nodes → Contains (get_or (callings_of p) k []) c
       → (d : CallTree) × Contains (calls (get_or p.nodes k no_node)) d × (calling (names_of p) d ≡ c)
-  untabled k c lt w = of_map (calling (names_of p)) (calls (get_or p.nodes k no_node)) c (subst (λ (cs : List Calling). Contains cs c) (table_at k lt) w)
+  untabled k c lt w = from_map (calling (names_of p)) (calls (get_or p.nodes k no_node)) c (subst (λ (cs : List Calling). Contains cs c) (table_at k lt) w)
 
   node_in : (k : ℕ) → k < length p.nodes → Contains p.nodes (get_or p.nodes k no_node)
   node_in k lt = Contains-get_or p.nodes k no_node lt

@@ -7,6 +7,7 @@ use Rattle.std.specs.List.{Contains}
 use Rattle.rv_calls.specs.Graphs.{Graph, edges, IsGraph, IsOrdered, Follows, IsLoop, IsWalk, IsNext, Keeps, falses}
 use Rattle.rv_calls.specs.declared.graph.Walk.{Walk}
 use Rattle.rv_instances.proofs.Lists.{contains_at, at_contains, nat_split}
+use Rattle.rv_base.proofs.Lists.{set_keeps}
 
 -- a list with one more
 pub snoc_at : (xs : List ℕ) (y i : ℕ) → i < length (xs ++ y ∷ []) → ((i < length xs) × (get_or (xs ++ y ∷ []) i 0 ≡ get_or xs i 0))
@@ -32,14 +33,6 @@ get_or-take_below xs zero i d lt = absurd (omega (arith, lt))
 get_or-take_below [] (suc n) i d lt = refl
 get_or-take_below (x ∷ xs) (suc n) zero d lt = refl
 get_or-take_below (x ∷ xs) (suc n) (suc i) d lt = get_or-take_below xs n i d (omega (arith, lt))
-
--- flags of which one is set
-pub set_keeps : (xs : List Bool) (k j : ℕ) → get_or xs j false ≡ true → get_or (set xs k true) j false ≡ true
-set_keeps [] k j e = e
-set_keeps (x ∷ xs) zero zero e = refl
-set_keeps (x ∷ xs) zero (suc j) e = e
-set_keeps (x ∷ xs) (suc k) zero e = e
-set_keeps (x ∷ xs) (suc k) (suc j) e = set_keeps xs k j e
 
 pub set_cases : (xs : List Bool) (k j : ℕ) → get_or (set xs k true) j false ≡ true → (j ≡ k) ⊎ (get_or xs j false ≡ true)
 set_cases [] k j e = inr e

@@ -18,8 +18,8 @@ use Rattle.rv_cases.specs.Conditions.{is_in, list_at, IsParted, AreJoined}
 use Rattle.rv_cases.specs.Questions.{AreQuestions}
 use Rattle.rv_cases.specs.Telling.{AreTold}
 use Rattle.rv_cases.specs.Made.{is_allowed_in, IsMadeFor, AreMadeOf}
-use Rattle.rv_cases.proofs.Gathering.{same_truth}
 use Rattle.rv_cases.proofs.Keeping.{questions_later}
+use Rattle.rv_diagram.proofs.Several.{same_truth}
 
 -- a diagram that needs each of its variables, and means a fact of the valuation, reads no next copy
 condition_set : (s : System) (f : Frozen) (meaning : Valuation → Bool) → IsOrderedOver s.variables f → UsesNeeded f.nodes meaning

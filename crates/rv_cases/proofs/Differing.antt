@@ -19,10 +19,10 @@ use Rattle.rv_cases.specs.Conditions.{is_in, list_at, AreAnswers}
 use Rattle.rv_cases.specs.Questions.{AreTestAnswers, AreUpdateAnswers, AreSides, AreQuestions, AreDistinct, rows_at, forms_at, memory_answers, observer_answers}
 use Rattle.rv_cases.specs.Telling.{AreTold}
 use Rattle.rv_cases.specs.Made.{IsMadeFor, AreMadeOf, AreDifferent}
-use Rattle.rv_cases.proofs.Gathering.{same_truth}
 use Rattle.rv_cases.proofs.Keeping.{questions_later}
-use Rattle.rv_proofs.proofs.CaseRows.{nothing as no_row}
+use Rattle.rv_proofs.proofs.CaseRows.{nothing}
 use Rattle.rv_proofs.proofs.Claims.{updates_long}
+use Rattle.rv_diagram.proofs.Several.{same_truth}
 
 pub no_form : Form
 no_form = record { coefficients = []; constant = pos 0 }
@@ -32,10 +32,10 @@ no_form = record { coefficients = []; constant = pos 0 }
 row_there : (s : System) (p : Valuation → Bool) (n : ℕ) (tests : List ℕ) (rows : List Row) (t : ℕ) → AreTold s p n tests rows → Contains tests t
     → (r : Row) × (i : ℕ) × (slice_get tests i ≡ Some t) × (slice_get rows i ≡ Some r)
 row_there s p n tests rows t h (i, low, is) = (
-  get_or rows i no_row,
+  get_or rows i nothing,
   i,
   slice_get-get_or tests i t low ∙ ap (λ (x : ℕ). Some x) is,
-  slice_get-get_or rows i no_row (omega (arith, h.counts)),
+  slice_get-get_or rows i nothing (omega (arith, h.counts)),
 )
 
 same_row : (s : System) (p q : Valuation → Bool) (n : ℕ) (tests : List ℕ) (rows : List Row) (v w : Valuation) → AreTold s p n tests rows
@@ -85,13 +85,13 @@ row_told s nodes t answers rows a size b v low on = ⊎_elim
     (λ z. inl (z, a.absent v (ap (λ x. is_in nodes answers x v) (sym z) ∙ on)))
     (λ some.
     let e : b ≡ (b - 1) + 1 = omega arith in
-    let got : slice_get rows (b - 1) ≡ Some (get_or rows (b - 1) no_row) = slice_get-get_or rows (b - 1) no_row (omega arith) in
+    let got : slice_get rows (b - 1) ≡ Some (get_or rows (b - 1) nothing) = slice_get-get_or rows (b - 1) nothing (omega arith) in
     inr (
       b - 1,
-      get_or rows (b - 1) no_row,
+      get_or rows (b - 1) nothing,
       e,
       got,
-      a.present (b - 1) (get_or rows (b - 1) no_row) v got (ap (λ x. is_in nodes answers x v) (sym e) ∙ on),
+      a.present (b - 1) (get_or rows (b - 1) nothing) v got (ap (λ x. is_in nodes answers x v) (sym e) ∙ on),
     ))
     (cases_eq b 0)
 

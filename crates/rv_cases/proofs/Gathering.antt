@@ -10,13 +10,11 @@ use Rattle.rv_diagram.specs.Several.{ref_at}
 use Rattle.rv_terms.specs.Growing.{Extends}
 use Rattle.rv_terms.proofs.Growths.{extends_trans}
 use Rattle.rv_cases.specs.Conditions.{is_in, AreRefs, AreApart, IsParted, AreAnswers, AreMeets, AreWithin, AreJoined, list_at, Gathers, among}
-use Rattle.rv_terms.proofs.Adding.{or-none, or_assoc, or_left, or_right}
 use Rattle.rv_terms.proofs.Combining.{and-none, and-or}
-
-pub same_truth : (a b : Bool) → (a ≡ true → b ≡ true) → (b ≡ true → a ≡ true) → a ≡ b
-same_truth true b f g = sym (f refl)
-same_truth false true f g = g refl
-same_truth false false f g = refl
+use Rattle.rv_base.proofs.Truths.{or_assoc, or_false_is}
+use Rattle.rv_diagram.proofs.Several.{same_truth}
+use Rattle.std.proofs.lemmas.Bool.{or_left}
+use Rattle.std.proofs.lemmas.Bool.{or_right}
 
 -- LATER
 
@@ -78,7 +76,7 @@ at_place before r j low = ⊎_elim
 pub gathers_none : (old new : Diagrams) (q : Valuation → Bool) (before : List ℕ) → Extends old new → ((v : Valuation) → q v ≡ false)
     → Gathers old.nodes new.nodes q before before
 gathers_none old new q before e none p g off =
-    parted_as new.nodes p (λ v. p v || q v) before (λ v. or-none (p v) (q v) (none v)) (parted_later old new p before e g)
+    parted_as new.nodes p (λ v. p v || q v) before (λ v. or_false_is (p v) (q v) (none v)) (parted_later old new p before e g)
 
 pub gathers_one : (old new : Diagrams) (q : Valuation → Bool) (r : ℕ) (before : List ℕ) → Extends old new → IsRef new.nodes r
     → ((v : Valuation) → value_of new.nodes r v ≡ q v) → (v : Valuation) × (value_of new.nodes r v ≡ true)
@@ -212,7 +210,7 @@ answers_whole s new t answers n b p0 p1 low whole h = gathers_as s.nodes new (λ
 
 -- no condition yet
 pub conditions_first : (nodes : List Triple) (conditions : List ℕ) → Gathers nodes nodes (among nodes conditions 0) [] []
-conditions_first nodes conditions p g apart = parted_as nodes p (λ v. p v || false) [] (λ v. or-none (p v) false refl) g
+conditions_first nodes conditions p g apart = parted_as nodes p (λ v. p v || false) [] (λ v. or_false_is (p v) false refl) g
 
 -- one more condition
 pub conditions_more : (s a b : Diagrams) (q : Valuation → Bool) (conditions : List ℕ) (i : ℕ) (p0 p1 p2 : List ℕ) → i < length conditions

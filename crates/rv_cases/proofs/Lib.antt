@@ -1,5 +1,4 @@
 pub mod Gathering
-pub mod Lists
 pub mod Tellings
 pub mod Placing
 pub mod Keeping

@@ -15,10 +15,10 @@ use Rattle.rv_proofs.proofs.ControlReads.{value_among-reads}
 use Rattle.rv_cases.specs.Conditions.{is_in, list_at, AreAnswers}
 use Rattle.rv_cases.specs.Questions.{HaveAnswers, AreTestAnswers, AreUpdateAnswers, AreSides, AreQuestions, AreDistinct, rows_at, forms_at}
 use Rattle.rv_cases.specs.Samples.{counting_nodes, counting_diagrams, counting_questions}
-use Rattle.rv_proofs.proofs.Counting.{three_read, two_read, two_tests as two}
-use Rattle.rv_proofs.proofs.Filed.{true_then_false as on_off}
+use Rattle.rv_proofs.proofs.Counting.{three_read, two_read, two_tests}
+use Rattle.rv_proofs.proofs.Filed.{true_then_false}
 use Rattle.rv_proofs.proofs.SampleSystems.{zero_read}
-use Rattle.rv_proofs.proofs.Sampling.{both_true as on_on, when_false as off}
+use Rattle.rv_proofs.proofs.Sampling.{both_true, when_false}
 
 -- PLACES OF SHORT LISTS
 
@@ -102,7 +102,7 @@ two_answers : (nodes : List Triple) (x y : ℕ) (t u : Valuation → Bool) → I
     → ((v : Valuation) → value_of nodes x v ≡ cond (t v) (cond (u v) true false) true)
     → ((v : Valuation) → value_of nodes y v ≡ cond (t v) (cond (u v) false true) false) → AreAnswers nodes (x ∷ y ∷ [])
 two_answers nodes x y t u fx fy p q = record {
-  found = two (λ i. IsRef nodes (ref_at (x ∷ y ∷ []) i)) fx fy;
+  found = two_tests (λ i. IsRef nodes (ref_at (x ∷ y ∷ []) i)) fx fy;
   covered = λ v. ⊎_elim (λ h. (0, omega arith, h)) (λ h. (1, omega arith, h))
       (either_of (t v) (u v) (value_of nodes x v) (value_of nodes y v) (p v) (q v));
   apart = one_pair (λ i j. (v : Valuation) → is_in nodes (x ∷ y ∷ []) i v ≡ true → is_in nodes (x ∷ y ∷ []) j v ≡ true → ⊥)
@@ -162,26 +162,26 @@ nothing_got x h = cc
 
 first_test : AreTestAnswers counting counting_nodes 0 (6 ∷ 7 ∷ 8 ∷ []) (row1 (pos 1) (pos 9) ∷ row1 (negsuc 0) (negsuc 9) ∷ [])
 first_test = record {
-  absent = λ v h. let t : v 0 ≡ false = off (v 0) (sym (at_six v) ∙ h) in rw t refl;
+  absent = λ v h. let t : v 0 ≡ false = when_false (v 0) (sym (at_six v) ∙ h) in rw t refl;
   present = said;
 }
   where
     said : (i : ℕ) (r : Row) (v : Valuation) → slice_get (row1 (pos 1) (pos 9) ∷ row1 (negsuc 0) (negsuc 9) ∷ []) i ≡ Some r
         → is_in counting_nodes (6 ∷ 7 ∷ 8 ∷ []) (i + 1) v ≡ true → counting.row v 0 ≡ Some r
-    said zero r v got h = let t : (v 0 ≡ true) × (v 2 ≡ true) = on_on (v 0) (v 2) (sym (at_seven v) ∙ h) in rw (t.0, t.1) got
-    said (suc zero) r v got h = let t : (v 0 ≡ true) × (v 2 ≡ false) = on_off (v 0) (v 2) (sym (at_eight v) ∙ h) in rw (t.0, t.1) got
+    said zero r v got h = let t : (v 0 ≡ true) × (v 2 ≡ true) = both_true (v 0) (v 2) (sym (at_seven v) ∙ h) in rw (t.0, t.1) got
+    said (suc zero) r v got h = let t : (v 0 ≡ true) × (v 2 ≡ false) = true_then_false (v 0) (v 2) (sym (at_eight v) ∙ h) in rw (t.0, t.1) got
     said (suc (suc i)) r v got h = nothing_got r got
 
 second_test : AreTestAnswers counting counting_nodes 1 (6 ∷ 9 ∷ 10 ∷ []) (row1 (pos 1) (pos 10) ∷ row1 (negsuc 0) (negsuc 10) ∷ [])
 second_test = record {
-  absent = λ v h. let t : v 0 ≡ false = off (v 0) (sym (at_six v) ∙ h) in rw t refl;
+  absent = λ v h. let t : v 0 ≡ false = when_false (v 0) (sym (at_six v) ∙ h) in rw t refl;
   present = said;
 }
   where
     said : (i : ℕ) (r : Row) (v : Valuation) → slice_get (row1 (pos 1) (pos 10) ∷ row1 (negsuc 0) (negsuc 10) ∷ []) i ≡ Some r
         → is_in counting_nodes (6 ∷ 9 ∷ 10 ∷ []) (i + 1) v ≡ true → counting.row v 1 ≡ Some r
-    said zero r v got h = let t : (v 0 ≡ true) × (v 3 ≡ true) = on_on (v 0) (v 3) (sym (at_nine v) ∙ h) in rw (t.0, t.1) got
-    said (suc zero) r v got h = let t : (v 0 ≡ true) × (v 3 ≡ false) = on_off (v 0) (v 3) (sym (at_ten v) ∙ h) in rw (t.0, t.1) got
+    said zero r v got h = let t : (v 0 ≡ true) × (v 3 ≡ true) = both_true (v 0) (v 3) (sym (at_nine v) ∙ h) in rw (t.0, t.1) got
+    said (suc zero) r v got h = let t : (v 0 ≡ true) × (v 3 ≡ false) = true_then_false (v 0) (v 3) (sym (at_ten v) ∙ h) in rw (t.0, t.1) got
     said (suc (suc i)) r v got h = nothing_got r got
 
 memory : AreUpdateAnswers counting counting_nodes 0 (6 ∷ 7 ∷ 8 ∷ []) (form1 (pos 0) (pos 0) ∷ form1 (pos 1) (pos 1) ∷ form1 (pos 1) (pos 0) ∷ [])
@@ -189,11 +189,11 @@ memory = record { becomes = said }
   where
     said : (i : ℕ) (f : Form) (v : Valuation) → slice_get (form1 (pos 0) (pos 0) ∷ form1 (pos 1) (pos 1) ∷ form1 (pos 1) (pos 0) ∷ []) i ≡ Some f
         → is_in counting_nodes (6 ∷ 7 ∷ 8 ∷ []) i v ≡ true → counting.update v 0 ≡ f
-    said zero f v got h = let t : v 0 ≡ false = off (v 0) (sym (at_six v) ∙ h) in rw t (same_Some (form1 (pos 0) (pos 0)) f got)
+    said zero f v got h = let t : v 0 ≡ false = when_false (v 0) (sym (at_six v) ∙ h) in rw t (same_Some (form1 (pos 0) (pos 0)) f got)
     said (suc zero) f v got h =
-        let t : (v 0 ≡ true) × (v 2 ≡ true) = on_on (v 0) (v 2) (sym (at_seven v) ∙ h) in rw (t.0, t.1) (same_Some (form1 (pos 1) (pos 1)) f got)
+        let t : (v 0 ≡ true) × (v 2 ≡ true) = both_true (v 0) (v 2) (sym (at_seven v) ∙ h) in rw (t.0, t.1) (same_Some (form1 (pos 1) (pos 1)) f got)
     said (suc (suc zero)) f v got h =
-        let t : (v 0 ≡ true) × (v 2 ≡ false) = on_off (v 0) (v 2) (sym (at_eight v) ∙ h) in rw (t.0, t.1) (same_Some (form1 (pos 1) (pos 0)) f got)
+        let t : (v 0 ≡ true) × (v 2 ≡ false) = true_then_false (v 0) (v 2) (sym (at_eight v) ∙ h) in rw (t.0, t.1) (same_Some (form1 (pos 1) (pos 0)) f got)
     said (suc (suc (suc i))) f v got h = nothing_got f got
 
 good_at : (t u : Bool) → cond t (cond u true false) true ≡ true → cond t u true ≡ true
@@ -220,7 +220,7 @@ answers = record {
       (three_answers counting_nodes 6 9 10 (λ v. v 0) (λ v. v 3) (omega arith) (omega arith) (omega arith) at_six at_nine at_ten)
       (three_answers counting_nodes 6 7 8 (λ v. v 0) (λ v. v 2) (omega arith) (omega arith) (omega arith) at_six at_seven at_eight)
       (two_answers counting_nodes 11 10 (λ v. v 0) (λ v. v 3) (omega arith) (omega arith) at_eleven at_ten);
-  tests = two (λ t. length (list_at counting_questions.questions t) ≡ length (rows_at counting_questions.rows t) + 1) refl refl;
+  tests = two_tests (λ t. length (list_at counting_questions.questions t) ≡ length (rows_at counting_questions.rows t) + 1) refl refl;
   memories = one_memory;
   sides = refl;
 }
@@ -235,7 +235,7 @@ asked = record {
   answers = answers;
   many_tests = refl;
   many_memories = refl;
-  tests = two (λ t. AreTestAnswers counting counting_nodes t (list_at counting_questions.questions t) (rows_at counting_questions.rows t)) first_test
+  tests = two_tests (λ t. AreTestAnswers counting counting_nodes t (list_at counting_questions.questions t) (rows_at counting_questions.rows t)) first_test
       second_test;
   updates = one_memory;
   observer = sides;

@@ -13,14 +13,14 @@ use Rattle.rv_proofs.specs.Systems.{System, updates_among}
 use Rattle.rv_cases.specs.Conditions.{is_in}
 use Rattle.rv_cases.specs.Questions.{AreTestAnswers, AreSides}
 use Rattle.rv_cases.specs.Telling.{AreTold, AreUpdated, IsObserved, IsNoted}
-use Rattle.rv_cases.proofs.Lists.{got-append, none-at}
+use Rattle.rv_base.proofs.Lists.{none_at, push_got}
 
 pub told_none : (s : System) (inside : Valuation → Bool) (tests : List ℕ) (rows : List Row) → tests ≡ [] → rows ≡ [] → AreTold s inside 0 tests rows
 told_none s inside tests rows e f = record {
-  known = λ i t g. absurd (none-at tests i t e g);
-  rising = λ i j t u less g k. absurd (none-at tests i t e g);
+  known = λ i t g. absurd (none_at tests i t e g);
+  rising = λ i j t u less g k. absurd (none_at tests i t e g);
   counts = ap (λ (l : List Row). length l) f ∙ sym (ap (λ (l : List ℕ). length l) e);
-  present = λ i t r v g k on. absurd (none-at tests i t e g);
+  present = λ i t r v g k on. absurd (none_at tests i t e g);
   absent = λ t low. absurd (omega arith);
 }
 
@@ -40,22 +40,22 @@ told_present s inside n tests rows r here h = record {
   known = λ i t g. ⊎_elim
       (λ o. let low : t < n = h.known i t o.1 in omega arith)
       (λ e. omega (arith, e.1))
-      (got-append tests n t i g);
+      (push_got tests n t i g);
   rising = λ i j t u less g k. ⊎_elim
-      (λ b. ⊎_elim (λ a. h.rising i j t u less a.1 b.1) (λ a. absurd (omega (arith, a.0, b.0))) (got-append tests n t i g))
+      (λ b. ⊎_elim (λ a. h.rising i j t u less a.1 b.1) (λ a. absurd (omega (arith, a.0, b.0))) (push_got tests n t i g))
       (λ b. ⊎_elim
       (λ a. let low : t < n = h.known i t a.1 in omega (arith, b.1))
       (λ a. absurd (omega (arith, a.0, b.0)))
-      (got-append tests n t i g))
-      (got-append tests n u j k);
+      (push_got tests n t i g))
+      (push_got tests n u j k);
   counts = omega (arith, length-append tests (n ∷ []), length-append rows (r ∷ []), h.counts);
   present = λ i t q v g k on. ⊎_elim
-      (λ a. ⊎_elim (λ b. h.present i t q v a.1 b.1 on) (λ b. absurd (omega (arith, a.0, b.0, h.counts))) (got-append rows r q i k))
+      (λ a. ⊎_elim (λ b. h.present i t q v a.1 b.1 on) (λ b. absurd (omega (arith, a.0, b.0, h.counts))) (push_got rows r q i k))
       (λ a. ⊎_elim
       (λ b. absurd (omega (arith, a.0, b.0, h.counts)))
       (λ b. ap (s.row v) (sym a.1) ∙ here v on ∙ ap (λ (x : Row). Some x) b.1)
-      (got-append rows r q i k))
-      (got-append tests n t i g);
+      (push_got rows r q i k))
+      (push_got tests n t i g);
   absent = λ t low. ⊎_elim
       (λ e. inl (subst (Contains (tests ++ n ∷ [])) (sym e) (Contains-push tests n)))
       (λ other. ⊎_elim (λ c. inl (Contains-append_left tests (n ∷ []) t c)) (λ a. inr a) (h.absent t (omega arith)))

@@ -1,10 +1,10 @@
 -- The certificate of a closed row claim, put together from its parts.
-use Rattle.std.proofs.Common.{◌≡◌, ◌≢◌, ℕ, zero, suc, ◌+◌, ◌<◌, ◌^◌, ◌≤ℤ◌, Bool, true, false, cond, not, List, [], ◌∷◌, ◌++◌, length, get_or, All}
+use Rattle.std.proofs.Common.{◌≡◌, ℕ, zero, suc, ◌+◌, ◌<◌, ◌^◌, ◌≤ℤ◌, Bool, true, false, cond, List, [], ◌∷◌, ◌++◌, length, get_or, All}
 use Rattle.std.proofs.Common.{Some, IsTrue, slice_get}
 use Rattle.std.proofs.Common.{arith, lit≤, refl, sym, ap, ◌∙◌, subst, append-nil, ◌⊎◌, inl, inr}
 use Rattle.std.proofs.Common.{None as Nothing}
 use Rattle.std.proofs.lemmas.Int.{ints}
-use Rattle.std.proofs.lemmas.Bool.{cases_Bool, cases_eq}
+use Rattle.std.proofs.lemmas.Bool.{cases_Bool}
 use Rattle.std.proofs.lemmas.Option.{slice_get_within, slice_get-get_or, get_or_from_slice_get, same_Some}
 use Rattle.std.proofs.lemmas.List.Elements.{All-nil, All-cons}
 use Rattle.rv_diagram.specs.Nodes.{Valuation}
@@ -28,7 +28,7 @@ use Rattle.rv_proofs.specs.declared.certificate.Entry.{Entry}
 use Rattle.rv_proofs.specs.declared.certificate.EntryKind.{EntryKind}
 use Rattle.rv_proofs.specs.declared.certificate.EntryKind.TheVariants.{Dead, Go, Loop}
 use Rattle.rv_proofs.specs.declared.report.Case.{Case}
-use Rattle.rv_proofs.proofs.Sampling.{prove_one, record_one as one_record}
+use Rattle.rv_proofs.proofs.Sampling.{prove_one, record_one}
 use Rattle.rv_walk.specs.Ends.{has}
 use Rattle.rv_walk.specs.Plain.{ArePlain}
 use Rattle.rv_claims.specs.declared.claim.Claim.{Claim}
@@ -40,36 +40,18 @@ use Rattle.rv_claimed.specs.declared.locations.Place.{Place}
 use Rattle.rv_claimed.specs.Certifying.{IsBad, IsSetting, IsRangedKind, IsEntryOf, AreEntriesOf, IsBadCase, AreListed, IsLocationOf}
 use Rattle.rv_claimed.specs.Building.{ArePartsOf, IsRangedLocation, IsFailingPlace, IsPlaceOf, left_of, IsProof}
 use Rattle.rv_claimed.proofs.Pairing.{no_row}
-use Rattle.rv_claimed.proofs.Entering.{no_form, both}
+use Rattle.rv_claimed.proofs.Entering.{no_form}
 use Rattle.rv_claimed.proofs.Partition.{all_each}
 use Rattle.rv_claimed.proofs.Leaving.{nothing_left, some_left, claim_left}
 use Rattle.rv_proofs.proofs.Claims.{update_at}
-use Rattle.rv_walk.proofs.Stages.{rest_from as and_not, rest_parts as both_parts}
-
-some_at : {X : Type 0} (xs : List X) (j : ℕ) → j < length xs → (x : X) × (slice_get xs j ≡ Some x)
-some_at [] j l = absurd (omega arith)
-some_at (x ∷ xs) zero l = (x, refl)
-some_at (x ∷ xs) (suc j) l = some_at xs j (omega arith)
-
--- a number is in a list, with its place, or it is not
-find_in : (xs : List ℕ) (t : ℕ) → ((i : ℕ) × (slice_get xs i ≡ Some t)) ⊎ ((i : ℕ) → slice_get xs i ≡ Some t → ⊥)
-find_in [] t = inr (λ i e. cc)
-find_in (x ∷ xs) t = go (cases_eq x t) (find_in xs t)
-  where
-    go : (x ≡ t) ⊎ (x ≢ t) → ((i : ℕ) × (slice_get xs i ≡ Some t)) ⊎ ((i : ℕ) → slice_get xs i ≡ Some t → ⊥)
-        → ((i : ℕ) × (slice_get (x ∷ xs) i ≡ Some t)) ⊎ ((i : ℕ) → slice_get (x ∷ xs) i ≡ Some t → ⊥)
-    go (inl e) r = inl (0, ap Some e)
-    go (inr ne) (inl (i, at)) = inl (suc i, at)
-    go (inr ne) (inr none) = inr no
-      where
-        no : (i : ℕ) → slice_get (x ∷ xs) i ≡ Some t → ⊥
-        no zero e = ne (same_Some x t e)
-        no (suc i) e = none i e
+use Rattle.rv_walk.proofs.Stages.{rest_from, rest_parts}
+use Rattle.rv_base.proofs.Lists.{found_or_not, item_at}
+use Rattle.rv_base.proofs.Truths.{clash}
 
 -- throughout a case the tests and the updates are the same
 module _ (s : System) (case : Case) (is : IsCaseOf s case) (v w : Valuation) (v_in : IsIn case.condition v) (w_in : IsIn case.condition w) where
   rows_alike : (t : ℕ) → t < s.tests → s.row w t ≡ s.row v t
-  rows_alike t known = go (find_in case.tests t)
+  rows_alike t known = go (found_or_not case.tests t)
     where
       go : ((i : ℕ) × (slice_get case.tests i ≡ Some t)) ⊎ ((i : ℕ) → slice_get case.tests i ≡ Some t → ⊥) → s.row w t ≡ s.row v t
       go (inl (i, at)) =
@@ -110,11 +92,11 @@ module _ (s : System) (c : RowClaim) (from : Frozen) (rows : List Row) (setting 
   case_of j e at =
       let there : slice_get es j ≡ Some e = ap (λ (xs : List Entry). slice_get xs j) (sym is.entries) ∙ at in
       let size = entries.size in
-      let (case, case_at) = some_at cases j (omega (arith, slice_get_within es j e there, size)) in
+      let (case, case_at) = item_at cases j (omega (arith, slice_get_within es j e there, size)) in
       record { case = case; at = case_at; is_case = are.each j case case_at; entry = entries.each j case e case_at there }
 
   entry_there : (j : ℕ) → j < length cases → (e : Entry) × (slice_get es j ≡ Some e)
-  entry_there j m = let size = entries.size in some_at es j (omega (arith, m, size))
+  entry_there j m = let size = entries.size in item_at es j (omega (arith, m, size))
 
   within : (j : ℕ) (e : Entry) (h : HasCase j e) (v : Valuation) → IsIn e.condition v → IsIn h.case.condition v
   within j e h v i = let r = h.entry in subst (λ (f : Frozen). IsIn f v) r.condition i
@@ -212,7 +194,7 @@ module _ (s : System) (c : RowClaim) (from : Frozen) (rows : List Row) (setting 
       one : (j : ℕ) (d : Multipliers) → j < length l.by_entry → IsRecord (length rows) (get_or l.by_entry j d)
       one j d m =
           let inside : j < length rows = omega (arith, m, is.count) in
-          subst (IsRecord (length rows)) (sym (get_or_from_slice_get l.by_entry j (by_one j) d (is.by_entry j inside))) (one_record (length rows) j inside)
+          subst (IsRecord (length rows)) (sym (get_or_from_slice_get l.by_entry j (by_one j) d (is.by_entry j inside))) (record_one (length rows) j inside)
 
       condition_of : (j : ℕ) (e : Entry) → HasCase j e → IsCondition s e.condition
       condition_of j e h =
@@ -251,23 +233,23 @@ module _ (s : System) (many : ℕ) (c : Claim) (start others : Part) (are : AreP
   unticked v i = let j = are.judge in let y = j.system in y.unticked v (started v i)
 
   apart : (v : Valuation) → IsIn others.control v → (has c.reached v ≡ true) × (has start.control v ≡ false)
-  apart v i = let o = are.are_others in both_parts (has c.reached v) (has start.control v) (sym (o.exact v) ∙ i)
+  apart v i = let o = are.are_others in rest_parts (has c.reached v) (has start.control v) (sym (o.exact v) ∙ i)
 
   in_others : (v : Valuation) → has c.reached v ≡ true → has start.control v ≡ false → IsIn others.control v
-  in_others v r n = let o = are.are_others in o.exact v ∙ and_not (has c.reached v) (has start.control v) r n
+  in_others v r n = let o = are.are_others in o.exact v ∙ rest_from (has c.reached v) (has start.control v) r n
 
   ticked : (v : Valuation) → IsIn others.control v → v 0 ≡ true
   ticked v i = let k = are.kept in go (k.ticked v (apart v i).0)
     where
       go : IsTrue (s.initial v) ⊎ (v 0 ≡ true) → v 0 ≡ true
-      go (inl starts) = absurd (both (has start.control v) ((initial_set.exact v).1 starts) (apart v i).1)
+      go (inl starts) = absurd (clash (has start.control v) ((initial_set.exact v).1 starts) (apart v i).1)
       go (inr on) = on
 
   not_started : (v : Valuation) → v 0 ≡ true → has start.control v ≡ false
   not_started v on = go (cases_Bool (has start.control v))
     where
       go : (has start.control v ≡ true) ⊎ (has start.control v ≡ false) → has start.control v ≡ false
-      go (inl i) = absurd (both (v 0) on (unticked v i))
+      go (inl i) = absurd (clash (v 0) on (unticked v i))
       go (inr n) = n
 
   -- the initial control states, without rows

@@ -37,11 +37,7 @@ use Rattle.rv_claimed.specs.Certifying.{IsGoodCase, IsBadCase, IsMadeEntry}
 use Rattle.rv_claimed.proofs.Pairing.{no_row, pair_to, shows_same, shows_swapped}
 use Rattle.rv_claimed.proofs.Placed.{pair_divisor, pair_record, reached_shown, shut_refuted}
 use Rattle.rv_proofs.proofs.Claims.{update_at, updates_long}
-
--- truth values
-pub both : (b : Bool) → b ≡ true → b ≡ false → ⊥
-both true e d = cc
-both false e d = cc
+use Rattle.rv_base.proofs.Truths.{clash}
 
 pub unless : (b : Bool) → ¬ (b ≡ false) → b ≡ true
 unless true n = refl
@@ -245,7 +241,7 @@ module _ (s : System) (many : ℕ) (c : Claim) (judge : IsJudgeable s many c) (f
       → IsMadeEntry s (claim_of c) given case (record { entry = record { condition = case.condition; kind = kind }; fails = fails })
   made_entry kind fails made is = record {
     entry = entry_there kind made;
-    good = λ off. good_case kind made (λ bad. both fails (is.1 bad) off);
+    good = λ off. good_case kind made (λ bad. clash fails (is.1 bad) off);
     bad = λ on. let (off, step) = is.0 on in bad_case kind made off step;
   }
 

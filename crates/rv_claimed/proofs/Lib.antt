@@ -1,4 +1,3 @@
-pub mod Growing
 pub mod Pairing
 pub mod Placed
 pub mod Entering

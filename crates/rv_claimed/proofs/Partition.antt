@@ -23,7 +23,7 @@ use Rattle.rv_proofs.specs.declared.certificate.EntryKind.{EntryKind}
 use Rattle.rv_proofs.specs.declared.certificate.EntryKind.TheVariants.{Dead, Go, Loop}
 use Rattle.rv_claims.specs.Certify.{IsUniform, NamesPresent, IsRefutedAt, IsShownAt, IsClaimKind, IsClaimLocation, IsClaimCertificate}
 use Rattle.rv_claimed.proofs.Entering.{no_form}
-use Rattle.rv_claims.proofs.Certifying.{rows-same as rows_same}
+use Rattle.rv_claims.proofs.Certifying.{rows-same}
 use Rattle.rv_proofs.proofs.Claims.{update_at, updates_long}
 
 pub all_each : (P : Implication → Type 0) (want : Row → Wanted) (given rows : List Row) (by : List Multipliers)
@@ -95,7 +95,7 @@ module _ (s : System) (thresholds : List ℤ) (c : RowClaim) (cert : Certificate
         P = AreShutAtOnce
 
         same : premises_at s c w ≡ premises_at s c v
-        same = rw (states.ticks v w u.scope.control scope.control, rows_same s v w s.tests (u.rows w scope)) refl
+        same = rw (states.ticks v w u.scope.control scope.control, rows-same s v w s.tests (u.rows w scope)) refl
 
     kind_taken : (e : Entry) (v : Valuation) → IsUniform s l e v → (k : EntryKind) → IsClaimKind s c given v k → IsStepKind k
         → (w : Valuation) → IsInScope s l e w → IsRowTaken s c w

@@ -11,15 +11,17 @@ use Rattle.rv_proofs.specs.declared.certificate.Entry.{Entry}
 use Rattle.rv_proofs.specs.declared.report.Case.{Case}
 use Rattle.rv_claimed.specs.declared.entries.Made.{Made}
 use Rattle.rv_claimed.specs.Certifying.{IsReached, AreReached, IsEntryOf, AreEntriesOf, IsGoodCase, IsBadCase, IsMadeEntry, AreListed}
-use Rattle.rv_claimed.proofs.Growing.{push_before}
-use Rattle.rv_symbolic.proofs.Parting.{kept-append as push_kept, new-append as push_last}
+use Rattle.rv_symbolic.proofs.Parting.{kept-append}
+use Rattle.rv_base.proofs.Lists.{get_push, push_cases}
+use Rattle.rv_diagram.proofs.Several.{true_or}
+use Rattle.std.proofs.lemmas.Bool.{or_parts}
 
 pub reached_more : (many : ℕ) (given : List Row) (c : Case) (wanted : List Row) (n : ℕ) (reach : List Multipliers) (m : Multipliers) (r : Row)
     → AreReached many given c wanted n reach → slice_get wanted n ≡ Some r → IsReached many given c r m
     → AreReached many given c wanted (n + 1) (reach ++ m ∷ [])
 reached_more many given c wanted n reach m r are at here = record {
   size = let s = are.size in omega (arith, s, length_push reach m);
-  each = λ k w x w_at x_at. go k w x w_at (push_before reach m x k x_at);
+  each = λ k w x w_at x_at. go k w x w_at (push_cases reach m x k x_at);
 }
   where
     go : (k : ℕ) (w : Row) (x : Multipliers) → slice_get wanted k ≡ Some w → (slice_get reach k ≡ Some x) ⊎ ((k ≡ length reach) × (m ≡ x))
@@ -30,22 +32,13 @@ reached_more many given c wanted n reach m r are at here = record {
         let q : r ≡ w = same_Some r w (sym at ∙ ap (slice_get wanted) (sym (e ∙ s)) ∙ w_at) in
         subst (λ (y : Row). IsReached many given c y x) q (subst (λ (y : Multipliers). IsReached many given c r y) same here)
 
--- truth values
-neither : (a b : Bool) → (a || b) ≡ false → (a ≡ false) × (b ≡ false)
-neither false b e = (refl, e)
-neither true b e = cc
-
-one_of : (a b : Bool) → (a || b) ≡ true → (a ≡ true) ⊎ (b ≡ true)
-one_of true b e = inl refl
-one_of false b e = inr e
-
 module _ (s : System) (c : RowClaim) (given : List Row) where
   -- one entry more, for one case more
   entries_more : (cases : List Case) (es : List Entry) (x : Case) (e : Entry) → AreEntriesOf s c given cases (length cases) es
       → IsEntryOf s c given x e → AreEntriesOf s c given (cases ++ x ∷ []) (length (cases ++ x ∷ [])) (es ++ e ∷ [])
   entries_more cases es x e are here = record {
     size = let n = are.size in omega (arith, n, length_push cases x, length_push es e);
-    each = λ j y z y_at z_at. go j y z (push_before cases x y j y_at) (push_before es e z j z_at);
+    each = λ j y z y_at z_at. go j y z (push_cases cases x y j y_at) (push_cases es e z j z_at);
   }
     where
       clash : (j : ℕ) (y : Case) → slice_get cases j ≡ Some y → j ≡ length es → IsEntryOf s c given y e
@@ -73,8 +66,8 @@ module _ (s : System) (c : RowClaim) (given : List Row) where
       → IsMadeEntry s c given x m → AreListed s c given (cases ++ x ∷ []) (es ++ m.entry ∷ []) (fails || m.fails)
   listed_more cases es fails x m are here = record {
     entries = entries_more cases es x m.entry are.entries here.entry;
-    good = λ off j y at. go (neither fails m.fails off) j y (push_before cases x y j at);
-    bad = λ on. some (one_of fails m.fails on);
+    good = λ off j y at. go (or_parts fails m.fails off) j y (push_cases cases x y j at);
+    bad = λ on. some (true_or fails m.fails on);
   }
     where
       go : (fails ≡ false) × (m.fails ≡ false) → (j : ℕ) (y : Case) → (slice_get cases j ≡ Some y) ⊎ ((j ≡ length cases) × (x ≡ y)) → IsGoodCase s c y
@@ -85,13 +78,13 @@ module _ (s : System) (c : RowClaim) (given : List Row) where
           → (j : ℕ) × (y : Case) × (e : Entry) × (slice_get (cases ++ x ∷ []) j ≡ Some y) × (slice_get (es ++ m.entry ∷ []) j ≡ Some e) × IsBadCase s c y e
       some (inl on) =
           let (j, y, e, y_at, e_at, bad) = are.bad on in
-          (j, y, e, push_kept cases x y j y_at, push_kept es m.entry e j e_at, bad)
+          (j, y, e, kept-append cases x y j y_at, kept-append es m.entry e j e_at, bad)
       some (inr on) =
           let size = are.entries.size in (
             length cases,
             x,
             m.entry,
-            push_last cases x,
-            ap (slice_get (es ++ m.entry ∷ [])) (sym size) ∙ push_last es m.entry,
+            get_push cases x,
+            ap (slice_get (es ++ m.entry ∷ [])) (sym size) ∙ get_push es m.entry,
             here.bad on,
           )

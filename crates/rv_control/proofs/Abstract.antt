@@ -26,7 +26,6 @@ use Rattle.rv_agreement.specs.Valuations.{all_comparisons, Agrees, updated, next
 use Rattle.rv_agreement.specs.Agreement.{State, point, IsWholeInstant, IsNext, IsTyped, IsAgreed, IsWell, Gives, value_there, forms_from, updates, bit_count}
 use Rattle.rv_agreement.specs.Agreement.{IsSpelledAs, Leads}
 use Rattle.rv_agreement.specs.FlatRuns.{IsFlatRun, AreMetIn}
-use Rattle.rv_agreement.proofs.Controls.{no_flag}
 use Rattle.rv_agreement.proofs.Found.{length-wholes}
 use Rattle.rv_agreement.proofs.Indexed.{indexed}
 use Rattle.rv_agreement.proofs.Spelled.{is_spelled, same_bits}
@@ -37,11 +36,13 @@ use Rattle.rv_control.specs.Named.{by_names, by_numbers, truth_of, tick_variable
 use Rattle.rv_control.specs.Symbolic.{symbolic}
 use Rattle.rv_control.specs.Control.{names_label, memories_named, inputs_named, none_ticked, is_initial, tick_index, bit_of, all_met, is_allowed, row_of}
 use Rattle.rv_control.specs.Control.{next_truth, control_over}
-use Rattle.rv_control.proofs.Names.{both, tick_itself, kept_itself, input_itself, test_itself, found_truth, tick_found}
+use Rattle.rv_control.proofs.Names.{tick_itself, kept_itself, input_itself, test_itself, found_truth, tick_found}
 use Rattle.rv_control.proofs.Readings.{is_symbolic}
 use Rattle.rv_control.proofs.Alike.{NoControlForms, IsLike, symbolic_same, agrees_same, spells_as, coded_as}
 use Rattle.rv_control.proofs.Listed.{IsStateBit, a_tick, a_bit, IsListed}
 use Rattle.rv_control.proofs.Places.{row_told, in_bits, in_given, in_order, states_are, state_at}
+use Rattle.rv_types.proofs.ChainLaws.{no_flag}
+use Rattle.std.proofs.lemmas.Bool.{and_from}
 
 -- What is taken from the agreement of instants.
 pub record Laws : Type 0 where
@@ -76,7 +77,7 @@ pub memories_there : (labels : List ℕ) (w : Valuation) (ms : List KeptMemory)
     → memories_named labels w ms ≡ true
 unfolding memories_named
 memories_there labels w [] coded = refl
-memories_there labels w (x ∷ xs) coded = both (names_label labels x.kind (w.kept x.place)) (memories_named labels w xs)
+memories_there labels w (x ∷ xs) coded = and_from (names_label labels x.kind (w.kept x.place)) (memories_named labels w xs)
     (label_named labels x.kind (w.kept x.place) (coded 0 (omega arith))) (memories_there labels w xs (λ m lt. coded (suc m) (omega (arith, lt))))
 
 pub memories_told : (labels : List ℕ) (w : Valuation) (ms : List KeptMemory) → memories_named labels w ms ≡ true
@@ -94,7 +95,7 @@ unfolding inputs_named
 inputs_there labels w i [] coded = refl
 inputs_there labels w i (k ∷ ks) coded =
     let here : i + 0 ≡ i = omega arith in
-    both (names_label labels k (w.input i)) (inputs_named labels w (suc i) ks)
+    and_from (names_label labels k (w.input i)) (inputs_named labels w (suc i) ks)
     (label_named labels k (w.input i) (subst (λ j. IsCodedAs labels k (w.input j)) here (coded 0 (omega arith))))
     (inputs_there labels w (suc i) ks (λ j lt. let e : i + suc j ≡ suc i + j = omega arith in
     subst (λ n. IsCodedAs labels (kind_at ks j) (w.input n)) e (coded (suc j) (omega (arith, lt)))))
@@ -115,7 +116,7 @@ inputs_told labels w i (k ∷ ks) e (suc j) lt =
 ticks_there : (w : Valuation) (ts : List (Option Sites)) → ((k : ℕ) → k < length ts → w.ticked (slice_index_or ts k Nothing) ≡ false) → none_ticked w ts ≡ true
 unfolding none_ticked
 ticks_there w [] none = refl
-ticks_there w (t ∷ ts) none = both (not (w.ticked t)) (none_ticked w ts) (ap not (none 0 (omega arith)))
+ticks_there w (t ∷ ts) none = and_from (not (w.ticked t)) (none_ticked w ts) (ap not (none 0 (omega arith)))
     (ticks_there w ts (λ k lt. none (suc k) (omega (arith, lt))))
 
 pub ticks_told : (w : Valuation) (ts : List (Option Sites)) → none_ticked w ts ≡ true → (k : ℕ) → k < length ts → w.ticked (slice_index_or ts k Nothing) ≡ false
@@ -128,7 +129,7 @@ pub initial_there : (s : System) (w : Valuation) → ((k : ℕ) → k < length s
     → ((m : ℕ) → m < length s.memories → IsCodedAs s.labels (kind_at (memory_kinds s) m) (w.kept (slice_index_or (memory_places s) m [])))
     → is_initial s w ≡ true
 unfolding is_initial
-initial_there s w none coded = both (none_ticked w s.ticks) (memories_named s.labels w s.memories) (ticks_there w s.ticks none)
+initial_there s w none coded = and_from (none_ticked w s.ticks) (memories_named s.labels w s.memories) (ticks_there w s.ticks none)
     (memories_there s.labels w s.memories coded)
 
 -- Assertions.
@@ -136,7 +137,7 @@ module _ (s : System) (w : Valuation) (row : List (Option Reading)) where
   met_there : (xs : List Item) → ((k : ℕ) → k < length xs → is_met Reading (reads_at s w) (found_at s w) row (nth_item xs k) ≡ true) → all_met s w row xs ≡ true
   unfolding all_met
   met_there [] met = refl
-  met_there (x ∷ xs) met = both (is_met Reading (reads_at s w) (found_at s w) row x) (all_met s w row xs) (met 0 (omega arith))
+  met_there (x ∷ xs) met = and_from (is_met Reading (reads_at s w) (found_at s w) row x) (all_met s w row xs) (met 0 (omega arith))
       (met_there xs (λ k lt. met (suc k) (omega (arith, lt))))
 
   met_told : (xs : List Item) → all_met s w row xs ≡ true → (k : ℕ) → k < length xs → is_met Reading (reads_at s w) (found_at s w) row (nth_item xs k) ≡ true
@@ -147,8 +148,8 @@ module _ (s : System) (w : Valuation) (row : List (Option Reading)) where
 
   pub allowed_there : IsAllowed s w row → is_allowed s w row ≡ true
   unfolding is_allowed
-  allowed_there is = both (memories_named s.labels w s.memories && inputs_named s.labels w 0 s.inputs) (all_met s w row s.assertions)
-      (both (memories_named s.labels w s.memories) (inputs_named s.labels w 0 s.inputs) (memories_there s.labels w s.memories is.0.memories)
+  allowed_there is = and_from (memories_named s.labels w s.memories && inputs_named s.labels w 0 s.inputs) (all_met s w row s.assertions)
+      (and_from (memories_named s.labels w s.memories) (inputs_named s.labels w 0 s.inputs) (memories_there s.labels w s.memories is.0.memories)
       (inputs_there s.labels w 0 s.inputs (λ j lt. let e : j ≡ 0 + j = omega arith in
       subst (λ n. IsCodedAs s.labels (kind_at s.inputs j) (w.input n)) e (is.0.inputs j lt))))
       (met_there s.assertions is.1)

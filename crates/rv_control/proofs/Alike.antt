@@ -28,9 +28,9 @@ use Rattle.rv_agreement.specs.Valuations.{width, rank, whole_count, reads_at, fo
 use Rattle.rv_agreement.specs.Valuations.{comparisons_of, item_comparisons, all_items, all_comparisons, IsPresent, side_form, tested_form, IsRowOf, read}
 use Rattle.rv_agreement.specs.Valuations.{tested, Agrees, IsCodedAs, IsCoded}
 use Rattle.rv_agreement.specs.Agreement.{State, IsSpelled, Spells, IsRule, IsPlaced, Fits, FormFits, AllFit, ItemFits, IsNamed, IsWell, bit_count}
-use Rattle.rv_agreement.proofs.Controls.{no_flag}
 use Rattle.rv_agreement.proofs.Matching.{read_in, wider_item, Inside, inside, own_there}
-use Rattle.rv_types.proofs.Members.{in_flat_map, of_flat_map as from_flat_map}
+use Rattle.rv_types.proofs.Members.{in_flat_map, of_flat_map}
+use Rattle.rv_types.proofs.ChainLaws.{no_flag}
 
 -- No expression of another type than int has a form.
 abbrev pub NoControlForms : Type 0
@@ -267,7 +267,7 @@ module _ (controls : NoControlForms) (s : System) (well : IsWell s) (v w : Valua
 
   pub inside_of : (c : Comparison) → Contains (all_comparisons s) c → Inside s (Contains (all_comparisons s)) total c
   inside_of c there =
-      let x = from_flat_map (item_comparisons s.flows) (all_items s) c there in
+      let x = of_flat_map (item_comparisons s.flows) (all_items s) c there in
       let fit = item_fits x.0 x.1 in
       inside s (Contains (all_comparisons s)) total clocks x.0.clock fit.0 x.0.body fit.1.0 fit.1.1 (item_covered x.0 x.1) c x.2
 

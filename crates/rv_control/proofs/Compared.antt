@@ -23,9 +23,9 @@ use Rattle.rv_types.specs.Needs.{Giver, Given, Of, Gives, given, by_equation, by
 use Rattle.rv_agreement.specs.Valuations.{is_placed}
 use Rattle.rv_agreement.specs.Programs.{spot, is_test, operator_place, Compared, own_compared, compared, form_compared, compared_all, IsComparison}
 use Rattle.rv_agreement.specs.Programs.{in_flow, in_memory, in_assertion}
-use Rattle.rv_agreement.proofs.Controls.{no_flag}
 use Rattle.rv_agreement.proofs.Suited.{either_of, one_of}
-use Rattle.rv_types.proofs.Members.{at_head, cons_cases as head_or_tail, in_flat_map, in_tail, nothing_in as none_in}
+use Rattle.rv_types.proofs.Members.{at_head, cons_cases, in_flat_map, in_tail, nothing_in}
+use Rattle.rv_types.proofs.ChainLaws.{no_flag}
 
 -- The parts of an argument, of an operand of a delay and of an argument of a call are parts.
 argument_parts : (es : Trees) (j : ℕ) (e x : Tree) → IsArgument es j e → Contains (parts e) x → Contains (parts_of_all es) x
@@ -38,17 +38,17 @@ mutual
 
   form_delay_parts : (site : Option ℕ) (form : Form) (d : Delay) (x : Tree) → Contains (form_delays site form) d → Contains (parts d.operand) x
       → Contains (form_parts form) x
-  form_delay_parts site True d x w v = none_in d w
-  form_delay_parts site False d x w v = none_in d w
-  form_delay_parts site (Number n) d x w v = none_in d w
-  form_delay_parts site (Named y) d x w v = none_in d w
+  form_delay_parts site True d x w v = nothing_in d w
+  form_delay_parts site False d x w v = nothing_in d w
+  form_delay_parts site (Number n) d x w v = nothing_in d w
+  form_delay_parts site (Named y) d x w v = nothing_in d w
   form_delay_parts site (Not e) d x w v = delay_parts e d x w v
   form_delay_parts site (Minus e) d x w v = delay_parts e d x w v
-  form_delay_parts site (Pre e) d x w v = elim (head_or_tail (record { site = site; operand = e }) (delays e) d w) [
+  form_delay_parts site (Pre e) d x w v = elim (cons_cases (record { site = site; operand = e }) (delays e) d w) [
     | inl is ↦ subst (λ (z : Delay). Contains (parts z.operand) x) (sym is) v
     | inr rest ↦ delay_parts e d x rest v
   ]
-  form_delay_parts site (Current e) d x w v = elim (head_or_tail (record { site = site; operand = e }) (delays e) d w) [
+  form_delay_parts site (Current e) d x w v = elim (cons_cases (record { site = site; operand = e }) (delays e) d w) [
     | inl is ↦ subst (λ (z : Delay). Contains (parts z.operand) x) (sym is) v
     | inr rest ↦ delay_parts e d x rest v
   ]
@@ -68,7 +68,7 @@ mutual
   form_delay_parts site (Call f es) d x w v = all_delay_parts es d x w v
 
   all_delay_parts : (es : Trees) (d : Delay) (x : Tree) → Contains (delays_of_all es) d → Contains (parts d.operand) x → Contains (parts_of_all es) x
-  all_delay_parts None d x w v = none_in d w
+  all_delay_parts None d x w v = nothing_in d w
   all_delay_parts (More e es) d x w v = elim (Contains-append_cases (delays e) (delays_of_all es) d w) [
     | inl u ↦ Contains-append_left (parts e) (parts_of_all es) x (delay_parts e d x u v)
     | inr u ↦ Contains-append_right (parts e) (parts_of_all es) x (all_delay_parts es d x u v)
@@ -80,10 +80,10 @@ mutual
 
   form_call_parts : (at : ℕ) (site : Option ℕ) (form : Form) (c : CallTree) (x : Tree) → Contains (form_calls at site form) c
       → Contains (parts_of_all c.args) x → Contains (form_parts form) x
-  form_call_parts at site True c x w v = none_in c w
-  form_call_parts at site False c x w v = none_in c w
-  form_call_parts at site (Number n) c x w v = none_in c w
-  form_call_parts at site (Named y) c x w v = none_in c w
+  form_call_parts at site True c x w v = nothing_in c w
+  form_call_parts at site False c x w v = nothing_in c w
+  form_call_parts at site (Number n) c x w v = nothing_in c w
+  form_call_parts at site (Named y) c x w v = nothing_in c w
   form_call_parts at site (Not e) c x w v = call_parts e c x w v
   form_call_parts at site (Minus e) c x w v = call_parts e c x w v
   form_call_parts at site (Pre e) c x w v = call_parts e c x w v
@@ -101,13 +101,13 @@ mutual
     ])
   ]
   form_call_parts at site (AtMostOne es) c x w v = all_call_parts es c x w v
-  form_call_parts at site (Call f es) c x w v = elim (head_or_tail (record { at = at; site = unwrap_or site 0; name = f; args = es }) (calls_in_all es) c w) [
+  form_call_parts at site (Call f es) c x w v = elim (cons_cases (record { at = at; site = unwrap_or site 0; name = f; args = es }) (calls_in_all es) c w) [
     | inl is ↦ subst (λ (z : CallTree). Contains (parts_of_all z.args) x) (sym is) v
     | inr rest ↦ all_call_parts es c x rest v
   ]
 
   all_call_parts : (es : Trees) (c : CallTree) (x : Tree) → Contains (calls_in_all es) c → Contains (parts_of_all c.args) x → Contains (parts_of_all es) x
-  all_call_parts None c x w v = none_in c w
+  all_call_parts None c x w v = nothing_in c w
   all_call_parts (More e es) c x w v = elim (Contains-append_cases (calls_in e) (calls_in_all es) c w) [
     | inl u ↦ Contains-append_left (parts e) (parts_of_all es) x (call_parts e c x u v)
     | inr u ↦ Contains-append_right (parts e) (parts_of_all es) x (all_call_parts es c x u v)
@@ -131,14 +131,14 @@ module _ (n : NodeTree) where
   body_stands a w x v = Contains-append_right lefts bodies x (in_flat_map (λ (b : AssertionTree). parts b.body) n.assertions a x w v)
 
   delays_right : (qs : List EquationTree) (d : Delay) → Contains (delays_in_equations qs) d → (q : EquationTree) × Contains qs q × Contains (delays q.right) d
-  delays_right [] d w = none_in d w
+  delays_right [] d w = nothing_in d w
   delays_right (q ∷ qs) d w = elim (Contains-append_cases (delays q.right) (delays_in_equations qs) d w) [
     | inl u ↦ (q, at_head q qs, u)
     | inr u ↦ let r = delays_right qs d u in (r.0, in_tail q qs r.0 r.1, r.2)
   ]
 
   delays_body : (qs : List AssertionTree) (d : Delay) → Contains (delays_in_assertions qs) d → (q : AssertionTree) × Contains qs q × Contains (delays q.body) d
-  delays_body [] d w = none_in d w
+  delays_body [] d w = nothing_in d w
   delays_body (q ∷ qs) d w = elim (Contains-append_cases (delays q.body) (delays_in_assertions qs) d w) [
     | inl u ↦ (q, at_head q qs, u)
     | inr u ↦ let r = delays_body qs d u in (r.0, in_tail q qs r.0 r.1, r.2)
@@ -146,7 +146,7 @@ module _ (n : NodeTree) where
 
   calls_right : (qs : List EquationTree) (c : CallTree) → Contains (calls_in_equations qs) c
       → (q : EquationTree) × Contains qs q × Contains (calls_in q.right) c
-  calls_right [] c w = none_in c w
+  calls_right [] c w = nothing_in c w
   calls_right (q ∷ qs) c w = elim (Contains-append_cases (calls_in q.right) (calls_in_equations qs) c w) [
     | inl u ↦ (q, at_head q qs, u)
     | inr u ↦ let r = calls_right qs c u in (r.0, in_tail q qs r.0 r.1, r.2)
@@ -154,7 +154,7 @@ module _ (n : NodeTree) where
 
   calls_body : (qs : List AssertionTree) (c : CallTree) → Contains (calls_in_assertions qs) c
       → (q : AssertionTree) × Contains qs q × Contains (calls_in q.body) c
-  calls_body [] c w = none_in c w
+  calls_body [] c w = nothing_in c w
   calls_body (q ∷ qs) c w = elim (Contains-append_cases (calls_in q.body) (calls_in_assertions qs) c w) [
     | inl u ↦ (q, at_head q qs, u)
     | inr u ↦ let r = calls_body qs c u in (r.0, in_tail q qs r.0 r.1, r.2)
@@ -199,9 +199,9 @@ module _ (program : ProgramTree) (main : Identifier) where
 
 -- what stands alone where one test holds and another does not
 own_told : {X : Type 0} (p b : Bool) (y c : X) → Contains (cond p (cond b [] (y ∷ [])) []) c → (p ≡ true) × (y ≡ c)
-own_told true true y c w = none_in c w
-own_told true false y c w = elim (head_or_tail y [] c w) [ inl is ↦ (refl, is) | inr rest ↦ none_in c rest ]
-own_told false b y c w = none_in c w
+own_told true true y c w = nothing_in c w
+own_told true false y c w = elim (cons_cases y [] c w) [ inl is ↦ (refl, is) | inr rest ↦ nothing_in c rest ]
+own_told false b y c w = nothing_in c w
 
 placed_spot : (t : Bool) (path : Sites) (site : Option ℕ) → is_placed (cond t (spot path site) []) ≡ true
     → (t ≡ true) × (s : ℕ) × (site ≡ Some s) × (cond t (spot path site) [] ≡ path ++ s ∷ [])
@@ -255,14 +255,14 @@ module _ (program : ProgramTree) (i : Instance) where
 
     found_form : (at : ℕ) (k : Option Sites) (site : Option ℕ) (form : Form) (c : Compared) → Contains (form_compared program i k site form) c
         → IsFoundIn (parts (Node at site form)) c
-    found_form at k site True c w = none_in c w
-    found_form at k site False c w = none_in c w
-    found_form at k site (Number n) c w = none_in c w
-    found_form at k site (Named x) c w = none_in c w
+    found_form at k site True c w = nothing_in c w
+    found_form at k site False c w = nothing_in c w
+    found_form at k site (Number n) c w = nothing_in c w
+    found_form at k site (Named x) c w = nothing_in c w
     found_form at k site (Not e) c w = below at site (Not e) (parts e) c (λ x u. u) (found_part k e c w)
     found_form at k site (Minus e) c w = below at site (Minus e) (parts e) c (λ x u. u) (found_part k e c w)
-    found_form at k site (Pre e) c w = none_in c w
-    found_form at k site (Current e) c w = none_in c w
+    found_form at k site (Pre e) c w = nothing_in c w
+    found_form at k site (Current e) c w = nothing_in c w
     found_form at k site (When e n) c w = below at site (When e n) (parts e) c (λ x u. u) (found_part _ e c w)
     found_form at k site (Binary o a b) c w =
         let y : Compared = record { at = operator_place program i site o a; clock = k; operator = o; within = i; left = a; right = b } in
@@ -293,10 +293,10 @@ module _ (program : ProgramTree) (i : Instance) where
           ]
         ]
     found_form at k site (AtMostOne es) c w = below at site (AtMostOne es) (parts_of_all es) c (λ x u. u) (found_all k es c w)
-    found_form at k site (Call f args) c w = none_in c w
+    found_form at k site (Call f args) c w = nothing_in c w
 
     found_all : (k : Option Sites) (es : Trees) (c : Compared) → Contains (compared_all program i k es) c → IsFoundIn (parts_of_all es) c
-    found_all k None c w = none_in c w
+    found_all k None c w = nothing_in c w
     found_all k (More e es) c w = elim (Contains-append_cases (compared program i k e) (compared_all program i k es) c w) [
       | inl u ↦ found_more (parts e) (parts e ++ parts_of_all es) c (λ x v. Contains-append_left (parts e) (parts_of_all es) x v) (found_part k e c u)
       | inr u ↦ found_more (parts_of_all es) (parts e ++ parts_of_all es) c (λ x v. Contains-append_right (parts e) (parts_of_all es) x v) (found_all k es c u)

@@ -34,8 +34,8 @@ use Rattle.rv_control.proofs.Points.{test_of}
 use Rattle.rv_control.proofs.Bounded.{IsBounded, looser, test_bounded, tightened_bounded}
 use Rattle.rv_control.proofs.Weighed.{side_bounded, light_weight, compared_light, forms_have, expression_bounded, updated_bounded}
 use Rattle.rv_control.proofs.System.{is_system}
-use Rattle.rv_flat.proofs.Inlining.{items_kept as kept_items}
-use Rattle.rv_types.proofs.Members.{of_flat_map as from_flat_map}
+use Rattle.rv_flat.proofs.Inlining.{items_kept}
+use Rattle.rv_types.proofs.Members.{of_flat_map}
 
 module _ (controls : NoControlForms) (tight : (r t : Row) → IsTightened r t → IsTightened t t) (program : ProgramTree) (main : Identifier) (f : Flat)
     (flat : IsFlatOf program main f) where
@@ -56,7 +56,7 @@ module _ (controls : NoControlForms) (tight : (r t : Row) → IsTightened r t �
 
   memory_light : (m : ℕ) → m < length s.memories → is_light ws (nth_item (memory_items s) m).body ≡ true
   memory_light m lt =
-      let same = kept_items f.memories f.memories in
+      let same = items_kept f.memories f.memories in
       let many = length-map f.memories (kept_of f.memories) in
       let count = length-map f.memories (memory_item f.memories) in
       subst (λ xs. is_light ws (nth_item xs m).body ≡ true) (sym same)
@@ -81,7 +81,7 @@ module _ (controls : NoControlForms) (tight : (r t : Row) → IsTightened r t �
       → systems.IsTestRow mine r
   row_bounded w row p side r is h =
       let c = h.comparison in
-      let x = from_flat_map (item_comparisons s.flows) (all_items s) c h.there in
+      let x = of_flat_map (item_comparisons s.flows) (all_items s) c h.there in
       let light = compared_light ws s.flows x.0.clock x.0.body (light_item x.0 x.1) c x.2 in
       let ins = inside_of controls s well w w (itself w) row is c h.there in
       let left = looser (width s) _ heaviest (form_of (width s) w.test (read s w row c.left)) light.0

@@ -1,5 +1,5 @@
 -- What a valuation by names says of a variable is what it says by numbers.
-use Rattle.std.proofs.Common.{◌≡◌, inl, inr, ℕ, suc, ◌*◌, ◌<◌, Bool, true, false, ◌&&◌, cond, nat_eq, List, [], ◌∷◌, ◌++◌, length, refl, sym, ◌∙◌, ap, subst}
+use Rattle.std.proofs.Common.{◌≡◌, inl, inr, ℕ, suc, ◌*◌, ◌<◌, Bool, true, false, cond, nat_eq, List, [], ◌∷◌, ◌++◌, length, refl, sym, ◌∙◌, ap, subst}
 use Rattle.std.proofs.Common.{arith, Option, Some}
 use Rattle.std.proofs.Common.{None as Nothing}
 use Rattle.std.specs.Prelude.{slice_index_or}
@@ -10,11 +10,12 @@ use Rattle.rv_types.specs.Lists.{Side, AtMost, AtLeast, Variable, MainTick, Tick
 use Rattle.rv_diagram.specs.Nodes.{Valuation as Numbered}
 use Rattle.rv_agreement.specs.Checks.{same_sites, same_flow}
 use Rattle.rv_agreement.specs.Valuations.{Valuation}
-use Rattle.rv_agreement.proofs.Controls.{no_flag}
 use Rattle.rv_agreement.proofs.Chosen.{sites_itself, flow_itself, sites_told, flow_told}
 use Rattle.rv_control.specs.Named.{same_side, same_variable, truth_at, tick_variable, truth_of, by_numbers}
 use Rattle.rv_control.specs.Control.{tick_index}
-use Rattle.rv_types.proofs.Members.{cons_cases as head_or_tail, in_tail, nothing_in as none_in}
+use Rattle.rv_types.proofs.Members.{cons_cases, in_tail, nothing_in}
+use Rattle.rv_types.proofs.ChainLaws.{no_flag}
+use Rattle.std.proofs.lemmas.Bool.{and_from}
 
 pub side_told : (a b : Side) → same_side a b ≡ true → a ≡ b
 side_told AtMost AtMost e = refl
@@ -25,11 +26,6 @@ side_told AtLeast AtLeast e = refl
 pub side_itself : (a : Side) → same_side a a ≡ true
 side_itself AtMost = refl
 side_itself AtLeast = refl
-
-pub both : (a b : Bool) → a ≡ true → b ≡ true → (a && b) ≡ true
-both true true p q = refl
-both true false p q = q
-both false b p q = p
 
 pub variable_told : (y x : Variable) → same_variable y x ≡ true → y ≡ x
 variable_told MainTick MainTick e = refl
@@ -45,13 +41,13 @@ tick_itself Nothing = refl
 tick_itself (Some p) = sites_itself p
 
 pub kept_itself : (p : Sites) (b : ℕ) → same_variable (Kept p b) (Kept p b) ≡ true
-kept_itself p b = both (same_sites p p) (nat_eq b b) (sites_itself p) (eq-eqb b b refl)
+kept_itself p b = and_from (same_sites p p) (nat_eq b b) (sites_itself p) (eq-eqb b b refl)
 
 pub input_itself : (j b : ℕ) → same_variable (Input j b) (Input j b) ≡ true
-input_itself j b = both (nat_eq j j) (nat_eq b b) (eq-eqb j j refl) (eq-eqb b b refl)
+input_itself j b = and_from (nat_eq j j) (nat_eq b b) (eq-eqb j j refl) (eq-eqb b b refl)
 
 pub test_itself : (p : Sites) (s : Side) → same_variable (Test p s) (Test p s) ≡ true
-test_itself p s = both (same_sites p p) (same_side s s) (sites_itself p) (side_itself s)
+test_itself p s = and_from (same_sites p p) (same_side s s) (sites_itself p) (side_itself s)
 
 pub unnamed : (x : Variable) → same_variable Next x ≡ false
 unnamed MainTick = refl
@@ -65,13 +61,13 @@ unnamed (Test p s) = refl
 pub found_truth : (names : List Variable) (w : Valuation) (x : Variable) → same_variable x x ≡ true → Contains names x
     → truth_at names (by_numbers names w) x ≡ truth_of w x
 unfolding truth_at
-found_truth [] w x is c = none_in x c
+found_truth [] w x is c = nothing_in x c
 found_truth (y ∷ ys) w x is c = by (same_variable y x) refl (found_truth ys w x is)
   where
     by : (b : Bool) → same_variable y x ≡ b → (Contains ys x → truth_at ys (by_numbers ys w) x ≡ truth_of w x)
         → cond b (truth_of w y) (truth_at ys (by_numbers ys w) x) ≡ truth_of w x
     by true e later = ap (truth_of w) (variable_told y x e)
-    by false e later = elim (head_or_tail y ys x c) [ inl same ↦ no_flag (sym e ∙ subst (λ z. same_variable z x ≡ true) (sym same) is) | inr rest ↦ later rest ]
+    by false e later = elim (cons_cases y ys x c) [ inl same ↦ no_flag (sym e ∙ subst (λ z. same_variable z x ≡ true) (sym same) is) | inr rest ↦ later rest ]
 
 -- Valuations that agree at all variables but next copies are read alike.
 pub same_truth : (names : List Variable) (v u : Numbered) (x : Variable)
@@ -113,13 +109,13 @@ state_truth (y ∷ ys) rest v x none =
 pub tick_found : (ts : List (Option Sites)) (t : Option Sites) → Contains ts t
     → (tick_index ts t < length ts) × (slice_index_or ts (tick_index ts t) Nothing ≡ t)
 unfolding tick_index
-tick_found [] t w = none_in t w
+tick_found [] t w = nothing_in t w
 tick_found (u ∷ us) t w = by (same_flow u t) refl (tick_found us t)
   where
     by : (b : Bool) → same_flow u t ≡ b → (Contains us t → (tick_index us t < length us) × (slice_index_or us (tick_index us t) Nothing ≡ t))
         → (cond b 0 (suc (tick_index us t)) < length (u ∷ us)) × (slice_index_or (u ∷ us) (cond b 0 (suc (tick_index us t))) Nothing ≡ t)
     by true e later = (omega arith, flow_told u t e)
-    by false e later = elim (head_or_tail u us t w) [
+    by false e later = elim (cons_cases u us t w) [
       | inl same ↦ no_flag (sym e ∙ subst (λ z. same_flow z t ≡ true) (sym same) (flow_itself t))
       | inr rest ↦ let r = later rest in (omega (arith, r.0), r.1)
     ]
@@ -138,10 +134,10 @@ false_truth (y ∷ ys) v x none = by (same_variable y x) (none 0) (false_truth y
 pub found_by : (F : Variable → Bool) (names : List Variable) (x : Variable) → same_variable x x ≡ true → Contains names x
     → truth_at names (λ k. F (slice_index_or names k Next)) x ≡ F x
 unfolding truth_at
-found_by F [] x is c = none_in x c
+found_by F [] x is c = nothing_in x c
 found_by F (y ∷ ys) x is c = by (same_variable y x) refl (found_by F ys x is)
   where
     by : (b : Bool) → same_variable y x ≡ b → (Contains ys x → truth_at ys (λ k. F (slice_index_or ys k Next)) x ≡ F x)
         → cond b (F y) (truth_at ys (λ k. F (slice_index_or ys k Next)) x) ≡ F x
     by true e later = ap F (variable_told y x e)
-    by false e later = elim (head_or_tail y ys x c) [ inl same ↦ no_flag (sym e ∙ subst (λ z. same_variable z x ≡ true) (sym same) is) | inr rest ↦ later rest ]
+    by false e later = elim (cons_cases y ys x c) [ inl same ↦ no_flag (sym e ∙ subst (λ z. same_variable z x ≡ true) (sym same) is) | inr rest ↦ later rest ]

@@ -27,7 +27,7 @@ use Rattle.rv_control.specs.Named.{variables_of, tick_variable}
 use Rattle.rv_control.proofs.Listed.{IsStateBit, a_tick, a_bit, IsInputBit, a_bit_of, IsTestBit, a_test, IsListed}
 use Rattle.rv_control.proofs.Compared.{comparison_stands}
 use Rattle.rv_agreement.proofs.Systems.{from_map}
-use Rattle.rv_types.proofs.Members.{at_head, cons_cases as head_or_tail, in_flat_map, in_map, in_tail, nothing_in as none_in, of_flat_map as from_flat_map}
+use Rattle.rv_types.proofs.Members.{at_head, cons_cases, in_flat_map, in_map, in_tail, nothing_in, of_flat_map}
 
 -- so many bits
 bit_in : (make : ℕ → Variable) (n b : ℕ) → b < n → Contains (bits make n) (make b)
@@ -38,7 +38,7 @@ bit_in make (suc n) b lt = elim (eq-or-lt_of_le {n = b} {m = n} (omega arith)) [
 ]
 
 pub bit_from : (make : ℕ → Variable) (n : ℕ) (x : Variable) → Contains (bits make n) x → (b : ℕ) × (b < n) × (x ≡ make b)
-bit_from make zero x w = none_in x w
+bit_from make zero x w = nothing_in x w
 bit_from make (suc n) x w = elim (Contains-push_cases (bits make n) (make n) x w) [
   | inl u ↦ let r = bit_from make n x u in (r.0, omega (arith, r.1), r.2)
   | inr is ↦ (n, omega arith, sym is)
@@ -61,8 +61,8 @@ memory_in (x ∷ xs) (suc m) lt = in_tail _ (map (λ (y : KeptMemory). let a : M
 memory_from : (ms : List KeptMemory) (a : MemoryAt) → Contains
     (map (λ (x : KeptMemory). let b : MemoryAt = record { place = x.place; kind = x.kind } in b) ms) a
     → (m : ℕ) × (m < length ms) × (slice_index_or (map (λ x. x.place) ms) m [] ≡ a.place) × (kind_at (map (λ x. x.kind) ms) m ≡ a.kind)
-memory_from [] a w = none_in a w
-memory_from (x ∷ xs) a w = elim (head_or_tail _ (map (λ (y : KeptMemory). let b : MemoryAt = record { place = y.place; kind = y.kind } in b) xs) a w) [
+memory_from [] a w = nothing_in a w
+memory_from (x ∷ xs) a w = elim (cons_cases _ (map (λ (y : KeptMemory). let b : MemoryAt = record { place = y.place; kind = y.kind } in b) xs) a w) [
   | inl is ↦ (0, omega arith, ap (λ (b : MemoryAt). b.place) is, ap (λ (b : MemoryAt). b.kind) is)
   | inr rest ↦ let r = memory_from xs a rest in (suc r.0, omega (arith, r.1), r.2, r.3)
 ]
@@ -96,7 +96,7 @@ module _ (program : ProgramTree) (main : Identifier) (f : Flat) (flat : IsFlatOf
   memory_bits = memory_variables program vs.memories
 
   ticks_listed : (t : Option Sites) → Contains s.ticks t → Contains (tick_bits ++ memory_bits) (tick_variable t)
-  ticks_listed t w = Contains-append_left tick_bits memory_bits (tick_variable t) (by (head_or_tail Nothing (map (λ p. Some p) (tick_places f.variables)) t w))
+  ticks_listed t w = Contains-append_left tick_bits memory_bits (tick_variable t) (by (cons_cases Nothing (map (λ p. Some p) (tick_places f.variables)) t w))
     where
       by : (Nothing ≡ t) ⊎ Contains (map (λ (p : Sites). Some p) (tick_places f.variables)) t → Contains tick_bits (tick_variable t)
       by (inl is) = subst (λ u. Contains tick_bits (tick_variable u)) is (at_head MainTick (map Tick vs.ticks))
@@ -130,9 +130,9 @@ module _ (program : ProgramTree) (main : Identifier) (f : Flat) (flat : IsFlatOf
           (in_map (λ p. Some p) (tick_places f.variables) r.0 (tick_back r.0 r.1))) r.2
 
       by : Contains tick_bits x ⊎ Contains memory_bits x → IsStateBit s x
-      by (inl u) = of_tick (head_or_tail MainTick (map Tick vs.ticks) x u)
+      by (inl u) = of_tick (cons_cases MainTick (map Tick vs.ticks) x u)
       by (inr u) =
-          let r = from_flat_map bits_at vs.memories x u in
+          let r = of_flat_map bits_at vs.memories x u in
           let q = vs.are_memories.only r.0 r.1 in
           let there = subst (λ (z : MemoryAt). Contains (map (λ (m : KeptMemory). let b : MemoryAt = record { place = m.place; kind = m.kind } in b)
           s.memories) z) (sym q.5) (flat.system.translated.memories.all q.0 q.1 q.2 tt q.4) in
@@ -155,7 +155,7 @@ module _ (program : ProgramTree) (main : Identifier) (f : Flat) (flat : IsFlatOf
       (subst (λ n. Contains (input_variables program (i + 1) ks) (Input n b)) there (inputs_in (i + 1) ks j b (omega arith) less))
 
   pub input_bit : (i : ℕ) (ks : List Kind) (x : Variable) → Contains (input_variables program i ks) x → IsInputBit x
-  input_bit i [] x w = none_in x w
+  input_bit i [] x w = nothing_in x w
   input_bit i (k ∷ ks) x w = elim (Contains-append_cases (bits (Input i) (kind_bits program k)) (input_variables program (i + 1) ks) x w) [
     | inl u ↦ let r = bit_from (Input i) (kind_bits program k) x u in a_bit_of i r.0 r.2
     | inr u ↦ input_bit (i + 1) ks x u
@@ -188,7 +188,7 @@ module _ (program : ProgramTree) (main : Identifier) (f : Flat) (flat : IsFlatOf
 
   pub test_bit : (x : Variable) → Contains (test_variables vs.comparisons) x → IsTestBit x
   test_bit x w =
-      let r = from_flat_map tests_at vs.comparisons x w in
+      let r = of_flat_map tests_at vs.comparisons x w in
       let q = from_map (Test r.0.place) (sides_of r.0.operator) x r.2 in
       a_test r.0.place q.0 q.2
 

@@ -1,5 +1,5 @@
 -- The positions of variables, and what the system of valuations has there.
-use Rattle.std.proofs.Common.{◌≡◌, inl, inr, ℕ, zero, suc, ◌+◌, ◌-◌, ◌*◌, ◌<◌, Bool, true, false, ◌&&◌, ◌||◌, cond, List, [], ◌∷◌, ◌++◌, length, length-append}
+use Rattle.std.proofs.Common.{◌≡◌, inl, inr, ℕ, zero, suc, ◌+◌, ◌-◌, ◌*◌, ◌<◌, Bool, true, false, ◌&&◌, cond, List, [], ◌∷◌, ◌++◌, length, length-append}
 use Rattle.std.proofs.Common.{refl, sym, ◌∙◌, ap, subst, arith, Option, Some}
 use Rattle.std.proofs.Common.{None as Nothing}
 use Rattle.std.specs.Prelude.{slice_index_or}
@@ -15,15 +15,18 @@ use Rattle.rv_agreement.specs.Valuations.{Valuation, Reading, is_of_integers, Te
 use Rattle.rv_rows.specs.Arithmetic.{test_row}
 use Rattle.rv_rows.specs.Tight.{IsTightened}
 use Rattle.rv_agreement.specs.Checks.{same_sites}
-use Rattle.rv_agreement.proofs.Controls.{no_flag}
 use Rattle.rv_control.specs.Tightening.{tightened}
 use Rattle.rv_control.specs.Named.{same_side, tick_variable}
 use Rattle.rv_control.specs.Control.{state_bits, order_tests, has_side, is_present, row_among}
 use Rattle.rv_control.proofs.Listed.{IsStateBit, a_tick, a_bit, a_bit_of, IsTestBit, a_test, IsListed}
-use Rattle.rv_control.proofs.Names.{both, side_told, side_itself}
+use Rattle.rv_control.proofs.Names.{side_told, side_itself}
 use Rattle.rv_control.proofs.Tightened.{tightened_is}
 use Rattle.rv_agreement.proofs.Chosen.{sites_itself, sites_told}
-use Rattle.rv_types.proofs.Members.{cons_cases as head_or_tail, in_flat_map, in_tail, nothing_in as none_in}
+use Rattle.rv_types.proofs.Members.{cons_cases, in_flat_map, in_tail, nothing_in}
+use Rattle.rv_types.proofs.ChainLaws.{no_flag}
+use Rattle.std.proofs.lemmas.Bool.{and_from}
+use Rattle.std.proofs.lemmas.Bool.{or_left}
+use Rattle.std.proofs.lemmas.Bool.{or_right}
 
 -- Presence.
 has_told : (sides : List Side) (side : Side) → has_side sides side ≡ true → Contains sides side
@@ -33,19 +36,11 @@ has_told (a ∷ rest) side e = elim (or_cases (same_side a side) (has_side rest 
   | inr later ↦ in_tail a rest side (has_told rest side later)
 ]
 
-either : (a b : Bool) → a ≡ true → (a || b) ≡ true
-either true b e = refl
-either false b e = no_flag e
-
-or_other : (a b : Bool) → b ≡ true → (a || b) ≡ true
-or_other true b e = refl
-or_other false b e = e
-
 has_there : (sides : List Side) (side : Side) → Contains sides side → has_side sides side ≡ true
-has_there [] side w = none_in side w
-has_there (a ∷ rest) side w = elim (head_or_tail a rest side w) [
-  | inl same ↦ either (same_side a side) (has_side rest side) (subst (λ b. same_side a b ≡ true) same (side_itself a))
-  | inr later ↦ or_other (same_side a side) (has_side rest side) (has_there rest side later)
+has_there [] side w = nothing_in side w
+has_there (a ∷ rest) side w = elim (cons_cases a rest side w) [
+  | inl same ↦ or_left (same_side a side) (has_side rest side) (subst (λ b. same_side a b ≡ true) same (side_itself a))
+  | inr later ↦ or_right (same_side a side) (has_side rest side) (has_there rest side later)
 ]
 
 pub present_told : (t : Tested) (side : Side) → is_present t side ≡ true → IsPresent t side
@@ -55,8 +50,8 @@ present_told t side e =
     record { there = r.0; whole = q.0; side_is = has_told (sides_of t.operator) side q.1 }
 
 pub is_present_there : (t : Tested) (side : Side) → IsPresent t side → is_present t side ≡ true
-is_present_there t side is = both t.there (is_of_integers t.operator t.left t.right && has_side (sides_of t.operator) side) is.there
-    (both (is_of_integers t.operator t.left t.right) (has_side (sides_of t.operator) side) is.whole (has_there (sides_of t.operator) side is.side_is))
+is_present_there t side is = and_from t.there (is_of_integers t.operator t.left t.right && has_side (sides_of t.operator) side) is.there
+    (and_from (is_of_integers t.operator t.left t.right) (has_side (sides_of t.operator) side) is.whole (has_there (sides_of t.operator) side is.side_is))
 
 module _ (s : System) (w : Valuation) (row : List (Option Reading)) where
   -- The row of a test is that of a comparison there that is present.
@@ -97,7 +92,7 @@ module _ (s : System) (w : Valuation) (row : List (Option Reading)) where
   pub row_there : (cs : List Comparison) (c : Comparison) (side : Side) → Contains cs c → IsPresent (tested s w row c) side
       → (r : Row) × (row_among s w row cs c.at side ≡ Some r)
   unfolding row_among
-  row_there [] c side there is = none_in c there
+  row_there [] c side there is = nothing_in c there
   row_there (d ∷ cs) c side there is = by (same_sites d.at c.at && is_present (tested s w row d) side) refl (row_there cs c side)
     where
       by : (b : Bool) → (same_sites d.at c.at && is_present (tested s w row d) side) ≡ b
@@ -105,9 +100,9 @@ module _ (s : System) (w : Valuation) (row : List (Option Reading)) where
           → (r : Row) × (cond b (Some (tightened (test_row (w.test d.at side) (tested_form (width s) w.test (tested s w row d) side))))
           (row_among s w row cs c.at side) ≡ Some r)
       by true t later = (tightened (test_row (w.test d.at side) (tested_form (width s) w.test (tested s w row d) side)), refl)
-      by false t later = elim (head_or_tail d cs c there) [
+      by false t later = elim (cons_cases d cs c there) [
         | inl same ↦ no_flag (sym t ∙ subst (λ (x : Comparison). (same_sites x.at c.at && is_present (tested s w row x) side) ≡ true) (sym same)
-            (both (same_sites c.at c.at) (is_present (tested s w row c) side) (sites_itself c.at) (is_present_there (tested s w row c) side is)))
+            (and_from (same_sites c.at c.at) (is_present (tested s w row c) side) (sites_itself c.at) (is_present_there (tested s w row c) side is)))
         | inr rest ↦ later rest is
       ]
 

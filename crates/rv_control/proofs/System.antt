@@ -1,5 +1,5 @@
 -- The system of valuations of a flat system is one: its parts go by what they read, and its counts are within their limits.
-use Rattle.std.proofs.Common.{◌≡◌, ℕ, suc, ◌+◌, ◌-◌, ◌*◌, ◌^◌, ◌<◌, ◌≤◌, pos, Bool, true, false, not, ◌&&◌, ◌||◌, cond, List, [], ◌∷◌, length, map, refl, sym}
+use Rattle.std.proofs.Common.{◌≡◌, ℕ, suc, ◌+◌, ◌-◌, ◌*◌, ◌^◌, ◌<◌, ◌≤◌, pos, true, false, not, ◌&&◌, cond, List, [], ◌∷◌, length, map, refl, sym}
 use Rattle.std.proofs.Common.{◌∙◌, ap, arith, Option, Some}
 use Rattle.std.proofs.Common.{None as Nothing}
 use Rattle.std.specs.Prelude.{slice_index_or, IsTrue}
@@ -37,6 +37,7 @@ use Rattle.rv_control.proofs.Order.{is_listed}
 use Rattle.rv_control.proofs.Places.{states_are, tests_are, names_are, state_at, next_at}
 use Rattle.rv_control.proofs.Concrete.{tick_read, kept_read}
 use Rattle.rv_control.proofs.Abstract.{ticks_told}
+use Rattle.rv_base.proofs.Truths.{or_true}
 
 -- An initial control state goes by its ticks and by the bits of its memories.
 ticked_same : (v w : Valuation) → ((t : Option Sites) → v.ticked t ≡ w.ticked t) → (ts : List (Option Sites)) → none_ticked v ts ≡ none_ticked w ts
@@ -55,10 +56,6 @@ first_truth : (xs : List Variable) (v : Numbered) (x : Variable) → slice_index
 unfolding truth_at
 first_truth [] v x is some same = absurd (omega arith)
 first_truth (y ∷ ys) v x is some same = λ i. cond ((ap (λ z. same_variable z x) is ∙ same) i) (v 0) (truth_at ys (λ k. v (suc k)) x)
-
-pub always : (b : Bool) → (b || true) ≡ true
-always true = refl
-always false = refl
 
 module _ (s : System) (names : List Variable) (listed : IsListed s names) where
   abbrev control : systems.System
@@ -156,7 +153,7 @@ module _ (program : ProgramTree) (main : Identifier) (f : Flat) (flat : IsFlatOf
   unfolding tick_index
   ticked v =
       let w = by_names names v in
-      ap (next_truth s w (symbolic s w)) (first_name s names listed) ∙ always (w.ticked Nothing)
+      ap (next_truth s w (symbolic s w)) (first_name s names listed) ∙ or_true (w.ticked Nothing)
 
   -- It is a system, where its rows and updates are within the limits.
   pub is_system : ((v : Numbered) (t : ℕ) (r : Row) → t < mine.tests → mine.row v t ≡ Some r → systems.IsTestRow mine r)

@@ -31,7 +31,7 @@ use Rattle.rv_agreement.proofs.Matching.{in_own}
 use Rattle.rv_flat.specs.Facts.{constant_weight, weight_under, flat_weight, form_flat_weight, is_light, form_is_light, all_light, flow_weights}
 use Rattle.rv_flat.proofs.FlowWeights.{weight_kth}
 use Rattle.rv_control.proofs.Bounded.{IsBounded, looser, constant_bounded, zero_bounded, column_bounded, sum_bounded, times_bounded, difference_bounded}
-use Rattle.rv_types.proofs.Members.{nothing_in as none_in}
+use Rattle.rv_types.proofs.Members.{nothing_in}
 
 -- a choice of two, and an operator between two
 module _ (columns : ℕ) (test : Sites → Side → Bool) where
@@ -138,11 +138,11 @@ module _ (ws : List ℕ) where
 
       form_compared_light : (k : Option ℕ) (at : Sites) (form : TreeForm) → form_is_light ws form ≡ true → (c : Comparison)
           → Contains (form_comparisons flows k at form) c → AreLight c
-      form_compared_light k at (Constant z) light c w = none_in c w
-      form_compared_light k at (Flow x) light c w = none_in c w
-      form_compared_light k at (Memory m) light c w = none_in c w
-      form_compared_light k at (Ticked t) light c w = none_in c w
-      form_compared_light k at (Input x) light c w = none_in c w
+      form_compared_light k at (Constant z) light c w = nothing_in c w
+      form_compared_light k at (Flow x) light c w = nothing_in c w
+      form_compared_light k at (Memory m) light c w = nothing_in c w
+      form_compared_light k at (Ticked t) light c w = nothing_in c w
+      form_compared_light k at (Input x) light c w = nothing_in c w
       form_compared_light k at (Not e) light c w = compared_light k e light c w
       form_compared_light k at (Binary o a b) light c w =
           let y : Comparison = record { at = at; clock = k; operator = o; left = a; right = b } in
@@ -164,10 +164,10 @@ module _ (ws : List ℕ) where
           ]
       form_compared_light k at (AtMostOne es) light c w = all_compared_light k es light c w
       form_compared_light k at (When x e) light c w = compared_light (nth_item flows x).clock e light c w
-      form_compared_light k at (Current m i e) light c w = none_in c w
+      form_compared_light k at (Current m i e) light c w = nothing_in c w
 
       all_compared_light : (k : Option ℕ) (es : FlatTrees) → all_light ws es ≡ true → (c : Comparison) → Contains (comparisons_of flows k es) c → AreLight c
-      all_compared_light k None light c w = none_in c w
+      all_compared_light k None light c w = nothing_in c w
       all_compared_light k (More e es) light c w =
           let both = and_parts (is_light ws e) (all_light ws es) light in
           elim (Contains-append_cases (comparisons flows k e) (comparisons_of flows k es) c w) [

@@ -9,9 +9,9 @@ use Rattle.rv_types.specs.declared.typed.Kind.TheVariants as kind
 use Rattle.rv_types.specs.Variables.{bits_from}
 use Rattle.rv_agreement.specs.Trees.{kind_at}
 use Rattle.rv_agreement.specs.Agreement.{bit_count}
-use Rattle.rv_agreement.proofs.Controls.{no_flag}
 use Rattle.rv_flat.specs.Facts.{all_few}
 use Rattle.rv_falsify.specs.Decoding.{bits_before}
+use Rattle.rv_types.proofs.ChainLaws.{no_flag}
 
 -- eight bits are enough for 256 labels
 few_from : (more b count : ℕ) → count ≤ 256 → b ≤ 8 → bits_from more b count ≤ 8

@@ -43,7 +43,7 @@ use Rattle.rv_replay.proofs.FlatTraces.{starts_same, kinds_same}
 use Rattle.rv_falsify.specs.Falsifying.{IsFalsifying, IsNeverFalsified, IsShortest}
 use Rattle.rv_falsify.proofs.Spelling.{drop_none}
 use Rattle.rv_falsify.proofs.Running.{Laws, observed_truth, stays_within}
-use Rattle.rv_accept.proofs.Failing.{not_true}
+use Rattle.std.proofs.lemmas.Bool.{false_from_ne_true}
 
 -- What is taken from the control of flat systems.
 abbrev pub RunsAreAbstract : Type 0
@@ -81,7 +81,7 @@ module _ (laws : Laws) (program : ProgramTree) (main : Identifier) (f : Flat) (o
         record {
           run = a.2.run;
           allowed = λ u lt. (a.2.assertions u lt).0 (allowed u (omega (arith, lt)));
-          fails = not_true ((control_of f).observer (a.0 n)) (λ is.
+          fails = false_from_ne_true ((control_of f).observer (a.0 n)) (λ is.
               let here : observed program main h n ≡ Some (Flag true) = (a.2.observer n (omega arith)).1 is in
               let bad : Some (Flag true) ≡ Some (Flag false) = sym here ∙ last in
               (cc));

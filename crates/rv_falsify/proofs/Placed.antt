@@ -42,11 +42,12 @@ use Rattle.rv_replay.proofs.Orders.{one_listing}
 use Rattle.rv_falsify.specs.Decoding.{bits_before}
 use Rattle.rv_agreement.proofs.Chosen.{sites_told}
 use Rattle.rv_agreement.proofs.Systems.{from_map}
-use Rattle.rv_flatten.proofs.CountedVariables.{length_bits as length-bits, length_copies as length-copies}
+use Rattle.rv_flatten.proofs.CountedVariables.{length_bits, length_copies}
 use Rattle.rv_meaning.proofs.NameLemmas.{same_text}
 use Rattle.rv_replay.proofs.FlatTraces.{places_same}
-use Rattle.rv_tested.proofs.Rowing.{and_false as false_and, and_none as and_false}
-use Rattle.rv_types.proofs.Members.{at_head, cons_cases as head_or_tail, in_tail, of_flat_map as from_flat_map}
+use Rattle.rv_types.proofs.Members.{at_head, cons_cases, in_tail, of_flat_map}
+use Rattle.std.proofs.lemmas.Bool.{and_left}
+use Rattle.std.proofs.lemmas.Bool.{and_right}
 
 -- Variables without a name are passed over.
 skip : (xs ys : List Variable) (u : Numbered) (x : Variable) → ((y : Variable) → Contains xs y → same_variable y x ≡ false)
@@ -94,17 +95,17 @@ module _ (make : ℕ → Variable) (itself : (b : ℕ) → same_variable (make b
           skip (bits make n) (make n ∷ rest) u (make n)
           (λ y w. let r = bit_from make n y w in ap (λ z. same_variable z (make n)) r.2 ∙ apart r.0 n r.1)
           ∙ first_of (make n) rest (λ k. u (length (bits make n) + k)) (itself n)
-          ∙ (let e : length (bits make n) + 0 ≡ n = omega (arith, length-bits make n) in ap u e)
+          ∙ (let e : length (bits make n) + 0 ≡ n = omega (arith, length_bits make n) in ap u e)
 
 kept_apart : (p : Sites) (a b : ℕ) → a < b → same_variable (Kept p a) (Kept p b) ≡ false
-kept_apart p a b lt = and_false (same_sites p p) (nat_eq a b) (ne_eqb a b (λ e. omega (arith, e)))
+kept_apart p a b lt = and_right (same_sites p p) (nat_eq a b) (ne_eqb a b (λ e. omega (arith, e)))
 
 input_apart : (j a b : ℕ) → a < b → same_variable (Input j a) (Input j b) ≡ false
-input_apart j a b lt = and_false (nat_eq j j) (nat_eq a b) (ne_eqb a b (λ e. omega (arith, e)))
+input_apart j a b lt = and_right (nat_eq j j) (nat_eq a b) (ne_eqb a b (λ e. omega (arith, e)))
 
 -- bits of memories at places that come one before the other
 other_place : (p q : Sites) (a b : ℕ) → IsBefore p q → same_variable (Kept p a) (Kept q b) ≡ false
-other_place p q a b before = false_and (same_sites p q) (nat_eq a b) (by (same_sites p q) refl)
+other_place p q a b before = and_left (same_sites p q) (nat_eq a b) (by (same_sites p q) refl)
   where
     by : (t : Bool) → same_sites p q ≡ t → same_sites p q ≡ false
     by true e = absurd (not_itself q (subst (λ z. IsBefore z q) (sites_told p q e) before))
@@ -132,7 +133,7 @@ module _ (program : ProgramTree) (labels : List ℕ) (same : (k : Kind) → bit_
       ∙ memory_read ms (λ j k less below. up (suc j) (suc k) (omega (arith, less)) (omega (arith, below)))
       (λ k. u (length (bits (Kept p) n) + k)) m b (omega arith) less
       ∙ (let e : length (bits (Kept p) n) + (bits_before labels (map (λ y. y.kind) ms) m + b)
-      ≡ bit_count labels x.kind + bits_before labels (map (λ y. y.kind) ms) m + b = omega (arith, length-bits (Kept p) n, same x.kind) in ap u e)
+      ≡ bit_count labels x.kind + bits_before labels (map (λ y. y.kind) ms) m + b = omega (arith, length_bits (Kept p) n, same x.kind) in ap u e)
 
   -- A bit of an input is read among those of all inputs.
   input_read : (i : ℕ) (ks : List Kind) (rest : List Variable) (u : Numbered) (j b : ℕ) → j < length ks → b < bit_count labels (kind_at ks j)
@@ -153,11 +154,11 @@ module _ (program : ProgramTree) (labels : List ℕ) (same : (k : Kind) → bit_
       ∙ skip (bits (Input i) n) later u (Input (i + suc j) b)
       (λ y w. let r = bit_from (Input i) n y w in
       ap (λ z. same_variable z (Input (i + suc j) b)) r.2
-      ∙ false_and (nat_eq i (i + suc j)) (nat_eq r.0 b) (ne_eqb i (i + suc j) (λ e. omega (arith, e))))
+      ∙ and_left (nat_eq i (i + suc j)) (nat_eq r.0 b) (ne_eqb i (i + suc j) (λ e. omega (arith, e))))
       ∙ ap (λ a. truth_at later (λ c. u (length (bits (Input i) n) + c)) (Input a b)) there
       ∙ input_read (i + 1) ks rest (λ c. u (length (bits (Input i) n) + c)) j b (omega arith) less
       ∙ (let e : length (bits (Input i) n) + (bits_before labels ks j + b) ≡ bit_count labels k + bits_before labels ks j + b
-      = omega (arith, length-bits (Input i) n, same k) in ap u e)
+      = omega (arith, length_bits (Input i) n, same k) in ap u e)
 
   length-memories : (ms : List FlatMemory) → length (memory_variables program (map memory_of ms))
       ≡ bits_before labels (map (λ x. x.kind) ms) (length (map (λ x. x.kind) ms))
@@ -165,7 +166,7 @@ module _ (program : ProgramTree) (labels : List ℕ) (same : (k : Kind) → bit_
   length-memories (x ∷ ms) =
       let n = kind_bits program x.kind in
       let all = length-append (bits (Kept x.place.sites) n) (memory_variables program (map memory_of ms)) in
-      let long = length-bits (Kept x.place.sites) n in
+      let long = length_bits (Kept x.place.sites) n in
       let here = same x.kind in
       let rest = length-memories ms in
       omega (arith, all, long, here, rest)
@@ -175,7 +176,7 @@ module _ (program : ProgramTree) (labels : List ℕ) (same : (k : Kind) → bit_
   length-inputs i (k ∷ ks) =
       let n = kind_bits program k in
       let all = length-append (bits (Input i) n) (input_variables program (i + 1) ks) in
-      let long = length-bits (Input i) n in
+      let long = length_bits (Input i) n in
       let here = same k in
       let rest = length-inputs (i + 1) ks in
       omega (arith, all, long, here, rest)
@@ -260,7 +261,7 @@ module _ (program : ProgramTree) (main : Identifier) (f : Flat) (flat : IsFlatOf
 
   no_tick : (y : Variable) → Contains (memory_variables program vs.memories) y → is_tick y ≡ false
   no_tick y w =
-      let r = from_flat_map (λ (m : MemoryAt). bits (Kept m.place) (kind_bits program m.kind)) vs.memories y w in
+      let r = of_flat_map (λ (m : MemoryAt). bits (Kept m.place) (kind_bits program m.kind)) vs.memories y w in
       let q = bit_from (Kept r.0.place) (kind_bits program r.0.kind) y r.2 in
       ap is_tick q.2
 
@@ -306,7 +307,7 @@ module _ (program : ProgramTree) (main : Identifier) (f : Flat) (flat : IsFlatOf
         | inl u ↦ input_no_kept y (input_bit program main f flat 0 kinds y u) q b
         | inr u ↦ test_no_kept y (test_bit program main f flat y u) q b
       ])
-      ∙ skip ticks (memory_variables program vs.memories) (λ i. v (2 * i)) x (λ y w. elim (head_or_tail MainTick (map Tick vs.ticks) y w) [
+      ∙ skip ticks (memory_variables program vs.memories) (λ i. v (2 * i)) x (λ y w. elim (cons_cases MainTick (map Tick vs.ticks) y w) [
         | inl is ↦ ap (λ z. same_variable z x) (sym is)
         | inr u ↦ let r = from_map Tick vs.ticks y u in ap (λ z. same_variable z x) r.2
       ])
@@ -347,7 +348,7 @@ module _ (program : ProgramTree) (main : Identifier) (f : Flat) (flat : IsFlatOf
       let count : length (variables_of f) ≡ length f.variables = length-map f.variables variable_of in
       let list = ap length vs.list in
       let whole = length-append (with_copies state) rest in
-      let copies = length-copies state in
+      let copies = length_copies state in
       let long = state_long in
       let given = length-append (input_variables program 0 kinds) (test_variables vs.comparisons) in
       let inputs = length-inputs program labels same 0 kinds in

@@ -29,19 +29,19 @@ use Rattle.rv_flat.specs.Systems.{flow_item}
 use Rattle.rv_flat.proofs.FlowWeights.{item_light, weight_kth}
 use Rattle.rv_flat.proofs.Tested.{ItemFits, flow_fits, operator_fits}
 use Rattle.rv_flat.proofs.Weighing.{size}
-use Rattle.rv_agreement.proofs.Controls.{no_flag as no_kind}
-use Rattle.rv_flatten.proofs.ConstantSizes.{product_size as product_small}
-use Rattle.rv_types.proofs.TypedParts.{both_true as both}
+use Rattle.rv_base.proofs.Truths.{both_of}
+use Rattle.rv_types.proofs.ChainLaws.{no_flag}
+use Rattle.rv_types.proofs.Weights.{product_small}
 
 -- an operator gives no more than its operands allow
 operated_small : (o : Op) (k : Kind) (x y : Value) (v w : ℕ) → gives o k ≡ true → size x ≤ v → size y ≤ w → size (operate o false x y) ≤ weight_under o v w
 operated_small op.Plus k x y v w e g h = omega (arith, ints)
 operated_small op.Minus k x y v w e g h = omega (arith, ints)
-operated_small op.Arrow k x y v w e g h = no_kind e
-operated_small op.Times k x y v w e g h = no_kind e
-operated_small op.Slash k x y v w e g h = no_kind e
-operated_small op.Div k x y v w e g h = no_kind e
-operated_small op.Mod k x y v w e g h = no_kind e
+operated_small op.Arrow k x y v w e g h = no_flag e
+operated_small op.Times k x y v w e g h = no_flag e
+operated_small op.Slash k x y v w e g h = no_flag e
+operated_small op.Div k x y v w e g h = no_flag e
+operated_small op.Mod k x y v w e g h = no_flag e
 operated_small op.Implies k x y v w e g h = omega arith
 operated_small op.Or k x y v w e g h = omega arith
 operated_small op.Xor k x y v w e g h = omega arith
@@ -73,42 +73,42 @@ module _ (s : System) (ws : List ℕ) (found : Found Value) (row : Row) (n : ℕ
   when_fits : (k : Option ℕ) (j : Kind) (at : Sites) (c : ℕ) (e : FlatTree) → form_fits s n k j at (When c e) ≡ true
       → fits s n (nth_item s.flows c).clock j e ≡ true
   when_fits k j at c e fit =
-      let outer = both (same_clock k (Some c)) (clock_fits s n (Some c) && fits s n (nth_item s.flows c).clock j e) fit in
-      (both (clock_fits s n (Some c)) (fits s n (nth_item s.flows c).clock j e) outer.1).1
+      let outer = both_of (same_clock k (Some c)) (clock_fits s n (Some c) && fits s n (nth_item s.flows c).clock j e) fit in
+      (both_of (clock_fits s n (Some c)) (fits s n (nth_item s.flows c).clock j e) outer.1).1
 
   current_fits : (k : Option ℕ) (j : Kind) (at : Sites) (m : ℕ) (i : Option ℕ) (e : FlatTree) → form_fits s n k j at (Current m i e) ≡ true
       → fits s n i j e ≡ true
   current_fits k j at m i e fit =
-      let outer = both (is_of j (slice_get (memory_kinds s) m)) (clock_fits s n i && fits s n i j e) fit in
-      (both (clock_fits s n i) (fits s n i j e) outer.1).1
+      let outer = both_of (is_of j (slice_get (memory_kinds s) m)) (clock_fits s n i && fits s n i j e) fit in
+      (both_of (clock_fits s n i) (fits s n i j e) outer.1).1
 
   mutual
     pub value_small : (k : Option ℕ) (j : Kind) (e : FlatTree) → fits s n k j e ≡ true → is_light ws e ≡ true
         → size (value Value integers found row e) ≤ flat_weight ws e
-    value_small k j (Node at form) fit light = form_small k j at form fit (both (nat_le (form_flat_weight ws form) heaviest) (form_is_light ws form) light).1
+    value_small k j (Node at form) fit light = form_small k j at form fit (both_of (nat_le (form_flat_weight ws form) heaviest) (form_is_light ws form) light).1
 
     form_small : (k : Option ℕ) (j : Kind) (at : Sites) (form : TreeForm) → form_fits s n k j at form ≡ true → form_is_light ws form ≡ true
         → size (form_value Value integers found row at form) ≤ form_flat_weight ws form
     form_small k j at (Constant c) fit light = constant_small c
     form_small k j at (Flow c) fit light =
-        row_small c (ltb-true c n (both (nat_lt c n) (is_of j (slice_get s.kinds c) && same_clock k (nth_item s.flows c).clock) fit).0)
+        row_small c (ltb-true c n (both_of (nat_lt c n) (is_of j (slice_get s.kinds c) && same_clock k (nth_item s.flows c).clock) fit).0)
     form_small k j at (Memory m) fit light = kept_small m
     form_small k j at (Ticked t) fit light = omega arith
     form_small k j at (Input i) fit light = inputs_small i
     form_small k j at (Not e) fit light = omega arith
     form_small k j at (Binary o a b) fit light =
         let told = operator_fits s n k j at o a b fit in
-        let light_both = both (is_light ws a) (is_light ws b) light in
+        let light_both = both_of (is_light ws a) (is_light ws b) light in
         operated_small o j (worth a) (worth b) (flat_weight ws a) (flat_weight ws b) told.0
         (value_small k told.1.0 a told.1.1 light_both.0) (value_small k told.1.0 b told.1.2 light_both.1)
     form_small k j at (Scale z e) fit light =
         product_small z (number (worth e)) (flat_weight ws e)
-        (value_small k kind.Int e (both (same_kind j kind.Int) (fits s n k kind.Int e) fit).1 (both (nat_le (nat_abs z) heaviest) (is_light ws e) light).1)
+        (value_small k kind.Int e (both_of (same_kind j kind.Int) (fits s n k kind.Int e) fit).1 (both_of (nat_le (nat_abs z) heaviest) (is_light ws e) light).1)
     form_small k j at (If c a b) fit light =
-        let outer = both (fits s n k kind.Bool c) (fits s n k j a && fits s n k j b) fit in
-        let parts = both (fits s n k j a) (fits s n k j b) outer.1 in
-        let light_outer = both (is_light ws c) (is_light ws a && is_light ws b) light in
-        let light_parts = both (is_light ws a) (is_light ws b) light_outer.1 in
+        let outer = both_of (fits s n k kind.Bool c) (fits s n k j a && fits s n k j b) fit in
+        let parts = both_of (fits s n k j a) (fits s n k j b) outer.1 in
+        let light_outer = both_of (is_light ws c) (is_light ws a && is_light ws b) light in
+        let light_parts = both_of (is_light ws a) (is_light ws b) light_outer.1 in
         chosen_small (is_true (worth c)) (worth a) (worth b) (flat_weight ws a) (flat_weight ws b)
         (value_small k j a parts.0 light_parts.0) (value_small k j b parts.1 light_parts.1)
     form_small k j at (AtMostOne es) fit light = omega arith
@@ -139,7 +139,7 @@ module _ (f : Flat) (now : State) (inputs : List Value) (row : Row) (instant : I
 
   light_held : (e : FlatTree) → is_light ws e ≡ true → flat_weight ws e ≤ 2 ^ 40
   light_held (Node at form) light =
-      leb-true (form_flat_weight ws form) heaviest (both (nat_le (form_flat_weight ws form) heaviest) (form_is_light ws form) light).0
+      leb-true (form_flat_weight ws form) heaviest (both_of (nat_le (form_flat_weight ws form) heaviest) (form_is_light ws form) light).0
 
   -- each flow keeps to its weight
   row_small : (m : ℕ) → m ≤ length f.flows → (k : ℕ) → k < m → size (held (nth row k)) ≤ get_or ws k 0

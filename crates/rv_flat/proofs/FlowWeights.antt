@@ -8,7 +8,7 @@ use Rattle.rv_agreement.specs.Trees.{System, kind_at, nth_item}
 use Rattle.rv_flat.specs.Facts.{weight_under, flat_weight, form_flat_weight, is_light, weights_after, items_light}
 use Rattle.rv_flat.specs.Tame.{IsOver, FormIsOver}
 use Rattle.rv_flat.proofs.NamedTicks.{over}
-use Rattle.rv_types.proofs.TypedParts.{both_true as both}
+use Rattle.rv_base.proofs.Truths.{both_of}
 
 -- a weight depends on those of the flows that are named
 module _ (ws vs : List ℕ) (n : ℕ) (agree : (k : ℕ) → k < n → get_or ws k 0 ≡ get_or vs k 0) where
@@ -43,8 +43,8 @@ pub weight_kth : (s : System) (ws : List ℕ) (xs : List Item) (k : ℕ) → flo
 weight_kth s ws [] k e lt = absurd (omega arith)
 weight_kth s ws (x ∷ xs) zero e lt =
     let w = flat_weight ws x.body in
-    let here = both (item_fits s (length ws) (kind_at s.kinds (length ws)) x) (flows_fit s (length ws + 1) xs) e in
-    let parts = both (clock_fits s (length ws) x.clock) (fits s (length ws) x.clock (kind_at s.kinds (length ws)) x.body) here.0 in
+    let here = both_of (item_fits s (length ws) (kind_at s.kinds (length ws)) x) (flows_fit s (length ws + 1) xs) e in
+    let parts = both_of (clock_fits s (length ws) x.clock) (fits s (length ws) x.clock (kind_at s.kinds (length ws)) x.body) here.0 in
     ap (λ i. get_or (weights_after (ws ++ w ∷ []) xs) i 0) (let is : length ws + 0 ≡ length ws = omega arith in is)
     ∙ weights_kept (ws ++ w ∷ []) xs (length ws) (omega (arith, length-append ws (w ∷ [])))
     ∙ get_or_push ws w 0 (length ws) refl
@@ -52,7 +52,7 @@ weight_kth s ws (x ∷ xs) zero e lt =
     (over s (length ws) x.clock (kind_at s.kinds (length ws)) x.body parts.1)
 weight_kth s ws (x ∷ xs) (suc k) e lt =
     let w = flat_weight ws x.body in
-    let here = both (item_fits s (length ws) (kind_at s.kinds (length ws)) x) (flows_fit s (length ws + 1) xs) e in
+    let here = both_of (item_fits s (length ws) (kind_at s.kinds (length ws)) x) (flows_fit s (length ws + 1) xs) e in
     let longer : length (ws ++ w ∷ []) ≡ length ws + 1 = omega (arith, length-append ws (w ∷ [])) in
     ap (λ i. get_or (weights_after (ws ++ w ∷ []) xs) i 0) (let is : length ws + suc k ≡ length (ws ++ w ∷ []) + k = omega (arith, longer) in is)
     ∙ weight_kth s (ws ++ w ∷ []) xs k (subst (λ n. flows_fit s n xs ≡ true) (sym longer) here.1) (omega arith)
@@ -60,5 +60,5 @@ weight_kth s ws (x ∷ xs) (suc k) e lt =
 -- each flow, memory and assertion is light
 pub item_light : (ws : List ℕ) (xs : List Item) (k : ℕ) → items_light ws xs ≡ true → k < length xs → is_light ws (nth_item xs k).body ≡ true
 item_light ws [] k e lt = absurd (omega arith)
-item_light ws (x ∷ xs) zero e lt = (both (is_light ws x.body) (items_light ws xs) e).0
-item_light ws (x ∷ xs) (suc k) e lt = item_light ws xs k (both (is_light ws x.body) (items_light ws xs) e).1 (omega arith)
+item_light ws (x ∷ xs) zero e lt = (both_of (is_light ws x.body) (items_light ws xs) e).0
+item_light ws (x ∷ xs) (suc k) e lt = item_light ws xs k (both_of (is_light ws x.body) (items_light ws xs) e).1 (omega arith)

@@ -17,7 +17,7 @@ use Rattle.rv_flat.specs.Inlined.{inlined, form_inlined, all_inlined, item_by, t
 use Rattle.rv_flat.specs.RawTree.{RawTree, Node, RawForm, RawTrees, Constant, Flow, Memory, Ticked, Input, Not, Binary, Scale, If, AtMostOne, When, Current}
 use Rattle.rv_flat.specs.RawTree.{None, More, raw_tree, all_shown, form_all_shown, each_all_shown}
 use Rattle.rv_flat.specs.Systems.{asserted, assertion_item, flow_item, kept_of, memory_item, system_from}
-use Rattle.rv_agreement.proofs.Controls.{no_flag}
+use Rattle.rv_types.proofs.ChainLaws.{no_flag}
 
 -- two tables that agree on the memories that are shown inline alike
 module _ (has : ℕ → Bool) (a b : ℕ → Item) (agree : (m : ℕ) → has m ≡ true → a m ≡ b m) where

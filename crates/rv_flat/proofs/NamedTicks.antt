@@ -18,13 +18,13 @@ use Rattle.rv_agreement.specs.Trees.{Current, None, More, System, memory_kinds, 
 use Rattle.rv_flat.specs.FlatInstants.{Row, nth, held, is_on, is_on_at}
 use Rattle.rv_flat.specs.Tame.{IsOver, FormIsOver, AreOver}
 use Rattle.rv_flat.proofs.Tested.{operator_fits}
-use Rattle.rv_types.proofs.TypedParts.{both_true as both}
+use Rattle.rv_base.proofs.Truths.{both_of}
 
 -- an expression that fits is over the first flows
 module _ (s : System) (n : ℕ) where
   pub clock_named : (k : Option ℕ) → clock_fits s n k ≡ true → IsNamed n k
   clock_named Nothing fit = tt
-  clock_named (Some c) fit = ltb-true c n (both (nat_lt c n) (is_of kind.Bool (slice_get s.kinds c)) fit).0
+  clock_named (Some c) fit = ltb-true c n (both_of (nat_lt c n) (is_of kind.Bool (slice_get s.kinds c)) fit).0
 
   mutual
     pub over : (k : Option ℕ) (j : Kind) (e : FlatTree) → fits s n k j e ≡ true → IsOver n e
@@ -32,30 +32,30 @@ module _ (s : System) (n : ℕ) where
 
     form_over : (k : Option ℕ) (j : Kind) (at : Sites) (form : TreeForm) → form_fits s n k j at form ≡ true → FormIsOver n form
     form_over k j at (Constant c) fit = tt
-    form_over k j at (Flow c) fit = ltb-true c n (both (nat_lt c n) (is_of j (slice_get s.kinds c) && same_clock k (nth_item s.flows c).clock) fit).0
+    form_over k j at (Flow c) fit = ltb-true c n (both_of (nat_lt c n) (is_of j (slice_get s.kinds c) && same_clock k (nth_item s.flows c).clock) fit).0
     form_over k j at (Memory m) fit = tt
     form_over k j at (Ticked t) fit = tt
     form_over k j at (Input i) fit = tt
-    form_over k j at (Not e) fit = over k kind.Bool e (both (same_kind j kind.Bool) (fits s n k kind.Bool e) fit).1
+    form_over k j at (Not e) fit = over k kind.Bool e (both_of (same_kind j kind.Bool) (fits s n k kind.Bool e) fit).1
     form_over k j at (Binary o a b) fit = let parts = (operator_fits s n k j at o a b fit).1 in (over k parts.0 a parts.1, over k parts.0 b parts.2)
-    form_over k j at (Scale z e) fit = over k kind.Int e (both (same_kind j kind.Int) (fits s n k kind.Int e) fit).1
+    form_over k j at (Scale z e) fit = over k kind.Int e (both_of (same_kind j kind.Int) (fits s n k kind.Int e) fit).1
     form_over k j at (If c a b) fit =
-        let outer = both (fits s n k kind.Bool c) (fits s n k j a && fits s n k j b) fit in
-        let parts = both (fits s n k j a) (fits s n k j b) outer.1 in
+        let outer = both_of (fits s n k kind.Bool c) (fits s n k j a && fits s n k j b) fit in
+        let parts = both_of (fits s n k j a) (fits s n k j b) outer.1 in
         (over k kind.Bool c outer.0, (over k j a parts.0, over k j b parts.1))
-    form_over k j at (AtMostOne es) fit = all_over k es (both (same_kind j kind.Bool) (all_fit s n k es) fit).1
+    form_over k j at (AtMostOne es) fit = all_over k es (both_of (same_kind j kind.Bool) (all_fit s n k es) fit).1
     form_over k j at (When c e) fit =
-        let outer = both (same_clock k (Some c)) (clock_fits s n (Some c) && fits s n (nth_item s.flows c).clock j e) fit in
-        over (nth_item s.flows c).clock j e (both (clock_fits s n (Some c)) (fits s n (nth_item s.flows c).clock j e) outer.1).1
+        let outer = both_of (same_clock k (Some c)) (clock_fits s n (Some c) && fits s n (nth_item s.flows c).clock j e) fit in
+        over (nth_item s.flows c).clock j e (both_of (clock_fits s n (Some c)) (fits s n (nth_item s.flows c).clock j e) outer.1).1
     form_over k j at (Current m i e) fit =
-        let outer = both (is_of j (slice_get (memory_kinds s) m)) (clock_fits s n i && fits s n i j e) fit in
-        let parts = both (clock_fits s n i) (fits s n i j e) outer.1 in
+        let outer = both_of (is_of j (slice_get (memory_kinds s) m)) (clock_fits s n i && fits s n i j e) fit in
+        let parts = both_of (clock_fits s n i) (fits s n i j e) outer.1 in
         (clock_named i parts.0, over i j e parts.1)
 
     all_over : (k : Option ℕ) (es : FlatTrees) → all_fit s n k es ≡ true → AreOver n es
     all_over k None fit = tt
     all_over k (More e es) fit =
-        let parts = both (fits s n k kind.Bool e) (all_fit s n k es) fit in
+        let parts = both_of (fits s n k kind.Bool e) (all_fit s n k es) fit in
         (over k kind.Bool e parts.0, all_over k es parts.1)
 
 -- two rows that agree on the first flows, as many as are said

@@ -14,14 +14,14 @@ use Rattle.rv_tree.specs.Places.{Sites, is_same, is_among, index_of}
 use Rattle.rv_meaning.specs.Runs.{Instant, flat, cell}
 use Rattle.rv_flat.specs.FlatInstants.{Row, nth}
 use Rattle.rv_flat.specs.FlatOf.{row_of, instant_of}
-use Rattle.rv_agreement.proofs.Controls.{no_flag}
 use Rattle.rv_meaning.proofs.Rows.{only_equal}
 use Rattle.rv_meaning.proofs.Told.{index_past}
-use Rattle.rv_types.proofs.Members.{among_from as is_found, index_there as index_at}
+use Rattle.rv_types.proofs.Members.{among_from, index_there}
+use Rattle.rv_types.proofs.ChainLaws.{no_flag}
 
 -- what is made of each of some places, by the number of one of them
 pub made_at : {Y : Type 0} (f : Sites → Y) (ps : List Sites) (p : Sites) (d : Y) → is_among ps p ≡ true → get_or (map f ps) (index_of ps p) d ≡ f p
-made_at f ps p d e = let r = index_at ps p e in get_or-map f ps (index_of ps p) [] d r.0 ∙ ap f r.1
+made_at f ps p d e = let r = index_there ps p e in get_or-map f ps (index_of ps p) [] d r.0 ∙ ap f r.1
 
 pub made_past : {Y : Type 0} (f : Sites → Y) (ps : List Sites) (p : Sites) (d : Y) → is_among ps p ≡ false → get_or (map f ps) (index_of ps p) d ≡ d
 made_past f ps p d e = let long = length-map ps f in let past = index_past ps p e in get_or_past (map f ps) (index_of ps p) d (omega (arith, long, past))
@@ -81,7 +81,7 @@ pub its_number : (ps : List Sites) → ((j k : ℕ) → j < k → k < length ps 
     → index_of ps (get_or ps k []) ≡ k
 its_number ps once k lt =
     let p : Sites = get_or ps k [] in
-    let r = index_at ps p (is_found ps p (k, lt, get_or_default ps k p [] lt)) in
+    let r = index_there ps p (among_from ps p (k, lt, get_or_default ps k p [] lt)) in
     elim (cases_order (index_of ps p) k) [
       | inl same ↦ same
       | inr other ↦ elim other [

@@ -44,6 +44,8 @@ use Rattle.rv_flat.specs.Systems.{flow_item, memory_item, kept_of, assertion_ite
 use Rattle.rv_flat.proofs.Running.{RunIsInstants, StatesOfRun, all_false, same_kept, allowed_of_run, observer_of_run}
 use Rattle.rv_flat.proofs.Taming.{IsAsserted, whole, always, on_flow, asserted_is}
 use Rattle.rv_flat.proofs.Typing.{TypedMemories, counted, length-values, value_kth, memory_kth}
+use Rattle.rv_base.proofs.Lists.{item_at}
+use Rattle.std.proofs.lemmas.Bool.{true_from_ne_false}
 
 -- the memories of the system are those of the flat system, one by one
 pub kept_kinds : (all ms : List FlatMemory) → map (λ x. x.kind) (map (kept_of all) ms) ≡ map (λ m. m.kind) ms
@@ -71,15 +73,6 @@ found_kind : (ks : List Kind) (m : ℕ) → m < length ks → slice_get ks m ≡
 found_kind [] m lt = absurd (omega arith)
 found_kind (k ∷ ks) zero lt = refl
 found_kind (k ∷ ks) (suc m) lt = found_kind ks m (omega arith)
-
-true_if : (b : Bool) → (b ≡ false → ⊥) → b ≡ true
-true_if true none = refl
-true_if false none = absurd (none refl)
-
-pub found_in : {X : Type 0} (xs : List X) (k : ℕ) → k < length xs → (x : X) × (slice_get xs k ≡ Some x)
-found_in [] k lt = absurd (omega arith)
-found_in (x ∷ xs) zero lt = (x, refl)
-found_in (x ∷ xs) (suc k) lt = found_in xs k (omega arith)
 
 got : {X Y : Type 0} (xs : List X) (g : X → Y) (k : ℕ) (x : X) (d : Y) → slice_get xs k ≡ Some x → get_or (map g xs) k d ≡ g x
 got xs g k x d e = get_or_from_slice_get (map g xs) k (g x) d (slice_get-map g xs k ∙ ap (option_map g) e)
@@ -177,7 +170,7 @@ module _ (program : ProgramTree) (main : Identifier) (f : Flat) (flat : IsFlatOf
     λ none k lt.
         let less : k < length f.assertions = omega (arith, lt, length-map f.assertions (assertion_item f.memories)) in
         let told = met_at k less in
-        told ∙ true_if (is_true (value_at now given row (get_or (assertion_trees f) k no_assertion)))
+        told ∙ true_from_ne_false (is_true (value_at now given row (get_or (assertion_trees f) k no_assertion)))
         (λ wrong. none (get_or (map (λ e. e.at.sites) f.assertions) k []) (k, less, refl, wrong)),
     λ met q w.
         let lt : w.0 < length system.assertions = omega (arith, w.1, length-map f.assertions (assertion_item f.memories)) in
@@ -188,7 +181,7 @@ module _ (program : ProgramTree) (main : Identifier) (f : Flat) (flat : IsFlatOf
       met_at : (k : ℕ) → k < length f.assertions → is_met Value integers (found_at now given) row (trees.nth_item system.assertions k) ≡ is_true
           (value_at now given row (get_or (assertion_trees f) k no_assertion))
       met_at k lt =
-          let a = found_in f.assertions k lt in
+          let a = item_at f.assertions k lt in
           ap (is_met Value integers (found_at now given) row) (got f.assertions (assertion_item f.memories) k a.0 trees.no_item a.1)
           ∙ met_by (table_of f.memories) (found_at now given) row (raw_tree a.0) _ _ (asserted_is (raw_tree a.0))
           ∙ ap (λ e. is_true (value_at now given row e)) (sym (got f.assertions (tree_among f.memories) k a.0 no_assertion a.1))

@@ -38,7 +38,7 @@ use Rattle.rv_flat.proofs.Tested.{ItemFits, assertion_fits, memory_fits}
 use Rattle.rv_flat.proofs.OneRow.{IsItemOver, fits_kth, item_over, over_kth}
 use Rattle.rv_flat.proofs.Weighing.{size, held_small, tame, tame_held, value_small}
 use Rattle.rv_flat.proofs.FlowWeights.{item_light, weight_kth}
-use Rattle.rv_types.proofs.TypedParts.{both_true as both}
+use Rattle.rv_base.proofs.Truths.{both_of}
 
 range_small : (v : Value) → IsInRange v → size v ≤ 2 ^ 63
 range_small (Flag b) r = omega arith
@@ -126,7 +126,7 @@ module _ (f : Flat) (now : State) (inputs : List Value) (state : IsState f now) 
 
   -- no flow weighs more than the limit
   light_held : (e : FlatTree) → is_light ws e ≡ true → nat_le (flat_weight ws e) heaviest ≡ true
-  light_held (Node at form) light = (both (nat_le (form_flat_weight ws form) heaviest) (form_is_light ws form) light).0
+  light_held (Node at form) light = (both_of (nat_le (form_flat_weight ws form) heaviest) (form_is_light ws form) light).0
 
   weight_light : (m : ℕ) → m < length f.flows → nat_le (get_or ws m 0) heaviest ≡ true
   weight_light m lt = subst (λ w. nat_le w heaviest ≡ true) (sym (weight_at m lt)) (light_held (nth_item (flow_items f) m).body (flow_light m lt))
@@ -195,7 +195,7 @@ module _ (f : Flat) (now : State) (inputs : List Value) (state : IsState f now) 
     clock_held : (k : Option ℕ) → clock_fits (system_of f) (length (flow_items f)) k ≡ true → IsClockHeld row k
     clock_held Nothing fit = tt
     clock_held (Some c) fit =
-        let lt = ltb-true c (length (flow_items f)) (both (nat_lt c (length (flow_items f))) (is_of kind.Bool (slice_get (system_of f).kinds c)) fit).0 in
+        let lt = ltb-true c (length (flow_items f)) (both_of (nat_lt c (length (flow_items f))) (is_of kind.Bool (slice_get (system_of f).kinds c)) fit).0 in
         held_small (held (nth row c)) (get_or ws c 0) (instant_small c lt) (weight_light c (omega (arith, count, lt)))
 
     item_fits : (k : ℕ) → k < length f.assertions → ItemFits (system_of f) (length (flow_items f)) (nth_item (map (assertion_item f.memories) f.assertions) k)

@@ -6,7 +6,7 @@ use Rattle.rv_types.specs.declared.typed.Kind.{Kind}
 use Rattle.rv_types.specs.declared.typed.Kind.TheVariants as kind
 use Rattle.rv_agreement.specs.Checks.{any_of, gives, operands, is_placed_for, clock_fits, fits, form_fits, item_fits, flows_fit, memories_fit, assertions_fit}
 use Rattle.rv_agreement.specs.Trees.{FlatTree, Binary, Item, Kept, System, kind_at, nth_item}
-use Rattle.rv_types.proofs.TypedParts.{both_true as both}
+use Rattle.rv_base.proofs.Truths.{both_of}
 
 -- one of the types passes
 pub some_kind : (test : Kind → Bool) (ks : List Kind) → any_of test ks ≡ true → (k : Kind) × (test k ≡ true)
@@ -22,10 +22,10 @@ pub operator_fits : (s : System) (n : ℕ) (k : Option ℕ) (j : Kind) (at : Sit
     → (gives o j ≡ true) × ((i : Kind) × (fits s n k i a ≡ true) × (fits s n k i b ≡ true))
 operator_fits s n k j at o a b e =
     let test : Kind → Bool = λ i. is_placed_for at o i && (fits s n k i a && fits s n k i b) in
-    let outer = both (gives o j) (any_of test (operands s.labels o)) e in
+    let outer = both_of (gives o j) (any_of test (operands s.labels o)) e in
     let found = some_kind test (operands s.labels o) outer.1 in
-    let inner = both (is_placed_for at o found.0) (fits s n k found.0 a && fits s n k found.0 b) found.1 in
-    let parts = both (fits s n k found.0 a) (fits s n k found.0 b) inner.1 in
+    let inner = both_of (is_placed_for at o found.0) (fits s n k found.0 a && fits s n k found.0 b) found.1 in
+    let parts = both_of (fits s n k found.0 a) (fits s n k found.0 b) inner.1 in
     (outer.0, (found.0, parts.0, parts.1))
 
 -- an item is over the first flows, as many as are said
@@ -35,16 +35,16 @@ pub record ItemFits (s : System) (n : ℕ) (x : Item) : Type 0 where
   pub body : fits s n x.clock kind x.body ≡ true
 
 of_test : (s : System) (n : ℕ) (j : Kind) (x : Item) → item_fits s n j x ≡ true → ItemFits s n x
-of_test s n j x e = let parts = both (clock_fits s n x.clock) (fits s n x.clock j x.body) e in record { clock = parts.0; kind = j; body = parts.1 }
+of_test s n j x e = let parts = both_of (clock_fits s n x.clock) (fits s n x.clock j x.body) e in record { clock = parts.0; kind = j; body = parts.1 }
 
 -- the k-th flow is over the first k
 pub flow_fits : (s : System) (before : ℕ) (xs : List Item) (k : ℕ) → flows_fit s before xs ≡ true → k < length xs → ItemFits s (before + k) (nth_item xs k)
 flow_fits s before [] k e lt = absurd (omega arith)
 flow_fits s before (x ∷ xs) zero e lt =
-    let here = both (item_fits s before (kind_at s.kinds before) x) (flows_fit s (before + 1) xs) e in
+    let here = both_of (item_fits s before (kind_at s.kinds before) x) (flows_fit s (before + 1) xs) e in
     subst (λ n. ItemFits s n x) (let e : before ≡ before + 0 = omega arith in e) (of_test s before (kind_at s.kinds before) x here.0)
 flow_fits s before (x ∷ xs) (suc k) e lt =
-    let here = both (item_fits s before (kind_at s.kinds before) x) (flows_fit s (before + 1) xs) e in
+    let here = both_of (item_fits s before (kind_at s.kinds before) x) (flows_fit s (before + 1) xs) e in
     subst (λ n. ItemFits s n (nth_item xs k)) (let e : (before + 1) + k ≡ before + suc k = omega arith in e)
     (flow_fits s (before + 1) xs k here.1 (omega arith))
 
@@ -52,10 +52,10 @@ flow_fits s before (x ∷ xs) (suc k) e lt =
 pub memory_fits : (s : System) (ms : List Kept) (m : ℕ) → memories_fit s ms ≡ true → m < length ms
     → ItemFits s (length s.flows) (nth_item (map (λ x. x.item) ms) m)
 memory_fits s [] m e lt = absurd (omega arith)
-memory_fits s (x ∷ ms) zero e lt = of_test s (length s.flows) x.kind x.item (both (item_fits s (length s.flows) x.kind x.item) (memories_fit s ms) e).0
-memory_fits s (x ∷ ms) (suc m) e lt = memory_fits s ms m (both (item_fits s (length s.flows) x.kind x.item) (memories_fit s ms) e).1 (omega arith)
+memory_fits s (x ∷ ms) zero e lt = of_test s (length s.flows) x.kind x.item (both_of (item_fits s (length s.flows) x.kind x.item) (memories_fit s ms) e).0
+memory_fits s (x ∷ ms) (suc m) e lt = memory_fits s ms m (both_of (item_fits s (length s.flows) x.kind x.item) (memories_fit s ms) e).1 (omega arith)
 
 pub assertion_fits : (s : System) (xs : List Item) (k : ℕ) → assertions_fit s xs ≡ true → k < length xs → ItemFits s (length s.flows) (nth_item xs k)
 assertion_fits s [] k e lt = absurd (omega arith)
-assertion_fits s (x ∷ xs) zero e lt = of_test s (length s.flows) kind.Bool x (both (item_fits s (length s.flows) kind.Bool x) (assertions_fit s xs) e).0
-assertion_fits s (x ∷ xs) (suc k) e lt = assertion_fits s xs k (both (item_fits s (length s.flows) kind.Bool x) (assertions_fit s xs) e).1 (omega arith)
+assertion_fits s (x ∷ xs) zero e lt = of_test s (length s.flows) kind.Bool x (both_of (item_fits s (length s.flows) kind.Bool x) (assertions_fit s xs) e).0
+assertion_fits s (x ∷ xs) (suc k) e lt = assertion_fits s xs k (both_of (item_fits s (length s.flows) kind.Bool x) (assertions_fit s xs) e).1 (omega arith)

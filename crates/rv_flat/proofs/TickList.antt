@@ -14,7 +14,7 @@ use Rattle.rv_flat.specs.declared.parts.Bit.{Bit}
 use Rattle.rv_flat.specs.declared.parts.Bit.TheVariants as bit
 use Rattle.rv_flat.specs.Lists.{tick_places, variable_of}
 use Rattle.rv_flat.proofs.Earliest.{not_itself}
-use Rattle.rv_flat.proofs.PlaceNumbers.{its_number as number_apart}
+use Rattle.rv_flat.proofs.PlaceNumbers.{its_number}
 
 -- the first number of a place in a list that rises
 module _ (ps : List Sites) where
@@ -22,7 +22,7 @@ module _ (ps : List Sites) where
   apart rising j k lt less e = not_itself (get_or ps k []) (subst (λ p. IsBefore p (get_or ps k [])) e (rising j k lt less))
 
 pub number_at : (ps : List Sites) → AreRising ps → (k : ℕ) → k < length ps → index_of ps (get_or ps k []) ≡ k
-number_at ps rising k lt = number_apart ps (apart ps rising) k lt
+number_at ps rising k lt = its_number ps (apart ps rising) k lt
 
 -- the flows of the ticks among some variables
 abbrev ticks_in : List Variable → List Sites

@@ -14,10 +14,10 @@ use Rattle.rv_types.specs.Types.{Scope, Signature, kind_in, same_kind, where_met
 use Rattle.rv_types.specs.Types.{minus_rule, memory_rule, when_of, if_rule, at_most_one_of, sole, call_of, is_constant, kind_of, kinds_of_all}
 use Rattle.rv_types.specs.Scopes.{value_kind, node_scope, signature_named}
 use Rattle.rv_types.specs.Instances.{IsArgument, head, tail}
-use Rattle.rv_agreement.proofs.Controls.{no_flag}
 use Rattle.rv_meaning.proofs.TypedOperators.{met_kind}
-use Rattle.rv_types.proofs.ConstantContents.{kind_same as same_kinds}
-use Rattle.rv_types.proofs.TypedParts.{both_true as both_hold}
+use Rattle.rv_types.proofs.ConstantContents.{kind_same}
+use Rattle.rv_base.proofs.Truths.{both_of}
+use Rattle.rv_types.proofs.ChainLaws.{no_flag}
 
 -- what is there
 pub some_is : {X : Type 0} {o : Option X} → IsSome o → (x : X) × (o ≡ Some x)
@@ -29,11 +29,11 @@ some_is {X = X} {o = o} h = by o h
 
 not_kind : (o : Option Kind) (k : Kind) → kind_in (one_of not_rule o) ≡ Some k → (o ≡ Some kind.Bool) × (kind.Bool ≡ k)
 not_kind Nothing k e = absurd (none-some k e)
-not_kind (Some j) k e = let m = met_kind (same_kind j kind.Bool) kind.Bool k e in (ap Some (same_kinds j kind.Bool m.0), m.1)
+not_kind (Some j) k e = let m = met_kind (same_kind j kind.Bool) kind.Bool k e in (ap Some (kind_same j kind.Bool m.0), m.1)
 
 minus_kind : (o : Option Kind) (k : Kind) → kind_in (one_of minus_rule o) ≡ Some k → (o ≡ Some kind.Int) × (kind.Int ≡ k)
 minus_kind Nothing k e = absurd (none-some k e)
-minus_kind (Some j) k e = let m = met_kind (same_kind j kind.Int) kind.Int k e in (ap Some (same_kinds j kind.Int m.0), m.1)
+minus_kind (Some j) k e = let m = met_kind (same_kind j kind.Int) kind.Int k e in (ap Some (kind_same j kind.Int m.0), m.1)
 
 memory_kind : (o : Option Kind) (k : Kind) → kind_in (one_of (memory_rule true) o) ≡ Some k → o ≡ Some k
 memory_kind Nothing k e = absurd (none-some k e)
@@ -42,7 +42,7 @@ memory_kind (Some j) k e = ap Some (met_kind true j k e).1
 when_kind : (o p : Option Kind) (k : Kind) → kind_in (when_of true o p) ≡ Some k → (o ≡ Some k) × (p ≡ Some kind.Bool)
 when_kind Nothing p k e = absurd (none-some k e)
 when_kind (Some j) Nothing k e = absurd (none-some k e)
-when_kind (Some j) (Some c) k e = let m = met_kind (same_kind c kind.Bool) j k e in (ap Some m.1, ap Some (same_kinds c kind.Bool m.0))
+when_kind (Some j) (Some c) k e = let m = met_kind (same_kind c kind.Bool) j k e in (ap Some m.1, ap Some (kind_same c kind.Bool m.0))
 
 -- the types of two operands
 pub record Operands (scaled : Bool) (o : Op) (a b : Option Kind) (k : Kind) : Type 0 where
@@ -63,8 +63,8 @@ if_kinds (Some h) Nothing c k e = absurd (none-some k e)
 if_kinds (Some h) (Some i) Nothing k e = absurd (none-some k e)
 if_kinds (Some h) (Some i) (Some j) k e =
     let m = met_kind (same_kind h kind.Bool && same_kind i j) i k e in
-    let both = both_hold (same_kind h kind.Bool) (same_kind i j) m.0 in
-    (ap Some (same_kinds h kind.Bool both.0), ap Some m.1, ap Some (sym (same_kinds i j both.1) ∙ m.1))
+    let both = both_of (same_kind h kind.Bool) (same_kind i j) m.0 in
+    (ap Some (kind_same h kind.Bool both.0), ap Some m.1, ap Some (sym (kind_same i j both.1) ∙ m.1))
 
 -- operands that are all Boolean
 most_kind : (ks : List (Option Kind)) (k : Kind) → kind_in (at_most_one_of ks) ≡ Some k
@@ -143,13 +143,13 @@ module _ (program : ProgramTree) (n : NodeTree) where
     where
       by : (o : Option Kind) → all_typed (o ∷ kinds_of_all scope es) ≡ true → all_suit kind.Bool (o ∷ kinds_of_all scope es) ≡ true → o ≡ Some kind.Bool
       by Nothing t s = no_flag t
-      by (Some j) t s = ap Some (same_kinds j kind.Bool (both_hold (same_kind j kind.Bool) (all_suit kind.Bool (kinds_of_all scope es)) s).0)
+      by (Some j) t s = ap Some (kind_same j kind.Bool (both_of (same_kind j kind.Bool) (all_suit kind.Bool (kinds_of_all scope es)) s).0)
   suited _ t s _ e (tail {e = b} {es = es} {j = j} arg) = by (kind_of scope b) t s (λ u v. suited es u v j e arg)
     where
       by : (o : Option Kind) → all_typed (o ∷ kinds_of_all scope es) ≡ true → all_suit kind.Bool (o ∷ kinds_of_all scope es) ≡ true
           → (all_typed (kinds_of_all scope es) ≡ true → all_suit kind.Bool (kinds_of_all scope es) ≡ true → IsTyped e kind.Bool) → IsTyped e kind.Bool
       by Nothing t s again = no_flag t
-      by (Some i) t s again = again t (both_hold (same_kind i kind.Bool) (all_suit kind.Bool (kinds_of_all scope es)) s).1
+      by (Some i) t s again = again t (both_of (same_kind i kind.Bool) (all_suit kind.Bool (kinds_of_all scope es)) s).1
 
   pub most_typed : (at : ℕ) (site : Option ℕ) (es : Trees) (k : Kind) → IsTyped (Node at site (AtMostOne es)) k
       → ((j : ℕ) (e : Tree) → IsArgument es j e → IsTyped e kind.Bool) × (kind.Bool ≡ k)

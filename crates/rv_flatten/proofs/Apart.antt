@@ -2,7 +2,7 @@
 use Rattle.std.proofs.Common.{◌≡◌, inl, inr, ℕ, suc, ◌<◌, List, [], ◌∷◌, ◌++◌, map, flat_map, length, get_or, sym, ◌∙◌, ap, arith}
 use Rattle.std.proofs.lemmas.List.Elements.{Contains-append_cases}
 use Rattle.std.specs.List.{Contains}
-use Rattle.rv_types.proofs.Members.{at_head, cons_cases as head_or_tail, in_tail, nothing_in as none_in, of_flat_map as from_flat_map}
+use Rattle.rv_types.proofs.Members.{at_head, cons_cases, in_tail, nothing_in, of_flat_map}
 
 -- no two of them have one key
 abbrev pub IsApart : {X K : Type 0} (key : X → K) → List X → Type 0
@@ -30,8 +30,8 @@ apart_map key g [] p = tt
 apart_map {X = X} {Y = Y} key g (x ∷ xs) p = (first, apart_map key g xs p.1)
   where
     from_map : (zs : List X) (y : Y) → Contains (map g zs) y → (z : X) × Contains zs z × (g z ≡ y)
-    from_map [] y w = none_in y w
-    from_map (z ∷ zs) y w = elim (head_or_tail (g z) (map g zs) y w) [
+    from_map [] y w = nothing_in y w
+    from_map (z ∷ zs) y w = elim (cons_cases (g z) (map g zs) y w) [
       | inl is ↦ (z, at_head z zs, is)
       | inr later ↦ let r = from_map zs y later in (r.0, in_tail z zs r.0 r.1, r.2)
     ]
@@ -64,5 +64,5 @@ apart_flat {Y = Y} outer key g (x ∷ xs) p own cross =
   where
     between : (a b : Y) → Contains (g x) a → Contains (flat_map g xs) b → key a ≡ key b → ⊥
     between a b v w e =
-        let r = from_flat_map g xs b w in
+        let r = of_flat_map g xs b w in
         p.0 r.0 r.1 (cross x r.0 a b (at_head x xs) (in_tail x xs r.0 r.1) v r.2 e)

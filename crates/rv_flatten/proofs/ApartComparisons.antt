@@ -30,19 +30,19 @@ use Rattle.rv_flatten.proofs.ItemClocks.{same_instance}
 use Rattle.rv_flatten.proofs.Standing.{Stands, as_child, of_not, of_minus, of_when, of_left, of_right, of_condition, of_first, of_second, of_operand, stands_in}
 use Rattle.rv_flatten.proofs.Standing.{body_stands, argument_stands, operand_stands, as_assertion}
 use Rattle.rv_flatten.proofs.WellInstances.{node_in}
-use Rattle.rv_agreement.proofs.Controls.{no_flag}
-use Rattle.rv_instances.proofs.FlowPlaces.{snoc_parts as snoc}
-use Rattle.rv_types.proofs.Members.{cons_cases as head_or_tail, nothing_in as none_in, of_flat_map as from_flat_map}
-use Rattle.rv_types.proofs.TypedParts.{both_true as both_hold}
+use Rattle.rv_instances.proofs.FlowPlaces.{snoc_parts}
+use Rattle.rv_types.proofs.Members.{cons_cases, nothing_in, of_flat_map}
+use Rattle.rv_base.proofs.Truths.{both_of}
+use Rattle.rv_types.proofs.ChainLaws.{no_flag}
 
 -- what an operator is itself has a place
 own_is : (o : Op) (r c : Comparison) → Contains (own o r) c → (is_placed r.at ≡ true) × (r ≡ c)
 own_is o r c w = by (is_placed r.at) (nat_eq (length (sides_of o)) 0) w
   where
     by : (b z : Bool) → Contains (cond b (cond z [] (r ∷ [])) []) c → (b ≡ true) × (r ≡ c)
-    by false z w = none_in c w
-    by true true w = none_in c w
-    by true false w = (refl, elim (head_or_tail r [] c w) [ inl is ↦ is | inr rest ↦ none_in c rest ])
+    by false z w = nothing_in c w
+    by true true w = nothing_in c w
+    by true false w = (refl, elim (cons_cases r [] c w) [ inl is ↦ is | inr rest ↦ nothing_in c rest ])
 
 -- a place of an operator is that of its site
 placed_at : (path : Sites) (site : Option ℕ) (b : Bool) → is_placed (cond b (spot path site) []) ≡ true
@@ -134,7 +134,7 @@ module _ (program : ProgramTree) (main : Identifier) (numbers : Numbers) where
           right = b;
           there = subst (λ (m : Option ℕ). Contains (node_parts i.node) (tree.Node at m (tree.Binary o a b))) v.1.1
               (stands_in i.node (tree.Node at site (tree.Binary o a b)) t);
-          compares = (both_hold (is_comparison o) _ v.0).0;
+          compares = (both_of (is_comparison o) _ v.0).0;
           place = v.1.2;
           left_is = refl;
           right_is = refl;
@@ -142,8 +142,8 @@ module _ (program : ProgramTree) (main : Identifier) (numbers : Numbers) where
 
     named_none : (k : Option ℕ) (x : Identifier) (b : Bool) (c : Comparison)
         → Contains (form_comparisons flows k [] (cond b (Flow (index_of numbers.flows (place i x))) (Constant (constant_value program x)))) c → IsReadFrom c
-    named_none k x true c w = none_in c w
-    named_none k x false c w = none_in c w
+    named_none k x true c w = nothing_in c w
+    named_none k x false c w = nothing_in c w
 
     mutual
       -- each comparison of what is read of an expression
@@ -153,14 +153,14 @@ module _ (program : ProgramTree) (main : Identifier) (numbers : Numbers) where
 
       form_read : (k : Option ℕ) (at : ℕ) (site : Option ℕ) (form : Form) (c : Comparison) → Stands i.node (tree.Node at site form)
           → Contains (comparisons flows k (flat_form program numbers i site form)) c → IsReadFrom c
-      form_read k at site tree.True c t w = none_in c w
-      form_read k at site tree.False c t w = none_in c w
-      form_read k at site (tree.Number n) c t w = none_in c w
+      form_read k at site tree.True c t w = nothing_in c w
+      form_read k at site tree.False c t w = nothing_in c w
+      form_read k at site (tree.Number n) c t w = nothing_in c w
       form_read k at site (tree.Named x) c t w = named_none k x (is_flow i.node x) c w
       form_read k at site (tree.Not e) c t w = comparison_read k e c (as_child at site (tree.Not e) e t of_not) w
       form_read k at site (tree.Minus e) c t w = comparison_read k e c (as_child at site (tree.Minus e) e t of_minus) w
-      form_read k at site (tree.Pre e) c t w = none_in c w
-      form_read k at site (tree.Current e) c t w = none_in c w
+      form_read k at site (tree.Pre e) c t w = nothing_in c w
+      form_read k at site (tree.Current e) c t w = nothing_in c w
       form_read k at site (tree.When e x) c t w =
           comparison_read (nth_item flows (index_of numbers.flows (place i x.text))).clock e c (as_child at site (tree.When e x) e t (of_when x)) w
       form_read k at site (tree.Binary o a b) c t w =
@@ -185,11 +185,11 @@ module _ (program : ProgramTree) (main : Identifier) (numbers : Numbers) where
             ]
           ]
       form_read k at site (tree.AtMostOne es) c t w = all_read k es c (λ j e arg. as_child at site (tree.AtMostOne es) e t (of_operand j arg)) w
-      form_read k at site (tree.Call f args) c t w = none_in c w
+      form_read k at site (tree.Call f args) c t w = nothing_in c w
 
       all_read : (k : Option ℕ) (es : Trees) (c : Comparison) → ((j : ℕ) (e : Tree) → IsArgument es j e → Stands i.node e)
           → Contains (comparisons_of flows k (flats_of program numbers i es)) c → IsReadFrom c
-      all_read k tree.None c t w = none_in c w
+      all_read k tree.None c t w = nothing_in c w
       all_read k (tree.More e es) c t w = elim (Contains-append_cases (comparisons flows k (flat_of program numbers i e))
           (comparisons_of flows k (flats_of program numbers i es)) c w) [
             | inl v ↦ comparison_read k e c (t 0 e head) v
@@ -199,9 +199,9 @@ module _ (program : ProgramTree) (main : Identifier) (numbers : Numbers) where
   -- each comparison of what gives a flow
   giver_read : (flows : List Item) (q : Sites) (g : Giver) (c : Comparison) → Gives program main q g
       → Contains (item_comparisons flows (giver_item program numbers g)) c → IsReadFrom c
-  giver_read flows q _ c (given j lt at) w = none_in c w
+  giver_read flows q _ c (given j lt at) w = nothing_in c w
   giver_read flows q _ c (by_equation i x (Body e) of right at) w = comparison_read flows i of _ e c (body_stands i.node x e right) w
-  giver_read flows q _ c (by_equation i x (Output d j) of right at) w = none_in c w
+  giver_read flows q _ c (by_equation i x (Output d j) of right at) w = nothing_in c w
   giver_read flows q _ c (by_call i d j e of called arg at) w = comparison_read flows i of _ e c (argument_stands i.node d j e called arg) w
 
   -- what is in a list stands at a number
@@ -232,7 +232,7 @@ module _ (program : ProgramTree) (main : Identifier) (numbers : Numbers) where
 
     -- Each comparison is read from one of an instance.
     pub every_read : (c : Comparison) → Contains (all_comparisons s) c → IsReadFrom c
-    every_read c w = let r = from_flat_map (item_comparisons s.flows) (all_items s) c w in item_read r.0 c r.1 r.2
+    every_read c w = let r = of_flat_map (item_comparisons s.flows) (all_items s) c w in item_read r.0 c r.1 r.2
 
     module _ (well : AreWell program) (named : IsNode program main) where
       -- Comparisons at one place have the same operands.
@@ -240,7 +240,7 @@ module _ (program : ProgramTree) (main : Identifier) (numbers : Numbers) where
       comparisons_apart c d w v e =
           let x = every_read c w in
           let y = every_read d v in
-          let r = snoc x.i.path y.i.path x.site y.site (sym x.place ∙ e ∙ y.place) in
+          let r = snoc_parts x.i.path y.i.path x.site y.site (sym x.place ∙ e ∙ y.place) in
           let one = same_instance program main well named x.i y.i x.of y.of r.0 in
           let there : Contains (node_parts y.i.node) (tree.Node x.at (Some y.site) (tree.Binary x.operator x.left x.right)) =
           subst (λ (m : ℕ). Contains (node_parts y.i.node) (tree.Node x.at (Some m) (tree.Binary x.operator x.left x.right))) r.1

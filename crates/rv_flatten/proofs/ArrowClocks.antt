@@ -16,20 +16,20 @@ use Rattle.rv_types.specs.Instances.{CallTree, calls, calls_in, calls_in_all, ca
 use Rattle.rv_types.specs.Scopes.{node_scope}
 use Rattle.rv_types.specs.Variables.{is_arrow, parts, parts_of_all, node_parts}
 use Rattle.rv_types.specs.WellFormed.{IsWellFormed, IsWellTyped}
-use Rattle.rv_types.proofs.Members.{at_head, cons_cases as head_or_tail, in_flat_map, nothing_in as none_in, of_flat_map as from_flat_map}
-use Rattle.rv_types.proofs.TypedParts.{IsTyped, parts_typed, argument_part, right_calls as call_of_right}
+use Rattle.rv_types.proofs.Members.{at_head, cons_cases, in_flat_map, nothing_in, of_flat_map}
+use Rattle.rv_types.proofs.TypedParts.{IsTyped, parts_typed, argument_part, right_calls}
 use Rattle.rv_instances.specs.Flowing.{IsKnownClock}
 use Rattle.rv_instances.specs.Timed.{ToldOperator, own_operator}
 use Rattle.rv_instances.proofs.TimedParts.{node_operators}
-use Rattle.rv_agreement.proofs.Controls.{no_flag}
 use Rattle.rv_flatten.specs.Arrows.{arrow_of, node_arrows}
 use Rattle.rv_flatten.proofs.ClockKinds.{IsTrueClock, clock_taken, pace_is_true}
 use Rattle.rv_flatten.proofs.FlowKinds.{kinds_many}
+use Rattle.rv_types.proofs.ChainLaws.{no_flag}
 
 -- the only one of no more than one
 only_one : (b : Bool) (c k : Clock) → Contains (cond b (c ∷ []) []) k → (b ≡ true) × (c ≡ k)
-only_one true c k w = elim (head_or_tail c [] k w) [ inl same ↦ (refl, same) | inr rest ↦ none_in k rest ]
-only_one false c k w = none_in k w
+only_one true c k w = elim (cons_cases c [] k w) [ inl same ↦ (refl, same) | inr rest ↦ nothing_in k rest ]
+only_one false c k w = nothing_in k w
 
 module _ (n : NodeTree) where
   -- the clock of an expression that is a `->`
@@ -60,7 +60,7 @@ module _ (n : NodeTree) where
   -- And nothing else does.
   pub node_only : (k : Clock) → Contains (node_arrows n) k → (e : Tree) × Contains (node_parts n) e × (is_arrow e ≡ true) × (taken Base (pace n e) ≡ k)
   node_only k w =
-      let r = from_flat_map own_arrow (node_parts n) k (subst (λ l. Contains l k) arrows_are w) in
+      let r = of_flat_map own_arrow (node_parts n) k (subst (λ l. Contains l k) arrows_are w) in
       let own = only_one (is_arrow r.0) (taken Base (pace n r.0)) k r.2 in
       (r.0, r.1, own.0, own.1)
 
@@ -76,8 +76,8 @@ module _ (program : ProgramTree) (n : NodeTree) (well : IsWellTyped program n) (
             let c : CallTree = record { at = s.0; site = unwrap_or s.1 0; name = s.2; args = s.3 } in
             let there : Contains (calls n) c =
             Contains-append_left (calls_in_equations n.equations) (calls_in_assertions n.assertions) c
-            (call_of_right n.equations q c w (subst (λ t. Contains (calls_in t) c) (sym s.4) (at_head c (calls_in_all s.3)))) in
-            elim (head_or_tail (Node s.0 s.1 (Call s.2 s.3)) (parts_of_all s.3) e (subst (λ t. Contains (parts t) e) s.4 v)) [
+            (right_calls n.equations q c w (subst (λ t. Contains (calls_in t) c) (sym s.4) (at_head c (calls_in_all s.3)))) in
+            elim (cons_cases (Node s.0 s.1 (Call s.2 s.3)) (parts_of_all s.3) e (subst (λ t. Contains (parts t) e) s.4 v)) [
               | inl same ↦ no_flag (ap is_arrow same ∙ is)
               | inr rest ↦
                   let a = argument_part s.3 e rest in
@@ -93,9 +93,9 @@ module _ (program : ProgramTree) (n : NodeTree) (well : IsWellTyped program n) (
     arrow_typed : Contains (node_parts n) e → IsTyped (node_scope program n) e
     arrow_typed w = elim (Contains-append_cases (flat_map (λ (q : EquationTree). parts q.right) n.equations)
         (flat_map (λ (a : AssertionTree). parts a.body) n.assertions) e w) [
-          | inl v ↦ let r = from_flat_map (λ (q : EquationTree). parts q.right) n.equations e v in right_typed r.0 r.1 r.2
+          | inl v ↦ let r = of_flat_map (λ (q : EquationTree). parts q.right) n.equations e v in right_typed r.0 r.1 r.2
           | inr v ↦
-              let r = from_flat_map (λ (a : AssertionTree). parts a.body) n.assertions e v in
+              let r = of_flat_map (λ (a : AssertionTree). parts a.body) n.assertions e v in
               parts_typed (node_scope program n) r.0.body (kind.Bool, well.assertion r.0 r.1) e r.2
         ]
 

@@ -1,5 +1,5 @@
 -- A flat system that is put together from its parts.
-use Rattle.std.proofs.Common.{◌≡◌, ℕ, zero, suc, ◌+◌, ◌<◌, ◌≤◌, Bool, true, false, ◌&&◌, ◌||◌, cond, List, [], ◌∷◌, ◌++◌, map, length, take, get_or, slice_get}
+use Rattle.std.proofs.Common.{◌≡◌, ℕ, zero, suc, ◌+◌, ◌<◌, ◌≤◌, Bool, true, false, ◌||◌, cond, List, [], ◌∷◌, ◌++◌, map, length, take, get_or, slice_get}
 use Rattle.std.proofs.Common.{refl, sym, ◌∙◌, ap, subst, arith, unwrap_or, Option, Some, IsSome, length-append, None as Nothing}
 use Rattle.std.proofs.Math.Seq.{take-append_seam}
 use Rattle.std.proofs.lemmas.List.{length-map}
@@ -64,23 +64,19 @@ use Rattle.rv_flatten.proofs.MadeItems.{HasNumbers}
 use Rattle.rv_flatten.proofs.Translated.{mapped_at}
 use Rattle.rv_flatten.proofs.WellInstances.{formed, typed}
 use Rattle.rv_flatten.proofs.MainNames as main_names
-use Rattle.rv_agreement.proofs.Controls.{no_flag}
-use Rattle.rv_agreement.proofs.Witnessed.{some_same as same_some}
-use Rattle.rv_flat.proofs.SystemRuns.{found_in as some_at}
 use Rattle.rv_meaning.proofs.NameLemmas.{same_text}
-use Rattle.rv_types.proofs.ConstantContents.{kind_same as same_kinds}
-use Rattle.rv_types.proofs.Members.{among_from as is_found, at_head, in_tail, index_there as index_at}
+use Rattle.rv_types.proofs.ConstantContents.{kind_same}
+use Rattle.rv_types.proofs.Members.{among_from, at_head, in_tail, index_there}
+use Rattle.rv_base.proofs.Lists.{item_at}
+use Rattle.rv_base.proofs.Options.{some_same}
+use Rattle.rv_types.proofs.ChainLaws.{no_flag}
+use Rattle.std.proofs.lemmas.Bool.{and_from}
 
 -- Lists.
 
 map_twice : {X Y Z : Type 0} (f : X → Y) (g : Y → Z) (xs : List X) → map g (map f xs) ≡ map (λ x. g (f x)) xs
 map_twice f g [] = refl
 map_twice f g (x ∷ xs) = ap (λ l. g (f x) ∷ l) (map_twice f g xs)
-
-pub both_told : (a b : Bool) → a ≡ true → b ≡ true → (a && b) ≡ true
-both_told true true p q = refl
-both_told true false p q = no_flag q
-both_told false b p q = no_flag p
 
 none_is : {X : Type 0} (x : X) → Nothing ≡ Some x → ⊥
 none_is x e = cc
@@ -128,7 +124,7 @@ inputs_within p n =
 
 pub first_is_flag : (ks : List Kind) → is_observer ks ≡ true → slice_get ks 0 ≡ Some kind.Bool
 first_is_flag [] e = no_flag e
-first_is_flag (k ∷ []) e = ap Some (same_kinds k kind.Bool e)
+first_is_flag (k ∷ []) e = ap Some (kind_same k kind.Bool e)
 first_is_flag (k ∷ j ∷ ks) e = no_flag e
 
 observed_output : (p : ProgramTree) (o : Option NodeTree) → elim o as (λ _. List NameFault)
@@ -191,7 +187,7 @@ named_at (n ∷ ns) f h = tested (is_same n.name.text f) h (named_at ns f)
 -- all of these are among some
 all_known : (places ps : List Sites) → ((q : Sites) → Contains ps q → Contains places q) → ticks_known places ps ≡ true
 all_known places [] all = refl
-all_known places (q ∷ ps) all = both_told (is_among places q) (ticks_known places ps) (is_found places q (all q (at_head q ps)))
+all_known places (q ∷ ps) all = and_from (is_among places q) (ticks_known places ps) (among_from places q (all q (at_head q ps)))
     (all_known places ps (λ r w. all r (in_tail q ps r w)))
 
 module _ (p : ProgramTree) (main : Identifier) (instances : List Numbered) (known : IsExpanded p main instances) where
@@ -208,7 +204,7 @@ module _ (p : ProgramTree) (main : Identifier) (instances : List Numbered) (know
   -- it stands where its number says
   number_within : node_number p main < length p.nodes
   number_within =
-      let at = index_at (names_of p) main known.declared in
+      let at = index_there (names_of p) main known.declared in
       let a = length-map (map (λ (n : NodeTree). n.name) p.nodes) (λ x. x.text) in
       let b = length-map p.nodes (λ (n : NodeTree). n.name) in
       omega (arith, at.0, a, b)
@@ -226,7 +222,7 @@ module _ (p : ProgramTree) (main : Identifier) (instances : List Numbered) (know
   pub main_kinds : (kinds : List (List Kind)) (number : ℕ) (own : List Kind) → kinds ≡ map (flow_kinds p) p.nodes → number ≡ node_number p main
       → slice_get kinds number ≡ Some own → own ≡ flow_kinds p (node_of p main)
   main_kinds kinds number own are is e =
-      same_some own (flow_kinds p (node_of p main))
+      some_same own (flow_kinds p (node_of p main))
       (sym e ∙ ap (λ ks. slice_get ks number) are ∙ ap (slice_get (map (flow_kinds p) p.nodes)) is
       ∙ slice_get-map (flow_kinds p) p.nodes (node_number p main)
       ∙ ap (option_map (flow_kinds p)) (slice_get-get_or p.nodes (node_number p main) no_node number_within)
@@ -287,8 +283,8 @@ module _ (p : ProgramTree) (main : Identifier) (instances : List Numbered) (know
       by Base within at = is_flow (base_flow p main known.well is_named i q is at)
       by (On s) within at =
           let many = kinds_many p i.node in
-          let k = some_at (flow_kinds p i.node) s (omega (arith, within, many)) in
-          subst (IsFlow p main) (same_some (i.path ++ s ∷ []) q at) (is_flow (flow_of_site p main known.well is_named i s k.0 is k.1))
+          let k = item_at (flow_kinds p i.node) s (omega (arith, within, many)) in
+          subst (IsFlow p main) (some_same (i.path ++ s ∷ []) q at) (is_flow (flow_of_site p main known.well is_named i s k.0 is k.1))
 
   pub all_ticks_known : (sequence ticks : List Sites) → IsSequence p main sequence → AreTicks p main ticks → ticks_known sequence ticks ≡ true
   all_ticks_known sequence ticks are list =
@@ -321,7 +317,7 @@ module _ (p : ProgramTree) (t : Typed) (answer : IsAnswer p t) where
 
   pub answer_within : t.main < length p.nodes
   answer_within =
-      let at = index_at (names_of p) answer.0 answer.1.has_main in
+      let at = index_there (names_of p) answer.0 answer.1.has_main in
       let a = length-map (map (λ (n : NodeTree). n.name) p.nodes) (λ x. x.text) in
       let b = length-map p.nodes (λ (n : NodeTree). n.name) in
       let c = answer.1.main_number in
@@ -361,7 +357,7 @@ module _ (g : Given) (d : Found) (given : IsGiven g) (found : IsFoundOf g d)
       as_many = sym (length-map inputs (λ (i : FlatInput). i.kind)) ∙ ap length kinds
           ∙ length-map (node_of p main).inputs (λ (d : Decl). kind_in_program p d.kind);
       flow = λ k lt.
-          let f = some_at flows k lt in
+          let f = item_at flows k lt in
           let r = made.each k f.0 f.1 in (
             r.giver,
             subst (λ qs. Gives p main (get_or qs k []) r.giver) (sym same_flows) r.gives,
@@ -369,7 +365,7 @@ module _ (g : Given) (d : Found) (given : IsGiven g) (found : IsFoundOf g d)
                 ∙ r.item ∙ ap (λ n. raw_giver p n r.giver) (sym same_numbers),
           );
       memory = λ m lt.
-          let f = some_at memories m lt in
+          let f = item_at memories m lt in
           let r = kept.each m f.0 f.1 in (
             r.i,
             r.d,
@@ -393,7 +389,7 @@ module _ (g : Given) (d : Found) (given : IsGiven g) (found : IsFoundOf g d)
     pub are_kinds : (labels : List (List (List ℕ))) → labels ≡ map (λ d. texts (labels_of d)) p.types → AreKinds p main flows inputs labels
     are_kinds labels label = record {
       flow = λ i x k is there lt at.
-          let f = some_at flows k lt in
+          let f = item_at flows k lt in
           slice_get-map (λ (g : FlatFlow). g.kind) flows k ∙ ap (option_map (λ (g : FlatFlow). g.kind)) f.1
           ∙ (made.each k f.0 f.1).kind i x is there (ap (λ qs. get_or qs k []) (sym same_flows) ∙ at);
       input = kinds;
@@ -407,8 +403,8 @@ module _ (g : Given) (d : Found) (given : IsGiven g) (found : IsFoundOf g d)
             × (get_or (sites_of g.sequence.now) (index_of (sites_of g.sequence.now) (length (node_of p main).inputs ∷ [])) [] ≡ length (node_of p main).inputs
             ∷ [])
         observer_at =
-            index_at (sites_of g.sequence.now) (length (node_of p main).inputs ∷ [])
-            (is_found (sites_of g.sequence.now) (length (node_of p main).inputs ∷ [])
+            index_there (sites_of g.sequence.now) (length (node_of p main).inputs ∷ [])
+            (among_from (sites_of g.sequence.now) (length (node_of p main).inputs ∷ [])
             (given.sequence.flows (length (node_of p main).inputs ∷ [])
             (is_flow (observer_flow p main g.expanded.now.instances.now given.known.expanded none))))
 

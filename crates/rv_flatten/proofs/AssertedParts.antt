@@ -16,13 +16,14 @@ use Rattle.rv_flat.specs.RawTree.{RawTree, raw_tree}
 use Rattle.rv_flatten.specs.Readings.{assertion_of}
 use Rattle.rv_agreement.specs.Translation.{Numbers}
 use Rattle.rv_flatten.proofs.InstanceNumbers.{instance_at, node_is}
-use Rattle.rv_types.proofs.Members.{in_map, nothing_in as none_in, of_map}
+use Rattle.rv_types.proofs.Members.{in_map, nothing_in}
+use Rattle.rv_base.proofs.Lists.{from_map}
 
 -- of no instance, none
 pub none_asserted : (x : Expanded) (numbers : Numbers) (es : List FlatExpr) → es ≡ [] → AreAsserted x numbers 0 es
 none_asserted x numbers es none = record {
   all = λ m i a lt is at w. absurd (omega (arith, lt));
-  only = λ e w. none_in e (subst (λ (l : List FlatExpr). Contains (map raw_tree l) e) none w);
+  only = λ e w. nothing_in e (subst (λ (l : List FlatExpr). Contains (map raw_tree l) e) none w);
 }
 
 -- what is made of trees is made of what they are the trees of
@@ -76,5 +77,5 @@ module _ (x : Expanded) (known : IsKnown x) where
       alone e w = elim (Contains-append_cases (map raw_tree had) (map (assertion_of (program_of x) numbers here.0) here.0.node.assertions) e
           (subst (λ l. Contains l e) from_here w)) [
             | inl earlier ↦ before.only e earlier
-            | inr own ↦ let r = of_map (assertion_of (program_of x) numbers here.0) here.0.node.assertions e own in (here.0, r.0, here.1, r.1, sym r.2)
+            | inr own ↦ let r = from_map (assertion_of (program_of x) numbers here.0) here.0.node.assertions e own in (here.0, r.0, here.1, r.1, sym r.2)
           ]

@@ -27,8 +27,8 @@ use Rattle.rv_types.specs.Clocks.{pace, form_pace, pace_of_all}
 use Rattle.rv_types.specs.Instances.{taken, IsArgument, head, tail}
 use Rattle.rv_types.specs.WellFormed.{IsWellTyped}
 use Rattle.rv_flat.proofs.TypedParts.{IsTyped, not_typed, minus_typed, pre_typed, when_typed, binary_typed, if_typed, most_typed, call_typed}
-use Rattle.rv_agreement.proofs.Controls.{no_flag}
-use Rattle.rv_types.proofs.Members.{at_head, cons_cases as head_or_tail, in_tail, nothing_in as none_in}
+use Rattle.rv_types.proofs.Members.{at_head, cons_cases, in_tail, nothing_in}
+use Rattle.rv_types.proofs.ChainLaws.{no_flag}
 
 module _ (program : ProgramTree) (n : NodeTree) where
   -- a clock is the base clock or that of a Boolean flow
@@ -131,8 +131,8 @@ module _ (program : ProgramTree) (n : NodeTree) where
     ]
 
     all_base : (ds : List Decl) (c : Clock) → Contains (map base_clock ds) c → IsTrueClock c
-    all_base [] c w = none_in c w
-    all_base (d ∷ ds) c w = elim (head_or_tail Base (map base_clock ds) c w) [ inl is ↦ subst IsTrueClock is tt | inr rest ↦ all_base ds c rest ]
+    all_base [] c w = nothing_in c w
+    all_base (d ∷ ds) c w = elim (cons_cases Base (map base_clock ds) c w) [ inl is ↦ subst IsTrueClock is tt | inr rest ↦ all_base ds c rest ]
 
     one_declared : (d : Decl) → Contains n.locals d → (o : Option Name) → d.clock ≡ o → IsTrueClock (declared_clock n o)
     one_declared d w Nothing e = tt
@@ -140,8 +140,8 @@ module _ (program : ProgramTree) (n : NodeTree) where
 
     all_declared : (ds : List Decl) → ((d : Decl) → Contains ds d → Contains n.locals d) → (c : Clock) → Contains (map (λ d. declared_clock n d.clock) ds) c
         → IsTrueClock c
-    all_declared [] into c w = none_in c w
-    all_declared (d ∷ ds) into c w = elim (head_or_tail (declared_clock n d.clock) (map (λ d. declared_clock n d.clock) ds) c w) [
+    all_declared [] into c w = nothing_in c w
+    all_declared (d ∷ ds) into c w = elim (cons_cases (declared_clock n d.clock) (map (λ d. declared_clock n d.clock) ds) c w) [
       | inl is ↦ subst IsTrueClock is (one_declared d (into d (at_head d ds)) d.clock refl)
       | inr rest ↦ all_declared ds (λ e v. into e (in_tail d ds e v)) c rest
     ]

@@ -22,10 +22,10 @@ use Rattle.rv_flatten.specs.declared.comparisons.Tested.{Tested}
 use Rattle.rv_flatten.specs.Compared.{own_test, tests_in}
 use Rattle.rv_flatten.proofs.Apart.{IsApart, apart_told}
 use Rattle.rv_flatten.proofs.CountedVariables.{total_joined}
-use Rattle.rv_agreement.proofs.Controls.{no_flag}
 use Rattle.rv_instances.proofs.TimedParts.{node_operators}
-use Rattle.rv_types.proofs.Members.{at_head, cons_cases as head_or_tail, in_flat_map, in_tail, nothing_in as none_in, of_flat_map as from_flat_map}
-use Rattle.rv_types.proofs.TypedParts.{both_true as both_hold}
+use Rattle.rv_types.proofs.Members.{at_head, cons_cases, in_flat_map, in_tail, nothing_in, of_flat_map}
+use Rattle.rv_base.proofs.Truths.{both_of}
+use Rattle.rv_types.proofs.ChainLaws.{no_flag}
 
 -- What is found.
 
@@ -52,19 +52,19 @@ pub record IsTest (s : Scope) (e : Tree) (t : Tested) : Type 0 where
 
 module _ (p : ProgramTree) (n : NodeTree) where
   own_is : (e : Tree) (t : Tested) → Contains (own_of n (is_test (node_scope p n)) e) t → IsTest (node_scope p n) e t
-  own_is (Node at Nothing (Binary o a b)) t w = none_in t w
+  own_is (Node at Nothing (Binary o a b)) t w = nothing_in t w
   own_is (Node at (Some k) (Binary o a b)) t w = tested (is_comparison o && is_integer (unwrap_or (kind_of (node_scope p n) a) kind.Bool)) refl w
     where
       tested : (x : Bool) → (is_comparison o && is_integer (unwrap_or (kind_of (node_scope p n) a) kind.Bool)) ≡ x
           → Contains {X = Tested} (cond x (record { site = k; operator = o } ∷ []) [] ++ []) t → IsTest (node_scope p n) (Node at (Some k) (Binary o a b)) t
-      tested true e w = elim (head_or_tail (record { site = k; operator = o }) [] t w) [
+      tested true e w = elim (cons_cases (record { site = k; operator = o }) [] t w) [
         | inl is ↦ subst (λ (t : Tested). IsTest (node_scope p n) (Node at (Some k) (Binary o a b)) t) is
-            (let both = both_hold (is_comparison o) (is_integer (unwrap_or (kind_of (node_scope p n) a) kind.Bool)) e in
+            (let both = both_of (is_comparison o) (is_integer (unwrap_or (kind_of (node_scope p n) a) kind.Bool)) e in
             record { at = at; left = a; right = b; is = refl; compares = both.0; integer = both.1 })
-        | inr none ↦ none_in t none
+        | inr none ↦ nothing_in t none
       ]
-      tested false e w = none_in t w
-  own_is (Node at site _) t w = none_in t w
+      tested false e w = nothing_in t w
+  own_is (Node at site _) t w = nothing_in t w
 
   pub test_found : (at k : ℕ) (o : Op) (a b : Tree) → Contains (node_parts n) (Node at (Some k) (Binary o a b)) → is_comparison o ≡ true
       → is_integer (unwrap_or (kind_of (node_scope p n) a) kind.Bool) ≡ true
@@ -77,7 +77,7 @@ module _ (p : ProgramTree) (n : NodeTree) where
 
   pub found_test : (t : Tested) → Contains (tests_in p n) t → (e : Tree) × Contains (node_parts n) e × IsTest (node_scope p n) e t
   found_test t w =
-      let r = from_flat_map (own_of n (is_test (node_scope p n))) (node_parts n) t
+      let r = of_flat_map (own_of n (is_test (node_scope p n))) (node_parts n) t
       (subst (λ (l : List Tested). Contains l t) (node_is n (is_test (node_scope p n))) w) in
       (r.0, r.1, own_is r.0 t r.2)
 
@@ -171,21 +171,21 @@ module _ (marked : Option ℕ → Bool) where
 
 -- what is counted is no more than all
 pub counted_among : {X : Type 0} (f : X → ℕ) (xs : List X) (x : X) → Contains xs x → f x ≤ total f xs
-counted_among f [] x w = none_in x w
-counted_among f (y ∷ ys) x w = elim (head_or_tail y ys x w) [
+counted_among f [] x w = nothing_in x w
+counted_among f (y ∷ ys) x w = elim (cons_cases y ys x w) [
   | inl is ↦ let e = ap f is in omega (arith, e)
   | inr later ↦ let h = counted_among f ys x later in omega (arith, h)
 ]
 
 -- where one is counted, those that are counted are one
 one_counted : {X : Type 0} (f : X → ℕ) (xs : List X) → total f xs ≤ 1 → (x y : X) → Contains xs x → Contains xs y → f x ≡ 1 → f y ≡ 1 → x ≡ y
-one_counted f [] few x y w v p q = none_in x w
-one_counted f (z ∷ zs) few x y w v p q = elim (head_or_tail z zs x w) [
-  | inl first ↦ elim (head_or_tail z zs y v) [
+one_counted f [] few x y w v p q = nothing_in x w
+one_counted f (z ∷ zs) few x y w v p q = elim (cons_cases z zs x w) [
+  | inl first ↦ elim (cons_cases z zs y v) [
     | inl second ↦ sym first ∙ second
     | inr later ↦ let e = ap f first in let h = counted_among f zs y later in absurd (omega (arith, few, p, q, e, h))
   ]
-  | inr later ↦ elim (head_or_tail z zs y v) [
+  | inr later ↦ elim (cons_cases z zs y v) [
     | inl second ↦ let e = ap f second in let h = counted_among f zs x later in absurd (omega (arith, few, p, q, e, h))
     | inr both ↦ one_counted f zs (omega (arith, few)) x y later both p q
   ]

@@ -19,9 +19,10 @@ use Rattle.rv_flatten.specs.NodeReaders.{lists_to, AreSortedBy}
 use Rattle.rv_flatten.specs.Compared.{tests_in, compared_at, compared_in}
 use Rattle.rv_flatten.proofs.InstanceNumbers.{in_lists, from_lists, made_of, node_in, instance_at, number_at, path_is, node_is, same_instance}
 use Rattle.rv_flatten.proofs.ComparedParts.{test_found, found_test, one_operator}
-use Rattle.rv_agreement.proofs.Controls.{no_flag}
-use Rattle.rv_instances.proofs.FlowPlaces.{snoc_parts as snoc}
-use Rattle.rv_types.proofs.Members.{in_map, of_map}
+use Rattle.rv_instances.proofs.FlowPlaces.{snoc_parts}
+use Rattle.rv_types.proofs.Members.{in_map}
+use Rattle.rv_base.proofs.Lists.{from_map}
+use Rattle.rv_types.proofs.ChainLaws.{no_flag}
 
 -- the comparisons are the operators with order tests
 pub has_sides : (o : Op) → is_comparison o ≡ true → 0 < length (sides_of o)
@@ -62,7 +63,7 @@ module _ (p : ProgramTree) (main : Identifier) (instances : List Numbered) (know
       let v = x.compares in
       let w = y.compares in
       let s = v.1 in
-      let r = snoc x.i.path y.i.path s w.1 (sym v.7 ∙ same ∙ w.7) in
+      let r = snoc_parts x.i.path y.i.path s w.1 (sym v.7 ∙ same ∙ w.7) in
       let one = same_instance p main instances known x.i y.i x.is y.is r.0 in
       let there : Contains (node_parts y.i.node) (Node v.0 (Some w.1) (Binary c.operator v.2 v.3)) =
       subst (λ k. Contains (node_parts y.i.node) (Node v.0 (Some k) (Binary c.operator v.2 v.3))) r.1
@@ -97,7 +98,7 @@ module _ (p : ProgramTree) (main : Identifier) (instances : List Numbered) (know
 
   compared_there : (i : Instance) → IsInstance p main i → (c : ComparisonAt) → Contains (map (compared_at i.path) (tests_in p i.node)) c → IsCompared p main c
   compared_there i inst c w =
-      let t = of_map (compared_at i.path) (tests_in p i.node) c w in
+      let t = from_map (compared_at i.path) (tests_in p i.node) c w in
       subst (λ (x : ComparisonAt). IsCompared p main x) t.2 (test_there i inst t.0 t.1)
 
   module _ (found : List Comparison) (is : map found_comparison found ≡ lists_to own (length instances)) where
@@ -119,7 +120,7 @@ module _ (p : ProgramTree) (main : Identifier) (instances : List Numbered) (know
         let x : ComparisonAt = compared_at i.path t in
         let own_here = subst (λ (l : List ComparisonAt). Contains l x) (sym (own_is n.0 i inst n.2)) here in
         let all = in_lists own (length instances) n.0 x n.1 own_here in
-        let k = of_map found_comparison found x (subst (λ (l : List ComparisonAt). Contains l x) (sym is) all) in
+        let k = from_map found_comparison found x (subst (λ (l : List ComparisonAt). Contains l x) (sym is) all) in
         (k.0, k.1, k.2 ∙ (λ j. record { place = sym v.7 j; operator = c.operator }))
 
     module _ (cs : List Comparison) (up : AreSortedBy (λ (c : Comparison). c.place.sites) found cs) where
@@ -134,7 +135,7 @@ module _ (p : ProgramTree) (main : Identifier) (instances : List Numbered) (know
             let one = one_comparison (found_comparison y.0) (found_comparison a.0) own other y.2 in
             subst (λ (c : ComparisonAt). Contains (map found_comparison cs) c) (one ∙ a.2) (in_map found_comparison cs y.0 y.1);
         only = λ c w.
-            let y = of_map found_comparison cs c w in
+            let y = from_map found_comparison cs c w in
             let x = subst (λ (c : ComparisonAt). IsCompared p main c) y.2 (only_compared y.0 (up.only y.0 y.1)) in
             (x.i, x.e, x.is, x.there, x.compares);
       }

@@ -28,8 +28,8 @@ use Rattle.rv_base.specs.Limits.{heaviest, too_heavy}
 use Rattle.rv_instances.specs.Weights.{constant_size, weight, form_weight}
 use Rattle.rv_flatten.proofs.Standing.{Stands, as_child, of_not, of_minus, of_left, of_right, of_condition, of_first, of_second, of_operand}
 use Rattle.rv_flat.proofs.TypedParts.{IsTyped, not_typed, minus_typed, binary_typed, if_typed, most_typed}
-use Rattle.rv_agreement.proofs.Controls.{no_flag}
-use Rattle.rv_types.proofs.TypedParts.{both_true as both_hold}
+use Rattle.rv_base.proofs.Truths.{both_of, of_not_true}
+use Rattle.rv_types.proofs.ChainLaws.{no_flag}
 
 -- Both words for the truth and the number of a value are one.
 pub same_truth : (v : Value) → is_true v ≡ flag_in v
@@ -117,27 +117,22 @@ one_true false n bs none one = (let h : nat_le (0 + n) 1 ≡ nat_le n 1 = grind 
 no_arrow : (o : Op) (a b : Tree) (program : ProgramTree) (n : NodeTree) → is_constant_form (node_scope program n) (Binary o a b) ≡ true
     → (o ≡ op.Arrow → ⊥) × (is_constant (node_scope program n) a ≡ true) × (is_constant (node_scope program n) b ≡ true)
 no_arrow op.Arrow a b program n e = no_flag e
-no_arrow op.Implies a b program n e = let h = both_hold _ _ e in (λ q. cc, h.0, h.1)
-no_arrow op.Or a b program n e = let h = both_hold _ _ e in (λ q. cc, h.0, h.1)
-no_arrow op.Xor a b program n e = let h = both_hold _ _ e in (λ q. cc, h.0, h.1)
-no_arrow op.And a b program n e = let h = both_hold _ _ e in (λ q. cc, h.0, h.1)
-no_arrow op.Equal a b program n e = let h = both_hold _ _ e in (λ q. cc, h.0, h.1)
-no_arrow op.Differs a b program n e = let h = both_hold _ _ e in (λ q. cc, h.0, h.1)
-no_arrow op.Less a b program n e = let h = both_hold _ _ e in (λ q. cc, h.0, h.1)
-no_arrow op.AtMost a b program n e = let h = both_hold _ _ e in (λ q. cc, h.0, h.1)
-no_arrow op.Greater a b program n e = let h = both_hold _ _ e in (λ q. cc, h.0, h.1)
-no_arrow op.AtLeast a b program n e = let h = both_hold _ _ e in (λ q. cc, h.0, h.1)
-no_arrow op.Plus a b program n e = let h = both_hold _ _ e in (λ q. cc, h.0, h.1)
-no_arrow op.Minus a b program n e = let h = both_hold _ _ e in (λ q. cc, h.0, h.1)
-no_arrow op.Times a b program n e = let h = both_hold _ _ e in (λ q. cc, h.0, h.1)
-no_arrow op.Slash a b program n e = let h = both_hold _ _ e in (λ q. cc, h.0, h.1)
-no_arrow op.Div a b program n e = let h = both_hold _ _ e in (λ q. cc, h.0, h.1)
-no_arrow op.Mod a b program n e = let h = both_hold _ _ e in (λ q. cc, h.0, h.1)
-
--- a fixed name is no flow
-not_flow : (b : Bool) → not b ≡ true → b ≡ false
-not_flow true e = no_flag e
-not_flow false e = refl
+no_arrow op.Implies a b program n e = let h = both_of _ _ e in (λ q. cc, h.0, h.1)
+no_arrow op.Or a b program n e = let h = both_of _ _ e in (λ q. cc, h.0, h.1)
+no_arrow op.Xor a b program n e = let h = both_of _ _ e in (λ q. cc, h.0, h.1)
+no_arrow op.And a b program n e = let h = both_of _ _ e in (λ q. cc, h.0, h.1)
+no_arrow op.Equal a b program n e = let h = both_of _ _ e in (λ q. cc, h.0, h.1)
+no_arrow op.Differs a b program n e = let h = both_of _ _ e in (λ q. cc, h.0, h.1)
+no_arrow op.Less a b program n e = let h = both_of _ _ e in (λ q. cc, h.0, h.1)
+no_arrow op.AtMost a b program n e = let h = both_of _ _ e in (λ q. cc, h.0, h.1)
+no_arrow op.Greater a b program n e = let h = both_of _ _ e in (λ q. cc, h.0, h.1)
+no_arrow op.AtLeast a b program n e = let h = both_of _ _ e in (λ q. cc, h.0, h.1)
+no_arrow op.Plus a b program n e = let h = both_of _ _ e in (λ q. cc, h.0, h.1)
+no_arrow op.Minus a b program n e = let h = both_of _ _ e in (λ q. cc, h.0, h.1)
+no_arrow op.Times a b program n e = let h = both_of _ _ e in (λ q. cc, h.0, h.1)
+no_arrow op.Slash a b program n e = let h = both_of _ _ e in (λ q. cc, h.0, h.1)
+no_arrow op.Div a b program n e = let h = both_of _ _ e in (λ q. cc, h.0, h.1)
+no_arrow op.Mod a b program n e = let h = both_of _ _ e in (λ q. cc, h.0, h.1)
 
 module _ (program : ProgramTree) (flows : Sites → ℕ) (i : Instance) where
   abbrev known : Identifier → Value
@@ -179,7 +174,7 @@ module _ (program : ProgramTree) (flows : Sites → ℕ) (i : Instance) where
     form_weighs site True c = refl
     form_weighs site False c = refl
     form_weighs site (Number n) c = refl
-    form_weighs site (Named x) c = ap (λ b. cond b (flows (place i x)) (nat_abs (whole_in (known x)))) (not_flow (is_flow i.node x) c)
+    form_weighs site (Named x) c = ap (λ b. cond b (flows (place i x)) (nat_abs (whole_in (known x)))) (of_not_true (is_flow i.node x) c)
     form_weighs site (Not e) c = refl
     form_weighs site (Minus e) c = weighs e c
     form_weighs site (Pre e) c = no_flag c
@@ -187,9 +182,9 @@ module _ (program : ProgramTree) (flows : Sites → ℕ) (i : Instance) where
     form_weighs site (When e x) c = no_flag c
     form_weighs site (Binary o a b) c = let h = no_arrow o a b program i.node c in operator_weight site o a b h.0 h.1 (weighs a h.1) (weighs b h.2)
     form_weighs site (If a b d) c =
-        let h = both_hold (is_constant (node_scope program i.node) a) (is_constant (node_scope program i.node) b && is_constant (node_scope program i.node) d)
+        let h = both_of (is_constant (node_scope program i.node) a) (is_constant (node_scope program i.node) b && is_constant (node_scope program i.node) d)
         c in
-        let g = both_hold (is_constant (node_scope program i.node) b) (is_constant (node_scope program i.node) d) h.1 in
+        let g = both_of (is_constant (node_scope program i.node) b) (is_constant (node_scope program i.node) d) h.1 in
         λ e. max (weighs b g.0 e) (weighs d g.1 e)
     form_weighs site (AtMostOne es) c = refl
     form_weighs site (Call f es) c = no_flag c
@@ -215,7 +210,7 @@ module _ (program : ProgramTree) (flows : Sites → ℕ) (i : Instance) where
       constant_form_now at site True k s t c = refl
       constant_form_now at site False k s t c = refl
       constant_form_now at site (Number n) k s t c = counts_as_itself n (pos n) (counted_weight (Node at site (Number n)) s c)
-      constant_form_now at site (Named x) k s t c = ap (λ b. cond b (held (cell row (place i x))) (known x)) (not_flow (is_flow i.node x) c)
+      constant_form_now at site (Named x) k s t c = ap (λ b. cond b (held (cell row (place i x))) (known x)) (of_not_true (is_flow i.node x) c)
       constant_form_now at site (Not e) k s t c =
           let h = constant_now e kind.Bool (as_child at site (Not e) e s of_not) (not_typed program i.node at site e k t).0 c in
           ap (λ v. Flag (not (is_true v))) h ∙ ap (λ b. Flag (not b)) (same_truth (value_of known e))
@@ -237,9 +232,9 @@ module _ (program : ProgramTree) (flows : Sites → ℕ) (i : Instance) where
           (is_constant (node_scope program i.node) a || is_constant (node_scope program i.node) b) o r.left r.right k
           (weight_of known (Node at site (Binary o a b))) (value_of known a) (value_of known b) (counted_weight (Node at site (Binary o a b)) s c) h.0 r.rule
       constant_form_now at site (If a b d) k s t c =
-          let h = both_hold (is_constant (node_scope program i.node) a) (is_constant (node_scope program i.node) b && is_constant (node_scope program i.node) d)
+          let h = both_of (is_constant (node_scope program i.node) a) (is_constant (node_scope program i.node) b && is_constant (node_scope program i.node) d)
           c in
-          let g = both_hold (is_constant (node_scope program i.node) b) (is_constant (node_scope program i.node) d) h.1 in
+          let g = both_of (is_constant (node_scope program i.node) b) (is_constant (node_scope program i.node) d) h.1 in
           let r = if_typed program i.node at site a b d k t in
           let p = constant_now a kind.Bool (as_child at site (If a b d) a s of_condition) r.0 h.0 in
           chosen (is_true (now program state row i a)) (flag_in (value_of known a)) (now program state row i b) (now program state row i d) (value_of known b)
@@ -259,7 +254,7 @@ module _ (program : ProgramTree) (flows : Sites → ℕ) (i : Instance) where
           × (nat_le (trues_now program state row i es) 1 ≡ at_most_one (flags_of_all known es))
       constants_now None s t c = (refl, refl)
       constants_now (More e es) s t c =
-          let h = both_hold (is_constant (node_scope program i.node) e) (are_constant (node_scope program i.node) es) c in
+          let h = both_of (is_constant (node_scope program i.node) e) (are_constant (node_scope program i.node) es) c in
           let rest = constants_now es (λ j a arg. s (suc j) a (tail arg)) (λ j a arg. t (suc j) a (tail arg)) h.1 in
           let p : is_true (now program state row i e) ≡ flag_in (value_of known e) = ap is_true (constant_now e kind.Bool (s 0 e head) (t 0 e head) h.0)
           ∙ same_truth (value_of known e) in

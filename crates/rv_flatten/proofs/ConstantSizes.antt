@@ -4,8 +4,7 @@ use Rattle.std.proofs.Common.{List, [], ◌∷◌, reverse, Option, Some}
 use Rattle.std.proofs.Common.{None as Nothing}
 use Rattle.std.proofs.lemmas.List.Elements.{All-nil, All-push}
 use Rattle.std.specs.List.{All}
-use Rattle.std.proofs.Math.Nat.{mul-le-mul_left}
-use Rattle.std.proofs.lemmas.Int.{unsigned_abs-mul, ints}
+use Rattle.std.proofs.lemmas.Int.{ints}
 use Rattle.std.proofs.lemmas.Bool.Decides.{nat_tests}
 use Rattle.rv_base.specs.declared.value.Value.{Value}
 use Rattle.rv_base.specs.declared.value.Value.TheVariants.{Flag, Whole}
@@ -20,6 +19,8 @@ use Rattle.rv_types.specs.Kinds.{LabelPlace, label_of}
 use Rattle.rv_types.specs.Scopes.{constant_value_after, constant_values_of, constant_values}
 use Rattle.rv_flatten.specs.Literals.{IsSmallValue}
 use Rattle.rv_types.specs.Constants.{flag_in, whole_in, counted, counted_part, value_under, weight_under, value_of, form_value, weight_of, form_weight}
+use Rattle.rv_types.proofs.ConstantValues.{chosen_small, negated_small}
+use Rattle.rv_types.proofs.Weights.{difference_small, product_small, sum_small}
 
 -- what counts is no larger
 counted_size : (m : ℕ) (z : ℤ) → nat_abs z ≤ m → nat_abs (whole_in (counted m z)) ≤ m
@@ -29,23 +30,11 @@ counted_size m z h = tested (nat_le m heaviest) refl
     tested true e = h
     tested false e = let l : heaviest < m = grind (arith, nat_tests) in omega (arith, l)
 
-sum_size : (y z : ℤ) (v w : ℕ) → nat_abs y ≤ v → nat_abs z ≤ w → nat_abs (y +ℤ z) ≤ v + w
-sum_size y z v w g h = omega (arith, ints)
-
-difference_size : (y z : ℤ) (v w : ℕ) → nat_abs y ≤ v → nat_abs z ≤ w → nat_abs (y -ℤ z) ≤ v + w
-difference_size y z v w g h = omega (arith, ints)
-
-opposite_size : (m : ℕ) (z : ℤ) → nat_abs z ≤ m → nat_abs (neg_ℤ z) ≤ m
-opposite_size m z h = omega (arith, ints)
-
-pub product_size : (y z : ℤ) (w : ℕ) → nat_abs z ≤ w → nat_abs (y *ℤ z) ≤ nat_abs y * w
-product_size y z w h = rw (unsigned_abs-mul y z) (mul-le-mul_left (nat_abs y) h)
-
 operator_size : (o : Op) (x y : Value) (v w : ℕ) → nat_abs (whole_in x) ≤ v → nat_abs (whole_in y) ≤ w
     → nat_abs (whole_in (value_under (weight_under o (nat_abs (whole_in x)) v w) o x y)) ≤ weight_under o (nat_abs (whole_in x)) v w
-operator_size op.Plus x y v w g h = counted_size (v + w) (whole_in x +ℤ whole_in y) (sum_size (whole_in x) (whole_in y) v w g h)
-operator_size op.Minus x y v w g h = counted_size (v + w) (whole_in x -ℤ whole_in y) (difference_size (whole_in x) (whole_in y) v w g h)
-operator_size op.Times x y v w g h = counted_size (nat_abs (whole_in x) * w) (whole_in x *ℤ whole_in y) (product_size (whole_in x) (whole_in y) w h)
+operator_size op.Plus x y v w g h = counted_size (v + w) (whole_in x +ℤ whole_in y) (sum_small (whole_in x) (whole_in y) v w g h)
+operator_size op.Minus x y v w g h = counted_size (v + w) (whole_in x -ℤ whole_in y) (difference_small (whole_in x) (whole_in y) v w g h)
+operator_size op.Times x y v w g h = counted_size (nat_abs (whole_in x) * w) (whole_in x *ℤ whole_in y) (product_small (whole_in x) (whole_in y) w h)
 operator_size op.Arrow x y v w g h = omega arith
 operator_size op.Implies x y v w g h = omega arith
 operator_size op.Or x y v w g h = omega arith
@@ -66,10 +55,6 @@ part_size m (Whole z) h = counted_size m z h
 part_size m (Flag b) h = omega arith
 part_size m (value.Label k) h = omega arith
 
-chosen_size : (b : Bool) (v w : Value) (m n : ℕ) → nat_abs (whole_in v) ≤ m → nat_abs (whole_in w) ≤ n → nat_abs (whole_in (cond b v w)) ≤ max m n
-chosen_size true v w m n g h = omega (arith, g)
-chosen_size false v w m n g h = omega (arith, h)
-
 module _ (known : Identifier → Value) where
   mutual
     pub value_size : (e : Tree) → nat_abs (whole_in (value_of known e)) ≤ weight_of known e
@@ -82,14 +67,14 @@ module _ (known : Identifier → Value) where
     form_size (Named x) = omega arith
     form_size (Not e) = omega arith
     form_size (Minus e) = counted_size (weight_of known e) (neg_ℤ (whole_in (value_of known e)))
-        (opposite_size (weight_of known e) (whole_in (value_of known e)) (value_size e))
+        (negated_small (weight_of known e) (whole_in (value_of known e)) (value_size e))
     form_size (Pre e) = omega arith
     form_size (Current e) = omega arith
     form_size (When e c) = omega arith
     form_size (Binary o a b) = operator_size o (value_of known a) (value_of known b) (weight_of known a) (weight_of known b) (value_size a) (value_size b)
     form_size (If i a b) =
         part_size (max (weight_of known a) (weight_of known b)) (cond (flag_in (value_of known i)) (value_of known a) (value_of known b))
-        (chosen_size (flag_in (value_of known i)) (value_of known a) (value_of known b) (weight_of known a) (weight_of known b) (value_size a) (value_size b))
+        (chosen_small (flag_in (value_of known i)) (value_of known a) (value_of known b) (weight_of known a) (weight_of known b) (value_size a) (value_size b))
     form_size (AtMostOne es) = omega arith
     form_size (Call f es) = omega arith
 
@@ -104,9 +89,9 @@ counted_cap m z h = tested (nat_le m heaviest) refl
 
 operator_cap : (o : Op) (x y : Value) (v w : ℕ) → nat_abs (whole_in x) ≤ v → nat_abs (whole_in y) ≤ w
     → nat_abs (whole_in (value_under (weight_under o (nat_abs (whole_in x)) v w) o x y)) ≤ too_heavy
-operator_cap op.Plus x y v w g h = counted_cap (v + w) (whole_in x +ℤ whole_in y) (sum_size (whole_in x) (whole_in y) v w g h)
-operator_cap op.Minus x y v w g h = counted_cap (v + w) (whole_in x -ℤ whole_in y) (difference_size (whole_in x) (whole_in y) v w g h)
-operator_cap op.Times x y v w g h = counted_cap (nat_abs (whole_in x) * w) (whole_in x *ℤ whole_in y) (product_size (whole_in x) (whole_in y) w h)
+operator_cap op.Plus x y v w g h = counted_cap (v + w) (whole_in x +ℤ whole_in y) (sum_small (whole_in x) (whole_in y) v w g h)
+operator_cap op.Minus x y v w g h = counted_cap (v + w) (whole_in x -ℤ whole_in y) (difference_small (whole_in x) (whole_in y) v w g h)
+operator_cap op.Times x y v w g h = counted_cap (nat_abs (whole_in x) * w) (whole_in x *ℤ whole_in y) (product_small (whole_in x) (whole_in y) w h)
 operator_cap op.Arrow x y v w g h = omega arith
 operator_cap op.Implies x y v w g h = omega arith
 operator_cap op.Or x y v w g h = omega arith
@@ -138,7 +123,7 @@ module _ (known : Identifier → Value) (capped : (x : Identifier) → nat_abs (
       form_cap (Named x) = capped x
       form_cap (Not e) = omega arith
       form_cap (Minus e) = counted_cap (weight_of known e) (neg_ℤ (whole_in (value_of known e)))
-          (opposite_size (weight_of known e) (whole_in (value_of known e)) (value_size known e))
+          (negated_small (weight_of known e) (whole_in (value_of known e)) (value_size known e))
       form_cap (Pre e) = omega arith
       form_cap (Current e) = omega arith
       form_cap (When e c) = omega arith
@@ -146,7 +131,7 @@ module _ (known : Identifier → Value) (capped : (x : Identifier) → nat_abs (
           (value_size known b)
       form_cap (If i a b) =
           part_cap (max (weight_of known a) (weight_of known b)) (cond (flag_in (value_of known i)) (value_of known a) (value_of known b))
-          (chosen_size (flag_in (value_of known i)) (value_of known a) (value_of known b) (weight_of known a) (weight_of known b) (value_size known a)
+          (chosen_small (flag_in (value_of known i)) (value_of known a) (value_of known b) (weight_of known a) (weight_of known b) (value_size known a)
           (value_size known b))
       form_cap (AtMostOne es) = omega arith
       form_cap (Call f es) = omega arith

@@ -32,9 +32,9 @@ use Rattle.rv_flat.specs.Facts.{all_few, integers}
 use Rattle.rv_flat.specs.Lists.{variable_of}
 use Rattle.rv_flat.specs.Systems.{memory_of}
 use Rattle.rv_flat.proofs.Earliest.{not_itself}
-use Rattle.rv_agreement.proofs.Controls.{no_flag}
-use Rattle.rv_types.proofs.Members.{at_head, cons_cases as head_or_tail, in_flat_map, in_map, in_tail, nothing_in as none_in}
-use Rattle.rv_types.proofs.TypedParts.{both_true as both_hold}
+use Rattle.rv_types.proofs.Members.{at_head, cons_cases, in_flat_map, in_map, in_tail, nothing_in}
+use Rattle.rv_base.proofs.Truths.{both_of}
+use Rattle.rv_types.proofs.ChainLaws.{no_flag}
 
 -- Sums.
 
@@ -69,8 +69,8 @@ total_same f g (x ∷ xs) same =
 
 -- a list around one of its elements
 pub around : {X : Type 0} (ys : List X) (x : X) → Contains ys x → (l : List X) × (r : List X) × (ys ≡ l ++ x ∷ r)
-around [] x w = none_in x w
-around (y ∷ ys) x w = elim (head_or_tail y ys x w) [
+around [] x w = nothing_in x w
+around (y ∷ ys) x w = elim (cons_cases y ys x w) [
   | inl same ↦ ([], ys, ap (λ z. z ∷ ys) same)
   | inr rest ↦ let s = around ys x rest in (y ∷ s.0, s.1, ap (λ l. y ∷ l) s.2)
 ]
@@ -78,7 +78,7 @@ around (y ∷ ys) x w = elim (head_or_tail y ys x w) [
 pub still_there : {X : Type 0} (l r : List X) (x y : X) → Contains (l ++ x ∷ r) y → (x ≡ y → ⊥) → Contains (l ++ r) y
 still_there l r x y w other = elim (Contains-append_cases l (x ∷ r) y w) [
   | inl v ↦ Contains-append_left l r y v
-  | inr v ↦ elim (head_or_tail x r y v) [
+  | inr v ↦ elim (cons_cases x r y v) [
     | inl same ↦ absurd (other same)
     | inr rest ↦ Contains-append_right l r y rest
   ]
@@ -150,7 +150,7 @@ same_places [] [] h = refl
 same_places [] (y ∷ ys) h = no_flag h
 same_places (x ∷ xs) [] h = no_flag h
 same_places (x ∷ xs) (y ∷ ys) h =
-    let b = both_hold (nat_eq x y) (same_place xs ys) h in
+    let b = both_of (nat_eq x y) (same_place xs ys) h in
     let first : x ≡ y = let t = b.0 in grind (arith, nat_tests, t) in
     let rest = same_places xs ys b.1 in
     λ i. first i ∷ rest i
@@ -164,15 +164,15 @@ in_places (r ∷ qs) q h = by (same_place r q) refl h (in_places qs q)
     by false e h again = in_tail r qs q (again h)
 
 still_different : (qs : List Sites) (q : Sites) → Contains qs q → Contains (different qs) q
-still_different [] q w = none_in q w
+still_different [] q w = nothing_in q w
 still_different (r ∷ qs) q w = by (is_place_in qs r) refl (still_different qs)
   where
     by : (b : Bool) → is_place_in qs r ≡ b → ((q : Sites) → Contains qs q → Contains (different qs) q) → Contains (cond b (different qs) (r ∷ different qs)) q
-    by true e again = elim (head_or_tail r qs q w) [
+    by true e again = elim (cons_cases r qs q w) [
       | inl same ↦ again q (subst (λ z. Contains qs z) same (in_places qs r e))
       | inr rest ↦ again q rest
     ]
-    by false e again = elim (head_or_tail r qs q w) [
+    by false e again = elim (cons_cases r qs q w) [
       | inl same ↦ subst (λ z. Contains (z ∷ different qs) q) (sym same) (at_head q (different qs))
       | inr rest ↦ in_tail r (different qs) q (again q rest)
     ]
@@ -187,8 +187,8 @@ own_clock i e q arrow at =
 
 arrow_there : (i : Instance) (es : List Tree) (e : Tree) (q : Sites) → Contains es e → is_arrow e ≡ true → clock_in i Base e ≡ Some q
     → Contains (arrow_clocks i es) q
-arrow_there i [] e q w arrow at = none_in e w
-arrow_there i (x ∷ es) e q w arrow at = elim (head_or_tail x es e w) [
+arrow_there i [] e q w arrow at = nothing_in e w
+arrow_there i (x ∷ es) e q w arrow at = elim (cons_cases x es e w) [
   | inl same ↦ Contains-append_left (own_clocks i x) (arrow_clocks i es) q (subst (λ y. Contains (own_clocks i y) q) (sym same) (own_clock i e q arrow at))
   | inr rest ↦ Contains-append_right (own_clocks i x) (arrow_clocks i es) q (arrow_there i es e q rest arrow at)
 ]
@@ -218,20 +218,20 @@ seen_or a b seen h = by (nat_eq a b) refl h
 
 -- each `pre` or `current` shares its site with one of these, or with one that was seen
 has_one : (n : NodeTree) (seen : List ℕ) (ds : List Delay) (d : Delay) → Contains ds d → HasOne n seen ds d
-has_one n seen [] d w = none_in d w
+has_one n seen [] d w = nothing_in d w
 has_one n seen (x ∷ ds) d w = by (is_in seen (site n x)) refl (λ s e v. has_one n s ds e v)
   where
     by : (b : Bool) → is_in seen (site n x) ≡ b → ((s : List ℕ) (e : Delay) → Contains ds e → HasOne n s ds e)
         → (is_in seen (site n d) ≡ true) ⊎ ((e : Delay) × Contains (cond b (memories_beside n seen ds) (x ∷ memories_beside n (site n x ∷ seen) ds)) e
         × Contains (x ∷ ds) e × (site n e ≡ site n d))
-    by true e again = elim (head_or_tail x ds d w) [
+    by true e again = elim (cons_cases x ds d w) [
       | inl same ↦ inl (subst (λ y. is_in seen (site n y) ≡ true) same e)
       | inr rest ↦ elim (again seen d rest) [
         | inl old ↦ inl old
         | inr new ↦ inr (new.0, new.1, in_tail x ds new.0 new.2, new.3)
       ]
     ]
-    by false e again = elim (head_or_tail x ds d w) [
+    by false e again = elim (cons_cases x ds d w) [
       | inl same ↦ inr (x, at_head x (memories_beside n (site n x ∷ seen) ds), at_head x ds, ap (site n) same)
       | inr rest ↦ elim (again (site n x ∷ seen) d rest) [
         | inl old ↦ elim (seen_or (site n x) (site n d) seen old) [

@@ -11,7 +11,7 @@ use Rattle.std.specs.List.{Contains}
 use Rattle.std.specs.List.Sorted.{IsSorted}
 use Rattle.std.specs.Ordering.{int_cmp, int_eq, is_lt}
 use Rattle.rv_flatten.specs.Literals.{is_last, with_new, IsDistinctOf}
-use Rattle.rv_agreement.proofs.Controls.{no_flag}
+use Rattle.rv_types.proofs.ChainLaws.{no_flag}
 
 -- the last of some numbers
 abbrev pub last_of : List ℤ → ℤ

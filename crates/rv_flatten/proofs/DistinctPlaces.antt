@@ -13,8 +13,9 @@ use Rattle.rv_agreement.specs.Translation.{Numbers, IsTranslated}
 use Rattle.rv_agreement.specs.Trees.{Kept, System, memory_places}
 use Rattle.rv_flatten.proofs.Apart.{IsApart, apart_told, apart_by, apart_map}
 use Rattle.rv_flat.proofs.Earliest.{not_itself}
-use Rattle.rv_agreement.proofs.Chosen.{flow_told as same_flow_told, sites_told as same_sites_told}
-use Rattle.rv_types.proofs.Members.{at_head, in_tail, of_map}
+use Rattle.rv_agreement.proofs.Chosen.{flow_told, sites_told}
+use Rattle.rv_types.proofs.Members.{at_head, in_tail}
+use Rattle.rv_base.proofs.Lists.{from_map}
 
 -- What is told apart is found to be.
 module _ (K : Type 0) (same : K → K → Bool) (tells : (x y : K) → same x y ≡ true → x ≡ y) where
@@ -40,10 +41,10 @@ module _ (program : ProgramTree) (main : Identifier) (numbers : Numbers) (s : Sy
   -- The ticks have different clocks.
   pub distinct_ticks : are_distinct (Option Sites) same_flow s.ticks ≡ true
   distinct_ticks = ap (are_distinct (Option Sites) same_flow) read.tick_places
-      ∙ distinct_told (Option Sites) same_flow same_flow_told (Nothing ∷ map (λ q. Some q) numbers.ticks) (other, rest)
+      ∙ distinct_told (Option Sites) same_flow flow_told (Nothing ∷ map (λ q. Some q) numbers.ticks) (other, rest)
     where
       other : (k : Option Sites) → Contains (map (λ q. Some q) numbers.ticks) k → Nothing ≡ k → ⊥
-      other k w e = let r = of_map (λ (q : Sites). Some q) numbers.ticks k w in none_there r.0 (e ∙ sym r.2)
+      other k w e = let r = from_map (λ (q : Sites). Some q) numbers.ticks k w in none_there r.0 (e ∙ sym r.2)
         where
           none_there : (q : Sites) → Nothing ≡ Some q → ⊥
           none_there q e = cc
@@ -58,7 +59,7 @@ module _ (program : ProgramTree) (main : Identifier) (numbers : Numbers) (s : Sy
   -- The memories have different places.
   pub distinct_memories : are_distinct Sites same_sites (memory_places s) ≡ true
   distinct_memories =
-      distinct_told Sites same_sites same_sites_told (memory_places s)
+      distinct_told Sites same_sites sites_told (memory_places s)
       (subst (λ (l : List Sites). IsApart (λ (q : Sites). q) l) (map-map (λ (m : MemoryAt). m.place) (λ (m : Kept). record { place = m.place; kind = m.kind })
       s.memories)
       (rising_apart (map (λ (m : MemoryAt). m.place) (map (λ (m : Kept). record { place = m.place; kind = m.kind }) s.memories)) read.memories.rising))

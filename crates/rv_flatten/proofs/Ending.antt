@@ -33,9 +33,9 @@ use Rattle.rv_flatten.specs.Readings.{RawItem, no_raw, raw_memory, raw_of, raw_f
 use Rattle.rv_flat.specs.Systems.{memory_of, memory_places_of}
 use Rattle.rv_flatten.proofs.OnePlace.{one_of_place}
 use Rattle.rv_flatten.proofs.Standing.{delays_in, operand_stands}
-use Rattle.rv_agreement.proofs.Controls.{no_flag}
-use Rattle.rv_flatten.proofs.Assembled.{both_told as both}
-use Rattle.rv_types.proofs.Members.{among_from as is_found, at_head, cons_cases as head_or_tail, in_map, index_there as index_at, nothing_in as none_in}
+use Rattle.rv_types.proofs.Members.{among_from, at_head, cons_cases, in_map, index_there, nothing_in}
+use Rattle.rv_types.proofs.ChainLaws.{no_flag}
+use Rattle.std.proofs.lemmas.Bool.{and_from}
 
 -- How many expressions an expression is made of.
 abbrev mutual
@@ -63,7 +63,7 @@ abbrev mutual
 
 own_smaller : (site : Option ℕ) (e : Tree) (d : Delay) → Contains (record { site = site; operand = e } ∷ delays e) d
     → (Contains (delays e) d → tree_size d.operand < tree_size e) → tree_size d.operand ≤ tree_size e
-own_smaller site e d w again = elim (head_or_tail (record { site = site; operand = e }) (delays e) d w) [
+own_smaller site e d w again = elim (cons_cases (record { site = site; operand = e }) (delays e) d w) [
   | inl is ↦ subst (λ (c : Delay). tree_size c.operand ≤ tree_size e) is (itself (tree_size e))
   | inr rest ↦ let h = again rest in omega (arith, h)
 ]
@@ -77,10 +77,10 @@ mutual
   smaller (tree.Node at site form) d w = let h = form_smaller site form d w in omega (arith, h)
 
   form_smaller : (site : Option ℕ) (form : Form) (d : Delay) → Contains (form_delays site form) d → tree_size d.operand ≤ form_size form
-  form_smaller site tree.True d w = none_in d w
-  form_smaller site tree.False d w = none_in d w
-  form_smaller site (tree.Number n) d w = none_in d w
-  form_smaller site (tree.Named x) d w = none_in d w
+  form_smaller site tree.True d w = nothing_in d w
+  form_smaller site tree.False d w = nothing_in d w
+  form_smaller site (tree.Number n) d w = nothing_in d w
+  form_smaller site (tree.Named x) d w = nothing_in d w
   form_smaller site (tree.Not e) d w = let h = smaller e d w in omega (arith, h)
   form_smaller site (tree.Minus e) d w = let h = smaller e d w in omega (arith, h)
   form_smaller site (tree.Pre e) d w = own_smaller site e d w (smaller e d)
@@ -101,7 +101,7 @@ mutual
   form_smaller site (tree.Call f es) d w = all_smaller es d w
 
   all_smaller : (es : Trees) (d : Delay) → Contains (delays_of_all es) d → tree_size d.operand ≤ trees_size es
-  all_smaller tree.None d w = none_in d w
+  all_smaller tree.None d w = nothing_in d w
   all_smaller (tree.More e es) d w = elim (Contains-append_cases (delays e) (delays_of_all es) d w) [
     | inl v ↦ let h = smaller e d v in omega (arith, h)
     | inr v ↦ let h = all_smaller es d v in omega (arith, h)
@@ -122,21 +122,21 @@ module _ (has : ℕ → Bool) where
       → form_all_shown has (operator o choice times f g) ≡ true
   operator_shown op.Arrow choice times f g c t p q = c
   operator_shown op.Times choice times f g c t p q = t
-  operator_shown op.Implies choice times f g c t p q = both _ _ p q
-  operator_shown op.Or choice times f g c t p q = both _ _ p q
-  operator_shown op.Xor choice times f g c t p q = both _ _ p q
-  operator_shown op.And choice times f g c t p q = both _ _ p q
-  operator_shown op.Equal choice times f g c t p q = both _ _ p q
-  operator_shown op.Differs choice times f g c t p q = both _ _ p q
-  operator_shown op.Less choice times f g c t p q = both _ _ p q
-  operator_shown op.AtMost choice times f g c t p q = both _ _ p q
-  operator_shown op.Greater choice times f g c t p q = both _ _ p q
-  operator_shown op.AtLeast choice times f g c t p q = both _ _ p q
-  operator_shown op.Plus choice times f g c t p q = both _ _ p q
-  operator_shown op.Minus choice times f g c t p q = both _ _ p q
-  operator_shown op.Slash choice times f g c t p q = both _ _ p q
-  operator_shown op.Div choice times f g c t p q = both _ _ p q
-  operator_shown op.Mod choice times f g c t p q = both _ _ p q
+  operator_shown op.Implies choice times f g c t p q = and_from _ _ p q
+  operator_shown op.Or choice times f g c t p q = and_from _ _ p q
+  operator_shown op.Xor choice times f g c t p q = and_from _ _ p q
+  operator_shown op.And choice times f g c t p q = and_from _ _ p q
+  operator_shown op.Equal choice times f g c t p q = and_from _ _ p q
+  operator_shown op.Differs choice times f g c t p q = and_from _ _ p q
+  operator_shown op.Less choice times f g c t p q = and_from _ _ p q
+  operator_shown op.AtMost choice times f g c t p q = and_from _ _ p q
+  operator_shown op.Greater choice times f g c t p q = and_from _ _ p q
+  operator_shown op.AtLeast choice times f g c t p q = and_from _ _ p q
+  operator_shown op.Plus choice times f g c t p q = and_from _ _ p q
+  operator_shown op.Minus choice times f g c t p q = and_from _ _ p q
+  operator_shown op.Slash choice times f g c t p q = and_from _ _ p q
+  operator_shown op.Div choice times f g c t p q = and_from _ _ p q
+  operator_shown op.Mod choice times f g c t p q = and_from _ _ p q
 
   module _ (program : ProgramTree) (numbers : Numbers) (i : Instance) where
     -- the memory of a `pre` or `current` has the property
@@ -161,21 +161,21 @@ module _ (has : ℕ → Bool) where
       form_shown site (tree.Binary o a b) h =
           let left = shown a (λ d w. h d (Contains-append_left (delays a) (delays b) d w)) in
           let right = shown b (λ d w. h d (Contains-append_right (delays a) (delays b) d w)) in
-          operator_shown o _ _ (raw_of program numbers i a) (raw_of program numbers i b) (both _ _ right left)
+          operator_shown o _ _ (raw_of program numbers i a) (raw_of program numbers i b) (and_from _ _ right left)
           (product_shown (is_constant (node_scope program i.node) a) (coefficient program a) (coefficient program b) (raw_of program numbers i a)
           (raw_of program numbers i b) left right) left right
       form_shown site (tree.If a b c) h =
           let condition = shown a (λ d w. h d (Contains-append_left (delays a) (delays b ++ delays c) d w)) in
           let first = shown b (λ d w. h d (Contains-append_right (delays a) (delays b ++ delays c) d (Contains-append_left (delays b) (delays c) d w))) in
           let second = shown c (λ d w. h d (Contains-append_right (delays a) (delays b ++ delays c) d (Contains-append_right (delays b) (delays c) d w))) in
-          both _ _ condition (both _ _ first second)
+          and_from _ _ condition (and_from _ _ first second)
       form_shown site (tree.AtMostOne es) h = all_are_shown es h
       form_shown site (tree.Call f args) h = refl
 
       all_are_shown : (es : Trees) → ((d : Delay) → Contains (delays_of_all es) d → HasAt d) → each_all_shown has (raws_of program numbers i es) ≡ true
       all_are_shown tree.None h = refl
       all_are_shown (tree.More e es) h =
-          both _ _ (shown e (λ d w. h d (Contains-append_left (delays e) (delays_of_all es) d w)))
+          and_from _ _ (shown e (λ d w. h d (Contains-append_left (delays e) (delays_of_all es) d w)))
           (all_are_shown es (λ d w. h d (Contains-append_right (delays e) (delays_of_all es) d w)))
 
 abbrev one_if : Bool → ℕ
@@ -275,7 +275,7 @@ module _ (sizes : ℕ → ℕ) where
 
     all_of_them : (n : ℕ) → n ≤ length ms → all_end ms n ≡ true
     all_of_them zero le = refl
-    all_of_them (suc n) le = both _ _ (ends (length ms) n (rank_below (length ms) n (omega (arith, le)))) (all_of_them n (omega (arith, le)))
+    all_of_them (suc n) le = and_from _ _ (ends (length ms) n (rank_below (length ms) n (omega (arith, le)))) (all_of_them n (omega (arith, le)))
 
 -- The memories that are read from a program.
 module _ (program : ProgramTree) (main : Identifier) (well : AreWell program) (named_main : IsNode program main) (flows : List FlatFlow)
@@ -316,7 +316,7 @@ module _ (program : ProgramTree) (main : Identifier) (well : AreWell program) (n
       let q : Sites = delay_place i d in
       let there : Contains (memory_places_of memories) q = subst (λ l. Contains l q) (map-map (λ m. m.place) memory_of memories)
       (in_map (λ m. m.place) (map memory_of memories) (memory_at program i d) (read.list.all i d is tt w)) in
-      let at = index_at (memory_places_of memories) q (is_found (memory_places_of memories) q there) in
+      let at = index_there (memory_places_of memories) q (among_from (memory_places_of memories) q there) in
       let many = length-map memories (λ m. m.place.sites) in
       (let less = at.0 in omega (arith, less, many), at.1)
 

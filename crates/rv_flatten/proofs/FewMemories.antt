@@ -17,7 +17,8 @@ use Rattle.rv_types.specs.Needs.{IsBefore}
 use Rattle.rv_types.specs.Variables.{total}
 use Rattle.rv_instances.specs.Counts.{size, form_size, size_of_all, node_size, expanded}
 use Rattle.rv_flat.proofs.Earliest.{not_itself}
-use Rattle.rv_types.proofs.Members.{in_flat_map, in_map, of_map}
+use Rattle.rv_types.proofs.Members.{in_flat_map, in_map}
+use Rattle.rv_base.proofs.Lists.{from_map}
 
 -- places that rise are no more than those of a list that has them all
 no_more : (xs ys : List Sites) → AreRising xs → ((x : Sites) → Contains xs x → Contains ys x) → length xs ≤ length ys
@@ -93,7 +94,7 @@ few_memories p main ms counted are within =
   where
     there : (q : Sites) → Contains (memory_places ms) q → Contains (flat_map places_in (all_instances p main)) q
     there q w =
-        let m = of_map (λ (m : MemoryAt). m.place) ms q w in
+        let m = from_map (λ (m : MemoryAt). m.place) ms q w in
         let r = are.only m.0 m.1 in
         let is : delay_place r.0 r.1 ≡ q = ap (λ (m : MemoryAt). m.place) (sym r.5) ∙ m.2 in
         subst (λ (q : Sites). Contains (flat_map places_in (all_instances p main)) q) is

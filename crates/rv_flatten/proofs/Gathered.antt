@@ -1,7 +1,7 @@
 -- Lists that are gathered one element after the other.
 use Rattle.std.proofs.Common.{◌≡◌, ℕ, ◌+◌, ◌<◌, ◌≤◌, ◌∷◌, [], ◌++◌, List, length, get_or, drop, sym, ap, ◌∙◌, append_assoc}
 use Rattle.std.proofs.lemmas.List.{append-nil, drop_all}
-use Rattle.rv_types.proofs.Joined.{drop_here as next_of}
+use Rattle.rv_base.proofs.Lists.{next_of}
 
 -- one more element, where what is gathered of a list is that of its first element and then that of the others
 pub gathered_more : {X Y : Type 0} (own : X → List Y) (all : List X → List Y) → ((x : X) (xs : List X) → all (x ∷ xs) ≡ own x ++ all xs)

@@ -10,7 +10,7 @@ use Rattle.rv_types.specs.Needs.{IsSequence}
 use Rattle.rv_types.specs.Settled.{IsSettled}
 use Rattle.rv_instances.specs.Weights.{AreLight}
 use Rattle.rv_flatten.proofs.InstanceNumbers.{made_of}
-use Rattle.rv_types.proofs.Members.{index_there as index_at}
+use Rattle.rv_types.proofs.Members.{index_there}
 
 -- the name of the main node is the one that it was settled with
 pub main_name : (p : ProgramTree) (main : Identifier) (t : Typed) → IsSettled p main t → name_at p t.main ≡ main
@@ -18,7 +18,7 @@ main_name p main t s =
     ap (λ (x : Name). x.text) (sym (made_of (λ (n : NodeTree). n.name) p.nodes t.main no_node))
     ∙ sym (made_of (λ (x : Name). x.text) (node_names p) t.main no_node.name)
     ∙ ap (λ k. get_or (texts (node_names p)) k []) s.main_number
-    ∙ (index_at (texts (node_names p)) main s.has_main).1
+    ∙ (index_there (texts (node_names p)) main s.has_main).1
 
 pub sequence_same : (p q : ProgramTree) (a b : Identifier) (s r : List Sites) → p ≡ q → a ≡ b → s ≡ r → IsSequence p a s → IsSequence q b r
 sequence_same p q a b s r same name list h = subst (λ x. IsSequence q b x) list (subst (λ x. IsSequence q x s) name (subst (λ x. IsSequence x a s) same h))

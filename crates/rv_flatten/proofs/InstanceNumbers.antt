@@ -20,13 +20,13 @@ use Rattle.rv_instances.specs.Layouts.{node_at, path_at}
 use Rattle.rv_flatten.specs.NodeReaders.{lists_to}
 use Rattle.rv_flat.proofs.Earliest.{not_itself}
 use Rattle.rv_flatten.proofs.WellInstances as well
-use Rattle.rv_agreement.proofs.Controls.{no_flag}
-use Rattle.rv_instances.proofs.FlowPlaces.{snoc_parts as snoc}
+use Rattle.rv_instances.proofs.FlowPlaces.{snoc_parts}
 use Rattle.rv_instances.proofs.Known.{each_nil}
 use Rattle.rv_meaning.proofs.NameLemmas.{same_text}
-use Rattle.rv_types.proofs.Members.{among_from as is_found, in_map, index_there as index_at}
-use Rattle.rv_types.proofs.Members.{nothing_in as none_in}
-use Rattle.rv_types.proofs.RightNames.{both_empty as split_nil}
+use Rattle.rv_types.proofs.Members.{among_from, in_map, index_there}
+use Rattle.rv_types.proofs.Members.{nothing_in}
+use Rattle.rv_types.proofs.RightNames.{both_empty}
+use Rattle.rv_types.proofs.ChainLaws.{no_flag}
 
 -- Lists.
 
@@ -42,7 +42,7 @@ in_lists own (suc n) m x lt w = elim (cases_order m n) [
 ]
 
 pub from_lists : {X : Type 0} (own : ℕ → List X) (n : ℕ) (x : X) → Contains (lists_to own n) x → (m : ℕ) × (m < n) × Contains (own m) x
-from_lists own zero x w = none_in x w
+from_lists own zero x w = nothing_in x w
 from_lists own (suc n) x w = elim (Contains-append_cases (lists_to own n) (own n) x w) [
   | inl before ↦ let r = from_lists own n x before in (r.0, (let lt = r.1 in omega (arith, lt)), r.2)
   | inr here ↦ (n, omega arith, here)
@@ -59,15 +59,15 @@ made_of f (x ∷ xs) (suc k) d = made_of f xs k d
 -- The flows of a node have different names.
 pub flows_once : (p : ProgramTree) → name_faults p ≡ [] → (n : NodeTree) → Contains p.nodes n → repeated [] (decl_names (decls n)) ≡ []
 flows_once p named n w =
-    let a = split_nil (repeated [] (node_names p) ++ (repeated [] (type_names p) ++ repeated_values p))
+    let a = both_empty (repeated [] (node_names p) ++ (repeated [] (type_names p) ++ repeated_values p))
     ((flat_map (alias_use p) p.types ++ flat_map (constant_uses p) p.constants) ++ flat_map (names_in_node p) p.nodes) named in
-    let b = split_nil (flat_map (alias_use p) p.types ++ flat_map (constant_uses p) p.constants) (flat_map (names_in_node p) p.nodes) a.1 in
+    let b = both_empty (flat_map (alias_use p) p.types ++ flat_map (constant_uses p) p.constants) (flat_map (names_in_node p) p.nodes) a.1 in
     let all = each_nil (names_in_node p) p.nodes b.1 n w in
-    let c = split_nil (repeated [] (decl_names (decls n)) ++ repeated (decl_names n.inputs) (lefts n))
+    let c = both_empty (repeated [] (decl_names (decls n)) ++ repeated (decl_names n.inputs) (lefts n))
     (flat_map (undefined_unless (lefts n)) (decl_names (n.outputs ++ n.locals))
     ++ ((flat_map (flow_use p) (decls n) ++ flat_map (clock_use n) n.locals)
     ++ (flat_map (equation_uses p n) n.equations ++ flat_map (assertion_uses p n) n.assertions))) all in
-    (split_nil (repeated [] (decl_names (decls n))) (repeated (decl_names n.inputs) (lefts n)) c.0).0
+    (both_empty (repeated [] (decl_names (decls n))) (repeated (decl_names n.inputs) (lefts n)) c.0).0
 
 -- the names of nodes
 pub name_texts : (ns : List NodeTree) → texts (map (λ (n : NodeTree). n.name) ns) ≡ map (λ (n : NodeTree). n.name.text) ns
@@ -151,8 +151,8 @@ module _ (p : ProgramTree) (main : Identifier) (instances : List Numbered) (know
   node_within m lt =
       let r = instance_at m lt in
       let names = map (λ (n : NodeTree). n.name.text) p.nodes in
-      let there = is_found names r.0.node.name.text (in_map (λ (n : NodeTree). n.name.text) p.nodes r.0.node (node_in r.0 r.1)) in
-      let at = (index_at names r.0.node.name.text there).0 in
+      let there = among_from names r.0.node.name.text (in_map (λ (n : NodeTree). n.name.text) p.nodes r.0.node (node_in r.0 r.1)) in
+      let at = (index_there names r.0.node.name.text there).0 in
       let many = length-map p.nodes (λ (n : NodeTree). n.name.text) in
       let same : (get_or instances m no_instance).node ≡ index_of names r.0.node.name.text =
       ap (λ (x : Numbered). x.node) r.2 ∙ ap (λ (xs : List Identifier). index_of xs r.0.node.name.text) (name_texts p.nodes) in
@@ -164,7 +164,7 @@ module _ (p : ProgramTree) (main : Identifier) (instances : List Numbered) (know
   same_instance _ _ is_main (is_callee {i = j} d q at) e = let long = ap length e in absurd (omega (arith, long, length-append j.path (d.site ∷ [])))
   same_instance _ _ (is_callee {i = i} c q at) is_main e = let long = ap length e in absurd (omega (arith, long, length-append i.path (c.site ∷ [])))
   same_instance _ _ (is_callee {i = i} c q at) (is_callee {i = j} d r at') e =
-      let s = snoc i.path j.path c.site d.site e in
+      let s = snoc_parts i.path j.path c.site d.site e in
       let up = same_instance i j q r s.0 in
       let one = (known.well.formed j.node (node_in j r)).sites c d (subst (λ (i : Instance). Contains (calls i.node) c) up at) at' s.1 in
       λ k. callee p (up k) (one k)

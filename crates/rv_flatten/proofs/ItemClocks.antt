@@ -19,9 +19,9 @@ use Rattle.rv_agreement.specs.Trees.{System, nth_item}
 use Rattle.rv_agreement.specs.Translation.{Numbers, clock_number, giver_item, IsTranslated, IsClockOf}
 use Rattle.rv_flat.proofs.PlaceNumbers.{its_number}
 use Rattle.rv_flatten.proofs.WellInstances.{formed}
-use Rattle.rv_instances.proofs.FlowPlaces.{snoc_parts as snoc}
+use Rattle.rv_instances.proofs.FlowPlaces.{snoc_parts}
 use Rattle.rv_meaning.proofs.Acceptable.{suits_taken}
-use Rattle.rv_types.proofs.Members.{among_from as is_found, index_there as index_at}
+use Rattle.rv_types.proofs.Members.{among_from, index_there}
 
 -- inputs and outputs are on the base clock
 all_base : (ds es : List Decl) (m : ℕ) → get_or (map base_clock ds ++ map base_clock es) m Base ≡ Base
@@ -58,7 +58,7 @@ module _ (program : ProgramTree) (main : Identifier) (well : AreWell program) (n
   same_instance _ _ is_main (is_callee {i = j} d q at) e = let long = ap length e in absurd (omega (arith, long, length-append j.path (d.site ∷ [])))
   same_instance _ _ (is_callee {i = i} c q at) is_main e = let long = ap length e in absurd (omega (arith, long, length-append i.path (c.site ∷ [])))
   same_instance _ _ (is_callee {i = i} c q at) (is_callee {i = j} d r at') e =
-      let s = snoc i.path j.path c.site d.site e in
+      let s = snoc_parts i.path j.path c.site d.site e in
       let up = same_instance i j q r s.0 in
       let one = (formed program main well named j r).sites c d (subst (λ (i : Instance). Contains (calls i.node) c) up at) at' s.1 in
       λ k. callee program (up k) (one k)
@@ -75,24 +75,24 @@ module _ (program : ProgramTree) (main : Identifier) (well : AreWell program) (n
     giver_clock : (q : Sites) (g : Giver) (i : Instance) (m : ℕ) → Gives program main q g → IsInstance program main i → q ≡ i.path ++ m ∷ []
         → (giver_item program numbers g).clock ≡ clock_number numbers (absolute i (clock_at i.node m))
     giver_clock q _ i m (given j lt at) of e =
-        let r = snoc [] i.path j m (at ∙ e) in
+        let r = snoc_parts [] i.path j m (at ∙ e) in
         let one = same_instance (main_instance program main) i is_main of r.0 in
         sym (ap (λ c. clock_number numbers (absolute (main_instance program main) c)) (base_at (node_of program main) j (omega (arith, lt))))
         ∙ (λ t. clock_number numbers (absolute (one t) (clock_at (one t).node (r.1 t))))
     giver_clock q _ i m (by_equation a x (Body e) inst right at) of is =
-        let r = snoc a.path i.path (site_of a.node x) m (at ∙ is) in
+        let r = snoc_parts a.path i.path (site_of a.node x) m (at ∙ is) in
         let one = same_instance a i inst of r.0 in
         ap (λ c. clock_number numbers (absolute a c)) (suits_taken (clock_of a.node x) (pace a.node e)
         ((formed program main well named a inst).body_clock x e right))
         ∙ (λ t. clock_number numbers (absolute (one t) (clock_at (one t).node (r.1 t))))
     giver_clock q _ i m (by_equation a x (Output c j) inst right at) of is =
-        let r = snoc a.path i.path (site_of a.node x) m (at ∙ is) in
+        let r = snoc_parts a.path i.path (site_of a.node x) m (at ∙ is) in
         let one = same_instance a i inst of r.0 in
         ap (λ c. clock_number numbers (absolute a c)) ((formed program main well named a inst).output_clock x c j right)
         ∙ (λ t. clock_number numbers (absolute (one t) (clock_at (one t).node (r.1 t))))
     giver_clock q _ i m (by_call a c j e inst called arg at) of is =
         let below = (formed program main well named a inst).no_more c j e called arg in
-        let r = snoc (a.path ++ c.site ∷ []) i.path j m (append_assoc a.path (c.site ∷ []) (j ∷ []) ∙ at ∙ is) in
+        let r = snoc_parts (a.path ++ c.site ∷ []) i.path j m (append_assoc a.path (c.site ∷ []) (j ∷ []) ∙ at ∙ is) in
         let one = same_instance (callee program a c) i (is_callee c inst called) of r.0 in
         ap (λ k. clock_number numbers (absolute a k)) (suits_taken (clock_of_arguments a c.args) (pace a.node e)
         ((formed program main well named a inst).argument_clock c j e called arg))
@@ -104,7 +104,7 @@ module _ (program : ProgramTree) (main : Identifier) (well : AreWell program) (n
       number q = index_of numbers.flows q
 
       pub number_at : (q : Sites) → IsFlow program main q → (number q < length numbers.flows) × (get_or numbers.flows (number q) [] ≡ q)
-      number_at q is = index_at numbers.flows q (is_found numbers.flows q (read.sequence.flows q is))
+      number_at q is = index_there numbers.flows q (among_from numbers.flows q (read.sequence.flows q is))
 
       pub number_within : (q : Sites) → IsFlow program main q → number q < length s.flows
       number_within q is = let at = (number_at q is).0 in omega (arith, at, read.many)
@@ -120,7 +120,7 @@ module _ (program : ProgramTree) (main : Identifier) (well : AreWell program) (n
 
       -- The same by its name.
       pub clock_is : (i : Instance) (x : Identifier) → IsInstance program main i → Contains (flows_of i.node) x → IsClockOf numbers s i x
-      clock_is i x of w = item_clock i (site_of i.node x) of (index_at (flows_of i.node) x (is_found (flows_of i.node) x w)).0
+      clock_is i x of w = item_clock i (site_of i.node x) of (index_there (flows_of i.node) x (among_from (flows_of i.node) x w)).0
 
       -- An output of a call is on the clock of the arguments.
       pub output_clock : (i : Instance) (c : CallTree) (j : ℕ) (k : Kind) → IsInstance program main i → Contains (calls i.node) c

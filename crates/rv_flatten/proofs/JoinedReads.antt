@@ -8,10 +8,10 @@ use Rattle.rv_types.specs.declared.typed.Kind.{Kind}
 use Rattle.rv_types.specs.declared.typed.Kind.TheVariants as kind
 use Rattle.rv_types.specs.Delayed.{delayed_kinds}
 use Rattle.rv_types.specs.Types.{Scope}
-use Rattle.rv_types.proofs.Joined.{drop_here}
 use Rattle.rv_instances.specs.declared.timed.ClockedDelay.{ClockedDelay}
 use Rattle.rv_instances.specs.Timed.{delay_listed, delay_told}
 use Rattle.rv_flatten.specs.Remembered.{ReadAt, read_told, read_by, joined, reads}
+use Rattle.rv_base.proofs.Lists.{next_of}
 
 pub joined_reads : (n : NodeTree) (s : Scope) (ds : List Delay) → joined n (delayed_kinds s ds) (map (delay_told n) ds) ≡ reads n s ds
 joined_reads n s [] = refl
@@ -24,5 +24,5 @@ pub joined_more : (n : NodeTree) (ks : List Kind) (ds : List ClockedDelay) (j : 
 joined_more n ks ds j d lt is =
     let kind : slice_index_or (drop j ks) 0 kind.Bool ≡ slice_index_or ks j kind.Bool =
     get_or-drop j ks 0 kind.Bool ∙ ap (λ k. slice_index_or ks k kind.Bool) (omega arith) in
-    ap (λ (l : List ClockedDelay). joined n (drop j ks) (map delay_listed l)) (drop_here ds j d lt is)
+    ap (λ (l : List ClockedDelay). joined n (drop j ks) (map delay_listed l)) (next_of ds j d lt is)
     ∙ (λ i. read_told n (kind i) (delay_listed d) ∷ joined n (drop-drop 1 j ks i) (map delay_listed (drop (j + 1) ds)))

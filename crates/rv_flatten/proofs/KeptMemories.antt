@@ -19,7 +19,8 @@ use Rattle.rv_flatten.specs.NodeReaders.{lists_to, AreSortedBy}
 use Rattle.rv_flatten.specs.Remembered.{read_by, reads_in, KeptAt, kept_seen, kept_at, kept_in}
 use Rattle.rv_flatten.proofs.InstanceNumbers.{in_lists, from_lists, made_of, is_node, instance_at, number_at, path_is, node_is}
 use Rattle.rv_flatten.proofs.OnePlace.{one_of_place}
-use Rattle.rv_types.proofs.Members.{in_map, of_map}
+use Rattle.rv_types.proofs.Members.{in_map}
+use Rattle.rv_base.proofs.Lists.{from_map}
 
 -- the places of memories, as they are found
 pub kept_places : (ks : List Kept) → memory_places (map kept_memory ks) ≡ map (λ (k : Kept). k.place.sites) ks
@@ -55,8 +56,8 @@ module _ (p : ProgramTree) (main : Identifier) (instances : List Numbered) (know
         let a = from_lists own (length instances) (kept_seen k) all in
         let b = instance_at p main instances known a.0 a.1 in
         let here = subst (λ (l : List KeptAt). Contains l (kept_seen k)) (own_is a.0 b.0 b.1 b.2) a.2 in
-        let r = of_map (kept_at b.0.path a.0) (reads_in p b.0.node) (kept_seen k) here in
-        let d = of_map (read_by b.0.node (node_scope p b.0.node)) (node_delays b.0.node) r.0 r.1 in
+        let r = from_map (kept_at b.0.path a.0) (reads_in p b.0.node) (kept_seen k) here in
+        let d = from_map (read_by b.0.node (node_scope p b.0.node)) (node_delays b.0.node) r.0 r.1 in
         let seen : kept_seen k ≡ kept_at b.0.path a.0 (read_by b.0.node (node_scope p b.0.node) d.0) =
         sym (ap (kept_at b.0.path a.0) d.2 ∙ r.2) in (
           record {
@@ -81,7 +82,7 @@ module _ (p : ProgramTree) (main : Identifier) (instances : List Numbered) (know
         let here = in_map (kept_at i.path n.0) (reads_in p i.node) r (in_map (read_by i.node (node_scope p i.node)) (node_delays i.node) d w) in
         let own_here = subst (λ (l : List KeptAt). Contains l x) (sym (own_is n.0 i inst n.2)) here in
         let all = in_lists own (length instances) n.0 x n.1 own_here in
-        let k = of_map kept_seen found x (subst (λ (l : List KeptAt). Contains l x) (sym is) all) in
+        let k = from_map kept_seen found x (subst (λ (l : List KeptAt). Contains l x) (sym is) all) in
         (k.0, k.1, ap (λ (x : KeptAt). x.place) k.2)
 
     pub are_kept : (ks : List Kept) → AreSortedBy (λ (k : Kept). k.place.sites) found ks → AreKept p main instances ks
@@ -95,7 +96,7 @@ module _ (p : ProgramTree) (main : Identifier) (instances : List Numbered) (know
             subst (λ (m : MemoryAt). Contains (map kept_memory ks) m)
             (s.1 ∙ one_memory s.0.i i s.0.d d s.0.is inst s.0.there w (sym s.0.place ∙ y.2 ∙ a.2)) (in_map kept_memory ks y.0 y.1);
         only = λ m w.
-            let y = of_map kept_memory ks m w in
+            let y = from_map kept_memory ks m w in
             let s = seen_there y.0 (up.only y.0 y.1) in
             (s.0.i, s.0.d, s.0.is, tt, s.0.there, sym y.2 ∙ s.1);
       };

@@ -1,5 +1,5 @@
 -- The flows of a flat system as they are made.
-use Rattle.std.proofs.Common.{◌≡◌, ◌⊎◌, inl, inr, ℕ, zero, suc, ◌+◌, ◌<◌, List, [], ◌∷◌, ◌++◌, map, length, Some, unwrap_or, slice_get, slice_index_or, refl}
+use Rattle.std.proofs.Common.{◌≡◌, inl, inr, ℕ, zero, suc, ◌+◌, ◌<◌, List, [], ◌∷◌, ◌++◌, map, length, Some, unwrap_or, slice_get, slice_index_or, refl}
 use Rattle.std.proofs.Common.{sym, ◌∙◌, ap, subst, arith}
 use Rattle.std.proofs.lemmas.List.{length-append, length-map}
 use Rattle.std.proofs.lemmas.Option.{none-some, slice_get_within, slice_get-map, get_or_from_slice_get, slice_get-get_or}
@@ -26,19 +26,9 @@ use Rattle.rv_flatten.specs.Building.{IsGiven, IsMade, kind_at, program_given, m
 use Rattle.rv_agreement.specs.Translation.{Numbers}
 use Rattle.rv_flatten.proofs.FlowKinds.{kinds_many}
 use Rattle.rv_flatten.proofs.InstanceNumbers.{instance_at, path_is, node_is, same_instance}
-use Rattle.rv_flatten.proofs.KeptParts.{there as slice_get_Contains}
-use Rattle.rv_instances.proofs.FlowPlaces.{snoc_parts as snoc}
-use Rattle.rv_types.proofs.Members.{among_from as is_found, index_there as index_at}
-
--- what stands in a list with one thing more at its end
-snoc_get : {X : Type 0} (xs : List X) (x y : X) (k : ℕ) → slice_get (xs ++ x ∷ []) k ≡ Some y → (slice_get xs k ≡ Some y) ⊎ ((k ≡ length xs) × (x ≡ y))
-snoc_get [] x y zero e = inr (refl, (let same : x ≡ y = cc in same))
-snoc_get [] x y (suc k) e = absurd (none-some y e)
-snoc_get (z ∷ xs) x y zero e = inl e
-snoc_get (z ∷ xs) x y (suc k) e = elim (snoc_get xs x y k e) [
-  | inl there ↦ inl there
-  | inr last ↦ inr (ap suc last.0, last.1)
-]
+use Rattle.rv_instances.proofs.FlowPlaces.{snoc_parts}
+use Rattle.rv_types.proofs.Members.{among_from, index_there}
+use Rattle.rv_base.proofs.Lists.{contains_got, push_cases}
 
 -- The flows so far are made, in the order of the sequence.
 pub record AreMadeTo (p : ProgramTree) (main : Identifier) (numbers : Numbers) (sequence : List Sites) (n : ℕ) (fs : List FlatFlow) : Type 0 where
@@ -53,7 +43,7 @@ module _ (p : ProgramTree) (main : Identifier) (numbers : Numbers) (sequence : L
       → IsMade p main numbers (slice_index_or sequence n []) f → AreMadeTo p main numbers sequence (n + 1) more
   one_made n fs more f are e is = subst (AreMadeTo p main numbers sequence (n + 1)) (sym e) (record {
     many = let had = are.many in let size : length (fs ++ f ∷ []) ≡ length fs + 1 = simp (length-append) in omega (arith, had, size);
-    each = λ k g at. elim (snoc_get fs f g k at) [
+    each = λ k g at. elim (push_cases fs f g k at) [
       | inl there ↦ are.each k g there
       | inr last ↦ subst (IsMade p main numbers (slice_index_or sequence k [])) last.1
           (subst (λ j. IsMade p main numbers (slice_index_or sequence j []) f) (sym (last.0 ∙ are.many)) is)
@@ -101,15 +91,15 @@ module _ (g : Given) (given : IsGiven g) where
       → Some (kind_at g f) ≡ flow_kind p i.node x
   its_kind k f i x at is w same =
       let known = given.known.expanded in
-      let lt : f.instance < length instances = given.of f (slice_get_Contains g.flows.now k f at) in
+      let lt : f.instance < length instances = given.of f (contains_got g.flows.now k f at) in
       let a = instance_at p main instances known f.instance lt in
-      let parts = snoc (path_at instances f.instance) i.path f.site (site_of i.node x) (sym (its_place k f at) ∙ same) in
+      let parts = snoc_parts (path_at instances f.instance) i.path f.site (site_of i.node x) (sym (its_place k f at) ∙ same) in
       let one : a.0 ≡ i = same_instance p main instances known a.0 i a.1 is (sym (path_is p main instances known f.instance a.0 a.2) ∙ parts.0) in
       let node = node_is p main instances known f.instance a.0 a.1 a.2 ∙ ap (λ (j : Instance). j.node) one in
       let kinds : slice_index_or g.kinds.now (slice_index_or instances f.instance no_instance).node [] ≡ flow_kinds p i.node =
       ap (λ (l : List (List Kind)). slice_index_or l (slice_index_or instances f.instance no_instance).node []) given.kinds
       ∙ kinds_of_node (program_given g).nodes (slice_index_or instances f.instance no_instance).node ∙ ap (flow_kinds p) node in
-      let among = index_at (flows i.node) x (is_found (flows i.node) x w) in
+      let among = index_there (flows i.node) x (among_from (flows i.node) x w) in
       let site : site_of i.node x < length (flow_kinds p i.node) = let less = among.0 in let many = kinds_many p i.node in omega (arith, less, many) in
       let some : slice_get (flow_kinds p i.node) (site_of i.node x) ≡ Some (slice_index_or (flow_kinds p i.node) (site_of i.node x) kind.Bool)
       = slice_get-get_or (flow_kinds p i.node) (site_of i.node x) kind.Bool site in

@@ -1,8 +1,8 @@
 -- The ticks of a program are the flows that are marked for the clocks of its `->`.
 use Rattle.std.proofs.Common.{◌≡◌, ◌⊎◌, inl, inr, ℕ, zero, suc, ◌+◌, ◌<◌, ◌^◌, Bool, true, false, cond, List, [], ◌∷◌, ◌++◌, map, length, get_or, replicate}
 use Rattle.std.proofs.Common.{set, refl, sym, ◌∙◌, ap, subst, arith, length-set, get_or-set_same, get_or-set_other, Option, Some, None as Nothing}
-use Rattle.std.proofs.lemmas.Bool.{cases_eq, cases_order}
-use Rattle.std.proofs.lemmas.List.{get_or-map, length-map, length-replicate, set_past}
+use Rattle.std.proofs.lemmas.Bool.{cases_eq}
+use Rattle.std.proofs.lemmas.List.{get_or-map, length-map, length-replicate}
 use Rattle.std.proofs.lemmas.List.Elements.{Contains-append_left, Contains-append_right, Contains-append_cases, Contains-get_or}
 use Rattle.std.proofs.lemmas.Option.{none-some, same_Some}
 use Rattle.std.specs.List.{Contains}
@@ -25,7 +25,8 @@ use Rattle.rv_flatten.specs.Arrows.{node_arrows, arrow_numbers, arrow_numbers_to
 use Rattle.rv_flatten.proofs.ArrowClocks.{node_comes, node_only, arrow_known}
 use Rattle.rv_flatten.proofs.MainNames.{is_node}
 use Rattle.rv_flatten.proofs.WellInstances.{formed, typed}
-use Rattle.rv_types.proofs.Members.{at_head, cons_cases as head_or_tail, in_flat_map, in_map, in_tail, nothing_in as none_in, of_flat_map as from_flat_map}
+use Rattle.rv_types.proofs.Members.{at_head, cons_cases, in_flat_map, in_map, in_tail, nothing_in, of_flat_map}
+use Rattle.rv_base.proofs.Lists.{set_keeps}
 
 -- Marks.
 
@@ -33,27 +34,14 @@ pub marks_size : (ms : List Bool) (ns : List ℕ) → length (with_marks ms ns) 
 marks_size ms [] = refl
 marks_size ms (n ∷ ns) = marks_size (set ms n true) ns ∙ length-set ms n true
 
--- a mark stays
-mark_stays : (ms : List Bool) (n k : ℕ) → get_or ms k false ≡ true → get_or (set ms n true) k false ≡ true
-mark_stays ms n k e = elim (cases_eq k n) [
-  | inl same ↦ elim (cases_order k (length ms)) [
-    | inl end ↦ ap (λ l. get_or l k false) (set_past ms n true (omega (arith, same, end))) ∙ e
-    | inr other ↦ elim other [
-      | inl lt ↦ ap (λ j. get_or (set ms j true) k false) (sym same) ∙ get_or-set_same ms k true false lt
-      | inr gt ↦ ap (λ l. get_or l k false) (set_past ms n true (omega (arith, same, gt))) ∙ e
-    ]
-  ]
-  | inr other ↦ get_or-set_other ms n k true false other ∙ e
-]
-
 marks_stay : (ms : List Bool) (ns : List ℕ) (k : ℕ) → get_or ms k false ≡ true → get_or (with_marks ms ns) k false ≡ true
 marks_stay ms [] k e = e
-marks_stay ms (n ∷ ns) k e = marks_stay (set ms n true) ns k (mark_stays ms n k e)
+marks_stay ms (n ∷ ns) k e = marks_stay (set ms n true) ns k (set_keeps ms n k e)
 
 -- each number is marked
 mark_made : (ms : List Bool) (ns : List ℕ) (k : ℕ) → Contains ns k → k < length ms → get_or (with_marks ms ns) k false ≡ true
-mark_made ms [] k w lt = none_in k w
-mark_made ms (n ∷ ns) k w lt = elim (head_or_tail n ns k w) [
+mark_made ms [] k w lt = nothing_in k w
+mark_made ms (n ∷ ns) k w lt = elim (cons_cases n ns k w) [
   | inl same ↦ marks_stay (set ms n true) ns k (ap (λ j. get_or (set ms j true) k false) same ∙ get_or-set_same ms k true false lt)
   | inr rest ↦ let size = length-set ms n true in mark_made (set ms n true) ns k rest (omega (arith, lt, size))
 ]
@@ -90,8 +78,8 @@ some_marked j (b ∷ bs) (suc k) e =
 
 -- the number is one of the flags, and that is set
 marked_is : (j : ℕ) (bs : List Bool) (n : ℕ) → Contains (marked_from j bs) n → (k : ℕ) × (k < length bs) × (n ≡ j + k) × (get_or bs k false ≡ true)
-marked_is j [] n w = none_in n w
-marked_is j (true ∷ bs) n w = elim (head_or_tail j (marked_from (j + 1) bs) n w) [
+marked_is j [] n w = nothing_in n w
+marked_is j (true ∷ bs) n w = elim (cons_cases j (marked_from (j + 1) bs) n w) [
   | inl same ↦ (0, omega arith, (omega (arith, same)), refl)
   | inr rest ↦
       let r = marked_is (j + 1) bs n rest in
@@ -130,7 +118,7 @@ numbers_there p instances l (suc n) m k lt w = elim (cases_eq m n) [
 
 numbers_from : (p : ProgramTree) (instances : List Numbered) (l : Layout) (n k : ℕ) → Contains (arrow_numbers_to p instances l n) k
     → (m : ℕ) × (m < n) × Contains (arrow_numbers p instances l m) k
-numbers_from p instances l zero k w = none_in k w
+numbers_from p instances l zero k w = nothing_in k w
 numbers_from p instances l (suc n) k w = elim (Contains-append_cases (arrow_numbers_to p instances l n) (arrow_numbers p instances l n) k w) [
   | inl v ↦ let r = numbers_from p instances l n k v in let lt = r.1 in (r.0, omega (arith, lt), r.2)
   | inr v ↦ (n, omega arith, v)
@@ -138,8 +126,8 @@ numbers_from p instances l (suc n) k w = elim (Contains-append_cases (arrow_numb
 
 -- a number that is listed is there
 listed_is : (o : Option ℕ) (k : ℕ) → Contains (listed o) k → o ≡ Some k
-listed_is Nothing k w = none_in k w
-listed_is (Some j) k w = elim (head_or_tail j [] k w) [ inl same ↦ ap Some same | inr rest ↦ none_in k rest ]
+listed_is Nothing k w = nothing_in k w
+listed_is (Some j) k w = elim (cons_cases j [] k w) [ inl same ↦ ap Some same | inr rest ↦ nothing_in k rest ]
 
 is_listed : (o : Option ℕ) (k : ℕ) → o ≡ Some k → Contains (listed o) k
 is_listed o k e = subst (λ c. Contains (listed c) k) (sym e) (at_head k [])
@@ -214,7 +202,7 @@ module _ (p : ProgramTree) (main : Identifier) (instances : List Numbered) (l : 
       let one = are_numbered.at m from.1 in
       let i = one.0 in
       let at_m : IsNumberOf p instances m i = one.2 in
-      let r = from_flat_map (λ (d : Clock). listed (clock_number (here_of l m) d)) (node_arrows (node_at p instances m)) k from.2 in
+      let r = of_flat_map (λ (d : Clock). listed (clock_number (here_of l m) d)) (node_arrows (node_at p instances m)) k from.2 in
       let c = r.0 in
       let there : Contains (node_arrows i.node) c = subst (λ (n : NodeTree). Contains (node_arrows n) c) (are_numbered.node m i one.1 at_m) r.1 in
       let arrow = node_only i.node c there in

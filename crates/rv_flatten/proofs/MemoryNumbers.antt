@@ -18,8 +18,8 @@ use Rattle.rv_flatten.specs.Kept.{kept_memory, AreKept}
 use Rattle.rv_flatten.proofs.InstanceNumbers.{path_is, same_number}
 use Rattle.rv_flatten.proofs.KeptMemories.{kept_places}
 use Rattle.rv_flat.proofs.TickList.{number_at}
-use Rattle.rv_instances.proofs.FlowPlaces.{snoc_parts as snoc}
-use Rattle.rv_types.proofs.Members.{of_map}
+use Rattle.rv_instances.proofs.FlowPlaces.{snoc_parts}
+use Rattle.rv_base.proofs.Lists.{from_map}
 
 -- a test of two numbers
 same_pair : (a b m s : ℕ) → Decides (nat_eq a m && nat_eq b s) ((a ≡ m) × (b ≡ s))
@@ -83,12 +83,12 @@ module _ (p : ProgramTree) (main : Identifier) (instances : List Numbered) (know
       → told m (memory_site i.node d.site d.operand) ≡ Some (index_of (places instances ks) (delay_place i d))
   number_told told n le all m i d inst at w =
       let s = memory_site i.node d.site d.operand in
-      let a = of_map kept_memory ks (memory_at p i d) (kept.list.all i d inst tt w) in
+      let a = from_map kept_memory ks (memory_at p i d) (kept.list.all i d inst tt w) in
       let k = a.0 in
       let lt = a.1.1 in
       let place : k.place.sites ≡ delay_place i d = ap (λ (x : MemoryAt). x.place) a.2 in
       let e = kept.each k a.1 in
-      let parts = snoc e.i.path i.path (memory_site e.i.node e.d.site e.d.operand) s (sym e.place ∙ place) in
+      let parts = snoc_parts e.i.path i.path (memory_site e.i.node e.d.site e.d.operand) s (sym e.place ∙ place) in
       let path : path_at instances k.instance ≡ i.path = path_is p main instances known k.instance e.i e.number.1 ∙ parts.0 in
       let instance : k.instance ≡ m = same_number p main instances known k.instance m e.number.0 at.0 (path ∙ sym (path_is p main instances known m i at.1)) in
       ap (λ m. told m s) (sym instance) ∙ all k a.1 s (omega (arith, lt, le)) (place ∙ ap (λ q. q ++ s ∷ []) (sym path))

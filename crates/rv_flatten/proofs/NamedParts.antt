@@ -33,16 +33,16 @@ use Rattle.rv_flatten.proofs.Standing.{Stands, as_child, of_not, of_minus, of_cu
 use Rattle.rv_flatten.proofs.Standing.{of_operand, stands_in, own_delay, own_current, body_stands, argument_stands, as_assertion, operand_stands}
 use Rattle.rv_flat.proofs.TypedParts.{some_is, IsTyped, not_typed, minus_typed, current_typed, when_typed, binary_typed, if_typed, most_typed}
 use Rattle.rv_flatten.proofs.WellInstances.{typed, is_light}
-use Rattle.rv_agreement.proofs.Controls.{no_flag}
 use Rattle.rv_meaning.proofs.Told.{index_past}
-use Rattle.rv_types.proofs.Members.{among_contains as found}
+use Rattle.rv_types.proofs.Members.{among_contains}
+use Rattle.rv_types.proofs.ChainLaws.{no_flag}
 
 -- a name with a type among the flows of a node is that of a flow
 flow_there : (program : ProgramTree) (n : NodeTree) (x : Identifier) (k : Kind) → flow_kind program n x ≡ Some k → Contains (flows n) x
 flow_there program n x k e = by (is_among (flows n) x) refl
   where
     by : (b : Bool) → is_among (flows n) x ≡ b → Contains (flows n) x
-    by true is = found (flows n) x is
+    by true is = among_contains (flows n) x is
     by false is =
         let past = index_past (flows n) x is in
         let lt = slice_get_within (flow_kinds program n) _ k e in

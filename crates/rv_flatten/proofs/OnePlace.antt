@@ -13,8 +13,8 @@ use Rattle.rv_agreement.specs.Trees.{Item}
 use Rattle.rv_agreement.specs.Translation.{Numbers, delay_item}
 use Rattle.rv_flatten.specs.Readings.{RawItem, raw_delay}
 use Rattle.rv_flatten.proofs.WellInstances.{node_in, formed}
-use Rattle.rv_instances.proofs.FlowPlaces.{snoc_parts as snoc}
-use Rattle.rv_types.proofs.Members.{index_there as index_at}
+use Rattle.rv_instances.proofs.FlowPlaces.{snoc_parts}
+use Rattle.rv_types.proofs.Members.{index_there}
 
 -- the operand is a flow of this name
 abbrev pub IsName : NodeTree → Tree → Identifier → Type 0
@@ -34,13 +34,13 @@ site_of_either n site (Node at s _) = inr refl
 module _ (n : NodeTree) (numbered : IsNumbered n) where
   -- two flows with one site are one
   one_flow : (x y : Identifier) → is_flow n x ≡ true → is_flow n y ≡ true → site_of n x ≡ site_of n y → x ≡ y
-  one_flow x y a b e = sym (index_at (flows n) x a).1 ∙ ap (λ k. get_or (flows n) k []) e ∙ (index_at (flows n) y b).1
+  one_flow x y a b e = sym (index_there (flows n) x a).1 ∙ ap (λ k. get_or (flows n) k []) e ∙ (index_there (flows n) y b).1
 
   -- a memory with a site of its own has that of no flow
   own_beyond : (d : Delay) → Contains (node_delays n) d → (x : Identifier) → is_flow n x ≡ true → site_of n x ≡ unwrap_or d.site 0 → ⊥
   own_beyond d w x is e =
       let s = numbered.beyond d w in
-      let low : site_of n x < length (flows n) = (index_at (flows n) x is).0 in
+      let low : site_of n x < length (flows n) = (index_there (flows n) x is).0 in
       let own : unwrap_or d.site 0 ≡ s.0 = ap (λ o. unwrap_or o 0) s.1 in
       omega (arith, s.2, low, own, e)
 
@@ -59,7 +59,7 @@ module _ (program : ProgramTree) (main : Identifier) (well : AreWell program) (n
   one_instance _ _ is_main (is_callee {i = j} d q at) e = let long = ap length e in absurd (omega (arith, long, length-append j.path (d.site ∷ [])))
   one_instance _ _ (is_callee {i = i} c q at) is_main e = let long = ap length e in absurd (omega (arith, long, length-append i.path (c.site ∷ [])))
   one_instance _ _ (is_callee {i = i} c q at) (is_callee {i = j} d r at') e =
-      let s = snoc i.path j.path c.site d.site e in
+      let s = snoc_parts i.path j.path c.site d.site e in
       let up = one_instance i j q r s.0 in
       let one = (formed program main well named j r).sites c d (subst (λ (i : Instance). Contains (calls i.node) c) up at) at' s.1 in
       λ k. callee program (up k) (one k)
@@ -87,7 +87,7 @@ module _ (program : ProgramTree) (main : Identifier) (well : AreWell program) (n
         → Contains (node_delays j.node) e
         → delay_place i d ≡ delay_place j e → told i d ≡ told j e
     one_of_place i j d e a b w v same =
-        let r = snoc i.path j.path (memory_site i.node d.site d.operand) (memory_site j.node e.site e.operand) same in
+        let r = snoc_parts i.path j.path (memory_site i.node d.site d.operand) (memory_site j.node e.site e.operand) same in
         let one = one_instance i j a b r.0 in
         let within : Contains (node_delays j.node) d = subst (λ (i : Instance). Contains (node_delays i.node) d) one w in
         let site : memory_site j.node d.site d.operand ≡ memory_site j.node e.site e.operand = ap (λ (i : Instance). memory_site i.node d.site d.operand)

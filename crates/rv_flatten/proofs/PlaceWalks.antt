@@ -15,7 +15,7 @@ use Rattle.rv_instances.specs.Expanded.{IsExpanded, no_instance}
 use Rattle.rv_instances.specs.Layouts.{IsLayout, IsHere, IsNumberOf, IsPlaced, callee_or_main, here_of, path_at, all_places}
 use Rattle.rv_flatten.specs.Positions.{AreNumbersOf, number_from, site_number, way_from}
 use Rattle.rv_flatten.proofs.FlowTotals.{few_flows}
-use Rattle.rv_types.proofs.Members.{among_from as is_found, index_there as index_at}
+use Rattle.rv_types.proofs.Members.{among_from, index_there}
 
 -- the instance to which calls lead
 abbrev walk : Layout → ℕ → Sites → ℕ
@@ -107,7 +107,7 @@ module _ (p : ProgramTree) (main : Identifier) (instances : List Numbered) (know
       number_placed q (i, x, is, w, e) =
           let m = walk l 0 i.path in
           let s = site_of i.node x in
-          let at = (here m i is (walked i is)).flow s (index_at (flows i.node) x (is_found (flows i.node) x w)).0 in
+          let at = (here m i is (walked i is)).flow s (index_there (flows i.node) x (among_from (flows i.node) x w)).0 in
           let few = few_flows p main instances known in
           let lt = at.0 in
           let same : number_from l 0 0 q ≡ (here_of l m).offset + s =

@@ -3,7 +3,6 @@ use Rattle.std.proofs.Common.{◌≡◌, ℕ, suc, ◌+◌, ◌<◌, Bool, true,
 use Rattle.std.proofs.Common.{slice_get, refl, sym, ◌∙◌, ap, subst, arith, unwrap_or, Option, Some}
 use Rattle.std.proofs.Common.{None as Nothing}
 use Rattle.std.proofs.lemmas.Bool.{eq-eqb}
-use Rattle.std.proofs.lemmas.Bool.Decides.{nat_tests}
 use Rattle.std.proofs.lemmas.List.{length-map, get_or-map}
 use Rattle.std.proofs.lemmas.List.Elements.{Contains-append_left, Contains-append_right, All-contains}
 use Rattle.std.proofs.lemmas.Option.{none-some, same_Some, slice_get-get_or, slice_get-map, slice_get_within, get_or_from_slice_get}
@@ -62,21 +61,15 @@ use Rattle.rv_flatten.proofs.WellInstances.{node_in, formed, typed}
 use Rattle.rv_flatten.proofs.ClockKinds.{IsTrueClock, clock_taken, clock_taken_on, clock_is_true, pace_is_true, paces_are_true}
 use Rattle.rv_flatten.proofs.FlowKinds.{HasFlow, is_flow as flow_there, kinds_many, signature_is, flow_of_site, clock_flow, output_flow, input_flow, main_input}
 use Rattle.rv_flatten.proofs.KindNumbers.{IsBelow, kind_declared, kind_itself, among_kinds, value_fits}
-use Rattle.rv_agreement.proofs.Controls.{no_flag}
 use Rattle.rv_agreement.proofs.Suited.{suits_binary}
-use Rattle.rv_flatten.proofs.Assembled.{both_told as both}
-use Rattle.rv_meaning.proofs.Suiting.{ground_taken as grounded_taken, suits_both as suits_meet, suits_seen, taken_suits as suits_own}
+use Rattle.rv_meaning.proofs.Suiting.{ground_taken, suits_both, suits_seen, taken_suits}
 use Rattle.rv_meaning.proofs.TypedOperators.{met_kind}
-use Rattle.rv_types.proofs.ConstantContents.{kind_same as same_kinds}
-use Rattle.rv_types.proofs.Members.{among_contains as found, among_from as is_found, at_head, in_map, in_tail, index_there as index_at}
-use Rattle.rv_types.proofs.TypedParts.{both_true as both_hold}
-
-either : (a b : Bool) → b ≡ true → (a || b) ≡ true
-either true b p = refl
-either false b p = p
-
-less_told : (m n : ℕ) → m < n → nat_lt m n ≡ true
-less_told m n lt = grind (arith, nat_tests, lt)
+use Rattle.rv_types.proofs.ConstantContents.{kind_same}
+use Rattle.rv_types.proofs.Members.{among_contains, among_from, at_head, in_map, in_tail, index_there}
+use Rattle.rv_base.proofs.Truths.{both_of, less_told}
+use Rattle.rv_types.proofs.ChainLaws.{no_flag}
+use Rattle.std.proofs.lemmas.Bool.{and_from}
+use Rattle.std.proofs.lemmas.Bool.{or_right}
 
 -- a clock is itself
 same_told : (c d : Option ℕ) → d ≡ c → same_clock c d ≡ true
@@ -117,10 +110,10 @@ spot_there path site m e = ap (λ (o : Option ℕ). is_placed (spot path o)) e �
 placed_by : (path : Sites) (site : Option ℕ) (o : Op) (l : Kind) (c d : Bool) → is_comparison o ≡ c → is_integer l ≡ d → (c ≡ true → (m : ℕ) × (site ≡ Some m))
     → is_placed_for (cond (c && d) (spot path site) []) o l ≡ true
 placed_by path site o l false d is e sited = ap (λ (b : Bool). b || cond (is_placed []) (is_integer l) (not (is_integer l))) (no_sides o is)
-placed_by path site o l true false is e sited = either (nat_eq (length (sides_of o)) 0) (not (is_integer l)) (ap not e)
+placed_by path site o l true false is e sited = or_right (nat_eq (length (sides_of o)) 0) (not (is_integer l)) (ap not e)
 placed_by path site o l true true is e sited =
     let r = sited refl in
-    either (nat_eq (length (sides_of o)) 0) (cond (is_placed (spot path site)) (is_integer l) (not (is_integer l)))
+    or_right (nat_eq (length (sides_of o)) 0) (cond (is_placed (spot path site)) (is_integer l) (not (is_integer l)))
     (ap (λ (b : Bool). cond b (is_integer l) (not (is_integer l))) (spot_there path site r.0 r.1) ∙ e)
 
 module _ (program : ProgramTree) (main : Identifier) (well : AreWell program) (named : IsNode program main) (numbers : Numbers) (s : System)
@@ -141,9 +134,9 @@ module _ (program : ProgramTree) (main : Identifier) (well : AreWell program) (n
     flow_fits : (before : ℕ) (c : Option ℕ) (q : Sites) (k : Kind) (at : Sites) → HasFlow program main q k → number q < before
         → (nth_item s.flows (number q)).clock ≡ c → form_fits s before c k at (Flow (number q)) ≡ true
     flow_fits before c q k at h lt clock =
-        both (nat_lt (number q) before) (is_of k (slice_get s.kinds (number q)) && same_clock c (nth_item s.flows (number q)).clock)
+        and_from (nat_lt (number q) before) (is_of k (slice_get s.kinds (number q)) && same_clock c (nth_item s.flows (number q)).clock)
         (less_told (number q) before lt)
-        (both (is_of k (slice_get s.kinds (number q))) (same_clock c (nth_item s.flows (number q)).clock) (ap (is_of k) (kind_there q k h) ∙ kind_itself k)
+        (and_from (is_of k (slice_get s.kinds (number q))) (same_clock c (nth_item s.flows (number q)).clock) (ap (is_of k) (kind_there q k h) ∙ kind_itself k)
         (same_told c (nth_item s.flows (number q)).clock clock))
 
     -- The memories by place and type.
@@ -195,7 +188,7 @@ module _ (program : ProgramTree) (main : Identifier) (well : AreWell program) (n
         → fits s before c kind.Bool (unplaced (Ticked (tick_number numbers k))) ≡ true
     tick_fits before c Nothing there = less_told 0 (length s.ticks) (omega (arith, tick_many))
     tick_fits before c (Some q) there =
-        let at = index_at numbers.ticks q (is_found numbers.ticks q (there q refl)) in
+        let at = index_there numbers.ticks q (among_from numbers.ticks q (there q refl)) in
         less_told (index_of numbers.ticks q + 1) (length s.ticks) (omega (arith, at.0, tick_many))
 
     constant_is_of : (before : ℕ) (c : Option ℕ) (k : Kind) (at : Sites) (v : Value) → HasKind program k v → form_fits s before c k at (Constant v) ≡ true
@@ -212,8 +205,8 @@ module _ (program : ProgramTree) (main : Identifier) (well : AreWell program) (n
 
       operands_fit : (o : Op) (j : Kind) (f g : FlatTree) → is_placed_for at o j ≡ true → fits s before c j f ≡ true → fits s before c j g ≡ true
           → OperandsFit o f g j ≡ true
-      operands_fit o j f g placed p q = both (is_placed_for at o j) (fits s before c j f && fits s before c j g) placed
-          (both (fits s before c j f) (fits s before c j g) p q)
+      operands_fit o j f g placed p q = and_from (is_placed_for at o j) (fits s before c j f && fits s before c j g) placed
+          (and_from (fits s before c j f) (fits s before c j g) p q)
 
       one_kind : (o : Op) (j : Kind) (f g : FlatTree) → is_placed_for at o j ≡ true → fits s before c j f ≡ true → fits s before c j g ≡ true
           → any_of (OperandsFit o f g) (j ∷ []) ≡ true
@@ -225,31 +218,31 @@ module _ (program : ProgramTree) (main : Identifier) (well : AreWell program) (n
           → (same_kind k kind.Bool && any_of (OperandsFit o f g) (kind.Bool ∷ [])) ≡ true
       flags_fit o l r k f g e placed p q =
           let m = met_kind (both_are kind.Bool l r) kind.Bool k e in
-          let t = both_hold (same_kind l kind.Bool) (same_kind r kind.Bool) m.0 in
-          both (same_kind k kind.Bool) (any_of (OperandsFit o f g) (kind.Bool ∷ [])) (ap (λ (j : Kind). same_kind j kind.Bool) (sym m.1))
-          (one_kind o kind.Bool f g (subst (λ (j : Kind). is_placed_for at o j ≡ true) (same_kinds l kind.Bool t.0) placed)
-          (subst (λ (j : Kind). fits s before c j f ≡ true) (same_kinds l kind.Bool t.0) p)
-          (subst (λ (j : Kind). fits s before c j g ≡ true) (same_kinds r kind.Bool t.1) q))
+          let t = both_of (same_kind l kind.Bool) (same_kind r kind.Bool) m.0 in
+          and_from (same_kind k kind.Bool) (any_of (OperandsFit o f g) (kind.Bool ∷ [])) (ap (λ (j : Kind). same_kind j kind.Bool) (sym m.1))
+          (one_kind o kind.Bool f g (subst (λ (j : Kind). is_placed_for at o j ≡ true) (kind_same l kind.Bool t.0) placed)
+          (subst (λ (j : Kind). fits s before c j f ≡ true) (kind_same l kind.Bool t.0) p)
+          (subst (λ (j : Kind). fits s before c j g ≡ true) (kind_same r kind.Bool t.1) q))
 
       wholes_fit : (o : Op) (l r made k : Kind) (f g : FlatTree) → kind_in (where_met (both_are kind.Int l r) made) ≡ Some k → is_placed_for at o l ≡ true
           → fits s before c l f ≡ true → fits s before c r g ≡ true
           → (same_kind k made && any_of (OperandsFit o f g) (kind.Int ∷ [])) ≡ true
       wholes_fit o l r made k f g e placed p q =
           let m = met_kind (both_are kind.Int l r) made k e in
-          let t = both_hold (same_kind l kind.Int) (same_kind r kind.Int) m.0 in
-          both (same_kind k made) (any_of (OperandsFit o f g) (kind.Int ∷ [])) (ap (λ (j : Kind). same_kind j made) (sym m.1) ∙ kind_itself made)
-          (one_kind o kind.Int f g (subst (λ (j : Kind). is_placed_for at o j ≡ true) (same_kinds l kind.Int t.0) placed)
-          (subst (λ (j : Kind). fits s before c j f ≡ true) (same_kinds l kind.Int t.0) p)
-          (subst (λ (j : Kind). fits s before c j g ≡ true) (same_kinds r kind.Int t.1) q))
+          let t = both_of (same_kind l kind.Int) (same_kind r kind.Int) m.0 in
+          and_from (same_kind k made) (any_of (OperandsFit o f g) (kind.Int ∷ [])) (ap (λ (j : Kind). same_kind j made) (sym m.1) ∙ kind_itself made)
+          (one_kind o kind.Int f g (subst (λ (j : Kind). is_placed_for at o j ≡ true) (kind_same l kind.Int t.0) placed)
+          (subst (λ (j : Kind). fits s before c j f ≡ true) (kind_same l kind.Int t.0) p)
+          (subst (λ (j : Kind). fits s before c j g ≡ true) (kind_same r kind.Int t.1) q))
 
       equals_fit : (o : Op) (l r k : Kind) (f g : FlatTree) → IsBelow (length program.types) l → kind_in (where_met (same_kind l r) kind.Bool) ≡ Some k
           → is_placed_for at o l ≡ true → fits s before c l f ≡ true → fits s before c r g ≡ true
           → (same_kind k kind.Bool && any_of (OperandsFit o f g) (all_kinds s.labels)) ≡ true
       equals_fit o l r k f g h e placed p q =
           let m = met_kind (same_kind l r) kind.Bool k e in
-          both (same_kind k kind.Bool) (any_of (OperandsFit o f g) (all_kinds s.labels)) (ap (λ (j : Kind). same_kind j kind.Bool) (sym m.1))
+          and_from (same_kind k kind.Bool) (any_of (OperandsFit o f g) (all_kinds s.labels)) (ap (λ (j : Kind). same_kind j kind.Bool) (sym m.1))
           (among_kinds s.labels (OperandsFit o f g) l (subst (λ (n : ℕ). IsBelow n l) (sym types_declared) h)
-          (operands_fit o l f g placed p (subst (λ (j : Kind). fits s before c j g ≡ true) (sym (same_kinds l r m.0)) q)))
+          (operands_fit o l f g placed p (subst (λ (j : Kind). fits s before c j g ≡ true) (sym (kind_same l r m.0)) q)))
 
       -- a product, whose operands are integers
       product_kinds : (b scaled : Bool) (k : Kind) → kind_in (cond b (cond scaled (Has kind.Int) Multiplies) Clashes) ≡ Some k → (b ≡ true) × (kind.Int ≡ k)
@@ -262,14 +255,14 @@ module _ (program : ProgramTree) (main : Identifier) (well : AreWell program) (n
           → form_fits s before c k at (cond left (Scale y g) (Scale z f)) ≡ true
       product_fits scaled left l r k y z f g e p q =
           let m = product_kinds (both_are kind.Int l r) scaled k e in
-          let t = both_hold (same_kind l kind.Int) (same_kind r kind.Int) m.0 in
-          by left (ap (λ (j : Kind). same_kind j kind.Int) (sym m.1)) (subst (λ (j : Kind). fits s before c j f ≡ true) (same_kinds l kind.Int t.0) p)
-          (subst (λ (j : Kind). fits s before c j g ≡ true) (same_kinds r kind.Int t.1) q)
+          let t = both_of (same_kind l kind.Int) (same_kind r kind.Int) m.0 in
+          by left (ap (λ (j : Kind). same_kind j kind.Int) (sym m.1)) (subst (λ (j : Kind). fits s before c j f ≡ true) (kind_same l kind.Int t.0) p)
+          (subst (λ (j : Kind). fits s before c j g ≡ true) (kind_same r kind.Int t.1) q)
         where
           by : (left : Bool) → same_kind k kind.Int ≡ true → fits s before c kind.Int f ≡ true → fits s before c kind.Int g ≡ true
               → form_fits s before c k at (cond left (Scale y g) (Scale z f)) ≡ true
-          by true t p q = both (same_kind k kind.Int) (fits s before c kind.Int g) t q
-          by false t p q = both (same_kind k kind.Int) (fits s before c kind.Int f) t p
+          by true t p q = and_from (same_kind k kind.Int) (fits s before c kind.Int g) t q
+          by false t p q = and_from (same_kind k kind.Int) (fits s before c kind.Int f) t p
 
       operator_fits : (scaled left : Bool) (o : Op) (l r k : Kind) (y z : ℤ) (tick f g : FlatTree) → IsBelow (length program.types) l
           → kind_in (binary_rule true scaled o l r) ≡ Some k → is_placed_for at o l ≡ true
@@ -277,8 +270,8 @@ module _ (program : ProgramTree) (main : Identifier) (well : AreWell program) (n
           → form_fits s before c k at (operation o (If tick g f) (cond left (Scale y g) (Scale z f)) (Binary o f g)) ≡ true
       operator_fits scaled left op.Arrow l r k y z tick f g h e placed t p q =
           let m = met_kind (same_kind l r) l k e in
-          both (fits s before c kind.Bool tick) (fits s before c k g && fits s before c k f) (t refl)
-          (both (fits s before c k g) (fits s before c k f) (subst (λ (j : Kind). fits s before c j g ≡ true) (sym (same_kinds l r m.0) ∙ m.1) q)
+          and_from (fits s before c kind.Bool tick) (fits s before c k g && fits s before c k f) (t refl)
+          (and_from (fits s before c k g) (fits s before c k f) (subst (λ (j : Kind). fits s before c j g ≡ true) (sym (kind_same l r m.0) ∙ m.1) q)
           (subst (λ (j : Kind). fits s before c j f ≡ true) m.1 p))
       operator_fits scaled left op.Times l r k y z tick f g h e placed t p q = product_fits scaled left l r k y z f g e p q
       operator_fits scaled left op.Implies l r k y z tick f g h e placed t p q = flags_fit op.Implies l r k f g e placed p q
@@ -316,7 +309,7 @@ module _ (program : ProgramTree) (main : Identifier) (well : AreWell program) (n
           → clock_fits s before (clock_number numbers k) ≡ true
       clock_fits_at before Nothing flow early = refl
       clock_fits_at before (Some q) flow early =
-          both (nat_lt (number q) before) (is_of kind.Bool (slice_get s.kinds (number q))) (less_told (number q) before (early q refl))
+          and_from (nat_lt (number q) before) (is_of kind.Bool (slice_get s.kinds (number q))) (less_told (number q) before (early q refl))
           (ap (is_of kind.Bool) (kind_there q kind.Bool (flow q refl)) ∙ kind_itself kind.Bool)
 
       -- the clock of an expression that has a type
@@ -336,14 +329,14 @@ module _ (program : ProgramTree) (main : Identifier) (well : AreWell program) (n
             instance = i;
             name = x;
             of = of;
-            within = found (flows_of i.node) x is;
+            within = among_contains (flows_of i.node) x is;
             at = refl;
             kind = ap (λ (b : Bool). cond b (flow_kind program i.node x) (constant_kind program x)) (sym is) ∙ named_typed program i.node at site x k t;
           } in
           let needed = Contains-append_right (flow_of (absolute i c)) (form_needs program i c site (tree.Named x)) q
           (subst (λ (b : Bool). Contains (cond b (q ∷ []) []) q) (sym is) (at_head q [])) in
           flow_fits before (clock c) q k [] f (early q needed (flow_there f))
-          (item_clock program main well named numbers s read i (site_of i.node x) of (index_at (flows_of i.node) x is).0 ∙ ap clock h)
+          (item_clock program main well named numbers s read i (site_of i.node x) of (index_there (flows_of i.node) x is).0 ∙ ap clock h)
       name_fits before c at site x k false is t h early =
           constant_is_of before (clock c) k [] (constant_value program x)
           (well.values x k (ap (λ (b : Bool). cond b (flow_kind program i.node x) (constant_kind program x)) (sym is)
@@ -386,12 +379,12 @@ module _ (program : ProgramTree) (main : Identifier) (well : AreWell program) (n
         form_fits_too before c at site (tree.Named x) k t is h early = name_fits before c at site x k (is_flow i.node x) refl is h early
         form_fits_too before c at site (tree.Not e) k t is h early =
             let r = not_typed program i.node at site e k is in
-            both (same_kind k kind.Bool) _ (ap (λ (j : Kind). same_kind j kind.Bool) (sym r.1))
+            and_from (same_kind k kind.Bool) _ (ap (λ (j : Kind). same_kind j kind.Bool) (sym r.1))
             (expression_fits before c e kind.Bool (as_child at site (tree.Not e) e t of_not) r.0 (suits_seen c (pace i.node e) h)
             (λ q w. early q (Contains-append_right (flow_of (absolute i c)) (needs program i c e) q w)))
         form_fits_too before c at site (tree.Minus e) k t is h early =
             let r = minus_typed program i.node at site e k is in
-            both (same_kind k kind.Int) _ (ap (λ (j : Kind). same_kind j kind.Int) (sym r.1))
+            and_from (same_kind k kind.Int) _ (ap (λ (j : Kind). same_kind j kind.Int) (sym r.1))
             (expression_fits before c e kind.Int (as_child at site (tree.Minus e) e t of_minus) r.0 (suits_seen c (pace i.node e) h)
             (λ q w. early q (Contains-append_right (flow_of (absolute i c)) (needs program i c e) q w)))
         form_fits_too before c at site (tree.Pre e) k t is h early = memory_fits site e k (own_delay i.node at site e t)
@@ -402,9 +395,9 @@ module _ (program : ProgramTree) (main : Identifier) (well : AreWell program) (n
             let on = taken_clock i Base e in
             let inside = λ (q : Sites) (w : Contains (needs program i on e) q). Contains-append_right (flow_of (absolute i c)) (needs program i on e) q w in
             let flow = own_clock e k r in
-            both (is_of k (slice_get (memory_kinds s) (index_of numbers.memories (delay_place i (record { site = site; operand = e }))))) _
+            and_from (is_of k (slice_get (memory_kinds s) (index_of numbers.memories (delay_place i (record { site = site; operand = e }))))) _
             (memory_fits site e k own r)
-            (both (clock_fits s before (clock_number numbers (clock_in i Base e))) _
+            (and_from (clock_fits s before (clock_number numbers (clock_in i Base e))) _
             (clock_fits_at before (clock_in i Base e) flow (λ q at. early q (inside q (clock_needed on e q at)) (flow_there (flow q at))))
             (expression_fits before on e k (as_child at site (tree.Current e) e t of_current) r
             ((formed program main well named i of).delay_clock (record { site = site; operand = e }) own) (λ q w. early q (inside q w))))
@@ -418,8 +411,8 @@ module _ (program : ProgramTree) (main : Identifier) (well : AreWell program) (n
             let many = kinds_many program i.node in omega (arith, less, many)) in
             let needed : Contains (needs program i c (tree.Node at site (tree.When e x))) q = clock_needed c (tree.Node at site (tree.When e x)) q
             (ap (absolute i) (sym suits.0)) in
-            both (same_clock (clock c) (Some (number q))) _ (same_told (clock c) (Some (number q)) (ap clock suits.0))
-            (both (clock_fits s before (Some (number q))) _
+            and_from (same_clock (clock c) (Some (number q))) _ (same_told (clock c) (Some (number q)) (ap clock suits.0))
+            (and_from (clock_fits s before (Some (number q))) _
             (clock_fits_at before (Some q) (λ p e. subst (λ (p : Sites). HasFlow program main p kind.Bool) (same_Some q p e) there)
             (λ p e. subst (λ (p : Sites). number p < before) (same_Some q p e) (early q needed (flow_there there))))
             (subst (λ (n : Option ℕ). fits s before n k (flat_of program numbers i e) ≡ true)
@@ -446,15 +439,15 @@ module _ (program : ProgramTree) (main : Identifier) (well : AreWell program) (n
             (λ q w. early q (inside q (Contains-append_right (needs program i c a) (needs program i c b) q w))))
         form_fits_too before c at site (tree.If a b d) k t is h early =
             let r = if_typed program i.node at site a b d k is in
-            let first = suits_meet c (seen (pace i.node a)) (meet (seen (pace i.node b)) (seen (pace i.node d))) h in
-            let rest = suits_meet c (seen (pace i.node b)) (seen (pace i.node d)) first.1 in
+            let first = suits_both c (seen (pace i.node a)) (meet (seen (pace i.node b)) (seen (pace i.node d))) h in
+            let rest = suits_both c (seen (pace i.node b)) (seen (pace i.node d)) first.1 in
             let last = needs program i c b ++ needs program i c d in
             let inside = λ (q : Sites) (w : Contains (needs program i c a ++ last) q). Contains-append_right (flow_of (absolute i c))
             (needs program i c a ++ last) q w in
-            both (fits s before (clock c) kind.Bool (flat_of program numbers i a)) _
+            and_from (fits s before (clock c) kind.Bool (flat_of program numbers i a)) _
             (expression_fits before c a kind.Bool (as_child at site (tree.If a b d) a t of_condition) r.0 (suits_seen c (pace i.node a) first.0)
             (λ q w. early q (inside q (Contains-append_left (needs program i c a) last q w))))
-            (both (fits s before (clock c) k (flat_of program numbers i b)) _
+            (and_from (fits s before (clock c) k (flat_of program numbers i b)) _
             (expression_fits before c b k (as_child at site (tree.If a b d) b t of_first) r.1 (suits_seen c (pace i.node b) rest.0)
             (λ q w. early q (inside q (Contains-append_right (needs program i c a) last q
             (Contains-append_left (needs program i c b) (needs program i c d) q w)))))
@@ -463,7 +456,7 @@ module _ (program : ProgramTree) (main : Identifier) (well : AreWell program) (n
             (Contains-append_right (needs program i c b) (needs program i c d) q w))))))
         form_fits_too before c at site (tree.AtMostOne es) k t is h early =
             let r = most_typed program i.node at site es k is in
-            both (same_kind k kind.Bool) _ (ap (λ (j : Kind). same_kind j kind.Bool) (sym r.1))
+            and_from (same_kind k kind.Bool) _ (ap (λ (j : Kind). same_kind j kind.Bool) (sym r.1))
             (all_fit_too before c es (λ j e arg. as_child at site (tree.AtMostOne es) e t (of_operand j arg)) r.0 h
             (λ q w. early q (Contains-append_right (flow_of (absolute i c)) (needs_all program i c es) q w)))
         form_fits_too before c at site (tree.Call f args) k t is h early =
@@ -474,7 +467,7 @@ module _ (program : ProgramTree) (main : Identifier) (well : AreWell program) (n
             let q : Sites = output_place program i (unwrap_or site 0) f 0 in
             let there : HasFlow program main q k = output_flow program main well named i own 0 k of called gives in
             flow_fits before (clock c) q k [] there (early q (Contains-append_right (flow_of (absolute i c)) (q ∷ []) q (at_head q [])) (flow_there there))
-            (output_clock program main well named numbers s read i own 0 k of called gives ∙ ap clock (grounded_taken c (pace_of_all i.node args) h))
+            (output_clock program main well named numbers s read i own 0 k of called gives ∙ ap clock (ground_taken c (pace_of_all i.node args) h))
 
         all_fit_too : (before : ℕ) (c : Clock) (es : Trees) → ((j : ℕ) (e : Tree) → IsArgument es j e → Stands i.node e)
             → ((j : ℕ) (e : Tree) → IsArgument es j e → IsTyped program i.node e kind.Bool)
@@ -482,8 +475,8 @@ module _ (program : ProgramTree) (main : Identifier) (well : AreWell program) (n
             → all_fit s before (clock_number numbers (absolute i c)) (flats_of program numbers i es) ≡ true
         all_fit_too before c tree.None t is h early = refl
         all_fit_too before c (tree.More e es) t is h early =
-            let suits = suits_meet c (seen (pace i.node e)) (pace_of_all i.node es) h in
-            both (fits s before (clock c) kind.Bool (flat_of program numbers i e)) _
+            let suits = suits_both c (seen (pace i.node e)) (pace_of_all i.node es) h in
+            and_from (fits s before (clock c) kind.Bool (flat_of program numbers i e)) _
             (expression_fits before c e kind.Bool (t 0 e head) (is 0 e head) (suits_seen c (pace i.node e) suits.0)
             (λ q w. early q (Contains-append_left (needs program i c e) (needs_all program i c es) q w)))
             (all_fit_too before c es (λ j a arg. t (suc j) a (tail arg)) (λ j a arg. is (suc j) a (tail arg)) suits.1
@@ -508,7 +501,7 @@ module _ (program : ProgramTree) (main : Identifier) (well : AreWell program) (n
           kind = k;
           flow = h;
           clock = clock_fits_at i of before (clock_in i c e) flow (λ q at. early q (clock_needed i of (taken_clock i c e) e q at) (flow_there (flow q at)));
-          body = expression_fits i of before (taken_clock i c e) e k t is (suits_own c (pace i.node e) suits) early;
+          body = expression_fits i of before (taken_clock i c e) e k t is (taken_suits c (pace i.node e) suits) early;
         }
 
     pub giver_fits : (before : ℕ) (p : Sites) (g : Giver) → Gives program main p g
@@ -588,7 +581,7 @@ module _ (program : ProgramTree) (main : Identifier) (well : AreWell program) (n
         let h = giver_fits k p r.0 r.1 (among_first k (needs_of program r.0) less (read.sequence.after k r.0 less r.1)) in
         let kind_is : kind_at s.kinds k ≡ h.kind =
         get_or_from_slice_get s.kinds k h.kind kind.Bool (ap (slice_get s.kinds) (sym (place_number k less)) ∙ kind_there p h.kind h.flow) in
-        both (clock_fits s k x.clock) (fits s k x.clock (kind_at s.kinds k) x.body)
+        and_from (clock_fits s k x.clock) (fits s k x.clock (kind_at s.kinds k) x.body)
         (ap (λ (item : Item). clock_fits s k item.clock) is ∙ h.clock)
         ((λ j. fits s k (is j).clock (kind_is j) (is j).body) ∙ h.body)
 
@@ -597,7 +590,7 @@ module _ (program : ProgramTree) (main : Identifier) (well : AreWell program) (n
     flows_fit_from before [] from = refl
     flows_fit_from before (x ∷ xs) from =
         let here : before + 0 ≡ before = omega arith in
-        both (item_fits s before (kind_at s.kinds before) x) (flows_fit s (before + 1) xs)
+        and_from (item_fits s before (kind_at s.kinds before) x) (flows_fit s (before + 1) xs)
         (flow_item_fits before x (ap (slice_get s.flows) (sym here) ∙ from 0 x refl))
         (flows_fit_from (before + 1) xs (λ j g e. let next : (before + 1) + j ≡ before + suc j = omega arith in ap (slice_get s.flows) next ∙ from (suc j) g e))
 
@@ -626,7 +619,7 @@ module _ (program : ProgramTree) (main : Identifier) (well : AreWell program) (n
         let t = some_is ((typed program main well named i r.2).delay d r.4) in
         let kind_is : x.kind ≡ t.0 = ap (λ (k : MemoryAt). k.kind) r.5 ∙ ap (λ (o : Option Kind). unwrap_or o kind.Bool) t.1 in
         let flow = own_clock i r.2 d.operand t.0 t.1 in
-        both (clock_fits s (length s.flows) x.item.clock) (fits s (length s.flows) x.item.clock x.kind x.item.body)
+        and_from (clock_fits s (length s.flows) x.item.clock) (fits s (length s.flows) x.item.clock x.kind x.item.body)
         (ap (λ (item : Item). clock_fits s (length s.flows) item.clock) is
         ∙ clock_fits_at i r.2 (length s.flows) (clock_in i Base d.operand) flow (λ q e. within q (flow_there (flow q e))))
         ((λ j. fits s (length s.flows) (is j).clock (kind_is j) (is j).body)
@@ -638,7 +631,7 @@ module _ (program : ProgramTree) (main : Identifier) (well : AreWell program) (n
     memories_fit_from done [] from = refl
     memories_fit_from done (x ∷ xs) from =
         let here : done + 0 ≡ done = omega arith in
-        both (item_fits s (length s.flows) x.kind x.item) (memories_fit s xs)
+        and_from (item_fits s (length s.flows) x.kind x.item) (memories_fit s xs)
         (memory_item_fits done x (ap (slice_get s.memories) (sym here) ∙ from 0 x refl))
         (memories_fit_from (done + 1) xs (λ j g e. let next : (done + 1) + j ≡ done + suc j = omega arith in ap (slice_get s.memories) next ∙ from (suc j) g e))
 
@@ -654,7 +647,7 @@ module _ (program : ProgramTree) (main : Identifier) (well : AreWell program) (n
         let t : IsTyped program i.node r.1.body kind.Bool = (typed program main well named i r.2).assertion r.1 r.3 in
         let is : x ≡ assertion_item program numbers i r.1 = sym (get_or_from_slice_get s.assertions k x no_item at) ∙ r.4 in
         let flow = own_clock i r.2 r.1.body kind.Bool t in
-        both (clock_fits s (length s.flows) x.clock) (fits s (length s.flows) x.clock kind.Bool x.body)
+        and_from (clock_fits s (length s.flows) x.clock) (fits s (length s.flows) x.clock kind.Bool x.body)
         (ap (λ (item : Item). clock_fits s (length s.flows) item.clock) is
         ∙ clock_fits_at i r.2 (length s.flows) (clock_in i Base r.1.body) flow (λ q e. within q (flow_there (flow q e))))
         ((λ j. fits s (length s.flows) (is j).clock kind.Bool (is j).body)
@@ -666,7 +659,7 @@ module _ (program : ProgramTree) (main : Identifier) (well : AreWell program) (n
     assertions_fit_from done [] from = refl
     assertions_fit_from done (x ∷ xs) from =
         let here : done + 0 ≡ done = omega arith in
-        both (item_fits s (length s.flows) kind.Bool x) (assertions_fit s xs)
+        and_from (item_fits s (length s.flows) kind.Bool x) (assertions_fit s xs)
         (assertion_fits done x (ap (slice_get s.assertions) (sym here) ∙ from 0 x refl))
         (assertions_fit_from (done + 1) xs (λ j g e. let next : (done + 1) + j ≡ done + suc j = omega arith in ap (slice_get s.assertions) next
         ∙ from (suc j) g e))
@@ -688,8 +681,8 @@ module _ (program : ProgramTree) (main : Identifier) (well : AreWell program) (n
     ticks_fit [] into = refl
     ticks_fit (q ∷ qs) into =
         let h = tick_flow q (into q (at_head q qs)) in
-        both (nat_lt (number q) (length s.flows) && is_of kind.Bool (slice_get s.kinds (number q))) (clocks_fit s (map (λ q. Some (number q)) qs))
-        (both (nat_lt (number q) (length s.flows)) (is_of kind.Bool (slice_get s.kinds (number q)))
+        and_from (nat_lt (number q) (length s.flows) && is_of kind.Bool (slice_get s.kinds (number q))) (clocks_fit s (map (λ q. Some (number q)) qs))
+        (and_from (nat_lt (number q) (length s.flows)) (is_of kind.Bool (slice_get s.kinds (number q)))
         (less_told (number q) (length s.flows) (within q (flow_there h))) (ap (is_of kind.Bool) (kind_there q kind.Bool h) ∙ kind_itself kind.Bool))
         (ticks_fit qs (λ p w. into p (in_tail q qs p w)))
 

@@ -50,11 +50,11 @@ use Rattle.rv_flatten.proofs.Standing.{Stands, body_stands, as_assertion, argume
 use Rattle.rv_flat.proofs.PlaceNumbers.{made_at, row_agrees, instant_agrees, instant_places}
 use Rattle.rv_flatten.proofs.Translated.{AreAlike, is_translated, memory_is, whole_shown, mapped_at, memory_there}
 use Rattle.rv_flatten.proofs.WellInstances.{typed, is_light}
-use Rattle.rv_agreement.proofs.Controls.{no_flag}
 use Rattle.rv_agreement.proofs.Meanings.{held_same, on_same}
-use Rattle.rv_flat.proofs.SystemRuns.{found_in as some_at}
-use Rattle.rv_flat.proofs.Typing.{value_kth as first_at}
-use Rattle.rv_types.proofs.Members.{among_from as is_found, index_there as index_at}
+use Rattle.rv_flat.proofs.Typing.{value_kth}
+use Rattle.rv_types.proofs.Members.{among_from, index_there}
+use Rattle.rv_base.proofs.Lists.{item_at}
+use Rattle.rv_types.proofs.ChainLaws.{no_flag}
 
 -- what a giver makes of an instant
 abbrev pub expected_now : ProgramTree → Brought → (ℕ → Value) → Instant → Giver → Option Value
@@ -102,7 +102,7 @@ module _ (laws : Laws) (program : ProgramTree) (main : Identifier) (well : AreWe
       remembers : (i : Instance) (d : Delay) → IsInstance program main i → Contains (node_delays i.node) d
           → get_or here.kept (index_of (memory_places f) (delay_place i d)) (Flag false) ≡ state.kept (delay_place i d)
       remembers i d of w = made_at state.kept (memory_places f) (delay_place i d) (Flag false)
-          (is_found (memory_places f) (delay_place i d) (memory_there program main f.memories read.list i d of w))
+          (among_from (memory_places f) (delay_place i d) (memory_there program main f.memories read.list i d of w))
 
       -- a tick by its number
       tick_is : (k : Option Sites) → ((q : Sites) → k ≡ Some q → Contains (tick_places f.variables) q)
@@ -112,7 +112,7 @@ module _ (laws : Laws) (program : ProgramTree) (main : Identifier) (well : AreWe
           let next : index_of (tick_places f.variables) q + 1 ≡ suc (index_of (tick_places f.variables) q) = omega arith in
           ap (λ n. get_or here.ticked n false) next
           ∙ ap (λ l. get_or l (index_of (tick_places f.variables) q) false) (map-map state.ticked (λ p. Some p) (tick_places f.variables))
-          ∙ made_at (λ p. state.ticked (Some p)) (tick_places f.variables) q false (is_found (tick_places f.variables) q (there q refl))
+          ∙ made_at (λ p. state.ticked (Some p)) (tick_places f.variables) q false (among_from (tick_places f.variables) q (there q refl))
 
       ticks : (i : Instance) (e : Tree) → IsInstance program main i → Contains (node_parts i.node) e → is_arrow e ≡ true
           → get_or here.ticked (tick_number numbers (clock_in i Base e)) false ≡ state.ticked (clock_in i Base e)
@@ -152,7 +152,7 @@ module _ (laws : Laws) (program : ProgramTree) (main : Identifier) (well : AreWe
 
         -- what gives a flow
         giver_read : (p : Sites) (g : Giver) → Gives program main p g → masked (giver_item program numbers g) ≡ expected_now program state inputs instant g
-        giver_read p _ (given j lt at) = ap Some (first_at inputs (length f.inputs) j (omega (arith, lt, read.as_many)))
+        giver_read p _ (given j lt at) = ap Some (value_kth inputs (length f.inputs) j (omega (arith, lt, read.as_many)))
         giver_read p _ (by_equation i x (Body e) of right at) =
             let t = (typed program main well named i of).body x e right in
             body_read i (clock_of i.node x) e t.0 of (body_stands i.node x e right) t.1
@@ -178,7 +178,7 @@ module _ (laws : Laws) (program : ProgramTree) (main : Identifier) (well : AreWe
           where
             by : (o : Option (Option Value)) → finite.get instant p ≡ o → flat o ≡ Nothing
             by Nothing e' = refl
-            by (Some v) e' = no_flag (sym e ∙ is_found (places f) p (read.sequence.flows p ((is.places p).0 (subst IsSome (sym e') refl))))
+            by (Some v) e' = no_flag (sym e ∙ among_from (places f) p (read.sequence.flows p ((is.places p).0 (subst IsSome (sym e') refl))))
 
         agrees_here : (p : Sites) → nth (row_of (places f) instant) (index_of (places f) p) ≡ cell instant p
         agrees_here = row_agrees (places f) instant no_flow
@@ -277,7 +277,7 @@ module _ (laws : Laws) (program : ProgramTree) (main : Identifier) (well : AreWe
         -- the whole expression of the assertion with a number
         tree_is : (k : ℕ) → k < length f.assertions → get_or (assertion_trees f) k no_assertion ≡ shown (get_or (map raw_tree f.assertions) k no_assumption)
         tree_is k lt =
-            let x = some_at f.assertions k lt in
+            let x = item_at f.assertions k lt in
             mapped_at (tree_among f.memories) f.assertions k x.0 no_assertion x.1 ∙ ap shown (sym (mapped_at raw_tree f.assertions k x.0 no_assumption x.1))
 
         pub assertions_read : (q : Sites) → IsBroken program main state instant q ↔ IsFlatBroken f here (flat_inputs f inputs) (row_of (places f) instant) q
@@ -319,11 +319,11 @@ module _ (laws : Laws) (program : ProgramTree) (main : Identifier) (well : AreWe
         agrees_there = instant_agrees (places f) row as_many
 
         is_flow_there : (p : Sites) → IsFlow program main p → is_among (places f) p ≡ true
-        is_flow_there p w = is_found (places f) p (read.sequence.flows p w)
+        is_flow_there p w = among_from (places f) p (read.sequence.flows p w)
 
         given_there : (p : Sites) (g : Giver) → Gives program main p g → cell instant p ≡ expected_now program state inputs instant g
         given_there p g gives =
-            let at = index_at (places f) p (is_flow_there p (defined.flow p g gives)) in
+            let at = index_there (places f) p (is_flow_there p (defined.flow p g gives)) in
             let k : ℕ = index_of (places f) p in
             let lt : k < length f.flows = omega (arith, at.0, flow_count) in
             let r = flow_read row instant agrees_there k lt in
@@ -332,7 +332,7 @@ module _ (laws : Laws) (program : ProgramTree) (main : Identifier) (well : AreWe
 
         -- a flow that is told is there
         told_flow : (p : Sites) → is_among (places f) p ≡ true → IsFlow program main p
-        told_flow p e = let at = index_at (places f) p e in subst (IsFlow program main) at.1 (read.sequence.only (index_of (places f) p) at.0)
+        told_flow p e = let at = index_there (places f) p e in subst (IsFlow program main) at.1 (read.sequence.only (index_of (places f) p) at.0)
 
         -- the same instant at all times
         abbrev always : Cells

@@ -38,10 +38,10 @@ use Rattle.rv_flatten.proofs.Standing.{stands_in, body_stands, argument_stands, 
 use Rattle.rv_flatten.proofs.WellInstances.{node_in, formed, typed}
 use Rattle.rv_flatten.proofs.ClockKinds.{IsTrueClock, clock_taken, clock_is_true, paces_are_true}
 use Rattle.rv_flatten.proofs.ReadTables.{clock_known}
-use Rattle.rv_agreement.proofs.Controls.{no_flag}
 use Rattle.rv_flatten.proofs.MainNames.{is_node}
 use Rattle.rv_meaning.proofs.Acceptable.{suits_taken}
 use Rattle.rv_meaning.proofs.NameLemmas.{same_text}
+use Rattle.rv_types.proofs.ChainLaws.{no_flag}
 
 -- The number of a node that is there.
 known_name : (ns : List NodeTree) (f : Identifier) → IsSome (node_among ns f) → (unwrap_or (node_among ns f) no_node).name.text ≡ f

@@ -54,11 +54,11 @@ use Rattle.rv_flatten.proofs.WellInstances.{formed, typed}
 use Rattle.rv_flatten.proofs.ClockKinds.{IsTrueClock, clock_taken, pace_is_true}
 use Rattle.rv_flatten.proofs.FlowKinds.{kinds_many, signature_is}
 use Rattle.rv_flatten.proofs.ToldTests.{told_is}
-use Rattle.rv_agreement.proofs.Controls.{no_flag}
 use Rattle.rv_flatten.proofs.MainNames.{is_node}
 use Rattle.rv_flatten.proofs.NamedParts.{scaled_product}
 use Rattle.rv_meaning.proofs.Told.{index_past}
-use Rattle.rv_types.proofs.Members.{index_there as index_at}
+use Rattle.rv_types.proofs.Members.{index_there}
+use Rattle.rv_types.proofs.ChainLaws.{no_flag}
 
 -- the expressions of a list, each made flat
 pub each_read : (x : Frame) (es : List Expr) → raw_trees (map (λ e. tree_read x (tree_of e)) es) ≡ trees_read x (trees (map tree_of es))
@@ -216,7 +216,7 @@ module _ (numbers : Numbers) (i : Instance) (x : Frame) (is : IsFrame numbers i 
       where
         by : (b : Bool) → is_flow i.node y ≡ b → cond b (Flow (flow_read x (h.offset + site_of i.node y))) (Constant (constant_value program y)) ≡ cond b
             (flow_at program numbers i (place i y)) (Constant (constant_value program y))
-        by true e = ap Flow (flow_is (h.offset + site_of i.node y) (place i y) (here.flow (site_of i.node y) (index_at (flows_of i.node) y e).0))
+        by true e = ap Flow (flow_is (h.offset + site_of i.node y) (place i y) (here.flow (site_of i.node y) (index_there (flows_of i.node) y e).0))
         by false e = refl
 
     kept_is : (site : Option ℕ) (e : Tree) → Contains (node_delays i.node) (record { site = site; operand = e })

@@ -41,9 +41,9 @@ use Rattle.rv_flatten.proofs.WellInstances.{typed, is_light as stands_light}
 use Rattle.rv_flatten.proofs.ConstantOperands.{weighs}
 use Rattle.rv_flatten.proofs.ConstantSizes.{value_size}
 use Rattle.rv_flatten.proofs.FlowKinds.{HasFlow, is_flow as flow_there, signature_is, output_flow}
-use Rattle.rv_flatten.proofs.Assembled.{both_told as both}
 use Rattle.rv_flatten.proofs.NamedParts.{other_constant, scaled_product}
-use Rattle.rv_types.proofs.Members.{among_contains as found, at_head, in_tail}
+use Rattle.rv_types.proofs.Members.{among_contains, at_head, in_tail}
+use Rattle.std.proofs.lemmas.Bool.{and_from}
 
 within_told : (m n : ℕ) → m ≤ n → nat_le m n ≡ true
 within_told m n le = grind (arith, nat_tests, le)
@@ -87,7 +87,7 @@ module _ (program : ProgramTree) (main : Identifier) (well : AreWell program) (n
           (nat_abs (whole_in (constant_value program x)))
       name_weighs c at site x true is early =
           let q : Sites = place i x in
-          let flow : IsFlow program main q = (i, x, of, found (flows_of i.node) x is, refl) in
+          let flow : IsFlow program main q = (i, x, of, among_contains (flows_of i.node) x is, refl) in
           weighed q flow (early q (Contains-append_right (flow_of (absolute i c)) (form_needs program i c site (tree.Named x)) q
           (subst (λ b. Contains (cond b (q ∷ []) []) q) (sym is) (at_head q []))) flow)
       name_weighs c at site x false is early = constant_weighs (constant_value program x)
@@ -311,29 +311,29 @@ module _ (program : ProgramTree) (main : Identifier) (well : AreWell program) (n
       product_light : (left : Bool) (a b : Tree) (f g : FlatTree) → (left ≡ true → nat_le (nat_abs (coefficient program a)) heaviest ≡ true)
           → (left ≡ false → nat_le (nat_abs (coefficient program b)) heaviest ≡ true)
           → IsLightHere f → IsLightHere g → form_is_light all_weights (cond left (Scale (coefficient program a) g) (Scale (coefficient program b) f)) ≡ true
-      product_light true a b f g l r p q = both (nat_le (nat_abs (coefficient program a)) heaviest) (is_light all_weights g) (l refl) q
-      product_light false a b f g l r p q = both (nat_le (nat_abs (coefficient program b)) heaviest) (is_light all_weights f) (r refl) p
+      product_light true a b f g l r p q = and_from (nat_le (nat_abs (coefficient program a)) heaviest) (is_light all_weights g) (l refl) q
+      product_light false a b f g l r p q = and_from (nat_le (nat_abs (coefficient program b)) heaviest) (is_light all_weights f) (r refl) p
 
       operator_light : (o : Op) (t : ℕ) (times : TreeForm) (f g : FlatTree) → (o ≡ op.Times → form_is_light all_weights times ≡ true) → IsLightHere f
           → IsLightHere g
           → form_is_light all_weights (operation o (If (unplaced (Ticked t)) g f) times (Binary o f g)) ≡ true
-      operator_light op.Arrow t times f g h p q = both (is_light all_weights g) (is_light all_weights f) q p
+      operator_light op.Arrow t times f g h p q = and_from (is_light all_weights g) (is_light all_weights f) q p
       operator_light op.Times t times f g h p q = h refl
-      operator_light op.Implies t times f g h p q = both (is_light all_weights f) (is_light all_weights g) p q
-      operator_light op.Or t times f g h p q = both (is_light all_weights f) (is_light all_weights g) p q
-      operator_light op.Xor t times f g h p q = both (is_light all_weights f) (is_light all_weights g) p q
-      operator_light op.And t times f g h p q = both (is_light all_weights f) (is_light all_weights g) p q
-      operator_light op.Equal t times f g h p q = both (is_light all_weights f) (is_light all_weights g) p q
-      operator_light op.Differs t times f g h p q = both (is_light all_weights f) (is_light all_weights g) p q
-      operator_light op.Less t times f g h p q = both (is_light all_weights f) (is_light all_weights g) p q
-      operator_light op.AtMost t times f g h p q = both (is_light all_weights f) (is_light all_weights g) p q
-      operator_light op.Greater t times f g h p q = both (is_light all_weights f) (is_light all_weights g) p q
-      operator_light op.AtLeast t times f g h p q = both (is_light all_weights f) (is_light all_weights g) p q
-      operator_light op.Plus t times f g h p q = both (is_light all_weights f) (is_light all_weights g) p q
-      operator_light op.Minus t times f g h p q = both (is_light all_weights f) (is_light all_weights g) p q
-      operator_light op.Slash t times f g h p q = both (is_light all_weights f) (is_light all_weights g) p q
-      operator_light op.Div t times f g h p q = both (is_light all_weights f) (is_light all_weights g) p q
-      operator_light op.Mod t times f g h p q = both (is_light all_weights f) (is_light all_weights g) p q
+      operator_light op.Implies t times f g h p q = and_from (is_light all_weights f) (is_light all_weights g) p q
+      operator_light op.Or t times f g h p q = and_from (is_light all_weights f) (is_light all_weights g) p q
+      operator_light op.Xor t times f g h p q = and_from (is_light all_weights f) (is_light all_weights g) p q
+      operator_light op.And t times f g h p q = and_from (is_light all_weights f) (is_light all_weights g) p q
+      operator_light op.Equal t times f g h p q = and_from (is_light all_weights f) (is_light all_weights g) p q
+      operator_light op.Differs t times f g h p q = and_from (is_light all_weights f) (is_light all_weights g) p q
+      operator_light op.Less t times f g h p q = and_from (is_light all_weights f) (is_light all_weights g) p q
+      operator_light op.AtMost t times f g h p q = and_from (is_light all_weights f) (is_light all_weights g) p q
+      operator_light op.Greater t times f g h p q = and_from (is_light all_weights f) (is_light all_weights g) p q
+      operator_light op.AtLeast t times f g h p q = and_from (is_light all_weights f) (is_light all_weights g) p q
+      operator_light op.Plus t times f g h p q = and_from (is_light all_weights f) (is_light all_weights g) p q
+      operator_light op.Minus t times f g h p q = and_from (is_light all_weights f) (is_light all_weights g) p q
+      operator_light op.Slash t times f g h p q = and_from (is_light all_weights f) (is_light all_weights g) p q
+      operator_light op.Div t times f g h p q = and_from (is_light all_weights f) (is_light all_weights g) p q
+      operator_light op.Mod t times f g h p q = and_from (is_light all_weights f) (is_light all_weights g) p q
 
       name_light : (x : Identifier) (b : Bool) → form_is_light all_weights (cond b (Flow (number (place i x))) (Constant (constant_value program x))) ≡ true
       name_light x true = refl
@@ -349,20 +349,20 @@ module _ (program : ProgramTree) (main : Identifier) (well : AreWell program) (n
             → nat_le (flat_weight all_weights (flat_form program numbers i site form)) heaviest ≡ true → IsLightHere (flat_form program numbers i site form)
         form_light at site tree.True k s t root = refl
         form_light at site tree.False k s t root = refl
-        form_light at site (tree.Number n) k s t root = both (nat_le (nat_abs (pos n)) heaviest) true root refl
-        form_light at site (tree.Named x) k s t root = both _ (form_is_light all_weights
+        form_light at site (tree.Number n) k s t root = and_from (nat_le (nat_abs (pos n)) heaviest) true root refl
+        form_light at site (tree.Named x) k s t root = and_from _ (form_is_light all_weights
             (cond (is_flow i.node x) (Flow (number (place i x))) (Constant (constant_value program x)))) root (name_light x (is_flow i.node x))
         form_light at site (tree.Not e) k s t root = expression_light e kind.Bool (as_child at site (tree.Not e) e s of_not)
             (not_typed program i.node at site e k t).0
         form_light at site (tree.Minus e) k s t root =
-            both _ (is_light all_weights (flat_of program numbers i e)) root
+            and_from _ (is_light all_weights (flat_of program numbers i e)) root
             (expression_light e kind.Int (as_child at site (tree.Minus e) e s of_minus) (minus_typed program i.node at site e k t).0)
         form_light at site (tree.Pre e) k s t root = refl
         form_light at site (tree.Current e) k s t root =
-            both _ (is_light all_weights (flat_of program numbers i e)) root
+            and_from _ (is_light all_weights (flat_of program numbers i e)) root
             (expression_light e k (as_child at site (tree.Current e) e s of_current) (current_typed program i.node at site e k t))
         form_light at site (tree.When e x) k s t root =
-            both _ (is_light all_weights (flat_of program numbers i e)) root
+            and_from _ (is_light all_weights (flat_of program numbers i e)) root
             (expression_light e k (as_child at site (tree.When e x) e s (of_when x)) (when_typed program i.node at site e x k t).0)
         form_light at site (tree.Binary o a b) k s t root =
             let r = binary_typed program i.node at site o a b k t in
@@ -370,7 +370,7 @@ module _ (program : ProgramTree) (main : Identifier) (well : AreWell program) (n
             let right = as_child at site (tree.Binary o a b) b s of_right in
             let p = expression_light a r.left left r.left_is in
             let q = expression_light b r.right right r.right_is in
-            both _ _ root (operator_light o (tick_number numbers (clock_in i Base (tree.Node 0 site (tree.Binary o a b))))
+            and_from _ _ root (operator_light o (tick_number numbers (clock_in i Base (tree.Node 0 site (tree.Binary o a b))))
             (cond (is_constant (node_scope program i.node) a) (Scale (coefficient program a) (flat_of program numbers i b))
             (Scale (coefficient program b) (flat_of program numbers i a)))
             (flat_of program numbers i a) (flat_of program numbers i b)
@@ -383,19 +383,19 @@ module _ (program : ProgramTree) (main : Identifier) (well : AreWell program) (n
             p q) p q)
         form_light at site (tree.If a b d) k s t root =
             let r = if_typed program i.node at site a b d k t in
-            both _ _ root
-            (both (is_light all_weights (flat_of program numbers i a)) _ (expression_light a kind.Bool (as_child at site (tree.If a b d) a s of_condition) r.0)
-            (both (is_light all_weights (flat_of program numbers i b)) _ (expression_light b k (as_child at site (tree.If a b d) b s of_first) r.1)
+            and_from _ _ root
+            (and_from (is_light all_weights (flat_of program numbers i a)) _ (expression_light a kind.Bool (as_child at site (tree.If a b d) a s of_condition) r.0)
+            (and_from (is_light all_weights (flat_of program numbers i b)) _ (expression_light b k (as_child at site (tree.If a b d) b s of_first) r.1)
             (expression_light d k (as_child at site (tree.If a b d) d s of_second) r.2)))
         form_light at site (tree.AtMostOne es) k s t root = all_are_light es (λ j e arg. as_child at site (tree.AtMostOne es) e s (of_operand j arg))
             (most_typed program i.node at site es k t).0
-        form_light at site (tree.Call f args) k s t root = both _ true root refl
+        form_light at site (tree.Call f args) k s t root = and_from _ true root refl
 
         all_are_light : (es : Trees) → ((j : ℕ) (e : Tree) → IsArgument es j e → Stands i.node e)
             → ((j : ℕ) (e : Tree) → IsArgument es j e → IsTyped program i.node e kind.Bool) → all_light all_weights (flats_of program numbers i es) ≡ true
         all_are_light tree.None s t = refl
         all_are_light (tree.More e es) s t =
-            both (is_light all_weights (flat_of program numbers i e)) _ (expression_light e kind.Bool (s 0 e head) (t 0 e head))
+            and_from (is_light all_weights (flat_of program numbers i e)) _ (expression_light e kind.Bool (s 0 e head) (t 0 e head))
             (all_are_light es (λ j a arg. s (suc j) a (tail arg)) (λ j a arg. t (suc j) a (tail arg)))
 
     -- what gives a flow
@@ -407,14 +407,14 @@ module _ (program : ProgramTree) (main : Identifier) (well : AreWell program) (n
         let t = (typed program main well named i of).output x c j right in
         let q : Sites = output_place program i c.site c.name j in
         let is = flow_there (output_flow program main well named i c j t.0 of (output_call i.node x c j right) t.1) in
-        both (nat_le (get_or all_weights (number q) 0) heaviest) true (within_told _ heaviest
+        and_from (nat_le (get_or all_weights (number q) 0) heaviest) true (within_told _ heaviest
         (subst (λ w. w ≤ heaviest) (sym (flow_weighs q is)) (flow_light q is))) refl
     giver_light p _ (by_call i c j e of called arg at) = let t = (typed program main well named i of).argument c j e called arg in
         expression_light i of e t.0 (argument_stands i.node c j e called arg) t.1
 
     items_light_from : (xs : List Item) → ((x : Item) → Contains xs x → is_light all_weights x.body ≡ true) → items_light all_weights xs ≡ true
     items_light_from [] each = refl
-    items_light_from (x ∷ xs) each = both (is_light all_weights x.body) (items_light all_weights xs) (each x (at_head x xs))
+    items_light_from (x ∷ xs) each = and_from (is_light all_weights x.body) (items_light all_weights xs) (each x (at_head x xs))
         (items_light_from xs (λ y w. each y (in_tail x xs y w)))
 
     -- what is in a list stands at a number

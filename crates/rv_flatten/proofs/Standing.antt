@@ -13,10 +13,10 @@ use Rattle.rv_types.specs.Variables.{parts, form_parts, parts_of_all, node_parts
 use Rattle.rv_types.specs.Instances.{CallTree, calls_in, form_calls, calls_in_all, calls_in_equations, calls_in_assertions, calls, Body, Output, IsRight, alone}
 use Rattle.rv_types.specs.Instances.{in_order, IsArgument, head, tail}
 use Rattle.rv_instances.specs.Weights.{weighed_of_several, weighed_under, weighed}
-use Rattle.rv_instances.proofs.CallsInside.{in_argument as call_of_argument, in_body as call_of_assertion}
-use Rattle.rv_meaning.proofs.DelayParts.{argument_within as delay_of_argument, assertion_within as delay_of_assertion, equation_within as delay_of_equation}
-use Rattle.rv_types.proofs.Members.{at_head, cons_cases as head_or_tail, in_flat_map, in_tail, nothing_in as none_in}
-use Rattle.rv_types.proofs.TypedParts.{right_calls as call_of_equation}
+use Rattle.rv_instances.proofs.CallsInside.{in_argument, in_body}
+use Rattle.rv_meaning.proofs.DelayParts.{argument_within, assertion_within, equation_within}
+use Rattle.rv_types.proofs.Members.{at_head, cons_cases, in_flat_map, in_tail, nothing_in}
+use Rattle.rv_types.proofs.TypedParts.{right_calls}
 
 -- an operand or argument
 pub data IsChild : Tree → Form → Type 0 where
@@ -101,8 +101,8 @@ delay_of_child site _ e d (of_first {a = a} {c = c}) w = Contains-append_right (
     (Contains-append_left (delays e) (delays c) d w)
 delay_of_child site _ e d (of_second {a = a} {b = b}) w = Contains-append_right (delays a) (delays b ++ delays e) d
     (Contains-append_right (delays b) (delays e) d w)
-delay_of_child site _ e d (of_operand {es = es} j arg) w = delay_of_argument es j e d arg w
-delay_of_child site _ e d (of_argument {es = es} j arg) w = delay_of_argument es j e d arg w
+delay_of_child site _ e d (of_operand {es = es} j arg) w = argument_within es j e d arg w
+delay_of_child site _ e d (of_argument {es = es} j arg) w = argument_within es j e d arg w
 
 call_of_child : (at : ℕ) (site : Option ℕ) (form : Form) (e : Tree) (c : CallTree) → IsChild e form → Contains (calls_in e) c
     → Contains (form_calls at site form) c
@@ -118,9 +118,9 @@ call_of_child at site _ e d (of_first {a = a} {c = c}) w = Contains-append_right
     (Contains-append_left (calls_in e) (calls_in c) d w)
 call_of_child at site _ e d (of_second {a = a} {b = b}) w = Contains-append_right (calls_in a) (calls_in b ++ calls_in e) d
     (Contains-append_right (calls_in b) (calls_in e) d w)
-call_of_child at site _ e c (of_operand {es = es} j arg) w = call_of_argument es j e c arg w
+call_of_child at site _ e c (of_operand {es = es} j arg) w = in_argument es j e c arg w
 call_of_child at site _ e c (of_argument {f = f} {es = es} j arg) w = in_tail (record { at = at; site = unwrap_or site 0; name = f; args = es })
-    (calls_in_all es) c (call_of_argument es j e c arg w)
+    (calls_in_all es) c (in_argument es j e c arg w)
 
 -- the arguments of a right side that is a call have a weight
 abbrev AreWeighed : List Name → Tree → Trees → Type 0
@@ -173,21 +173,21 @@ module _ (n : NodeTree) where
   -- its delays and calls are those of the node
   pub delays_in : (e : Tree) → Stands n e → (d : Delay) → Contains (delays e) d → Contains (node_delays n) d
   delays_in _ (as_right q w is) d v = Contains-append_left (delays_in_equations n.equations) (delays_in_assertions n.assertions) d
-      (delay_of_equation n.equations q d w v)
+      (equation_within n.equations q d w v)
   delays_in _ (as_argument q at j site f args e w is arg) d v = Contains-append_left (delays_in_equations n.equations) (delays_in_assertions n.assertions) d
-      (delay_of_equation n.equations q d w (subst (λ t. Contains (delays t) d) (sym is) (delay_of_argument args j e d arg v)))
+      (equation_within n.equations q d w (subst (λ t. Contains (delays t) d) (sym is) (argument_within args j e d arg v)))
   delays_in _ (as_assertion a w) d v = Contains-append_right (delays_in_equations n.equations) (delays_in_assertions n.assertions) d
-      (delay_of_assertion n.assertions a d w v)
+      (assertion_within n.assertions a d w v)
   delays_in _ (as_child at site form e s c) d v = delays_in (Node at site form) s d (delay_of_child site form e d c v)
 
   pub calls_are_in : (e : Tree) → Stands n e → (c : CallTree) → Contains (calls_in e) c → Contains (calls n) c
   calls_are_in _ (as_right q w is) c v = Contains-append_left (calls_in_equations n.equations) (calls_in_assertions n.assertions) c
-      (call_of_equation n.equations q c w v)
+      (right_calls n.equations q c w v)
   calls_are_in _ (as_argument q at j site f args e w is arg) c v = Contains-append_left (calls_in_equations n.equations) (calls_in_assertions n.assertions) c
-      (call_of_equation n.equations q c w (subst (λ t. Contains (calls_in t) c) (sym is)
-      (in_tail (record { at = at; site = unwrap_or site 0; name = f; args = args }) (calls_in_all args) c (call_of_argument args j e c arg v))))
+      (right_calls n.equations q c w (subst (λ t. Contains (calls_in t) c) (sym is)
+      (in_tail (record { at = at; site = unwrap_or site 0; name = f; args = args }) (calls_in_all args) c (in_argument args j e c arg v))))
   calls_are_in _ (as_assertion a w) c v = Contains-append_right (calls_in_equations n.equations) (calls_in_assertions n.assertions) c
-      (call_of_assertion n.assertions a c w v)
+      (in_body n.assertions a c w v)
   calls_are_in _ (as_child at site form e s k) c v = calls_are_in (Node at site form) s c (call_of_child at site form e c k v)
 
   -- What a delay remembers stands in the node where the delay does.
@@ -197,20 +197,20 @@ module _ (n : NodeTree) where
 
     form_delay_stands : (at : ℕ) (site : Option ℕ) (form : Form) → Stands n (Node at site form) → (d : Delay) → Contains (form_delays site form) d
         → Stands n d.operand
-    form_delay_stands at site True s d w = none_in d w
-    form_delay_stands at site False s d w = none_in d w
-    form_delay_stands at site (Number k) s d w = none_in d w
-    form_delay_stands at site (Named x) s d w = none_in d w
+    form_delay_stands at site True s d w = nothing_in d w
+    form_delay_stands at site False s d w = nothing_in d w
+    form_delay_stands at site (Number k) s d w = nothing_in d w
+    form_delay_stands at site (Named x) s d w = nothing_in d w
     form_delay_stands at site (Not e) s d w = delay_stands e (as_child at site (Not e) e s of_not) d w
     form_delay_stands at site (Minus e) s d w = delay_stands e (as_child at site (Minus e) e s of_minus) d w
     form_delay_stands at site (Pre e) s d w =
         let own : Delay = record { site = site; operand = e } in
         let r : Stands n e = as_child at site (Pre e) e s of_pre in
-        elim (head_or_tail own (delays e) d w) [ inl is ↦ subst (λ c. Stands n c.operand) is r | inr rest ↦ delay_stands e r d rest ]
+        elim (cons_cases own (delays e) d w) [ inl is ↦ subst (λ c. Stands n c.operand) is r | inr rest ↦ delay_stands e r d rest ]
     form_delay_stands at site (Current e) s d w =
         let own : Delay = record { site = site; operand = e } in
         let r : Stands n e = as_child at site (Current e) e s of_current in
-        elim (head_or_tail own (delays e) d w) [ inl is ↦ subst (λ c. Stands n c.operand) is r | inr rest ↦ delay_stands e r d rest ]
+        elim (cons_cases own (delays e) d w) [ inl is ↦ subst (λ c. Stands n c.operand) is r | inr rest ↦ delay_stands e r d rest ]
     form_delay_stands at site (When e c) s d w = delay_stands e (as_child at site (When e c) e s (of_when c)) d w
     form_delay_stands at site (Binary o a b) s d w = elim (Contains-append_cases (delays a) (delays b) d w) [
       | inl v ↦ delay_stands a (as_child at site (Binary o a b) a s of_left) d v
@@ -227,7 +227,7 @@ module _ (n : NodeTree) where
     form_delay_stands at site (Call f es) s d w = all_delays_stand es (λ j e arg. as_child at site (Call f es) e s (of_argument j arg)) d w
 
     all_delays_stand : (es : Trees) → ((j : ℕ) (e : Tree) → IsArgument es j e → Stands n e) → (d : Delay) → Contains (delays_of_all es) d → Stands n d.operand
-    all_delays_stand None s d w = none_in d w
+    all_delays_stand None s d w = nothing_in d w
     all_delays_stand (More e es) s d w = elim (Contains-append_cases (delays e) (delays_of_all es) d w) [
       | inl v ↦ delay_stands e (s 0 e head) d v
       | inr v ↦ all_delays_stand es (λ j a arg. s (suc j) a (tail arg)) d v
@@ -240,10 +240,10 @@ module _ (n : NodeTree) where
 
     form_arguments_stand : (at : ℕ) (site : Option ℕ) (form : Form) → Stands n (Node at site form) → (c : CallTree) → Contains (form_calls at site form) c
         → (j : ℕ) (a : Tree) → IsArgument c.args j a → Stands n a
-    form_arguments_stand at site True s d w j x arg = none_in d w
-    form_arguments_stand at site False s d w j x arg = none_in d w
-    form_arguments_stand at site (Number k) s d w j x arg = none_in d w
-    form_arguments_stand at site (Named y) s d w j x arg = none_in d w
+    form_arguments_stand at site True s d w j x arg = nothing_in d w
+    form_arguments_stand at site False s d w j x arg = nothing_in d w
+    form_arguments_stand at site (Number k) s d w j x arg = nothing_in d w
+    form_arguments_stand at site (Named y) s d w j x arg = nothing_in d w
     form_arguments_stand at site (Not e) s d w j x arg = arguments_stand e (as_child at site (Not e) e s of_not) d w j x arg
     form_arguments_stand at site (Minus e) s d w j x arg = arguments_stand e (as_child at site (Minus e) e s of_minus) d w j x arg
     form_arguments_stand at site (Pre e) s d w j x arg = arguments_stand e (as_child at site (Pre e) e s of_pre) d w j x arg
@@ -264,14 +264,14 @@ module _ (n : NodeTree) where
         x arg
     form_arguments_stand at site (Call f es) s d w j x arg =
         let own : CallTree = record { at = at; site = unwrap_or site 0; name = f; args = es } in
-        elim (head_or_tail own (calls_in_all es) d w) [
+        elim (cons_cases own (calls_in_all es) d w) [
           | inl is ↦ as_child at site (Call f es) x s (of_argument j (subst (λ c. IsArgument c.args j x) (sym is) arg))
           | inr v ↦ all_arguments_stand es (λ k e there. as_child at site (Call f es) e s (of_argument k there)) d v j x arg
         ]
 
     all_arguments_stand : (es : Trees) → ((j : ℕ) (e : Tree) → IsArgument es j e → Stands n e) → (c : CallTree) → Contains (calls_in_all es) c
         → (j : ℕ) (a : Tree) → IsArgument c.args j a → Stands n a
-    all_arguments_stand None s d w j x arg = none_in d w
+    all_arguments_stand None s d w j x arg = nothing_in d w
     all_arguments_stand (More e es) s d w j x arg = elim (Contains-append_cases (calls_in e) (calls_in_all es) d w) [
       | inl v ↦ arguments_stand e (s 0 e head) d v j x arg
       | inr v ↦ all_arguments_stand es (λ k a there. s (suc k) a (tail there)) d v j x arg
@@ -322,7 +322,7 @@ module _ (n : NodeTree) where
     | called at site f args is ↦
         let own : CallTree = record { at = at; site = unwrap_or site 0; name = f; args = args } in
         let inside : Contains (own ∷ calls_in_all args) c = subst (λ t. Contains (calls_in t) c) is v in
-        elim (head_or_tail own (calls_in_all args) c inside) [
+        elim (cons_cases own (calls_in_all args) c inside) [
           | inl here ↦ as_argument q at j site f args a w is (subst (λ k. IsArgument k.args j a) (sym here) arg)
           | inr there ↦ all_arguments_stand args (λ k e other. as_argument q at k site f args e w is other) c there j a arg
         ]
@@ -330,7 +330,7 @@ module _ (n : NodeTree) where
 
   delay_of_equations : (qs : List EquationTree) → ((q : EquationTree) → Contains qs q → Contains n.equations q) → (d : Delay)
       → Contains (delays_in_equations qs) d → Stands n d.operand
-  delay_of_equations [] into d v = none_in d v
+  delay_of_equations [] into d v = nothing_in d v
   delay_of_equations (q ∷ qs) into d v = elim (Contains-append_cases (delays q.right) (delays_in_equations qs) d v) [
     | inl u ↦ delay_of_right q (into q (at_head q qs)) d u
     | inr u ↦ delay_of_equations qs (λ r w. into r (in_tail q qs r w)) d u
@@ -338,7 +338,7 @@ module _ (n : NodeTree) where
 
   delay_of_assertions : (qs : List AssertionTree) → ((q : AssertionTree) → Contains qs q → Contains n.assertions q) → (d : Delay)
       → Contains (delays_in_assertions qs) d → Stands n d.operand
-  delay_of_assertions [] into d v = none_in d v
+  delay_of_assertions [] into d v = nothing_in d v
   delay_of_assertions (q ∷ qs) into d v = elim (Contains-append_cases (delays q.body) (delays_in_assertions qs) d v) [
     | inl u ↦ delay_stands q.body (as_assertion q (into q (at_head q qs))) d u
     | inr u ↦ delay_of_assertions qs (λ r w. into r (in_tail q qs r w)) d u
@@ -346,7 +346,7 @@ module _ (n : NodeTree) where
 
   call_of_equations : (qs : List EquationTree) → ((q : EquationTree) → Contains qs q → Contains n.equations q) → (c : CallTree)
       → Contains (calls_in_equations qs) c → (j : ℕ) (a : Tree) → IsArgument c.args j a → Stands n a
-  call_of_equations [] into c v j a arg = none_in c v
+  call_of_equations [] into c v j a arg = nothing_in c v
   call_of_equations (q ∷ qs) into c v j a arg = elim (Contains-append_cases (calls_in q.right) (calls_in_equations qs) c v) [
     | inl u ↦ call_of_right q (into q (at_head q qs)) c u j a arg
     | inr u ↦ call_of_equations qs (λ r w. into r (in_tail q qs r w)) c u j a arg
@@ -354,7 +354,7 @@ module _ (n : NodeTree) where
 
   call_of_assertions : (qs : List AssertionTree) → ((q : AssertionTree) → Contains qs q → Contains n.assertions q) → (c : CallTree)
       → Contains (calls_in_assertions qs) c → (j : ℕ) (a : Tree) → IsArgument c.args j a → Stands n a
-  call_of_assertions [] into c v j a arg = none_in c v
+  call_of_assertions [] into c v j a arg = nothing_in c v
   call_of_assertions (q ∷ qs) into c v j a arg = elim (Contains-append_cases (calls_in q.body) (calls_in_assertions qs) c v) [
     | inl u ↦ arguments_stand q.body (as_assertion q (into q (at_head q qs))) c u j a arg
     | inr u ↦ call_of_assertions qs (λ r w. into r (in_tail q qs r w)) c u j a arg
@@ -400,4 +400,4 @@ module _ (n : NodeTree) where
   output_call x _ _ (in_order q at site f args j w is several lt name) =
       let own : CallTree = record { at = at; site = site; name = f; args = args } in
       Contains-append_left (calls_in_equations n.equations) (calls_in_assertions n.assertions) own
-      (call_of_equation n.equations q own w (subst (λ t. Contains (calls_in t) own) (sym is) (at_head own (calls_in_all args))))
+      (right_calls n.equations q own w (subst (λ t. Contains (calls_in t) own) (sym is) (at_head own (calls_in_all args))))

@@ -12,7 +12,7 @@ use Rattle.rv_instances.specs.Flowing.{place_at}
 use Rattle.rv_flatten.specs.Positions.{AreNumbersOf, told}
 use Rattle.rv_flat.proofs.Earliest.{not_itself}
 use Rattle.rv_flat.proofs.PlaceNumbers.{its_number}
-use Rattle.rv_types.proofs.Members.{at_head, cons_cases as head_or_tail, in_tail, nothing_in as none_in}
+use Rattle.rv_types.proofs.Members.{at_head, cons_cases, in_tail, nothing_in}
 
 -- no two elements are equal
 abbrev Apart : {X : Type 0} → List X → Type 0
@@ -29,10 +29,10 @@ apart_of (x ∷ xs) d once = (
 -- a list without one of its elements
 rest_of : {X : Type 0} (ys : List X) (x : X) → Contains ys x → (zs : List X) × (length ys ≡ suc (length zs))
     × ((z : X) → Contains ys z → (z ≡ x → ⊥) → Contains zs z)
-rest_of [] x w = none_in x w
-rest_of {X = X} (y ∷ ys) x w = elim (head_or_tail y ys x w) [
-  | inl same ↦ (ys, refl, λ z v other. after ys z x same other (head_or_tail y ys z v))
-  | inr rest ↦ let r = rest_of ys x rest in (y ∷ r.0, ap suc r.1, λ z v other. before r.0 ys x r.2 z other (head_or_tail y ys z v))
+rest_of [] x w = nothing_in x w
+rest_of {X = X} (y ∷ ys) x w = elim (cons_cases y ys x w) [
+  | inl same ↦ (ys, refl, λ z v other. after ys z x same other (cons_cases y ys z v))
+  | inr rest ↦ let r = rest_of ys x rest in (y ∷ r.0, ap suc r.1, λ z v other. before r.0 ys x r.2 z other (cons_cases y ys z v))
 ]
   where
     after : (ys : List X) (z x : X) → y ≡ x → (z ≡ x → ⊥) → (y ≡ z) ⊎ Contains ys z → Contains ys z

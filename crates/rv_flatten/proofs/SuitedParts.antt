@@ -7,7 +7,7 @@ use Rattle.rv_types.specs.declared.fault.Pace.{Pace}
 use Rattle.rv_types.specs.declared.fault.Pace.TheVariants.{Free, At, Mute, Differ}
 use Rattle.rv_types.specs.Clocks.{same_clock, clock_at, when_pace}
 use Rattle.rv_types.specs.WellFormed.{Suits}
-use Rattle.rv_meaning.proofs.Suiting.{same_clocks as clock_told}
+use Rattle.rv_types.proofs.Paces.{clock_same}
 
 -- the pace of a `when` that keeps the rule
 abbrev sampled : ℕ → Pace → Pace
@@ -19,7 +19,7 @@ suits_when k n Free j h = (h, tt)
 suits_when k n (At c) j h = by (same_clock c (clock_at n j)) refl h
   where
     by : (b : Bool) → same_clock c (clock_at n j) ≡ b → Suits k (sampled j (cond b (At c) Differ)) → (On j ≡ k) × (c ≡ clock_at n j)
-    by true e h = (h, clock_told c (clock_at n j) e)
+    by true e h = (h, clock_same c (clock_at n j) e)
     by false e h = absurd h
 suits_when k n Mute j h = absurd h
 suits_when k n Differ j h = absurd h

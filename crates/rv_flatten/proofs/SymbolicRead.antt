@@ -42,10 +42,10 @@ use Rattle.rv_flat.specs.Systems.{places_of, memory_places_of, memory_of, kept_o
 use Rattle.rv_flatten.proofs.AgreedLaws.{Laws, AreAllFound, AreClocked}
 use Rattle.rv_flatten.proofs.NamedParts.{are_named}
 use Rattle.rv_flat.proofs.PlaceNumbers.{made_at, made_past}
-use Rattle.rv_agreement.proofs.Controls.{no_flag}
 use Rattle.rv_agreement.proofs.Indexed.{indexed}
 use Rattle.rv_meaning.proofs.NameLemmas.{same_text}
-use Rattle.rv_types.proofs.Members.{among_from as is_found, at_head, in_map, in_tail, text_itself}
+use Rattle.rv_types.proofs.Members.{among_from, at_head, in_map, in_tail, text_itself}
+use Rattle.rv_types.proofs.ChainLaws.{no_flag}
 
 -- Clocks that are there at the same histories are one.
 
@@ -181,7 +181,7 @@ module _ (laws : Laws) (program : ProgramTree) (main : Identifier) (well : AreWe
         tick_same (Some q) there =
             let next : index_of (tick_places variables) q + 1 ≡ suc (index_of (tick_places variables) q) = omega arith in
             ap (λ n. v.ticked (get_or s.ticks n Nothing)) next
-            ∙ ap v.ticked (made_at (λ p. Some p) (tick_places variables) q Nothing (is_found (tick_places variables) q (there q refl)))
+            ∙ ap v.ticked (made_at (λ p. Some p) (tick_places variables) q Nothing (among_from (tick_places variables) q (there q refl)))
 
         all_found : AreAllFound Reading program main numbers (found_at s v) (found_by program main kept v)
         all_found =
@@ -196,7 +196,7 @@ module _ (laws : Laws) (program : ProgramTree) (main : Identifier) (well : AreWe
             by : (b : Bool) → is_among (places_of flows) q ≡ b → get_or (map cells (places_of flows)) (index_of (places_of flows) q) Nothing ≡ cells q
             by true e = made_at cells (places_of flows) q Nothing e
             by false e = made_past cells (places_of flows) q Nothing e ∙ (elim (none q) [
-              | inl flow ↦ no_flag (sym e ∙ is_found (places_of flows) q (read.sequence.flows q flow))
+              | inl flow ↦ no_flag (sym e ∙ among_from (places_of flows) q (read.sequence.flows q flow))
               | inr absent ↦ sym absent
             ])
 

@@ -14,7 +14,7 @@ use Rattle.rv_types.specs.Variables.{parts, form_parts, parts_of_all, node_parts
 use Rattle.rv_flat.specs.Thresholds.{IsNumberOf, in_node, in_constant, constant, beside, IsThreshold, AreThresholds}
 use Rattle.rv_flatten.specs.Literals.{literals, form_literals, literals_of_all, equation_literals, assertion_literals, node_literals, constant_literals}
 use Rattle.rv_flatten.specs.Literals.{program_literals, around, around_literal, around_value, program_numbers, IsDistinctOf}
-use Rattle.rv_types.proofs.Members.{at_head, cons_cases as head_or_tail, in_flat_map, in_map, in_tail, nothing_in as none_in, of_flat_map as from_flat_map}
+use Rattle.rv_types.proofs.Members.{at_head, cons_cases, in_flat_map, in_map, in_tail, nothing_in, of_flat_map}
 
 -- A literal of an expression is one of its parts.
 pub record HasLiteral (xs : List Tree) (v : ℕ) : Type 0 where
@@ -30,13 +30,13 @@ mutual
   literal_part (Node at site form) v w = form_literal_part at site form v w
 
   form_literal_part : (at : ℕ) (site : Option ℕ) (form : Form) (v : ℕ) → Contains (form_literals form) v → HasLiteral (Node at site form ∷ form_parts form) v
-  form_literal_part at site True v w = none_in v w
-  form_literal_part at site False v w = none_in v w
-  form_literal_part at site (Number n) v w = elim (head_or_tail n [] v w) [
+  form_literal_part at site True v w = nothing_in v w
+  form_literal_part at site False v w = nothing_in v w
+  form_literal_part at site (Number n) v w = elim (cons_cases n [] v w) [
     | inl is ↦ subst (λ m. HasLiteral (Node at site (Number n) ∷ []) m) is (record { at = at; site = site; there = at_head (Node at site (Number n)) [] })
-    | inr rest ↦ none_in v rest
+    | inr rest ↦ nothing_in v rest
   ]
-  form_literal_part at site (Named x) v w = none_in v w
+  form_literal_part at site (Named x) v w = nothing_in v w
   form_literal_part at site (Not e) v w = wider (in_tail (Node at site (Not e)) (parts e)) (literal_part e v w)
   form_literal_part at site (Minus e) v w = wider (in_tail (Node at site (Minus e)) (parts e)) (literal_part e v w)
   form_literal_part at site (Pre e) v w = wider (in_tail (Node at site (Pre e)) (parts e)) (literal_part e v w)
@@ -59,7 +59,7 @@ mutual
   form_literal_part at site (Call f es) v w = wider (in_tail (Node at site (Call f es)) (parts_of_all es)) (literal_part_of_all es v w)
 
   literal_part_of_all : (es : Trees) (v : ℕ) → Contains (literals_of_all es) v → HasLiteral (parts_of_all es) v
-  literal_part_of_all None v w = none_in v w
+  literal_part_of_all None v w = nothing_in v w
   literal_part_of_all (More e es) v w = elim (Contains-append_cases (literals e) (literals_of_all es) v w) [
     | inl u ↦ wider (Contains-append_left (parts e) (parts_of_all es)) (literal_part e v u)
     | inr u ↦ wider (Contains-append_right (parts e) (parts_of_all es)) (literal_part_of_all es v u)
@@ -71,16 +71,16 @@ is_literal at a v site s form e = subst (λ t. Contains (literals t) v) (sym e) 
 
 mutual
   part_literal : (e : Tree) (a v : ℕ) (s : Option ℕ) → Contains (parts e) (Node a s (Number v)) → Contains (literals e) v
-  part_literal (Node at site form) a v s w = elim (head_or_tail (Node at site form) (form_parts form) (Node a s (Number v)) w) [
+  part_literal (Node at site form) a v s w = elim (cons_cases (Node at site form) (form_parts form) (Node a s (Number v)) w) [
     | inl is ↦ is_literal at a v site s form is
     | inr rest ↦ form_part_literal form a v s rest
   ]
 
   form_part_literal : (form : Form) (a v : ℕ) (s : Option ℕ) → Contains (form_parts form) (Node a s (Number v)) → Contains (form_literals form) v
-  form_part_literal True a v s w = none_in _ w
-  form_part_literal False a v s w = none_in _ w
-  form_part_literal (Number n) a v s w = none_in _ w
-  form_part_literal (Named x) a v s w = none_in _ w
+  form_part_literal True a v s w = nothing_in _ w
+  form_part_literal False a v s w = nothing_in _ w
+  form_part_literal (Number n) a v s w = nothing_in _ w
+  form_part_literal (Named x) a v s w = nothing_in _ w
   form_part_literal (Not e) a v s w = part_literal e a v s w
   form_part_literal (Minus e) a v s w = part_literal e a v s w
   form_part_literal (Pre e) a v s w = part_literal e a v s w
@@ -101,7 +101,7 @@ mutual
   form_part_literal (Call f es) a v s w = part_literal_of_all es a v s w
 
   part_literal_of_all : (es : Trees) (a v : ℕ) (s : Option ℕ) → Contains (parts_of_all es) (Node a s (Number v)) → Contains (literals_of_all es) v
-  part_literal_of_all None a v s w = none_in _ w
+  part_literal_of_all None a v s w = nothing_in _ w
   part_literal_of_all (More e es) a v s w = elim (Contains-append_cases (parts e) (parts_of_all es) (Node a s (Number v)) w) [
     | inl u ↦ Contains-append_left (literals e) (literals_of_all es) v (part_literal e a v s u)
     | inr u ↦ Contains-append_right (literals e) (literals_of_all es) v (part_literal_of_all es a v s u)
@@ -111,12 +111,12 @@ mutual
 node_literal : (n : NodeTree) (v : ℕ) → Contains (node_literals n) v → HasLiteral (node_parts n) v
 node_literal n v w = elim (Contains-append_cases (equation_literals n.equations) (assertion_literals n.assertions) v w) [
   | inl u ↦
-      let r = from_flat_map (λ (q : EquationTree). literals q.right) n.equations v u in
+      let r = of_flat_map (λ (q : EquationTree). literals q.right) n.equations v u in
       wider (λ x t. Contains-append_left (flat_map (λ q. parts q.right) n.equations) (flat_map (λ a. parts a.body) n.assertions) x
       (in_flat_map (λ (q : EquationTree). parts q.right) n.equations r.0 x r.1 t))
       (literal_part r.0.right v r.2)
   | inr u ↦
-      let r = from_flat_map (λ (a : AssertionTree). literals a.body) n.assertions v u in
+      let r = of_flat_map (λ (a : AssertionTree). literals a.body) n.assertions v u in
       wider (λ x t. Contains-append_right (flat_map (λ q. parts q.right) n.equations) (flat_map (λ a. parts a.body) n.assertions) x
       (in_flat_map (λ (a : AssertionTree). parts a.body) n.assertions r.0 x r.1 t))
       (literal_part r.0.body v r.2)
@@ -126,11 +126,11 @@ literal_of_node : (n : NodeTree) (a v : ℕ) (s : Option ℕ) → Contains (node
 literal_of_node n a v s w = elim (Contains-append_cases (flat_map (λ (q : EquationTree). parts q.right) n.equations)
     (flat_map (λ (a : AssertionTree). parts a.body) n.assertions) (Node a s (Number v)) w) [
       | inl u ↦
-          let r = from_flat_map (λ (q : EquationTree). parts q.right) n.equations (Node a s (Number v)) u in
+          let r = of_flat_map (λ (q : EquationTree). parts q.right) n.equations (Node a s (Number v)) u in
           Contains-append_left (equation_literals n.equations) (assertion_literals n.assertions) v
           (in_flat_map (λ (q : EquationTree). literals q.right) n.equations r.0 v r.1 (part_literal r.0.right a v s r.2))
       | inr u ↦
-          let r = from_flat_map (λ (a : AssertionTree). parts a.body) n.assertions (Node a s (Number v)) u in
+          let r = of_flat_map (λ (a : AssertionTree). parts a.body) n.assertions (Node a s (Number v)) u in
           Contains-append_right (equation_literals n.equations) (assertion_literals n.assertions) v
           (in_flat_map (λ (a : AssertionTree). literals a.body) n.assertions r.0 v r.1 (part_literal r.0.body a v s r.2))
     ]
@@ -177,24 +177,24 @@ module _ (p : ProgramTree) where
   of_literal : (v : ℕ) → Contains (program_literals p) v → IsNumberOf p (pos v)
   of_literal v w = elim (Contains-append_cases (constant_literals p.constants) (flat_map node_literals p.nodes) v w) [
     | inl u ↦
-        let r = from_flat_map (λ (c : ConstantTree). literals c.body) p.constants v u in
+        let r = of_flat_map (λ (c : ConstantTree). literals c.body) p.constants v u in
         let h = literal_part r.0.body v r.2 in
         in_constant r.0 h.at v h.site r.1 h.there refl
     | inr u ↦
-        let r = from_flat_map node_literals p.nodes v u in
+        let r = of_flat_map node_literals p.nodes v u in
         let h = node_literal r.0 v r.2 in
         in_node r.0 h.at v h.site r.1 h.there refl
   ]
 
   of_value : (v : Value) (y : ℤ) → Contains (constant_values p) v → Contains (around_value v) y → IsThreshold p y
-  of_value (Flag b) y w u = none_in y u
-  of_value (Label l) y w u = none_in y u
+  of_value (Flag b) y w u = nothing_in y u
+  of_value (Label l) y w u = nothing_in y u
   of_value (Whole z) y w u = (z, constant w, back_around y z u)
 
   gathered_number : (y : ℤ) → Contains (program_numbers p) y → IsThreshold p y
   gathered_number y w = elim (Contains-append_cases (flat_map around_literal (program_literals p)) (flat_map around_value (constant_values p)) y w) [
-    | inl u ↦ let r = from_flat_map around_literal (program_literals p) y u in (pos r.0, of_literal r.0 r.1, back_around y (pos r.0) r.2)
-    | inr u ↦ let r = from_flat_map around_value (constant_values p) y u in of_value r.0 y r.1 r.2
+    | inl u ↦ let r = of_flat_map around_literal (program_literals p) y u in (pos r.0, of_literal r.0 r.1, back_around y (pos r.0) r.2)
+    | inr u ↦ let r = of_flat_map around_value (constant_values p) y u in of_value r.0 y r.1 r.2
   ]
 
   -- The distinct ones of the gathered numbers, sorted, are the thresholds.

@@ -21,7 +21,7 @@ use Rattle.rv_instances.specs.Weights.{weighed_of_several, weighed_under}
 use Rattle.rv_flatten.proofs.Standing.{Stands, as_right, as_argument, as_assertion, as_child, IsChild, of_not, of_minus, of_pre, of_current, of_when, of_left}
 use Rattle.rv_flatten.proofs.Standing.{of_right, of_condition, of_first, of_second, of_operand, of_argument}
 use Rattle.rv_types.proofs.Members.{at_head}
-use Rattle.rv_types.proofs.TypedParts.{right_calls as call_of_equation}
+use Rattle.rv_types.proofs.TypedParts.{right_calls}
 
 suits_timed : (k : Clock) (p : Pace) → Suits k p → IsTimed p
 suits_timed k Free h = tt
@@ -74,7 +74,7 @@ module _ (program : ProgramTree) (n : NodeTree) (formed : IsWellFormed program n
       let c : CallTree = record { at = at; site = unwrap_or site 0; name = f; args = args } in
       let of_right_side : Contains (calls_in q.right) c = subst (λ (t : Tree). Contains (calls_in t) c) (sym is) (at_head c (calls_in_all args)) in
       let there : Contains (calls n) c = Contains-append_left (calls_in_equations n.equations) (calls_in_assertions n.assertions) c
-      (call_of_equation n.equations q c w of_right_side) in
+      (right_calls n.equations q c w of_right_side) in
       suits_timed (clock_of_args n args) (pace n e) (formed.argument_clock c j e there arg)
   stands_timed _ (as_assertion a w) = suits_timed (taken Base (pace n a.body)) (pace n a.body) (formed.assertion_clock a w)
   stands_timed _ (as_child at site form e s child) = child_timed at site form e child (stands_timed (Node at site form) s)

@@ -1,5 +1,5 @@
 -- In a program that keeps the rules the heads of left operands tell the comparisons of integers.
-use Rattle.std.proofs.Common.{◌≡◌, Bool, ◌&&◌, cond, List, [], ◌∷◌, ◌++◌, map, flat_map, refl, sym, ◌∙◌, ap, unwrap_or, Some}
+use Rattle.std.proofs.Common.{◌≡◌, Bool, ◌&&◌, cond, List, [], ◌∷◌, ◌++◌, map, refl, sym, ◌∙◌, ap, unwrap_or, Some}
 use Rattle.std.proofs.Common.{None as Nothing}
 use Rattle.std.specs.List.{Contains}
 use Rattle.rv_tree.specs.declared.tree.Op.{Op}
@@ -18,19 +18,13 @@ use Rattle.rv_agreement.specs.Programs.{is_test}
 use Rattle.rv_flatten.specs.Compared.{is_told_test, tests_in, told_tests_in}
 use Rattle.rv_flatten.proofs.ComparedParts.{own_of, node_is}
 use Rattle.rv_types.proofs.Members.{at_head, in_tail}
+use Rattle.rv_base.proofs.Lists.{flat_map_same}
 
 -- the head of a left operand that has a type tells whether integers are compared
 pub told_is : (s : Scope) (o : Op) (a : Tree) (k : Kind) → kind_of s a ≡ Some k → is_told_test s o a ≡ is_test s o a
 told_is s o a k typed =
     let same : head_kind s a ≡ unwrap_or (kind_of s a) kind.Bool = head_is s a k typed ∙ sym (ap (λ t. unwrap_or t kind.Bool) typed) in
     ap (λ (j : Kind). is_comparison o && is_integer j) same
-
-flat_same : {X Y : Type 0} (f g : X → List Y) (xs : List X) → ((x : X) → Contains xs x → f x ≡ g x) → flat_map f xs ≡ flat_map g xs
-flat_same f g [] same = refl
-flat_same f g (x ∷ xs) same =
-    let one = same x (at_head x xs) in
-    let rest = flat_same f g xs (λ y w. same y (in_tail x xs y w)) in
-    λ i. one i ++ rest i
 
 module _ (p : ProgramTree) where
   module _ (n : NodeTree) (formed : IsWellFormed p n) (typed : IsWellTyped p n) where
@@ -44,7 +38,7 @@ module _ (p : ProgramTree) where
     node_told : told_tests_in p n ≡ tests_in p n
     node_told =
         node_is n (is_told_test (node_scope p n))
-        ∙ flat_same (own_of n (is_told_test (node_scope p n))) (own_of n (is_test (node_scope p n))) (node_parts n) own_told
+        ∙ flat_map_same (own_of n (is_told_test (node_scope p n))) (own_of n (is_test (node_scope p n))) (node_parts n) own_told
         ∙ sym (node_is n (is_test (node_scope p n)))
 
   each_told : (ns : List NodeTree) → ((n : NodeTree) → Contains ns n → told_tests_in p n ≡ tests_in p n) → map (told_tests_in p) ns ≡ map (tests_in p) ns

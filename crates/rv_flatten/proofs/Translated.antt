@@ -38,8 +38,8 @@ use Rattle.rv_flatten.specs.Readings.{raw_giver, raw_delay, assertion_of, no_ass
 use Rattle.rv_flat.specs.Systems.{memory_places_of, memory_of, flow_item, memory_item, asserted, assertion_item, kept_of, system_from}
 use Rattle.rv_flatten.proofs.Standing.{Stands, as_child, of_not, of_minus, of_current, of_when, of_left, of_right, of_condition, of_first, of_second}
 use Rattle.rv_flatten.proofs.Standing.{of_operand, own_current, body_stands, argument_stands, as_assertion, operand_stands}
-use Rattle.rv_flat.proofs.SystemRuns.{found_in as some_at}
-use Rattle.rv_types.proofs.Members.{among_from as is_found, in_map, index_there as index_at}
+use Rattle.rv_types.proofs.Members.{among_from, in_map, index_there}
+use Rattle.rv_base.proofs.Lists.{item_at}
 
 pub mapped_at : {X Y : Type 0} (f : X → Y) (xs : List X) (k : ℕ) (x : X) (d : Y) → slice_get xs k ≡ Some x → get_or (map f xs) k d ≡ f x
 mapped_at f xs k x d e = get_or_from_slice_get (map f xs) k (f x) d (slice_get-map f xs k ∙ ap (option_map f) e)
@@ -91,7 +91,7 @@ module _ (program : ProgramTree) (main : Identifier) (flows : List FlatFlow) (me
         × (get_or (memory_places_of memories) (index_of (memory_places_of memories) (delay_place i d)) [] ≡ delay_place i d)
     memory_number i d of w =
         let there = memory_there program main memories read.list i d of w in
-        index_at (memory_places_of memories) (delay_place i d) (is_found (memory_places_of memories) (delay_place i d) there)
+        index_there (memory_places_of memories) (delay_place i d) (among_from (memory_places_of memories) (delay_place i d) there)
 
     pub number_within : (i : Instance) (d : Delay) → IsInstance program main i → Contains (node_delays i.node) d
         → index_of (memory_places_of memories) (delay_place i d) < length memories
@@ -106,7 +106,7 @@ module _ (program : ProgramTree) (main : Identifier) (flows : List FlatFlow) (me
 
     -- and the table has it
     table_at : (m : ℕ) → m < length memories → table_of memories m ≡ item_shown (get_or (map raw_memory memories) m no_raw)
-    table_at m lt = let x = some_at memories m lt in table m x.0 x.1 ∙ ap item_shown (sym (mapped_at raw_memory memories m x.0 no_raw x.1))
+    table_at m lt = let x = item_at memories m lt in table m x.0 x.1 ∙ ap item_shown (sym (mapped_at raw_memory memories m x.0 no_raw x.1))
 
     operator_shown : (o : Op) (choice times : RawForm) (f g : RawTree)
         → form_shown (operator o choice times f g) ≡ operation o (form_shown choice) (form_shown times) (flat.Binary o (shown f) (shown g))
@@ -232,7 +232,7 @@ module _ (program : ProgramTree) (main : Identifier) (flows : List FlatFlow) (me
     memory_shown : (m : ℕ) → m < length memories → get_or (map (λ k. k.item) (map (kept_of memories) memories)) m no_item ≡ item_shown
         (get_or (map raw_memory memories) m no_raw)
     memory_shown m lt =
-        let x = some_at memories m lt in
+        let x = item_at memories m lt in
         ap (λ l. get_or l m no_item) (map-map (λ k. k.item) (kept_of memories) memories)
         ∙ mapped_at (memory_item memories) memories m x.0 no_item x.1
         ∙ ap item_shown (sym (mapped_at raw_memory memories m x.0 no_raw x.1))
@@ -240,7 +240,7 @@ module _ (program : ProgramTree) (main : Identifier) (flows : List FlatFlow) (me
     pub memory_is : (m : ℕ) (lt : m < length memories) → get_or (map (memory_item memories) memories) m no_item ≡ delay_item program numbers
         (read.memory m lt).0 (read.memory m lt).1
     memory_is m lt =
-        let x = some_at memories m lt in
+        let x = item_at memories m lt in
         let r = read.memory m lt in
         mapped_at (memory_item memories) memories m x.0 no_item x.1
         ∙ ap item_shown (sym (mapped_at raw_memory memories m x.0 no_raw x.1) ∙ r.5)
@@ -263,7 +263,7 @@ module _ (program : ProgramTree) (main : Identifier) (flows : List FlatFlow) (me
         many = length-map flows (flow_item memories) ∙ sym (length-map flows (λ x. x.place.sites));
         flow = λ k lt.
             let less : k < length flows = let many = length-map flows (flow_item memories) in omega (arith, lt, many) in
-            let x = some_at flows k less in
+            let x = item_at flows k less in
             let r = read.flow k less in (
               r.0,
               r.1,
@@ -284,7 +284,7 @@ module _ (program : ProgramTree) (main : Identifier) (flows : List FlatFlow) (me
             (in_map asserted_shown (map raw_tree assertions) (assertion_of program numbers i a) (read.asserts i a of w)));
         asserted = λ k lt.
             let less : k < length assertions = let many = length-map assertions (assertion_item memories) in omega (arith, lt, many) in
-            let x = some_at assertions k less in
+            let x = item_at assertions k less in
             let r = read.asserted k less in (
               r.0,
               r.1,

@@ -1,5 +1,5 @@
 -- A program has as many diagram variables as are counted, and no fewer.
-use Rattle.std.proofs.Common.{◌≡◌, inl, inr, ℕ, zero, suc, ◌+◌, ◌≤◌, Bool, true, false, ◌&&◌, ◌||◌, cond, nat_eq, List, [], ◌∷◌, ◌++◌, map, flat_map, length, get_or}
+use Rattle.std.proofs.Common.{◌≡◌, inl, inr, ℕ, zero, suc, ◌+◌, ◌≤◌, Bool, true, false, ◌&&◌, cond, nat_eq, List, [], ◌∷◌, ◌++◌, map, flat_map, length}
 use Rattle.std.proofs.Common.{refl, sym, ◌∙◌, ap, subst, arith, unwrap_or, append_assoc, length-append, Option, Some}
 use Rattle.std.proofs.Common.{None as Nothing}
 use Rattle.std.proofs.lemmas.Bool.Decides.{nat_tests}
@@ -38,9 +38,11 @@ use Rattle.rv_flatten.proofs.ComparedParts.{found_test, own_of, node_is, sited_c
 use Rattle.rv_flatten.proofs.ComparedPlaces.{has_sides}
 use Rattle.rv_flatten.proofs.CountedVariables.{total_joined, total_flat_map, total_map, total_same, around, still_there, length_copies, length_memories}
 use Rattle.rv_flatten.proofs.CountedVariables.{length_inputs, length_tests, ones, own_clocks, site, ticks_few, memories_few, tests_few}
-use Rattle.rv_agreement.proofs.Controls.{no_flag}
-use Rattle.rv_instances.proofs.FlowPlaces.{snoc_parts as snoc}
-use Rattle.rv_types.proofs.Members.{at_head, cons_cases as head_or_tail, in_tail, nothing_in as none_in, of_flat_map as from_flat_map, of_map}
+use Rattle.rv_instances.proofs.FlowPlaces.{snoc_parts}
+use Rattle.rv_types.proofs.Members.{at_head, cons_cases, in_tail, nothing_in, of_flat_map}
+use Rattle.rv_base.proofs.Lists.{from_map, same_next}
+use Rattle.rv_types.proofs.ChainLaws.{no_flag}
+use Rattle.std.proofs.lemmas.Bool.{or_parts}
 
 -- A sum over elements that are told apart, all of which are in a list, is no more than that over the list.
 sum_once : {X K : Type 0} (f : X → ℕ) (key : X → K) (xs ys : List X) → IsApart key xs → ((x : X) → Contains xs x → Contains ys x) → total f xs ≤ total f ys
@@ -54,26 +56,15 @@ sum_once f key (x ∷ xs) ys apart all =
     let c = total_joined f s.0 s.1 in
     omega (arith, fewer, a, b, c)
 
-either_false : (a b : Bool) → (a || b) ≡ false → (a ≡ false) × (b ≡ false)
-either_false true b e = no_flag (sym e)
-either_false false b e = (refl, e)
-
-next_same : (xs : List ℕ) (a b : ℕ) (q r : List ℕ) → xs ++ a ∷ q ≡ xs ++ b ∷ r → a ≡ b
-next_same [] a b q r e = ap (λ l. get_or l 0 0) e
-next_same (x ∷ xs) a b q r e =
-    let all : x ∷ (xs ++ a ∷ q) ≡ x ∷ (xs ++ b ∷ r) = e in
-    let rest : (xs ++ a ∷ q) ≡ (xs ++ b ∷ r) = cc all in
-    next_same xs a b q r rest
-
 -- Instances.
 module _ (p : ProgramTree) (main : Identifier) (sited_calls : AreSited p) (node_in : (i : Instance) → IsInstance p main i → Contains p.nodes i.node) where
   -- the instances below one have paths that go on after its own
   below_path : (levels : ℕ) (i a : Instance) → Contains (unrolled p levels i) a → (q : Sites) × (a.path ≡ i.path ++ q)
-  below_path zero i a w = none_in a w
-  below_path (suc levels) i a w = elim (head_or_tail i (flat_map (λ (c : CallTree). unrolled p levels (callee p i c)) (calls i.node)) a w) [
+  below_path zero i a w = nothing_in a w
+  below_path (suc levels) i a w = elim (cons_cases i (flat_map (λ (c : CallTree). unrolled p levels (callee p i c)) (calls i.node)) a w) [
     | inl same ↦ ([], ap (λ (x : Instance). x.path) (sym same) ∙ nothing_more i.path)
     | inr rest ↦
-        let r = from_flat_map (λ (c : CallTree). unrolled p levels (callee p i c)) (calls i.node) a rest in
+        let r = of_flat_map (λ (c : CallTree). unrolled p levels (callee p i c)) (calls i.node) a rest in
         let s = below_path levels (callee p i r.0) a r.2 in
         (r.0.site ∷ s.0, s.1 ∙ append_assoc i.path (r.0.site ∷ []) s.0)
   ]
@@ -97,11 +88,11 @@ module _ (p : ProgramTree) (main : Identifier) (sited_calls : AreSited p) (node_
       beside c d a b v w in_a in_b e =
           let s = below_path levels (callee p i c) a in_a in
           let t = below_path levels (callee p i d) b in_b in
-          next_same i.path c.site d.site s.0 t.0 (sym (append_assoc i.path (c.site ∷ []) s.0) ∙ sym s.1 ∙ e ∙ t.1 ∙ append_assoc i.path (d.site ∷ []) t.0)
+          same_next i.path c.site d.site s.0 t.0 (sym (append_assoc i.path (c.site ∷ []) s.0) ∙ sym s.1 ∙ e ∙ t.1 ∙ append_assoc i.path (d.site ∷ []) t.0)
 
       above : (y : Instance) → Contains (flat_map (λ (c : CallTree). unrolled p levels (callee p i c)) (calls i.node)) y → i.path ≡ y.path → ⊥
       above y w e =
-          let r = from_flat_map (λ (c : CallTree). unrolled p levels (callee p i c)) (calls i.node) y w in
+          let r = of_flat_map (λ (c : CallTree). unrolled p levels (callee p i c)) (calls i.node) y w in
           let s = below_path levels (callee p i r.0) y r.2 in
           let long = ap length (e ∙ s.1) in
           omega (arith, long, length-append (i.path ++ r.0.site ∷ []) s.0, length-append i.path (r.0.site ∷ []))
@@ -111,25 +102,25 @@ module _ (p : ProgramTree) (main : Identifier) (sited_calls : AreSited p) (node_
 
 -- Memories.
 fresh : (n : NodeTree) (seen : List ℕ) (ds : List Delay) (d : Delay) → Contains (memories_beside n seen ds) d → is_in seen (site n d) ≡ false
-fresh n seen [] d w = none_in d w
+fresh n seen [] d w = nothing_in d w
 fresh n seen (x ∷ ds) d w = by (is_in seen (site n x)) refl (λ s v. fresh n s ds d v) w
   where
     by : (b : Bool) → is_in seen (site n x) ≡ b → ((s : List ℕ) → Contains (memories_beside n s ds) d → is_in s (site n d) ≡ false)
         → Contains (cond b (memories_beside n seen ds) (x ∷ memories_beside n (site n x ∷ seen) ds)) d → is_in seen (site n d) ≡ false
     by true e again w = again seen w
-    by false e again w = elim (head_or_tail x (memories_beside n (site n x ∷ seen) ds) d w) [
+    by false e again w = elim (cons_cases x (memories_beside n (site n x ∷ seen) ds) d w) [
       | inl same ↦ subst (λ (y : Delay). is_in seen (site n y) ≡ false) same e
-      | inr rest ↦ (either_false (nat_eq (site n x) (site n d)) (is_in seen (site n d)) (again (site n x ∷ seen) rest)).1
+      | inr rest ↦ (or_parts (nat_eq (site n x) (site n d)) (is_in seen (site n d)) (again (site n x ∷ seen) rest)).1
     ]
 
 among : (n : NodeTree) (seen : List ℕ) (ds : List Delay) (d : Delay) → Contains (memories_beside n seen ds) d → Contains ds d
-among n seen [] d w = none_in d w
+among n seen [] d w = nothing_in d w
 among n seen (x ∷ ds) d w = by (is_in seen (site n x)) (λ s v. among n s ds d v) w
   where
     by : (b : Bool) → ((s : List ℕ) → Contains (memories_beside n s ds) d → Contains ds d)
         → Contains (cond b (memories_beside n seen ds) (x ∷ memories_beside n (site n x ∷ seen) ds)) d → Contains (x ∷ ds) d
     by true again w = in_tail x ds d (again seen w)
-    by false again w = elim (head_or_tail x (memories_beside n (site n x ∷ seen) ds) d w) [
+    by false again w = elim (cons_cases x (memories_beside n (site n x ∷ seen) ds) d w) [
       | inl same ↦ subst (λ (y : Delay). Contains (y ∷ ds) d) (sym same) (at_head d ds)
       | inr rest ↦ in_tail x ds d (again (site n x ∷ seen) rest)
     ]
@@ -140,7 +131,7 @@ memories_apart n seen (x ∷ ds) = by (is_in seen (site n x)) (λ s. memories_ap
   where
     other : (y : Delay) → Contains (memories_beside n (site n x ∷ seen) ds) y → site n x ≡ site n y → ⊥
     other y w e =
-        let not : nat_eq (site n x) (site n y) ≡ false = (either_false (nat_eq (site n x) (site n y)) (is_in seen (site n y))
+        let not : nat_eq (site n x) (site n y) ≡ false = (or_parts (nat_eq (site n x) (site n y)) (is_in seen (site n y))
         (fresh n (site n x ∷ seen) ds y w)).0 in
         absurd (grind (arith, nat_tests, not, e))
 
@@ -151,10 +142,10 @@ memories_apart n seen (x ∷ ds) = by (is_in seen (site n x)) (λ s. memories_ap
 
 -- Ticks.
 out_of_places : (qs : List Sites) (q : Sites) → is_place_in qs q ≡ false → Contains qs q → ⊥
-out_of_places [] q e w = none_in q w
+out_of_places [] q e w = nothing_in q w
 out_of_places (r ∷ qs) q e w =
-    let no = either_false (same_place r q) (is_place_in qs q) e in
-    elim (head_or_tail r qs q w) [
+    let no = or_parts (same_place r q) (is_place_in qs q) e in
+    elim (cons_cases r qs q w) [
       | inl same ↦ no_flag (sym (subst (λ (x : Sites). same_place x q ≡ false) same no.0) ∙ itself q)
       | inr rest ↦ out_of_places qs q no.1 rest
     ]
@@ -164,12 +155,12 @@ out_of_places (r ∷ qs) q e w =
     itself (x ∷ xs) = let h = itself xs in let e : nat_eq x x ≡ true = grind (arith, nat_tests) in (λ i. e i && h i)
 
 of_different : (qs : List Sites) (q : Sites) → Contains (different qs) q → Contains qs q
-of_different [] q w = none_in q w
+of_different [] q w = nothing_in q w
 of_different (r ∷ qs) q w = by (is_place_in qs r) (λ v. of_different qs q v) w
   where
     by : (b : Bool) → (Contains (different qs) q → Contains qs q) → Contains (cond b (different qs) (r ∷ different qs)) q → Contains (r ∷ qs) q
     by true again w = in_tail r qs q (again w)
-    by false again w = elim (head_or_tail r (different qs) q w) [
+    by false again w = elim (cons_cases r (different qs) q w) [
       | inl same ↦ subst (λ (x : Sites). Contains (x ∷ qs) q) (sym same) (at_head q qs)
       | inr rest ↦ in_tail r qs q (again rest)
     ]
@@ -185,7 +176,7 @@ different_apart (r ∷ qs) = by (is_place_in qs r) refl (different_apart qs)
 -- what is among the clocks of arrows
 from_arrow : (i : Instance) (es : List Tree) (q : Sites) → Contains (arrow_clocks i es) q
     → (e : Tree) × Contains es e × (is_arrow e ≡ true) × (clock_in i Base e ≡ Some q)
-from_arrow i [] q w = none_in q w
+from_arrow i [] q w = nothing_in q w
 from_arrow i (e ∷ es) q w = elim (Contains-append_cases (own_clocks i e) (arrow_clocks i es) q w) [
   | inl here ↦ let r = own (is_arrow e) refl (clock_in i Base e) refl here in (e, at_head e es, r.0, r.1)
   | inr rest ↦ let r = from_arrow i es q rest in (r.0, in_tail e es r.0 r.1, r.2, r.3)
@@ -194,12 +185,12 @@ from_arrow i (e ∷ es) q w = elim (Contains-append_cases (own_clocks i e) (arro
     own : (b : Bool) → is_arrow e ≡ b → (o : Option Sites) → clock_in i Base e ≡ o
         → Contains (cond b (elim o as (λ _. List Sites) [ Nothing ↦ [] | Some p ↦ p ∷ [] ]) []) q
         → (is_arrow e ≡ true) × (clock_in i Base e ≡ Some q)
-    own true arrow Nothing at w = none_in q w
-    own true arrow (Some p) at w = elim (head_or_tail p [] q w) [
+    own true arrow Nothing at w = nothing_in q w
+    own true arrow (Some p) at w = elim (cons_cases p [] q w) [
       | inl same ↦ (arrow, at ∙ ap Some same)
-      | inr none ↦ none_in q none
+      | inr none ↦ nothing_in q none
     ]
-    own false arrow o at w = none_in q w
+    own false arrow o at w = nothing_in q w
 
 -- Comparisons.
 
@@ -310,7 +301,7 @@ module _ (p : ProgramTree) (main : Identifier) (sited_calls : AreSited p) (numbe
     ticks_many qs are =
         let clocks : Instance → List Sites = λ i. arrow_clocks i (node_parts i.node) in
         let few = sum_once (λ (q : Sites). 1) (λ (q : Sites). q) (ticks p main) qs (different_apart (flat_map clocks instances))
-        (λ q w. let r = from_flat_map clocks instances q (of_different (flat_map clocks instances) q w) in
+        (λ q w. let r = of_flat_map clocks instances q (of_different (flat_map clocks instances) q w) in
         let s = from_arrow r.0 (node_parts r.0.node) q r.2 in
         are.all r.0 s.0 q (only r.0 r.1) s.1 s.2 s.3) in
         let a = ones qs in
@@ -327,14 +318,14 @@ module _ (p : ProgramTree) (main : Identifier) (sited_calls : AreSited p) (numbe
         apart_flat (λ (x : Instance). x.path) (λ (m : MemoryAt). m.place) memories_of instances apart
         (λ i w. apart_map (λ (m : MemoryAt). m.place) (memory_at p i) (memories i.node)
         (apart_by (site i.node) (λ (d : Delay). (memory_at p i d).place) (memories i.node)
-        (λ d e v u same. (snoc i.path i.path (site i.node d) (site i.node e) same).1) (memories_apart i.node [] (node_delays i.node))))
+        (λ d e v u same. (snoc_parts i.path i.path (site i.node d) (site i.node e) same).1) (memories_apart i.node [] (node_delays i.node))))
         (λ i j a b v w in_a in_b same.
-        let x = of_map (memory_at p i) (memories i.node) a in_a in
-        let y = of_map (memory_at p j) (memories j.node) b in_b in
-        (snoc i.path j.path (site i.node x.0) (site j.node y.0) (ap (λ (m : MemoryAt). m.place) x.2 ∙ same ∙ sym (ap (λ (m : MemoryAt). m.place) y.2))).0) in
+        let x = from_map (memory_at p i) (memories i.node) a in_a in
+        let y = from_map (memory_at p j) (memories j.node) b in_b in
+        (snoc_parts i.path j.path (site i.node x.0) (site j.node y.0) (ap (λ (m : MemoryAt). m.place) x.2 ∙ same ∙ sym (ap (λ (m : MemoryAt). m.place) y.2))).0) in
         let few = sum_once f (λ (m : MemoryAt). m.place) (flat_map memories_of instances) ms each
-        (λ m w. let r = from_flat_map memories_of instances m w in
-        let x = of_map (memory_at p r.0) (memories r.0.node) m r.2 in
+        (λ m w. let r = of_flat_map memories_of instances m w in
+        let x = from_map (memory_at p r.0) (memories r.0.node) m r.2 in
         subst (λ (m : MemoryAt). Contains ms m) x.2 (are.all r.0 x.0 (only r.0 r.1) tt (among r.0.node [] (node_delays r.0.node) x.0 x.1))) in
         let a = total_flat_map f memories_of instances in
         let b = total_same (λ (i : Instance). total f (memories_of i)) (λ (i : Instance). memory_bits p i.node) instances
@@ -362,15 +353,15 @@ module _ (p : ProgramTree) (main : Identifier) (sited_calls : AreSited p) (numbe
         apart_flat (λ (x : Instance). x.path) (λ (c : ComparisonAt). c.place) tests_at instances apart
         (λ i w. apart_map (λ (c : ComparisonAt). c.place) (compared.compared_at i.path) (tests_in p i.node)
         (apart_by (λ (t : Tested). t.site) (λ (t : Tested). i.path ++ t.site ∷ []) (tests_in p i.node)
-        (λ t u v w same. (snoc i.path i.path t.site u.site same).1)
+        (λ t u v w same. (snoc_parts i.path i.path t.site u.site same).1)
         (node_tests_apart p i.node (numbered i.node (node_in i (only i w))))))
         (λ i j a b v w in_a in_b same.
-        let x = of_map (compared.compared_at i.path) (tests_in p i.node) a in_a in
-        let y = of_map (compared.compared_at j.path) (tests_in p j.node) b in_b in
-        (snoc i.path j.path x.0.site y.0.site (ap (λ (c : ComparisonAt). c.place) x.2 ∙ same ∙ sym (ap (λ (c : ComparisonAt). c.place) y.2))).0) in
+        let x = from_map (compared.compared_at i.path) (tests_in p i.node) a in_a in
+        let y = from_map (compared.compared_at j.path) (tests_in p j.node) b in_b in
+        (snoc_parts i.path j.path x.0.site y.0.site (ap (λ (c : ComparisonAt). c.place) x.2 ∙ same ∙ sym (ap (λ (c : ComparisonAt). c.place) y.2))).0) in
         let few = sum_once sides (λ (c : ComparisonAt). c.place) (flat_map tests_at instances) cs each
-        (λ c w. let r = from_flat_map tests_at instances c w in
-        let x = of_map (compared.compared_at r.0.path) (tests_in p r.0.node) c r.2 in
+        (λ c w. let r = of_flat_map tests_at instances c w in
+        let x = from_map (compared.compared_at r.0.path) (tests_in p r.0.node) c r.2 in
         let t = found_test p r.0.node x.0 x.1 in
         let v = t.2 in
         subst (λ (c : ComparisonAt). Contains cs c) x.2

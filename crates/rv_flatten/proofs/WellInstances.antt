@@ -10,9 +10,9 @@ use Rattle.rv_types.specs.WellFormed.{IsWellFormed, IsWellTyped, AreWell}
 use Rattle.rv_base.specs.Limits.{heaviest}
 use Rattle.rv_instances.specs.Weights.{weight, too_wide, weighed, IsTooWide}
 use Rattle.rv_flatten.proofs.Standing.{Stands, stands_weighed}
-use Rattle.rv_agreement.proofs.Controls.{no_flag}
 use Rattle.rv_meaning.proofs.Acceptable.{named_among, some_among}
-use Rattle.rv_types.proofs.Members.{at_head, cons_cases as head_or_tail, nothing_in as none_in}
+use Rattle.rv_types.proofs.Members.{at_head, cons_cases, nothing_in}
+use Rattle.rv_types.proofs.ChainLaws.{no_flag}
 
 module _ (program : ProgramTree) (main : Identifier) (well : AreWell program) (named : IsNode program main) where
   -- the node of each instance is one of the nodes
@@ -29,8 +29,8 @@ module _ (program : ProgramTree) (main : Identifier) (well : AreWell program) (n
 -- an expression above the limit is told
 too_wide_told : (w : Tree → ℕ) (es : List Tree) (at : ℕ) (site : Option ℕ) (form : Form) → Contains es (Node at site form)
     → nat_lt heaviest (w (Node at site form)) ≡ true → Contains (too_wide w es) at
-too_wide_told w [] at site form v e = none_in (Node at site form) v
-too_wide_told w (Node a s f ∷ es) at site form v e = elim (head_or_tail (Node a s f) es (Node at site form) v) [
+too_wide_told w [] at site form v e = nothing_in (Node at site form) v
+too_wide_told w (Node a s f ∷ es) at site form v e = elim (cons_cases (Node a s f) es (Node at site form) v) [
   | inl is ↦ Contains-append_left (cond (nat_lt heaviest (w (Node a s f))) (a ∷ []) []) (too_wide w es) at
       (here (nat_lt heaviest (w (Node a s f))) is (ap (λ t. nat_lt heaviest (w t)) is ∙ e))
   | inr rest ↦ Contains-append_right (cond (nat_lt heaviest (w (Node a s f))) (a ∷ []) []) (too_wide w es) at (too_wide_told w es at site form rest e)

@@ -17,7 +17,7 @@ use Rattle.rv_flat.specs.declared.flat.Flat.{Flat}
 use Rattle.rv_control.specs.Control.{control_of}
 use Rattle.rv_forms.specs.Choices.{refs_in, forms_in, AreChoices}
 use Rattle.rv_forms.specs.Terms.{columns_of, parts_at, AreUpdatesRead}
-use Rattle.rv_cases.proofs.Gathering.{same_truth}
+use Rattle.rv_diagram.proofs.Several.{same_truth}
 
 -- the reference of an answer is that of its part
 under_at : (parts : List Part) (i : ℕ) → ref_at (refs_in parts) i ≡ (part_at parts i).under

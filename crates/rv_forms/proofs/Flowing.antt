@@ -50,19 +50,15 @@ use Rattle.rv_forms.proofs.Bounds.{form_bounded, term_within, within_more}
 use Rattle.rv_forms.proofs.Kept.{one_kept, wholes_kept}
 use Rattle.rv_forms.proofs.Ranks.{rank_next, forms_kth, spelled_form, kind_bounded}
 use Rattle.rv_forms.proofs.Showing.{clock_shown}
-use Rattle.rv_agreement.proofs.Witnessed.{some_same}
 use Rattle.rv_bits.proofs.Flowing.{nothing_some}
+use Rattle.rv_base.proofs.Lists.{within_got}
+use Rattle.rv_base.proofs.Options.{some_same}
 
 -- what a list says of what stands at a place of it
 pub mapped : {A B : Type 0} (g : A → B) (xs : List A) (k : ℕ) (x : A) (d : B) → slice_get xs k ≡ Some x → slice_index_or (map g xs) k d ≡ g x
 mapped g [] k x d e = absurd (nothing_some x e)
 mapped g (y ∷ ys) zero x d e = ap g (some_same y x e)
 mapped g (y ∷ ys) (suc k) x d e = mapped g ys k x d e
-
-pub within_list : {A : Type 0} (xs : List A) (k : ℕ) (x : A) → slice_get xs k ≡ Some x → k < length xs
-within_list [] k x e = absurd (nothing_some x e)
-within_list (y ∷ ys) zero x e = omega arith
-within_list (y ∷ ys) (suc k) x e = let h = within_list ys k x e in omega (arith, h)
 
 pub past_list : {A : Type 0} (xs : List A) (k : ℕ) → slice_get xs k ≡ Nothing → length xs ≤ k
 past_list [] k e = omega arith
@@ -125,7 +121,7 @@ either_bounded columns n false p q x y = y
 -- a flow by its number
 module _ (f : Flat) (n : ℕ) (flow : FlatFlow) (is : slice_get f.flows n ≡ Some flow) where
   pub flow_low : n < length (system_of f).flows
-  flow_low = let h = within_list f.flows n flow is in let e = length-map f.flows (flow_item f.memories) in omega (arith, h, e)
+  flow_low = let h = within_got f.flows n flow is in let e = length-map f.flows (flow_item f.memories) in omega (arith, h, e)
 
   pub flow_item_is : nth_item (system_of f).flows n ≡ record { clock = flow.clock; body = tree_among f.memories flow.body }
   flow_item_is = mapped (flow_item f.memories) f.flows n flow no_item is
@@ -267,7 +263,7 @@ wholes_pushed f a b w t low are flow =
 -- a memory by its number
 module _ (f : Flat) (m : ℕ) (memory : FlatMemory) (is : slice_get f.memories m ≡ Some memory) where
   pub memory_low : m < length (system_of f).memories
-  memory_low = let h = within_list f.memories m memory is in let e = length-map f.memories (kept_of f.memories) in omega (arith, h, e)
+  memory_low = let h = within_got f.memories m memory is in let e = length-map f.memories (kept_of f.memories) in omega (arith, h, e)
 
   pub memory_kind_is : kind_at (memory_kinds (system_of f)) m ≡ memory.kind
   memory_kind_is = by f.memories m is

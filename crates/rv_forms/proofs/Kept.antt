@@ -23,7 +23,7 @@ use Rattle.rv_bits.specs.Shown.{AreAfter}
 use Rattle.rv_bits.proofs.Keeping.{around_kept, after_kept}
 use Rattle.rv_forms.specs.declared.over.Wholes.{Wholes}
 use Rattle.rv_forms.specs.Terms.{columns_of, weights_of, weight_in, parts_at, IsWithin, ReadsAs, AreWholes, IsAfterAs, AreKnown, IsReady}
-use Rattle.rv_agreement.proofs.Witnessed.{some_same as some_is}
+use Rattle.rv_base.proofs.Options.{some_same}
 
 pub to_terms : (a b : Diagrams) → Extends a b → terms.Extends a b
 to_terms a b e = record { begins = e.begins; longer = e.longer; kept = e.kept; variables = e.variables; limit = e.limit }
@@ -83,7 +83,7 @@ known_set f nodes known m t lt are is = record {
     | inl same ↦
         let here : slice_index_or (slice_set known m (Some t)) k Nothing ≡ Some t =
         ap (λ n. slice_index_or (slice_set known m (Some t)) n Nothing) same ∙ get_or-set_same known m (Some t) Nothing lt in
-        let one : t ≡ other = some_is t other (sym here ∙ e) in
+        let one : t ≡ other = some_same t other (sym here ∙ e) in
         subst (λ (u : Term). IsAfterAs f nodes k u.parts) one (subst (λ n. IsAfterAs f nodes n t.parts) (sym same) is)
     | inr apart ↦ are.each k other (sym (get_or-set_other known m k (Some t) Nothing apart) ∙ e)
   ];

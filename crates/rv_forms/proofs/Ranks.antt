@@ -17,11 +17,11 @@ use Rattle.rv_terms.specs.Parts.{IsTermOf}
 use Rattle.rv_agreement.specs.Agreement.{forms_from}
 use Rattle.rv_agreement.specs.Trees.{kind_at}
 use Rattle.rv_agreement.specs.Valuations.{form_of, spelled, whole_count, rank}
-use Rattle.rv_control.proofs.Bounded.{IsBounded, zero_bounded, column_bounded, length-zeros as zeros_length, length-unit as unit_length}
+use Rattle.rv_control.proofs.Bounded.{IsBounded, zero_bounded, column_bounded, length-zeros, length-unit}
 use Rattle.rv_bits.proofs.Listing.{element_before, element_last}
 use Rattle.rv_forms.specs.Columns.{kind_form}
 use Rattle.rv_forms.specs.Terms.{parts_at}
-use Rattle.rv_terms.proofs.Counting.{bit-most as one_most}
+use Rattle.rv_base.proofs.Truths.{bit_most}
 
 pub rank_zero : (ks : List Kind) → rank ks 0 ≡ 0
 rank_zero [] = refl
@@ -42,7 +42,7 @@ rank_all (k ∷ ks) = ap (λ n. cond (is_integer k) 1 0 + n) (rank_all ks)
 pub rank_most : (ks : List Kind) (m : ℕ) → rank ks m ≤ m
 rank_most [] m = omega arith
 rank_most (k ∷ ks) zero = omega arith
-rank_most (k ∷ ks) (suc m) = let h = rank_most ks m in let g = one_most (is_integer k) in omega (arith, h, g)
+rank_most (k ∷ ks) (suc m) = let h = rank_most ks m in let g = bit_most (is_integer k) in omega (arith, h, g)
 
 pub rank_within : (ks : List Kind) (m : ℕ) → rank ks m ≤ whole_count ks
 rank_within [] m = omega arith
@@ -131,12 +131,12 @@ unit_at k n i lt = elim (cases_eq i k) [
 pub constant_made : (nodes : List Triple) (columns : ℕ) (z y : ℤ) (cs : List ℤ) (parts : List Part) → cs ≡ zeros columns → z ≡ y
     → IsTermOf nodes (length cs) (λ v. record { coefficients = cs; constant = z }) parts → IsTermOf nodes columns (λ v. constant_form columns y) parts
 constant_made nodes columns z y cs parts e same is =
-    subst (λ n. IsTermOf nodes n (λ v. constant_form columns y) parts) (zeros_length columns)
+    subst (λ n. IsTermOf nodes n (λ v. constant_form columns y) parts) (length-zeros columns)
     (subst (λ (ds : List ℤ). IsTermOf nodes (length ds) (λ v. record { coefficients = ds; constant = y }) parts) e
     (subst (λ (x : ℤ). IsTermOf nodes (length cs) (λ v. record { coefficients = cs; constant = x }) parts) same is))
 
 pub column_made : (nodes : List Triple) (columns column : ℕ) (cs : List ℤ) (parts : List Part) → cs ≡ unit column columns
     → IsTermOf nodes (length cs) (λ v. record { coefficients = cs; constant = pos 0 }) parts → IsTermOf nodes columns (λ v. column_form columns column) parts
 column_made nodes columns column cs parts e is =
-    subst (λ n. IsTermOf nodes n (λ v. column_form columns column) parts) (unit_length column columns)
+    subst (λ n. IsTermOf nodes n (λ v. column_form columns column) parts) (length-unit column columns)
     (subst (λ (ds : List ℤ). IsTermOf nodes (length ds) (λ v. record { coefficients = ds; constant = pos 0 }) parts) e is)

@@ -40,7 +40,7 @@ use Rattle.rv_forms.specs.Columns.{gives_whole, combined_form}
 use Rattle.rv_forms.specs.Terms.{columns_of, weights_of, weight_in, form_read, flow_read, parts_at, IsWithin, GivesTerm, ReadsAs, AreWholes, IsAfterRead}
 use Rattle.rv_forms.proofs.Bounds.{form_bounded, term_within}
 use Rattle.rv_forms.proofs.Kept.{form_kept, within_kept}
-use Rattle.rv_agreement.proofs.Controls.{no_flag}
+use Rattle.rv_types.proofs.ChainLaws.{no_flag}
 
 -- CONSTANTS
 

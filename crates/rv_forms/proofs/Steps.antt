@@ -32,10 +32,11 @@ use Rattle.rv_forms.specs.declared.over.Wholes.{Wholes}
 use Rattle.rv_forms.specs.Columns.{gives_whole, combined_form}
 use Rattle.rv_forms.specs.Terms.{columns_of, weights_of, weight_in, parts_at, IsWithin, GivesTerm, ReadsAs, AreWholes, IsReady}
 use Rattle.rv_forms.proofs.Bounds.{within_more}
-use Rattle.rv_forms.proofs.Flowing.{memory_low, within_list}
+use Rattle.rv_forms.proofs.Flowing.{memory_low}
 use Rattle.rv_forms.proofs.Kept.{width_first}
 use Rattle.rv_forms.proofs.Shapes.{tree_flow, tree_input}
 use Rattle.rv_forms.proofs.Showing.{reads_constant, reads_none, no_tick, no_not, no_most, no_operator, reads_flow, reads_memory, reads_input}
+use Rattle.rv_base.proofs.Lists.{within_got}
 
 -- a term of the columns of the flat system
 pub zero_here : (x : Around) (w : Wholes) (d : Diagrams) (parts : List Part) → AreWholes x.flat.now d.nodes w
@@ -53,7 +54,7 @@ pub low_kept : (x : Around) (w : Wholes) (d : Diagrams) (shown : List (Option (L
     → IsReady d x w shown known → slice_get x.flat.now.memories m ≡ Some memory → (m < length w.kept) × (m < length known)
 low_kept x w d shown known m memory ready is =
     let low = memory_low x.flat.now m memory is in
-    let here = within_list x.flat.now.memories m memory is in
+    let here = within_got x.flat.now.memories m memory is in
     let many = ready.wholes.many_kept in
     let size = ready.in_terms.size in
     (omega (arith, low, many), omega (arith, here, size))

@@ -14,7 +14,7 @@ use Rattle.rv_instances.specs.Flowing.{IsKnownClock, IsKnownPace}
 use Rattle.rv_instances.proofs.Known.{each_nil, parts_named}
 use Rattle.rv_instances.proofs.ClockFlows.{all_known, pace_known, clocks_known}
 use Rattle.rv_instances.proofs.CallsInside.{call_known}
-use Rattle.rv_types.proofs.RightNames.{both_empty as split_nil}
+use Rattle.rv_types.proofs.RightNames.{both_empty}
 
 -- what a known pace takes of a known clock
 pub taken_known : (n : NodeTree) (k : Clock) (p : Pace) → IsKnownClock n k → IsKnownPace n p → IsKnownClock n (taken k p)
@@ -28,16 +28,16 @@ module _ (p : ProgramTree) (named : name_faults p ≡ []) (n : NodeTree) (there 
   pub declared_clocks : flat_map (clock_use n) n.locals ≡ []
   declared_clocks =
       let all = each_nil (names_in_node p) p.nodes (parts_named p named).1 n there in
-      let a = split_nil (repeated [] (decl_names (decls n)) ++ repeated (decl_names n.inputs) (lefts n))
+      let a = both_empty (repeated [] (decl_names (decls n)) ++ repeated (decl_names n.inputs) (lefts n))
       (flat_map (undefined_unless (lefts n)) (decl_names (n.outputs ++ n.locals))
       ++ ((flat_map (flow_use p) (decls n) ++ flat_map (clock_use n) n.locals)
       ++ (flat_map (equation_uses p n) n.equations ++ flat_map (assertion_uses p n) n.assertions))) all in
-      let b = split_nil (flat_map (undefined_unless (lefts n)) (decl_names (n.outputs ++ n.locals)))
+      let b = both_empty (flat_map (undefined_unless (lefts n)) (decl_names (n.outputs ++ n.locals)))
       ((flat_map (flow_use p) (decls n) ++ flat_map (clock_use n) n.locals)
       ++ (flat_map (equation_uses p n) n.equations ++ flat_map (assertion_uses p n) n.assertions)) a.1 in
-      let c = split_nil (flat_map (flow_use p) (decls n) ++ flat_map (clock_use n) n.locals)
+      let c = both_empty (flat_map (flow_use p) (decls n) ++ flat_map (clock_use n) n.locals)
       (flat_map (equation_uses p n) n.equations ++ flat_map (assertion_uses p n) n.assertions) b.1 in
-      (split_nil (flat_map (flow_use p) (decls n)) (flat_map (clock_use n) n.locals) c.0).1
+      (both_empty (flat_map (flow_use p) (decls n)) (flat_map (clock_use n) n.locals) c.0).1
 
   -- the clock of each flow is known
   pub flow_clock_known : (i : ℕ) → IsKnownClock n (clock_at n i)

@@ -13,7 +13,7 @@ use Rattle.rv_instances.specs.Layouts.{node_at, laid_at, all_laid}
 use Rattle.rv_instances.proofs.ExpandedLaws.{instance_at, node_is}
 use Rattle.rv_instances.proofs.LaidFlows.{laid_is}
 use Rattle.rv_instances.proofs.ToldCalls.{call_listed, listed_call}
-use Rattle.rv_instances.proofs.Lists.{got}
+use Rattle.std.proofs.lemmas.Option.{get_or_from_slice_get}
 
 module _ (p : ProgramTree) (main : Identifier) (instances : List Numbered) (known : IsExpanded p main instances) (m : ℕ) (lt : m < length instances)
     (listed : List ClockedCall) (are : map told listed ≡ calls_told (node_at p instances m)) where
@@ -45,4 +45,4 @@ module _ (p : ProgramTree) (main : Identifier) (instances : List Numbered) (know
 pub laid_read : (p : ProgramTree) (instances : List Numbered) (laid : List Laid) (m : ℕ) (l : Laid) → m < length instances
     → laid ≡ all_laid p instances (length instances) → slice_get laid m ≡ Some l → l ≡ laid_at p instances m
 laid_read p instances laid m l lt are is =
-    sym (got laid m l l is) ∙ ap (λ (ls : List Laid). get_or ls m l) are ∙ laid_is p instances (length instances) m l lt
+    sym (get_or_from_slice_get laid m l l is) ∙ ap (λ (ls : List Laid). get_or ls m l) are ∙ laid_is p instances (length instances) m l lt

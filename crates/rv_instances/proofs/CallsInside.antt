@@ -10,8 +10,8 @@ use Rattle.rv_types.specs.Names.{is_declared, node_names, is_value, node_uses, e
 use Rattle.rv_types.specs.Instances.{CallTree, calls, calls_in, form_calls, calls_in_all, calls_in_equations, calls_in_assertions, IsArgument, head, tail}
 use Rattle.rv_instances.proofs.Known.{each_nil, uses_of}
 use Rattle.rv_types.proofs.Members.{cons_cases, nothing_in}
-use Rattle.rv_types.proofs.RightNames.{both_empty as split_nil}
-use Rattle.rv_types.proofs.TypedParts.{right_calls as in_right}
+use Rattle.rv_types.proofs.RightNames.{both_empty}
+use Rattle.rv_types.proofs.TypedParts.{right_calls}
 
 -- The names in the arguments of a call of an expression of which every name is known.
 module _ (values clocks nodes : Identifier → Bool) where
@@ -30,21 +30,21 @@ module _ (values clocks nodes : Identifier → Bool) where
     form_known at site (Minus t) e c w = arguments_known t e c w
     form_known at site (Pre t) e c w = arguments_known t e c w
     form_known at site (Current t) e c w = arguments_known t e c w
-    form_known at site (When t x) e c w = arguments_known t (split_nil (own_uses values clocks nodes (Node at site (When t x))) (uses values clocks nodes t)
+    form_known at site (When t x) e c w = arguments_known t (both_empty (own_uses values clocks nodes (Node at site (When t x))) (uses values clocks nodes t)
         e).1 c w
     form_known at site (Binary o a b) e c w =
-        let s = split_nil (uses values clocks nodes a) (uses values clocks nodes b) e in
+        let s = both_empty (uses values clocks nodes a) (uses values clocks nodes b) e in
         elim (Contains-append_cases (calls_in a) (calls_in b) c w) [ inl v ↦ arguments_known a s.0 c v | inr v ↦ arguments_known b s.1 c v ]
     form_known at site (If i a b) e c w =
-        let s = split_nil (uses values clocks nodes i) (uses values clocks nodes a ++ uses values clocks nodes b) e in
-        let t = split_nil (uses values clocks nodes a) (uses values clocks nodes b) s.1 in
+        let s = both_empty (uses values clocks nodes i) (uses values clocks nodes a ++ uses values clocks nodes b) e in
+        let t = both_empty (uses values clocks nodes a) (uses values clocks nodes b) s.1 in
         elim (Contains-append_cases (calls_in i) (calls_in a ++ calls_in b) c w) [
           | inl v ↦ arguments_known i s.0 c v
           | inr v ↦ elim (Contains-append_cases (calls_in a) (calls_in b) c v) [ inl u ↦ arguments_known a t.0 c u | inr u ↦ arguments_known b t.1 c u ]
         ]
     form_known at site (AtMostOne es) e c w = all_known es e c w
     form_known at site (Call f es) e c w =
-        let s = split_nil (own_uses values clocks nodes (Node at site (Call f es))) (faults_of_all (own_uses values clocks nodes) es) e in
+        let s = both_empty (own_uses values clocks nodes (Node at site (Call f es))) (faults_of_all (own_uses values clocks nodes) es) e in
         elim (cons_cases (record { at = at; site = unwrap_or site 0; name = f; args = es }) (calls_in_all es) c w) [
           | inl same ↦ subst (λ (d : CallTree). faults_of_all (own_uses values clocks nodes) d.args ≡ []) same s.1
           | inr v ↦ all_known es s.1 c v
@@ -54,15 +54,15 @@ module _ (values clocks nodes : Identifier → Bool) where
         → faults_of_all (own_uses values clocks nodes) c.args ≡ []
     all_known None e c w = nothing_in c w
     all_known (More t ts) e c w =
-        let s = split_nil (uses values clocks nodes t) (faults_of_all (own_uses values clocks nodes) ts) e in
+        let s = both_empty (uses values clocks nodes t) (faults_of_all (own_uses values clocks nodes) ts) e in
         elim (Contains-append_cases (calls_in t) (calls_in_all ts) c w) [ inl v ↦ arguments_known t s.0 c v | inr v ↦ all_known ts s.1 c v ]
 
   -- the names in an argument
   pub argument_known : (es : Trees) (j : ℕ) (e : Tree) → faults_of_all (own_uses values clocks nodes) es ≡ [] → IsArgument es j e
       → uses values clocks nodes e ≡ []
-  argument_known _ _ e known (head {es = es}) = (split_nil (uses values clocks nodes e) (faults_of_all (own_uses values clocks nodes) es) known).0
+  argument_known _ _ e known (head {es = es}) = (both_empty (uses values clocks nodes e) (faults_of_all (own_uses values clocks nodes) es) known).0
   argument_known _ _ e known (tail {e = t} {es = es} {j = j} rest) = argument_known es j e
-      (split_nil (uses values clocks nodes t) (faults_of_all (own_uses values clocks nodes) es) known).1 rest
+      (both_empty (uses values clocks nodes t) (faults_of_all (own_uses values clocks nodes) es) known).1 rest
 
 -- The calls in the arguments of a call of an expression are calls of it.
 mutual
@@ -137,7 +137,7 @@ of_body (r ∷ rs) d w = elim (Contains-append_cases (calls_in r.body) (calls_in
 pub calls_nested : (n : NodeTree) (c d : CallTree) → Contains (calls n) c → Contains (calls_in_all c.args) d → Contains (calls n) d
 calls_nested n c d w v = elim (Contains-append_cases (calls_in_equations n.equations) (calls_in_assertions n.assertions) c w) [
   | inl u ↦ let q = of_right n.equations c u in Contains-append_left (calls_in_equations n.equations) (calls_in_assertions n.assertions) d
-      (in_right n.equations q.0 d q.1 (nested q.0.right c d q.2 v))
+      (right_calls n.equations q.0 d q.1 (nested q.0.right c d q.2 v))
   | inr u ↦ let q = of_body n.assertions c u in Contains-append_right (calls_in_equations n.equations) (calls_in_assertions n.assertions) d
       (in_body n.assertions q.0 d q.1 (nested q.0.body c d q.2 v))
 ]
@@ -149,7 +149,7 @@ names_of_all p n es = faults_of_all (own_uses (is_value p n) (is_flow n) (is_dec
 module _ (p : ProgramTree) (named : name_faults p ≡ []) (n : NodeTree) (there : Contains p.nodes n) where
   -- the names in a right side
   pub right_known : (q : EquationTree) → Contains n.equations q → node_uses p n q.right ≡ []
-  right_known q w = (split_nil (flat_map (use_of (is_flow n)) q.lefts) (node_uses p n q.right)
+  right_known q w = (both_empty (flat_map (use_of (is_flow n)) q.lefts) (node_uses p n q.right)
       (each_nil (equation_uses p n) n.equations (uses_of p named n there).0 q w)).1
 
   -- those in the arguments of a call

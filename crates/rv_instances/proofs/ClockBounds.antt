@@ -21,7 +21,7 @@ use Rattle.rv_types.specs.Instances.{taken}
 use Rattle.rv_types.specs.ToldPaces.{first_pace, operator_told, told_pace, form_told, told_pace_of_all}
 use Rattle.rv_instances.specs.Layouts.{IsWithin}
 use Rattle.rv_instances.proofs.Lists.{nat_split}
-use Rattle.rv_types.proofs.Members.{of_map}
+use Rattle.rv_base.proofs.Lists.{from_map}
 
 abbrev pub IsLow : NodeTree → Clock → Type 0
 IsLow n Base = Unit {0}
@@ -90,10 +90,10 @@ clock_low n i = elim (nat_split i (length (flow_clocks n))) [
     each : (c : Clock) → Contains (flow_clocks n) c → IsLow n c
     each c w = elim (Contains-append_cases (map base_clock n.inputs ++ map base_clock n.outputs) (map (λ (d : Decl). declared_clock n d.clock) n.locals) c w) [
       | inl front ↦ elim (Contains-append_cases (map base_clock n.inputs) (map base_clock n.outputs) c front) [
-        | inl v ↦ subst (IsLow n) (of_map base_clock n.inputs c v).2 tt
-        | inr v ↦ subst (IsLow n) (of_map base_clock n.outputs c v).2 tt
+        | inl v ↦ subst (IsLow n) (from_map base_clock n.inputs c v).2 tt
+        | inr v ↦ subst (IsLow n) (from_map base_clock n.outputs c v).2 tt
       ]
-      | inr v ↦ let d = of_map (λ (d : Decl). declared_clock n d.clock) n.locals c v in subst (IsLow n) d.2 (declared_low n d.0.clock)
+      | inr v ↦ let d = from_map (λ (d : Decl). declared_clock n d.clock) n.locals c v in subst (IsLow n) d.2 (declared_low n d.0.clock)
     ]
 
 when_low : (n : NodeTree) (p : Pace) (x : Identifier) → IsLowPace n (when_pace n p (site_of n x))

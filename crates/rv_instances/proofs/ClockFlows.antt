@@ -23,8 +23,9 @@ use Rattle.rv_types.specs.Parts.{faults_of_all}
 use Rattle.rv_instances.specs.Flowing.{IsKnownClock, IsKnownPace}
 use Rattle.rv_instances.proofs.Lists.{nat_split}
 use Rattle.rv_instances.proofs.Known.{each_nil}
-use Rattle.rv_types.proofs.Members.{index_there, of_map}
-use Rattle.rv_types.proofs.RightNames.{both_empty as split_nil}
+use Rattle.rv_types.proofs.Members.{index_there}
+use Rattle.rv_types.proofs.RightNames.{both_empty}
+use Rattle.rv_base.proofs.Lists.{from_map}
 
 seen_known : (n : NodeTree) (p : Pace) → IsKnownPace n p → IsKnownPace n (seen p)
 seen_known n Free h = tt
@@ -105,24 +106,24 @@ module _ (n : NodeTree) (values nodes : Identifier → Bool) (declared : (i : �
     form_known at site (Current t) e = current_known n declared (seen (pace n t))
     form_known at site (When t x) e =
         when_known n (seen (pace n t)) (site_of n x.text)
-        (flow_site x.text x.at (split_nil (own_uses values (is_flow n) nodes (Node at site (When t x))) (uses values (is_flow n) nodes t) e).0)
+        (flow_site x.text x.at (both_empty (own_uses values (is_flow n) nodes (Node at site (When t x))) (uses values (is_flow n) nodes t) e).0)
     form_known at site (Binary o a b) e =
-        let s = split_nil (uses values (is_flow n) nodes a) (uses values (is_flow n) nodes b) e in
+        let s = both_empty (uses values (is_flow n) nodes a) (uses values (is_flow n) nodes b) e in
         binary_known n o (seen (pace n a)) (seen (pace n b)) (seen_known n (pace n a) (pace_known a s.0)) (seen_known n (pace n b) (pace_known b s.1))
     form_known at site (If i a b) e =
-        let s = split_nil (uses values (is_flow n) nodes i) (uses values (is_flow n) nodes a ++ uses values (is_flow n) nodes b) e in
-        let t = split_nil (uses values (is_flow n) nodes a) (uses values (is_flow n) nodes b) s.1 in
+        let s = both_empty (uses values (is_flow n) nodes i) (uses values (is_flow n) nodes a ++ uses values (is_flow n) nodes b) e in
+        let t = both_empty (uses values (is_flow n) nodes a) (uses values (is_flow n) nodes b) s.1 in
         meet_known n (seen (pace n i)) (meet (seen (pace n a)) (seen (pace n b))) (seen_known n (pace n i) (pace_known i s.0))
         (meet_known n (seen (pace n a)) (seen (pace n b)) (seen_known n (pace n a) (pace_known a t.0)) (seen_known n (pace n b) (pace_known b t.1)))
     form_known at site (AtMostOne es) e = all_known es e
     form_known at site (Call f es) e =
-        grounded_known n (pace_of_all n es) (all_known es (split_nil (own_uses values (is_flow n) nodes (Node at site (Call f es)))
+        grounded_known n (pace_of_all n es) (all_known es (both_empty (own_uses values (is_flow n) nodes (Node at site (Call f es)))
         (faults_of_all (own_uses values (is_flow n) nodes) es) e).1)
 
     pub all_known : (es : Trees) → faults_of_all (own_uses values (is_flow n) nodes) es ≡ [] → IsKnownPace n (pace_of_all n es)
     all_known None e = tt
     all_known (More t ts) e =
-        let s = split_nil (uses values (is_flow n) nodes t) (faults_of_all (own_uses values (is_flow n) nodes) ts) e in
+        let s = both_empty (uses values (is_flow n) nodes t) (faults_of_all (own_uses values (is_flow n) nodes) ts) e in
         meet_known n (seen (pace n t)) (pace_of_all n ts) (seen_known n (pace n t) (pace_known t s.0)) (all_known ts s.1)
 
 -- where every declared clock is a flow, the clock of each flow is known
@@ -152,10 +153,10 @@ module _ (n : NodeTree) where
       each c w = elim (Contains-append_cases (map base_clock n.inputs ++ map base_clock n.outputs)
           (map (λ (d : Decl). declared_clock n d.clock) n.locals) c w) [
             | inl front ↦ elim (Contains-append_cases (map base_clock n.inputs) (map base_clock n.outputs) c front) [
-              | inl v ↦ subst (IsKnownClock n) (of_map base_clock n.inputs c v).2 tt
-              | inr v ↦ subst (IsKnownClock n) (of_map base_clock n.outputs c v).2 tt
+              | inl v ↦ subst (IsKnownClock n) (from_map base_clock n.inputs c v).2 tt
+              | inr v ↦ subst (IsKnownClock n) (from_map base_clock n.outputs c v).2 tt
             ]
             | inr v ↦
-                let d = of_map (λ (d : Decl). declared_clock n d.clock) n.locals c v in
+                let d = from_map (λ (d : Decl). declared_clock n d.clock) n.locals c v in
                 subst (IsKnownClock n) d.2 (declared_known d.0.clock (each_nil (clock_use n) n.locals uses d.0 d.1))
           ]

@@ -20,7 +20,7 @@ use Rattle.rv_instances.proofs.Lists.{nat_split}
 use Rattle.rv_instances.proofs.Known.{number_of_node}
 use Rattle.rv_instances.proofs.Flowing.{instance_node}
 use Rattle.rv_instances.proofs.FlowPlaces.{not_empty, snoc_parts, numbered_node}
-use Rattle.rv_types.proofs.CallSites.{one_call as same_call}
+use Rattle.rv_types.proofs.CallSites.{one_call}
 
 -- no place stands before itself
 pub not_itself : (a : Sites) → IsBefore a a → ⊥
@@ -51,7 +51,7 @@ module _ (p : ProgramTree) (main : Identifier) (named : name_faults p ≡ []) (d
   same_instance _ _ (is_callee {i = j} d is w) (is_callee {i = b} c js v) e =
       let s = snoc_parts j.path b.path d.site c.site e in
       let caller = same_instance j b is js s.0 in
-      let call : d ≡ c = same_call b.node (sited b.node (instance_node p named main declared b js)) d c
+      let call : d ≡ c = one_call b.node (sited b.node (instance_node p named main declared b js)) d c
       (subst (λ (i : Instance). Contains (calls i.node) d) caller w) v s.1 in
       λ t. callee p (caller t) (call t)
 

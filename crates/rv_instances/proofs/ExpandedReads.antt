@@ -9,24 +9,25 @@ use Rattle.rv_instances.specs.declared.timed.ClockedCall.{ClockedCall}
 use Rattle.rv_instances.specs.declared.expanded.Expanded.{Expanded}
 use Rattle.rv_instances.specs.Expanded.{IsKnown, ToldCall, told, calls_told, no_instance}
 use Rattle.rv_instances.specs.Layouts.{node_at}
-use Rattle.rv_instances.proofs.Lists.{got, length_map}
+use Rattle.rv_instances.proofs.Lists.{length_map}
 use Rattle.rv_instances.proofs.Known.{map_at}
 use Rattle.rv_instances.proofs.ExpandedLaws.{of_nodes}
+use Rattle.std.proofs.lemmas.Option.{get_or_from_slice_get}
 
 module _ (x : Expanded) (known : IsKnown x) (m : ℕ) (v : Numbered) (lt : m < length x.instances.now) (is : slice_get x.instances.now m ≡ Some v) where
   in_tree : v.node < length (program_tree x.program.now).nodes
   in_tree = of_nodes (program_tree x.program.now) (name_at (program_tree x.program.now) x.main) x.instances.now known.expanded v
-      (m, lt, got x.instances.now m v v is)
+      (m, lt, get_or_from_slice_get x.instances.now m v v is)
 
   pub node_within : v.node < length x.program.now.nodes
   node_within = let size = length_map node_tree x.program.now.nodes in let h = in_tree in omega (arith, size, h)
 
   at_node : get_or (program_tree x.program.now).nodes v.node no_node ≡ node_at (program_tree x.program.now) x.instances.now m
-  at_node = sym (ap (λ (i : Numbered). get_or (program_tree x.program.now).nodes i.node no_node) (got x.instances.now m v no_instance is))
+  at_node = sym (ap (λ (i : Numbered). get_or (program_tree x.program.now).nodes i.node no_node) (get_or_from_slice_get x.instances.now m v no_instance is))
 
   pub node_read : (n : declared.Node) → slice_get x.program.now.nodes v.node ≡ Some n → node_tree n ≡ node_at (program_tree x.program.now) x.instances.now m
   node_read n at =
-      sym (map_at node_tree x.program.now.nodes v.node no_node n node_within ∙ ap node_tree (got x.program.now.nodes v.node n n at)) ∙ at_node
+      sym (map_at node_tree x.program.now.nodes v.node no_node n node_within ∙ ap node_tree (get_or_from_slice_get x.program.now.nodes v.node n n at)) ∙ at_node
 
   pub clocks_within : v.node < length x.clocks
   clocks_within =
@@ -38,7 +39,7 @@ module _ (x : Expanded) (known : IsKnown x) (m : ℕ) (v : Numbered) (lt : m < l
   pub clocks_read : (c : NodeClocks) → slice_get x.clocks v.node ≡ Some c → node_tree c.node.now ≡ node_at (program_tree x.program.now) x.instances.now m
   clocks_read c at =
       ap node_tree
-      (sym (ap (λ (d : NodeClocks). d.node.now) (got x.clocks v.node c c at))
+      (sym (ap (λ (d : NodeClocks). d.node.now) (get_or_from_slice_get x.clocks v.node c c at))
       ∙ sym (map_at (λ (d : NodeClocks). d.node.now) x.clocks v.node c.node.now c clocks_within)
       ∙ ap (λ (ns : List declared.Node). get_or ns v.node c.node.now) known.clocks)
       ∙ sym (map_at node_tree x.program.now.nodes v.node no_node c.node.now node_within)
@@ -56,7 +57,7 @@ module _ (x : Expanded) (known : IsKnown x) (m : ℕ) (v : Numbered) (lt : m < l
       → map told cs ≡ calls_told (node_at (program_tree x.program.now) x.instances.now m)
   calls_read cs at =
       sym (map_at (λ (ds : List ClockedCall). map told ds) x.calls v.node [] cs calls_within
-      ∙ ap (λ (ds : List ClockedCall). map told ds) (got x.calls v.node cs cs at))
+      ∙ ap (λ (ds : List ClockedCall). map told ds) (get_or_from_slice_get x.calls v.node cs cs at))
       ∙ ap (λ (l : List (List ToldCall)). get_or l v.node []) known.calls
       ∙ map_at calls_told (program_tree x.program.now).nodes v.node [] no_node in_tree
       ∙ ap calls_told at_node

@@ -17,7 +17,7 @@ use Rattle.rv_instances.proofs.Lists.{length_map, beside}
 use Rattle.rv_instances.proofs.Known.{map_at, number_of_node}
 use Rattle.rv_instances.proofs.Flowing.{site_itself, instance_node}
 use Rattle.rv_instances.proofs.FlowTable.{in_flows, of_flows, flows_rise, IsEarlier}
-use Rattle.rv_types.proofs.CallSites.{one_call as same_call}
+use Rattle.rv_types.proofs.CallSites.{one_call}
 use Rattle.rv_types.proofs.Members.{in_map}
 
 abbrev pub tail_of : List ℕ → List ℕ
@@ -61,7 +61,7 @@ module _ (p : ProgramTree) (main : Identifier) (named : name_faults p ≡ []) (d
       let s = snoc_parts j.path b.path d.site c.site e in
       let n = same_node j b is js s.0 in
       ap (λ (c : CallTree). node_of p c.name)
-      (same_call b.node (sited b.node (instance_node p named main declared b js)) d c (subst (λ (n : NodeTree). Contains (calls n) d) n w) v s.1)
+      (one_call b.node (sited b.node (instance_node p named main declared b js)) d c (subst (λ (n : NodeTree). Contains (calls n) d) n w) v s.1)
 
   -- below an instance stand calls with sites beyond its flows
   below_path : (i a : Instance) (c : ℕ) (rest : List ℕ) → IsInstance p main i → IsInstance p main a → i.path ≡ a.path ++ c ∷ rest → length (flows a.node) ≤ c

@@ -13,9 +13,10 @@ use Rattle.rv_instances.specs.declared.answer.Instance.{Instance as Numbered}
 use Rattle.rv_types.specs.Instances.{no_node}
 use Rattle.rv_instances.specs.declared.flows.Flow.{Flow}
 use Rattle.rv_instances.specs.Flowing.{flows_below, flows_to, flow_count, AreOfNodes}
-use Rattle.rv_instances.proofs.Lists.{got, length_map}
+use Rattle.rv_instances.proofs.Lists.{length_map}
 use Rattle.rv_instances.proofs.Known.{map_at}
 use Rattle.rv_types.proofs.Members.{cons_cases, in_map, nothing_in}
+use Rattle.std.proofs.lemmas.Option.{get_or_from_slice_get}
 
 pub to_more : (count : ℕ → ℕ) (now new : List Flow) (k c : ℕ) → now ≡ flows_to count k → new ≡ now ++ flows_below k c → c ≡ count k
     → new ≡ flows_to count (k + 1)
@@ -109,12 +110,12 @@ flows_rise count n j k x less lt = in_order_at (flows_to count n) (flows_in_orde
 module _ (p : Program) (instances : List Numbered) (of : AreOfNodes (program_tree p) instances) (k : ℕ) (x : Numbered) (lt : k < length instances)
     (is : slice_get instances k ≡ Some x) where
   pub node_within : x.node < length p.nodes
-  node_within = let size = length_map node_tree p.nodes in let h = of x (k, lt, got instances k x x is) in omega (arith, size, h)
+  node_within = let size = length_map node_tree p.nodes in let h = of x (k, lt, get_or_from_slice_get instances k x x is) in omega (arith, size, h)
 
   pub node_flows_few : (n : declared.Node) → IsBounded (program_tree p) → slice_get p.nodes x.node ≡ Some n → length (flows (node_tree n)) ≤ most
-  node_flows_few n bounded at = bounded.node_flows (node_tree n) (in_map node_tree p.nodes n (x.node, node_within, got p.nodes x.node n n at))
+  node_flows_few n bounded at = bounded.node_flows (node_tree n) (in_map node_tree p.nodes n (x.node, node_within, get_or_from_slice_get p.nodes x.node n n at))
 
   pub count_is : (n : declared.Node) → slice_get p.nodes x.node ≡ Some n → length (flows (node_tree n)) ≡ flow_count (program_tree p) instances k
   count_is n at =
-      sym (ap (λ (i : Numbered). length (flows (get_or (program_tree p).nodes i.node no_node))) (got instances k x (record { path = []; node = 0 }) is)
-      ∙ ap (λ (m : NodeTree). length (flows m)) (map_at node_tree p.nodes x.node no_node n node_within ∙ ap node_tree (got p.nodes x.node n n at)))
+      sym (ap (λ (i : Numbered). length (flows (get_or (program_tree p).nodes i.node no_node))) (get_or_from_slice_get instances k x (record { path = []; node = 0 }) is)
+      ∙ ap (λ (m : NodeTree). length (flows m)) (map_at node_tree p.nodes x.node no_node n node_within ∙ ap node_tree (get_or_from_slice_get p.nodes x.node n n at)))

@@ -13,16 +13,14 @@ use Rattle.rv_types.specs.Needs.{Giver, Gives, given, by_equation, by_call}
 use Rattle.rv_instances.specs.AllInstances.{names_of, AreFed}
 use Rattle.rv_instances.proofs.Known.{each_nil, index_itself, called, calls_declared, uses_of, flows_once}
 use Rattle.rv_instances.proofs.Lists.{length_map}
-use Rattle.rv_types.proofs.Members.{among_contains, of_map}
-use Rattle.rv_types.proofs.RightNames.{both_empty as split_nil}
-
-pub names_texts : (ds : List Decl) → texts (decl_names ds) ≡ names ds
-names_texts [] = refl
-names_texts (d ∷ ds) = ap (λ l. d.name.text ∷ l) (names_texts ds)
+use Rattle.rv_types.proofs.Members.{among_contains}
+use Rattle.rv_types.proofs.RightNames.{both_empty}
+use Rattle.rv_base.proofs.Lists.{from_map}
+use Rattle.rv_types.proofs.KnownLaws.{texts_of}
 
 pub flows_texts : (n : NodeTree) → texts (decl_names (decls n)) ≡ flows n
 flows_texts n =
-    names_texts (decls n)
+    texts_of (decls n)
     ∙ map-append (λ (d : Decl). d.name.text) (n.inputs ++ n.outputs) n.locals
     ∙ ap (λ l. l ++ names n.locals) (map-append (λ (d : Decl). d.name.text) n.inputs n.outputs)
 
@@ -45,8 +43,8 @@ module _ (p : ProgramTree) (named : name_faults p ≡ []) where
       → is_flow n x ≡ true
   known_left n q x w v u =
       let uses = each_nil (equation_uses p n) n.equations (uses_of p named n w).0 q v in
-      let lefts = (split_nil (flat_map (use_of (is_flow n)) q.lefts) (node_uses p n q.right) uses).0 in
-      let y = of_map (λ (y : Name). y.text) q.lefts x u in
+      let lefts = (both_empty (flat_map (use_of (is_flow n)) q.lefts) (node_uses p n q.right) uses).0 in
+      let y = from_map (λ (y : Name). y.text) q.lefts x u in
       told (is_flow n x) y.0.at (subst (λ z. use_at y.0.at (is_flow n z) ≡ []) y.2 (each_nil (use_of (is_flow n)) q.lefts lefts y.0 y.1))
     where
       told : (b : Bool) (at : ℕ) → use_at at b ≡ [] → b ≡ true

@@ -31,9 +31,10 @@ use Rattle.rv_instances.proofs.ExpandedLaws.{instance_at, main_at, node_in, node
 use Rattle.rv_instances.proofs.Flowing.{known_left}
 use Rattle.rv_instances.proofs.Known.{map_at}
 use Rattle.rv_instances.proofs.LaidFlows.{flow_placed, inputs_among}
-use Rattle.rv_instances.proofs.Lists.{length_map, got}
+use Rattle.rv_instances.proofs.Lists.{length_map}
 use Rattle.rv_instances.proofs.ToldCalls.{element}
 use Rattle.rv_types.proofs.Members.{index_there}
+use Rattle.std.proofs.lemmas.Option.{get_or_from_slice_get}
 
 none_given : (n k : ℕ) (g : Told) → get_or (replicate {A = Option Told} n Nothing) k Nothing ≡ Some g → ⊥
 none_given zero k g e = cc
@@ -176,7 +177,7 @@ module _ (p : ProgramTree) (main : Identifier) (instances : List Numbered) (know
 
 -- the name of a left side
 pub name_there : (xs : List Name) (j : ℕ) (x : Name) → j < length xs → slice_get xs j ≡ Some x → get_or (texts xs) j [] ≡ x.text
-name_there xs j x lt is = map_at (λ (y : Name). y.text) xs j [] x lt ∙ ap (λ (y : Name). y.text) (got xs j x x is)
+name_there xs j x lt is = map_at (λ (y : Name). y.text) xs j [] x lt ∙ ap (λ (y : Name). y.text) (get_or_from_slice_get xs j x x is)
 
 -- the number of a flow, as it is reckoned
 pub number_found : (p : ProgramTree) (instances : List Numbered) (m first site : ℕ) (n : NodeTree) (x y : Identifier) → first ≡ first_of p instances m

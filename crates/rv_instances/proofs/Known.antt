@@ -17,7 +17,7 @@ use Rattle.rv_types.specs.Instances.{CallTree, calls, calls_in, form_calls, call
 use Rattle.rv_instances.specs.AllInstances.{names_of}
 use Rattle.rv_instances.proofs.Lists.{length_map}
 use Rattle.rv_types.proofs.Members.{cons_cases, index_there, nothing_in, text_itself}
-use Rattle.rv_types.proofs.RightNames.{both_empty as split_nil}
+use Rattle.rv_types.proofs.RightNames.{both_empty}
 
 -- a name that is not among some has the number of all
 pub index_past : (xs : List Identifier) (x : Identifier) → is_among xs x ≡ false → index_of xs x ≡ length xs
@@ -31,8 +31,8 @@ index_past (y ∷ ys) x e = tested (is_same y x) (is_among ys x) e (index_past y
 pub each_nil : {X Y : Type 0} (f : X → List Y) (xs : List X) → flat_map f xs ≡ [] → (x : X) → Contains xs x → f x ≡ []
 each_nil f [] e x w = nothing_in x w
 each_nil f (y ∷ ys) e x w = elim (cons_cases y ys x w) [
-  | inl same ↦ ap f (sym same) ∙ (split_nil (f y) (flat_map f ys) e).0
-  | inr rest ↦ each_nil f ys (split_nil (f y) (flat_map f ys) e).1 x rest
+  | inl same ↦ ap f (sym same) ∙ (both_empty (f y) (flat_map f ys) e).0
+  | inr rest ↦ each_nil f ys (both_empty (f y) (flat_map f ys) e).1 x rest
 ]
 
 pub map_at : {X Y : Type 0} (f : X → Y) (xs : List X) (k : ℕ) (d : Y) (e : X) → k < length xs → get_or (map f xs) k d ≡ f (get_or xs k e)
@@ -46,14 +46,14 @@ map_at f (x ∷ xs) (suc k) d e lt = map_at f xs k d e (omega (arith, lt))
 pub not_before : (before xs : List Name) → repeated before xs ≡ [] → (k : ℕ) → k < length xs → is_declared before (get_or (texts xs) k []) ≡ false
 not_before before [] e k lt = absurd (omega (arith, lt))
 not_before before (x ∷ xs) e zero lt = decided (is_declared before x.text)
-    (split_nil (cond (is_declared before x.text) (DefinedTwice x.at ∷ []) []) (repeated (x ∷ before) xs) e).0
+    (both_empty (cond (is_declared before x.text) (DefinedTwice x.at ∷ []) []) (repeated (x ∷ before) xs) e).0
   where
     decided : (b : Bool) → cond b (DefinedTwice x.at ∷ []) [] ≡ [] → b ≡ false
     decided true e = cc
     decided false e = refl
 not_before before (x ∷ xs) e (suc k) lt =
     other (is_same x.text (get_or (texts xs) k [])) (is_declared before (get_or (texts xs) k []))
-    (not_before (x ∷ before) xs (split_nil (cond (is_declared before x.text) (DefinedTwice x.at ∷ []) []) (repeated (x ∷ before) xs) e).1 k (omega (arith, lt)))
+    (not_before (x ∷ before) xs (both_empty (cond (is_declared before x.text) (DefinedTwice x.at ∷ []) []) (repeated (x ∷ before) xs) e).1 k (omega (arith, lt)))
   where
     other : (a b : Bool) → (a || b) ≡ false → b ≡ false
     other true b e = cc
@@ -64,8 +64,8 @@ index_itself before [] e k lt = absurd (omega (arith, lt))
 index_itself before (x ∷ xs) e zero lt = ap (λ b. cond b 0 (index_of (texts xs) x.text + 1)) (text_itself x.text)
 index_itself before (x ∷ xs) e (suc k) lt =
     tested (is_same x.text (get_or (texts xs) k [])) (is_declared before (get_or (texts xs) k []))
-    (not_before (x ∷ before) xs (split_nil (cond (is_declared before x.text) (DefinedTwice x.at ∷ []) []) (repeated (x ∷ before) xs) e).1 k (omega (arith, lt)))
-    (index_itself (x ∷ before) xs (split_nil (cond (is_declared before x.text) (DefinedTwice x.at ∷ []) []) (repeated (x ∷ before) xs) e).1 k
+    (not_before (x ∷ before) xs (both_empty (cond (is_declared before x.text) (DefinedTwice x.at ∷ []) []) (repeated (x ∷ before) xs) e).1 k (omega (arith, lt)))
+    (index_itself (x ∷ before) xs (both_empty (cond (is_declared before x.text) (DefinedTwice x.at ∷ []) []) (repeated (x ∷ before) xs) e).1 k
     (omega (arith, lt)))
   where
     tested : (a b : Bool) → (a || b) ≡ false → index_of (texts xs) (get_or (texts xs) k []) ≡ k
@@ -120,21 +120,21 @@ module _ (values clocks nodes : Identifier → Bool) where
     form_known at site (Minus t) e c w = calls_known t e c w
     form_known at site (Pre t) e c w = calls_known t e c w
     form_known at site (Current t) e c w = calls_known t e c w
-    form_known at site (When t x) e c w = calls_known t (split_nil (own_uses values clocks nodes (Node at site (When t x))) (uses values clocks nodes t) e).1 c
+    form_known at site (When t x) e c w = calls_known t (both_empty (own_uses values clocks nodes (Node at site (When t x))) (uses values clocks nodes t) e).1 c
         w
     form_known at site (Binary o a b) e c w =
-        let s = split_nil (uses values clocks nodes a) (uses values clocks nodes b) e in
+        let s = both_empty (uses values clocks nodes a) (uses values clocks nodes b) e in
         elim (Contains-append_cases (calls_in a) (calls_in b) c w) [ inl v ↦ calls_known a s.0 c v | inr v ↦ calls_known b s.1 c v ]
     form_known at site (If i a b) e c w =
-        let s = split_nil (uses values clocks nodes i) (uses values clocks nodes a ++ uses values clocks nodes b) e in
-        let t = split_nil (uses values clocks nodes a) (uses values clocks nodes b) s.1 in
+        let s = both_empty (uses values clocks nodes i) (uses values clocks nodes a ++ uses values clocks nodes b) e in
+        let t = both_empty (uses values clocks nodes a) (uses values clocks nodes b) s.1 in
         elim (Contains-append_cases (calls_in i) (calls_in a ++ calls_in b) c w) [
           | inl v ↦ calls_known i s.0 c v
           | inr v ↦ elim (Contains-append_cases (calls_in a) (calls_in b) c v) [ inl u ↦ calls_known a t.0 c u | inr u ↦ calls_known b t.1 c u ]
         ]
     form_known at site (AtMostOne es) e c w = all_known es e c w
     form_known at site (Call f es) e c w =
-        let s = split_nil (own_uses values clocks nodes (Node at site (Call f es))) (faults_of_all (own_uses values clocks nodes) es) e in
+        let s = both_empty (own_uses values clocks nodes (Node at site (Call f es))) (faults_of_all (own_uses values clocks nodes) es) e in
         elim (cons_cases (record { at = at; site = unwrap_or site 0; name = f; args = es }) (calls_in_all es) c w) [
           | inl same ↦ subst (λ (d : CallTree). nodes d.name ≡ true) same (told (nodes f) s.0)
           | inr v ↦ all_known es s.1 c v
@@ -147,16 +147,16 @@ module _ (values clocks nodes : Identifier → Bool) where
     all_known : (es : Trees) → faults_of_all (own_uses values clocks nodes) es ≡ [] → (c : CallTree) → Contains (calls_in_all es) c → nodes c.name ≡ true
     all_known None e c w = nothing_in c w
     all_known (More t ts) e c w =
-        let s = split_nil (uses values clocks nodes t) (faults_of_all (own_uses values clocks nodes) ts) e in
+        let s = both_empty (uses values clocks nodes t) (faults_of_all (own_uses values clocks nodes) ts) e in
         elim (Contains-append_cases (calls_in t) (calls_in_all ts) c w) [ inl v ↦ calls_known t s.0 c v | inr v ↦ all_known ts s.1 c v ]
 
 module _ (p : ProgramTree) (named : name_faults p ≡ []) where
   pub parts_named : (repeated [] (node_names p) ≡ []) × (flat_map (names_in_node p) p.nodes ≡ [])
   parts_named =
-      let a = split_nil (repeated [] (node_names p) ++ (repeated [] (type_names p) ++ repeated_values p))
+      let a = both_empty (repeated [] (node_names p) ++ (repeated [] (type_names p) ++ repeated_values p))
       ((flat_map (alias_use p) p.types ++ flat_map (constant_uses p) p.constants) ++ flat_map (names_in_node p) p.nodes) named in (
-        (split_nil (repeated [] (node_names p)) (repeated [] (type_names p) ++ repeated_values p) a.0).0,
-        (split_nil (flat_map (alias_use p) p.types ++ flat_map (constant_uses p) p.constants) (flat_map (names_in_node p) p.nodes) a.1).1,
+        (both_empty (repeated [] (node_names p)) (repeated [] (type_names p) ++ repeated_values p) a.0).0,
+        (both_empty (flat_map (alias_use p) p.types ++ flat_map (constant_uses p) p.constants) (flat_map (names_in_node p) p.nodes) a.1).1,
       )
 
   -- no two nodes have one name
@@ -167,34 +167,34 @@ module _ (p : ProgramTree) (named : name_faults p ≡ []) where
   pub flows_once : (n : NodeTree) → Contains p.nodes n → repeated [] (decl_names (decls n)) ≡ []
   flows_once n w =
       let all = each_nil (names_in_node p) p.nodes parts_named.1 n w in
-      let a = split_nil (repeated [] (decl_names (decls n)) ++ repeated (decl_names n.inputs) (lefts n))
+      let a = both_empty (repeated [] (decl_names (decls n)) ++ repeated (decl_names n.inputs) (lefts n))
       (flat_map (undefined_unless (lefts n)) (decl_names (n.outputs ++ n.locals))
       ++ ((flat_map (flow_use p) (decls n) ++ flat_map (clock_use n) n.locals)
       ++ (flat_map (equation_uses p n) n.equations ++ flat_map (assertion_uses p n) n.assertions))) all in
-      (split_nil (repeated [] (decl_names (decls n))) (repeated (decl_names n.inputs) (lefts n)) a.0).0
+      (both_empty (repeated [] (decl_names (decls n))) (repeated (decl_names n.inputs) (lefts n)) a.0).0
 
   pub uses_of : (n : NodeTree) → Contains p.nodes n → (flat_map (equation_uses p n) n.equations ≡ []) × (flat_map (assertion_uses p n) n.assertions ≡ [])
   uses_of n w =
       let all = each_nil (names_in_node p) p.nodes parts_named.1 n w in
-      let a = split_nil (repeated [] (decl_names (decls n)) ++ repeated (decl_names n.inputs) (lefts n))
+      let a = both_empty (repeated [] (decl_names (decls n)) ++ repeated (decl_names n.inputs) (lefts n))
       (flat_map (undefined_unless (lefts n)) (decl_names (n.outputs ++ n.locals))
       ++ ((flat_map (flow_use p) (decls n) ++ flat_map (clock_use n) n.locals)
       ++ (flat_map (equation_uses p n) n.equations ++ flat_map (assertion_uses p n) n.assertions))) all in
-      let b = split_nil (flat_map (undefined_unless (lefts n)) (decl_names (n.outputs ++ n.locals)))
+      let b = both_empty (flat_map (undefined_unless (lefts n)) (decl_names (n.outputs ++ n.locals)))
       ((flat_map (flow_use p) (decls n) ++ flat_map (clock_use n) n.locals)
       ++ (flat_map (equation_uses p n) n.equations ++ flat_map (assertion_uses p n) n.assertions)) a.1 in
-      let c = split_nil (flat_map (flow_use p) (decls n) ++ flat_map (clock_use n) n.locals)
+      let c = both_empty (flat_map (flow_use p) (decls n) ++ flat_map (clock_use n) n.locals)
       (flat_map (equation_uses p n) n.equations ++ flat_map (assertion_uses p n) n.assertions) b.1 in
-      split_nil (flat_map (equation_uses p n) n.equations) (flat_map (assertion_uses p n) n.assertions) c.1
+      both_empty (flat_map (equation_uses p n) n.equations) (flat_map (assertion_uses p n) n.assertions) c.1
 
   in_equations : (n : NodeTree) (qs : List EquationTree) → flat_map (equation_uses p n) qs ≡ [] → (c : CallTree) → Contains (calls_in_equations qs) c
       → is_declared (node_names p) c.name ≡ true
   in_equations n [] e c w = nothing_in c w
   in_equations n (q ∷ qs) e c w =
-      let s = split_nil (equation_uses p n q) (flat_map (equation_uses p n) qs) e in
+      let s = both_empty (equation_uses p n q) (flat_map (equation_uses p n) qs) e in
       elim (Contains-append_cases (calls_in q.right) (calls_in_equations qs) c w) [
         | inl v ↦ calls_known (is_value p n) (is_flow n) (is_declared (node_names p)) q.right
-            (split_nil (flat_map (use_of (is_flow n)) q.lefts) (node_uses p n q.right) s.0).1 c v
+            (both_empty (flat_map (use_of (is_flow n)) q.lefts) (node_uses p n q.right) s.0).1 c v
         | inr v ↦ in_equations n qs s.1 c v
       ]
 
@@ -202,7 +202,7 @@ module _ (p : ProgramTree) (named : name_faults p ≡ []) where
       → is_declared (node_names p) c.name ≡ true
   in_assertions n [] e c w = nothing_in c w
   in_assertions n (q ∷ qs) e c w =
-      let s = split_nil (assertion_uses p n q) (flat_map (assertion_uses p n) qs) e in
+      let s = both_empty (assertion_uses p n q) (flat_map (assertion_uses p n) qs) e in
       elim (Contains-append_cases (calls_in q.body) (calls_in_assertions qs) c w) [
         | inl v ↦ calls_known (is_value p n) (is_flow n) (is_declared (node_names p)) q.body s.0 c v
         | inr v ↦ in_assertions n qs s.1 c v

@@ -7,8 +7,8 @@ use Rattle.rv_instances.specs.declared.answer.Instance.{Instance as Numbered}
 use Rattle.rv_instances.specs.declared.flows.Flow.{Flow}
 use Rattle.rv_types.specs.Lists.{sites_of}
 use Rattle.rv_instances.specs.Flowing.{place_at, flow_sites, flow_places}
-use Rattle.rv_instances.proofs.Lists.{got}
 use Rattle.rv_instances.proofs.Known.{map_at}
+use Rattle.std.proofs.lemmas.Option.{get_or_from_slice_get}
 
 -- one more place
 pub placed_more : (f : ℕ → Sites) (numbers : List ℕ) (old new : List Place) (i : ℕ) (place : Place) → i < length numbers → sites_of old ≡ map f (take i numbers)
@@ -24,4 +24,4 @@ placed_more f numbers old new i place lt inv is at =
 
 pub placed_at : (instances : List Numbered) (flows : List Flow) (k : ℕ) (flow : Flow) → slice_get flows k ≡ Some flow → k < length flows
     → flow_sites instances flow ≡ place_at (flow_places instances flows) k
-placed_at instances flows k flow is lt = ap (flow_sites instances) (sym (got flows k flow flow is)) ∙ sym (map_at (flow_sites instances) flows k [] flow lt)
+placed_at instances flows k flow is lt = ap (flow_sites instances) (sym (get_or_from_slice_get flows k flow flow is)) ∙ sym (map_at (flow_sites instances) flows k [] flow lt)

@@ -3,7 +3,7 @@
 ghost use Rattle.std.specs.Prelude.{◌≡◌, ◌++◌, ◌∷◌, [], List, length, map, flat_map, unwrap_or, IfOk, OnOk};
 ghost use Rattle.rv_tree.specs.Delays.{delays, delays_of_all, delays_in_equations, delays_in_assertions};
 ghost use Rattle.rv_tree.specs.Tree.{tree_of, trees, node_tree, equation_tree, assertion_tree};
-ghost use Rattle.rv_types.specs.Clocks.{pace, pace_of_all, binary_pace, current_pace, seen, grounded, meet};
+ghost use Rattle.rv_types.specs.Clocks.{pace, pace_of_all, current_pace, seen, grounded, meet};
 ghost use Rattle.rv_types.specs.Instances.{calls_in, calls_in_all, calls_in_equations, calls_in_assertions, clock_of_args, taken};
 ghost use Rattle.rv_types.specs.declared.typed.Clock.TheVariants.{Base as OnBase};
 ghost use Rattle.rv_instances.specs.Expanded.{ToldCall, told, call_told, calls_told, AreTold};

@@ -7,18 +7,19 @@ use Rattle.rv_diagram.specs.declared.Triple.{Triple}
 use Rattle.rv_invfile.specs.Rules.{Fields}
 use Rattle.rv_invfile.specs.Forms.{field}
 use Rattle.rv_invfile.specs.Texts.{natural}
-use Rattle.rv_invfile.proofs.Decimals.{natural-is, not-true}
+use Rattle.rv_invfile.proofs.Decimals.{natural-is}
 use Rattle.rv_invariant.specs.Groups.{upto}
 use Rattle.rv_invariant.specs.Pieces.{is_below, is_child, triple_at, variable_at}
 use Rattle.rv_invariant.proofs.Spelling.{below-told, below-right}
 use Rattle.rv_invariant.proofs.Upto.{upto-at}
+use Rattle.std.proofs.lemmas.Bool.{false_from_ne_true}
 
 module _ (limit : ℕ) (text : List ℕ) (n : ℕ) (is : text ≡ decimal n) (small : n < 2 ^ 64) where
   pub too-great : limit ≤ n → is_below limit text ≡ false
-  too-great l = not-true (is_below limit text) (λ e. let t = below-told limit text e in let same = natural-is text n small is in omega (arith, t.1, same, l))
+  too-great l = false_from_ne_true (is_below limit text) (λ e. let t = below-told limit text e in let same = natural-is text n small is in omega (arith, t.1, same, l))
 
   pub too-long : 2 ^ 32 ≤ n → is_below limit text ≡ false
-  too-long l = not-true (is_below limit text) (λ e. let t = below-told limit text e in let same = natural-is text n small is in omega (arith, t.2, same, l))
+  too-long l = false_from_ne_true (is_below limit text) (λ e. let t = below-told limit text e in let same = natural-is text n small is in omega (arith, t.2, same, l))
 
   pub below-is : n < limit → n < 2 ^ 32 → (is_below limit text ≡ true) × (n ≡ natural text)
   below-is l m = (ap (is_below limit) is ∙ below-right limit n l m, sym (natural-is text n small is))

@@ -55,8 +55,8 @@ use Rattle.rv_invariant.proofs.Knowing.{front-records-more}
 use Rattle.rv_invariant.proofs.Ranging.{SetFits, KeptRow, ProofFits}
 use Rattle.rv_invariant.proofs.Spelling.{below-right, times-right}
 use Rattle.rv_invariant.proofs.Standing.{by-kind, diagram-right, proof-right, list-right}
-use Rattle.rv_invfile.proofs.Written.{number-is as some-is}
-use Rattle.rv_types.proofs.TypedParts.{both_true as both}
+use Rattle.rv_invfile.proofs.Written.{number-is}
+use Rattle.rv_base.proofs.Truths.{both_of}
 
 -- ---- Turns.
 -- records of which the first is none of multipliers
@@ -248,7 +248,7 @@ module _ (s : Shape) (small : s.variables ≤ 4096) (few_tests : s.tests ≤ 409
       by true e =
           let is = eqb-true j i e in
           let here : known_at (learn known i n) i ≡ Some n = get_or-set_same known i (Some n) None (omega (arith, there, size)) in
-          let same : n ≡ m = some-is n m (sym here ∙ subst (λ k. Tells (learn known i n) k m) is h) in
+          let same : n ≡ m = number-is n m (sym here ∙ subst (λ k. Tells (learn known i n) k m) is h) in
           subst (λ k. Tells full k m) (sym is) (told ∙ ap Some same)
       by false e = follows j m (sym (get_or-set_other known i j (Some n) None (eqb-false j i e)) ∙ h)
 
@@ -263,7 +263,7 @@ module _ (s : Shape) (small : s.variables ≤ 4096) (few_tests : s.tests ≤ 409
         → AllByRecursion (ProofFits (2 ^ 30) premises) reach → Starts rs → GoesOn c (next reach) rs
         → Spells (reach_rule premises target o next known) c (map by_record reach ++ rs)
     reach-right premises target (Some n) reach next known rs bound e size follows there told all starts on =
-        let same : length reach ≡ n = some-is (length reach) n (sym told ∙ follows target n e) in
+        let same : length reach ≡ n = number-is (length reach) n (sym told ∙ follows target n e) in
         parts-bind (times n (a_proof (2 ^ 30) premises)) (λ reach. next reach known) reach c (map by_record reach) rs
         (subst (λ k. Spells (times k (a_proof (2 ^ 30) premises)) reach (map by_record reach)) same
         (proofs-right (2 ^ 30) premises (omega arith) bound reach all))
@@ -330,7 +330,7 @@ module _ (s : Shape) (small : s.variables ≤ 4096) (few_tests : s.tests ≤ 409
         let few_state = fits.few_state in
         let same = same-location l fits.no_first fits.no_around fits.no_by_first in
         let number : Fields = codes "cases" ∷ decimal (length l.entries) ∷ [] in
-        let ends = ends-right (known_at known i) (length l.entry) few_entry (λ n e. some-is n (length l.entry) (sym (follows i n e) ∙ fits.told)) in
+        let ends = ends-right (known_at known i) (length l.entry) few_entry (λ n e. number-is n (length l.entry) (sym (follows i n e) ∙ fits.told)) in
         subst (λ x. Spells (location_rule s locations i next known) c (location_records x ++ rs)) same
         (subst (Spells (location_rule s locations i next known) c)
         (front-records-more (front_of l) (number ∷ []) (flat_map entry_records l.entries ++ rs)
@@ -368,12 +368,12 @@ module _ (s : Shape) (small : s.variables ≤ 4096) (few_tests : s.tests ≤ 409
 -- ---- What names the flat system.
 text-joined : (a b : List ℕ) → is_plain_text a ≡ true → is_plain_text b ≡ true → is_plain_text (a ++ b) ≡ true
 text-joined [] b h k = k
-text-joined (x ∷ a) b h k = let p = both (nat_le 32 x && nat_le x 126) (is_plain_text a) h in ap (λ c. c && is_plain_text (a ++ b)) p.0 ∙ text-joined a b p.1 k
+text-joined (x ∷ a) b h k = let p = both_of (nat_le 32 x && nat_le x 126) (is_plain_text a) h in ap (λ c. c && is_plain_text (a ++ b)) p.0 ∙ text-joined a b p.1 k
 
 name-at-plain : (is : List FlatInput) (j : ℕ) → list_all (λ i. is_name i.name) is ≡ true → is_plain_text (name_at is j) ≡ true
 name-at-plain [] j h = refl
-name-at-plain (i ∷ is) zero h = name-plain i.name (both (is_name i.name) (list_all (λ (i : FlatInput). is_name i.name) is) h).0
-name-at-plain (i ∷ is) (suc j) h = name-at-plain is j (both (is_name i.name) (list_all (λ (i : FlatInput). is_name i.name) is) h).1
+name-at-plain (i ∷ is) zero h = name-plain i.name (both_of (is_name i.name) (list_all (λ (i : FlatInput). is_name i.name) is) h).0
+name-at-plain (i ∷ is) (suc j) h = name-at-plain is j (both_of (is_name i.name) (list_all (λ (i : FlatInput). is_name i.name) is) h).1
 
 side-plain : (x : Side) → is_plain_text (side_text x) ≡ true
 side-plain side.AtMost = refl

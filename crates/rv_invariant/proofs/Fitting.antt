@@ -26,7 +26,7 @@ use Rattle.rv_invfile.specs.Parts.{bind}
 use Rattle.rv_invfile.specs.Forms.{exactly, names, counts}
 use Rattle.rv_invfile.specs.Spells.{Spells}
 use Rattle.rv_invfile.proofs.Spelled.{document-spells, bind-parts}
-use Rattle.rv_invfile.proofs.Written.{counts-written, exactly-written, names-written, lists-written, number-is as some-is}
+use Rattle.rv_invfile.proofs.Written.{counts-written, exactly-written, names-written, lists-written, number-is}
 use Rattle.rv_invariant.specs.Continues.{Known}
 use Rattle.rv_invariant.specs.Shapes.{shape, shape_of, is_state}
 use Rattle.rv_invariant.specs.Naming.{bit_texts, column_texts}
@@ -35,7 +35,7 @@ use Rattle.rv_invariant.specs.Certificates.{columns_rule, head_rule, all_locatio
 use Rattle.rv_invariant.proofs.Knowing.{KindFits, EntryFits, LocationFits, AllLocated, Sound, all-located, all-map}
 use Rattle.rv_invariant.proofs.Ranging.{SetFits, KeptRow, ProofFits, is-record}
 use Rattle.rv_invariant.proofs.Spelling.{all-of}
-use Rattle.rv_types.proofs.TypedParts.{both_true as both}
+use Rattle.rv_base.proofs.Truths.{both_of}
 
 all-at : {A : Type 0} (P : A → Type 0) (xs : List A) (j : ℕ) (x : A) → AllByRecursion P xs → slice_get xs j ≡ Some x → P x
 all-at P [] j x h e = cc
@@ -58,7 +58,7 @@ module _ (s : System) (locations : ℕ) (c : Certificate) (a : AllLocated (shape
       let size = a.size in
       let there = slice_get-get_or c.locations target l (omega (arith, h.0, size)) in
       let into = a.fits target (get_or c.locations target l) there in
-      (get_or c.locations target l, there, some-is (length reach) (length (get_or c.locations target l).entry) (sym h.1 ∙ into.told))
+      (get_or c.locations target l, there, number-is (length reach) (length (get_or c.locations target l).entry) (sym h.1 ∙ into.told))
   kind-counts l (Loop first before around rest) h = absurd h
 
   module _ (k : ℕ) (l : Location) (fits : LocationFits (shape_of s) locations a.known k l) where
@@ -88,7 +88,7 @@ module _ (s : System) (locations : ℕ) (c : Certificate) (a : AllLocated (shape
 module _ (s : System) where
   state-bit : (x : ℕ) → is_state (shape_of s) x ≡ true → IsState s x
   state-bit x h =
-      let p = both (nat_lt x (2 * s.states)) (nat_eq (x % 2) 0) h in
+      let p = both_of (nat_lt x (2 * s.states)) (nat_eq (x % 2) 0) h in
       let low = ltb-true x (2 * s.states) p.0 in
       let even = eqb-true (x % 2) 0 p.1 in
       (x / 2, omega (arith, low, even), omega (arith, even))

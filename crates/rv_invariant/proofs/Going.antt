@@ -14,7 +14,7 @@ use Rattle.rv_invfile.specs.Ahead.{first, here}
 use Rattle.rv_invfile.specs.Forms.{field, fixed, word_of, exactly}
 use Rattle.rv_invfile.specs.Texts.{natural, same_fields}
 use Rattle.rv_invfile.specs.Parts.{bind}
-use Rattle.rv_invfile.proofs.Decimals.{bytes-same, not-true}
+use Rattle.rv_invfile.proofs.Decimals.{bytes-same}
 use Rattle.rv_invariant.specs.declared.counts.Shape.{Shape}
 use Rattle.rv_invariant.proofs.Choices.{chain-ok, chain-stops, then-here}
 use Rattle.rv_invariant.specs.Continues.{Known, Then, Waits, AllWait}
@@ -22,7 +22,8 @@ use Rattle.rv_invfile.proofs.Bound.{bind_ok}
 use Rattle.rv_invariant.specs.Pieces.{a_diagram, a_proof}
 use Rattle.rv_invariant.specs.Certificates.{a_target, reach_rule, known_at, go_entry, dead_entry, entries_rule, entry_rule, entry_forms, going, go_rule}
 use Rattle.rv_invariant.specs.Certificates.{dead_rule, whole_go, whole_dead, location_rule, locations_rule, last_record}
-use Rattle.rv_invfile.proofs.Digits.{head-passes as and-first}
+use Rattle.rv_base.proofs.Truths.{and_first}
+use Rattle.std.proofs.lemmas.Bool.{false_from_ne_true}
 
 module _ (s : Shape) (n state : ℕ) where
   pub entries-none : (before : List Entry) (next : Then (List Entry)) (known : Known) → entries_rule s n state zero before next known ≡ next before known
@@ -98,8 +99,8 @@ other-word x a b = absurd (clash (sym a ∙ b))
 -- a record that begins with `go` is not that of a dead entry
 pub not-dead : (r : Fields) → bytes_eq (word_of r) (codes "go") ≡ true → same_fields r (codes "dead" ∷ []) ≡ false
 not-dead [] h = refl
-not-dead (x ∷ r) h = not-true (same_fields (x ∷ r) (codes "dead" ∷ []))
-    (λ e. other-word x (bytes-same x (codes "go") h) (bytes-same x (codes "dead") (and-first (bytes_eq x (codes "dead")) (same_fields r []) e)))
+not-dead (x ∷ r) h = false_from_ne_true (same_fields (x ∷ r) (codes "dead" ∷ []))
+    (λ e. other-word x (bytes-same x (codes "go") h) (bytes-same x (codes "dead") (and_first (bytes_eq x (codes "dead")) (same_fields r []) e)))
 
 pub go-form : (n : ℕ) (b d : Bool) (f g : Form) → d ≡ false → cond b (Some f) (cond d (Some g) None) ≡ cond b (Some f) None
 go-form n b d f g e = ap (λ x. cond b (Some f) (cond x (Some g) None)) e

@@ -14,7 +14,7 @@ use Rattle.rv_invfile.proofs.Decimals.{bytes-same}
 use Rattle.rv_invfile.proofs.Instants.{none-bad, one-bad}
 use Rattle.rv_invariant.specs.Groups.{is_grouped, grouped, groups_right, in_group}
 use Rattle.rv_invariant.specs.Judging.{IsFirstWrong, AreRight, ReadsGroup, ReadsGroups}
-use Rattle.rv_types.proofs.TypedParts.{both_true as both}
+use Rattle.rv_base.proofs.Truths.{both_of}
 
 -- a record that was looked for stands here
 kind-by : (p k : Bool) (n : ℕ) → cond p (cond k None (Some (fault.WrongKind n))) (Some (fault.NotRecords n)) ≡ None → k ≡ true
@@ -31,8 +31,8 @@ kind-here kind s h = kind-in kind s.taken s.rest h
 
 pub grouped-is : (word : List ℕ) (width : ℕ) (r : Fields) → is_grouped word width r ≡ true → (word_of r ≡ word) × (2 ≤ length r) × ((length r - 2) % width ≡ 0)
 grouped-is word width r h =
-    let p = both (bytes_eq (word_of r) word) (nat_le 2 (length r) && nat_eq ((length r - 2) % width) 0) h in
-    let q = both (nat_le 2 (length r)) (nat_eq ((length r - 2) % width) 0) p.1 in
+    let p = both_of (bytes_eq (word_of r) word) (nat_le 2 (length r) && nat_eq ((length r - 2) % width) 0) h in
+    let q = both_of (nat_le 2 (length r)) (nat_eq ((length r - 2) % width) 0) p.1 in
     (bytes-same (word_of r) word p.0, leb-true 2 (length r) q.0, eqb-true ((length r - 2) % width) 0 q.1)
 
 -- A width of groups: where their fields stand.

@@ -21,7 +21,7 @@ use Rattle.rv_invfile.specs.Spells.{Spells}
 use Rattle.rv_invfile.specs.Texts.{natural, same_fields}
 use Rattle.rv_invfile.proofs.SameFields.{row-same}
 use Rattle.rv_invfile.proofs.Spelled.{bind-parts}
-use Rattle.rv_invfile.proofs.Written.{right-record, counts-written, exactly-written, worded, number-is as some-is, two-fields}
+use Rattle.rv_invfile.proofs.Written.{right-record, counts-written, exactly-written, worded, number-is, two-fields}
 use Rattle.rv_invariant.specs.declared.counts.Shape.{Shape}
 use Rattle.rv_invariant.specs.declared.fronts.Front.{Front}
 use Rattle.rv_invariant.specs.declared.fronts.Lists.{Lists}
@@ -271,7 +271,7 @@ module _ (locations : ℕ) (known : Known) (i n : ℕ) (sound : Sound locations 
   learn-keeps j m false e h = get_or-set_other known i j (Some n) None (eqb-false j i e) ∙ h
 
   learn-small : (j m : ℕ) (b : Bool) → eqb j i ≡ b → Tells (learn known i n) j m → m ≤ 1024
-  learn-small j m true e h = let is = some-is m n (sym (subst (λ k. Tells (learn known i n) k m) (eqb-true j i e) h) ∙ learn-told) in omega (arith, is, few)
+  learn-small j m true e h = let is = number-is m n (sym (subst (λ k. Tells (learn known i n) k m) (eqb-true j i e) h) ∙ learn-told) in omega (arith, is, few)
   learn-small j m false e h = sound.small j m (sym (get_or-set_other known i j (Some n) None (eqb-false j i e)) ∙ h)
 
   learns : Learns locations known i n
@@ -539,7 +539,7 @@ record Located (s : Shape) (locations i : ℕ) (known : Known) (next : Then Loca
 
 low-high : (o : Option ℕ) (k m : ℕ) → low_of o ≤ k → k ≤ high_of o → o ≡ Some m → m ≡ k
 low-high None k m l h e = cc
-low-high (Some n) k m l h e = let same = some-is n m e in omega (arith, same, l, h)
+low-high (Some n) k m l h e = let same = number-is n m e in omega (arith, same, l, h)
 
 high-few : (o : Option ℕ) (k : ℕ) → ((m : ℕ) → o ≡ Some m → m ≤ 1024) → k ≤ high_of o → k ≤ 1024
 high-few None k f h = h

@@ -33,7 +33,7 @@ use Rattle.rv_invfile.proofs.Sound.{name-sound, decimal-sound, dotted-sound, sig
 use Rattle.rv_invariant.specs.Naming.{name_at, bit_text, column_text, bit_texts, column_texts}
 use Rattle.rv_invariant.specs.Pieces.{triple_texts, diagram_record, weight_texts, by_record, list_records, row_record}
 use Rattle.rv_invariant.specs.Certificates.{first_record, last_record, kind_records, entry_records, cases_records, location_records, certificate_records}
-use Rattle.rv_types.proofs.TypedParts.{both_true as both}
+use Rattle.rv_base.proofs.Truths.{both_of}
 
 -- no byte of the text is set apart
 abbrev IsQuiet : List ℕ → Type 0
@@ -61,8 +61,8 @@ place-quiet sites = sound-quiet (dotted sites) (dotted-sound sites)
 
 input-quiet : (is : List FlatInput) (j : ℕ) → list_all (λ i. is_name i.name) is ≡ true → IsQuiet (name_at is j)
 input-quiet [] j h = refl
-input-quiet (i ∷ is) zero h = name-quiet i.name (both (is_name i.name) (list_all (λ (i : FlatInput). is_name i.name) is) h).0
-input-quiet (i ∷ is) (suc j) h = input-quiet is j (both (is_name i.name) (list_all (λ (i : FlatInput). is_name i.name) is) h).1
+input-quiet (i ∷ is) zero h = name-quiet i.name (both_of (is_name i.name) (list_all (λ (i : FlatInput). is_name i.name) is) h).0
+input-quiet (i ∷ is) (suc j) h = input-quiet is j (both_of (is_name i.name) (list_all (λ (i : FlatInput). is_name i.name) is) h).1
 
 -- a text, a colon and a text
 colon-quiet : (x y : List ℕ) → IsQuiet x → IsQuiet y → IsQuiet (x ++ (codes ":" ++ y))

@@ -30,7 +30,7 @@ use Rattle.rv_invariant.proofs.Knowing.{KindFits, EntryFits, LocationFits, AllLo
 use Rattle.rv_invariant.proofs.Ranging.{SetFits, KeptRow, ProofFits}
 use Rattle.rv_invariant.proofs.Spelling.{each-of}
 use Rattle.rv_invariant.proofs.Standing.{positive-is, at-most}
-use Rattle.rv_invfile.proofs.Written.{number-is as some-is}
+use Rattle.rv_invfile.proofs.Written.{number-is}
 
 -- ---- How many entry rows there are.
 abbrev told : Location → Option ℕ
@@ -47,7 +47,7 @@ told-few [] few i n h = absurd (clash h)
   where
     clash : None ≡ Some n → ⊥
     clash e = cc
-told-few (x ∷ ls) few zero n h = let e = some-is (length x.entry) n h in let l = few 0 x refl in omega (arith, e, l)
+told-few (x ∷ ls) few zero n h = let e = number-is (length x.entry) n h in let l = few 0 x refl in omega (arith, e, l)
 told-few (x ∷ ls) few (suc i) n h = told-few ls (λ k l e. few (suc k) l e) i n h
 
 all-from : {A : Type 0} (P : A → Type 0) (xs : List A) → ((j : ℕ) (x : A) → slice_get xs j ≡ Some x → P x) → AllByRecursion P xs

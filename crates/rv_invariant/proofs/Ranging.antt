@@ -36,7 +36,7 @@ use Rattle.rv_invariant.proofs.Grouping.{Width, two, three, grouped-is, at-group
 use Rattle.rv_invariant.proofs.Rowing.{number-test}
 use Rattle.rv_invariant.proofs.Spelling.{below-told}
 use Rattle.rv_invariant.proofs.Upto.{upto-at, upto-length}
-use Rattle.rv_types.proofs.TypedParts.{both_true as both}
+use Rattle.rv_base.proofs.Truths.{both_of}
 
 -- ---- The fields of a record of groups.
 module _ (w : ℕ) (width : Width w) (word : List ℕ) (head : Fields → Bool) (right : Fields → ℕ → ℕ → Bool) (r : Fields)
@@ -65,7 +65,7 @@ later m a b false e h l = let q = ltb-true a b h in omega (arith, q)
 child-told : (r : Fields) (k : ℕ) (text : List ℕ) → is_child r k text ≡ true
     → (natural text < k + 2) × (natural text < 2 ^ 32) × (2 ≤ natural text → variable_at r k + 1 ≤ variable_at r (natural text - 2))
 child-told r k text h =
-    let p = both (is_below (k + 2) text) (nat_lt (natural text) 2 || nat_lt (variable_at r k) (variable_at r (natural text - 2))) h in
+    let p = both_of (is_below (k + 2) text) (nat_lt (natural text) 2 || nat_lt (variable_at r k) (variable_at r (natural text - 2))) h in
     let t = below-told (k + 2) text p.0 in
     (t.1, t.2, λ l. later (natural text) (variable_at r k) (variable_at r (natural text - 2)) (nat_lt (natural text) 2) refl p.1 l)
 
@@ -96,7 +96,7 @@ diagram-record s word states r ok =
     let root = below-told (n + 2) (field r 1) (head-right 3 three word is_root (is_node_field s states) r ok) in
     let field-right = group-right 3 three word is_root (is_node_field s states) r ok in
     let size = upto-length triple_at r n in
-    let variable = λ (i : ℕ) (l : i < n). both (is_below s.variables (field r (2 + 3 * i))) (may_stand s states (variable_at r i))
+    let variable = λ (i : ℕ) (l : i < n). both_of (is_below s.variables (field r (2 + 3 * i))) (may_stand s states (variable_at r i))
     (field-right i 0 l (omega arith)) in
     let is = λ (i : ℕ) (l : i < n). node-is r n i l in
     let low = λ (i : ℕ) (l : i < n). child-from r n i (node_at (upto triple_at r n) i).lo (node_at (upto triple_at r n) i).var (field r (2 + 3 * i + 1)) l
@@ -133,7 +133,7 @@ abbrev pub KeptRow : ℕ → Row → Type 0
 KeptRow memories r = (length r.coefficients ≡ memories) × Fits r
 
 within-told : (limit : ℕ) (text : List ℕ) → is_within limit text ≡ true → unsigned_abs (whole text) ≤ limit
-within-told limit text h = leb-true (unsigned_abs (whole text)) limit (both (bytes_eq text (signed_decimal (whole text)))
+within-told limit text h = leb-true (unsigned_abs (whole text)) limit (both_of (bytes_eq text (signed_decimal (whole text)))
     (nat_le (unsigned_abs (whole text)) limit) h).1
 
 row-record : (memories : ℕ) (r : Fields) → Right (row_form memories) r → KeptRow memories (row_of memories r)
@@ -207,15 +207,15 @@ premise_at r k = natural (field r (2 + 2 * k))
 module _ (premises : ℕ) (r : Fields) (n : ℕ) (right : (k j : ℕ) → k < n → j < 2 → is_pair_field premises r k j ≡ true) where
   premise-told : (k : ℕ) → k < n → (k < 256) × (premise_at r k < premises)
   premise-told k l =
-      let p = both (nat_lt k 256) (is_below premises (field r (2 + 2 * k)) && nat_le (least_at r k) (premise_at r k)) (right k 0 l (omega arith)) in
-      let q = both (is_below premises (field r (2 + 2 * k))) (nat_le (least_at r k) (premise_at r k)) p.1 in
+      let p = both_of (nat_lt k 256) (is_below premises (field r (2 + 2 * k)) && nat_le (least_at r k) (premise_at r k)) (right k 0 l (omega arith)) in
+      let q = both_of (is_below premises (field r (2 + 2 * k))) (nat_le (least_at r k) (premise_at r k)) p.1 in
       (ltb-true k 256 p.0, (below-told premises (field r (2 + 2 * k)) q.0).1)
 
   step : (k : ℕ) → suc k < n → premise_at r k < premise_at r (suc k)
   step k l =
-      let p = both (nat_lt (suc k) 256) (is_below premises (field r (2 + 2 * suc k)) && nat_le (premise_at r k + 1) (premise_at r (suc k)))
+      let p = both_of (nat_lt (suc k) 256) (is_below premises (field r (2 + 2 * suc k)) && nat_le (premise_at r k + 1) (premise_at r (suc k)))
       (right (suc k) 0 l (omega arith)) in
-      let q = both (is_below premises (field r (2 + 2 * suc k))) (nat_le (premise_at r k + 1) (premise_at r (suc k))) p.1 in
+      let q = both_of (is_below premises (field r (2 + 2 * suc k))) (nat_le (premise_at r k + 1) (premise_at r (suc k))) p.1 in
       let m = leb-true (premise_at r k + 1) (premise_at r (suc k)) q.1 in
       omega (arith, m)
 

@@ -23,11 +23,11 @@ use Rattle.rv_invariant.proofs.Grouping.{Width, two, three, grouped-is}
 use Rattle.rv_invariant.proofs.Ranging.{head-right, group-right}
 use Rattle.rv_invariant.proofs.Rowing.{number-test}
 use Rattle.rv_invariant.proofs.Spelling.{Grows, grows-two, grows-three, wide-triple, wide-weight, same-record, below-told}
-use Rattle.rv_types.proofs.TypedParts.{both_true as both}
+use Rattle.rv_base.proofs.Truths.{both_of}
 
 child-text : (r : Fields) (k : ℕ) (text : List ℕ) → is_child r k text ≡ true → text ≡ decimal (natural text)
 child-text r k text h =
-    (below-told (k + 2) text (both (is_below (k + 2) text) (nat_lt (natural text) 2 || nat_lt (variable_at r k) (variable_at r (natural text - 2))) h).0).0
+    (below-told (k + 2) text (both_of (is_below (k + 2) text) (nat_lt (natural text) 2 || nat_lt (variable_at r k) (variable_at r (natural text - 2))) h).0).0
 
 size-of : (w : ℕ) (width : Width w) (word : List ℕ) (r : Fields) (head : Fields → Bool) (right : Fields → ℕ → ℕ → Bool)
     → Right (grouped word w head right) r → length r ≡ 2 + w * group_count w r
@@ -38,7 +38,7 @@ module _ (s : Shape) (word : List ℕ) (states : Bool) (r : Fields) (ok : Right 
   node-text k zero l h =
       let right = group-right 3 three word is_root (is_node_field s states) r ok k 0 l (omega arith) in
       let e : 2 + 3 * k + 0 ≡ 2 + 3 * k = omega arith in
-      ap (field r) e ∙ (below-told s.variables (field r (2 + 3 * k)) (both (is_below s.variables (field r (2 + 3 * k)))
+      ap (field r) e ∙ (below-told s.variables (field r (2 + 3 * k)) (both_of (is_below s.variables (field r (2 + 3 * k)))
       (may_stand s states (variable_at r k)) right).0).0
   node-text k (suc zero) l h = child-text r k (field r (2 + 3 * k + 1)) (group-right 3 three word is_root (is_node_field s states) r ok k 1 l (omega arith))
   node-text k (suc (suc zero)) l h = child-text r k (field r (2 + 3 * k + 2)) (group-right 3 three word is_root (is_node_field s states) r ok k 2 l
@@ -64,8 +64,8 @@ module _ (greatest premises : ℕ) (r : Fields) (ok : Right (by_form greatest pr
   pair-text : (k j : ℕ) → k < group_count 2 r → j < 2 → field r (2 + 2 * k + j) ≡ get_or (weight_texts (weight_at r k)) j []
   pair-text k zero l h =
       let right = group-right 2 two (codes "by") (is_divisor greatest) (is_pair_field premises) r ok k 0 l (omega arith) in
-      let p = both (nat_lt k 256) (is_below premises (field r (2 + 2 * k)) && nat_le (least_at r k) (natural (field r (2 + 2 * k)))) right in
-      let q = both (is_below premises (field r (2 + 2 * k))) (nat_le (least_at r k) (natural (field r (2 + 2 * k)))) p.1 in
+      let p = both_of (nat_lt k 256) (is_below premises (field r (2 + 2 * k)) && nat_le (least_at r k) (natural (field r (2 + 2 * k)))) right in
+      let q = both_of (is_below premises (field r (2 + 2 * k))) (nat_le (least_at r k) (natural (field r (2 + 2 * k)))) p.1 in
       let e : 2 + 2 * k + 0 ≡ 2 + 2 * k = omega arith in
       ap (field r) e ∙ (below-told premises (field r (2 + 2 * k)) q.0).0
   pair-text k (suc zero) l h =
@@ -107,7 +107,7 @@ numbers-mapped [] = refl
 numbers-mapped (z ∷ zs) = ap (λ l. signed_decimal z ∷ l) (numbers-mapped zs)
 
 within-text : (limit : ℕ) (text : List ℕ) → is_within limit text ≡ true → text ≡ signed_decimal (whole text)
-within-text limit text h = bytes-same text (signed_decimal (whole text)) (both (bytes_eq text (signed_decimal (whole text)))
+within-text limit text h = bytes-same text (signed_decimal (whole text)) (both_of (bytes_eq text (signed_decimal (whole text)))
     (nat_le (unsigned_abs (whole text)) limit) h).0
 
 module _ (memories : ℕ) (r : Fields) (ok : Right (row_form memories) r) where

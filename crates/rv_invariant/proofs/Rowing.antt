@@ -13,7 +13,7 @@ use Rattle.rv_invfile.specs.Texts.{whole}
 use Rattle.rv_invfile.proofs.Instants.{none-bad, one-bad}
 use Rattle.rv_invariant.specs.Groups.{upto}
 use Rattle.rv_invariant.specs.Pieces.{coefficient_at, is_row_field, is_within, row_of}
-use Rattle.rv_types.proofs.TypedParts.{both_true as both}
+use Rattle.rv_base.proofs.Truths.{both_of}
 
 module _ (r : Fields) where
   pub number-test : (k : ℕ) → is_row_field r (k + 2) ≡ is_within (2 ^ 30) (field r (k + 2))
@@ -53,7 +53,7 @@ module _ (r : Fields) where
 -- what a text within a limit writes is held
 pub fits-within : (limit : ℕ) (text : List ℕ) (z : ℤ) → limit < 2 ^ 110 → is_within limit text ≡ true → z ≡ whole text → FitsSigned w128 z
 fits-within limit text z l h e =
-    let small = leb-true (unsigned_abs (whole text)) limit (both (bytes_eq text (signed_decimal (whole text))) (nat_le (unsigned_abs (whole text)) limit) h).1
+    let small = leb-true (unsigned_abs (whole text)) limit (both_of (bytes_eq text (signed_decimal (whole text))) (nat_le (unsigned_abs (whole text)) limit) h).1
     in
     let same = ap unsigned_abs e in
     fits_below z (omega (arith, same, small, l))

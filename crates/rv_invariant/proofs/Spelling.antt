@@ -20,13 +20,13 @@ use Rattle.rv_rows.specs.declared.farkas.Weight.{Weight}
 use Rattle.rv_invariant.specs.Pieces.{is_below, triple_texts, weight_texts}
 use Rattle.rv_invariant.proofs.Grouping.{Width}
 use Rattle.rv_invariant.proofs.Upto.{upto-at, upto-length}
-use Rattle.rv_types.proofs.TypedParts.{both_true as both}
+use Rattle.rv_base.proofs.Truths.{both_of}
 
 -- what a number below a limit tells
 pub below-told : (limit : ℕ) (text : List ℕ) → is_below limit text ≡ true → (text ≡ decimal (natural text)) × (natural text < limit) × (natural text < 2 ^ 32)
 below-told limit text h =
-    let p = both (bytes_eq text (decimal (natural text))) (nat_lt (natural text) limit && nat_lt (natural text) (2 ^ 32)) h in
-    let q = both (nat_lt (natural text) limit) (nat_lt (natural text) (2 ^ 32)) p.1 in
+    let p = both_of (bytes_eq text (decimal (natural text))) (nat_lt (natural text) limit && nat_lt (natural text) (2 ^ 32)) h in
+    let q = both_of (nat_lt (natural text) limit) (nat_lt (natural text) (2 ^ 32)) p.1 in
     (bytes-same text (decimal (natural text)) p.0, ltb-true (natural text) limit q.0, ltb-true (natural text) (2 ^ 32) q.1)
 
 pub below-right : (limit n : ℕ) → n < limit → n < 2 ^ 32 → is_below limit (decimal n) ≡ true

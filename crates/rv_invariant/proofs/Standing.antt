@@ -37,12 +37,12 @@ use Rattle.rv_invariant.proofs.Ranging.{SetFits, KeptRow, ProofFits}
 use Rattle.rv_invariant.proofs.Rowing.{number-test}
 use Rattle.rv_invariant.proofs.Spelling.{grows-two, grows-three, wide-triple, wide-weight, field-at, record-length, below-right, times-right}
 use Rattle.rv_invariant.proofs.Upto.{upto-is}
-use Rattle.rv_types.proofs.TypedParts.{both_true as both}
+use Rattle.rv_base.proofs.Truths.{both_of}
 
 -- ---- Plain texts.
 plain-joined : (a b : Fields) → is_plain a ≡ true → is_plain b ≡ true → is_plain (a ++ b) ≡ true
 plain-joined [] b h k = k
-plain-joined (x ∷ a) b h k = let p = both (is_plain_text x) (is_plain a) h in ap (λ c. c && is_plain (a ++ b)) p.0 ∙ plain-joined a b p.1 k
+plain-joined (x ∷ a) b h k = let p = both_of (is_plain_text x) (is_plain a) h in ap (λ c. c && is_plain (a ++ b)) p.0 ∙ plain-joined a b p.1 k
 
 flat-plain : {A : Type 0} (texts : A → Fields) → ((a : A) → is_plain (texts a) ≡ true) → (xs : List A) → is_plain (flat_map texts xs) ≡ true
 flat-plain texts h [] = refl

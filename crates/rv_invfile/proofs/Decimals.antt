@@ -9,6 +9,8 @@ use Rattle.std.proofs.lemmas.Str.Parse.{IsNumeralModel, numerals_by_value, tells
 use Rattle.std.proofs.lemmas.Fmt.{decimal-digits_value, decimal_is_IsNumeral, first_decimal, decimal_digit}
 use Rattle.std.proofs.lemmas.Slice.Eq.{bytes_eq-Decides}
 use Rattle.rv_invfile.specs.Texts.{natural, is_natural}
+use Rattle.rv_base.proofs.Truths.{and_false}
+use Rattle.std.proofs.lemmas.Bool.{false_from_ne_true}
 
 own : IsNumeralModel (AllDigits 10) (digits_value 10)
 own = numerals_by_value (AllDigits 10) tells_digits
@@ -69,12 +71,8 @@ natural-told low high text e =
     let p = parts (bytes_eq text (decimal (natural text))) (nat_le low (natural text)) (nat_le (natural text) high) e in
     (bytes-same text (decimal (natural text)) p.0, leb-true low (natural text) p.1, leb-true (natural text) high p.2)
 
-pub not-true : (b : Bool) → (b ≡ true → ⊥) → b ≡ false
-not-true true h = absurd (h refl)
-not-true false h = refl
-
 pub no-number : (low high : ℕ) (text : List ℕ) → high < 2 ^ 64 → ((n : ℕ) → n < 2 ^ 64 → text ≡ decimal n → ⊥) → is_natural low high text ≡ false
-no-number low high text fits none = not-true (is_natural low high text)
+no-number low high text fits none = false_from_ne_true (is_natural low high text)
     (λ e. let t = natural-told low high text e in none (natural text) (omega (arith, t.2)) t.0)
 
 pub finds : (text : List ℕ) (b : Bool) → (b ≡ true ↔ ((get_or text 0 0 ≡ 43) ⊎ ((get_or text 0 0 ≡ 48) × (1 < length text)))) → b ≡ false → (o : Option ℕ)
@@ -94,12 +92,8 @@ low-fails low high n h = ap (λ b. b && nat_le n high) (lt-leb low n h)
 pub below : (low high n : ℕ) (text : List ℕ) → n < 2 ^ 64 → text ≡ decimal n → n < low → is_natural low high text ≡ false
 below low high n text h e l = in-range low high n text h e ∙ low-fails low high n l
 
-pub and-false : (b : Bool) → (b && false) ≡ false
-and-false true = refl
-and-false false = refl
-
 pub above : (low high n : ℕ) (text : List ℕ) → n < 2 ^ 64 → text ≡ decimal n → high < n → is_natural low high text ≡ false
-above low high n text h e l = in-range low high n text h e ∙ ap (λ b. nat_le low n && b) (lt-leb n high l) ∙ and-false (nat_le low n)
+above low high n text h e l = in-range low high n text h e ∙ ap (λ b. nat_le low n && b) (lt-leb n high l) ∙ and_false (nat_le low n)
 
 pub within : (low high n : ℕ) (text : List ℕ) → n < 2 ^ 64 → text ≡ decimal n → low ≤ n → n ≤ high → is_natural low high text ≡ true
 within low high n text h e l m = in-range low high n text h e ∙ ap (λ b. b && nat_le n high) (le-leb low n l) ∙ le-leb n high m

@@ -5,23 +5,16 @@ use Rattle.std.specs.List.{list_all}
 use Rattle.std.specs.Fmt.{digits, digits_onto, digit_glyph, signed_decimal}
 use Rattle.std.proofs.lemmas.Bool.{lt-ltb}
 use Rattle.rv_invfile.specs.Texts.{dotted}
+use Rattle.rv_base.proofs.Truths.{and_first, and_second}
 
 glyph : (d : ℕ) → d < 10 → digit_glyph false d ≡ 48 + d
 glyph d h = ap (λ b. cond b (48 + d) (87 + d)) (lt-ltb d 10 h)
 
-pub head-passes : (a b : Bool) → (a && b) ≡ true → a ≡ true
-head-passes true b e = refl
-head-passes false b e = e
-
-tail-passes : (a b : Bool) → (a && b) ≡ true → b ≡ true
-tail-passes true b e = e
-tail-passes false b e = cc
-
 pub joined-all : (passes : ℕ → Bool) (x y : List ℕ) → list_all passes x ≡ true → list_all passes y ≡ true → list_all passes (x ++ y) ≡ true
 joined-all passes [] y h k = k
 joined-all passes (b ∷ x) y h k =
-    ap (λ c. c && list_all passes (x ++ y)) (head-passes (passes b) (list_all passes x) h)
-    ∙ joined-all passes x y (tail-passes (passes b) (list_all passes x) h) k
+    ap (λ c. c && list_all passes (x ++ y)) (and_first (passes b) (list_all passes x) h)
+    ∙ joined-all passes x y (and_second (passes b) (list_all passes x) h) k
 
 either : (passes : ℕ → Bool) (b : Bool) (x y : List ℕ) → list_all passes x ≡ true → list_all passes y ≡ true → list_all passes (if b then x else y) ≡ true
 either passes true x y h k = h

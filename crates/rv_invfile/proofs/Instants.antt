@@ -20,7 +20,7 @@ use Rattle.rv_invfile.specs.Texts.{value_of}
 use Rattle.rv_invfile.specs.Traces.{is_value, is_value_at, read_value, read_values, input_kinds, given, instant, tail_of, start, trace_end, trace_rule}
 use Rattle.rv_invfile.specs.Traces.{first_record, last_record}
 use Rattle.rv_invfile.proofs.Bound.{bind_ok}
-use Rattle.rv_invfile.proofs.Adding.{drop-next as drop-get}
+use Rattle.rv_invfile.proofs.Adding.{drop-next}
 
 -- ---- The first field that is wrong.
 pub none-bad : (ok : ℕ → Bool) (at n : ℕ) → ((k : ℕ) → k < at + n → ok k ≡ true) → first_bad ok at n ≡ None
@@ -73,7 +73,7 @@ pub values-more : (f : Flat) (r : Fields) (i : ℕ) (x : FlatInput) (v : Value) 
     → front2 ++ read_values f.labels (drop (i + 1) (input_kinds f)) (drop (i + 1) (tail_of r)) ≡ whole
 values-more f r i x v front front2 whole h l is e kept =
     let l2 : suc i < length r = omega arith in
-    let a = ap (λ ks. read_values f.labels ks (drop i (tail_of r))) (drop-get (input_kinds f) i x.kind (kind-of f i x h)) in
+    let a = ap (λ ks. read_values f.labels ks (drop i (tail_of r))) (drop-next (input_kinds f) i x.kind (kind-of f i x h)) in
     let b = ap (λ ts. read_values f.labels (x.kind ∷ drop (suc i) (input_kinds f)) ts) (drop-field r i l2) in
     let value : read_value f.labels x.kind (field r (suc i)) ≡ v = ap (λ k. read_value f.labels x.kind (field r k)) (sym (add-one i))
     ∙ ap (λ o. unwrap_or o (Flag true)) (sym is) in

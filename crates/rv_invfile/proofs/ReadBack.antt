@@ -45,7 +45,7 @@ use Rattle.rv_invfile.proofs.Spelled.{spells-document, parts-bind}
 use Rattle.rv_invfile.proofs.Loops.{more, each_more, each_none, times_more, times_none}
 use Rattle.rv_invfile.proofs.Decimals.{within}
 use Rattle.rv_invfile.proofs.SameFields.{same-row}
-use Rattle.rv_types.proofs.TypedParts.{both_true as both}
+use Rattle.rv_base.proofs.Truths.{both_of as both}
 
 -- ---- A right record is one at which nothing is at fault.
 pub right-fault : (f : Form) (r : Fields) → Right f r → fault_in (f ∷ []) r ≡ None

@@ -4,8 +4,9 @@ use Rattle.std.specs.Prelude.{◌&&◌}
 use Rattle.std.proofs.lemmas.List.{length-map}
 use Rattle.std.specs.Str.{bytes_eq}
 use Rattle.rv_invfile.specs.Texts.{same_fields}
-use Rattle.rv_invfile.proofs.Decimals.{same-bytes, bytes-same, not-true}
-use Rattle.rv_types.proofs.TypedParts.{both_true as both}
+use Rattle.rv_invfile.proofs.Decimals.{same-bytes, bytes-same}
+use Rattle.rv_base.proofs.Truths.{both_of}
+use Rattle.std.proofs.lemmas.Bool.{false_from_ne_true}
 
 pub same-row : (x y : List (List ℕ)) → x ≡ y → same_fields x y ≡ true
 same-row x y e = subst (λ z. same_fields x z ≡ true) e (own x)
@@ -18,14 +19,14 @@ pub row-same : (x y : List (List ℕ)) → same_fields x y ≡ true → x ≡ y
 row-same [] [] e = refl
 row-same [] (g ∷ gs) e = cc
 row-same (f ∷ fs) [] e = cc
-row-same (f ∷ fs) (g ∷ gs) e = let p = both (bytes_eq f g) (same_fields fs gs) e in ap (λ z. z ∷ fs) (bytes-same f g p.0) ∙ ap (λ z. g ∷ z) (row-same fs gs p.1)
+row-same (f ∷ fs) (g ∷ gs) e = let p = both_of (bytes_eq f g) (same_fields fs gs) e in ap (λ z. z ∷ fs) (bytes-same f g p.0) ∙ ap (λ z. g ∷ z) (row-same fs gs p.1)
 
 -- another length, or another field
 pub other-length : (x y : List (List ℕ)) → (length x ≡ length y → ⊥) → same_fields x y ≡ false
-other-length x y h = not-true (same_fields x y) (λ e. h (ap length (row-same x y e)))
+other-length x y h = false_from_ne_true (same_fields x y) (λ e. h (ap length (row-same x y e)))
 
 pub other-field : (x y : List (List ℕ)) (i : ℕ) → (get_or x i [] ≡ get_or y i [] → ⊥) → same_fields x y ≡ false
-other-field x y i h = not-true (same_fields x y) (λ e. h (ap (λ z. get_or z i []) (row-same x y e)))
+other-field x y i h = false_from_ne_true (same_fields x y) (λ e. h (ap (λ z. get_or z i []) (row-same x y e)))
 
 -- as long, and each field the same
 pub all-same : (x y : List (List ℕ)) → length x ≡ length y → ((i : ℕ) → i < length x → get_or x i [] ≡ get_or y i []) → same_fields x y ≡ true

@@ -6,8 +6,9 @@ use Rattle.std.specs.Fmt.{signed_decimal}
 use Rattle.std.proofs.lemmas.Int.{ints}
 use Rattle.rv_base.specs.declared.value.Value.TheVariants.{Label}
 use Rattle.rv_invfile.specs.Texts.{natural, is_natural, is_whole, least, greatest, Labels, label_from}
-use Rattle.rv_invfile.proofs.Decimals.{bytes-same, within, not-true, parts as three}
+use Rattle.rv_invfile.proofs.Decimals.{bytes-same, within, parts}
 use Rattle.std.proofs.lemmas.Fmt.{decimal_digit}
+use Rattle.std.proofs.lemmas.Bool.{false_from_ne_true}
 
 head-of : (x y : ℕ) (xs ys : List ℕ) → x ∷ xs ≡ y ∷ ys → x ≡ y
 head-of x y xs ys e = cc
@@ -34,8 +35,8 @@ minus (suc m) bs is same low =
 
 minus-none : (bs : List ℕ) → is_natural 1 9223372036854775808 bs ≡ false → is_whole least greatest (45 ∷ bs) ≡ false
 minus-none bs h =
-    not-true (is_whole least greatest (45 ∷ bs)) (λ e.
-    let p = three (bytes_eq (45 ∷ bs) (signed_decimal (neg_ℤ (pos (natural bs))))) (int_le least (neg_ℤ (pos (natural bs))))
+    false_from_ne_true (is_whole least greatest (45 ∷ bs)) (λ e.
+    let p = parts (bytes_eq (45 ∷ bs) (signed_decimal (neg_ℤ (pos (natural bs))))) (int_le least (neg_ℤ (pos (natural bs))))
     (int_le (neg_ℤ (pos (natural bs))) greatest) e in
     clash (is_natural 1 9223372036854775808 bs) h (minus (natural bs) bs refl p.0 p.1))
   where

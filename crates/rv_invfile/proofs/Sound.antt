@@ -26,7 +26,7 @@ use Rattle.rv_invfile.specs.Traces.{first_record, last_record, start_records, va
 use Rattle.rv_invfile.specs.Writes.{line, lines, more_fields, wide}
 use Rattle.rv_invfile.proofs.Digits.{decimal-all, dotted-all, signed-all}
 use Rattle.rv_invfile.proofs.Lines.{HaveFields, wide-rows, written-read}
-use Rattle.rv_types.proofs.TypedParts.{both_true as both}
+use Rattle.rv_base.proofs.Truths.{both_of}
 
 -- letters, digits, `_`, and the signs of numbers and places
 abbrev pub is_sound : ℕ → Bool
@@ -39,7 +39,7 @@ is_sound_text text = list_all is_sound text
 pub name-sound : (text : List ℕ) → is_name text ≡ true → is_sound_text text ≡ true
 name-sound [] h = refl
 name-sound (b ∷ bs) h =
-    let p = both (is_name_byte b) (is_name bs) h in
+    let p = both_of (is_name_byte b) (is_name bs) h in
     ap (λ c. (c || nat_eq b 45 || nat_eq b 46) && is_sound_text bs) p.0 ∙ name-sound bs p.1
 
 byte-sound : (d : ℕ) → d < 10 → is_sound (48 + d) ≡ true
@@ -62,13 +62,13 @@ signed-sound = signed-all is_sound byte-sound refl
 
 name-at : (ls : List (List ℕ)) (n : ℕ) → list_all is_name ls ≡ true → is_sound_text (get_or ls n []) ≡ true
 name-at [] n h = refl
-name-at (l ∷ ls) zero h = name-sound l (both (is_name l) (list_all is_name ls) h).0
-name-at (l ∷ ls) (suc n) h = name-at ls n (both (is_name l) (list_all is_name ls) h).1
+name-at (l ∷ ls) zero h = name-sound l (both_of (is_name l) (list_all is_name ls) h).0
+name-at (l ∷ ls) (suc n) h = name-at ls n (both_of (is_name l) (list_all is_name ls) h).1
 
 label-sound : (labels : Labels) (e n : ℕ) → list_all (list_all is_name) labels ≡ true → is_sound_text (label_at labels e n) ≡ true
 label-sound [] e n h = refl
-label-sound (l ∷ ls) zero n h = name-at l n (both (list_all is_name l) (list_all (list_all is_name) ls) h).0
-label-sound (l ∷ ls) (suc e) n h = label-sound ls e n (both (list_all is_name l) (list_all (list_all is_name) ls) h).1
+label-sound (l ∷ ls) zero n h = name-at l n (both_of (list_all is_name l) (list_all (list_all is_name) ls) h).0
+label-sound (l ∷ ls) (suc e) n h = label-sound ls e n (both_of (list_all is_name l) (list_all (list_all is_name) ls) h).1
 
 value-sound : (labels : Labels) → list_all (list_all is_name) labels ≡ true → (k : Kind) (v : Value) → is_sound_text (value_text labels k v) ≡ true
 value-sound labels n k (Flag true) = refl
@@ -101,7 +101,7 @@ two-texts x y h k = ap (λ c. c && (is_sound_text y && true)) h ∙ ap (λ c. c 
 inputs-sound : (is : List FlatInput) → list_all (λ i. is_name i.name) is ≡ true → list_all is_sound_text (map (λ i. i.name) is) ≡ true
 inputs-sound [] h = refl
 inputs-sound (i ∷ is) h =
-    let p = both (is_name i.name) (list_all (λ (i : FlatInput). is_name i.name) is) h in
+    let p = both_of (is_name i.name) (list_all (λ (i : FlatInput). is_name i.name) is) h in
     ap (λ c. c && list_all is_sound_text (map (λ (i : FlatInput). i.name) is)) (name-sound i.name p.0) ∙ inputs-sound is p.1
 
 texts-sound : (labels : Labels) → list_all (list_all is_name) labels ≡ true → (ks : List Kind) (vs : List Value)
@@ -153,7 +153,7 @@ sound-needs b h = grind (arith, nat_tests)
 pub sound-quiet : (f : List ℕ) → is_sound_text f ≡ true → list_any (needs_byte default_writer) f ≡ false
 sound-quiet [] h = refl
 sound-quiet (b ∷ bs) h =
-    let p = both (is_sound b) (is_sound_text bs) h in
+    let p = both_of (is_sound b) (is_sound_text bs) h in
     ap (λ c. c || list_any (needs_byte default_writer) bs) (sound-needs b p.0) ∙ sound-quiet bs p.1
 
 field-same : (f : List ℕ) → is_sound_text f ≡ true → field_text default_writer f ≡ f
@@ -163,7 +163,7 @@ fields-same : (fs : List (List ℕ)) → list_all is_sound_text fs ≡ true → 
 unfolding fields_text
 fields-same [] h = refl
 fields-same (f ∷ fs) h =
-    let p = both (is_sound_text f) (list_all is_sound_text fs) h in
+    let p = both_of (is_sound_text f) (list_all is_sound_text fs) h in
     ap (λ l. 44 ∷ (l ++ fields_text default_writer fs)) (field-same f p.0) ∙ ap (λ l. 44 ∷ (f ++ l)) (fields-same fs p.1)
 
 pub not-blank : (f : List ℕ) (fs : List (List ℕ)) → 0 < length f → field_text default_writer f ≡ f → is_blank default_writer (f ∷ fs) ≡ false
@@ -174,7 +174,7 @@ not-blank f (g ∷ gs) l e = refl
 row-line : (r : Fields) → IsLine r → row_text default_writer r ≡ line r
 row-line [] h = absurd h
 row-line (f ∷ fs) h =
-    let p = both (is_sound_text f) (list_all is_sound_text fs) h.1 in
+    let p = both_of (is_sound_text f) (list_all is_sound_text fs) h.1 in
     let same = field-same f p.0 in
     ap (λ b. (field_text default_writer f ++ fields_text default_writer fs) ++ ((if b then 34 ∷ 34 ∷ [] else []) ++ (10 ∷ []))) (not-blank f fs h.0 same)
     ∙ ap (λ l. (l ++ fields_text default_writer fs) ++ (10 ∷ [])) same

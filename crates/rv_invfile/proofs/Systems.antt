@@ -28,15 +28,17 @@ use Rattle.rv_flat.specs.FlatOf.{IsFlatOf}
 use Rattle.rv_invfile.specs.Texts.{all_few}
 use Rattle.rv_invfile.specs.Told.{AreDifferent, IsAmong, IsTold}
 use Rattle.rv_tree.specs.Words.{HasPlainNames, is_name}
-use Rattle.rv_types.proofs.Members.{at_head as at-head, in_tail as in-tail}
-use Rattle.rv_types.proofs.RightNames.{both_empty as both-empty}
-use Rattle.rv_types.proofs.TypedParts.{both_true as both}
+use Rattle.rv_types.proofs.Members.{at_head, in_tail}
+use Rattle.rv_types.proofs.RightNames.{both_empty}
+use Rattle.rv_base.proofs.Truths.{both_of}
+use Rattle.std.proofs.lemmas.Bool.{or_left}
+use Rattle.std.proofs.lemmas.Bool.{or_right}
 
 same-text : (x y : List ℕ) → is_same x y ≡ true → x ≡ y
 same-text [] [] e = refl
 same-text [] (b ∷ y) e = cc
 same-text (a ∷ x) [] e = cc
-same-text (a ∷ x) (b ∷ y) e = let p = both (nat_eq a b) (is_same x y) e in ap (λ c. c ∷ x) (eqb-true a b p.0) ∙ ap (λ l. b ∷ l) (same-text x y p.1)
+same-text (a ∷ x) (b ∷ y) e = let p = both_of (nat_eq a b) (is_same x y) e in ap (λ c. c ∷ x) (eqb-true a b p.0) ∙ ap (λ l. b ∷ l) (same-text x y p.1)
 
 same-itself : (x : List ℕ) → is_same x x ≡ true
 same-itself [] = refl
@@ -44,7 +46,7 @@ same-itself (a ∷ x) = ap (λ c. c && is_same x x) (eq-eqb a a refl) ∙ same-i
 
 all-true : {X : Type 0} (p : X → Bool) (xs : List X) → ((x : X) → Contains xs x → p x ≡ true) → list_all p xs ≡ true
 all-true p [] h = refl
-all-true p (x ∷ xs) h = ap (λ b. b && list_all p xs) (h x (at-head x xs)) ∙ all-true p xs (λ y w. h y (in-tail x xs y w))
+all-true p (x ∷ xs) h = ap (λ b. b && list_all p xs) (h x (at_head x xs)) ∙ all-true p xs (λ y w. h y (in_tail x xs y w))
 
 all-map : {X Y : Type 0} (g : X → Y) (p : Y → Bool) (xs : List X) → list_all p (map g xs) ≡ list_all (λ x. p (g x)) xs
 all-map g p [] = refl
@@ -54,11 +56,11 @@ all-map g p (x ∷ xs) = ap (λ b. p (g x) && b) (all-map g p xs)
 named-plain : (ns : List NodeTree) (main : Identifier) → ((n : NodeTree) → Contains ns n → is_name n.name.text ≡ true)
     → is_among (map (λ (n : NodeTree). n.name.text) ns) main ≡ true → is_name main ≡ true
 named-plain [] main h e = cc
-named-plain (n ∷ ns) main h e = tested (is_same n.name.text main) refl e (named-plain ns main (λ m w. h m (in-tail n ns m w)))
+named-plain (n ∷ ns) main h e = tested (is_same n.name.text main) refl e (named-plain ns main (λ m w. h m (in_tail n ns m w)))
   where
     tested : (b : Bool) → is_same n.name.text main ≡ b → (b || is_among (map (λ (n : NodeTree). n.name.text) ns) main) ≡ true
         → (is_among (map (λ (n : NodeTree). n.name.text) ns) main ≡ true → is_name main ≡ true) → is_name main ≡ true
-    tested true same e again = subst (λ x. is_name x ≡ true) (same-text n.name.text main same) (h n (at-head n ns))
+    tested true same e again = subst (λ x. is_name x ≡ true) (same-text n.name.text main same) (h n (at_head n ns))
     tested false same e again = again e
 
 names-plain : (p : ProgramTree) (n : NodeTree) → HasPlainNames p → Contains p.nodes n → list_all is_name (names n.inputs) ≡ true
@@ -77,41 +79,32 @@ labels-plain p h =
     all-map (λ (d : TypeDecl). texts (labels_of d)) (list_all is_name) p.types
     ∙ all-true (λ (d : TypeDecl). list_all is_name (texts (labels_of d))) p.types (λ d w. type-plain p d h w)
 
--- ---- Labels that differ.
-or-right : (a b : Bool) → b ≡ true → (a || b) ≡ true
-or-right true b e = refl
-or-right false b e = e
-
-or-left : (a b : Bool) → a ≡ true → (a || b) ≡ true
-or-left true b e = refl
-or-left false b e = cc
-
 -- a name that stands before is none of names of which none is repeated
 not-again : (t : List ℕ) (before xs : List Name) → is_declared before t ≡ true → repeated before xs ≡ [] → IsAmong t (texts xs) → ⊥
 not-again t before [] d e a = a
 not-again t before (y ∷ ys) d e (inl same) =
     clash (is_declared before y.text) (subst (λ z. is_declared before z ≡ true) same d)
-    (both-empty (cond (is_declared before y.text) (DefinedTwice y.at ∷ []) []) (repeated (y ∷ before) ys) e).0
+    (both_empty (cond (is_declared before y.text) (DefinedTwice y.at ∷ []) []) (repeated (y ∷ before) ys) e).0
   where
     clash : (b : Bool) → b ≡ true → cond b (DefinedTwice y.at ∷ []) [] ≡ [] → ⊥
     clash true e f = cc
     clash false e f = cc
 not-again t before (y ∷ ys) d e (inr a) =
-    not-again t (y ∷ before) ys (or-right (is_same y.text t) (is_declared before t) d)
-    (both-empty (cond (is_declared before y.text) (DefinedTwice y.at ∷ []) []) (repeated (y ∷ before) ys) e).1 a
+    not-again t (y ∷ before) ys (or_right (is_same y.text t) (is_declared before t) d)
+    (both_empty (cond (is_declared before y.text) (DefinedTwice y.at ∷ []) []) (repeated (y ∷ before) ys) e).1 a
 
 texts-differ : (before xs : List Name) → repeated before xs ≡ [] → AreDifferent (texts xs)
 texts-differ before [] e = tt
 texts-differ before (x ∷ xs) e =
-    let rest : repeated (x ∷ before) xs ≡ [] = (both-empty (cond (is_declared before x.text) (DefinedTwice x.at ∷ []) []) (repeated (x ∷ before) xs) e).1 in (
-      (λ a. not-again x.text (x ∷ before) xs (or-left (is_same x.text x.text) (is_declared before x.text) (same-itself x.text)) rest a),
+    let rest : repeated (x ∷ before) xs ≡ [] = (both_empty (cond (is_declared before x.text) (DefinedTwice x.at ∷ []) []) (repeated (x ∷ before) xs) e).1 in (
+      (λ a. not-again x.text (x ∷ before) xs (or_left (is_same x.text x.text) (is_declared before x.text) (same-itself x.text)) rest a),
       texts-differ (x ∷ before) xs rest,
     )
 
 split : (before xs ys : List Name) → repeated before (xs ++ ys) ≡ [] → (repeated before xs ≡ []) × ((others : List Name) × (repeated others ys ≡ []))
 split before [] ys e = (refl, (before, e))
 split before (x ∷ xs) ys e =
-    let p = both-empty (cond (is_declared before x.text) (DefinedTwice x.at ∷ []) []) (repeated (x ∷ before) (xs ++ ys)) e in
+    let p = both_empty (cond (is_declared before x.text) (DefinedTwice x.at ∷ []) []) (repeated (x ∷ before) (xs ++ ys)) e in
     let r = split (x ∷ before) xs ys p.1 in
     (ap (λ l. l ++ repeated (x ∷ before) xs) p.0 ∙ r.0, r.1)
 
@@ -130,17 +123,17 @@ labels-apart p e =
     let types : List NameFault = repeated [] (type_names p) in
     let constants : List NameFault = repeated [] (constant_names p) in
     let labels : List NameFault = repeated [] (label_names p) in
-    let whole = both-empty (nodes ++ (types ++ repeated_values p)) uses e in
-    let spaces = both-empty nodes (types ++ repeated_values p) whole.0 in
-    let others = both-empty types (repeated_values p) spaces.1 in
-    let values = both-empty (constants ++ labels) both_kinds others.1 in
-    (both-empty constants labels values.0).1
+    let whole = both_empty (nodes ++ (types ++ repeated_values p)) uses e in
+    let spaces = both_empty nodes (types ++ repeated_values p) whole.0 in
+    let others = both_empty types (repeated_values p) spaces.1 in
+    let values = both_empty (constants ++ labels) both_kinds others.1 in
+    (both_empty constants labels values.0).1
 
 -- ---- Counts.
 few-all : (ls : List (List (List ℕ))) → facts.all_few 256 ls ≡ true → all_few ls
 few-all [] h k d l = absurd (omega (arith, l))
-few-all (l ∷ ls) h zero d lt = leb-true (length l) 256 (both (nat_le (length l) 256) (facts.all_few 256 ls) h).0
-few-all (l ∷ ls) h (suc k) d lt = few-all ls (both (nat_le (length l) 256) (facts.all_few 256 ls) h).1 k d (omega (arith, lt))
+few-all (l ∷ ls) h zero d lt = leb-true (length l) 256 (both_of (nat_le (length l) 256) (facts.all_few 256 ls) h).0
+few-all (l ∷ ls) h (suc k) d lt = few-all ls (both_of (nat_le (length l) 256) (facts.all_few 256 ls) h).1 k d (omega (arith, lt))
 
 few-inputs : (p : ProgramTree) (main : Identifier) (f : Flat) → IsSourceTree p → IsNode p main
     → map (λ (i : FlatInput). i.name) f.inputs ≡ names (node_of p main).inputs → length f.inputs ≤ 1048576

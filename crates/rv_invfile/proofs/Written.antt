@@ -31,7 +31,7 @@ use Rattle.rv_invfile.proofs.Loops.{more, each_more, each_none, times_more, time
 use Rattle.rv_invfile.proofs.Decimals.{bytes-same, natural-told}
 use Rattle.rv_invfile.proofs.SameFields.{row-same}
 use Rattle.rv_invfile.proofs.Instants.{field-allowed}
-use Rattle.rv_types.proofs.TypedParts.{both_true as both}
+use Rattle.rv_base.proofs.Truths.{both_of}
 
 value-is : (v w : Value) → Some v ≡ Some w → v ≡ w
 value-is v w e = cc
@@ -90,7 +90,7 @@ single f g a (r ∷ rs) s = record { here = r; alone = ap (λ l. r ∷ l) s.1.0;
 
 -- ---- The forms.
 pub worded : (w : List ℕ) (n : ℕ) (r : Fields) → is_worded w n r ≡ true → (word_of r ≡ w) × (length r ≡ n)
-worded w n r h = let p = both (bytes_eq (word_of r) w) (nat_eq (length r) n) h in (bytes-same (word_of r) w p.0, eqb-true (length r) n p.1)
+worded w n r h = let p = both_of (bytes_eq (word_of r) w) (nat_eq (length r) n) h in (bytes-same (word_of r) w p.0, eqb-true (length r) n p.1)
 
 pub two-fields : (r : Fields) → length r ≡ 2 → r ≡ field r 0 ∷ field r 1 ∷ []
 two-fields [] h = absurd (omega arith)
@@ -148,8 +148,8 @@ whole-high z h = grind (arith, ints)
 whole-written : (text : List ℕ) (b : Bool) (v : Value) → is_whole least greatest text ≡ b → cond b (Some (Whole (whole text))) None ≡ Some v → (labels : Labels)
     → HasKind labels kind.Int v × (text ≡ value_text labels kind.Int v)
 whole-written text true v e h labels =
-    let p = both (bytes_eq text (signed_decimal (whole text)) && int_le least (whole text)) (int_le (whole text) greatest) e in
-    let q = both (bytes_eq text (signed_decimal (whole text))) (int_le least (whole text)) p.0 in
+    let p = both_of (bytes_eq text (signed_decimal (whole text)) && int_le least (whole text)) (int_le (whole text) greatest) e in
+    let q = both_of (bytes_eq text (signed_decimal (whole text))) (int_le least (whole text)) p.0 in
     subst (λ v. HasKind labels kind.Int v × (text ≡ value_text labels kind.Int v)) (value-is (Whole (whole text)) v h)
     ((whole-low (whole text) q.1, whole-high (whole text) p.1), bytes-same text (signed_decimal (whole text)) q.0)
 whole-written text false v e h labels = cc

@@ -17,7 +17,7 @@ use Rattle.std.proofs.lemmas.List.{map_push}
 use Rattle.rv_made_order.proofs.Lists.{both_none, none_of_each, flat_map_map, are_apart, apart_push, among_push}
 use Rattle.rv_made_order.proofs.Links.{links, flow_links, among_links, not_among, links_apart}
 use Rattle.rv_made_order.proofs.Program.{call_equation, each_equation, each_flow, flow_there}
-use Rattle.rv_instances.proofs.Flowing.{names_texts as declared_texts}
+use Rattle.rv_types.proofs.KnownLaws.{texts_of}
 
 -- no second declaration stands among names that are apart
 pub repeated_none : (before xs : List Name) → are_apart (texts before) (texts xs) ≡ true → repeated before xs ≡ []
@@ -61,7 +61,7 @@ module _ (o : Offsets) (n : ℕ) (few : n < 2 ^ 64) where
   flows_apart : repeated [] (decl_names (decls main)) ≡ []
   flows_apart = repeated_none (named_at (o.main 3) (codes "seen") ∷ named_at (o.main 2) (codes "ok") ∷ named_at (o.main 1) (codes "a") ∷ [])
       (decl_names (link_flows o.declared n))
-      (ap (λ xs. are_apart (codes "seen" ∷ codes "ok" ∷ codes "a" ∷ []) xs) (declared_texts (link_flows o.declared n) ∙ flow_links o.declared n)
+      (ap (λ xs. are_apart (codes "seen" ∷ codes "ok" ∷ codes "a" ∷ []) xs) (texts_of (link_flows o.declared n) ∙ flow_links o.declared n)
       ∙ links_apart (codes "seen" ∷ codes "ok" ∷ codes "a" ∷ []) n few (λ i lt. refl))
 
   lefts_apart : repeated (decl_names main.inputs) (lefts main) ≡ []

@@ -21,7 +21,7 @@ use Rattle.rv_made_order.proofs.Lists.{both_none, none_of_each, total_flat, leng
 use Rattle.rv_made_order.proofs.Program.{call_equation, each_later, each_equation}
 use Rattle.rv_made_order.proofs.Instances.{main_copy, over_all, listed_made}
 use Rattle.rv_types.proofs.Members.{in_tail}
-use Rattle.rv_types.proofs.RightNames.{both_empty as split_nil}
+use Rattle.rv_types.proofs.RightNames.{both_empty}
 
 delays_none : (qs : List EquationTree) → ((q : EquationTree) → Contains qs q → delays q.right ≡ []) → delays_in_equations qs ≡ []
 delays_none qs each = joined qs ∙ none_of_each (λ (q : EquationTree). delays q.right) qs each
@@ -37,7 +37,7 @@ own_arrow i e = cond (is_arrow e) (elim (clock_in i Base e) as (λ _. List Sites
 arrows_append : (i : Instance) (xs ys : List Tree) → arrow_clocks i xs ≡ [] → arrow_clocks i ys ≡ [] → arrow_clocks i (xs ++ ys) ≡ []
 arrows_append i [] ys first rest = rest
 arrows_append i (x ∷ xs) ys first rest =
-    let s = split_nil (own_arrow i x) (arrow_clocks i xs) first in
+    let s = both_empty (own_arrow i x) (arrow_clocks i xs) first in
     both_none (own_arrow i x) (arrow_clocks i (xs ++ ys)) s.0 (arrows_append i xs ys s.1 rest)
 
 arrows_flat : {X : Type 0} (i : Instance) (f : X → List Tree) (xs : List X) → ((x : X) → Contains xs x → arrow_clocks i (f x) ≡ [])

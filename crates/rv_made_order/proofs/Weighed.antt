@@ -17,7 +17,7 @@ use Rattle.rv_made_order.proofs.Program.{link_site, each_equation, flow_there, f
 use Rattle.rv_made_order.proofs.Instances.{link_call, each_call, main_copy, link_copy, made}
 use Rattle.rv_made_order.proofs.Ranked.{each_right, link_right, sole_argument}
 use Rattle.rv_types.proofs.Members.{in_tail, nothing_in}
-use Rattle.rv_types.proofs.RightNames.{both_empty as split_nil}
+use Rattle.rv_types.proofs.RightNames.{both_empty}
 
 -- the weights of the flows of the main node, by their sites, and of the others
 abbrev pub site_weight : ℕ → ℕ
@@ -35,7 +35,7 @@ wide_append : (w : Tree → ℕ) (xs ys : List Tree) → too_wide w xs ≡ [] �
 wide_append w [] ys first rest = rest
 wide_append w (Node at site form ∷ xs) ys first rest =
     let here = cond (nat_lt heaviest (w (Node at site form))) (at ∷ []) [] in
-    let s = split_nil here (too_wide w xs) first in
+    let s = both_empty here (too_wide w xs) first in
     both_none here (too_wide w (xs ++ ys)) s.0 (wide_append w xs ys s.1 rest)
 
 wide_flat : {X : Type 0} (w : Tree → ℕ) (f : X → List Tree) (xs : List X) → ((x : X) → Contains xs x → too_wide w (f x) ≡ []) → too_wide w (flat_map f xs) ≡ []

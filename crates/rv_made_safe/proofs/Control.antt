@@ -19,7 +19,7 @@ use Rattle.rv_make.specs.Chains.{Offsets, link_node, main_node, chain_program}
 use Rattle.rv_made_safe.proofs.Equations.{IsMainEquation, sees, calls, tells, main_equation}
 use Rattle.rv_made_safe.proofs.Flows.{IsPlain, plain_link, plain_main, no_integer}
 use Rattle.rv_made_safe.proofs.Nodes.{IsChainNode, is_main_node, is_link_node, instance_node}
-use Rattle.rv_types.proofs.Members.{at_head as contains_head, cons_cases as contains_cases, in_tail as contains_tail, of_flat_map}
+use Rattle.rv_types.proofs.Members.{at_head, cons_cases, in_tail, of_flat_map}
 
 -- Delays.
 
@@ -27,15 +27,15 @@ use Rattle.rv_types.proofs.Members.{at_head as contains_head, cons_cases as cont
 delay_of : (qs : List EquationTree) (d : Delay) → Contains (delays_in_equations qs) d → (q : EquationTree) × Contains qs q × Contains (delays q.right) d
 delay_of [] d w = absurd (none_in d w)
 delay_of (q ∷ qs) d w = elim (Contains-append_cases (delays q.right) (delays_in_equations qs) d w) [
-  | inl here ↦ (q, contains_head q qs, here)
-  | inr later ↦ let r = delay_of qs d later in (r.0, contains_tail q qs r.0 r.1, r.2)
+  | inl here ↦ (q, at_head q qs, here)
+  | inr later ↦ let r = delay_of qs d later in (r.0, in_tail q qs r.0 r.1, r.2)
 ]
 
 module _ (o : Offsets) (n : ℕ) where
   -- in the main node the one of `seen`
   delayed_main : (q : EquationTree) → IsMainEquation o n q → (d : Delay) → Contains (delays q.right) d
       → operand_kind (chain_program o n) (main_node o n) d.operand ≡ kind.Bool
-  delayed_main _ sees d w = elim (contains_cases _ [] d w) [
+  delayed_main _ sees d w = elim (cons_cases _ [] d w) [
     | inl is ↦ ap (λ (e : Delay). operand_kind (chain_program o n) (main_node o n) e.operand) (sym is)
     | inr none ↦ absurd (none_in d none)
   ]
@@ -48,7 +48,7 @@ module _ (o : Offsets) (n : ℕ) where
     | inl here ↦ let r = delay_of (main_node o n).equations d here in delayed_main r.0 (main_equation o n r.0 r.1) d r.2
     | inr none ↦ absurd (none_in d none)
   ]
-  delayed _ is_link_node d w = elim (contains_cases _ [] d w) [
+  delayed _ is_link_node d w = elim (cons_cases _ [] d w) [
     | inl is ↦ ap (λ (e : Delay). operand_kind (chain_program o n) (link_node o.link) e.operand) (sym is)
     | inr none ↦ absurd (none_in d none)
   ]
@@ -65,7 +65,7 @@ passes : (test : Tree → Bool) (es : List Tree) (e : Tree) → list_all test es
 passes test [] e all w = absurd (none_in e w)
 passes test (x ∷ xs) e all w =
     let both = and_parts (test x) (list_all test xs) all in
-    elim (contains_cases x xs e w) [
+    elim (cons_cases x xs e w) [
       | inl is ↦ ap test (sym is) ∙ both.0
       | inr later ↦ passes test xs e both.1 later
     ]

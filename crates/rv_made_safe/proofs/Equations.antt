@@ -9,7 +9,7 @@ use Rattle.rv_types.specs.Instances.{IsRight, alone, Body}
 use Rattle.rv_meaning.proofs.NameLemmas.{none_in}
 use Rattle.rv_make.specs.Made.{link_name}
 use Rattle.rv_make.specs.Chains.{Offsets, flow_read, equation, delayed, link_node, link_calls, seen_equation, ok_equation, main_node}
-use Rattle.rv_types.proofs.Members.{at_head as contains_head, cons_cases as contains_cases, in_tail as contains_tail}
+use Rattle.rv_types.proofs.Members.{at_head, cons_cases, in_tail}
 
 -- the call after this many, where the first has this site
 abbrev pub call_tree : Offsets → ℕ → ℕ → Tree
@@ -45,18 +45,18 @@ pub data IsMainEquation (o : Offsets) (n : ℕ) : EquationTree → Type 0 where
 
 module _ (o : Offsets) (n : ℕ) where
   pub seen_in_main : Contains (main_node o n).equations (seen_equation o.main (n + 3))
-  seen_in_main = contains_head (seen_equation o.main (n + 3)) _
+  seen_in_main = at_head (seen_equation o.main (n + 3)) _
 
   pub call_in_main : (i : ℕ) → i < n → Contains (main_node o n).equations (call_equation o (n + 4) i)
-  call_in_main i h = contains_tail (seen_equation o.main (n + 3)) _ (call_equation o (n + 4) i)
+  call_in_main i h = in_tail (seen_equation o.main (n + 3)) _ (call_equation o (n + 4) i)
       (Contains-append_left (link_calls o (n + 4) n) (ok_equation o.main n ∷ []) (call_equation o (n + 4) i) (call_there o (n + 4) n i h))
 
   pub ok_in_main : Contains (main_node o n).equations (ok_equation o.main n)
-  ok_in_main = contains_tail (seen_equation o.main (n + 3)) _ (ok_equation o.main n) (Contains-push (link_calls o (n + 4) n) (ok_equation o.main n))
+  ok_in_main = in_tail (seen_equation o.main (n + 3)) _ (ok_equation o.main n) (Contains-push (link_calls o (n + 4) n) (ok_equation o.main n))
 
   -- there are no others
   pub main_equation : (q : EquationTree) → Contains (main_node o n).equations q → IsMainEquation o n q
-  main_equation q w = elim (contains_cases (seen_equation o.main (n + 3)) _ q w) [
+  main_equation q w = elim (cons_cases (seen_equation o.main (n + 3)) _ q w) [
     | inl is ↦ subst (IsMainEquation o n) is sees
     | inr later ↦ elim (Contains-push_cases (link_calls o (n + 4) n) (ok_equation o.main n) q later) [
       | inl call ↦ let r = call_is o (n + 4) n q call in subst (IsMainEquation o n) r.1 (calls r.0)
@@ -79,4 +79,4 @@ module _ (o : Offsets) (n : ℕ) where
 pub link_right : (at : ℕ → ℕ) → IsRight (link_node at) (codes "b") (Body (delayed at 4 2 (codes "a")))
 link_right at =
     let sole = equation (at 3) (codes "b") (delayed at 4 2 (codes "a")) in
-    alone sole (contains_head sole []) refl
+    alone sole (at_head sole []) refl

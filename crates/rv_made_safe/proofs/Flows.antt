@@ -18,8 +18,9 @@ use Rattle.rv_types.specs.Kinds.{kind_in_program, flow_kinds, flow_kind}
 use Rattle.rv_meaning.proofs.NameLemmas.{none_in}
 use Rattle.rv_make.specs.Made.{link_name}
 use Rattle.rv_make.specs.Chains.{Offsets, boolean, link_flows, link_node, main_node}
-use Rattle.rv_made_safe.proofs.Lists.{all_at, got}
-use Rattle.rv_types.proofs.Members.{among_from as among_there, cons_cases as contains_cases, in_map, in_tail as contains_tail, of_map}
+use Rattle.rv_made_safe.proofs.Lists.{all_at}
+use Rattle.rv_types.proofs.Members.{among_from, cons_cases, in_map, in_tail}
+use Rattle.rv_base.proofs.Lists.{contains_got, from_map}
 
 -- the flow of each call is declared
 flow_there : (at : ℕ → ℕ) (n i : ℕ) → i < n → Contains (link_flows at n) (boolean (at i) (link_name (suc i)))
@@ -52,9 +53,9 @@ plain_links at (suc n) d w = elim (Contains-push_cases (link_flows at n) (boolea
 
 -- the flows of the node `link`
 pub plain_link : (at : ℕ → ℕ) (d : Decl) → Contains (decls (link_node at)) d → IsPlain d
-plain_link at d w = elim (contains_cases (boolean (at 1) (codes "a")) (boolean (at 2) (codes "b") ∷ []) d w) [
+plain_link at d w = elim (cons_cases (boolean (at 1) (codes "a")) (boolean (at 2) (codes "b") ∷ []) d w) [
   | inl is ↦ plain_flow (at 1) (codes "a") d is
-  | inr later ↦ elim (contains_cases (boolean (at 2) (codes "b")) [] d later) [
+  | inr later ↦ elim (cons_cases (boolean (at 2) (codes "b")) [] d later) [
     | inl is ↦ plain_flow (at 2) (codes "b") d is
     | inr none ↦ absurd (none_in d none)
   ]
@@ -64,9 +65,9 @@ module _ (o : Offsets) (n : ℕ) where
   -- the input, what each call gives, and what has been seen are flows of the main node
   pub is_flow-link_name : (i : ℕ) → i ≤ n → is_flow (main_node o n) (link_name i) ≡ true
   is_flow-link_name zero h = refl
-  is_flow-link_name (suc i) h = among_there (flows (main_node o n)) (link_name (suc i))
-      (contains_tail (codes "a") (codes "ok" ∷ codes "seen" ∷ links) (link_name (suc i))
-      (contains_tail (codes "ok") (codes "seen" ∷ links) (link_name (suc i)) (contains_tail (codes "seen") links (link_name (suc i)) there)))
+  is_flow-link_name (suc i) h = among_from (flows (main_node o n)) (link_name (suc i))
+      (in_tail (codes "a") (codes "ok" ∷ codes "seen" ∷ links) (link_name (suc i))
+      (in_tail (codes "ok") (codes "seen" ∷ links) (link_name (suc i)) (in_tail (codes "seen") links (link_name (suc i)) there)))
     where
       links : List Identifier
       links = names (link_flows o.declared n)
@@ -78,11 +79,11 @@ module _ (o : Offsets) (n : ℕ) where
 
   -- its flows
   pub plain_main : (d : Decl) → Contains (decls (main_node o n)) d → IsPlain d
-  plain_main d w = elim (contains_cases (boolean (o.main 1) (codes "a")) (boolean (o.main 2) (codes "ok") ∷ (main_node o n).locals) d w) [
+  plain_main d w = elim (cons_cases (boolean (o.main 1) (codes "a")) (boolean (o.main 2) (codes "ok") ∷ (main_node o n).locals) d w) [
     | inl is ↦ plain_flow (o.main 1) (codes "a") d is
-    | inr second ↦ elim (contains_cases (boolean (o.main 2) (codes "ok")) (main_node o n).locals d second) [
+    | inr second ↦ elim (cons_cases (boolean (o.main 2) (codes "ok")) (main_node o n).locals d second) [
       | inl is ↦ plain_flow (o.main 2) (codes "ok") d is
-      | inr third ↦ elim (contains_cases (boolean (o.main 3) (codes "seen")) (link_flows o.declared n) d third) [
+      | inr third ↦ elim (cons_cases (boolean (o.main 3) (codes "seen")) (link_flows o.declared n) d third) [
         | inl is ↦ plain_flow (o.main 3) (codes "seen") d is
         | inr link ↦ plain_links o.declared n d link
       ]
@@ -97,14 +98,14 @@ module _ (o : Offsets) (n : ℕ) where
       local = map (λ (d : Decl). declared_clock (main_node o n) d.clock) (main_node o n).locals
 
       base : (c : Clock) → Contains (flow_clocks (main_node o n)) c → c ≡ Base
-      base c w = elim (contains_cases Base (Base ∷ local) c w) [
+      base c w = elim (cons_cases Base (Base ∷ local) c w) [
         | inl is ↦ sym is
-        | inr second ↦ elim (contains_cases Base local c second) [
+        | inr second ↦ elim (cons_cases Base local c second) [
           | inl is ↦ sym is
           | inr third ↦
-              let r = of_map (λ (d : Decl). declared_clock (main_node o n) d.clock) (main_node o n).locals c third in
-              let plain = plain_main r.0 (contains_tail (boolean (o.main 1) (codes "a")) (boolean (o.main 2) (codes "ok") ∷ (main_node o n).locals) r.0
-              (contains_tail (boolean (o.main 2) (codes "ok")) (main_node o n).locals r.0 r.1)) in
+              let r = from_map (λ (d : Decl). declared_clock (main_node o n) d.clock) (main_node o n).locals c third in
+              let plain = plain_main r.0 (in_tail (boolean (o.main 1) (codes "a")) (boolean (o.main 2) (codes "ok") ∷ (main_node o n).locals) r.0
+              (in_tail (boolean (o.main 2) (codes "ok")) (main_node o n).locals r.0 r.1)) in
               sym r.2 ∙ ap (declared_clock (main_node o n)) plain.clock
         ]
       ]
@@ -113,6 +114,6 @@ module _ (o : Offsets) (n : ℕ) where
 pub no_integer : (p : ProgramTree) (m : NodeTree) → ((d : Decl) → Contains (decls m) d → IsPlain d)
     → (x : Identifier) → flow_kind p m x ≡ Some kind.Int → ⊥
 no_integer p m all x e =
-    let r = of_map (λ (d : Decl). kind_in_program p d.kind) (decls m) kind.Int (got (flow_kinds p m) (site_of m x) kind.Int e) in
+    let r = from_map (λ (d : Decl). kind_in_program p d.kind) (decls m) kind.Int (contains_got (flow_kinds p m) (site_of m x) kind.Int e) in
     let is : kind.Bool ≡ kind.Int = ap (kind_in_program p) (sym (all r.0 r.1).kind) ∙ r.2 in
     absurd (cc)

@@ -21,7 +21,7 @@ use Rattle.rv_make.specs.Made.{link_name}
 use Rattle.rv_make.specs.Chains.{Offsets, flow_read, delayed, link_node, main_node, seen_equation, ok_equation, chain_program}
 use Rattle.rv_made_safe.proofs.Equations.{call_tree, call_equation, call_in_main, seen_right, call_right, ok_right, link_right}
 use Rattle.rv_made_safe.proofs.Flows.{is_flow-link_name, clock_at-main}
-use Rattle.rv_types.proofs.Members.{at_head as contains_head}
+use Rattle.rv_types.proofs.Members.{at_head}
 
 -- whether a flow has true
 abbrev pub truth : Cells → ℕ → Sites → Bool
@@ -72,7 +72,7 @@ module _ (o : Offsets) (n : ℕ) where
   -- each call stands in the main node
   call_known : (i : ℕ) → i < n → Contains (calls (main_node o n)) (call_after o n i)
   call_known i h =
-      call_of_equation (main_node o n) (call_equation o (n + 4) i) (call_after o n i) (call_in_main o n i h) (contains_head (call_after o n i) [])
+      call_of_equation (main_node o n) (call_equation o (n + 4) i) (call_after o n i) (call_in_main o n i h) (at_head (call_after o n i) [])
 
 -- what an expression has that is on main's base clock
 on_base : (program : ProgramTree) (starts : Sites → Value) (h : Cells) (i : Instance) (k : Clock) (e : Tree) (t : ℕ)

@@ -8,7 +8,7 @@ use Rattle.rv_types.specs.Instances.{CallTree, calls_in, calls_in_equations, cal
 use Rattle.rv_meaning.proofs.NameLemmas.{none_in}
 use Rattle.rv_make.specs.Chains.{Offsets, link_node, main_node, chain_program}
 use Rattle.rv_made_safe.proofs.Equations.{IsMainEquation, sees, calls as gives, tells, main_equation}
-use Rattle.rv_types.proofs.Members.{at_head as contains_head, cons_cases as contains_cases, in_tail as contains_tail}
+use Rattle.rv_types.proofs.Members.{at_head, cons_cases, in_tail}
 
 -- one of the two nodes
 pub data IsChainNode (o : Offsets) (n : ℕ) : NodeTree → Type 0 where
@@ -20,15 +20,15 @@ call_of : (qs : List EquationTree) (c : CallTree) → Contains (calls_in_equatio
     → (q : EquationTree) × Contains qs q × Contains (calls_in q.right) c
 call_of [] c w = absurd (none_in c w)
 call_of (q ∷ qs) c w = elim (Contains-append_cases (calls_in q.right) (calls_in_equations qs) c w) [
-  | inl here ↦ (q, contains_head q qs, here)
-  | inr later ↦ let r = call_of qs c later in (r.0, contains_tail q qs r.0 r.1, r.2)
+  | inl here ↦ (q, at_head q qs, here)
+  | inr later ↦ let r = call_of qs c later in (r.0, in_tail q qs r.0 r.1, r.2)
 ]
 
 module _ (o : Offsets) (n : ℕ) where
   -- all calls are of the node `link`
   called : (q : EquationTree) → IsMainEquation o n q → (c : CallTree) → Contains (calls_in q.right) c → c.name ≡ codes "link"
   called _ sees c w = absurd (none_in c w)
-  called _ (gives i) c w = elim (contains_cases _ [] c w) [
+  called _ (gives i) c w = elim (cons_cases _ [] c w) [
     | inl is ↦ ap (λ (d : CallTree). d.name) (sym is)
     | inr none ↦ absurd (none_in c none)
   ]

@@ -12,6 +12,7 @@ use Rattle.rv_syntax.specs.Lexing.{is_left_out_too, emitted, kind_of, ends_in_te
 use Rattle.rv_syntax.proofs.Lexed.{lex-from}
 use Rattle.rv_made_text.proofs.Numerals.{AreDigits}
 use Rattle.rv_made_text.proofs.Tokens.{named}
+use Rattle.rv_syntax.proofs.LongestCut.{widen}
 
 -- bytes that a name goes on with
 abbrev pub GoOn : List ℕ → Type 0
@@ -33,17 +34,13 @@ counted (b ∷ bs) c rest h e =
     ∙ one-add (word_len (bs ++ c ∷ rest))
     ∙ ap suc (counted bs c rest h.1 e)
 
-letter-goes-on : (a b c d : Bool) → ((b || c) || d) ≡ true → (((a || b) || c) || d) ≡ true
-letter-goes-on true b c d h = refl
-letter-goes-on false b c d h = h
-
 -- what is cut off is the whole name
 cut-name : (b : ℕ) (bs : List ℕ) (c : ℕ) (rest : List ℕ) → is_space b ≡ false → is_letter b ≡ true → GoOn bs → is_word_byte c ≡ false
     → word (b ∷ bs) ≡ shape.Name → cut (b ∷ bs ++ c ∷ rest) ≡ (shape.Name, suc (length bs))
 unfolding cut
 cut-name b bs c rest s l h e name =
     let text : List ℕ = b ∷ bs ++ c ∷ rest in
-    let goes : is_word_byte b ≡ true = letter-goes-on (is_in_range 48 57 b) (is_in_range 65 90 b) (is_in_range 97 122 b) (b == 95) l in
+    let goes : is_word_byte b ≡ true = widen (is_in_range 48 57 b) (is_in_range 65 90 b) (is_in_range 97 122 b) (b == 95) l in
     let long : word_len text ≡ suc (length bs) = counted (b ∷ bs) c rest (goes, h) e in
     let number : Shape × ℕ = cond (is_ascii_digit b) (shape.Number, number_len text) (other text) in
     ap (λ x. cond x (shape.Blank, 1) (cond (is_letter b) (word (take (word_len text) text), word_len text) number)) s

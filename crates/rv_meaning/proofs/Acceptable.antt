@@ -10,7 +10,7 @@ use Rattle.rv_types.specs.Kinds.{node_among, node_named}
 use Rattle.rv_types.specs.Instances.{Instance, taken, no_node, node_of, IsInstance, is_main, is_callee, IsNode}
 use Rattle.rv_types.specs.WellFormed.{Suits, IsWellFormed, IsWellTyped, AreWell}
 use Rattle.rv_meaning.proofs.Rows.{no_flag}
-use Rattle.rv_types.proofs.Members.{at_head as contains_head, in_tail as contains_tail}
+use Rattle.rv_types.proofs.Members.{at_head, in_tail}
 
 -- what stands on a clock, or takes it, is on it
 pub suits_taken : (k : Clock) (p : Pace) → Suits k p → taken k p ≡ k
@@ -26,8 +26,8 @@ named_among (n ∷ ns) f h = tested (is_same n.name.text f) h (named_among ns f)
   where
     tested : (b : Bool) → IsSome (cond b (Some n) (node_among ns f)) → (IsSome (node_among ns f) → Contains ns (unwrap_or (node_among ns f) no_node))
         → Contains (n ∷ ns) (unwrap_or (cond b (Some n) (node_among ns f)) no_node)
-    tested true h again = contains_head n ns
-    tested false h again = contains_tail n ns (unwrap_or (node_among ns f) no_node) (again h)
+    tested true h again = at_head n ns
+    tested false h again = in_tail n ns (unwrap_or (node_among ns f) no_node) (again h)
 
 -- a name that some node has is there
 pub some_among : (ns : List NodeTree) (f : Identifier) → IsTrue (is_among (map (λ n. n.name.text) ns) f) → IsSome (node_among ns f)

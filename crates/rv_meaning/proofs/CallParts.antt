@@ -7,8 +7,8 @@ use Rattle.rv_tree.specs.Tree.{EquationTree, AssertionTree, NodeTree}
 use Rattle.rv_tree.specs.Delays.{Delay, delays, form_delays, delays_of_all, delays_in_equations, delays_in_assertions, node_delays}
 use Rattle.rv_types.specs.Instances.{CallTree, calls, calls_in, form_calls, calls_in_all, calls_in_equations, calls_in_assertions, IsArgument, head, tail}
 use Rattle.rv_meaning.proofs.NameLemmas.{none_in}
-use Rattle.rv_types.proofs.Members.{cons_cases as contains_cases, in_tail as contains_tail}
-use Rattle.rv_types.proofs.TypedParts.{right_calls as equation_within}
+use Rattle.rv_types.proofs.Members.{cons_cases, in_tail}
+use Rattle.rv_types.proofs.TypedParts.{right_calls}
 
 -- an argument's calls are among those of the arguments
 calls_of_argument : (es : Trees) (j : ℕ) (a : Tree) (d : CallTree) → IsArgument es j a → Contains (calls_in a) d → Contains (calls_in_all es) d
@@ -47,7 +47,7 @@ module _ (c : CallTree) (j : ℕ) (a : Tree) (d : CallTree) (arg : IsArgument c.
     form_passes at site (AtMostOne es) w = all_pass es w
     form_passes at site (Call f args) w =
         let own : CallTree = record { at = at; site = unwrap_or site 0; name = f; args = args } in
-        contains_tail own (calls_in_all args) d (elim (contains_cases own (calls_in_all args) c w) [
+        in_tail own (calls_in_all args) d (elim (cons_cases own (calls_in_all args) c w) [
           | inl is ↦ calls_of_argument args j a d (subst (λ l. IsArgument l j a) (sym (ap (λ (c : CallTree). c.args) is)) arg) inner
           | inr there ↦ all_pass args there
         ])
@@ -75,7 +75,7 @@ module _ (c : CallTree) (j : ℕ) (a : Tree) (d : CallTree) (arg : IsArgument c.
 assertion_within : (qs : List AssertionTree) (q : AssertionTree) (d : CallTree) → Contains qs q → Contains (calls_in q.body) d
     → Contains (calls_in_assertions qs) d
 assertion_within [] q d w inner = absurd (none_in q w)
-assertion_within (r ∷ qs) q d w inner = elim (contains_cases r qs q w) [
+assertion_within (r ∷ qs) q d w inner = elim (cons_cases r qs q w) [
   | inl is ↦ Contains-append_left (calls_in r.body) (calls_in_assertions qs) d (subst (λ (q : AssertionTree). Contains (calls_in q.body) d) (sym is) inner)
   | inr there ↦ Contains-append_right (calls_in r.body) (calls_in_assertions qs) d (assertion_within qs q d there inner)
 ]
@@ -83,7 +83,7 @@ assertion_within (r ∷ qs) q d w inner = elim (contains_cases r qs q w) [
 -- the calls of an equation are calls of the node
 pub call_of_equation : (n : NodeTree) (q : EquationTree) (d : CallTree) → Contains n.equations q → Contains (calls_in q.right) d → Contains (calls n) d
 call_of_equation n q d w inner = Contains-append_left (calls_in_equations n.equations) (calls_in_assertions n.assertions) d
-    (equation_within n.equations q d w inner)
+    (right_calls n.equations q d w inner)
 
 -- and so are those of an assertion
 pub call_of_assertion : (n : NodeTree) (a : AssertionTree) (d : CallTree) → Contains n.assertions a → Contains (calls_in a.body) d → Contains (calls n) d
@@ -103,7 +103,7 @@ module _ (d : Delay) (c : CallTree) (inner : Contains (calls_in d.operand) c) wh
 
   -- the delay itself, and those of its operand
   itself : (site : Option ℕ) (t : Tree) → Within (delays t) (calls_in t) → Within (record { site = site; operand = t } ∷ delays t) (calls_in t)
-  itself site t p w = elim (contains_cases (record { site = site; operand = t }) (delays t) d w) [
+  itself site t p w = elim (cons_cases (record { site = site; operand = t }) (delays t) d w) [
     | inl is ↦ subst (λ (d : Delay). Contains (calls_in d.operand) c) (sym is) inner
     | inr later ↦ p later
   ]
@@ -129,7 +129,7 @@ module _ (d : Delay) (c : CallTree) (inner : Contains (calls_in d.operand) c) wh
         pair (delays l) (delays r ++ delays s) (calls_in l) (calls_in r ++ calls_in s) (within l)
         (pair (delays r) (delays s) (calls_in r) (calls_in s) (within r) (within s)) w
     form_within at site (AtMostOne es) w = all_within es w
-    form_within at site (Call f args) w = contains_tail (record { at = at; site = unwrap_or site 0; name = f; args = args }) (calls_in_all args) c
+    form_within at site (Call f args) w = in_tail (record { at = at; site = unwrap_or site 0; name = f; args = args }) (calls_in_all args) c
         (all_within args w)
 
     -- some expressions

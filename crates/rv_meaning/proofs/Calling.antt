@@ -13,7 +13,7 @@ use Rattle.rv_types.specs.Instances.{CallTree, calls, calls_in, form_calls, call
 use Rattle.rv_meaning.specs.Leading.{callee_within, callee_within_form, callee_within_all, callee_in_equations, callee_in_assertions, callee_in_node}
 use Rattle.rv_meaning.specs.Leading.{operand_within, operand_within_form, operand_within_all, operand_in_equations, operand_in_assertions, operand_in_node}
 use Rattle.rv_meaning.proofs.States.{first_with, found}
-use Rattle.rv_types.proofs.Members.{in_tail as contains_tail}
+use Rattle.rv_types.proofs.Members.{in_tail}
 
 module _ {X : Type 0} (key : X → ℕ) where
   -- what is found has the number
@@ -24,7 +24,7 @@ module _ {X : Type 0} (key : X → ℕ) where
       tested : (b : Bool) → nat_eq (key y) s ≡ b → cond b (Some y) (first_with key ys s) ≡ Some x → (first_with key ys s ≡ Some x → Contains ys x × (key x ≡ s))
           → Contains (y ∷ ys) x × (key x ≡ s)
       tested true is e again = let same = same_Some y x e in ((0, omega arith, same), sym (ap key same) ∙ eqb-true (key y) s is)
-      tested false is e again = let r = again e in (contains_tail y ys x r.0, r.1)
+      tested false is e again = let r = again e in (in_tail y ys x r.0, r.1)
 
   module _ {Y : Type 0} (part : X → Y) where
     -- a part of what is found

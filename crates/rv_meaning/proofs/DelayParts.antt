@@ -7,7 +7,7 @@ use Rattle.rv_tree.specs.Tree.{EquationTree, AssertionTree, NodeTree}
 use Rattle.rv_tree.specs.Delays.{Delay, delays, form_delays, delays_of_all, delays_in_equations, delays_in_assertions, node_delays}
 use Rattle.rv_types.specs.Instances.{CallTree, calls, calls_in, form_calls, calls_in_all, calls_in_equations, calls_in_assertions, IsArgument, head, tail}
 use Rattle.rv_meaning.proofs.NameLemmas.{none_in}
-use Rattle.rv_types.proofs.Members.{cons_cases as contains_cases, in_tail as contains_tail}
+use Rattle.rv_types.proofs.Members.{cons_cases, in_tail}
 
 -- an argument's delays are among those of the arguments
 pub argument_within : (es : Trees) (j : ℕ) (a : Tree) (d : Delay) → IsArgument es j a → Contains (delays a) d → Contains (delays_of_all es) d
@@ -38,15 +38,15 @@ module _ (c : CallTree) (j : ℕ) (a : Tree) (d : Delay) (arg : IsArgument c.arg
     form_within at site (Named x) w = absurd (none_in c w)
     form_within at site (Not e) w = within e w
     form_within at site (Minus e) w = within e w
-    form_within at site (Pre e) w = contains_tail (record { site = site; operand = e }) (delays e) d (within e w)
-    form_within at site (Current e) w = contains_tail (record { site = site; operand = e }) (delays e) d (within e w)
+    form_within at site (Pre e) w = in_tail (record { site = site; operand = e }) (delays e) d (within e w)
+    form_within at site (Current e) w = in_tail (record { site = site; operand = e }) (delays e) d (within e w)
     form_within at site (When e x) w = within e w
     form_within at site (Binary o l r) w = both (calls_in l) (calls_in r) (delays l) (delays r) (within l) (within r) w
     form_within at site (If l r s) w =
         both (calls_in l) (calls_in r ++ calls_in s) (delays l) (delays r ++ delays s) (within l)
         (both (calls_in r) (calls_in s) (delays r) (delays s) (within r) (within s)) w
     form_within at site (AtMostOne es) w = all_within es w
-    form_within at site (Call f args) w = elim (contains_cases (record { at = at; site = unwrap_or site 0; name = f; args = args }) (calls_in_all args) c w) [
+    form_within at site (Call f args) w = elim (cons_cases (record { at = at; site = unwrap_or site 0; name = f; args = args }) (calls_in_all args) c w) [
       | inl is ↦ argument_within args j a d (subst (λ l. IsArgument l j a) (sym (ap (λ (c : CallTree). c.args) is)) arg) inner
       | inr there ↦ all_within args there
     ]
@@ -76,7 +76,7 @@ module _ (c : CallTree) (j : ℕ) (a : Tree) (d : Delay) (arg : IsArgument c.arg
 pub equation_within : (qs : List EquationTree) (q : EquationTree) (d : Delay) → Contains qs q → Contains (delays q.right) d
     → Contains (delays_in_equations qs) d
 equation_within [] q d w inner = absurd (none_in q w)
-equation_within (r ∷ qs) q d w inner = elim (contains_cases r qs q w) [
+equation_within (r ∷ qs) q d w inner = elim (cons_cases r qs q w) [
   | inl is ↦ Contains-append_left (delays r.right) (delays_in_equations qs) d (subst (λ (q : EquationTree). Contains (delays q.right) d) (sym is) inner)
   | inr there ↦ Contains-append_right (delays r.right) (delays_in_equations qs) d (equation_within qs q d there inner)
 ]
@@ -85,7 +85,7 @@ equation_within (r ∷ qs) q d w inner = elim (contains_cases r qs q w) [
 pub assertion_within : (qs : List AssertionTree) (q : AssertionTree) (d : Delay) → Contains qs q → Contains (delays q.body) d
     → Contains (delays_in_assertions qs) d
 assertion_within [] q d w inner = absurd (none_in q w)
-assertion_within (r ∷ qs) q d w inner = elim (contains_cases r qs q w) [
+assertion_within (r ∷ qs) q d w inner = elim (cons_cases r qs q w) [
   | inl is ↦ Contains-append_left (delays r.body) (delays_in_assertions qs) d (subst (λ (q : AssertionTree). Contains (delays q.body) d) (sym is) inner)
   | inr there ↦ Contains-append_right (delays r.body) (delays_in_assertions qs) d (assertion_within qs q d there inner)
 ]
@@ -113,9 +113,9 @@ module _ (d e : Delay) (inner : Contains (delays d.operand) e) where
 
   -- the delay itself, and those of its operand
   itself : (site : Option ℕ) (t : Tree) → Passes (delays t) → Passes (record { site = site; operand = t } ∷ delays t)
-  itself site t p w = elim (contains_cases (record { site = site; operand = t }) (delays t) d w) [
-    | inl is ↦ contains_tail (record { site = site; operand = t }) (delays t) e (subst (λ (d : Delay). Contains (delays d.operand) e) (sym is) inner)
-    | inr later ↦ contains_tail (record { site = site; operand = t }) (delays t) e (p later)
+  itself site t p w = elim (cons_cases (record { site = site; operand = t }) (delays t) d w) [
+    | inl is ↦ in_tail (record { site = site; operand = t }) (delays t) e (subst (λ (d : Delay). Contains (delays d.operand) e) (sym is) inner)
+    | inr later ↦ in_tail (record { site = site; operand = t }) (delays t) e (p later)
   ]
 
   mutual

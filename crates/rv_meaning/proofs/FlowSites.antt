@@ -4,7 +4,6 @@ use Rattle.std.proofs.Common.{slice_get, length-append, zero-add}
 use Rattle.std.proofs.lemmas.List.{length-map, get_or_append_left, get_or-append-add, get_or_default, append_assoc}
 use Rattle.std.proofs.lemmas.Option.{none-some, slice_get_within}
 use Rattle.std.specs.List.{Contains}
-use Rattle.rv_tree.specs.declared.tree.Decl.{Decl}
 use Rattle.rv_tree.specs.Tree.{NodeTree, ProgramTree}
 use Rattle.rv_tree.specs.Places.{Identifier, names, flows, is_same, index_of, site_of}
 use Rattle.rv_types.specs.declared.typed.Kind.{Kind}
@@ -13,19 +12,10 @@ use Rattle.rv_types.specs.Kinds.{kind_in_program, decl_kinds, flow_kinds, flow_k
 use Rattle.rv_types.specs.Clocks.{base_clock, declared_clock, clock_at}
 use Rattle.rv_types.specs.Instances.{Instance, IsInstance, IsNode}
 use Rattle.rv_types.specs.WellFormed.{AreWell}
-use Rattle.rv_meaning.proofs.Rows.{no_flag}
-use Rattle.rv_meaning.proofs.NameLemmas.{none_in, in_rest, same_text}
+use Rattle.rv_meaning.proofs.NameLemmas.{same_text}
 use Rattle.rv_meaning.proofs.Defined.{site_is}
-use Rattle.rv_types.proofs.Members.{in_tail as contains_tail, text_itself}
-
--- what stands in the first part of a list is found there first
-pub index_first : (xs ys : List Identifier) (x : Identifier) → Contains xs x → index_of (xs ++ ys) x < length xs
-index_first [] ys x w = absurd (none_in x w)
-index_first (y ∷ xs) ys x w = tested (is_same y x) refl (index_first xs ys x)
-  where
-    tested : (b : Bool) → is_same y x ≡ b → (Contains xs x → index_of (xs ++ ys) x < length xs) → cond b 0 (index_of (xs ++ ys) x + 1) < length (y ∷ xs)
-    tested true e again = omega arith
-    tested false e again = let lt = again (in_rest y xs x (λ is. no_flag (sym e ∙ ap (λ z. is_same z x) is ∙ text_itself x)) w) in omega arith
+use Rattle.rv_types.proofs.Members.{in_tail}
+use Rattle.rv_types.proofs.WellNodes.{base_at, index_front}
 
 -- what is found within a list is there
 index_within : (xs : List Identifier) (x : Identifier) → index_of xs x < length xs → Contains xs x
@@ -34,7 +24,7 @@ index_within (y ∷ xs) x lt = tested (is_same y x) refl lt (index_within xs x)
   where
     tested : (b : Bool) → is_same y x ≡ b → cond b 0 (index_of xs x + 1) < length (y ∷ xs) → (index_of xs x < length xs → Contains xs x) → Contains (y ∷ xs) x
     tested true e less again = (0, omega arith, same_text y x e)
-    tested false e less again = contains_tail y xs x (again (omega arith))
+    tested false e less again = in_tail y xs x (again (omega arith))
 
 -- an element of the first part of a list, by a function
 kept_by : {A B : Type 0} (f : A → B) (xs ys : List A) (j : ℕ) (k : B) → slice_get (map f xs) j ≡ Some k → slice_get (map f (xs ++ ys)) j ≡ Some k
@@ -49,13 +39,6 @@ shifted_by f (x ∷ xs) ys j =
     let next : length (x ∷ xs) + j ≡ suc (length xs + j) = omega arith in
     ap (slice_get (map f (x ∷ xs ++ ys))) next ∙ shifted_by f xs ys j
 
--- flows without a declared clock are on the base clock
-all_base : (ds : List Decl) (j : ℕ) → get_or (map base_clock ds) j Base ≡ Base
-all_base [] zero = refl
-all_base [] (suc j) = refl
-all_base (d ∷ ds) zero = refl
-all_base (d ∷ ds) (suc j) = all_base ds j
-
 module _ (n : NodeTree) where
   -- an output is on the base clock
   pub output_base : (j : ℕ) → j < length n.outputs → clock_at n (length n.inputs + j) ≡ Base
@@ -68,7 +51,7 @@ module _ (n : NodeTree) where
       get_or_append_left (map base_clock n.inputs ++ map base_clock n.outputs) (map (λ d. declared_clock n d.clock) n.locals) Base (length n.inputs + j) within
       ∙ ap (λ l. get_or (map base_clock n.inputs ++ map base_clock n.outputs) (l + j) Base) (sym ins)
       ∙ get_or-append-add (map base_clock n.inputs) (map base_clock n.outputs) j Base
-      ∙ all_base n.outputs j
+      ∙ base_at n.outputs j
 
   -- the site of an input is below their number
   pub input_within : (x : Identifier) → Contains (names n.inputs) x → site_of n x < length n.inputs
@@ -76,7 +59,7 @@ module _ (n : NodeTree) where
       let whole : names n.inputs ++ names n.outputs ++ names n.locals ≡ names n.inputs ++ (names n.outputs ++ names n.locals) = append_assoc (names n.inputs)
       (names n.outputs) (names n.locals) in
       let found : site_of n x ≡ index_of (names n.inputs ++ (names n.outputs ++ names n.locals)) x = ap (λ xs. index_of xs x) whole in
-      omega (arith, index_first (names n.inputs) (names n.outputs ++ names n.locals) x w, found, length-map n.inputs (λ d. d.name.text))
+      omega (arith, index_front (names n.inputs) (names n.outputs ++ names n.locals) x w, found, length-map n.inputs (λ d. d.name.text))
 
 module _ (program : ProgramTree) (n : NodeTree) where
   -- there is a type for each flow

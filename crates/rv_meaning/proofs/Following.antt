@@ -19,7 +19,7 @@ use Rattle.rv_meaning.specs.Instants.{State, now, form_now, trues_now, value_now
 use Rattle.rv_meaning.specs.Following.{held_before, IsStateAt}
 use Rattle.rv_meaning.proofs.OneInstant.{on_there}
 use Rattle.rv_meaning.proofs.DelayParts.{of_argument, of_equation, of_assertion}
-use Rattle.rv_types.proofs.Members.{at_head as contains_head, in_tail as contains_tail}
+use Rattle.rv_types.proofs.Members.{at_head, in_tail}
 
 module _ (program : ProgramTree) (starts : Sites → Value) (state : State) (h : History) (t : ℕ)
     (ticks : (k : Option Sites) → state.ticked k ≡ was_there (cells h) k t) (i : Instance) where
@@ -49,12 +49,12 @@ module _ (program : ProgramTree) (starts : Sites → Value) (state : State) (h :
     form_followed site (Named x) m = refl
     form_followed site (Not e) m = ap (λ a. Flag (not (is_true a))) (followed e m)
     form_followed site (Minus e) m = ap (λ a. Whole (pos 0 -ℤ number a)) (followed e m)
-    form_followed site (Pre e) m = sym (m (record { site = site; operand = e }) (contains_head _ (delays e)))
+    form_followed site (Pre e) m = sym (m (record { site = site; operand = e }) (at_head _ (delays e)))
     form_followed site (Current e) m =
-        let mine = sym (m (record { site = site; operand = e }) (contains_head _ (delays e))) in
+        let mine = sym (m (record { site = site; operand = e }) (at_head _ (delays e))) in
         λ j. cond
         (on_there h t (clock_in i Base e) j)
-        (followed e (λ d w. m d (contains_tail (record { site = site; operand = e }) (delays e) d w)) j)
+        (followed e (λ d w. m d (in_tail (record { site = site; operand = e }) (delays e) d w)) j)
         (mine j)
     form_followed site (When e c) m = followed e m
     form_followed site (Binary o a b) m =

@@ -20,7 +20,7 @@ use Rattle.rv_meaning.specs.Leading.{callee_in_node, node_texts, numbered, calle
 use Rattle.rv_meaning.proofs.Acceptable.{formed}
 use Rattle.rv_meaning.proofs.NameLemmas.{index_at}
 use Rattle.rv_meaning.proofs.Calling.{callee_there, callee_found}
-use Rattle.rv_types.proofs.Members.{among_contains as among}
+use Rattle.rv_types.proofs.Members.{among_contains}
 
 -- the node of a name is that of its number
 pub node_is : (ns : List NodeTree) (f : Identifier) → unwrap_or (node_among ns f) no_node ≡ numbered ns (index_of (node_texts ns) f)
@@ -52,7 +52,7 @@ module _ (p : ProgramTree) (t : Typed) (answer : IsAnswer p t) where
   name_is =
       sym (get_or-map (λ n. n.name.text) p.nodes t.main no_node)
       ∙ ap (λ k. get_or (node_texts p.nodes) k []) main_is
-      ∙ (index_at (node_texts p.nodes) answer.0 (among (node_texts p.nodes) answer.0 has_main)).1
+      ∙ (index_at (node_texts p.nodes) answer.0 (among_contains (node_texts p.nodes) answer.0 has_main)).1
 
   -- some node has it
   pub is_node : IsNode p (name_at p t.main)

@@ -1,9 +1,8 @@
 -- The value of an expression depends only on the earlier instants and on the flows that it needs.
-use Rattle.std.proofs.Common.{◌≡◌, ℕ, zero, suc, ◌+◌, ◌<◌, ◌≤◌, pos, ◌-ℤ◌, Bool, true, false, not, ◌||◌, cond, unwrap_or, List, [], ◌∷◌, ◌++◌, length, refl, ap}
-use Rattle.std.proofs.Common.{subst, arith, Option, Some, length-append, nat_le}
+use Rattle.std.proofs.Common.{◌≡◌, ℕ, zero, suc, ◌+◌, ◌<◌, ◌≤◌, pos, ◌-ℤ◌, Bool, true, false, not, ◌||◌, cond, unwrap_or, [], ◌∷◌, ◌++◌, refl, ap}
+use Rattle.std.proofs.Common.{arith, Option, Some, nat_le}
 use Rattle.std.proofs.Common.{None as Nothing}
 use Rattle.std.specs.List.{All}
-use Rattle.std.proofs.lemmas.List.{get_or_append_left, get_or-append-add}
 use Rattle.rv_base.specs.declared.value.Value.{Value}
 use Rattle.rv_base.specs.declared.value.Value.TheVariants.{Flag, Whole}
 use Rattle.rv_tree.specs.Tree.{Tree, Node, Form, True, False, Number, Named, Not, Minus, Pre, Current, When, Binary, If, AtMostOne, Call, Trees, None, More}
@@ -16,14 +15,7 @@ use Rattle.rv_types.specs.Instances.{Right, Body, Output, Instance, place, absol
 use Rattle.rv_types.specs.Needs.{flow_of, needs, form_needs, needs_all, needs_of_right}
 use Rattle.rv_meaning.specs.Meaning.{Cells, is_true, number, held, is_on, operate, is_there, was_there, last_before, kept_place, content, form_content, trues}
 use Rattle.rv_meaning.specs.Meaning.{value, right_value}
-
--- what holds of a joined list holds of its first part
-pub all_left : {X : Type 0} (P : X → Type 0) (xs ys : List X) → All P (xs ++ ys) → All P xs
-all_left P xs ys h k d lt = subst P (get_or_append_left xs ys d k lt) (h k d (omega (arith, length-append xs ys)))
-
--- and of its second
-pub all_right : {X : Type 0} (P : X → Type 0) (xs ys : List X) → All P (xs ++ ys) → All P ys
-all_right P xs ys h k d lt = subst P (get_or-append-add xs ys k d) (h (length xs + k) d (omega (arith, length-append xs ys)))
+use Rattle.rv_base.proofs.Lists.{all_left, all_right}
 
 module _ (g h : Cells) where
   -- the histories are the same before u

@@ -15,7 +15,7 @@ use Rattle.rv_types.specs.Needs.{flow_of, needs, form_needs, needs_all, needs_of
 use Rattle.rv_meaning.specs.Meaning.{is_true, number, held, is_on, operate}
 use Rattle.rv_meaning.specs.Runs.{Instant, cell}
 use Rattle.rv_meaning.specs.Instants.{State, is_on_in, memory, now, form_now, trues_now, value_now, right_now}
-use Rattle.rv_meaning.proofs.Local.{all_left, all_right}
+use Rattle.rv_base.proofs.Lists.{all_left, all_right}
 
 module _ (g h : Instant) where
   -- the rows have the same for this flow

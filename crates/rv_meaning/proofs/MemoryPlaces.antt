@@ -18,7 +18,8 @@ use Rattle.rv_meaning.proofs.NameLemmas.{snoc, none_in}
 use Rattle.rv_meaning.proofs.Defined.{same_instance}
 use Rattle.rv_meaning.proofs.States.{IsName, memory_of_either, same_flow_site, own_beyond, same_own}
 use Rattle.rv_meaning.proofs.Leads.{leads_to, led_alike}
-use Rattle.rv_types.proofs.Members.{at_head as contains_head, cons_cases as contains_cases, in_flat_map, in_map, in_tail as contains_tail, of_flat_map, of_map}
+use Rattle.rv_types.proofs.Members.{at_head, cons_cases, in_flat_map, in_map, in_tail, of_flat_map}
+use Rattle.rv_base.proofs.Lists.{from_map}
 
 -- the type of a flow's name
 named_kind : ProgramTree → NodeTree → Identifier → Kind
@@ -76,9 +77,9 @@ module _ (p : ProgramTree) (main : Identifier) (well : AreWell p) (is_node : IsN
   only_memories q w =
       let r = of_flat_map (places_at next sites start) paths q w in
       let a = are_paths r.0 r.1 in
-      let s = of_map (λ s. r.0 ++ s ∷ []) (sites_at next sites start r.0) q r.2 in
+      let s = from_map (λ s. r.0 ++ s ∷ []) (sites_at next sites start r.0) q r.2 in
       let here : Contains (sites_at next sites start a.0.path) s.0 = subst (λ path. Contains (sites_at next sites start path) s.0) (sym a.2) s.1 in
-      let d = of_map (λ (d : Delay). memory_site a.0.node d.site d.operand) (node_delays a.0.node) s.0 ((sites_of_instance a.0 a.1).only s.0 here) in
+      let d = from_map (λ (d : Delay). memory_site a.0.node d.site d.operand) (node_delays a.0.node) s.0 ((sites_of_instance a.0 a.1).only s.0 here) in
       record {
         instance = a.0;
         delay = d.0;
@@ -101,14 +102,14 @@ module _ (p : ProgramTree) (main : Identifier) (well : AreWell p) (is_node : IsN
   listed : (qs : List Sites) → ((q : Sites) → Contains qs q → IsAt q) → List MemoryAt
   listed [] at = []
   listed (q ∷ qs) at =
-      let here = at q (contains_head q qs) in
-      memory_at p here.instance here.delay ∷ listed qs (λ r w. at r (contains_tail q qs r w))
+      let here = at q (at_head q qs) in
+      memory_at p here.instance here.delay ∷ listed qs (λ r w. at r (in_tail q qs r w))
 
   -- have these places
   listed_places : (qs : List Sites) (at : (q : Sites) → Contains qs q → IsAt q) → memory_places (listed qs at) ≡ qs
   unfolding listed
   listed_places [] at = refl
-  listed_places (q ∷ qs) at = λ j. sym (at q (contains_head q qs)).place_is j ∷ listed_places qs (λ r w. at r (contains_tail q qs r w)) j
+  listed_places (q ∷ qs) at = λ j. sym (at q (at_head q qs)).place_is j ∷ listed_places qs (λ r w. at r (in_tail q qs r w)) j
 
   -- A memory of an instance with one of the paths.
   abbrev IsMemory : MemoryAt → Type 0
@@ -118,10 +119,10 @@ module _ (p : ProgramTree) (main : Identifier) (well : AreWell p) (is_node : IsN
   unfolding listed
   listed_only [] at m w = absurd (none_in m w)
   listed_only (q ∷ qs) at m w =
-      let here = at q (contains_head q qs) in
-      elim (contains_cases (memory_at p here.instance here.delay) (listed qs (λ r w. at r (contains_tail q qs r w))) m w) [
+      let here = at q (at_head q qs) in
+      elim (cons_cases (memory_at p here.instance here.delay) (listed qs (λ r w. at r (in_tail q qs r w))) m w) [
         | inl same ↦ (here.instance, here.delay, here.is, here.taken, here.within, sym same)
-        | inr later ↦ listed_only qs (λ r w. at r (contains_tail q qs r w)) m later
+        | inr later ↦ listed_only qs (λ r w. at r (in_tail q qs r w)) m later
       ]
 
   -- memories with one place are one
@@ -150,7 +151,7 @@ module _ (p : ProgramTree) (main : Identifier) (well : AreWell p) (is_node : IsN
           rising = subst AreRising (sym places) up;
           all = λ i d inst taken w.
               let there = subst (λ l. Contains l (delay_place i d)) (sym places) (all (delay_place i d) (all_memories i d inst taken w)) in
-              let m = of_map (λ (m : MemoryAt). m.place) ms (delay_place i d) there in
+              let m = from_map (λ (m : MemoryAt). m.place) ms (delay_place i d) there in
               let k = listed_only qs at m.0 m.1 in
               let same : delay_place k.0 k.1 ≡ delay_place i d = sym (ap (λ (m : MemoryAt). m.place) k.5) ∙ m.2 in
               subst (λ (m : MemoryAt). Contains ms m) (k.5 ∙ one_memory k.0 i k.1 d k.2 inst k.4 w same) m.1;

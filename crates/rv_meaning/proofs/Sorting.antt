@@ -17,7 +17,8 @@ use Rattle.rv_types.specs.Needs.{IsBefore}
 use Rattle.rv_types.specs.Lists.{sites_of}
 use Rattle.rv_meaning.specs.Remembered.{AreSorted}
 use Rattle.rv_meaning.proofs.NameLemmas.{same_text}
-use Rattle.rv_types.proofs.Members.{in_map, of_map}
+use Rattle.rv_types.proofs.Members.{in_map}
+use Rattle.rv_base.proofs.Lists.{from_map}
 
 -- which of two places stands before the other
 abbrev pub order : Place → Place → Ordering
@@ -71,7 +72,7 @@ place_equivalence = on_equiv (λ (q : Place). q.sites) nat_list_eq_equiv
 
 -- what is in a list has its sites among those of the list, and nothing else
 sites_in : (qs : List Place) (r : Sites) → Contains (sites_of qs) r → (q : Place) × Contains qs q × (q.sites ≡ r)
-sites_in qs r w = of_map (λ (q : Place). q.sites) qs r w
+sites_in qs r w = from_map (λ (q : Place). q.sites) qs r w
 
 in_sites : (qs : List Place) (q : Place) (r : Sites) → Contains qs q → q.sites ≡ r → Contains (sites_of qs) r
 in_sites qs q r w e = subst (λ (s : Sites). Contains (sites_of qs) s) e (in_map (λ (q : Place). q.sites) qs q w)

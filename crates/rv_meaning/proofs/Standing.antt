@@ -10,7 +10,7 @@ use Rattle.rv_tree.specs.Delays.{Delay, delays, node_delays}
 use Rattle.rv_types.specs.Instances.{CallTree, calls, calls_in, calls_in_all, Body, Output, IsRight, alone, in_order, IsArgument}
 use Rattle.rv_meaning.proofs.DelayParts.{of_argument, of_equation, of_assertion, of_delay}
 use Rattle.rv_meaning.proofs.CallParts.{call_of_argument, call_of_equation, call_of_assertion, call_of_delay}
-use Rattle.rv_types.proofs.Members.{at_head as contains_head, in_tail as contains_tail}
+use Rattle.rv_types.proofs.Members.{at_head, in_tail}
 
 -- Each delay and each call of the expression is one of the node.
 pub record Stands (n : NodeTree) (e : Tree) : Type 0 where
@@ -30,7 +30,7 @@ module _ (n : NodeTree) where
   pub output_call : (x : Identifier) (c : CallTree) (j : ℕ) → IsRight n x (Output c j) → Contains (calls n) c
   output_call x _ _ (in_order q at site f args j w is several lt name) =
       let own : CallTree = record { at = at; site = site; name = f; args = args } in
-      call_of_equation n q own w (subst (λ e. Contains (calls_in e) own) (sym is) (contains_head own (calls_in_all args)))
+      call_of_equation n q own w (subst (λ e. Contains (calls_in e) own) (sym is) (at_head own (calls_in_all args)))
 
   -- an assertion
   pub assertion_stands : (a : AssertionTree) → Contains n.assertions a → Stands n a.body
@@ -46,13 +46,13 @@ module _ (n : NodeTree) where
 
   -- the operand of a `pre` or `current` that stands there, and the delay itself
   pub pre_operand : (at : ℕ) (site : Option ℕ) (e : Tree) → Stands n (Node at site (Pre e)) → Contains (node_delays n) (record { site = site; operand = e })
-  pre_operand at site e s = s.delays (record { site = site; operand = e }) (contains_head (record { site = site; operand = e }) (delays e))
+  pre_operand at site e s = s.delays (record { site = site; operand = e }) (at_head (record { site = site; operand = e }) (delays e))
 
   pub current_operand : (at : ℕ) (site : Option ℕ) (e : Tree) → Stands n (Node at site (Current e))
       → Contains (node_delays n) (record { site = site; operand = e }) × Stands n e
   current_operand at site e s = (
-    s.delays (record { site = site; operand = e }) (contains_head (record { site = site; operand = e }) (delays e)),
-    record { delays = λ d w. s.delays d (contains_tail (record { site = site; operand = e }) (delays e) d w); calls = λ c w. s.calls c w },
+    s.delays (record { site = site; operand = e }) (at_head (record { site = site; operand = e }) (delays e)),
+    record { delays = λ d w. s.delays d (in_tail (record { site = site; operand = e }) (delays e) d w); calls = λ c w. s.calls c w },
   )
 
   -- the operand of a `when`
@@ -88,4 +88,4 @@ module _ (n : NodeTree) where
   -- a call that stands there is one of the node
   pub own_call : (at : ℕ) (site : Option ℕ) (f : Identifier) (args : Trees) → Stands n (Node at site (Call f args))
       → Contains (calls n) (record { at = at; site = unwrap_or site 0; name = f; args = args })
-  own_call at site f args s = s.calls _ (contains_head (record { at = at; site = unwrap_or site 0; name = f; args = args }) (calls_in_all args))
+  own_call at site f args s = s.calls _ (at_head (record { at = at; site = unwrap_or site 0; name = f; args = args }) (calls_in_all args))

@@ -8,7 +8,7 @@ use Rattle.rv_tree.specs.Tree.{Tree, Node, Named, NodeTree}
 use Rattle.rv_tree.specs.Places.{Identifier, flows, site_of, is_flow, memory_site}
 use Rattle.rv_tree.specs.Delays.{Delay, node_delays, IsNumbered}
 use Rattle.rv_meaning.proofs.NameLemmas.{index_at, none_in}
-use Rattle.rv_types.proofs.Members.{among_contains as among, at_head as contains_head, cons_cases as contains_cases, in_tail as contains_tail}
+use Rattle.rv_types.proofs.Members.{among_contains, at_head, cons_cases, in_tail}
 
 module _ {X : Type 0} (key : X → ℕ) where
   -- the first of some that has a number
@@ -23,12 +23,12 @@ module _ {X : Type 0} (key : X → ℕ) where
     where
       tested : (b : Bool) → nat_eq (key z) (key x) ≡ b → (Contains xs x → (y : X) × (first_with xs (key x) ≡ Some y) × Contains xs y × (key y ≡ key x))
           → (y : X) × (cond b (Some z) (first_with xs (key x)) ≡ Some y) × Contains (z ∷ xs) y × (key y ≡ key x)
-      tested true e again = (z, refl, contains_head z xs, grind arith)
+      tested true e again = (z, refl, at_head z xs, grind arith)
       tested false e again =
           let other : z ≡ x → ⊥ = λ is. let same : key z ≡ key x = ap key is in grind arith in
-          elim (contains_cases z xs x w) [
+          elim (cons_cases z xs x w) [
             | inl is ↦ absurd (other is)
-            | inr later ↦ let r = again later in (r.0, r.1, contains_tail z xs r.0 r.2, r.3)
+            | inr later ↦ let r = again later in (r.0, r.1, in_tail z xs r.0 r.2, r.3)
           ]
 
 -- the operand is a flow of this name
@@ -49,13 +49,13 @@ memory_of_either n site (Node at s _) = inr refl
 module _ (n : NodeTree) (numbered : IsNumbered n) where
   -- the site of a flow is one of the first
   flow_site : (x : Identifier) → is_flow n x ≡ true → site_of n x < length (flows n)
-  flow_site x is = (index_at (flows n) x (among (flows n) x is)).0
+  flow_site x is = (index_at (flows n) x (among_contains (flows n) x is)).0
 
   -- and that of no other
   pub same_flow_site : (x y : Identifier) → is_flow n x ≡ true → is_flow n y ≡ true → site_of n x ≡ site_of n y → x ≡ y
   same_flow_site x y p q e =
-      let first = (index_at (flows n) x (among (flows n) x p)).1 in
-      let second = (index_at (flows n) y (among (flows n) y q)).1 in
+      let first = (index_at (flows n) x (among_contains (flows n) x p)).1 in
+      let second = (index_at (flows n) y (among_contains (flows n) y q)).1 in
       sym first ∙ ap (λ k. get_or (flows n) k []) e ∙ second
 
   -- no memory with a site of its own has that of a flow

@@ -1,6 +1,5 @@
 -- A clock that suits an expression suits its operands.
-use Rattle.std.proofs.Common.{◌≡◌, ℕ, Bool, true, false, cond, refl, ap}
-use Rattle.std.proofs.lemmas.Bool.{eqb-true}
+use Rattle.std.proofs.Common.{◌≡◌, ℕ, Bool, true, false, cond, refl}
 use Rattle.rv_tree.specs.declared.tree.Op.{Op}
 use Rattle.rv_tree.specs.declared.tree.Op.TheVariants as op
 use Rattle.rv_tree.specs.Tree.{NodeTree}
@@ -11,14 +10,7 @@ use Rattle.rv_types.specs.declared.fault.Pace.TheVariants.{Free, At, Mute, Diffe
 use Rattle.rv_types.specs.Clocks.{same_clock, seen, meet, grounded, clock_at, binary_pace, when_pace, current_pace}
 use Rattle.rv_types.specs.Instances.{taken}
 use Rattle.rv_types.specs.WellFormed.{Suits}
-use Rattle.rv_meaning.proofs.Rows.{no_flag}
-
--- clocks that are found equal are equal
-pub same_clocks : (c d : Clock) → same_clock c d ≡ true → c ≡ d
-same_clocks Base Base e = refl
-same_clocks Base (On j) e = absurd (no_flag e)
-same_clocks (On i) Base e = absurd (no_flag e)
-same_clocks (On i) (On j) e = ap On (eqb-true i j e)
+use Rattle.rv_types.proofs.Paces.{clock_same}
 
 -- what suits a part, as its whole sees it, suits it
 pub suits_seen : (k : Clock) (p : Pace) → Suits k (seen p) → Suits k p
@@ -38,7 +30,7 @@ suits_both k (At c) Free s = (s, tt)
 suits_both k (At c) (At d) s = tested (same_clock c d) refl s
   where
     tested : (b : Bool) → same_clock c d ≡ b → Suits k (cond b (At c) Differ) → (c ≡ k) × (d ≡ k)
-    tested true e h = let same : c ≡ d = same_clocks c d e in (h, cc)
+    tested true e h = let same : c ≡ d = clock_same c d e in (h, cc)
     tested false e h = absurd h
 suits_both k (At c) Mute s = absurd s
 suits_both k (At c) Differ s = absurd s
@@ -94,7 +86,7 @@ suits_when n k Free i s = (tt, s)
 suits_when n k (At c) i s = tested (same_clock c (clock_at n i)) refl s
   where
     tested : (b : Bool) → same_clock c (clock_at n i) ≡ b → Suits k (whole_pace i (cond b (At c) Differ)) → (c ≡ clock_at n i) × (On i ≡ k)
-    tested true e h = (same_clocks c (clock_at n i) e, h)
+    tested true e h = (clock_same c (clock_at n i) e, h)
     tested false e h = absurd h
 suits_when n k Mute i s = absurd s
 suits_when n k Differ i s = absurd s

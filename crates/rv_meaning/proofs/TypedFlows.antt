@@ -29,11 +29,11 @@ use Rattle.rv_meaning.specs.Runs.{Instant, cell, AreStarts}
 use Rattle.rv_meaning.specs.Instants.{State, is_on_in, now, IsInstant, IsNext, AreGiven}
 use Rattle.rv_meaning.specs.Following.{IsTypedInstant}
 use Rattle.rv_meaning.proofs.Rows.{no_flag}
-use Rattle.rv_meaning.proofs.Local.{all_right}
 use Rattle.rv_meaning.proofs.Acceptable.{formed, typed}
 use Rattle.rv_meaning.proofs.Standing.{body_stands, output_call, argument_stands, operand_stands}
 use Rattle.rv_meaning.proofs.FlowSites.{input_within, input_kind}
 use Rattle.rv_meaning.proofs.TypedTrees.{TypedAt, output_typed, current_typed, tree_typed, value_typed}
+use Rattle.rv_base.proofs.Lists.{all_right}
 
 -- a type that is there
 some_kind : (o : Option Kind) → IsSome o → o ≡ Some (unwrap_or o kind.Bool)

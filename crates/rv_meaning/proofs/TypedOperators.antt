@@ -13,8 +13,8 @@ use Rattle.rv_types.specs.declared.fault.Verdict.TheVariants.{Has, Clashes, Mult
 use Rattle.rv_types.specs.Types.{kind_in, same_kind, where_met, one_of, two_of, three_of, both_are, binary_rule, if_rule}
 use Rattle.rv_types.specs.Values.{HasKind}
 use Rattle.rv_meaning.specs.Meaning.{operate}
-use Rattle.rv_types.proofs.ConstantContents.{kind_same as same_kinds}
-use Rattle.rv_types.proofs.TypedParts.{both_true as both_hold}
+use Rattle.rv_types.proofs.ConstantContents.{kind_same}
+use Rattle.rv_base.proofs.Truths.{both_of}
 
 -- a rule that is met gives its type
 pub met_kind : (met : Bool) (j k : Kind) → kind_in (where_met met j) ≡ Some k → (met ≡ true) × (j ≡ k)
@@ -64,7 +64,7 @@ module _ (program : ProgramTree) where
       → HasKind program i v → HasKind program j w → HasKind program k (operate o first v w)
   operator_typed scaled first op.Arrow i j k v w e p q =
       let m = met_kind (same_kind i j) i k e in
-      chosen first k v w (subst (λ k. HasKind program k v) m.1 p) (subst (λ k. HasKind program k w) (sym (same_kinds i j m.0) ∙ m.1) q)
+      chosen first k v w (subst (λ k. HasKind program k v) m.1 p) (subst (λ k. HasKind program k w) (sym (kind_same i j m.0) ∙ m.1) q)
   operator_typed scaled first op.Implies i j k v w e p q = flag_typed k _ tt (met_kind _ kind.Bool k e).1
   operator_typed scaled first op.Or i j k v w e p q = flag_typed k _ tt (met_kind _ kind.Bool k e).1
   operator_typed scaled first op.Xor i j k v w e p q = flag_typed k _ tt (met_kind _ kind.Bool k e).1
@@ -87,5 +87,5 @@ module _ (program : ProgramTree) where
       → HasKind program k (cond b v w)
   if_typed b h i j k v w e p q =
       let m = met_kind (same_kind h kind.Bool && same_kind i j) i k e in
-      let same : i ≡ j = same_kinds i j (both_hold (same_kind h kind.Bool) (same_kind i j) m.0).1 in
+      let same : i ≡ j = kind_same i j (both_of (same_kind h kind.Bool) (same_kind i j) m.0).1 in
       chosen b k v w (subst (λ k. HasKind program k v) m.1 p) (subst (λ k. HasKind program k w) (sym same ∙ m.1) q)

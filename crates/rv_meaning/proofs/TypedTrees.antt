@@ -32,11 +32,11 @@ use Rattle.rv_meaning.specs.Meaning.{is_true, held, is_on, kept_place}
 use Rattle.rv_meaning.specs.Runs.{Instant, cell, AreStarts}
 use Rattle.rv_meaning.specs.Instants.{State, is_on_in, now, form_now, value_now}
 use Rattle.rv_meaning.proofs.Rows.{no_flag}
-use Rattle.rv_meaning.proofs.Local.{all_left, all_right}
 use Rattle.rv_meaning.proofs.Suiting.{suits_both, suits_parts, ground_taken, taken_suits, suits_operands, suits_current, suits_when}
 use Rattle.rv_meaning.proofs.TypedOperators.{met_kind, one_kind, two_kinds, three_kinds, flag_typed, whole_typed, operator_typed, if_typed}
 use Rattle.rv_meaning.proofs.Standing.{Stands, pre_operand, current_operand, when_operand, left_operand, right_operand, then_part, else_part, own_call}
 use Rattle.rv_meaning.proofs.FlowSites.{flow_there, output_base, output_kind, FlowAt, flow_at}
+use Rattle.rv_base.proofs.Lists.{all_left, all_right}
 
 -- a flow that is there has the value that it holds
 pub some_held : (o : Option Value) → IsSome o → o ≡ Some (held o)

@@ -8,7 +8,7 @@ use Rattle.rv_rows.specs.Rows.{RowWithin}
 use Rattle.rv_rows.specs.Tight.{Fits}
 use Rattle.rv_poly.specs.Whole.{IsInReplay}
 use Rattle.rv_paths.specs.Joining.{AreJoined}
-use Rattle.rv_poly.proofs.WholeLemmas.{replay-zero as zero_replay}
+use Rattle.rv_poly.proofs.WholeLemmas.{replay-zero}
 
 pub all_reversed : {X : Type 0} (P : X → Type 0) (xs : List X) → All P xs → All P (reverse xs)
 all_reversed P xs all k d low =
@@ -18,7 +18,7 @@ all_reversed P xs all k d low =
 
 pub number_replay : (point : List ℤ) (k : ℕ) → All IsInReplay point → IsInReplay (number k point)
 number_replay point k all =
-    ⊎_elim (λ (lt : k < length point). all k (pos 0) lt) (λ ge. subst IsInReplay (sym (get_or_past point k (pos 0) ge)) zero_replay)
+    ⊎_elim (λ (lt : k < length point). all k (pos 0) lt) (λ ge. subst IsInReplay (sym (get_or_past point k (pos 0) ge)) replay-zero)
     (cases_lt k (length point))
 
 pub joined_within : (rows : List Row) → ((r : Row) → Fits r → RowWithin (2 ^ 60) r) → AreJoined rows → All (RowWithin (2 ^ 60)) rows

@@ -9,6 +9,7 @@ use Rattle.rv_rows.specs.Forms.{number}
 use Rattle.rv_poly.specs.Closing.{KeepsSide, KeepsUnit, KeepsPair, IsSideAdded, IsGrown, unit_number, IsUnitSide, IsUnitAdded, IsPairAdded, AreAxesAdded}
 use Rattle.rv_poly.specs.Closing.{ArePairsAdded, AreDiagonalsAdded, AreUnitsAdded}
 use Rattle.rv_poly.proofs.ClosingLemmas.{grown-none, grown-more, grown-one, keeps-later, keeps-added}
+use Rattle.rv_base.proofs.Numbers.{one_cases}
 
 unit_small : (a b : Bool) (by other : ℤ) → unsigned_abs by ≡ 1 → unsigned_abs other ≡ 1 → unsigned_abs (if a then by else (if b then other else pos 0)) ≤ 2 ^ 30
 unit_small true b by other h k = omega arith
@@ -20,10 +21,6 @@ pub side-small : (width first second : ℕ) (by other : ℤ) (side : List ℤ) �
 side-small width first second by other side h k w n i d l =
     let m : i < width = omega arith in
     rw (get_or_default side i d (pos 0) l, n i m) (unit_small (nat_eq i first) (nat_eq i second) by other h k)
-
-one_or : (z : ℤ) → unsigned_abs z ≡ 1 → (z ≡ pos 1) ⊎ (z ≡ negsuc 0)
-one_or (pos n) h = inl (ap pos h)
-one_or (negsuc n) h = let e : n ≡ 0 = omega arith in inr (ap negsuc e)
 
 axis_number : (b : Bool) (by other : ℤ) → (if b then by else (if b then other else pos 0)) ≡ (if b then by else (if b then by else pos 0))
 axis_number true by other = refl
@@ -60,7 +57,7 @@ module _ (has : List ℤ → Type 0) (shows : Row → Type 0) (width : ℕ) wher
       → IsPairAdded has shows width first second a e
   pair-added first second a b c d e p q r s = record {
     grown = grown-more has shows width a b e p.grown be;
-    found = λ by other h k. go by other (one_or by h) (one_or other k);
+    found = λ by other h k. go by other (one_cases by h) (one_cases other k);
   }
     where
       ce : IsGrown has width c e
@@ -80,7 +77,7 @@ module _ (has : List ℤ → Type 0) (shows : Row → Type 0) (width : ℕ) wher
       → IsPairAdded has shows width first first a c
   axis-added first a b c p q = record {
     grown = grown-more has shows width a b c p.grown q.grown;
-    found = λ by other h k. go by other (one_or by h);
+    found = λ by other h k. go by other (one_cases by h);
   }
     where
       go : (by other : ℤ) → (by ≡ pos 1) ⊎ (by ≡ negsuc 0) → KeepsUnit shows width first by first other c

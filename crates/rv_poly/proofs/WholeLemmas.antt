@@ -19,6 +19,7 @@ use Rattle.rv_poly.specs.Points.{HasPoint}
 use Rattle.rv_poly.specs.Whole.{IsInReplay, IsSingle, IsSpanCut, IsNarrowed, IsSpanOf, IsCandidate}
 use Rattle.rv_poly.proofs.Lines.{mul_neg}
 use Rattle.rv_poly.proofs.EliminateLemmas.{number_within}
+use Rattle.rv_base.proofs.Numbers.{zero_add}
 
 pub replay-abs : (z : ℤ) → IsInReplay z → unsigned_abs z ≤ 2 ^ 63
 replay-abs z r = let l = r.low in let h = r.high in omega (arith, ints)
@@ -38,15 +39,12 @@ is_zero (pos zero) = inl refl
 is_zero (pos (suc n)) = inr (λ e. omega (arith, ints))
 is_zero (negsuc n) = inr (λ e. omega (arith, ints))
 
-none_add : (a : ℤ) → pos 0 +ℤ a ≡ a
-none_add a = omega (arith, ints)
-
 -- where the numbers are 0, so is the sum
 pub dot-zeros : (xs cs : List ℤ) → ((k : ℕ) → k < length xs → number k cs ≡ pos 0) → dot cs xs ≡ pos 0
 dot-zeros [] cs h = dot-none cs
 dot-zeros (x ∷ xs) cs h =
     dot-cons cs x xs ∙ ap (λ z. (z *ℤ x) +ℤ dot (tail_of cs) xs) (h 0 (omega arith)) ∙ ap (λ z. z +ℤ dot (tail_of cs) xs) (zero-*ℤ x)
-    ∙ none_add (dot (tail_of cs) xs) ∙ dot-zeros xs (tail_of cs) (λ k l. get_or-tail cs k ∙ h (k + 1) (omega arith))
+    ∙ zero_add (dot (tail_of cs) xs) ∙ dot-zeros xs (tail_of cs) (λ k l. get_or-tail cs k ∙ h (k + 1) (omega arith))
 
 -- where all others are 0, it is one product
 pub dot-single : (xs cs : List ℤ) (k : ℕ) → ((j : ℕ) → (j ≡ k → ⊥) → number j cs ≡ pos 0) → dot cs xs ≡ number k cs *ℤ number k xs
@@ -59,7 +57,7 @@ dot-single (x ∷ xs) cs zero h =
     last a = omega (arith, ints)
 dot-single (x ∷ xs) cs (suc k) h =
     dot-cons cs x xs ∙ ap (λ z. (z *ℤ x) +ℤ dot (tail_of cs) xs) (h 0 (λ e. omega arith)) ∙ ap (λ z. z +ℤ dot (tail_of cs) xs) (zero-*ℤ x)
-    ∙ none_add (dot (tail_of cs) xs) ∙ dot-single xs (tail_of cs) k (λ j n. get_or-tail cs j ∙ h (j + 1) (λ e. n (omega arith)))
+    ∙ zero_add (dot (tail_of cs) xs) ∙ dot-single xs (tail_of cs) k (λ j n. get_or-tail cs j ∙ h (j + 1) (λ e. n (omega arith)))
     ∙ ap (λ z. z *ℤ number k xs) (get_or-tail cs k ∙ ap (λ i. number i cs) (next k))
   where
     next : (k : ℕ) → k + 1 ≡ suc k

@@ -28,22 +28,14 @@ use Rattle.rv_replay.specs.Replays.{IsFalsifiedAt}
 use Rattle.rv_replay.specs.Traces.{IsFlatTrace}
 use Rattle.rv_replay.proofs.FlatTraces.{InputsOfFlat, StatesOfFlat}
 use Rattle.rv_probe.specs.Probes.{has_value, have_values, inputs_have_values, memories_have_values, probe_value, probe_within}
-
--- both of two tests
-first_of : (x y : Bool) → (x && y) ≡ true → x ≡ true
-first_of true y e = refl
-first_of false y e = e
-
-second_of : (x y : Bool) → (x && y) ≡ true → y ≡ true
-second_of true y e = e
-second_of false y e = absurd (let bad : ⊥ = cc in bad)
+use Rattle.rv_base.proofs.Truths.{and_first, and_second}
 
 -- what all of a list pass, by number, and back
 module _ {X : Type 0} (kind_of : X → Kind) (p : Kind → Bool) where
   each : (xs : List X) → list_all (λ x. p (kind_of x)) xs ≡ true → (k : ℕ) (j : Kind) → slice_get (map kind_of xs) k ≡ Some j → p j ≡ true
   each [] all k j e = absurd (let bad : ⊥ = cc in bad)
-  each (x ∷ xs) all zero j e = let same : kind_of x ≡ j = cc in subst (λ i. p i ≡ true) same (first_of (p (kind_of x)) (list_all (λ y. p (kind_of y)) xs) all)
-  each (x ∷ xs) all (suc k) j e = each xs (second_of (p (kind_of x)) (list_all (λ y. p (kind_of y)) xs) all) k j e
+  each (x ∷ xs) all zero j e = let same : kind_of x ≡ j = cc in subst (λ i. p i ≡ true) same (and_first (p (kind_of x)) (list_all (λ y. p (kind_of y)) xs) all)
+  each (x ∷ xs) all (suc k) j e = each xs (and_second (p (kind_of x)) (list_all (λ y. p (kind_of y)) xs) all) k j e
 
   all_of : (xs : List X) → ((k : ℕ) (j : Kind) → slice_get (map kind_of xs) k ≡ Some j → p j ≡ true) → list_all (λ x. p (kind_of x)) xs ≡ true
   all_of [] each = refl
@@ -89,8 +81,8 @@ module _ (b : Bool) (c : ℤ) where
     flat_probe have n few =
         let values = map (probe_value b c) (input_kinds f) in
         let has = has_value (label_counts f) in
-        let memories = first_of (memories_have_values f) (inputs_have_values f) have in
-        let inputs = second_of (memories_have_values f) (inputs_have_values f) have in
+        let memories = and_first (memories_have_values f) (inputs_have_values f) have in
+        let inputs = and_second (memories_have_values f) (inputs_have_values f) have in
         let long = length-replicate n values in
         record {
           starts = are_values (memory_kinds f) (each (λ (m : FlatMemory). m.kind) has f.memories memories);

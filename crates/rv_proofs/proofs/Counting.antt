@@ -25,7 +25,7 @@ use Rattle.rv_proofs.proofs.Sampling.{all_one, all_two, after_one, record_two, r
 use Rattle.rv_proofs.proofs.Sampling.{refute_two, when_false, both_true, second_true, each-nil, each-cons}
 use Rattle.rv_proofs.specs.Samples.{counting, counting_row, counted, at_first, at_later, counting_on, standing_still, above_ten, names_unsettled, row1, form1}
 use Rattle.rv_proofs.specs.Samples.{by_one, by_two, by_none, node, everywhere, counts_on, stands_still, is_false_at}
-use Rattle.rv_proofs.proofs.Claiming.{at_everywhere, at_false, at_true, off_is as before_tick, on_is as after_tick}
+use Rattle.rv_proofs.proofs.Claiming.{at_everywhere, at_false, at_true, off_is, on_is}
 
 counts_on-is : (v : Valuation) → IsIn counts_on v → (v 2 ≡ true) × (v 3 ≡ true)
 unfolding value_among
@@ -99,35 +99,35 @@ nine_settled : IsSettledTest counting at_later counting_on 0 nine
 nine_settled = record {
   known = omega arith;
   some = (valuation true true true, in_counting);
-  same = λ v scope. row_nine v (after_tick v scope.control) (counts_on-is v scope.condition).0;
+  same = λ v scope. row_nine v (on_is v scope.control) (counts_on-is v scope.condition).0;
 }
 
 ten_settled : IsSettledTest counting at_later counting_on 1 ten
 ten_settled = record {
   known = omega arith;
   some = (valuation true true true, in_counting);
-  same = λ v scope. row_ten v (after_tick v scope.control) (counts_on-is v scope.condition).1;
+  same = λ v scope. row_ten v (on_is v scope.control) (counts_on-is v scope.condition).1;
 }
 
 not_nine_settled : IsSettledTest counting at_later standing_still 0 not_nine
 not_nine_settled = record {
   known = omega arith;
   some = (valuation true false true, in_standing);
-  same = λ v scope. row_not_nine v (after_tick v scope.control) (stands_still-is v scope.condition).0;
+  same = λ v scope. row_not_nine v (on_is v scope.control) (stands_still-is v scope.condition).0;
 }
 
 ten_settled_still : IsSettledTest counting at_later standing_still 1 ten
 ten_settled_still = record {
   known = omega arith;
   some = (valuation true false true, in_standing);
-  same = λ v scope. row_ten v (after_tick v scope.control) (stands_still-is v scope.condition).1;
+  same = λ v scope. row_ten v (on_is v scope.control) (stands_still-is v scope.condition).1;
 }
 
 not_ten_settled : IsSettledTest counting at_later above_ten 1 not_ten
 not_ten_settled = record {
   known = omega arith;
   some = (valuation true true false, in_above);
-  same = λ v scope. row_not_ten v (after_tick v scope.control) (above_ten-is v scope.condition);
+  same = λ v scope. row_not_ten v (on_is v scope.control) (above_ten-is v scope.condition);
 }
 
 pub two_tests : (P : ℕ → Type 0) → P 0 → P 1 → (t : ℕ) → t < 2 → P t
@@ -140,21 +140,21 @@ reset_settled : IsSettledUpdate counting at_first first_entry 0 (form1 (pos 0) (
 reset_settled = record {
   known = omega arith;
   some = (valuation false false false, in_first);
-  same = λ v scope. let e : v 0 ≡ false = before_tick v scope.control in rw e refl;
+  same = λ v scope. let e : v 0 ≡ false = off_is v scope.control in rw e refl;
 }
 
 step_settled : IsSettledUpdate counting at_later counting_on 0 (form1 (pos 1) (pos 1))
 step_settled = record {
   known = omega arith;
   some = (valuation true true true, in_counting);
-  same = λ v scope. let e : v 0 ≡ true = after_tick v scope.control in let f : v 2 ≡ true = (counts_on-is v scope.condition).0 in rw (e, f) refl;
+  same = λ v scope. let e : v 0 ≡ true = on_is v scope.control in let f : v 2 ≡ true = (counts_on-is v scope.condition).0 in rw (e, f) refl;
 }
 
 still_settled : IsSettledUpdate counting at_later standing_still 0 (form1 (pos 1) (pos 0))
 still_settled = record {
   known = omega arith;
   some = (valuation true false true, in_standing);
-  same = λ v scope. let e : v 0 ≡ true = after_tick v scope.control in let f : v 2 ≡ false = (stands_still-is v scope.condition).0 in rw (e, f) refl;
+  same = λ v scope. let e : v 0 ≡ true = on_is v scope.control in let f : v 2 ≡ false = (stands_still-is v scope.condition).0 in rw (e, f) refl;
 }
 
 -- the implications
@@ -514,13 +514,13 @@ started v h = (0, at_first, refl, refl, at_false v 0 (not_true (v 0) h))
     not_true false e = refl
 
 seen_first : IsObserved counting at_first first_entry
-seen_first v scope = let e : v 0 ≡ false = before_tick v scope.control in rw e refl
+seen_first v scope = let e : v 0 ≡ false = off_is v scope.control in rw e refl
 
 seen_counting : IsObserved counting at_later counting_on
-seen_counting v scope = let e : v 0 ≡ true = after_tick v scope.control in let f : v 3 ≡ true = (counts_on-is v scope.condition).1 in rw (e, f) refl
+seen_counting v scope = let e : v 0 ≡ true = on_is v scope.control in let f : v 3 ≡ true = (counts_on-is v scope.condition).1 in rw (e, f) refl
 
 seen_standing : IsObserved counting at_later standing_still
-seen_standing v scope = let e : v 0 ≡ true = after_tick v scope.control in let f : v 3 ≡ true = (stands_still-is v scope.condition).1 in rw (e, f) refl
+seen_standing v scope = let e : v 0 ≡ true = on_is v scope.control in let f : v 3 ≡ true = (stands_still-is v scope.condition).1 in rw (e, f) refl
 
 pub counted_accepted : IsAccepted counting counted
 counted_accepted = record {

@@ -38,7 +38,7 @@ use Rattle.rv_rows.specs.Rows.{dot}
 use Rattle.rv_rows.specs.Multipliers.{Refutes}
 use Rattle.rv_diagram.specs.Nodes.{valuation_of}
 use Rattle.rv_proofs.specs.Implied.{form_at}
-use Rattle.rv_proofs.proofs.Claiming.{at_false, at_true, off_is as before_tick, on_is as after_tick}
+use Rattle.rv_proofs.proofs.Claiming.{at_false, at_true, off_is, on_is}
 use Rattle.rv_proofs.proofs.Counting.{placed_one}
 
 both-is : (v : Valuation) → IsIn both_hold v → (v 3 ≡ true) × (v 4 ≡ true)
@@ -106,14 +106,14 @@ low_settled : IsSettledTest paired beginning begins_low 0 none_wrong
 low_settled = record {
   known = omega arith;
   some = (valuation false false true, in_begins_low);
-  same = λ v scope. ap Some (one_row v false false less not_less 3 (before_tick v scope.control) (less-is v scope.condition));
+  same = λ v scope. ap Some (one_row v false false less not_less 3 (off_is v scope.control) (less-is v scope.condition));
 }
 
 high_settled : IsSettledTest paired beginning begins_high 1 none_wrong
 high_settled = record {
   known = omega arith;
   some = (valuation false true false, in_begins_high);
-  same = λ v scope. ap Some (one_row v false false more not_more 4 (before_tick v scope.control) (more-is v scope.condition).1);
+  same = λ v scope. ap Some (one_row v false false more not_more 4 (off_is v scope.control) (more-is v scope.condition).1);
 }
 
 -- later, whatever the entries of the location are
@@ -131,26 +131,26 @@ module _ (entries : List Entry) where
   not_less_settled = record {
     known = omega arith;
     some = (valuation true false true, in_drops_low);
-    same = λ v scope. ap Some (one_row v true false less not_less 3 (after_tick v scope.control) (less-is v scope.condition));
+    same = λ v scope. ap Some (one_row v true false less not_less 3 (on_is v scope.control) (less-is v scope.condition));
   }
 
   less_settled : IsSettledTest paired (going entries) drops_high 0 less
   less_settled = record {
     known = omega arith;
     some = (valuation true true false, in_drops_high);
-    same = λ v scope. ap Some (one_row v true true less not_less 3 (after_tick v scope.control) (more-is v scope.condition).0);
+    same = λ v scope. ap Some (one_row v true true less not_less 3 (on_is v scope.control) (more-is v scope.condition).0);
   }
 
   not_more_settled : IsSettledTest paired (going entries) drops_high 1 not_more
   not_more_settled = record {
     known = omega arith;
     some = (valuation true true false, in_drops_high);
-    same = λ v scope. ap Some (one_row v true false more not_more 4 (after_tick v scope.control) (more-is v scope.condition).1);
+    same = λ v scope. ap Some (one_row v true false more not_more 4 (on_is v scope.control) (more-is v scope.condition).1);
   }
 
 -- the updates
 first_settled : (k : ℕ) → k < 2 → IsSettledUpdate paired beginning begins k (form2 (pos 0) (pos 0) (pos 0))
-first_settled k h = record { known = h; some = (valuation false true true, in_begins); same = λ v scope. go k v (before_tick v scope.control) }
+first_settled k h = record { known = h; some = (valuation false true true, in_begins); same = λ v scope. go k v (off_is v scope.control) }
   where
     go : (k : ℕ) (v : Valuation) → v 0 ≡ false → paired.update v k ≡ form2 (pos 0) (pos 0) (pos 0)
     go zero v e = rw e refl
@@ -160,14 +160,14 @@ x_settled : IsSettledUpdate paired later goes_on 0 (form2 (pos 1) (pos 0) (pos 1
 x_settled = record {
   known = omega arith;
   some = (valuation true true true, in_goes_on (goes_on ∷ drops_low ∷ drops_high ∷ []));
-  same = λ v scope. let e : v 0 ≡ true = after_tick v scope.control in rw e refl;
+  same = λ v scope. let e : v 0 ≡ true = on_is v scope.control in rw e refl;
 }
 
 y_settled : IsSettledUpdate paired later goes_on 1 (form2 (pos 0) (pos 1) (pos 1))
 y_settled = record {
   known = omega arith;
   some = (valuation true true true, in_goes_on (goes_on ∷ drops_low ∷ drops_high ∷ []));
-  same = λ v scope. let e : v 0 ≡ true = after_tick v scope.control in rw e refl;
+  same = λ v scope. let e : v 0 ≡ true = on_is v scope.control in rw e refl;
 }
 
 same_columns : (a b c d e f : ℤ) → a ≡ d → b ≡ e → (k : ℕ) → coefficient k (row2 a b c) ≡ coefficient k (row2 d e f)
@@ -706,7 +706,7 @@ least_word : (w : List Bool) → IsUncovered paired short_later w → ¬ ComesBe
 least_word w f (x, same, low, high) = at_place x low high
   where
     ticks : valuation_of w 0 ≡ true
-    ticks = after_tick (valuation_of w) f.control
+    ticks = on_is (valuation_of w) f.control
 
     le_true : (b : Bool) → valuation_of w 3 ≡ b → valuation_of w 3 ≡ true
     le_true true e = e

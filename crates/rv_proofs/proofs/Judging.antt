@@ -20,7 +20,7 @@ use Rattle.rv_proofs.specs.declared.verdict.Verdict.{Verdict}
 use Rattle.rv_proofs.specs.declared.verdict.Verdict.TheVariants.{Accepted, Rejected}
 use Rattle.rv_proofs.specs.declared.verdict.Reason.{Reason}
 use Rattle.rv_proofs.specs.declared.verdict.Reason.TheVariants as reason
-use Rattle.rv_proofs.proofs.Filed.{not_true_false as true_false}
+use Rattle.rv_proofs.proofs.Filed.{not_true_false}
 
 pub All-at : {X : Type 0} (P : X → Type 0) (xs : List X) (n : ℕ) (x : X) → All P xs → slice_get xs n ≡ Some x → P x
 All-at P xs n x h at = subst P (get_or_from_slice_get xs n x x at) (h n x (slice_get_within xs n x at))
@@ -51,7 +51,7 @@ nothing_fails s c (reason.Uncovered k word) acc (l, at, f) =
     let (j, e, there, condition) = acc.partition.covered k l at (valuation_of word) f.allowed f.control in
     f.nowhere j e there condition
 nothing_fails s c (reason.Unsettled k j) acc (l, e, is, f) = f (acc.partition.settled k j l e is)
-nothing_fails s c (reason.Observer k j word) acc (l, e, is, f) = true_false _ (acc.observed k j l e is f.step (valuation_of word) f.scope) f.fails
+nothing_fails s c (reason.Observer k j word) acc (l, e, is, f) = not_true_false _ (acc.observed k j l e is f.step (valuation_of word) f.scope) f.fails
 nothing_fails s c (reason.Target k j word) acc (l, e, is, f) =
     f.elsewhere (target_reached s c l f.into e e.kind (valuation_of word) (acc.partition.leads k j l e is) f.target f.scope)
 nothing_fails s c (reason.Multipliers k j n) acc (l, e, i, is, at, f) =
@@ -165,5 +165,5 @@ not_accepted s c left p acc =
     go (get_or left 0 0) j l e is used
   where
     go : (k j : ℕ) (l : Location) (e : Entry) → IsEntry c k j l e → IsFailingStep s l e ⊎ IsUnrefuted s c l e → ⊥
-    go k j l e is (inl f) = true_false _ (acc.observed k j l e is f.step f.valuation f.scope) f.fails
+    go k j l e is (inl f) = not_true_false _ (acc.observed k j l e is f.step f.valuation f.scope) f.fails
     go k j l e is (inr f) = f.lacks (acc.dead k j l e is f.dead)

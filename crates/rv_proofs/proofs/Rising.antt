@@ -23,7 +23,7 @@ use Rattle.rv_proofs.specs.Runs.{IsAbstractRun, IsSafeSystem}
 use Rattle.rv_proofs.specs.Systems.{Agrees}
 use Rattle.rv_rows.specs.Forms.{number, value}
 use Rattle.rv_rows.specs.Rows.{Holds}
-use Rattle.rv_proofs.proofs.Claiming.{at_everywhere, at_false, at_true, off_is as before_tick, on_is as after_tick}
+use Rattle.rv_proofs.proofs.Claiming.{at_everywhere, at_false, at_true, off_is, on_is}
 use Rattle.rv_proofs.proofs.Counting.{same_column}
 
 -- a run whose fourth instant is bad
@@ -125,28 +125,28 @@ one_settled : IsSettledTest rising goes_on_rising rises 0 one
 one_settled = record {
   known = omega arith;
   some = (λ x. true, in_rises);
-  same = λ v scope. let e : v 0 ≡ true = after_tick v scope.control in let f : v 2 ≡ true = rises-is v scope.condition in rw (e, f) refl;
+  same = λ v scope. let e : v 0 ≡ true = on_is v scope.control in let f : v 2 ≡ true = rises-is v scope.condition in rw (e, f) refl;
 }
 
 not_one_settled : IsSettledTest rising goes_on_rising above_one 0 not_one
 not_one_settled = record {
   known = omega arith;
   some = (last, in_above);
-  same = λ v scope. let e : v 0 ≡ true = after_tick v scope.control in let f : v 2 ≡ false = above-is v scope.condition in rw (e, f) refl;
+  same = λ v scope. let e : v 0 ≡ true = on_is v scope.control in let f : v 2 ≡ false = above-is v scope.condition in rw (e, f) refl;
 }
 
 reset_settled : IsSettledUpdate rising starts_rising first_entry 0 (form1 (pos 0) (pos 0))
 reset_settled = record {
   known = omega arith;
   some = (λ x. false, in_first);
-  same = λ v scope. let e : v 0 ≡ false = before_tick v scope.control in rw e refl;
+  same = λ v scope. let e : v 0 ≡ false = off_is v scope.control in rw e refl;
 }
 
 step_settled : IsSettledUpdate rising goes_on_rising rises 0 (form1 (pos 1) (pos 1))
 step_settled = record {
   known = omega arith;
   some = (λ x. true, in_rises);
-  same = λ v scope. let e : v 0 ≡ true = after_tick v scope.control in rw e refl;
+  same = λ v scope. let e : v 0 ≡ true = on_is v scope.control in rw e refl;
 }
 
 one_test : (P : ℕ → Type 0) → P 0 → (t : ℕ) → t < 1 → P t
@@ -233,10 +233,10 @@ started v h = (0, starts_rising, refl, refl, at_false v 0 (not_true (v 0) h))
     not_true false e = refl
 
 seen_first : IsObserved rising starts_rising first_entry
-seen_first v scope = let e : v 0 ≡ false = before_tick v scope.control in rw e refl
+seen_first v scope = let e : v 0 ≡ false = off_is v scope.control in rw e refl
 
 seen_rises : IsObserved rising goes_on_rising rises
-seen_rises v scope = let e : v 0 ≡ true = after_tick v scope.control in let f : v 2 ≡ true = rises-is v scope.condition in rw (e, f) refl
+seen_rises v scope = let e : v 0 ≡ true = on_is v scope.control in let f : v 2 ≡ true = rises-is v scope.condition in rw (e, f) refl
 
 pub unsound_passes : IsAcceptedFromEntry rising unsound
 unsound_passes = record {

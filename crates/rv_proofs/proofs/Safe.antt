@@ -1,7 +1,6 @@
 -- An accepted certificate is an inductive invariant.
 use Rattle.std.proofs.Common.{◌≡◌, ℕ, zero, suc, ◌+◌, ◌<◌, ℤ, List, [], ◌∷◌, ◌++◌, length, get_or, All, Some, IsTrue, slice_get, arith, ap, sym, ◌∙◌, subst}
 use Rattle.std.proofs.Common.{◌⊎◌, inl, inr, add-one}
-use Rattle.std.proofs.lemmas.List.{get_or_append_left, get_or-append-add, length-append}
 use Rattle.std.proofs.lemmas.List.Elements.{All-append, All-head, All-tail, All-nil, All-cons}
 use Rattle.std.proofs.lemmas.Option.{slice_get-get_or, same_Some}
 use Rattle.rv_diagram.specs.Nodes.{Valuation}
@@ -24,12 +23,7 @@ use Rattle.rv_proofs.specs.declared.certificate.EntryKind.TheVariants.{Dead, Go,
 use Rattle.rv_proofs.proofs.Named.{proved-holds, refuted-none}
 use Rattle.rv_proofs.proofs.Moved.{moved-holds}
 use Rattle.rv_proofs.proofs.ControlReads.{control_same}
-
-All-front : {X : Type 0} (P : X → Type 0) (xs ys : List X) → All P (xs ++ ys) → All P xs
-All-front P xs ys h k d l = subst P (get_or_append_left xs ys d k l) (h k d (omega (arith, length-append xs ys)))
-
-All-back : {X : Type 0} (P : X → Type 0) (xs ys : List X) → All P (xs ++ ys) → All P ys
-All-back P xs ys h k d l = subst P (get_or-append-add xs ys k d) (h (length xs + k) d (omega (arith, length-append xs ys)))
+use Rattle.rv_base.proofs.Lists.{all_left as All-front, all_right as All-back}
 
 -- the rows that multipliers prove hold where the premises do
 proved_all : (given wanted : List Row) (by : List Multipliers) (point : List ℤ) → AreProved given wanted by → AllHold given point → AllHold wanted point

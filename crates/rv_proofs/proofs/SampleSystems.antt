@@ -1,5 +1,5 @@
 -- The samples are systems.
-use Rattle.std.proofs.Common.{◌≡◌, ℕ, zero, suc, ◌<◌, ◌≤◌, ◌^◌, ℤ, pos, negsuc, ◌*ℤ◌, ◌≤ℤ◌, ◌<ℤ◌, ◌+ℤ◌, length, Bool, true, false, not, Some, arith, refl, sym}
+use Rattle.std.proofs.Common.{◌≡◌, ℕ, zero, suc, ◌<◌, ◌≤◌, ◌^◌, ℤ, pos, negsuc, ◌*ℤ◌, ◌≤ℤ◌, ◌<ℤ◌, ◌+ℤ◌, length, Bool, true, false, not, Some, arith, refl}
 use Rattle.std.proofs.Common.{ap, subst}
 use Prim.Native.Nat.{◌∣◌}
 use Rattle.std.proofs.Math.Nat.{one-dvd}
@@ -16,8 +16,9 @@ use Rattle.rv_proofs.specs.Systems.{System, IsSystem, IsTestRow, IsUpdate, IsSta
 use Rattle.rv_proofs.specs.Samples.{counting, counting_row, rising, rising_row, row1, form1}
 use Rattle.rv_proofs.specs.Counters.{paired, paired_row, paired_update, row2, form2}
 use Rattle.rv_proofs.proofs.Sampling.{all_one, all_two}
-use Rattle.rv_proofs.proofs.Counting.{three_read, tick_state as zero_state, two_read}
-use Rattle.rv_proofs.proofs.Filed.{four_read as paired_four_read, three_read as paired_three_read}
+use Rattle.rv_proofs.proofs.Counting.{three_read, tick_state, two_read}
+use Rattle.rv_proofs.proofs.Filed.{four_read, three_read as paired_three_read}
+use Rattle.rv_base.proofs.Truths.{of_not_true}
 
 -- a row with a coefficient of magnitude 1 is tight, and so is one without coefficients other than 0
 tight_at : (r : Row) (k : ℕ) → k < length r.coefficients → unsigned_abs (coefficient k r) ≡ 1 → IsTightened r r
@@ -104,10 +105,6 @@ update_two s a b k w l m n = record { wide = w; small = (all_two (λ z. unsigned
 row_is : (s : System) (q r : Row) → IsTestRow s q → Some q ≡ Some r → IsTestRow s r
 row_is s q r h f = subst (IsTestRow s) (same_Some q r f) h
 
-pub off : (b : Bool) → not b ≡ true → b ≡ false
-off true e = sym e
-off false e = refl
-
 pub zero_read : IsRead counting 0
 zero_read = (omega arith, λ i h e. omega arith)
 
@@ -116,8 +113,8 @@ counting_system = record {
   bits = omega arith;
   few_memories = omega arith;
   limits = record { variables = omega arith; memories = omega arith; columns = omega arith; tests = omega arith };
-  initial = λ v w h. ap not (h 0 zero_state);
-  unticked = λ v h. off (v 0) h;
+  initial = λ v w h. ap not (h 0 tick_state);
+  unticked = λ v h. of_not_true (v 0) h;
   ticks = λ v. refl;
   allowed = λ v w h. refl;
   row = same_row;
@@ -166,7 +163,7 @@ rising_system = record {
   few_memories = omega arith;
   limits = record { variables = omega arith; memories = omega arith; columns = omega arith; tests = omega arith };
   initial = λ v w h. ap not (h 0 rising_zero_state);
-  unticked = λ v h. off (v 0) h;
+  unticked = λ v h. of_not_true (v 0) h;
   ticks = λ v. refl;
   allowed = λ v w h. refl;
   row = same_row;
@@ -205,12 +202,12 @@ paired_system = record {
   few_memories = omega arith;
   limits = record { variables = omega arith; memories = omega arith; columns = omega arith; tests = omega arith };
   initial = λ v w h. ap not (h 0 paired_zero_state);
-  unticked = λ v h. off (v 0) h;
+  unticked = λ v h. of_not_true (v 0) h;
   ticks = λ v. refl;
   allowed = λ v w h. refl;
   row = same_row;
   update = same_update;
-  observer = λ v w h. let e : v 3 ≡ w 3 = h 3 paired_three_read in let f : v 4 ≡ w 4 = h 4 paired_four_read in rw (e, f) refl;
+  observer = λ v w h. let e : v 3 ≡ w 3 = h 3 paired_three_read in let f : v 4 ≡ w 4 = h 4 four_read in rw (e, f) refl;
   next = λ v w h x is. refl;
   rows = λ v t r l e. each (v 0) (v 3) (v 4) v t r refl refl refl e;
   updates = λ v k h. long (v 0) v k refl;
@@ -218,7 +215,7 @@ paired_system = record {
   where
     same_row : (v w : Valuation) (t : ℕ) → IsSameValuation paired v w → paired_row v t ≡ paired_row w t
     same_row v w zero h = let e : v 0 ≡ w 0 = h 0 paired_zero_read in let f : v 3 ≡ w 3 = h 3 paired_three_read in rw (e, f) refl
-    same_row v w (suc zero) h = let e : v 0 ≡ w 0 = h 0 paired_zero_read in let f : v 4 ≡ w 4 = h 4 paired_four_read in rw (e, f) refl
+    same_row v w (suc zero) h = let e : v 0 ≡ w 0 = h 0 paired_zero_read in let f : v 4 ≡ w 4 = h 4 four_read in rw (e, f) refl
     same_row v w (suc (suc t)) h = refl
 
     same_update : (v w : Valuation) (k : ℕ) → IsSameValuation paired v w → paired_update v k ≡ paired_update w k

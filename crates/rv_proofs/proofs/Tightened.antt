@@ -13,18 +13,12 @@ use Rattle.rv_rows.specs.Rows.{coefficient}
 use Rattle.rv_rows.specs.Tight.{IsTightened, IsCommonDivisor, IsDivided}
 use Rattle.rv_proofs.specs.Boxes.{IsUnitAt, HasUnit}
 use Rattle.rv_proofs.proofs.Moved.{zero_or}
-
-sized_one : (z : ℤ) → unsigned_abs z ≡ 1 → (z ≡ pos 1) ⊎ (z ≡ negsuc 0)
-sized_one (pos n) e = inl (omega (arith, ints))
-sized_one (negsuc n) e = inr (omega (arith, ints))
+use Rattle.rv_base.proofs.Numbers.{one_cases, size_zero}
 
 not_zero : (z : ℤ) → z ≢ pos 0 → 0 < unsigned_abs z
 not_zero (pos zero) n = absurd (n refl)
 not_zero (pos (suc n)) h = omega (arith, ints)
 not_zero (negsuc n) h = omega (arith, ints)
-
-size_zero : (z : ℤ) → unsigned_abs z ≡ 0 → z ≡ pos 0
-size_zero z e = omega (arith, ints)
 
 times_none : (g : ℕ) → g * unsigned_abs (pos 0) ≡ 0
 times_none g = omega arith
@@ -47,7 +41,7 @@ tight_unit old new t (k, ne, only) = go (cases_lt 0 t.divisor)
         pick (inr h) = absurd (apart (only n h))
 
     go : (0 < t.divisor) ⊎ (t.divisor ≤ 0) → (j : ℕ) × (IsUnitAt new j (pos 1) ⊎ IsUnitAt new j (negsuc 0))
-    go (inl some) = (k, signed (sized_one (coefficient k new) one))
+    go (inl some) = (k, signed (one_cases (coefficient k new) one))
       where
         divided : IsDivided t.divisor old new
         divided = t.divided some

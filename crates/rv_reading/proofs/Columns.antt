@@ -19,7 +19,7 @@ use Rattle.rv_flat.specs.Lists.{column_of}
 use Rattle.rv_flat.specs.Systems.{memory_of, kept_of}
 use Rattle.rv_flat.proofs.Earliest.{not_itself}
 use Rattle.rv_control.specs.Control.{control_of}
-use Rattle.rv_types.proofs.Members.{at_head, cons_cases as head_or_tail, in_tail, nothing_in as none_in}
+use Rattle.rv_types.proofs.Members.{at_head, cons_cases, in_tail, nothing_in}
 
 -- ---- The memories of a program have one list.
 both_before : (p q : Sites) → IsBefore p q → IsBefore q p → ⊥
@@ -48,7 +48,7 @@ rest_rises x xs up j k lt less = up (suc j) (suc k) (omega (arith, lt)) (omega (
 
 no_more : (x : MemoryAt) (xs ys : List MemoryAt) → AreRising (memory_places (x ∷ xs)) → ((m : MemoryAt) → Contains (x ∷ xs) m → Contains (x ∷ ys) m)
     → (m : MemoryAt) → Contains xs m → Contains ys m
-no_more x xs ys up to m w = elim (head_or_tail x ys m (to m (in_tail x xs m w))) [
+no_more x xs ys up to m w = elim (cons_cases x ys m (to m (in_tail x xs m w))) [
   | inl same ↦ absurd (not_itself m.place (subst (λ (a : MemoryAt). IsBefore a.place m.place) same (later x xs up m w)))
   | inr there ↦ there
 ]
@@ -57,12 +57,12 @@ no_more x xs ys up to m w = elim (head_or_tail x ys m (to m (in_tail x xs m w)))
 one_list : (xs ys : List MemoryAt) → AreRising (memory_places xs) → AreRising (memory_places ys) → ((m : MemoryAt) → Contains xs m → Contains ys m)
     → ((m : MemoryAt) → Contains ys m → Contains xs m) → xs ≡ ys
 one_list [] [] up down to from = refl
-one_list [] (y ∷ ys) up down to from = none_in y (from y (at_head y ys))
-one_list (x ∷ xs) [] up down to from = none_in x (to x (at_head x xs))
+one_list [] (y ∷ ys) up down to from = nothing_in y (from y (at_head y ys))
+one_list (x ∷ xs) [] up down to from = nothing_in x (to x (at_head x xs))
 one_list (x ∷ xs) (y ∷ ys) up down to from =
-    let same : x ≡ y = elim (head_or_tail y ys x (to x (at_head x xs))) [
+    let same : x ≡ y = elim (cons_cases y ys x (to x (at_head x xs))) [
       | inl is ↦ sym is
-      | inr below ↦ elim (head_or_tail x xs y (from y (at_head y ys))) [
+      | inr below ↦ elim (cons_cases x xs y (from y (at_head y ys))) [
         | inl is ↦ is
         | inr above ↦ absurd (both_before x.place y.place (later x xs up y above) (later y ys down x below))
       ]

@@ -1,5 +1,5 @@
 -- References of what a flat system is have the meanings of its system of valuations.
-use Rattle.std.proofs.Common.{◌≡◌, ◌∙◌, ◌≤◌, ◌^◌, ℕ, ℤ, All, List, [], ◌∷◌, length, refl, sym, ap, arith}
+use Rattle.std.proofs.Common.{◌≡◌, ◌∙◌, ◌≤◌, ◌^◌, ℕ, ℤ, All, List, [], length, sym, ap, arith}
 use Rattle.std.proofs.lemmas.List.{length-map}
 use Rattle.rv_diagram.specs.Nodes.{Diagrams}
 use Rattle.rv_agreement.specs.Agreement.{IsWell}
@@ -31,7 +31,8 @@ use Rattle.rv_paths.specs.Candidates.{IsSearchOf}
 use Rattle.rv_reading.specs.Analysing as analysing
 use Rattle.std.specs.Int.RustNames.{unsigned_abs}
 use Rattle.rv_reading.specs.Read.{flat_of, system_read, diagrams_of, relation_of, questions_of, IsRead}
-use Rattle.rv_forms.proofs.Kept.{to_terms as terms_extends}
+use Rattle.rv_forms.proofs.Kept.{to_terms}
+use Rattle.std.proofs.lemmas.List.{nil_from_length}
 
 module _ (f : Flat) (well : IsWell (system_of f)) (computed : (s : System) (w : Valuation) → IsWell s → IsSymbolic s w (symbolic s w)) (a b : Diagrams)
     (p : Parts)
@@ -56,7 +57,7 @@ module _ (f : Flat) (well : IsWell (system_of f)) (computed : (s : System) (w : 
   }
 
 pub questions_kept : (s : proofs.System) (a b : Diagrams) (q : Questions) → Extends a b → AreQuestions s a q → AreQuestions s b q
-questions_kept s a b q e are = questions_later s a b q (terms_extends a b e) are
+questions_kept s a b q e are = questions_later s a b q (to_terms a b e) are
 
 -- What a checker is given of a reading.
 pub is_given : (r : Reading) (c : Certificate) → IsRead r → IsInRange (system_read r) c → HasFree c
@@ -82,11 +83,6 @@ pub is_search : (r : Reading) (columns : ℕ) → IsRead r → columns ≡ lengt
     → IsSearchOf (system_read r) (diagrams_of r) (relation_of r) (questions_of r) columns
 is_search r columns read many = record { relation = read.relation; questions = read.questions; wide = sym (many ∙ read.wide) }
 
--- ---- Whether there are integers.
-none_left : {X : Type 0} (xs : List X) → length xs ≡ 0 → xs ≡ []
-none_left [] e = refl
-none_left (x ∷ xs) e = absurd (omega (arith, e))
-
 module _ (r : Reading) (read : IsRead r) where
   pub no_integers : (flat_of r).columns ≡ [] → (questions_of r).rows ≡ [] → HasNoIntegers (system_read r)
   no_integers columns tests =
@@ -100,7 +96,7 @@ module _ (r : Reading) (read : IsRead r) where
       }
 
   pub no_columns : HasNoIntegers (system_read r) → (flat_of r).columns ≡ []
-  no_columns none = none_left (flat_of r).columns (read.wide ∙ none.columns)
+  no_columns none = nil_from_length (flat_of r).columns (read.wide ∙ none.columns)
 
   pub no_tests : HasNoIntegers (system_read r) → (questions_of r).rows ≡ []
-  no_tests none = let asked = read.questions in none_left (questions_of r).rows (asked.many_tests ∙ none.tests)
+  no_tests none = let asked = read.questions in nil_from_length (questions_of r).rows (asked.many_tests ∙ none.tests)

@@ -29,7 +29,7 @@ use Rattle.rv_flat.proofs.Typing.{length-values, memory_kth, value_kth}
 use Rattle.rv_replay.specs.Traces.{Fixes, IsFlatTrace, IsTrace, given, kinds_of}
 use Rattle.rv_replay.proofs.Observers.{InputsOfProgram, StatesOfProgram}
 use Rattle.rv_replay.proofs.Orders.{one_listing}
-use Rattle.rv_flatten.proofs.CountedVariables.{placed as place_there}
+use Rattle.rv_flatten.proofs.CountedVariables.{placed}
 
 abbrev pub StatesOfFlat : Type 0
 StatesOfFlat = (program : ProgramTree) (main : Identifier) (f : Flat) (state : Brought) → AreWell program → IsNode program main → IsFlatOf program main f
@@ -110,7 +110,7 @@ module _ (program : ProgramTree) (main : Identifier) (t : Trace) (trace : IsTrac
       let a = memory_at program i d in
       let found = trace.listed.all i d inst tt w in
       let number : index_of spots a.place ≡ found.0 =
-      ap (index_of spots) (sym (place_there trace.memories found.0 a found.1 found.2))
+      ap (index_of spots) (sym (placed trace.memories found.0 a found.1 found.2))
       ∙ number_at spots trace.listed.rising found.0 (let lt = found.1 in omega (arith, lt, spots_many)) in
       subst (λ k. HasKind program a.kind (get_or t.starts k (Flag false))) (sym number)
       (trace.starts.typed found.0 a.kind (kind_there trace.memories found.0 a found.1 found.2))

@@ -28,7 +28,7 @@ use Rattle.rv_flat.specs.FlatOf.{flat_inputs, flat_state, instant_of, IsFlatOf}
 use Rattle.rv_flat.specs.Steps.{AreValues, IsState, input_kinds}
 use Rattle.rv_flat.proofs.Running.{within_places}
 use Rattle.rv_replay.specs.Observers.{HasTruth, IsObserved}
-use Rattle.rv_flatten.proofs.Assembled.{first_is_flag as first_boolean}
+use Rattle.rv_flatten.proofs.Assembled.{first_is_flag}
 
 -- What is taken from the layers below: instants have values of their types, and states of flat systems are states of programs.
 
@@ -73,7 +73,7 @@ module _ (typed_flows : TypedFlows) (states_of_program : StatesOfProgram) (input
   -- the flow of the observer
   pub observer : FlowAt program (node_of program main) n kind.Bool
   observer =
-      let is = first_boolean (decl_kinds program (node_of program main).outputs) of.observer in
+      let is = first_is_flag (decl_kinds program (node_of program main).outputs) of.observer in
       let at : n + 0 ≡ n = omega arith in
       flow_at program main of.well of.named i is_main n kind.Bool
       (ap (slice_get (flow_kinds program (node_of program main))) (sym at) ∙ output_kind program (node_of program main) 0 kind.Bool is)

@@ -17,14 +17,8 @@ use Rattle.rv_rise.specs.Shown.{IsShownAfter}
 use Rattle.rv_rise.specs.Rounds.{IsKeptRisen, IsHeld, IsAbove, HasGrown, IsInCases, left_of, claim_in}
 use Rattle.rv_rise.proofs.Listing.{IsRowAt, rows_with-has, rows_with-from}
 use Rattle.rv_rise.proofs.Showing.{shown_up}
-
-pub neither : (a b : Bool) → (a || b) ≡ false → (a ≡ false) × (b ≡ false)
-neither false b e = (refl, e)
-neither true b e = cc
-
-pub some_of : (a b : Bool) → (a || b) ≡ true → (a ≡ true) ⊎ ((a ≡ false) × (b ≡ true))
-some_of true b e = inl refl
-some_of false b e = inr (refl, e)
+use Rattle.rv_base.proofs.Truths.{either_then}
+use Rattle.std.proofs.lemmas.Bool.{or_parts}
 
 -- claims above one another
 pub above_same : (c : Risen) → IsAbove c c
@@ -88,9 +82,9 @@ module _ (s : System) (f : Frame) (base : RowClaim) where
     kept = h.kept;
     above = above_both x y z g.above h.above;
     below = λ m k. h.below m (g.below m k);
-    still = λ e. h.still (neither a b e).1 ∙ g.still (neither a b e).0;
+    still = λ e. h.still (or_parts a b e).1 ∙ g.still (or_parts a b e).0;
     held = held;
-    less = λ e v. less (some_of a b e) v;
+    less = λ e v. less (either_then a b e) v;
   }
     where
       held : (v : Valuation) → P v ⊎ Q v → IsHeld s base (claim_in f z) v

@@ -17,27 +17,23 @@ use Rattle.rv_seek.specs.Least.{bounded}
 use Rattle.rv_rise.specs.Shown.{IsShownAfter}
 use Rattle.rv_rise.specs.Limits.{IsLoosened}
 use Rattle.rv_rise.specs.Still.{IsOwn, AreStill, IsStillSide}
-use Rattle.rv_cases.proofs.Differing.{no_form as none_form}
+use Rattle.rv_cases.proofs.Differing.{no_form}
+use Rattle.rv_proofs.proofs.Rising.{points}
 
--- 1 at a column, 0 at those before
-units : ℕ → List ℤ
-units zero = pos 1 ∷ []
-units (suc n) = pos 0 ∷ units n
-
-units-here : (n : ℕ) → number n (units n) ≡ pos 1
-unfolding units
+units-here : (n : ℕ) → number n (points n) ≡ pos 1
+unfolding points
 units-here zero = refl
 units-here (suc n) = units-here n
 
-units-other : (n k : ℕ) → k ≢ n → number k (units n) ≡ pos 0
-unfolding units
+units-other : (n k : ℕ) → k ≢ n → number k (points n) ≡ pos 0
+unfolding points
 units-other zero zero ne = absurd (ne refl)
 units-other zero (suc k) ne = refl
 units-other (suc n) zero ne = refl
 units-other (suc n) (suc k) ne = units-other n k (λ e. ne (ap suc e))
 
-dot-units : (cs : List ℤ) (n : ℕ) → dot cs (units n) ≡ number n cs
-unfolding units
+dot-units : (cs : List ℤ) (n : ℕ) → dot cs (points n) ≡ number n cs
+unfolding points
 dot-units [] n = refl
 dot-units (c ∷ cs) zero = ap (λ z. (c *ℤ pos 1) +ℤ z) (dot-none cs) ∙ omega (arith, ints)
 dot-units (c ∷ cs) (suc n) = ap (λ z. (c *ℤ pos 0) +ℤ z) (dot-units cs n) ∙ omega (arith, ints)
@@ -67,31 +63,31 @@ module _ (cs : List ℤ) (forms : List Form) (flags : List Bool) (widths : All (
       go (inl l) = l
       go (inr l) = absurd (n (get_or_past cs k (pos 0) (omega (arith, l, columns))))
 
-  own : (k : ℕ) (n : number k cs ≢ pos 0) → IsOwn k (get_or forms k none_form)
-  own k n = still.each k (get_or forms k none_form) (slice_get-get_or forms k none_form (inside k n)) (side k n)
+  own : (k : ℕ) (n : number k cs ≢ pos 0) → IsOwn k (get_or forms k no_form)
+  own k n = still.each k (get_or forms k no_form) (slice_get-get_or forms k no_form (inside k n)) (side k n)
 
   constants : dot cs (map (λ f. f.constant) forms) ≡ pos 0
   constants =
       dot-read cs (map (λ f. f.constant) forms) []
-      (λ k n. get_or-map (λ f. f.constant) forms k none_form (pos 0) (inside k n) ∙ (own k n).constant)
+      (λ k n. get_or-map (λ f. f.constant) forms k no_form (pos 0) (inside k n) ∙ (own k n).constant)
       ∙ dot-none cs
 
   column : (n : ℕ) → dot cs (map (λ f. number n f.coefficients) forms) ≡ number n cs
   column n =
-      dot-read cs (map (λ f. number n f.coefficients) forms) (units n)
-      (λ k some. get_or-map (λ f. number n f.coefficients) forms k none_form (pos 0) (inside k some) ∙ picked k (own k some) (cases_eq k n))
+      dot-read cs (map (λ f. number n f.coefficients) forms) (points n)
+      (λ k some. get_or-map (λ f. number n f.coefficients) forms k no_form (pos 0) (inside k some) ∙ picked k (own k some) (cases_eq k n))
       ∙ dot-units cs n
     where
-      picked : (k : ℕ) → IsOwn k (get_or forms k none_form) → (k ≡ n) ⊎ (k ≡ n → ⊥) → number n (get_or forms k none_form).coefficients ≡ number k (units n)
+      picked : (k : ℕ) → IsOwn k (get_or forms k no_form) → (k ≡ n) ⊎ (k ≡ n → ⊥) → number n (get_or forms k no_form).coefficients ≡ number k (points n)
       picked k o (inl e) =
-          subst (λ (j : ℕ). number j (get_or forms k none_form).coefficients ≡ number k (units j)) e (o.here ∙ sym (units-here k))
+          subst (λ (j : ℕ). number j (get_or forms k no_form).coefficients ≡ number k (points j)) e (o.here ∙ sym (units-here k))
       picked k o (inr ne) = o.others n (λ e. ne (sym e)) ∙ sym (units-other n k ne)
 
   past : (n : ℕ) → forms_width forms ≤ n → number n cs ≡ pos 0
   past n w = go (zero_or (number n cs))
     where
-      none : number n cs ≢ pos 0 → number n (get_or forms n none_form).coefficients ≡ pos 0
-      none some = get_or_past (get_or forms n none_form).coefficients n (pos 0) (let e = widths n none_form (inside n some) in omega (arith, e, w))
+      none : number n cs ≢ pos 0 → number n (get_or forms n no_form).coefficients ≡ pos 0
+      none some = get_or_past (get_or forms n no_form).coefficients n (pos 0) (let e = widths n no_form (inside n some) in omega (arith, e, w))
 
       go : (number n cs ≡ pos 0) ⊎ (number n cs ≢ pos 0) → number n cs ≡ pos 0
       go (inl e) = e

@@ -3,7 +3,7 @@ use Rattle.std.proofs.Common.{◌≡◌, ℕ, zero, suc, ◌<◌, ◌≤◌, ℤ
 use Rattle.std.proofs.Common.{◌⊎◌, inl, inr}
 use Rattle.std.proofs.Common.{None as Nothing}
 use Rattle.std.specs.List.{Contains}
-use Rattle.std.proofs.lemmas.Option.{same_Some, none-some, slice_get_within, get_or_from_slice_get}
+use Rattle.std.proofs.lemmas.Option.{same_Some, none-some, slice_get_within}
 use Rattle.std.proofs.lemmas.List.{length-take, get_or_past}
 use Rattle.std.proofs.lemmas.Bool.{cases_lt}
 use Rattle.std.proofs.lemmas.List.Elements.{Contains-append_left, Contains-append_right, Contains-append_cases, Contains-push, Contains-push_cases}
@@ -12,7 +12,7 @@ use Rattle.rv_rows.specs.Rows.{row_at}
 use Rattle.rv_seek.specs.Least.{bounded}
 use Rattle.rv_rise.specs.Limits.{limit_at, AreOwn}
 use Rattle.rv_rise.specs.Sides.{rows_with}
-use Rattle.rv_rise.proofs.Loosening.{take_push}
+use Rattle.rv_base.proofs.Lists.{contains_got, take_push}
 
 -- one side more
 pub rows_with-push : (sides : List Row) (limits : List (Option ℤ)) (r : Row) (o : Option ℤ) → length limits ≡ length sides
@@ -112,9 +112,6 @@ rows_with-from (side ∷ sides) (Some a ∷ limits) r has = go (rows_with-from s
     go rest (inl one) = first (Contains-push_cases [] (bounded side.coefficients a) r one)
     go rest (inr more) = next_at side sides (Some a) limits r (rest more)
 
-pub contains_at : {X : Type 0} (xs : List X) (i : ℕ) (x : X) → slice_get xs i ≡ Some x → Contains xs x
-contains_at xs i x at = (i, slice_get_within xs i x at, get_or_from_slice_get xs i x x at)
-
 -- no two rows have one left side
 abbrev pub AreApart : List Row → Type 0
 AreApart sides = (i j : ℕ) → i < j → j < length sides → (row_at sides i).coefficients ≡ (row_at sides j).coefficients → ⊥
@@ -134,10 +131,10 @@ rows_with-different (side ∷ sides) [] h i j q r at there e = absurd (none-some
 rows_with-different (side ∷ sides) (Nothing ∷ limits) h i j q r at there e = rows_with-different sides limits (apart_tail side sides h) i j q r at there e
 rows_with-different (side ∷ sides) (Some a ∷ limits) h zero zero q r at there e = refl
 rows_with-different (side ∷ sides) (Some a ∷ limits) h zero (suc j) q r at there e =
-    absurd (apart_head side sides h limits r (rows_with-from sides limits r (contains_at (rows_with sides limits) j r there))
+    absurd (apart_head side sides h limits r (rows_with-from sides limits r (contains_got (rows_with sides limits) j r there))
     (ap (λ (x : Row). x.coefficients) (same_Some (bounded side.coefficients a) q at) ∙ e))
 rows_with-different (side ∷ sides) (Some a ∷ limits) h (suc i) zero q r at there e =
-    absurd (apart_head side sides h limits q (rows_with-from sides limits q (contains_at (rows_with sides limits) i q at))
+    absurd (apart_head side sides h limits q (rows_with-from sides limits q (contains_got (rows_with sides limits) i q at))
     (ap (λ (x : Row). x.coefficients) (same_Some (bounded side.coefficients a) r there) ∙ sym e))
 rows_with-different (side ∷ sides) (Some a ∷ limits) h (suc i) (suc j) q r at there e = ap suc
     (rows_with-different sides limits (apart_tail side sides h) i j q r at there e)

@@ -37,15 +37,12 @@ use Rattle.rv_rise.specs.Rounds.{left_of, claim_in}
 use Rattle.rv_rise.proofs.Listing.{IsRowAt, rows_with-has, rows_with-from, rows_with-different}
 use Rattle.rv_rise.proofs.Fitting.{rows_kept}
 use Rattle.rv_rise.proofs.Composing.{held_above}
-use Rattle.rv_cases.proofs.Gathering.{same_truth as same_bool}
-use Rattle.rv_walk.proofs.Stages.{rest_from as and_not, rest_parts as both_parts}
+use Rattle.rv_walk.proofs.Stages.{rest_from, rest_parts}
+use Rattle.rv_base.proofs.Truths.{clash}
+use Rattle.rv_diagram.proofs.Several.{same_truth}
 
 none_kept : (s : System) → AreKept s []
 none_kept s = (All-nil (λ (r : Row). (length r.coefficients ≡ s.memories) × Fits r), lit≤ tt)
-
-clash : (b : Bool) → b ≡ true → b ≡ false → ⊥
-clash true e d = cc
-clash false e d = cc
 
 -- the premises where the main tick is false, and where it is true
 premises_off : (s : System) (c : RowClaim) (v : Valuation) → v 0 ≡ false → premises_at s c v ≡ rows_of s v ++ []
@@ -105,7 +102,7 @@ module _ (s : System) (is : IsSystem s) (f : Frame) (frame : IsFrameOf s f) (c :
 
   module _ (o : Others) (others : AreOthers s first c o) where
     apart : (v : Valuation) → IsIn o.control v → (has c.reached v ≡ true) × (has first v ≡ false)
-    apart v i = both_parts (has c.reached v) (has first v) (sym (others.exact v) ∙ i)
+    apart v i = rest_parts (has c.reached v) (has first v) (sym (others.exact v) ∙ i)
 
     -- the others, with the claim's rows
     pub setting_others : (given : List Row) → given ≡ rows_with f.sides c.limits → IsSetting s (claim_in f c) o.control given
@@ -143,7 +140,7 @@ module _ (s : System) (is : IsSystem s) (f : Frame) (frame : IsFrameOf s f) (c :
             → IsHeld s (claim_in f c) (claim_in f c) v
         held e v t (inl i) = rising.held (claim_in f c) v i
         held e v t (inr n) =
-            let i : has o.control v ≡ true = others.exact v ∙ and_not (has c.reached v) (has first v) t.reached n in
+            let i : has o.control v ≡ true = others.exact v ∙ rest_from (has c.reached v) (has first v) t.reached n in
             let w = others.cases in
             let (j, d, at, on) = w.covered v t.allowed i in
             subst (λ (x : Risen). IsHeld s (claim_in f c) (claim_in f x) v) (g.still e) (g.held v (j, d, slice_get_within o.cases j d at, at, on))
@@ -167,7 +164,7 @@ same_shape s side r e shape = subst (λ (cs : List ℤ). HasOne s (bounded cs r.
 
 pub claim_kept : (s : System) (f : Frame) → IsFrameOf s f → (c : Risen) → IsKeptRisen s f c → IsRowClaim s f.thresholds (claim_in f c)
 claim_kept s f frame c kept = record {
-  reached = λ v w same. same_bool (has c.reached v) (has c.reached w) (λ i. control_same s c.reached v w kept.control same i)
+  reached = λ v w same. same_truth (has c.reached v) (has c.reached w) (λ i. control_same s c.reached v w kept.control same i)
       (λ i. control_same s c.reached w v kept.control (λ x state. sym (same x state)) i);
   rows = λ r known. candidate r (rows_with-from f.sides c.limits r known);
   different = rows_with-different f.sides c.limits (let sides = frame.sides in sides.different);

@@ -34,9 +34,11 @@ use Rattle.rv_rise.specs.Opening.{IsOpened}
 use Rattle.rv_rise.specs.Rounds.{IsFrameOf, IsSetting, IsHeld, IsKeptRisen, IsAbove, HasGrown, HasTaken, IsCaseIn, IsInCases, left_of, claim_in}
 use Rattle.rv_rise.proofs.Listing.{IsRowAt, rows_with-has, rows_with-from}
 use Rattle.rv_rise.proofs.Loosening.{changed_le}
-use Rattle.rv_rise.proofs.Composing.{neither, some_of, above_same}
+use Rattle.rv_rise.proofs.Composing.{above_same}
 use Rattle.rv_rise.proofs.Showing.{shown_right}
 use Rattle.rv_proofs.proofs.RowTighter.{claim-shows, claim-taken}
+use Rattle.rv_base.proofs.Truths.{either_then}
+use Rattle.std.proofs.lemmas.Bool.{or_parts}
 
 -- limits stay among the thresholds
 pub loosened_among : (thresholds : List ℤ) (rows : List Row) (forms : List Form) (sides : List Row) (old new : List (Option ℤ))
@@ -137,7 +139,7 @@ module _ (s : System) (is : IsSystem s) (f : Frame) (frame : IsFrameOf s f) (bas
     kept_ticked v (inr i) = kept.ticked v i
 
     either : (v : Valuation) → IsIn new.reached v → (IsIn set v) ⊎ (IsIn old.reached v)
-    either v i = go (some_of (has set v) (has old.reached v) (sym (has_new v) ∙ i))
+    either v i = go (either_then (has set v) (has old.reached v) (sym (has_new v) ∙ i))
       where
         go : (has set v ≡ true) ⊎ ((has set v ≡ false) × (has old.reached v ≡ true)) → (IsIn set v) ⊎ (IsIn old.reached v)
         go (inl e) = inl e
@@ -250,7 +252,7 @@ module _ (s : System) (is : IsSystem s) (f : Frame) (frame : IsFrameOf s f) (bas
 
     less : (fresh || x.changed) ≡ true → (v : Valuation) → left_of s.states new v < left_of s.states old v
     unfolding left_of
-    less e v = go (some_of fresh x.changed e)
+    less e v = go (either_then fresh x.changed e)
       where
         go : (fresh ≡ true) ⊎ ((fresh ≡ false) × (x.changed ≡ true)) → left_of s.states new v < left_of s.states old v
         go (inl d) = let l = limits_le in let n = reached_less d v in omega (arith, l, n)
@@ -261,7 +263,7 @@ module _ (s : System) (is : IsSystem s) (f : Frame) (frame : IsFrameOf s f) (bas
       kept = new_kept;
       above = above;
       below = λ m o d claim closed. below m o d claim closed;
-      still = λ e. still (neither fresh x.changed e);
+      still = λ e. still (or_parts fresh x.changed e);
       held = held;
       less = less;
     }

@@ -12,7 +12,7 @@ use Rattle.rv_rows.specs.Arithmetic.{zeros, unit, plus, times, constant_form, co
 one_times : (x : ℤ) → pos 1 *ℤ x ≡ x
 one_times x = omega (arith, ints)
 
-less_times : (x : ℤ) → negsuc 0 *ℤ x ≡ pos 0 -ℤ x
+pub less_times : (x : ℤ) → negsuc 0 *ℤ x ≡ pos 0 -ℤ x
 less_times x = omega (arith, ints)
 
 dot-zeros : (n : ℕ) (xs : List ℤ) → dot (zeros n) xs ≡ pos 0

@@ -54,7 +54,7 @@ whole_part g (negsuc n) h =
     let b : g * up (neg_ℤ (pos (suc n / g))) ≡ g * 0 = ap (λ x. g * x) m.0 in
     (neg_ℤ (pos (suc n / g)), same_in _ _ (omega arith))
 
-antisym : (a b : ℤ) → a ≤ℤ b → b ≤ℤ a → a ≡ b
+pub antisym : (a b : ℤ) → a ≤ℤ b → b ≤ℤ a → a ≡ b
 antisym a b h k = omega (arith, ints)
 
 times_next : (n : ℕ) (x : ℤ) → 0 < n → (pos n *ℤ x) <ℤ (pos n *ℤ (x +ℤ pos 1))

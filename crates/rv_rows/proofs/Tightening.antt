@@ -15,7 +15,7 @@ use Rattle.std.proofs.lemmas.List.Elements.{All-from_get_or, All-nil, All-cons, 
 use Rattle.rv_rows.specs.declared.linear.Row.{Row}
 use Rattle.rv_rows.specs.Rows.{coefficient}
 use Rattle.rv_rows.specs.Tight.{IsCommonDivisor, IsDivided, IsTightened}
-use Rattle.rv_rows.proofs.TightLemmas.{exact_quotient}
+use Rattle.rv_rows.proofs.TightLemmas.{exact_quotient, antisym}
 use Rattle.rv_rows.proofs.IntLemmas.{mul_add, below_next, le_lt_trans}
 
 -- two numbers have a greatest common divisor
@@ -119,16 +119,13 @@ same_whole g a b z some low high =
     let positive : pos 1 ≤ℤ pos g = omega (arith, ints) in
     below_next (pos g) a b positive (le_lt_trans _ _ _ low high)
 
-same_by : (a b : ℤ) → a ≤ℤ b → b ≤ℤ a → a ≡ b
-same_by a b h k = omega (arith, ints)
-
 same_product : (g : ℕ) (a b z : ℤ) → 0 < g → z ≡ pos g *ℤ a → z ≡ pos g *ℤ b → a ≡ b
 same_product g a b z some first second =
     let e : pos g *ℤ a ≡ pos g *ℤ b = sym first ∙ second in
     let m = mul_add (pos g) a (pos 1) in
     let n = mul_add (pos g) b (pos 1) in
     let one : pos g *ℤ pos 1 ≡ pos g = omega (arith, ints) in
-    same_by a b
+    antisym a b
     (same_whole g a b (pos g *ℤ a) some (omega (arith, ints)) (let h : (pos g *ℤ a) <ℤ (pos g *ℤ (b +ℤ pos 1)) = omega (arith, ints) in h))
     (same_whole g b a (pos g *ℤ b) some (omega (arith, ints)) (let h : (pos g *ℤ b) <ℤ (pos g *ℤ (a +ℤ pos 1)) = omega (arith, ints) in h))
 
@@ -136,7 +133,7 @@ one_divided : (g : ℕ) (r a b : Row) → 0 < g → IsDivided g r a → IsDivide
 one_divided g r a b some x y =
     let sides : a.coefficients ≡ b.coefficients = ext_get_or (pos 0) a.coefficients b.coefficients (x.width ∙ sym y.width)
     (λ k lt. same_product g (coefficient k a) (coefficient k b) (coefficient k r) some (x.coefficients k) (y.coefficients k)) in
-    let bounds : a.bound ≡ b.bound = same_by a.bound b.bound (same_whole g a.bound b.bound r.bound some x.lower y.upper)
+    let bounds : a.bound ≡ b.bound = antisym a.bound b.bound (same_whole g a.bound b.bound r.bound some x.lower y.upper)
     (same_whole g b.bound a.bound r.bound some y.lower x.upper) in
     λ i. record { coefficients = sides i; bound = bounds i }
 

@@ -23,16 +23,17 @@ use Rattle.rv_flat.specs.FlatOf.{IsFlatOf}
 use Rattle.rv_flat.specs.Systems.{memory_of}
 use Rattle.rv_flat.specs.Steps.{input_kinds}
 use Rattle.rv_run.specs.Judged.{IsControlSystem}
-use Rattle.rv_run.proofs.NoIntegers.{found, not_integer}
+use Rattle.rv_run.proofs.NoIntegers.{not_integer}
 use Rattle.rv_run.proofs.Sites.{name_at_site, name_within, input_within, input_kind}
-use Rattle.rv_run.proofs.Weighing.{weight, all_weigh, untested_total, total_untested, total_part}
-use Rattle.rv_invfile.proofs.Decimals.{not-true as not_both}
+use Rattle.rv_run.proofs.Weighing.{weight, all_weigh, untested_total, total_untested}
 use Rattle.rv_meaning.proofs.Acceptable.{main_in}
-use Rattle.rv_sequence.proofs.GiverNeeds.{got_within as within_found}
-use Rattle.rv_sequence.proofs.NeedsGraph.{all_from as each}
-use Rattle.rv_syntax.proofs.Bounds.{from-map as of_map}
-use Rattle.rv_tested.proofs.Inside.{integer_kind as is_integer_kind}
+use Rattle.rv_sequence.proofs.NeedsGraph.{all_from}
+use Rattle.rv_tested.proofs.Inside.{integer_kind}
 use Rattle.rv_types.proofs.Members.{in_map}
+use Rattle.rv_base.proofs.Lists.{from_map, within_got}
+use Rattle.rv_flatten.proofs.ComparedParts.{counted_among}
+use Rattle.std.proofs.lemmas.Bool.{false_from_ne_true}
+use Rattle.std.proofs.lemmas.Option.{slice_get-get_or}
 
 module _ (p : ProgramTree) (main : Identifier) (f : Flat) (flat : IsFlatOf p main f) (well : AreWell p) (is_node : IsNode p main) where
   flow_number : (i : Instance) (x : Identifier) → IsInstance p main i → Contains (flows i.node) x
@@ -57,12 +58,12 @@ module _ (p : ProgramTree) (main : Identifier) (f : Flat) (flat : IsFlatOf p mai
         let bad = not_integer (λ (g : FlatFlow). g.kind) f.flows control.flows n.0 kind.Int (flat.kinds i x n.0 inst w n.1 n.2 ∙ is) in
         let different : ⊥ = cc in different;
     delays = λ i d inst w is.
-        let m = of_map memory_of f.memories (memory_at p i d) (flat.memories.all i d inst tt w) in
+        let m = from_map memory_of f.memories (memory_at p i d) (flat.memories.all i d inst tt w) in
         let integer : m.0.kind ≡ kind.Int = ap (λ (x : MemoryAt). x.kind) m.2 ∙ is in
         let bad : true ≡ false = ap is_integer (sym integer) ∙ All-contains (λ x. is_integer x.kind ≡ false) f.memories m.0 control.memories m.1 in
         let different : ⊥ = cc in different;
     comparisons = λ i e c inst w compares.
-        let part = total_part (λ (x : ComparisonAt). length (sides_of x.operator)) flat.variables.comparisons c
+        let part = counted_among (λ (x : ComparisonAt). length (sides_of x.operator)) flat.variables.comparisons c
         (flat.variables.are_comparisons.all i e c inst w compares) in
         let none = untested_total f.variables control.untested in
         omega (arith, part, none, tests_are, compares.6);
@@ -75,14 +76,14 @@ module _ (p : ProgramTree) (main : Identifier) (f : Flat) (flat : IsFlatOf p mai
         let long = length-map f.flows (λ (g : FlatFlow). g.place.sites) in
         let kinds_long = length-map f.flows (λ (g : FlatFlow). g.kind) in
         let o = flat.sequence.only k (omega (arith, lt, long)) in
-        let there = found (map (λ (g : FlatFlow). g.kind) f.flows) k kind.Bool (omega (arith, lt, kinds_long)) in
+        let there = slice_get-get_or (map (λ (g : FlatFlow). g.kind) f.flows) k kind.Bool (omega (arith, lt, kinds_long)) in
         control.flows o.0 o.1 o.2 o.3 (sym (flat.kinds o.0 o.1 k o.2 o.3 lt o.4) ∙ there ∙ ap (λ (x : Kind). Some x) is)
 
     pub input_control : (j : ℕ) → slice_get (decl_kinds p (node_of p main).inputs) j ≡ Some kind.Int → ⊥
     input_control j declared =
         let n = node_of p main in
         let once = (well.formed n (main_in p main is_node)).once in
-        let lt = within_found (decl_kinds p n.inputs) j kind.Int declared in
+        let lt = within_got (decl_kinds p n.inputs) j kind.Int declared in
         let long = length-map n.inputs (λ (d : Decl). kind_in_program p d.kind) in
         control.flows (main_instance p main) (name_at_site n once j) is_main (name_within n once j (input_within n once j (omega (arith, lt, long))))
         (input_kind n once p j kind.Int declared)
@@ -99,14 +100,14 @@ module _ (p : ProgramTree) (main : Identifier) (f : Flat) (flat : IsFlatOf p mai
 
     pub control_system : IsControlSystem f
     control_system = record {
-      flows = λ k d lt. not_both (is_integer (get_or f.flows k d).kind) (λ is.
-          flow_integer k lt (get_or-map (λ (g : FlatFlow). g.kind) f.flows k d kind.Bool lt ∙ is_integer_kind (get_or f.flows k d).kind is));
-      memories = each (λ m. is_integer m.kind ≡ false) f.memories (λ m w. not_both (is_integer m.kind) (λ is.
+      flows = λ k d lt. false_from_ne_true (is_integer (get_or f.flows k d).kind) (λ is.
+          flow_integer k lt (get_or-map (λ (g : FlatFlow). g.kind) f.flows k d kind.Bool lt ∙ integer_kind (get_or f.flows k d).kind is));
+      memories = all_from (λ m. is_integer m.kind ≡ false) f.memories (λ m w. false_from_ne_true (is_integer m.kind) (λ is.
           let o = flat.memories.only (memory_of m) (in_map memory_of f.memories m w) in
-          control.delays o.0 o.1 o.2 o.4 (ap (λ (x : MemoryAt). x.kind) (sym o.5) ∙ is_integer_kind m.kind is)));
-      inputs = λ k d lt. not_both (is_integer (get_or f.inputs k d).kind) (λ is.
+          control.delays o.0 o.1 o.2 o.4 (ap (λ (x : MemoryAt). x.kind) (sym o.5) ∙ integer_kind m.kind is)));
+      inputs = λ k d lt. false_from_ne_true (is_integer (get_or f.inputs k d).kind) (λ is.
           let long = length-map f.inputs (λ (x : FlatInput). x.kind) in
-          input_integer k (found (input_kinds f) k kind.Bool (omega (arith, long, lt))
-          ∙ ap (λ (x : Kind). Some x) (get_or-map (λ (x : FlatInput). x.kind) f.inputs k d kind.Bool lt ∙ is_integer_kind (get_or f.inputs k d).kind is)));
+          input_integer k (slice_get-get_or (input_kinds f) k kind.Bool (omega (arith, long, lt))
+          ∙ ap (λ (x : Kind). Some x) (get_or-map (λ (x : FlatInput). x.kind) f.inputs k d kind.Bool lt ∙ integer_kind (get_or f.inputs k d).kind is)));
       untested = total_untested f.variables (tests_are ∙ ap (total (λ (c : ComparisonAt). length (sides_of c.operator))) no_comparison);
     }

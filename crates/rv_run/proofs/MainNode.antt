@@ -16,7 +16,7 @@ use Rattle.rv_types.specs.Scopes.{is_observer}
 use Rattle.rv_types.specs.Settled.{IsSettled, node_number}
 use Rattle.rv_types.specs.Instances.{no_node, node_of, name_at, IsNode}
 use Rattle.rv_run.proofs.Found.{named_some}
-use Rattle.rv_flatten.proofs.InstanceNumbers.{name_texts as texts_same}
+use Rattle.rv_flatten.proofs.InstanceNumbers.{name_texts}
 use Rattle.rv_instances.proofs.Known.{text_at}
 use Rattle.rv_types.proofs.Members.{index_there}
 
@@ -46,7 +46,7 @@ module _ (p : ProgramTree) (main : Identifier) (t : Typed) (settled : IsSettled 
       ap (name_at p) settled.main_number ∙ sym (text_at p.nodes (node_number p main) (omega (arith, lt, a, b))) ∙ here.1
 
   pub main_is_node : IsNode p main
-  main_is_node = subst (λ (l : List Identifier). IsTrue (is_among l main)) (texts_same p.nodes) settled.has_main
+  main_is_node = subst (λ (l : List Identifier). IsTrue (is_among l main)) (name_texts p.nodes) settled.has_main
 
   -- and an output
   pub main_output : 0 < length (node_of p main).outputs

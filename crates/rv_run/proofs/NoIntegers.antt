@@ -1,5 +1,5 @@
 -- Where no flow, memory or input of a flat system is an integer, and none are compared, its system has none.
-use Rattle.std.proofs.Common.{◌≡◌, ℕ, zero, suc, ◌+◌, ◌<◌, false, cond, List, [], ◌∷◌, map, length, get_or, refl, sym, ◌∙◌, ap, arith, Some, slice_get}
+use Rattle.std.proofs.Common.{◌≡◌, ℕ, zero, suc, ◌+◌, false, cond, List, [], ◌∷◌, map, refl, sym, ◌∙◌, ap, arith, Some, slice_get}
 use Rattle.std.specs.List.{All}
 use Rattle.rv_types.specs.declared.typed.Kind.{Kind}
 use Rattle.rv_types.specs.Variables.{is_integer}
@@ -15,12 +15,6 @@ use Rattle.rv_proofs.specs.Reached.{HasNoIntegers}
 use Rattle.rv_control.specs.Control.{order_tests, control_of}
 use Rattle.rv_run.specs.Judged.{is_test, IsControlSystem}
 use Rattle.rv_flat.proofs.SystemRuns.{kept_kinds}
-
--- one of a list
-pub found : {X : Type 0} (xs : List X) (k : ℕ) (d : X) → k < length xs → slice_get xs k ≡ Some (get_or xs k d)
-found [] k d lt = absurd (omega arith)
-found (x ∷ xs) zero d lt = refl
-found (x ∷ xs) (suc k) d lt = found xs k d (omega arith)
 
 -- none of some types is that of integers
 pub not_integer : {X : Type 0} (kind_of : X → Kind) (xs : List X) → All (λ x. is_integer (kind_of x) ≡ false) xs → (k : ℕ) (j : Kind)

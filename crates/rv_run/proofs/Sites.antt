@@ -11,9 +11,9 @@ use Rattle.rv_types.specs.declared.typed.Clock.TheVariants.{Base}
 use Rattle.rv_types.specs.Kinds.{decl_kinds, flow_kinds, flow_kind, kind_in_program}
 use Rattle.rv_types.specs.Clocks.{base_clock, declared_clock, flow_clocks}
 use Rattle.rv_types.specs.Instances.{clock_of}
-use Rattle.rv_flatten.proofs.Assembled.{front as slice_left, map_joined as map-append}
+use Rattle.rv_flatten.proofs.Assembled.{front, map_joined}
 use Rattle.rv_meaning.proofs.NameLemmas.{index_at}
-use Rattle.rv_sequence.proofs.GiverNeeds.{got_within as within_found}
+use Rattle.rv_base.proofs.Lists.{within_got}
 
 module _ (n : NodeTree) (once : (j k : ℕ) → j < k → k < length (flows n) → get_or (flows n) j [] ≡ get_or (flows n) k [] → ⊥) where
   -- the flow at a site
@@ -57,15 +57,15 @@ module _ (n : NodeTree) (once : (j k : ℕ) → j < k → k < length (flows n) �
 
   pub input_kind : (p : ProgramTree) (j : ℕ) (k : Kind) → slice_get (decl_kinds p n.inputs) j ≡ Some k → flow_kind p n (name_at_site j) ≡ Some k
   input_kind p j k is =
-      let lt = within_found (decl_kinds p n.inputs) j k is in
+      let lt = within_got (decl_kinds p n.inputs) j k is in
       let long = length-map n.inputs (λ (d : Decl). kind_in_program p d.kind) in
       let within : j < length (flows n) = input_within j (omega (arith, lt, long)) in
       let split : flow_kinds p n ≡ decl_kinds p n.inputs ++ (decl_kinds p n.outputs ++ decl_kinds p n.locals) =
-      map-append (λ (d : Decl). kind_in_program p d.kind) (n.inputs ++ n.outputs) n.locals
-      ∙ ap (λ l. l ++ decl_kinds p n.locals) (map-append (λ (d : Decl). kind_in_program p d.kind) n.inputs n.outputs)
+      map_joined (λ (d : Decl). kind_in_program p d.kind) (n.inputs ++ n.outputs) n.locals
+      ∙ ap (λ l. l ++ decl_kinds p n.locals) (map_joined (λ (d : Decl). kind_in_program p d.kind) n.inputs n.outputs)
       ∙ append_assoc (decl_kinds p n.inputs) (decl_kinds p n.outputs) (decl_kinds p n.locals) in
       ap (λ (i : ℕ). slice_get (flow_kinds p n) i) (site_is j within) ∙ ap (λ (l : List Kind). slice_get l j) split
-      ∙ slice_left (decl_kinds p n.inputs) (decl_kinds p n.outputs ++ decl_kinds p n.locals) j k is
+      ∙ front (decl_kinds p n.inputs) (decl_kinds p n.outputs ++ decl_kinds p n.locals) j k is
 
   base_at : (ds : List Decl) (i : ℕ) → get_or (map base_clock ds) i Base ≡ Base
   base_at [] i = refl

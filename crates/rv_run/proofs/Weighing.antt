@@ -1,6 +1,6 @@
 -- The variables of a program: how many are order tests.
-use Rattle.std.proofs.Common.{◌≡◌, ℕ, zero, suc, ◌+◌, ◌*◌, ◌≤◌, false, List, [], ◌∷◌, ◌++◌, map, length, refl, ap, arith}
-use Rattle.std.specs.List.{All, Contains}
+use Rattle.std.proofs.Common.{◌≡◌, ℕ, zero, suc, ◌+◌, ◌*◌, false, List, [], ◌∷◌, ◌++◌, map, length, refl, arith}
+use Rattle.std.specs.List.{All}
 use Rattle.rv_tree.specs.Tree.{ProgramTree}
 use Rattle.rv_tree.specs.Places.{Sites}
 use Rattle.rv_types.specs.declared.typed.Kind.{Kind}
@@ -11,7 +11,7 @@ use Rattle.rv_flat.specs.declared.parts.Bit.{Bit}
 use Rattle.rv_flat.specs.declared.parts.Bit.TheVariants as bit
 use Rattle.rv_flat.specs.Lists.{variable_of}
 use Rattle.rv_run.specs.Judged.{is_test}
-use Rattle.rv_sizes.proofs.Summing.{total_append as total-append}
+use Rattle.rv_sizes.proofs.Summing.{total_append}
 
 -- weights of variables: of ticks and of bits, and of order tests; a next copy has none
 abbrev pub weight : ℕ → ℕ → Variable → ℕ
@@ -35,7 +35,7 @@ module _ (a b : ℕ) where
   bits_weigh make zero each = omega arith
   bits_weigh make (suc n) each =
       let rest = bits_weigh make n each in
-      let split = total-append (weight a b) (bits make n) (make n ∷ []) in
+      let split = total_append (weight a b) (bits make n) (make n ∷ []) in
       let here = each n in
       omega (arith, rest, split, here)
 
@@ -44,7 +44,7 @@ module _ (a b : ℕ) where
   memories_weigh p (m ∷ ms) =
       let rest = memories_weigh p ms in
       let here = bits_weigh (Kept m.place) (kind_bits p m.kind) (λ j. refl) in
-      let split = total-append (weight a b) (bits (Kept m.place) (kind_bits p m.kind)) (memory_variables p ms) in
+      let split = total_append (weight a b) (bits (Kept m.place) (kind_bits p m.kind)) (memory_variables p ms) in
       omega (arith, rest, here, split)
 
   inputs_weigh : (p : ProgramTree) (i : ℕ) (ks : List Kind) → total (weight a b) (input_variables p i ks) ≡ a * total (kind_bits p) ks
@@ -52,7 +52,7 @@ module _ (a b : ℕ) where
   inputs_weigh p i (k ∷ ks) =
       let rest = inputs_weigh p (i + 1) ks in
       let here = bits_weigh (Input i) (kind_bits p k) (λ j. refl) in
-      let split = total-append (weight a b) (bits (Input i) (kind_bits p k)) (input_variables p (i + 1) ks) in
+      let split = total_append (weight a b) (bits (Input i) (kind_bits p k)) (input_variables p (i + 1) ks) in
       omega (arith, rest, here, split)
 
   sides_weigh : (p : Sites) (ss : List Side) → total (weight a b) (map (Test p) ss) ≡ b * length ss
@@ -64,7 +64,7 @@ module _ (a b : ℕ) where
   tests_weigh (c ∷ cs) =
       let rest = tests_weigh cs in
       let here = sides_weigh c.place (sides_of c.operator) in
-      let split = total-append (weight a b) (map (Test c.place) (sides_of c.operator)) (test_variables cs) in
+      let split = total_append (weight a b) (map (Test c.place) (sides_of c.operator)) (test_variables cs) in
       omega (arith, rest, here, split)
 
   pub all_weigh : (p : ProgramTree) (ticks : List Sites) (ms : List MemoryAt) (ks : List Kind) (cs : List ComparisonAt)
@@ -72,9 +72,9 @@ module _ (a b : ℕ) where
       ≡ a * (1 + (length ticks + (total (λ m. kind_bits p m.kind) ms + total (kind_bits p) ks))) + b * total (λ c. length (sides_of c.operator)) cs
   all_weigh p ticks ms ks cs =
       let state = MainTick ∷ map Tick ticks ++ memory_variables p ms in
-      let first = total-append (weight a b) (with_copies state) (input_variables p 0 ks ++ test_variables cs) in
-      let second = total-append (weight a b) (input_variables p 0 ks) (test_variables cs) in
-      let third = total-append (weight a b) (MainTick ∷ map Tick ticks) (memory_variables p ms) in
+      let first = total_append (weight a b) (with_copies state) (input_variables p 0 ks ++ test_variables cs) in
+      let second = total_append (weight a b) (input_variables p 0 ks) (test_variables cs) in
+      let third = total_append (weight a b) (MainTick ∷ map Tick ticks) (memory_variables p ms) in
       let once = copies state in
       let t = ticks_weigh ticks in
       let m = memories_weigh p ms in
@@ -110,9 +110,3 @@ pub total_untested : (bs : List Bit) → total (weight 0 1) (map variable_of bs)
 total_untested [] none k d lt = absurd (omega (arith, lt))
 total_untested (v ∷ bs) none zero d lt = no_test_bit v (omega (arith, none))
 total_untested (v ∷ bs) none (suc k) d lt = total_untested bs (omega (arith, none)) k d (omega (arith, lt))
-
--- a part of a total
-pub total_part : {X : Type 0} (f : X → ℕ) (xs : List X) (x : X) → Contains xs x → f x ≤ total f xs
-total_part f [] x w = absurd (let lt = w.1 in omega (arith, lt))
-total_part f (y ∷ ys) x (zero, lt, is) = let same = ap f is in omega (arith, same)
-total_part f (y ∷ ys) x (suc k, lt, is) = let rest = total_part f ys x (k, omega (arith, lt), is) in omega (arith, rest)

@@ -1,5 +1,5 @@
 -- The numbers of what a flow needs, by what gives it its value.
-use Rattle.std.proofs.Common.{◌≡◌, ℕ, zero, suc, ◌+◌, ◌<◌, ◌^◌, List, [], ◌∷◌, ◌++◌, length, Some, refl, sym, ap, subst, arith, slice_get}
+use Rattle.std.proofs.Common.{◌≡◌, ℕ, ◌+◌, ◌<◌, ◌^◌, List, [], ◌∷◌, ◌++◌, length, Some, refl, sym, ap, subst, arith}
 use Rattle.std.specs.List.{Contains}
 use Rattle.std.proofs.lemmas.List.Elements.{Contains-append_left}
 use Rattle.rv_tree.specs.Bounded.{most}
@@ -41,12 +41,8 @@ use Rattle.rv_instances.proofs.LayoutLaws.{laid_there, is_here}
 use Rattle.rv_instances.proofs.Lists.{length_map}
 use Rattle.rv_sequence.proofs.NumbersNeeded.{AreAt, at_append, needs_at, clock_flow, output_flow}
 use Rattle.rv_sequence.proofs.TypedCalls.{typed_calls, sole_output}
-use Rattle.rv_types.proofs.TypedParts.{right_calls as in_right}
-
-pub got_within : {X : Type 0} (xs : List X) (k : ℕ) (x : X) → slice_get xs k ≡ Some x → k < length xs
-got_within [] k x e = cc
-got_within (y ∷ ys) zero x e = omega arith
-got_within (y ∷ ys) (suc k) x e = let h = got_within ys k x e in omega (arith, h)
+use Rattle.rv_types.proofs.TypedParts.{right_calls}
+use Rattle.rv_base.proofs.Lists.{within_got}
 
 module _ (p : ProgramTree) (main : Identifier) (instances : List Numbered) (known : IsExpanded p main instances) where
   -- numbers of flows have 32 bits
@@ -73,7 +69,7 @@ module _ (p : ProgramTree) (main : Identifier) (instances : List Numbered) (know
       let n = i.node in
       let kinds = (known.well.typed n (node_in p main instances known i is)).output x c j other in
       let size = length_map (λ d. kind_in_program p d.kind) (node_of p c.name).outputs in
-      let lt = got_within (decl_kinds p (node_of p c.name).outputs) j kinds.0 kinds.1 in
+      let lt = within_got (decl_kinds p (node_of p c.name).outputs) j kinds.0 kinds.1 in
       record {
         there = of_order n x c j other;
         within = omega (arith, size, lt);
@@ -83,7 +79,7 @@ module _ (p : ProgramTree) (main : Identifier) (instances : List Numbered) (know
       of_order : (n : NodeTree) (x : Identifier) (c : CallTree) (j : ℕ) → IsRight n x (right.Output c j) → Contains (calls n) c
       of_order n x _ _ (in_order q at site f args j w is more lt named) =
           Contains-append_left (calls_in_equations n.equations) (calls_in_assertions n.assertions) (record { at = at; site = site; name = f; args = args })
-          (in_right n.equations q (record { at = at; site = site; name = f; args = args }) w
+          (right_calls n.equations q (record { at = at; site = site; name = f; args = args }) w
           (subst (λ (t : Tree). Contains (calls_in t) (record { at = at; site = site; name = f; args = args })) (sym is) (0, omega arith, refl)))
 
   -- what suits a clock takes it
@@ -116,7 +112,7 @@ module _ (p : ProgramTree) (main : Identifier) (instances : List Numbered) (know
       record {
         uses = subst (λ (t : Tree). node_uses p n t ≡ []) from.2 (right_known p known.named n there from.0 from.1);
         calls_there = λ c w. Contains-append_left (calls_in_equations n.equations) (calls_in_assertions n.assertions) c
-            (in_right n.equations from.0 c from.1 (subst (λ (t : Tree). Contains (calls_in t) c) (sym from.2) w));
+            (right_calls n.equations from.0 c from.1 (subst (λ (t : Tree). Contains (calls_in t) c) (sym from.2) w));
         kind = (kinds.0, kinds.1);
         clock = suits_taken (clock_of n x) (pace n e) ((known.well.formed n there).body_clock x e other);
         timed = suits_timed (clock_of n x) (pace n e) ((known.well.formed n there).body_clock x e other);

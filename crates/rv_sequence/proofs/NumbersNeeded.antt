@@ -21,7 +21,7 @@ use Rattle.rv_instances.proofs.ArgumentClocks.{taken_known}
 use Rattle.rv_instances.proofs.ClockFlows.{pace_known}
 use Rattle.rv_instances.proofs.Lists.{length_map}
 use Rattle.rv_types.proofs.Members.{cons_cases, index_there, nothing_in}
-use Rattle.rv_types.proofs.RightNames.{both_empty as split_nil}
+use Rattle.rv_types.proofs.RightNames.{both_empty}
 
 -- one number after the other is that of a place
 abbrev pub AreAt : List Sites → List ℕ → List Sites → Type 0
@@ -130,14 +130,14 @@ module _ (p : ProgramTree) (i : Instance) (places : List Sites) (h : Here) (here
       form_at k at site (Current e) v known good = needs_at (clock_of_expression i.node e) e (operand_clock e known) known good
       form_at k at site (When e x) v known good =
           needs_at (clock_of i.node x.text) e (declared (site_of i.node x.text))
-          (split_nil (own_uses (is_value p i.node) (is_flow i.node) (is_declared (node_names p)) (Node at site (When e x))) (node_uses p i.node e) known).1 good
+          (both_empty (own_uses (is_value p i.node) (is_flow i.node) (is_declared (node_names p)) (Node at site (When e x))) (node_uses p i.node e) known).1 good
       form_at k at site (Binary o a b) v known good =
-          let s = split_nil (node_uses p i.node a) (node_uses p i.node b) known in
+          let s = both_empty (node_uses p i.node a) (node_uses p i.node b) known in
           at_append places (numbers_needed i.node h (clock_number h k) a) (numbers_needed i.node h (clock_number h k) b) (needs p i k a) (needs p i k b)
           (needs_at k a v s.0 (good_left (calls_in a) (calls_in b) good)) (needs_at k b v s.1 (good_right (calls_in a) (calls_in b) good))
       form_at k at site (If a b c) v known good =
-          let s = split_nil (node_uses p i.node a) (node_uses p i.node b ++ node_uses p i.node c) known in
-          let t = split_nil (node_uses p i.node b) (node_uses p i.node c) s.1 in
+          let s = both_empty (node_uses p i.node a) (node_uses p i.node b ++ node_uses p i.node c) known in
+          let t = both_empty (node_uses p i.node b) (node_uses p i.node c) s.1 in
           let rest = good_right (calls_in a) (calls_in b ++ calls_in c) good in
           at_append places (numbers_needed i.node h (clock_number h k) a)
           (numbers_needed i.node h (clock_number h k) b ++ numbers_needed i.node h (clock_number h k) c) (needs p i k a) (needs p i k b ++ needs p i k c)
@@ -158,6 +158,6 @@ module _ (p : ProgramTree) (i : Instance) (places : List Sites) (h : Here) (here
           → AreAt places (numbers_of_all i.node h (clock_number h k) es) (needs_all p i k es)
       all_at k None v known good = tt
       all_at k (More e es) v known good =
-          let s = split_nil (node_uses p i.node e) (faults_of_all (own_uses (is_value p i.node) (is_flow i.node) (is_declared (node_names p))) es) known in
+          let s = both_empty (node_uses p i.node e) (faults_of_all (own_uses (is_value p i.node) (is_flow i.node) (is_declared (node_names p))) es) known in
           at_append places (numbers_needed i.node h (clock_number h k) e) (numbers_of_all i.node h (clock_number h k) es) (needs p i k e) (needs_all p i k es)
           (needs_at k e v s.0 (good_left (calls_in e) (calls_in_all es) good)) (all_at k es v s.1 (good_right (calls_in e) (calls_in_all es) good))

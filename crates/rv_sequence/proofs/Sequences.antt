@@ -16,8 +16,8 @@ use Rattle.rv_sequence.specs.FlowGraphs.{IsFlowGraph, AreTurned}
 use Rattle.rv_instances.proofs.Lists.{nat_split, contains_at, length_map}
 use Rattle.rv_instances.proofs.Known.{map_at}
 use Rattle.rv_instances.proofs.ExpandedLaws.{not_both}
-use Rattle.rv_types.proofs.Joined.{drop_here as turn}
-use Rattle.rv_types.proofs.Members.{cons_cases, nothing_in, of_map}
+use Rattle.rv_types.proofs.Members.{cons_cases, nothing_in}
+use Rattle.rv_base.proofs.Lists.{from_map, next_of}
 
 -- Loops.
 
@@ -131,7 +131,7 @@ module _ (p : ProgramTree) (main : Identifier) (places : List Sites) (g : Graph)
     least_first : (xs : List ℕ) → IsLoop g xs → ((j : ℕ) → Contains xs j → get_or xs 0 0 ≤ j) → StartsWithLeast (map (place_at places) xs)
     least_first [] l least = tt
     least_first (x ∷ xs) l least = λ q w before.
-        let v = of_map (place_at places) xs q w in
+        let v = from_map (place_at places) xs q w in
         let after : Contains (x ∷ xs) v.0 = (suc v.1.0, (let lt = v.1.1 in omega (arith, lt)), v.1.2) in
         let le = least v.0 after in
         let size = f.size in
@@ -167,7 +167,7 @@ turned_from numbers new k lt least is =
     let whole : numbers ≡ take k numbers ++ drop k numbers = sym (take-append-drop k numbers) in
     let head : get_or new 0 0 ≡ get_or numbers k 0 =
     ap (λ l. get_or l 0 0) is ∙ ap (λ l. get_or (l ++ take k numbers) 0 0)
-    (turn numbers k (get_or numbers k 0) lt (get_or_default numbers k 0 (get_or numbers k 0) lt)) in
+    (next_of numbers k (get_or numbers k 0) lt (get_or_default numbers k 0 (get_or numbers k 0) lt)) in
     record {
       front = take k numbers;
       back = drop k numbers;

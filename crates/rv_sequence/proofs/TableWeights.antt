@@ -25,12 +25,13 @@ use Rattle.rv_instances.proofs.ExpandedLaws.{not_itself, node_in, node_is}
 use Rattle.rv_instances.proofs.FlowPlaces.{are_flow_places}
 use Rattle.rv_instances.proofs.Known.{map_at}
 use Rattle.rv_instances.proofs.LayoutLaws.{is_here}
-use Rattle.rv_instances.proofs.Lists.{length_map, nat_split, got}
+use Rattle.rv_instances.proofs.Lists.{length_map, nat_split}
 use Rattle.rv_sequence.proofs.Sequences.{ordered_sequence}
 use Rattle.rv_sequence.proofs.WeightFlows.{giver_output, instance_of, ReadsGiver, giver_reads, giver_flows}
 use Rattle.rv_sequence.proofs.WeightReads.{Reads, capped_weight}
 use Rattle.rv_sequence.proofs.NumbersNeeded.{output_within}
 use Rattle.rv_types.proofs.Members.{index_there}
+use Rattle.std.proofs.lemmas.Option.{get_or_from_slice_get}
 
 module _ (p : ProgramTree) (main : Identifier) (instances : List Numbered) (known : IsExpanded p main instances) where
   placed : AreFlowPlaces p main (all_places p instances)
@@ -73,7 +74,7 @@ module _ (p : ProgramTree) (main : Identifier) (instances : List Numbered) (know
       let within : number < length givers = omega (arith, lt, size) in
       let v = given.each number within in
       told_within (place_at (all_places p instances) number) t v.0 v.1
-      (subst (λ u. StandsFor p instances u v.0) (got givers number t (told.Input 0) there) (given.one number v.0 within v.1))
+      (subst (λ u. StandsFor p instances u v.0) (get_or_from_slice_get givers number t (told.Input 0) there) (given.one number v.0 within v.1))
 
   module _ (l : Layout) (laid : IsLayout p main instances l) (values : NamedTables) (named : value_by values ≡ constant_value p) (weights : List ℕ)
       (flows_of : Sites → ℕ) where
@@ -191,7 +192,7 @@ module _ (p : ProgramTree) (main : Identifier) (instances : List Numbered) (know
           let size = given.size in
           let within : number < length givers = omega (arith, at, h, size) in
           let v = given.each number within in
-          let stands : StandsFor p instances t v.0 = subst (λ u. StandsFor p instances u v.0) (got givers number t (told.Input 0) there)
+          let stands : StandsFor p instances t v.0 = subst (λ u. StandsFor p instances u v.0) (get_or_from_slice_get givers number t (told.Input 0) there)
           (given.one number v.0 within v.1) in
           let placed_at : get_or (map (place_at places) sequence) done [] ≡ place_at places number = nth done lt ∙ ap (place_at places) (sym at) in
           let gives : Gives p main (get_or (map (place_at places) sequence) done []) v.0 = subst (λ q. Gives p main q v.0) (sym placed_at) v.1 in

@@ -33,7 +33,7 @@ use Rattle.rv_instances.proofs.Flowing.{site_itself, flow_of_giver}
 use Rattle.rv_instances.proofs.GiverLaws.{flow_giver, one_giver}
 use Rattle.rv_instances.proofs.Lists.{length_map, nat_split}
 use Rattle.rv_types.proofs.TypedParts.{IsTyped, operands_typed, one_constant, branches_typed, minus_typed, current_typed, when_typed, call_output}
-use Rattle.rv_types.proofs.TypedParts.{right_calls as in_right}
+use Rattle.rv_types.proofs.TypedParts.{right_calls}
 use Rattle.rv_sequence.proofs.WeightReads.{IsScaled, Reads, FormReads, same_weight}
 use Rattle.rv_types.proofs.Members.{among_contains}
 
@@ -209,7 +209,7 @@ module _ (p : ProgramTree) (main : Identifier) (instances : List Numbered) (know
   ReadsGiver P (Of i k r) = ReadsRight P i r
 
   equation_inside : (n : NodeTree) (q : EquationTree) (d : CallTree) → Contains n.equations q → Contains (calls_in q.right) d → Contains (calls n) d
-  equation_inside n q d w v = Contains-append_left (calls_in_equations n.equations) (calls_in_assertions n.assertions) d (in_right n.equations q d w v)
+  equation_inside n q d w v = Contains-append_left (calls_in_equations n.equations) (calls_in_assertions n.assertions) d (right_calls n.equations q d w v)
 
   pub giver_reads : (P : Sites → Type 0) (q : Sites) (g : Giver) → Gives p main q g → All P (needs_of p g) → ReadsGiver P g
   giver_reads P q _ (given j lt e) all = tt

@@ -20,7 +20,7 @@ use Rattle.rv_base.specs.Limits.{heaviest}
 use Rattle.rv_instances.specs.Weights.{weight, too_wide, weighed_of_several, weighed_under, weighed, AreWeights, IsTooWide, AreLight, IsFirstTooWide}
 use Rattle.rv_instances.proofs.CallsInside.{in_argument, in_body, calls_nested}
 use Rattle.rv_instances.proofs.ExpandedLaws.{node_in}
-use Rattle.rv_types.proofs.TypedParts.{IsTyped, parts_typed, right_calls as in_right, argument_part}
+use Rattle.rv_types.proofs.TypedParts.{IsTyped, parts_typed, right_calls, argument_part}
 use Rattle.rv_sequence.proofs.WeightFlows.{IsInside, reads_flows, one_weight}
 use Rattle.rv_sequence.proofs.WeightReads.{same_weight}
 use Rattle.rv_types.proofs.Members.{cons_cases, nothing_in, of_flat_map}
@@ -87,7 +87,7 @@ module _ (p : ProgramTree) (main : Identifier) (instances : List Numbered) (know
   in_equation q t w u = by_lefts q.lefts refl u
     where
       inside : (c : CallTree) → Contains (calls_in q.right) c → Contains (calls i.node) c
-      inside c r = Contains-append_left (calls_in_equations i.node.equations) (calls_in_assertions i.node.assertions) c (in_right i.node.equations q c w r)
+      inside c r = Contains-append_left (calls_in_equations i.node.equations) (calls_in_assertions i.node.assertions) c (right_calls i.node.equations q c w r)
 
       several : (length q.lefts ≡ 1 → ⊥) → Contains (weighed_of_several q.right) t → IsWeighed t
       several other u =

@@ -37,6 +37,7 @@ use Rattle.rv_sequence.proofs.WeightFlows.{flows_read, are_weights}
 use Rattle.rv_sequence.proofs.WideFlows.{is_weighed}
 use Rattle.rv_types.proofs.Members.{cons_cases, nothing_in}
 use Rattle.rv_types.proofs.WideParts.{lesser_more}
+use Rattle.rv_base.proofs.Truths.{less_told}
 
 -- the least of some offsets
 abbrev pub least : List ℕ → Option ℕ
@@ -208,15 +209,12 @@ constants_least p (c ∷ cs) =
 
 -- Weights that count to 2^40 + 1 tell what is too wide.
 
-lt_true : (a b : ℕ) → a < b → nat_lt a b ≡ true
-lt_true a b h = grind (arith, nat_tests)
-
 lt_false : (a b : ℕ) → b ≤ a → nat_lt a b ≡ false
 lt_false a b h = grind (arith, nat_tests)
 
 told_by_count : (v : ℕ) → nat_lt heaviest v ≡ nat_lt heaviest (min v too_heavy)
 told_by_count v = elim (nat_split heaviest v) [
-  | inl above ↦ lt_true heaviest v above ∙ sym (lt_true heaviest (min v too_heavy) (omega (arith, above)))
+  | inl above ↦ less_told heaviest v above ∙ sym (less_told heaviest (min v too_heavy) (omega (arith, above)))
   | inr below ↦ lt_false heaviest v below ∙ sym (lt_false heaviest (min v too_heavy) (omega (arith, below)))
 ]
 

@@ -7,8 +7,8 @@ use Rattle.rv_base.specs.Limits.{source_limit}
 use Rattle.rv_tree.specs.Bounded.{IsBounded}
 use Rattle.rv_tree.specs.Places.{flows}
 use Rattle.rv_tree.specs.Tree.{NodeTree, ProgramTree, node_tree}
-use Rattle.rv_types.proofs.Joined.{drop_here as turn}
 use Rattle.rv_types.proofs.Members.{in_map}
+use Rattle.rv_base.proofs.Lists.{next_of}
 
 -- its flows are few
 pub flows_few : (p : ProgramTree) → IsBounded p → (n : NodeTree) → Contains p.nodes n → length (flows n) < 2 ^ 32
@@ -21,7 +21,7 @@ read_node xs items same k x within is = in_map node_tree xs x (subst (λ (l : Li
 
 module _ (xs : List declared.Node) (k : ℕ) (x : declared.Node) (within : k < length xs) (is : x ≡ get_or xs k x) where
   rest : drop k xs ≡ x ∷ drop (k + 1) xs
-  rest = turn xs k x within is
+  rest = next_of xs k x within is
 
   -- its part comes next
   pub one_more : {B : Type 0} (f : NodeTree → B) (ys : List B) (y : B) (all : List B) → ys ++ map f (map node_tree (drop k xs)) ≡ all → y ≡ f (node_tree x)

@@ -8,7 +8,8 @@ use Rattle.rv_types.specs.Kinds.{flow_kinds, kind_in_program}
 use Rattle.rv_types.specs.Names.{name_faults, decls}
 use Rattle.rv_types.specs.Instances.{no_node, node_of, name_at}
 use Rattle.rv_instances.proofs.Known.{map_at, node_of_number}
-use Rattle.rv_instances.proofs.Lists.{length_map, got}
+use Rattle.rv_instances.proofs.Lists.{length_map}
+use Rattle.std.proofs.lemmas.Option.{get_or_from_slice_get}
 
 module _ (p : ProgramTree) (ns : List declared.Node) (k : ℕ) (n : declared.Node) (are : p.nodes ≡ map node_tree ns) (within : k < length p.nodes)
     (read : slice_get ns k ≡ Some n) where
@@ -17,7 +18,7 @@ module _ (p : ProgramTree) (ns : List declared.Node) (k : ℕ) (n : declared.Nod
   node_here =
       ap (λ l. get_or l k no_node) are
       ∙ map_at node_tree ns k no_node n (subst (λ l. k < l) (ap length are ∙ length_map node_tree ns) within)
-      ∙ ap node_tree (got ns k n n read)
+      ∙ ap node_tree (get_or_from_slice_get ns k n n read)
 
   -- is the node of its name
   pub main_node : name_faults p ≡ [] → node_of p (name_at p k) ≡ node_tree n
@@ -26,7 +27,7 @@ module _ (p : ProgramTree) (ns : List declared.Node) (k : ℕ) (n : declared.Nod
   -- and has its types
   pub main_kinds : (all : List (List Kind)) (own : List Kind) → all ≡ map (flow_kinds p) p.nodes → slice_get all k ≡ Some own → own ≡ flow_kinds p (node_tree n)
   main_kinds all own each is =
-      sym (got all k own own is) ∙ ap (λ l. get_or l k own) each ∙ map_at (flow_kinds p) p.nodes k own no_node within ∙ ap (flow_kinds p) node_here
+      sym (get_or_from_slice_get all k own own is) ∙ ap (λ l. get_or l k own) each ∙ map_at (flow_kinds p) p.nodes k own no_node within ∙ ap (flow_kinds p) node_here
 
 -- no fewer than there are inputs
 pub inputs_few : (p : ProgramTree) (n : NodeTree) (own : List Kind) → own ≡ flow_kinds p n → length n.inputs ≤ length own

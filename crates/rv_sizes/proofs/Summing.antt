@@ -10,8 +10,9 @@ use Rattle.rv_calls.specs.Graphs.{IsOrdered}
 use Rattle.rv_calls.specs.Callings.{callees, call_graph}
 use Rattle.rv_base.specs.Limits.{heaviest}
 use Rattle.rv_sizes.specs.Totals.{total_at, AreTotals, called_total, AreSummed}
-use Rattle.rv_instances.proofs.Lists.{contains_at, got, length_map}
+use Rattle.rv_instances.proofs.Lists.{contains_at, length_map}
 use Rattle.rv_calls.proofs.Lowering.{edge_of}
+use Rattle.std.proofs.lemmas.Option.{get_or_from_slice_get}
 
 pub total_append : {X : Type 0} (f : X → ℕ) (xs ys : List X) → total f (xs ++ ys) ≡ total f xs + total f ys
 total_append f [] ys = omega arith
@@ -134,7 +135,7 @@ module _ (own : List ℕ) (t : List (List Calling)) (order : List ℕ) (ordered 
       → AreSummed own t order i totals → (c : Calling) → Contains calls c → c.callee < length totals
   node_within items i cs calls totals same lt read is s c w =
       let in_order : i < length order = subst (λ (l : List ℕ). i < length l) same lt in
-      let here : calls ≡ get_or t (get_or order i 0) [] = is ∙ sym (got t (get_or items i 0) cs [] read)
+      let here : calls ≡ get_or t (get_or order i 0) [] = is ∙ sym (get_or_from_slice_get t (get_or items i 0) cs [] read)
       ∙ ap (λ (l : List ℕ). get_or t (get_or l i 0) []) same in
       subst (λ n. c.callee < n) (sym s.size) (callees_within i in_order c (subst (λ (l : List Calling). Contains l c) here w))
 
@@ -143,9 +144,9 @@ module _ (own : List ℕ) (t : List (List Calling)) (order : List ℕ) (ordered 
       → sum ≡ min (o + called_total totals calls) heaviest → new ≡ set totals (get_or items i 0) sum → AreSummed own t order (i + 1) new
   node_step items i o sum cs calls totals new same lt read_own read is s summed set_is =
       let in_order : i < length order = subst (λ (l : List ℕ). i < length l) same lt in
-      let here : calls ≡ get_or t (get_or order i 0) [] = is ∙ sym (got t (get_or items i 0) cs [] read)
+      let here : calls ≡ get_or t (get_or order i 0) [] = is ∙ sym (get_or_from_slice_get t (get_or items i 0) cs [] read)
       ∙ ap (λ (l : List ℕ). get_or t (get_or l i 0) []) same in
-      let has : o ≡ get_or own (get_or order i 0) 0 = sym (got own (get_or items i 0) o 0 read_own) ∙ ap (λ (l : List ℕ). get_or own (get_or l i 0) 0) same in
+      let has : o ≡ get_or own (get_or order i 0) 0 = sym (get_or_from_slice_get own (get_or items i 0) o 0 read_own) ∙ ap (λ (l : List ℕ). get_or own (get_or l i 0) 0) same in
       subst (λ (l : List ℕ). AreSummed own t order (i + 1) l) (sym (set_is ∙ ap (λ (l : List ℕ). set totals (get_or l i 0) sum) same))
       (summed_step i totals sum s in_order (summed ∙ ap (λ o. min (o + called_total totals calls) heaviest) has
       ∙ ap (λ (l : List Calling). min (get_or own (get_or order i 0) 0 + called_total totals l) heaviest) here))

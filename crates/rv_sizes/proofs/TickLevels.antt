@@ -21,7 +21,7 @@ use Rattle.rv_calls.proofs.Recursions.{tabled, graph_size}
 use Rattle.rv_calls.proofs.Lowering.{edge_of}
 use Rattle.rv_sizes.proofs.Unrolling.{total_same, total_flat_map}
 use Rattle.rv_sizes.proofs.TickPlaces.{ticks_counted}
-use Rattle.rv_calls.proofs.Expanding.{flat_map_same}
+use Rattle.rv_base.proofs.Lists.{flat_map_same}
 
 module _ (p : ProgramTree) (named : name_faults p ≡ []) (order : List ℕ) (ordered : IsOrdered (call_graph (callings_of p)) order) where
   -- the node at a place in the order

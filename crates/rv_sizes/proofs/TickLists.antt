@@ -9,7 +9,9 @@ use Rattle.rv_types.specs.declared.typed.Clock.{Clock}
 use Rattle.rv_types.specs.declared.typed.Clock.TheVariants.{Base, On}
 use Rattle.rv_types.specs.Variables.{is_in, same_place, is_place_in, different}
 use Rattle.rv_sizes.specs.Ticks.{has_base, sites_of_clocks}
-use Rattle.rv_types.proofs.Members.{cons_cases, in_map, in_tail as later_in, nothing_in, of_flat_map, of_map}
+use Rattle.rv_types.proofs.Members.{cons_cases, in_map, in_tail, nothing_in, of_flat_map}
+use Rattle.rv_base.proofs.Lists.{from_map}
+use Rattle.rv_base.proofs.Truths.{or_true}
 
 -- no two elements are equal
 abbrev pub Apart : {X : Type 0} → List X → Type 0
@@ -35,14 +37,14 @@ rest_of {X = X} (y ∷ ys) x w = elim (cons_cases y ys x w) [
     before : (zs ys : List X) (x : X) → ((z : X) → Contains ys z → (z ≡ x → ⊥) → Contains zs z) → (z : X) → (z ≡ x → ⊥) → (y ≡ z) ⊎ Contains ys z
         → Contains (y ∷ zs) z
     before zs ys x keeps z other (inl e) = first_in y zs z e
-    before zs ys x keeps z other (inr v) = later_in y zs z (keeps z v other)
+    before zs ys x keeps z other (inr v) = in_tail y zs z (keeps z v other)
 
 -- different elements of a list are no more than that has
 pub no_longer : {X : Type 0} (xs ys : List X) → Apart xs → ((z : X) → Contains xs z → Contains ys z) → length xs ≤ length ys
 no_longer [] ys apart sub = omega arith
 no_longer (x ∷ xs) ys apart sub =
     let r = rest_of ys x (sub x (first_in x xs x refl)) in
-    let less = no_longer xs r.0 apart.1 (λ z w. r.2 z (sub z (later_in x xs z w)) (λ e. apart.0 (subst (Contains xs) e w))) in
+    let less = no_longer xs r.0 apart.1 (λ z w. r.2 z (sub z (in_tail x xs z w)) (λ e. apart.0 (subst (Contains xs) e w))) in
     let size = r.1 in
     omega (arith, less, size)
 
@@ -58,13 +60,13 @@ pub apart_append : {X : Type 0} (xs ys : List X) → Apart xs → Apart ys → (
 apart_append [] ys a b none = b
 apart_append (x ∷ xs) ys a b none = (
   λ w. elim (Contains-append_cases xs ys x w) [ inl v ↦ a.0 v | inr v ↦ none x (first_in x xs x refl) v ],
-  apart_append xs ys a.1 b (λ z w v. none z (later_in x xs z w) v),
+  apart_append xs ys a.1 b (λ z w v. none z (in_tail x xs z w) v),
 )
 
 pub apart_map : {X Y : Type 0} (f : X → Y) → ((x y : X) → f x ≡ f y → x ≡ y) → (xs : List X) → Apart xs → Apart (map f xs)
 apart_map f one [] a = tt
 apart_map f one (x ∷ xs) a = (
-  λ w. let v = of_map f xs (f x) w in a.0 (subst (Contains xs) (one v.0 x v.2) v.1),
+  λ w. let v = from_map f xs (f x) w in a.0 (subst (Contains xs) (one v.0 x v.2) v.1),
   apart_map f one xs a.1,
 )
 
@@ -74,10 +76,10 @@ pub apart_flat_map : {X Y : Type 0} (f : X → List Y) (number : X → ℕ) (xs 
 apart_flat_map f number [] a each tells = tt
 apart_flat_map f number (x ∷ xs) a each tells =
     apart_append (f x) (flat_map f xs) (each x (first_in x xs x refl))
-    (apart_flat_map f number xs a.1 (λ y w. each y (later_in x xs y w)) (λ y z v w u. tells y z v (later_in x xs y w) (later_in x xs z u)))
+    (apart_flat_map f number xs a.1 (λ y w. each y (in_tail x xs y w)) (λ y z v w u. tells y z v (in_tail x xs y w) (in_tail x xs z u)))
     (λ z w v.
     let y = of_flat_map f xs z v in
-    a.0 (subst (Contains (map number xs)) (sym (tells x y.0 z (first_in x xs x refl) (later_in x xs y.0 y.1) w y.2)) (in_map number xs y.0 y.1)))
+    a.0 (subst (Contains (map number xs)) (sym (tells x y.0 z (first_in x xs x refl) (in_tail x xs y.0 y.1) w y.2)) (in_map number xs y.0 y.1)))
 
 -- Places.
 
@@ -101,11 +103,7 @@ place_there (p ∷ ps) q e = tested (same_place p q) refl e (place_there ps q)
   where
     tested : (b : Bool) → same_place p q ≡ b → (b || is_place_in ps q) ≡ true → (is_place_in ps q ≡ true → Contains ps q) → Contains (p ∷ ps) q
     tested true is e more = first_in p ps q (same_true p q is)
-    tested false is e more = later_in p ps q (more e)
-
-or_true : (b : Bool) → (b || true) ≡ true
-or_true true = refl
-or_true false = refl
+    tested false is e more = in_tail p ps q (more e)
 
 there_place : (ps : List Sites) (q : Sites) → Contains ps q → is_place_in ps q ≡ true
 there_place [] q w = nothing_in q w
@@ -120,8 +118,8 @@ different_in [] q w = w
 different_in (p ∷ ps) q w = tested (is_place_in ps p) w (different_in ps q)
   where
     tested : (b : Bool) → Contains (cond b (different ps) (p ∷ different ps)) q → (Contains (different ps) q → Contains ps q) → Contains (p ∷ ps) q
-    tested true w more = later_in p ps q (more w)
-    tested false w more = elim (cons_cases p (different ps) q w) [ inl same ↦ first_in p ps q same | inr rest ↦ later_in p ps q (more rest) ]
+    tested true w more = in_tail p ps q (more w)
+    tested false w more = elim (cons_cases p (different ps) q w) [ inl same ↦ first_in p ps q same | inr rest ↦ in_tail p ps q (more rest) ]
 
 pub in_different : (ps : List Sites) (q : Sites) → Contains ps q → Contains (different ps) q
 in_different [] q w = w
@@ -132,7 +130,7 @@ in_different (p ∷ ps) q w = tested (is_place_in ps p) refl (cons_cases p ps q 
     tested true is (inl same) more = more (subst (Contains ps) same (place_there ps p is))
     tested true is (inr rest) more = more rest
     tested false is (inl same) more = first_in p (different ps) q same
-    tested false is (inr rest) more = later_in p (different ps) q (more rest)
+    tested false is (inr rest) more = in_tail p (different ps) q (more rest)
 
 pub different_apart : (ps : List Sites) → Apart (different ps)
 different_apart [] = tt
@@ -147,7 +145,7 @@ different_apart (p ∷ ps) = tested (is_place_in ps p) refl (different_apart ps)
 pub base_there : (ks : List Clock) → has_base ks ≡ true → Contains ks Base
 base_there [] e = cc
 base_there (Base ∷ ks) e = first_in Base ks Base refl
-base_there (On c ∷ ks) e = later_in (On c) ks Base (base_there ks e)
+base_there (On c ∷ ks) e = in_tail (On c) ks Base (base_there ks e)
 
 pub there_base : (ks : List Clock) → Contains ks Base → has_base ks ≡ true
 there_base [] w = nothing_in Base w
@@ -163,7 +161,7 @@ not_base c e = cc
 -- a site that comes is that of a clock, and has not been seen
 pub site_is : (ks : List Clock) (seen : List ℕ) (c : ℕ) → Contains (sites_of_clocks seen ks) c → Contains ks (On c) × (is_in seen c ≡ false)
 site_is [] seen c w = nothing_in c w
-site_is (Base ∷ ks) seen c w = let v = site_is ks seen c w in (later_in Base ks (On c) v.0, v.1)
+site_is (Base ∷ ks) seen c w = let v = site_is ks seen c w in (in_tail Base ks (On c) v.0, v.1)
 site_is (On d ∷ ks) seen c w = tested (is_in seen d) refl w (site_is ks seen c) (site_is ks (d ∷ seen) c)
   where
     unseen : (b a : Bool) → (b || a) ≡ false → a ≡ false
@@ -174,10 +172,10 @@ site_is (On d ∷ ks) seen c w = tested (is_in seen d) refl w (site_is ks seen c
         → (Contains (sites_of_clocks seen ks) c → Contains ks (On c) × (is_in seen c ≡ false))
         → (Contains (sites_of_clocks (d ∷ seen) ks) c → Contains ks (On c) × (is_in (d ∷ seen) c ≡ false))
         → Contains (On d ∷ ks) (On c) × (is_in seen c ≡ false)
-    tested true is w more next = let v = more w in (later_in (On d) ks (On c) v.0, v.1)
+    tested true is w more next = let v = more w in (in_tail (On d) ks (On c) v.0, v.1)
     tested false is w more next = elim (cons_cases d (sites_of_clocks (d ∷ seen) ks) c w) [
       | inl same ↦ (first_in (On d) ks (On c) (ap On same), sym (ap (is_in seen) same) ∙ is)
-      | inr rest ↦ let v = next rest in (later_in (On d) ks (On c) v.0, unseen (nat_eq d c) (is_in seen c) v.1)
+      | inr rest ↦ let v = next rest in (in_tail (On d) ks (On c) v.0, unseen (nat_eq d c) (is_in seen c) v.1)
     ]
 
 pub site_comes : (ks : List Clock) (seen : List ℕ) (c : ℕ) → Contains ks (On c) → is_in seen c ≡ false → Contains (sites_of_clocks seen ks) c
@@ -194,7 +192,7 @@ site_comes (On d ∷ ks) seen c w new =
     tested true is same eq (inr rest) more next = more rest
     tested false is true eq w more next = first_in d (sites_of_clocks (d ∷ seen) ks) c (eqb-true d c eq)
     tested false is false eq (inl e) more next = first_in d (sites_of_clocks (d ∷ seen) ks) c (on_same d c e)
-    tested false is false eq (inr rest) more next = later_in d (sites_of_clocks (d ∷ seen) ks) c (next rest eq)
+    tested false is false eq (inr rest) more next = in_tail d (sites_of_clocks (d ∷ seen) ks) c (next rest eq)
 
 pub sites_apart : (ks : List Clock) (seen : List ℕ) → Apart (sites_of_clocks seen ks)
 sites_apart [] seen = tt

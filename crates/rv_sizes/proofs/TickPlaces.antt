@@ -17,7 +17,8 @@ use Rattle.rv_sizes.specs.Ticks.{arrows, has_base, sites_of_clocks, ticking, tic
 use Rattle.rv_instances.proofs.Lists.{length_map}
 use Rattle.rv_sizes.proofs.TickLists.{Apart, first_in, same_length, apart_append, apart_map, apart_flat_map, different_in, in_different}
 use Rattle.rv_sizes.proofs.TickLists.{different_apart, base_there, there_base, site_is, site_comes, sites_apart}
-use Rattle.rv_types.proofs.Members.{cons_cases, in_flat_map, in_map, in_tail as later_in, nothing_in, of_flat_map, of_map}
+use Rattle.rv_types.proofs.Members.{cons_cases, in_flat_map, in_map, in_tail, nothing_in, of_flat_map}
+use Rattle.rv_base.proofs.Lists.{from_map}
 
 -- paths that begin alike go on alike
 goes_on : (a : Sites) (r s : Sites) → a ++ r ≡ a ++ s → r ≡ s
@@ -54,7 +55,7 @@ sites_differ : (cs : List CallTree) → ((i j : ℕ) (c : CallTree) → i < j �
 sites_differ [] apart = tt
 sites_differ (c ∷ cs) apart = (
   λ w.
-      let v = of_map (λ (c : CallTree). c.site) cs c.site w in
+      let v = from_map (λ (c : CallTree). c.site) cs c.site w in
       let k = v.1.0 in
       let lt = v.1.1 in
       apart 0 (suc k) v.0 (omega arith) (omega (arith, lt)) (sym v.2 ∙ ap (λ (d : CallTree). d.site) (sym v.1.2)),
@@ -78,7 +79,7 @@ module _ (p : ProgramTree) where
 
       at : (ns : List NodeTree) → ((n : NodeTree) → Contains ns n → HasSites n) → HasSites (unwrap_or (node_among ns f) no_node)
       at [] each = no_calls
-      at (n ∷ ns) each = tested (is_same n.name.text f) n (node_among ns f) (each n (first_in n ns n refl)) (at ns (λ m w. each m (later_in n ns m w)))
+      at (n ∷ ns) each = tested (is_same n.name.text f) n (node_among ns f) (each n (first_in n ns n refl)) (at ns (λ m w. each m (in_tail n ns m w)))
 
   -- the ticks of an instance and of those below it, but for that of the instance's own base clock
   tick_places : ℕ → Instance → List Sites
@@ -105,7 +106,7 @@ module _ (p : ProgramTree) where
   below_path (suc levels) i q w =
       elim (Contains-append_cases (map (λ c. i.path ++ c ∷ []) (sites_of_clocks [] (ticking p (suc levels) i.node)))
       (flat_map (λ c. tick_places levels (callee p i c)) (calls i.node)) q w) [
-        | inl own ↦ let v = of_map (λ c. i.path ++ c ∷ []) (sites_of_clocks [] (ticking p (suc levels) i.node)) q own in (v.0, [], sym v.2)
+        | inl own ↦ let v = from_map (λ c. i.path ++ c ∷ []) (sites_of_clocks [] (ticking p (suc levels) i.node)) q own in (v.0, [], sym v.2)
         | inr rest ↦
             let v = of_flat_map (λ c. tick_places levels (callee p i c)) (calls i.node) q rest in
             let b = below_path levels (callee p i v.0) q v.2 in
@@ -132,7 +133,7 @@ module _ (p : ProgramTree) where
       let b = below_call levels i d q in_d in
       head_same c.site d.site (a.0 ∷ a.1) (b.0 ∷ b.1) (goes_on i.path (c.site ∷ a.0 ∷ a.1) (d.site ∷ b.0 ∷ b.1) (sym a.2 ∙ b.2))))
       (λ q own rest.
-      let v = of_map (λ c. i.path ++ c ∷ []) (sites_of_clocks [] (ticking p (suc levels) i.node)) q own in
+      let v = from_map (λ c. i.path ++ c ∷ []) (sites_of_clocks [] (ticking p (suc levels) i.node)) q own in
       let u = of_flat_map (λ c. tick_places levels (callee p i c)) (calls i.node) q rest in
       let b = below_call levels i u.0 q u.2 in
       no_more v.0 u.0.site b.0 b.1 (goes_on i.path (v.0 ∷ []) (u.0.site ∷ b.0 ∷ b.1) (v.2 ∙ b.2)))
@@ -152,10 +153,10 @@ module _ (p : ProgramTree) where
           → Contains (cond b (elim o as (λ _. List Sites) [ Nothing ↦ [] | Some p ↦ p ∷ [] ]) [] ++ arrow_clocks i es) q
           → (Contains (arrow_clocks i es) q → Held i (arrows i.node es) q)
           → Held i (cond b (k ∷ []) [] ++ arrows i.node es) q
-      tested true k Nothing is w more = let v = more w in (v.0, later_in k (arrows i.node es) v.0 v.1, v.2)
+      tested true k Nothing is w more = let v = more w in (v.0, in_tail k (arrows i.node es) v.0 v.1, v.2)
       tested true k (Some r) is w more = elim (cons_cases r (arrow_clocks i es) q w) [
         | inl same ↦ (k, first_in k (arrows i.node es) k refl, is ∙ ap Some same)
-        | inr rest ↦ let v = more rest in (v.0, later_in k (arrows i.node es) v.0 v.1, v.2)
+        | inr rest ↦ let v = more rest in (v.0, in_tail k (arrows i.node es) v.0 v.1, v.2)
       ]
       tested false k o is w more = more w
 
@@ -173,7 +174,7 @@ module _ (p : ProgramTree) where
       ]
       tested true k (Some r) is h more = elim (cons_cases k (arrows i.node es) h.0 h.1) [
         | inl same ↦ first_in r (arrow_clocks i es) q (some_same r q (sym is ∙ ap (absolute i) same ∙ h.2))
-        | inr rest ↦ later_in r (arrow_clocks i es) q (more (h.0, rest, h.2))
+        | inr rest ↦ in_tail r (arrow_clocks i es) q (more (h.0, rest, h.2))
       ]
       tested false k o is h more = more h
 
@@ -218,7 +219,7 @@ module _ (p : ProgramTree) where
   placed (suc levels) i q w =
       elim (Contains-append_cases (map (λ c. i.path ++ c ∷ []) (sites_of_clocks [] (ticking p (suc levels) i.node)))
       (flat_map (λ c. tick_places levels (callee p i c)) (calls i.node)) q w) [
-        | inl own ↦ let v = of_map (λ c. i.path ++ c ∷ []) (sites_of_clocks [] (ticking p (suc levels) i.node)) q own in
+        | inl own ↦ let v = from_map (λ c. i.path ++ c ∷ []) (sites_of_clocks [] (ticking p (suc levels) i.node)) q own in
             inl (v.0, (site_is (ticking p (suc levels) i.node) [] v.0 v.1).0, v.2)
         | inr rest ↦ inr (of_flat_map (λ c. tick_places levels (callee p i c)) (calls i.node) q rest)
       ]

@@ -1,5 +1,5 @@
 -- One node more in a walk over the nodes of a program in their order.
-use Rattle.std.proofs.Common.{◌≡◌, ℕ, zero, suc, ◌+◌, ◌<◌, ◌≤◌, inl, inr, Bool, false, List, [], ◌∷◌, map, length, get_or, set, replicate, refl, sym, ◌∙◌, ap}
+use Rattle.std.proofs.Common.{◌≡◌, ℕ, zero, suc, ◌+◌, ◌<◌, ◌≤◌, inl, inr, Bool, false, List, [], map, length, get_or, set, replicate, refl, sym, ◌∙◌, ap}
 use Rattle.std.proofs.Common.{subst, arith, slice_get, Some}
 use Rattle.std.specs.List.{Contains}
 use Rattle.std.proofs.lemmas.Bool.{cases_eq}
@@ -16,21 +16,13 @@ use Rattle.rv_instances.specs.AllInstances.{names_of}
 use Rattle.rv_calls.specs.Graphs.{IsOrdered}
 use Rattle.rv_sizes.specs.Ticks.{has_base, sites_of_clocks, ticking, ticking_where, own_ticks}
 use Rattle.rv_sizes.specs.TickWalk.{ticks_on_base, AreTicked}
-use Rattle.rv_instances.proofs.Lists.{contains_at, got, length_map}
+use Rattle.rv_instances.proofs.Lists.{contains_at, length_map}
 use Rattle.rv_instances.proofs.Known.{map_at}
 use Rattle.rv_calls.proofs.Recursions.{graph_size}
 use Rattle.rv_sizes.proofs.TickLevels.{at_is, among, number_within, enough, earlier, steady}
 use Rattle.rv_sizes.proofs.TickWalks.{ticks_known}
-
--- lists with the same numbers are the same
-lists_same : (xs ys : List ℕ) → length xs ≡ length ys → ((k : ℕ) → k < length xs → get_or xs k 0 ≡ get_or ys k 0) → xs ≡ ys
-lists_same [] [] size each = refl
-lists_same [] (y ∷ ys) size each = absurd (omega (arith, size))
-lists_same (x ∷ xs) [] size each = absurd (omega (arith, size))
-lists_same (x ∷ xs) (y ∷ ys) size each =
-    let first : x ≡ y = each 0 (omega arith) in
-    let rest = lists_same xs ys (omega (arith, size)) (λ k lt. each (suc k) (omega (arith, lt))) in
-    λ i. first i ∷ rest i
+use Rattle.std.proofs.lemmas.Option.{get_or_from_slice_get}
+use Rattle.std.proofs.lemmas.Grind.{same_number_lists}
 
 one_less : (n j : ℕ) → j < n → (m : ℕ) × (n ≡ suc m)
 one_less zero j lt = absurd (omega (arith, lt))
@@ -102,7 +94,7 @@ module _ (p : ProgramTree) (named : name_faults p ≡ []) (order : List ℕ) (or
   pub ticked_end : (j : ℕ) (bases : List Bool) (own : List ℕ) → AreTicked p order j bases own → length order ≤ j
       → own ≡ map (λ (n : NodeTree). capped (own_ticks p n)) p.nodes
   ticked_end j bases own t all =
-      lists_same own (map (λ (n : NodeTree). capped (own_ticks p n)) p.nodes) (t.own_size ∙ sym (length_map (λ (n : NodeTree). capped (own_ticks p n)) p.nodes))
+      same_number_lists own (map (λ (n : NodeTree). capped (own_ticks p n)) p.nodes) (t.own_size ∙ sym (length_map (λ (n : NodeTree). capped (own_ticks p n)) p.nodes))
       (λ k lt.
       let size = t.own_size in
       let n = graph_size p named in
@@ -124,7 +116,7 @@ module _ (p : ProgramTree) (named : name_faults p ≡ []) (order : List ℕ) (or
         let within : get_or order j 0 < length ns = subst (λ k. get_or order j 0 < k) (ap length are ∙ length_map node_tree ns)
         (number_within p named order ordered j in_order) in
         ap (λ l. get_or l (get_or order j 0) no_node) are ∙ map_at node_tree ns (get_or order j 0) no_node n within
-        ∙ ap node_tree (got ns (get_or order j 0) n n there)
+        ∙ ap node_tree (get_or_from_slice_get ns (get_or order j 0) n n there)
 
     pub read_among : Contains p.nodes (node_tree n)
     read_among = subst (Contains p.nodes) (at_is p named order ordered j ∙ node_read) (among p named order ordered j in_order)

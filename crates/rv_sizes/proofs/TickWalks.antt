@@ -16,8 +16,8 @@ use Rattle.rv_instances.specs.Timed.{ToldOperator, own_operator, operators_told}
 use Rattle.rv_instances.proofs.TimedParts.{node_operators}
 use Rattle.rv_sizes.specs.Ticks.{arrows, has_base, sites_of_clocks, ticking, ticking_where}
 use Rattle.rv_sizes.specs.TickWalk.{arrow_told, handed_told, is_new_site, with_clock}
-use Rattle.rv_calls.proofs.Expanding.{flat_map_same}
 use Rattle.rv_sizes.proofs.Remembered.{in_append, swapped}
+use Rattle.rv_base.proofs.Lists.{flat_map_same}
 
 -- Different sites, counted one after the other.
 

@@ -4,8 +4,7 @@ use Rattle.std.proofs.Common.{nat_abs, Option, Some, refl, arith}
 use Rattle.std.proofs.Common.{None as Nothing}
 use Rattle.std.specs.List.{All}
 use Rattle.std.proofs.lemmas.List.Elements.{All-nil, All-push}
-use Rattle.std.proofs.Math.Nat.{mul-le-mul_left}
-use Rattle.std.proofs.lemmas.Int.{unsigned_abs-mul, ints}
+use Rattle.std.proofs.lemmas.Int.{ints}
 use Rattle.std.proofs.lemmas.Bool.Decides.{nat_tests}
 use Rattle.rv_base.specs.declared.value.Value.{Value}
 use Rattle.rv_base.specs.declared.value.Value.TheVariants.{Flag, Whole}
@@ -18,6 +17,8 @@ use Rattle.rv_base.specs.Limits.{heaviest, too_heavy}
 use Rattle.rv_types.specs.Kinds.{LabelPlace, label_of}
 use Rattle.rv_types.specs.Constants.{flag_in, whole_in, counted, counted_part, value_under, weight_under, value_of, form_value, weight_of, form_weight}
 use Rattle.rv_types.specs.Scopes.{constant_value_after, constant_values_of, constant_values}
+use Rattle.rv_types.proofs.ConstantValues.{capped_less, negated_small}
+use Rattle.rv_types.proofs.Weights.{difference_small, product_small, sum_small}
 
 -- the magnitude of a value's integer
 abbrev pub size : Value → ℕ
@@ -29,18 +30,6 @@ counted_small m z h = tested (nat_le m heaviest) refl
     tested : (b : Bool) → nat_le m heaviest ≡ b → size (cond b (Whole z) (Whole (pos too_heavy))) ≤ min m too_heavy
     tested true e = let l : m ≤ heaviest = grind (arith, nat_tests) in omega (arith, h, l)
     tested false e = let l : heaviest < m = grind (arith, nat_tests) in omega (arith, l)
-
-sum_small : (y z : ℤ) (v w : ℕ) → nat_abs y ≤ v → nat_abs z ≤ w → nat_abs (y +ℤ z) ≤ v + w
-sum_small y z v w g h = omega (arith, ints)
-
-difference_small : (y z : ℤ) (v w : ℕ) → nat_abs y ≤ v → nat_abs z ≤ w → nat_abs (y -ℤ z) ≤ v + w
-difference_small y z v w g h = omega (arith, ints)
-
-product_small : (y z : ℤ) (w : ℕ) → nat_abs z ≤ w → nat_abs (y *ℤ z) ≤ nat_abs y * w
-product_small y z w h = rw (unsigned_abs-mul y z) (mul-le-mul_left (nat_abs y) h)
-
-negated_small : (m : ℕ) (z : ℤ) → nat_abs z ≤ m → nat_abs (neg_ℤ z) ≤ m
-negated_small m z h = omega (arith, ints)
 
 under_small : (o : Op) (x y : Value) (v w : ℕ) → size x ≤ v → size y ≤ w
     → size (value_under (weight_under o (size x) v w) o x y) ≤ min (weight_under o (size x) v w) too_heavy
@@ -58,9 +47,6 @@ chosen_small : (b : Bool) (v w : Value) (m n : ℕ) → size v ≤ m → size w 
 chosen_small true v w m n g h = omega (arith, g)
 chosen_small false v w m n g h = omega (arith, h)
 
-less : (k m : ℕ) → k ≤ min m too_heavy → k ≤ m
-less k m h = omega (arith, h)
-
 module _ (known : Identifier → Value) (small : (x : Identifier) → size (known x) ≤ too_heavy) where
   mutual
     value_small : (e : Tree) → size (value_of known e) ≤ min (weight_of known e) too_heavy
@@ -71,14 +57,14 @@ module _ (known : Identifier → Value) (small : (x : Identifier) → size (know
     form_small (Named x) = let h = small x in omega (arith, h)
     form_small (Minus e) =
         counted_small (weight_of known e) (neg_ℤ (whole_in (value_of known e)))
-        (negated_small (weight_of known e) (whole_in (value_of known e)) (less (size (value_of known e)) (weight_of known e) (value_small e)))
+        (negated_small (weight_of known e) (whole_in (value_of known e)) (capped_less (size (value_of known e)) (weight_of known e) (value_small e)))
     form_small (Binary o a b) =
         under_small o (value_of known a) (value_of known b) (weight_of known a) (weight_of known b)
-        (less (size (value_of known a)) (weight_of known a) (value_small a)) (less (size (value_of known b)) (weight_of known b) (value_small b))
+        (capped_less (size (value_of known a)) (weight_of known a) (value_small a)) (capped_less (size (value_of known b)) (weight_of known b) (value_small b))
     form_small (If i a b) =
         part_small (max (weight_of known a) (weight_of known b)) (cond (flag_in (value_of known i)) (value_of known a) (value_of known b))
         (chosen_small (flag_in (value_of known i)) (value_of known a) (value_of known b) (weight_of known a) (weight_of known b)
-        (less (size (value_of known a)) (weight_of known a) (value_small a)) (less (size (value_of known b)) (weight_of known b) (value_small b)))
+        (capped_less (size (value_of known a)) (weight_of known a) (value_small a)) (capped_less (size (value_of known b)) (weight_of known b) (value_small b)))
     form_small _ = omega arith
 
 module _ (p : ProgramTree) where

@@ -21,7 +21,7 @@ use Rattle.rv_proofs.proofs.CaseRows.{case_rows}
 use Rattle.rv_state.specs.declared.value.Abstract.{Abstract}
 use Rattle.rv_state.specs.States.{HasState, IsUpdated, IsMove, IsSuccessor}
 use Rattle.rv_state.proofs.PointLemmas.{image-updated}
-use Rattle.rv_proofs.proofs.Claims.{updates_long as updates-long}
+use Rattle.rv_proofs.proofs.Claims.{updates_long}
 
 -- the rows of a valuation hold at a point exactly where each row of a test does
 rows-hold : (s : System) (v : Valuation) (point : List ℤ) → Agrees s v point → (n : ℕ) → n ≤ s.tests → HasPoint (rows_among s v n) point
@@ -61,7 +61,7 @@ updates-all s v P (suc n) h = All-push P (updates_among s v n) (s.update v n) (u
 module _ (s : System) (c : Case) (of : IsCaseOf s c) where
   -- a case has one update for each memory
   count : length c.updates ≡ s.memories
-  count = ap length (sym (of.updates of.some.0 of.some.1)) ∙ updates-long s of.some.0 s.memories
+  count = ap length (sym (of.updates of.some.0 of.some.1)) ∙ updates_long s of.some.0 s.memories
 
   -- its updates are within the limits of a source
   limited : IsSystem s → All (λ f. length f.coefficients ≡ forms_width c.updates) c.updates → AreUpdates c.updates

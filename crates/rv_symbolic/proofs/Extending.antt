@@ -15,6 +15,7 @@ use Rattle.rv_symbolic.specs.Growing.{Extends, Makes, Finds}
 use Rattle.rv_symbolic.specs.Linked.{AreRefs, AreLinkedBetween, AreParted, AreMet, quantified, Meets}
 use Rattle.rv_symbolic.specs.Represented.{IsRelation, AreLinks}
 use Rattle.rv_symbolic.proofs.Reading.{put-other}
+use Rattle.rv_diagram.proofs.Several.{same_truth}
 
 pub extends_refl : (s : Diagrams) → Extends s s
 extends_refl s = record { begins = ([], sym (append-nil s.nodes)); longer = omega arith; kept = λ r h v. refl; variables = refl; limit = refl }
@@ -226,12 +227,6 @@ product_found a b c d e x y p q r t links refs one two three four =
         ),
       );
     }
-
-pub same_truth : (a b : Bool) → (a ≡ true → b ≡ true) → (b ≡ true → a ≡ true) → a ≡ b
-same_truth true true f g = refl
-same_truth true false f g = sym (f refl)
-same_truth false true f g = g refl
-same_truth false false f g = refl
 
 -- what holds for some values of given variables depends on none of them
 pub somewhere_ignores : (meaning : Valuation → Bool) (over : Valuation) (holds : Valuation → Type 0) → ((v : Valuation) → (meaning v ≡ true)

@@ -1,10 +1,9 @@
 -- Cases that part a set of valuations.
 use Rattle.std.proofs.Common.{ℕ, ◌<◌, ◌≡◌, ◌⊎◌, Bool, true, false, not, ◌&&◌, ◌||◌, List, [], ◌∷◌, ◌++◌, length, refl, sym, ap, ◌∙◌, subst, ⊎_elim}
-use Rattle.std.proofs.Common.{inl, inr, arith, length-append, slice_get, Some, get_or}
-use Rattle.std.proofs.lemmas.Bool.{cases_lt, or_cases, and_from, and_parts, not-true}
+use Rattle.std.proofs.Common.{inl, inr, arith, length-append, slice_get, Some}
+use Rattle.std.proofs.lemmas.Bool.{or_cases, and_from, and_parts, not-true}
 use Rattle.std.proofs.lemmas.List.{get_or_append_left}
 use Rattle.std.proofs.lemmas.Option.{slice_get_within, get_or_from_slice_get, slice_get_read}
-use Rattle.std.proofs.Math.Seq.{get_or-append_seam}
 use Rattle.rv_diagram.specs.Nodes.{Valuation, Diagrams, value_of, IsOrderedOver}
 use Rattle.rv_diagram.specs.declared.frozen.Frozen.{Frozen}
 use Rattle.rv_proofs.specs.Systems.{System, IsSameValuation, updates_among}
@@ -18,25 +17,10 @@ use Rattle.rv_symbolic.specs.Represented.{IsRelationOf}
 use Rattle.rv_symbolic.specs.Parted.{IsCaseFor, IsAdded, HasSides}
 use Rattle.rv_symbolic.proofs.Extending.{needed_same}
 use Rattle.rv_symbolic.proofs.Reading.{control-value, condition_set, valuation_state}
-
-pub or_left : (x y : Bool) → x ≡ true → (x || y) ≡ true
-or_left x y h = ap (λ b. b || y) h
-
-pub or_right : (x y : Bool) → y ≡ true → (x || y) ≡ true
-or_right true y h = refl
-or_right false y h = h
-
--- what a longer list holds
-pub got-append : {A : Type 0} (before : List A) (c x : A) (j : ℕ) → slice_get (before ++ c ∷ []) j ≡ Some x → ((j < length before)
-    × (slice_get before j ≡ Some x)) ⊎ ((j ≡ length before) × (c ≡ x))
-got-append before c x j h =
-    let low : j < length (before ++ c ∷ []) = slice_get_within (before ++ c ∷ []) j x h in
-    let is : get_or (before ++ c ∷ []) j x ≡ x = get_or_from_slice_get (before ++ c ∷ []) j x x h in
-    ⊎_elim
-    (λ lt. inl (lt, slice_get_read before (length before) j x refl lt (sym is ∙ get_or_append_left before (c ∷ []) x j lt)))
-    (λ ge. let e : j ≡ length before = omega (arith, length-append before (c ∷ [])) in
-    inr (e, sym (get_or-append_seam before c [] x) ∙ ap (λ (n : ℕ). get_or (before ++ c ∷ []) n x) (sym e) ∙ is))
-    (cases_lt j (length before))
+use Rattle.rv_base.proofs.Lists.{get_push, none_at, push_got}
+use Rattle.rv_base.proofs.Truths.{or_false_is}
+use Rattle.std.proofs.lemmas.Bool.{or_left}
+use Rattle.std.proofs.lemmas.Bool.{or_right}
 
 pub kept-append : {A : Type 0} (before : List A) (c x : A) (j : ℕ) → slice_get before j ≡ Some x → slice_get (before ++ c ∷ []) j ≡ Some x
 kept-append before c x j h =
@@ -44,17 +28,6 @@ kept-append before c x j h =
     let longer : j < length (before ++ c ∷ []) = omega (arith, length-append before (c ∷ [])) in
     slice_get_read (before ++ c ∷ []) (length (before ++ c ∷ [])) j x refl longer (sym (get_or_from_slice_get before j x x h)
     ∙ sym (get_or_append_left before (c ∷ []) x j low))
-
-pub new-append : {A : Type 0} (before : List A) (c : A) → slice_get (before ++ c ∷ []) (length before) ≡ Some c
-new-append before c =
-    let longer : length before < length (before ++ c ∷ []) = omega (arith, length-append before (c ∷ [])) in
-    slice_get_read (before ++ c ∷ []) (length (before ++ c ∷ [])) (length before) c refl longer (sym (get_or-append_seam before c [] c))
-
-pub none-at : {A : Type 0} (xs : List A) (i : ℕ) (x : A) → xs ≡ [] → slice_get xs i ≡ Some x → ⊥
-none-at xs i x e h =
-    let low : i < length xs = slice_get_within xs i x h in
-    let size : length xs ≡ 0 = ap (λ l. length l) e in
-    absurd (omega arith)
 
 -- each valuation of a part of the allowed ones is in exactly one condition, and no other is in any
 pub record IsParted (s : System) (part : Valuation → Bool) (cases : List Case) : Type 0 where
@@ -73,10 +46,10 @@ pub record IsPart (s : System) (p q : Valuation → Bool) (observer : Bool) : Ty
 
 parted_none : (s : System) → IsParted s (λ v. false) []
 parted_none s = record {
-  each = λ j c h. absurd (none-at [] j c refl h);
+  each = λ j c h. absurd (none_at [] j c refl h);
   covered = λ v h. cc;
-  apart = λ i j b c v h g one two. absurd (none-at [] i b refl h);
-  within = λ j c v h on. absurd (none-at [] j c refl h);
+  apart = λ i j b c v h g one two. absurd (none_at [] i b refl h);
+  within = λ j c v h on. absurd (none_at [] j c refl h);
 }
 
 parted_same : (s : System) (p q : Valuation → Bool) (cases : List Case) → ((v : Valuation) → p v ≡ q v) → IsParted s p cases → IsParted s q cases
@@ -98,10 +71,10 @@ whole_case s d p q condition observer c none variables means part is = record {
   };
   some = (is.some.0, is.means is.some.0 ∙ is.some.1);
   tests = record {
-    known = λ i t h. absurd (none-at c.tests i t is.tests h);
-    rising = λ i j t u less h g. absurd (none-at c.tests i t is.tests h);
+    known = λ i t h. absurd (none_at c.tests i t is.tests h);
+    rising = λ i j t u less h g. absurd (none_at c.tests i t is.tests h);
     counts = ap (λ l. length l) is.rows ∙ sym (ap (λ l. length l) is.tests);
-    present = λ i t r v h g on. absurd (none-at c.tests i t is.tests h);
+    present = λ i t r v h g on. absurd (none_at c.tests i t is.tests h);
     absent = λ t v low off on. absurd (omega (arith, low, none.tests));
   };
   updates = λ v on. ap (updates_among s v) none.memories ∙ sym is.updates;
@@ -120,32 +93,28 @@ parted_more s d p q condition observer before c none variables means part is g =
     part.apart v (g.within j x v h on) (sym (holds v) ∙ subst (λ (z : Case). IsIn z.condition v) (sym e) other) in
     record {
       each = λ j x h. ⊎_elim (λ o. g.each j x o.1) (λ n. subst (IsCaseOf s) n.1 (whole_case s d p q condition observer c none variables means part
-          is)) (got-append before c x j h);
+          is)) (push_got before c x j h);
       covered = λ v h. ⊎_elim
           (λ o. let b : (j : ℕ) × (x : Case) × (slice_get before j ≡ Some x) × IsIn x.condition v = g.covered v o in
           (b.0, b.1, kept-append before c b.1 b.0 b.2, b.3))
-          (λ n. (length before, c, new-append before c, holds v ∙ n))
+          (λ n. (length before, c, get_push before c, holds v ∙ n))
           (or_cases (p v) (q v) h);
       apart = λ i j x y v h k one two. ⊎_elim
-          (λ a. ⊎_elim (λ b. g.apart i j x y v a.1 b.1 one two) (λ b. absurd (cut i x y v a.1 one b.1 two)) (got-append before c y j k))
-          (λ a. ⊎_elim (λ b. absurd (cut j y x v b.1 two a.1 one)) (λ b. a.0 ∙ sym b.0) (got-append before c y j k))
-          (got-append before c x i h);
+          (λ a. ⊎_elim (λ b. g.apart i j x y v a.1 b.1 one two) (λ b. absurd (cut i x y v a.1 one b.1 two)) (push_got before c y j k))
+          (λ a. ⊎_elim (λ b. absurd (cut j y x v b.1 two a.1 one)) (λ b. a.0 ∙ sym b.0) (push_got before c y j k))
+          (push_got before c x i h);
       within = λ j x v h on. ⊎_elim
           (λ o. or_left (p v) (q v) (g.within j x v o.1 on))
           (λ n. or_right (p v) (q v) (sym (holds v) ∙ subst (λ (z : Case). IsIn z.condition v) (sym n.1) on))
-          (got-append before c x j h);
+          (push_got before c x j h);
     }
-
-or-none : (b c : Bool) → c ≡ false → b ≡ (b || c)
-or-none true c e = refl
-or-none false c e = sym e
 
 parted_added : (s : System) (d : Diagrams) (p q : Valuation → Bool) (condition : ℕ) (observer : Bool) (before after : List Case) → HasNoIntegers s
     → d.variables ≡ s.variables
     → ((v : Valuation) → value_of d.nodes condition v ≡ q v) → IsPart s p q observer → IsAdded d condition observer before after
     → IsParted s p before → IsParted s (λ v. p v || q v) after
 parted_added s d p q condition observer before after none variables means part (inl h) g =
-    subst (IsParted s (λ v. p v || q v)) (sym h.1) (parted_same s p (λ v. p v || q v) before (λ v. or-none (p v) (q v) (sym (means v) ∙ h.0 v)) g)
+    subst (IsParted s (λ v. p v || q v)) (sym h.1) (parted_same s p (λ v. p v || q v) before (λ v. or_false_is (p v) (q v) (sym (means v) ∙ h.0 v)) g)
 parted_added s d p q condition observer before after none variables means part (inr (c, is, e)) g =
     subst (IsParted s (λ v. p v || q v)) (sym e) (parted_more s d p q condition observer before c none variables means part is g)
 

@@ -14,6 +14,7 @@ use Rattle.rv_symbolic.specs.Variables.{AreAllBut}
 use Rattle.rv_symbolic.specs.Represented.{HaveRefs, AreParts, IsRelation, AreLinks, IsRelationOf}
 use Rattle.rv_symbolic.specs.Linked.{AreRefs, AreParted, AreScheduled, quantified}
 use Rattle.rv_symbolic.proofs.Extending.{refs_after, links_opened, links_closed, part_refs_after, schedule_after, met_before, met_after}
+use Rattle.rv_base.proofs.Truths.{or_false}
 
 -- These parts are the last ones, from k on. Of the given variables those are left that none of them reads, all at first,
 -- and together they quantify the given ones.
@@ -35,10 +36,6 @@ or_swap false false c = refl
 or_same : (a b : Bool) → (a ≡ true → b ≡ true) → (a || b) ≡ b
 or_same true b h = sym (h refl)
 or_same false b h = refl
-
-pub or_none : (a : Bool) → (a || false) ≡ a
-or_none true = refl
-or_none false = refl
 
 gone-cons : (p : Part) (parts : List Part) (n x : ℕ) → gone (p ∷ parts) (suc n) x ≡ (valuation_of p.over x || gone parts n x)
 gone-cons p parts zero x = refl
@@ -85,7 +82,7 @@ module _ (nodes : List Triple) (relations : List ℕ) (given left read rest : Li
       all ∙ some_of parts g.none g.some where
         some_of : (l : List Part) → (length l ≡ 0 → (x : ℕ) → valuation_of left x ≡ valuation_of given x)
             → (0 < length l → (x : ℕ) → quantified l x ≡ valuation_of given x) → (valuation_of left x || quantified l x) ≡ valuation_of given x
-        some_of [] none some = or_none (valuation_of left x) ∙ none refl x
+        some_of [] none some = or_false (valuation_of left x) ∙ none refl x
         some_of (q ∷ qs) none some = ap (λ b. valuation_of left x || b) (some (omega arith) x)
             ∙ or_same (valuation_of left x) (valuation_of given x) (g.within x)
 

@@ -17,6 +17,7 @@ use Rattle.rv_syntax.specs.Lexing.{cut, kind_of, emitted, ends_in_tel, lex, toke
 use Rattle.rv_syntax.specs.ProgramText.{IsProgram}
 use Rattle.rv_syntax.proofs.Earlier.{length-flows}
 use Rattle.rv_syntax.proofs.Spelled.{all_of, of_name, of_flow, of_body, of_type, of_constant, of_node, of_program, of_tokens, tells-program}
+use Rattle.rv_base.proofs.Lists.{from_map}
 
 -- ---- Weights: that of one offset alone, and the same of each.
 abbrev pub alone : ℕ → ℕ → ℕ
@@ -92,17 +93,6 @@ many : {A : Type 0} (f : A → ℕ) → ((x : A) → f x ≡ 1) → (xs : List A
 many f is [] = refl
 many f is (x ∷ xs) = omega (arith, is x, many f is xs)
 
--- one of those that a function gives is given for one of the others
-pub from-map : {A B : Type 0} (g : A → B) (xs : List A) (y : B) → Contains (map g xs) y → (x : A) × Contains xs x × (g x ≡ y)
-from-map g xs y h = find g xs h.0 y (subst (λ n. h.0 < n) (length-map xs g) h.1) h.2
-  where
-    find : {A B : Type 0} (g : A → B) (xs : List A) (i : ℕ) (y : B) → i < length xs → get_or (map g xs) i y ≡ y → (x : A) × Contains xs x × (g x ≡ y)
-    find g [] i y lt is = absurd (omega arith)
-    find g (x ∷ xs) zero y lt is = (x, (0, omega arith, refl), is)
-    find g (x ∷ xs) (suc i) y lt is =
-        let more = find g xs i y (omega arith) is in
-        (more.0, (suc more.1.0, omega (arith, more.1.1), more.1.2), more.2)
-
 -- ---- Programs.
 -- the flows of a node, and its sites
 pub node-weighs : (n : NodeTree) → length (flows n) + length (node_offsets n) ≤ of_node each n
@@ -139,7 +129,7 @@ bounded-text t h =
       nodes = omega (arith, length-map p.nodes with_sites);
       labels = λ d xs inside is. omega (arith, one-of (of_type each) p.types d inside, ap (of_body each) is, many (of_name each) (λ x. refl) xs);
       node_flows = λ n inside.
-          let from = from-map with_sites p.nodes n inside in
+          let from = from_map with_sites p.nodes n inside in
           let same : length (flows from.0) ≡ length (flows n) = ap (λ m. length (flows m)) from.2 in
           omega (arith, node-weighs from.0, one-of (of_node each) p.nodes from.0 from.1, same);
     }

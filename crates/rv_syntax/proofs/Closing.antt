@@ -5,6 +5,8 @@ use Rattle.std.specs.Prelude.{Option, Some, None, ◌==◌, ◌&&◌}
 use Rattle.std.proofs.lemmas.Bool.{cases_Bool, and_left, and_right, ne_eqb}
 use Rattle.std.proofs.lemmas.List.{length-drop}
 use Rattle.rv_syntax.specs.Lexing.{is_first, one_later, close_len}
+use Rattle.std.proofs.lemmas.Bool.{cond-true}
+use Rattle.std.proofs.lemmas.Bool.{cond-false}
 
 -- a length from so many bytes further on
 abbrev pub later : ℕ → Option ℕ → Option ℕ
@@ -18,14 +20,6 @@ later-none (Some m) = let e : 0 + m ≡ m = omega arith in ap (λ n. Some n) e
 later-one : (n : ℕ) (o : Option ℕ) → later n (one_later o) ≡ later (n + 1) o
 later-one n None = refl
 later-one n (Some m) = let e : n + (m + 1) ≡ (n + 1) + m = omega arith in ap (λ k. Some k) e
-
-pub pick-true : {A : Type 0} (b : Bool) (x y : A) → b ≡ true → cond b x y ≡ x
-pick-true true x y h = refl
-pick-true false x y h = cc
-
-pub pick-false : {A : Type 0} (b : Bool) (x y : A) → b ≡ false → cond b x y ≡ y
-pick-false true x y h = cc
-pick-false false x y h = refl
 
 -- what stands at a place
 split : (bytes : List ℕ) (at : ℕ) → at + 1 < length bytes → drop at bytes ≡ get_or bytes at 0 ∷ get_or bytes (at + 1) 0 ∷ drop (at + 2) bytes
@@ -46,7 +40,7 @@ goes-on : (c : ℕ) (bytes : List ℕ) (at : ℕ) → at + 1 < length bytes → 
     → later at (close_len c (drop at bytes)) ≡ later (at + 1) (close_len c (drop (at + 1) bytes))
 goes-on c bytes at h e =
     ap (λ l. later at (close_len c l)) (split bytes at h)
-    ∙ ap (later at) (pick-false (get_or bytes at 0 == 42 && get_or bytes (at + 1) 0 == c) (Some 2)
+    ∙ ap (later at) (cond-false (get_or bytes at 0 == 42 && get_or bytes (at + 1) 0 == c) (Some 2)
     (one_later (close_len c (get_or bytes (at + 1) 0 ∷ drop (at + 2) bytes))) e)
     ∙ later-one at (close_len c (get_or bytes (at + 1) 0 ∷ drop (at + 2) bytes))
     ∙ ap (λ l. later (at + 1) (close_len c l)) (after bytes at h)
@@ -61,7 +55,7 @@ pub not-last : (c : ℕ) (bytes : List ℕ) (at : ℕ) → at + 1 < length bytes
 not-last c bytes at h n = goes-on c bytes at h (and_right (get_or bytes at 0 == 42) (get_or bytes (at + 1) 0 == c) (ne_eqb (get_or bytes (at + 1) 0) c n))
 
 none-last : (c b : ℕ) → close_len c (b ∷ []) ≡ None
-none-last c b = pick-false (b == 42 && false) (Some 2) None (and_right (b == 42) false refl)
+none-last c b = cond-false (b == 42 && false) (Some 2) None (and_right (b == 42) false refl)
 
 short-none : (c : ℕ) (l : List ℕ) → length l ≤ 1 → close_len c l ≡ None
 short-none c [] h = refl
@@ -102,13 +96,13 @@ later-some (Some q) n h = (q, refl, cc)
 first-take : (c b d : ℕ) (ds : List ℕ) (n m : ℕ) → (b == 42 && d == c) ≡ true → Some 2 ≡ Some n → n ≤ m → close_len c (take m (b ∷ d ∷ ds)) ≡ Some n
 first-take c b d ds n zero e s h = let two : 2 ≡ n = cc in absurd (omega arith)
 first-take c b d ds n (suc zero) e s h = let two : 2 ≡ n = cc in absurd (omega arith)
-first-take c b d ds n (suc (suc m)) e s h = pick-true (b == 42 && d == c) (Some 2) (one_later (close_len c (d ∷ take m ds))) e ∙ s
+first-take c b d ds n (suc (suc m)) e s h = cond-true (b == 42 && d == c) (Some 2) (one_later (close_len c (d ∷ take m ds))) e ∙ s
 
 next-take : (c b d : ℕ) (ds : List ℕ) (p n m : ℕ) → (b == 42 && d == c) ≡ false → close_len c (take m (d ∷ ds)) ≡ Some p → p + 1 ≡ n
     → close_len c (b ∷ take m (d ∷ ds)) ≡ Some n
 next-take c b d ds p n zero e s h = cc
 next-take c b d ds p n (suc m) e s h =
-    pick-false (b == 42 && d == c) (Some 2) (one_later (close_len c (d ∷ take m ds))) e ∙ ap one_later s ∙ ap (λ k. Some k) h
+    cond-false (b == 42 && d == c) (Some 2) (one_later (close_len c (d ∷ take m ds))) e ∙ ap one_later s ∙ ap (λ k. Some k) h
 
 abbrev IsPositive : Option ℕ → Type 0
 IsPositive None = Unit {0}
@@ -135,9 +129,9 @@ close-take c (b ∷ []) n m h l = let e : None ≡ Some n = sym (none-last c b) 
 close-take c (b ∷ d ∷ ds) n zero h l = absurd (omega (arith, some-close c (b ∷ d ∷ ds) n h))
 close-take c (b ∷ d ∷ ds) n (suc m) h l =
     elim (cases_Bool (b == 42 && d == c)) [
-      | inl e ↦ first-take c b d ds n (suc m) e (sym (pick-true (b == 42 && d == c) (Some 2) (one_later (close_len c (d ∷ ds))) e) ∙ h) l
+      | inl e ↦ first-take c b d ds n (suc m) e (sym (cond-true (b == 42 && d == c) (Some 2) (one_later (close_len c (d ∷ ds))) e) ∙ h) l
       | inr e ↦
-          let x = later-some (close_len c (d ∷ ds)) n (sym (pick-false (b == 42 && d == c) (Some 2) (one_later (close_len c (d ∷ ds))) e) ∙ h) in
+          let x = later-some (close_len c (d ∷ ds)) n (sym (cond-false (b == 42 && d == c) (Some 2) (one_later (close_len c (d ∷ ds))) e) ∙ h) in
           let le : x.0 ≤ m = omega (arith, x.2) in
           next-take c b d ds x.0 n m e (close-take c (d ∷ ds) x.0 m x.1 le) x.2
     ]

@@ -1,5 +1,5 @@
 -- What the grammar derives is read by the machine without a limit.
-use Rattle.std.proofs.Common.{◌≡◌, ℕ, ◌<◌, ◌≤◌, Bool, true, false, not, cond, List, [], ◌∷◌, ◌++◌, refl, sym, ap, ◌∙◌, subst, inl, inr, arith, append_assoc}
+use Rattle.std.proofs.Common.{◌≡◌, ℕ, ◌<◌, ◌≤◌, true, false, not, cond, List, [], ◌∷◌, ◌++◌, refl, sym, ap, ◌∙◌, subst, inl, inr, arith, append_assoc}
 use Rattle.std.specs.Prelude.{Some, Ok}
 use Rattle.std.proofs.lemmas.Bool.{cases_lt, le-leb, lt-leb, and_from, and_left, and_right}
 use Rattle.rv_syntax.specs.declared.token.Mark.TheVariants as mark
@@ -18,6 +18,7 @@ use Rattle.rv_syntax.specs.Grammar.{syntax_of, front_trees, level_of, Side, ToLe
 use Rattle.rv_syntax.specs.Grammar.{is_open, IsGrammatical, AreGrammatical}
 use Rattle.rv_syntax.specs.Machine.{start_of, next_of, Frame, Brackets, Under, After, Asked, Answered, Else, Within, need_of, need, Held, held, leaf_held, Want}
 use Rattle.rv_syntax.specs.Machine.{Have, Ends, accepts, taken, wrapped, awaited, onward, settle, begin, at_end, going, run, following}
+use Rattle.std.proofs.lemmas.Bool.{cond-true}
 
 -- the operand that is written
 abbrev pub operand : Written → Held
@@ -176,10 +177,6 @@ pop (x ∷ ts) h g f s e w =
     ap (λ b. going (cond b (taken (next_of x) h (f ∷ s)) (onward (wrapped f h) (λ y. settle (next_of x) y s) (awaited (next_of x) f h.body s))) (λ q. run q ts)
     (x ∷ ts)) e
     ∙ ap (λ o. going (onward o (λ y. settle (next_of x) y s) (awaited (next_of x) f h.body s)) (λ q. run q ts) (x ∷ ts)) w
-
-cond-true : {A : Type 0} (b : Bool) (x y : A) → b ≡ true → cond b x y ≡ x
-cond-true true x y h = refl
-cond-true false x y h = cc
 
 -- a token that goes on with an operand
 pub settle-taken : (r : Next) (h : Held) (s : List Frame) → accepts r (need s) h ≡ true → settle r h s ≡ taken r h s

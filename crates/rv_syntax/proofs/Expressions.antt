@@ -12,12 +12,13 @@ use Rattle.rv_syntax.specs.Limited.{counts, limited, Limited}
 use Rattle.rv_syntax.specs.Parse.{Reading}
 use Rattle.rv_syntax.specs.Reads.{expression}
 use Rattle.rv_syntax.proofs.Complete.{IsEnd, complete}
-use Rattle.rv_syntax.proofs.Shallow.{IsWithin, IsTooDeep, within-before, Agrees, agrees, first-same, OrDeep, reads-or-deep}
+use Rattle.rv_syntax.proofs.Shallow.{IsWithin, IsTooDeep, within-before, Agrees, agrees, OrDeep, reads-or-deep}
 use Rattle.rv_syntax.proofs.Sound as machine
 use Rattle.rv_syntax.proofs.Sound.{Wants, Comes, comes, one-token}
 use Rattle.rv_syntax.proofs.Nested.{past_all, from-shallow, to-shallow, to-deep}
 use Rattle.rv_syntax.proofs.Standings.{Stay, stay-front, stay-spelled, behind-inside, to-shallow-text, from-shallow-text, to-deep-text}
 use Rattle.rv_syntax.proofs.Exactly.{Begins, Answers, left, with_left, ReadsAs, Exact}
+use Rattle.rv_syntax.proofs.OneFault.{head-same}
 
 -- where an expression begins, and where it goes on
 abbrev pub IsFresh : Standing → Type 0
@@ -65,7 +66,7 @@ answers ts (Err (Offends, rest)) c a =
 answers ts (Err (TooDeep, rest)) c a =
     let whole = c.0 ++ c.1 ∷ [] in
     let same : a.0 ≡ c.0 = append_cancel_right a.0 c.0 rest (ap (λ z. a.0 ++ z) a.3 ∙ sym a.4 ∙ c.4) in
-    let deep = subst (λ t. IsTooDeep (counts 0 []) c.0 t) (first-same a.1 c.1 a.2 c.2 (sym a.3 ∙ c.3))
+    let deep = subst (λ t. IsTooDeep (counts 0 []) c.0 t) (head-same a.1 c.1 a.2 c.2 (sym a.3 ∙ c.3))
     (subst (λ z. IsTooDeep (counts 0 []) z a.1) same a.5) in (
       c.0,
       c.1,

@@ -54,10 +54,10 @@ shuffled false false false false h = cc
 byte-plain : (b : ℕ) → is_word_byte b ≡ true → is_name_byte b ≡ true
 byte-plain b h = shuffled (is_in_range 48 57 b) (is_in_range 65 90 b) (is_in_range 97 122 b) (b == 95) h
 
-word-more : (b : ℕ) (bs : List ℕ) → is_word_byte b ≡ true → prefix_len is_word_byte (b ∷ bs) ≡ suc (prefix_len is_word_byte bs)
+pub word-more : (b : ℕ) (bs : List ℕ) → is_word_byte b ≡ true → prefix_len is_word_byte (b ∷ bs) ≡ suc (prefix_len is_word_byte bs)
 word-more b bs e = ap (λ c. cond c (1 + prefix_len is_word_byte bs) 0) e ∙ one-add (prefix_len is_word_byte bs)
 
-word-none : (b : ℕ) (bs : List ℕ) → is_word_byte b ≡ false → prefix_len is_word_byte (b ∷ bs) ≡ 0
+pub word-none : (b : ℕ) (bs : List ℕ) → is_word_byte b ≡ false → prefix_len is_word_byte (b ∷ bs) ≡ 0
 word-none b bs e = ap (λ c. cond c (1 + prefix_len is_word_byte bs) 0) e
 
 word-plain : (bs : List ℕ) → is_name (take (word_len bs) bs) ≡ true

@@ -1,13 +1,10 @@
 -- Offsets that are collected one element after the other, and expressions that get their sites so.
-use Rattle.std.proofs.Common.{◌≡◌, ℕ, suc, ◌+◌, ◌<◌, ◌≤◌, ◌∷◌, [], ◌++◌, List, map, length, get_or, drop, refl, sym, ap, ◌∙◌, append_assoc, drop-cons, add-one}
+use Rattle.std.proofs.Common.{◌≡◌, ℕ, ◌+◌, ◌<◌, ◌≤◌, ◌∷◌, [], ◌++◌, List, map, length, get_or, drop, refl, sym, ap, ◌∙◌, append_assoc}
 use Rattle.std.proofs.lemmas.List.{append-nil, map_push, drop_all}
 use Rattle.rv_tree.specs.declared.tree.Expr.{Expr}
 use Rattle.rv_tree.specs.Tree.{Tree, Trees, None, More, trees, tree_of}
 use Rattle.rv_tree.specs.Sites.{sited, sited_trees}
-
--- the next element of a list that is gone through
-next-of : {X : Type 0} (xs : List X) (i : ℕ) (x : X) → i < length xs → x ≡ get_or xs i x → drop i xs ≡ x ∷ drop (i + 1) xs
-next-of xs i x lt is = drop-cons xs i x lt ∙ ap (λ y. y ∷ drop (suc i) xs) (sym is) ∙ ap (λ n. x ∷ drop n xs) (sym (add-one i))
+use Rattle.rv_base.proofs.Lists.{next_of}
 
 -- one more element, where a list's offsets are those of its first element and then those of the others
 pub collected-more : {X : Type 0} (own : X → List ℕ) (all : List X → List ℕ) → ((x : X) (xs : List X) → all (x ∷ xs) ≡ own x ++ all xs)
@@ -17,7 +14,7 @@ collected-more own all step xs i x had now whole lt is pushed inv =
     ap (λ l. l ++ all (drop (i + 1) xs)) pushed
     ∙ append_assoc had (own x) (all (drop (i + 1) xs))
     ∙ ap (λ l. had ++ l) (sym (step x (drop (i + 1) xs)))
-    ∙ ap (λ l. had ++ all l) (sym (next-of xs i x lt is))
+    ∙ ap (λ l. had ++ all l) (sym (next_of xs i x lt is))
     ∙ inv
 
 pub collected-all : {X : Type 0} (all : List X → List ℕ) → all [] ≡ [] → (xs : List X) (i : ℕ) (had whole : List ℕ) → length xs ≤ i
@@ -51,7 +48,7 @@ one-more f all i e made now new whole lt is with_site pushed inv =
     ∙ ap (λ l. joined l rest) (map_push tree_of made new)
     ∙ joined-push (map tree_of made) (tree_of new) rest
     ∙ ap (λ t. joined (map tree_of made) (More t rest)) with_site
-    ∙ ap (λ l. joined (map tree_of made) (sited_trees f (trees (map tree_of l)))) (sym (next-of all i e lt is))
+    ∙ ap (λ l. joined (map tree_of made) (sited_trees f (trees (map tree_of l)))) (sym (next_of all i e lt is))
     ∙ inv
 
 pub all-made : (f : ℕ → ℕ) (all made : List Expr) (i : ℕ) (whole : Trees) → length all ≤ i → joined (map tree_of made) (sited_trees f (left all i)) ≡ whole

@@ -18,8 +18,10 @@ use Rattle.rv_syntax.specs.Lexing.{is_space, is_letter, is_word_byte, is_in_line
 use Rattle.rv_syntax.specs.Lexing.{closed_or, two_more, comment_or, other, cut, kind_of, emitted, ends_in_tel, lex, tokens}
 use Rattle.rv_syntax.specs.Longest.{every, if_none, if_every, closed_at, comment_of, comment_or_pair, pair_of, other_of, one_piece, IsLongest, flat, AreLongest}
 use Rattle.rv_syntax.specs.Longest.{or_bad, shape_of, tokens_of, AreTokens}
-use Rattle.rv_syntax.proofs.Closing.{pick-true, pick-false, close-fits, close-take}
+use Rattle.rv_syntax.proofs.Closing.{close-fits, close-take}
 use Rattle.rv_syntax.proofs.Lexed.{lex-from, lex-past}
+use Rattle.std.proofs.lemmas.Bool.{cond-true}
+use Rattle.std.proofs.lemmas.Bool.{cond-false}
 
 len-more : (p : ℕ → Bool) (b : ℕ) (bs : List ℕ) → p b ≡ true → prefix_len p (b ∷ bs) ≡ suc (prefix_len p bs)
 len-more p b bs e = ap (λ c. cond c (1 + prefix_len p bs) 0) e ∙ one-add (prefix_len p bs)
@@ -46,12 +48,12 @@ every-longer p (b ∷ bs) (suc m) h l =
     ]
 
 front-is : (p : ℕ → Bool) (bs : List ℕ) (s : Shape) → if_every p (take (prefix_len p bs) bs) s ≡ Some s
-front-is p bs s = pick-true (every p (take (prefix_len p bs) bs)) (Some s) None (every-front p bs)
+front-is p bs s = cond-true (every p (take (prefix_len p bs) bs)) (Some s) None (every-front p bs)
 
 longer-is : (p : ℕ → Bool) (bs : List ℕ) (s : Shape) (m : ℕ) → prefix_len p bs < m → m ≤ length bs → if_every p (take m bs) s ≡ None
-longer-is p bs s m h l = pick-false (every p (take m bs)) (Some s) None (every-longer p bs m h l)
+longer-is p bs s m h l = cond-false (every p (take m bs)) (Some s) None (every-longer p bs m h l)
 
-widen : (a b c d : Bool) → ((b || c) || d) ≡ true → (((a || b) || c) || d) ≡ true
+pub widen : (a b c d : Bool) → ((b || c) || d) ≡ true → (((a || b) || c) || d) ≡ true
 widen true b c d h = refl
 widen false b c d h = h
 
@@ -66,22 +68,22 @@ abbrev no_space : ℕ → List ℕ → Option Shape
 no_space b bs = cond (is_letter b) (if_every is_word_byte bs (word (b ∷ bs))) (no_word b bs)
 
 at-space : (b : ℕ) (bs : List ℕ) → is_space b ≡ true → one_piece (b ∷ bs) ≡ if_none bs shape.Blank
-at-space b bs h = pick-true (is_space b) (if_none bs shape.Blank) (no_space b bs) h
+at-space b bs h = cond-true (is_space b) (if_none bs shape.Blank) (no_space b bs) h
 
 at-word : (b : ℕ) (bs : List ℕ) → is_space b ≡ false → is_letter b ≡ true → one_piece (b ∷ bs) ≡ if_every is_word_byte bs (word (b ∷ bs))
-at-word b bs s h = pick-false (is_space b) (if_none bs shape.Blank) (no_space b bs) s
-    ∙ pick-true (is_letter b) (if_every is_word_byte bs (word (b ∷ bs))) (no_word b bs) h
+at-word b bs s h = cond-false (is_space b) (if_none bs shape.Blank) (no_space b bs) s
+    ∙ cond-true (is_letter b) (if_every is_word_byte bs (word (b ∷ bs))) (no_word b bs) h
 
 no-word : (b : ℕ) (bs : List ℕ) → is_space b ≡ false → is_letter b ≡ false → one_piece (b ∷ bs) ≡ no_word b bs
-no-word b bs s h = pick-false (is_space b) (if_none bs shape.Blank) (no_space b bs) s
-    ∙ pick-false (is_letter b) (if_every is_word_byte bs (word (b ∷ bs))) (no_word b bs) h
+no-word b bs s h = cond-false (is_space b) (if_none bs shape.Blank) (no_space b bs) s
+    ∙ cond-false (is_letter b) (if_every is_word_byte bs (word (b ∷ bs))) (no_word b bs) h
 
 at-number : (b : ℕ) (bs : List ℕ) → is_space b ≡ false → is_letter b ≡ false → is_ascii_digit b ≡ true
     → one_piece (b ∷ bs) ≡ if_every is_ascii_digit bs shape.Number
-at-number b bs s e h = no-word b bs s e ∙ pick-true (is_ascii_digit b) (if_every is_ascii_digit bs shape.Number) (other_of b bs) h
+at-number b bs s e h = no-word b bs s e ∙ cond-true (is_ascii_digit b) (if_every is_ascii_digit bs shape.Number) (other_of b bs) h
 
 at-other : (b : ℕ) (bs : List ℕ) → is_space b ≡ false → is_letter b ≡ false → is_ascii_digit b ≡ false → one_piece (b ∷ bs) ≡ other_of b bs
-at-other b bs s e h = no-word b bs s e ∙ pick-false (is_ascii_digit b) (if_every is_ascii_digit bs shape.Number) (other_of b bs) h
+at-other b bs s e h = no-word b bs s e ∙ cond-false (is_ascii_digit b) (if_every is_ascii_digit bs shape.Number) (other_of b bs) h
 
 -- white space
 longer-space : (b : ℕ) (bs : List ℕ) → is_space b ≡ true → (m : ℕ) → 1 < m → m ≤ length (b ∷ bs) → one_piece (take m (b ∷ bs)) ≡ None
@@ -165,7 +167,7 @@ closed-is x cs n h =
     let same : n ≤ n = omega arith in
     ap (λ o. closed_at o (length (take n cs))) (close-take x cs n n h same)
     ∙ ap (λ l. closed_at (Some n) l) (length-take-le n cs (close-fits x cs n h))
-    ∙ pick-true (n == n) (Some shape.Blank) None (eq-eqb n n refl)
+    ∙ cond-true (n == n) (Some shape.Blank) None (eq-eqb n n refl)
 
 closed-longer : (x : ℕ) (cs : List ℕ) (n : ℕ) → close_len x cs ≡ Some n → (m : ℕ) → n < m → m ≤ length cs → comment_of (comment.Until x) (take m cs) ≡ None
 closed-longer x cs n h m a l =
@@ -173,7 +175,7 @@ closed-longer x cs n h m a l =
     let differ = λ (e : n ≡ m). let no : ⊥ = omega arith in no in
     ap (λ o. closed_at o (length (take m cs))) (close-take x cs n m h less)
     ∙ ap (λ k. closed_at (Some n) k) (length-take-le m cs l)
-    ∙ pick-false (n == m) (Some shape.Blank) None (ne_eqb n m differ)
+    ∙ cond-false (n == m) (Some shape.Blank) None (ne_eqb n m differ)
 
 longest-until : (b c x : ℕ) (cs : List ℕ) (o : Option ℕ) → is_space b ≡ false → is_letter b ≡ false → is_ascii_digit b ≡ false
     → opens b c ≡ Some (comment.Until x) → close_len x cs ≡ o

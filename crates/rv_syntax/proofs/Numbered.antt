@@ -19,7 +19,8 @@ use Rattle.rv_tree.specs.SitedParts.{SitedPart, part, comparison, parts, trees_p
 use Rattle.rv_syntax.specs.ProgramText.{IsTextOf}
 use Rattle.rv_syntax.specs.Lexing.{tokens}
 use Rattle.rv_syntax.proofs.Spelled.{all_of, all_of-append, of_node, tells-program}
-use Rattle.rv_syntax.proofs.Bounds.{alone, each, tokens-alone, program-short, one-of, from-map, node-weighs}
+use Rattle.rv_syntax.proofs.Bounds.{alone, each, tokens-alone, program-short, one-of, node-weighs}
+use Rattle.rv_base.proofs.Lists.{from_map}
 
 -- ---- What the definitions give each part.
 -- the part at an offset, with the site that f gives it
@@ -281,7 +282,7 @@ module _ (m : NodeTree) (once : (x : ℕ) → all_of (alone x) (node_offsets m) 
   -- each part is one of the offsets, with its site
   part-from : (p : SitedPart) → Contains (node_parts (with_sites m)) p → (x : ℕ) × (1 ≤ all_of (alone x) (node_offsets m)) × (numbered (site_at m) x ≡ p)
   part-from p h =
-      let from = from-map (numbered (site_at m)) (node_offsets m) p (subst (λ l. Contains l p) (node-numbered m) h) in
+      let from = from_map (numbered (site_at m)) (node_offsets m) p (subst (λ l. Contains l p) (node-numbered m) h) in
       let some : alone from.0 from.0 ≤ all_of (alone from.0) (node_offsets m) = one-of (alone from.0) (node_offsets m) from.0 from.1 in
       (from.0, omega (arith, some, alone-here from.0), from.2)
 
@@ -384,7 +385,7 @@ module _ (m : NodeTree) (once : (x : ℕ) → all_of (alone x) (node_offsets m) 
 pub numbered-text : (bytes : List ℕ) (t : ProgramTree) (n : NodeTree) → length bytes ≤ source_limit → IsTextOf bytes t → Contains t.nodes n → IsNumbered n
 numbered-text bytes t n le x h =
     let p : ProgramTree = x.0 in
-    let from = from-map with_sites p.nodes n (subst (λ (u : ProgramTree). Contains u.nodes n) x.1 h) in
+    let from = from_map with_sites p.nodes n (subst (λ (u : ProgramTree). Contains u.nodes n) x.1 h) in
     let m : NodeTree = from.0 in
     let few : length (flows m) ≤ source_limit = omega (arith, node-weighs m, one-of (of_node each) p.nodes m from.1, program-short bytes p x.2) in
     let once : (y : ℕ) → all_of (alone y) (node_offsets m) ≤ 1 = λ y. omega (

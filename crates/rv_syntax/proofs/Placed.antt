@@ -22,6 +22,7 @@ use Rattle.rv_syntax.specs.ProgramText.{IsClock, IsLocal, IsVar, IsLefts, IsItem
 use Rattle.rv_syntax.specs.Faults as fault
 use Rattle.rv_syntax.specs.Faults.{IsDead, kind_is, is_name, is_when, is_open, is_close, is_not, is_node, headed, still_headed, nothing_before, one_later}
 use Rattle.rv_syntax.specs.Faults.{looked_back, kind_left_out, negates_clock, calls_clock, has_no_inputs, clocks_port, is_left_out}
+use Rattle.rv_base.proofs.Truths.{clash}
 
 -- ---- What follows a `when` and the word `node`.
 abbrev Unopened : List Token → Type 0
@@ -109,15 +110,12 @@ placed-both (t ∷ ts) us h k = (fits-more t ts us h.0, placed-both ts us h.1 k)
 abbrev Eases : Token → Type 0
 Eases t = (kind_left_out t.kind ≡ false) × (kind_is is_when t.kind ≡ false) × (kind_is is_node t.kind ≡ false)
 
-both-ways : (b : Bool) → b ≡ true → b ≡ false → ⊥
-both-ways b e f = cc
-
 eased : (t : Token) (ts : List Token) → Eases t → Fits t ts
 eased t ts h = record {
   known = h.0;
-  clock = λ e. absurd (both-ways (kind_is is_when t.kind) e h.1);
-  inputs = λ e. absurd (both-ways (kind_is is_node t.kind) e h.2);
-  header = λ e. absurd (both-ways (kind_is is_node t.kind) e h.2);
+  clock = λ e. absurd (clash (kind_is is_when t.kind) e h.1);
+  inputs = λ e. absurd (clash (kind_is is_node t.kind) e h.2);
+  header = λ e. absurd (clash (kind_is is_node t.kind) e h.2);
 }
 
 eases-leaf : (l : Leaf) (at : ℕ) → Eases (leaf_token l at)
@@ -509,7 +507,7 @@ header-cases kind.LeftOut h e = inr (e, refl)
 header-cases kind.Bad h e = inr (e, refl)
 
 heads-rest : (t : Token) (ts : List Token) → kind_is ends_header t.kind ≡ false → Heads (t ∷ ts) → Heads ts
-heads-rest t ts e (inl h) = absurd (both-ways (kind_is ends_header t.kind) h e)
+heads-rest t ts e (inl h) = absurd (clash (kind_is ends_header t.kind) h e)
 heads-rest t ts e (inr h) = h.1
 
 header-later : (b : fault.Before) (t : Token) (ts : List Token) → Asks b (t ∷ ts) → Fits t ts
@@ -590,4 +588,4 @@ asks-nothing ts = record { clock = λ e. cc; call = λ e. cc; title = λ e. cc; 
 pub left-out-dead : (front : List Token) (t : Token) → is_left_out front t ≡ true → IsDead (front ++ t ∷ [])
 left-out-dead front t e b =
     let whole = subst Placed (append_assoc front (t ∷ []) b.0) (placed-program b.1 ((front ++ t ∷ []) ++ b.0) b.2) in
-    both-ways (is_left_out front t) e (stay-in nothing_before front t b.0 (asks-nothing (front ++ t ∷ b.0)) whole)
+    clash (is_left_out front t) e (stay-in nothing_before front t b.0 (asks-nothing (front ++ t ∷ b.0)) whole)

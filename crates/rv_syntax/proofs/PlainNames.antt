@@ -18,8 +18,8 @@ use Rattle.rv_syntax.specs.ProgramText.{IsBody, IsConstants, IsDecls, IsEnumerat
 use Rattle.rv_syntax.specs.ProgramText.{IsSection, IsTextOf, IsTitle, IsType, IsTypeBody, IsTypes, IsVar, Section, Types, Constants, OneNode, all_flows}
 use Rattle.rv_syntax.specs.ProgramText.{node_of, nodes_of, program_of, type_of, types_of}
 use Rattle.rv_syntax.specs.Rules.{Each, Gives, Maybe, OneOf, Only, Part, Word}
-use Rattle.rv_syntax.proofs.Bounds.{from-map}
 use Rattle.rv_syntax.proofs.FineTokens.{AreFine, Keeps, Every, any, gives, after-word, parts, one-of, each, lex-fine, joined-every, every-of}
+use Rattle.rv_base.proofs.Lists.{from_map}
 
 -- ---- Names.
 abbrev pub IsPlainName : Name → Type 0
@@ -161,10 +161,10 @@ plain-text bytes t h =
     subst HasPlainNames (sym h.1) record {
       labels = λ d inside xs is x at. every-of IsPlainName xs x at (subst HasLabels is (every-of IsPlainType p.types d inside plain.0));
       nodes = λ n inside.
-          let from = from-map with_sites p.nodes n inside in
+          let from = from_map with_sites p.nodes n inside in
           subst (λ (m : NodeTree). is_name m.name.text ≡ true) from.2 (every-of IsPlainNode p.nodes from.0 from.1 plain.1).0;
       inputs = λ n d inside at.
-          let from = from-map with_sites p.nodes n inside in
+          let from = from_map with_sites p.nodes n inside in
           every-of IsPlainDecl n.inputs d at (subst (λ (m : NodeTree). Every IsPlainDecl m.inputs) from.2
           (every-of IsPlainNode p.nodes from.0 from.1 plain.1).1);
     }

@@ -9,6 +9,7 @@ use Rattle.rv_syntax.specs.Nesting.{weight, limit}
 use Rattle.rv_syntax.specs.Machine.{State, Move, To, Ends, Fails, step, finish, Reading, run}
 use Rattle.rv_syntax.specs.Machine as free
 use Rattle.rv_syntax.specs.Limited.{Counts, count, Limited, at_end, going, limited}
+use Rattle.rv_syntax.proofs.OneFault.{head-same}
 
 -- The nesting is within the limit at each of the tokens.
 abbrev pub IsWithin : Counts → List Token → Type 0
@@ -86,9 +87,6 @@ pub within-before : (c : Counts) (front : List Token) (t : Token) → IsTooDeep 
 within-before c [] t d = tt
 within-before c (x ∷ front) t d = (d.0, within-before (count (weight x) c) front t d.1)
 
-pub first-same : (y x : Token) (ys xs : List Token) → y ∷ ys ≡ x ∷ xs → y ≡ x
-first-same y x ys xs e = cc
-
 rest-same : (y x : Token) (ys xs : List Token) → y ∷ ys ≡ x ∷ xs → ys ≡ xs
 rest-same y x ys xs e = cc
 
@@ -100,10 +98,10 @@ to-limited (Err rest) = Err (Offends, rest)
 further : (w rest front : List Token) (t : Token) (after : List Token) → w ++ rest ≡ front ++ t ∷ after → length rest ≤ length after
     → (more : List Token) × (w ≡ front ++ t ∷ more)
 further [] rest front t after e h = absurd (omega (arith, ap length e, length-append front (t ∷ after)))
-further (y ∷ w) rest [] t after e h = (w, ap (λ z. z ∷ w) (first-same y t (w ++ rest) after e))
+further (y ∷ w) rest [] t after e h = (w, ap (λ z. z ∷ w) (head-same y t (w ++ rest) after e))
 further (y ∷ w) rest (x ∷ front) t after e h =
     let m = further w rest front t after (rest-same y x (w ++ rest) (front ++ t ∷ after) e) h in
-    (m.0, ap (λ z. z ∷ w) (first-same y x (w ++ rest) (front ++ t ∷ after) e) ∙ ap (λ z. x ∷ z) m.1)
+    (m.0, ap (λ z. z ∷ w) (head-same y x (w ++ rest) (front ++ t ∷ after) e) ∙ ap (λ z. x ∷ z) m.1)
 
 ok-no-err : (x : Tree × List Token) (gone : List Token) → Ok x ≡ Err gone → ⊥
 ok-no-err x gone h = cc

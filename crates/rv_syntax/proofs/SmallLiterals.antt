@@ -20,9 +20,9 @@ use Rattle.rv_syntax.specs.ProgramText.{IsBody, IsConstant, IsConstants, IsInput
 use Rattle.rv_syntax.specs.ProgramText.{IsSection, IsTextOf, IsTitle, IsTypes, IsVar, Item, Equates, Assumes, Section, Types, Constants, OneNode, equation_of}
 use Rattle.rv_syntax.specs.ProgramText.{equations_of, assertion_of, assertions_of, constant_of, constants_of, node_of, nodes_of, program_of}
 use Rattle.rv_syntax.specs.Rules.{Each, Gives, Marked, Maybe, OneOf, Only, Part, Word}
-use Rattle.rv_syntax.proofs.Bounds.{from-map}
 use Rattle.rv_syntax.proofs.FineTokens.{AreFine, fine-left, fine-right, Keeps, Every, any, gives, after-word, parts, one-of, each, lex-fine, joined-every}
 use Rattle.rv_syntax.proofs.FineTokens.{every-of}
+use Rattle.rv_base.proofs.Lists.{from_map}
 
 -- ---- Expressions.
 number-small : (n : ℕ) → nat_le n too_heavy ≡ true → n ≤ too_heavy
@@ -238,7 +238,7 @@ small-text bytes t h =
     let p : ProgramTree = h.0 in
     let small : IsSmallProgram p = program p (tokens bytes) h.2 (lex-fine 0 false 0 bytes) in
     let of_node : (n : NodeTree) → Contains (map with_sites p.nodes) n → IsSmallNode n = λ n inside.
-    let from = from-map with_sites p.nodes n inside in
+    let from = from_map with_sites p.nodes n inside in
     subst IsSmallNode from.2 (node-sited from.0 (every-of IsSmallNode p.nodes from.0 from.1 small.1)) in
     subst HasSmallLiterals (sym h.1) record {
       constants = λ c inside. every-of IsSmallConstant p.constants c inside small.0;

@@ -33,6 +33,7 @@ use Rattle.rv_syntax.specs.Reads.{TakesName, Passes, TakesMark, Part, Test, Yes,
 use Rattle.rv_syntax.specs.Reads.{held_of, ReadsAs}
 use Rattle.rv_syntax.proofs.Marked.{token-mark}
 use Rattle.rv_syntax.proofs.Complete.{settle-taken}
+use Rattle.rv_base.proofs.Truths.{clash}
 
 -- What a token is says what it is to the nesting.
 abbrev pub Weighs : Start → Weight → Type 0
@@ -266,9 +267,6 @@ opens-list : (ts : List Token) → following ts ≡ next.Opens → starts (is_ma
 opens-list [] h = cc
 opens-list (t ∷ ts) h = opens-kind t.kind t.at h
 
-both-false : (b : Bool) → b ≡ true → b ≡ false → ⊥
-both-false b h k = cc
-
 leaf-mark : (m : Mark) (at : ℕ) (ts : List Token) (c : Counts) (s : List Frame)
     → limited c (Have (leaf_held (fixed m at)) s) ts ≡ limited c (Have (held 10 false (leaf_tree (fixed m at))) s) ts
 leaf-mark mark.True at ts c s = refl
@@ -276,7 +274,7 @@ leaf-mark _ at ts c s = refl
 
 leaf-at : (k : Kind) (at : ℕ) (ts : List Token) (c : Counts) (s : List Frame) → starts_call (record { kind = k; at = at } ∷ ts) ≡ false
     → limited c (Have (leaf_held (record { kind = k; at = at })) s) ts ≡ limited c (Have (held 10 false (leaf_tree (record { kind = k; at = at }))) s) ts
-leaf-at (kind.Name x) at ts c s h = as-name ts c (Just (Called x) at) s (λ o. both-false (starts (is_mark mark.Open) ts) (opens-list ts o) h)
+leaf-at (kind.Name x) at ts c s h = as-name ts c (Just (Called x) at) s (λ o. clash (starts (is_mark mark.Open) ts) (opens-list ts o) h)
 leaf-at (kind.Number n) at ts c s h = refl
 leaf-at (kind.Fixed m) at ts c s h = leaf-mark m at ts c s
 leaf-at kind.LeftOut at ts c s h = refl
@@ -573,7 +571,7 @@ call-name (t ∷ ts) h = (and_parts _ _ h).0
 -- a call begins with a name
 pub call-none : (X : Type 0) (f : X → Limited) (e : Stop) (old new : Ahead) → starts_call old.rest ≡ true → TakesName old (Err e) new → Stops X f e new
 call-none X f stop.Memory old new h p = tt
-call-none X f (stop.Token why left) old new h p = absurd (both-false (starts is_name old.rest) (call-name old.rest h) p.3)
+call-none X f (stop.Token why left) old new h p = absurd (clash (starts is_name old.rest) (call-name old.rest h) p.3)
 
 hash-opens : (ts : List Token) (d : ℕ) (ss : List ℕ) (at : ℕ) (s : List Frame) → starts (is_mark mark.Open) ts ≡ true → d < limit
     → limited (counts d ss) (Hashed at s) ts ≡ limited (counts (d + 1) (d ∷ ss)) (Want (Within (Hash at) [] ∷ s)) (tail ts)

@@ -8,6 +8,9 @@ use Rattle.std.specs.Int.{is_in_range}
 use Rattle.std.specs.Prelude.{◌==◌, nat_le, Result, Ok, Err, MatchResult, is_ok}
 use Rattle.std.proofs.lemmas.Bool.{cases_Bool, or_cases, and_parts, leb-true, eqb-true}
 use Rattle.rv_syntax.specs.Lexing.{is_word_byte, AreDigits}
+use Rattle.rv_syntax.proofs.FineTokens.{word-more, word-none}
+use Rattle.std.proofs.lemmas.Str.Ascii.{IsAscii-nil as ascii-none}
+use Rattle.std.proofs.lemmas.Str.Ascii.{IsAscii-cons as ascii-more}
 
 in-range : (lo hi b : ℕ) → is_in_range lo hi b ≡ true → hi < 128 → b < 128
 in-range lo hi b h l =
@@ -34,19 +37,6 @@ is-ok P Q (Err e) h none = absurd (none e h)
 -- what is text by its bytes is read as text
 pub reads-text : {T E : Type 0} (P : T → Type 0) (U : Type 0) (Q : E → Type 0) (r : Result T E) → U → MatchResult r P (λ e. ¬ U × Q e) → is_ok r ≡ true
 reads-text P U Q r u h = is-ok P (λ e. ¬ U × Q e) r h (λ e n. n.0 u)
-
-word-more : (b : ℕ) (bs : List ℕ) → is_word_byte b ≡ true → prefix_len is_word_byte (b ∷ bs) ≡ suc (prefix_len is_word_byte bs)
-word-more b bs e = ap (λ c. cond c (1 + prefix_len is_word_byte bs) 0) e ∙ one-add (prefix_len is_word_byte bs)
-
-word-none : (b : ℕ) (bs : List ℕ) → is_word_byte b ≡ false → prefix_len is_word_byte (b ∷ bs) ≡ 0
-word-none b bs e = ap (λ c. cond c (1 + prefix_len is_word_byte bs) 0) e
-
-ascii-none : IsAscii []
-ascii-none i = lit< tt
-
-ascii-more : (b : ℕ) (bs : List ℕ) → b < 128 → IsAscii bs → IsAscii (b ∷ bs)
-ascii-more b bs h f zero = h
-ascii-more b bs h f (suc i) = f i
 
 -- a word is ASCII
 pub ascii_word : (bs : List ℕ) → IsAscii (take (prefix_len is_word_byte bs) bs)

@@ -10,22 +10,9 @@ use Rattle.rv_diagram.specs.Nodes.{Valuation, Diagrams, IsRef, value_of}
 use Rattle.rv_terms.specs.declared.parted.Part.{Part}
 use Rattle.rv_terms.specs.Growing.{Extends}
 use Rattle.rv_terms.specs.Parts.{no_form, part_at, holds, ArePartsOf, Adds}
-
-pub or_left : (a b : Bool) → a ≡ true → (a || b) ≡ true
-or_left true b h = refl
-or_left false b h = cc
-
-pub or_right : (a b : Bool) → b ≡ true → (a || b) ≡ true
-or_right true b h = refl
-or_right false b h = h
-
-pub or-none : (b c : Bool) → c ≡ false → b ≡ (b || c)
-or-none true c e = refl
-or-none false c e = sym e
-
-pub or_assoc : (a b c : Bool) → ((a || b) || c) ≡ (a || (b || c))
-or_assoc true b c = refl
-or_assoc false b c = refl
+use Rattle.rv_base.proofs.Truths.{or_false_is}
+use Rattle.std.proofs.lemmas.Bool.{or_left}
+use Rattle.std.proofs.lemmas.Bool.{or_right}
 
 -- the same parts, of an equal set
 pub parts_as : (nodes : List Triple) (width : ℕ) (p q : Valuation → Bool) (f : Valuation → Form) (parts : List Part) → ((v : Valuation) → p v ≡ q v)
@@ -61,7 +48,7 @@ parts_later old new width p f parts e g =
 -- nothing is added
 pub adds_none : (nodes : List Triple) (q : Valuation → Bool) (g : Valuation → Form) (parts : List Part) → ((v : Valuation) → q v ≡ false)
     → Adds nodes nodes q g parts parts
-adds_none nodes q g parts none width p f old apart agree wide = parts_as nodes width p (λ v. p v || q v) f parts (λ v. or-none (p v) (q v) (none v)) old
+adds_none nodes q g parts none width p f old apart agree wide = parts_as nodes width p (λ v. p v || q v) f parts (λ v. or_false_is (p v) (q v) (none v)) old
 
 part-before : (before : List Part) (new : Part) (j : ℕ) → j < length before → part_at (before ++ new ∷ []) j ≡ part_at before j
 part-before before new j low = get_or_append_left before (new ∷ []) (record { under = 0; form = no_form }) j low

@@ -8,7 +8,10 @@ use Rattle.rv_diagram.specs.Nodes.{Valuation, Diagrams, value_of}
 use Rattle.rv_terms.specs.declared.parted.Part.{Part}
 use Rattle.rv_terms.specs.Growing.{Extends}
 use Rattle.rv_terms.specs.Parts.{part_at, holds, form_at, AreRefs, AreDisjoint, Covers, IsTerm, IsTermOf, ArePartsOf, Adds, among}
-use Rattle.rv_terms.proofs.Adding.{or_left, or_right, parts_as, parts_later, or_assoc}
+use Rattle.rv_terms.proofs.Adding.{parts_as, parts_later}
+use Rattle.rv_base.proofs.Truths.{or_assoc}
+use Rattle.std.proofs.lemmas.Bool.{or_left}
+use Rattle.std.proofs.lemmas.Bool.{or_right}
 
 -- COMPOSITION
 

@@ -10,7 +10,7 @@ use Rattle.rv_diagram.proofs.Calls.{value_of-true, value_of-false}
 use Rattle.rv_diagram.proofs.Needed.{ReadsFrom, IsNew, has_from, has_fixed, length-longer, value_of-begins}
 use Rattle.rv_diagram.proofs.Building.{IsSplit, built_there, built_equal, built_found, built_push, built_split}
 use Rattle.rv_terms.specs.Counting.{count_from, count, ReadsOnly}
-use Rattle.rv_terms.proofs.Adding.{or-none as or-false}
+use Rattle.rv_base.proofs.Truths.{bit_most, or_false_is}
 
 -- COUNTS
 
@@ -22,10 +22,6 @@ bits-join true true off = absurd (off refl refl)
 bits-join true false off = refl
 bits-join false true off = refl
 bits-join false false off = refl
-
-pub bit-most : (b : Bool) → cond b 1 0 ≤ 1
-bit-most true = omega arith
-bit-most false = omega arith
 
 bit-none : (b : Bool) → bit b ≡ 0 → b ≡ false
 bit-none true h = absurd (omega arith)
@@ -56,7 +52,7 @@ doubled : (d : ℕ) → 2 ^ d + 2 ^ d ≡ 2 ^ (suc d)
 doubled d = grind arith
 
 pub count-most : (d x : ℕ) (f : Valuation → Bool) → count_from d x f ≤ 2 ^ d
-count-most zero x f = bit-most (f (λ k. false))
+count-most zero x f = bit_most (f (λ k. false))
 count-most (suc d) x f =
     omega (arith, count-most d (x + 1) (λ v. f (put v x false)), count-most d (x + 1) (λ v. f (put v x true)), doubled d)
 
@@ -261,7 +257,7 @@ joined_same : (d x : ℕ) (nodes : List Triple) (g f : Valuation → Bool) → I
 joined_same d x nodes g f red has none = record {
   new = nodes;
   ref = has.0;
-  built = built_there nodes (λ v. g v || f v) has.0 red has.1 (λ v. has.2 v ∙ or-false (g v) (f v) (none v));
+  built = built_there nodes (λ v. g v || f v) has.0 red has.1 (λ v. has.2 v ∙ or_false_is (g v) (f v) (none v));
   few = omega arith;
 }
 

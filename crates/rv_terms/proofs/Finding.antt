@@ -12,7 +12,7 @@ use Rattle.rv_terms.specs.declared.parted.Part.{Part}
 use Rattle.rv_terms.specs.Parts.{part_at, holds, Covers, IsTerm, IsTermOf, HasNoSingle, IsSingle, IsAlone, IsMet}
 use Rattle.rv_terms.proofs.Combining.{form_is}
 use Rattle.rv_diagram.proofs.Canon.{put-other, put-same}
-use Rattle.rv_terms.proofs.Counting.{same_put as put-back}
+use Rattle.rv_terms.proofs.Counting.{same_put}
 
 -- it has one value at valuations that agree below m
 abbrev pub ReadsOnly : ℕ → (Valuation → Bool) → Type 0
@@ -37,8 +37,8 @@ some_or_none (suc m) p reads =
     (λ none_true. ⊎_elim
     (λ s. inl (put s.0 m false, s.1))
     (λ none_false. inr (λ v. ⊎_elim
-    (λ t. reads v (put v m true) (λ k low. put-back v m true t k) ∙ none_true v)
-    (λ f. reads v (put v m false) (λ k low. put-back v m false f k) ∙ none_false v)
+    (λ t. reads v (put v m true) (λ k low. same_put v m true t k) ∙ none_true v)
+    (λ f. reads v (put v m false) (λ k low. same_put v m false f k) ∙ none_false v)
     (cases_Bool (v m))))
     (half false))
     (half true)

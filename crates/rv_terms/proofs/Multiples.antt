@@ -1,5 +1,5 @@
 -- Multiples of forms: by 0 all are one, by another number different forms have different multiples.
-use Rattle.std.proofs.Common.{ℕ, ◌*◌, ◌<◌, ◌≡◌, ◌≢◌, ◌⊎◌, ℤ, pos, negsuc, ◌+ℤ◌, ◌-ℤ◌, ◌*ℤ◌, List, [], ◌∷◌, length, refl, sym, ap, ◌∙◌}
+use Rattle.std.proofs.Common.{ℕ, ◌*◌, ◌<◌, ◌≡◌, ◌≢◌, ◌⊎◌, ℤ, pos, ◌+ℤ◌, ◌-ℤ◌, ◌*ℤ◌, List, [], ◌∷◌, length, refl, sym, ap, ◌∙◌}
 use Rattle.std.proofs.Common.{◌++◌, subst, ⊎_elim, inl, inr, arith, get_or, drop, true, mul-pos}
 use Rattle.std.specs.Int.RustNames.{unsigned_abs}
 use Rattle.std.proofs.lemmas.Int.{ints, unsigned_abs-mul}
@@ -15,10 +15,7 @@ use Rattle.rv_terms.proofs.Combining.{form_width}
 use Rattle.rv_terms.proofs.Adding.{IsPlaced, placed_last}
 use Rattle.rv_terms.proofs.Sums.{length-multiple}
 use Rattle.rv_terms.proofs.Finding.{leaf_made}
-
-zero_size : (z : ℤ) → unsigned_abs z ≡ 0 → z ≡ pos 0
-zero_size (pos n) h = ap pos h
-zero_size (negsuc n) h = absurd (omega arith)
+use Rattle.rv_base.proofs.Numbers.{size_zero}
 
 no_product : (a b : ℕ) → a ≢ 0 → a * b ≡ 0 → b ≡ 0
 no_product a b off h = ⊎_elim (λ e. e) (λ some. let p : 0 < a * b = mul-pos (omega arith) (omega arith) in absurd (omega arith)) (cases_eq b 0)
@@ -37,7 +34,7 @@ cancel by x y off e =
     let whole : by *ℤ x ≡ (by *ℤ y) +ℤ (by *ℤ (x -ℤ y)) = ap (λ z. by *ℤ z) (sym (apart x y)) ∙ mul_add by y (x -ℤ y) in
     let none : by *ℤ (x -ℤ y) ≡ pos 0 = nothing_left (by *ℤ x) (by *ℤ y) (by *ℤ (x -ℤ y)) whole e in
     let sizes : unsigned_abs by * unsigned_abs (x -ℤ y) ≡ 0 = sym (unsigned_abs-mul by (x -ℤ y)) ∙ ap unsigned_abs none in
-    equal_from x y (zero_size (x -ℤ y) (no_product (unsigned_abs by) (unsigned_abs (x -ℤ y)) (λ h. off (zero_size by h)) sizes))
+    equal_from x y (size_zero (x -ℤ y) (no_product (unsigned_abs by) (unsigned_abs (x -ℤ y)) (λ h. off (size_zero by h)) sizes))
 
 times_differ : (by : ℤ) → by ≢ pos 0 → (xs ys : List ℤ) → times by xs ≡ times by ys → xs ≡ ys
 times_differ by off [] [] h = refl

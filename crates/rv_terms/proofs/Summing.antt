@@ -1,5 +1,5 @@
 -- How far a list grows while parts are added one after another.
-use Rattle.std.proofs.Common.{ℕ, zero, suc, ◌+◌, ◌*◌, ◌^◌, ◌<◌, ◌≤◌, ◌≡◌, Bool, true, false, ◌&&◌, ◌||◌, cond, List, length, refl, sym, ap, ◌∙◌, subst, arith}
+use Rattle.std.proofs.Common.{ℕ, zero, suc, ◌+◌, ◌*◌, ◌^◌, ◌<◌, ◌≤◌, ◌≡◌, Bool, true, false, ◌&&◌, ◌||◌, List, length, refl, sym, ap, ◌∙◌, subst, arith}
 use Rattle.std.proofs.lemmas.Bool.{and_parts}
 use Rattle.rv_diagram.specs.declared.Triple.{Triple}
 use Rattle.rv_diagram.specs.Nodes.{Valuation, Diagrams, put}
@@ -9,15 +9,10 @@ use Rattle.rv_terms.specs.Counting.{count_from, count}
 use Rattle.rv_terms.specs.Parts.{holds, AreDisjoint, among}
 use Rattle.rv_terms.proofs.Combining.{among-more, among_some}
 use Rattle.rv_terms.proofs.Counting.{count-same, count-join, count-most}
-
-bits-within : (a b : Bool) → (a ≡ true → b ≡ true) → cond a 1 0 ≤ cond b 1 0
-bits-within true true h = omega arith
-bits-within true false h = let e : false ≡ true = h refl in cc
-bits-within false true h = omega arith
-bits-within false false h = omega arith
+use Rattle.rv_base.proofs.Truths.{bits_within}
 
 pub count-within : (d x : ℕ) (f g : Valuation → Bool) → ((v : Valuation) → f v ≡ true → g v ≡ true) → count_from d x f ≤ count_from d x g
-count-within zero x f g h = bits-within (f (λ k. false)) (g (λ k. false)) (h (λ k. false))
+count-within zero x f g h = bits_within (f (λ k. false)) (g (λ k. false)) (h (λ k. false))
 count-within (suc d) x f g h = omega (
   arith,
   count-within d (x + 1) (λ v. f (put v x false)) (λ v. g (put v x false)) (λ v. h (put v x false)),

@@ -8,9 +8,7 @@ use Rattle.rv_rows.specs.declared.linear.Form.{Form}
 use Rattle.rv_rows.specs.Forms.{number, IsSum, IsMultiple, CanAdd, CanScale}
 use Rattle.rv_diagram.specs.Nodes.{Valuation}
 use Rattle.rv_rows.specs.Arithmetic.{plus, times, form_sum, form_times}
-
-pub zero_left : (x : ℤ) → pos 0 +ℤ x ≡ x
-zero_left x = omega (arith, ints)
+use Rattle.rv_base.proofs.Numbers.{zero_add}
 
 pub zero_right : (x : ℤ) → x +ℤ pos 0 ≡ x
 zero_right x = omega (arith, ints)
@@ -19,7 +17,7 @@ times_zero : (n : ℤ) → n *ℤ pos 0 ≡ pos 0
 times_zero n = omega (arith, ints)
 
 pub plus-number : (xs ys : List ℤ) (k : ℕ) → number k (plus xs ys) ≡ number k xs +ℤ number k ys
-plus-number [] ys k = sym (zero_left (number k ys))
+plus-number [] ys k = sym (zero_add (number k ys))
 plus-number (a ∷ rest) [] k = sym (zero_right (number k (a ∷ rest)))
 plus-number (a ∷ rest) (b ∷ ys) zero = refl
 plus-number (a ∷ rest) (b ∷ ys) (suc k) = plus-number rest ys k

@@ -19,8 +19,8 @@ use Rattle.rv_cases.specs.Conditions.{is_in, list_at, AreAnswers}
 use Rattle.rv_cases.specs.Questions.{rows_at, forms_at, memory_answers, observer_answers, HaveAnswers, AreTestAnswers, AreUpdateAnswers, AreSides, AreQuestions}
 use Rattle.rv_cases.specs.Questions.{AreDistinct}
 use Rattle.rv_tested.specs.Exact.{AreExact, row_answer, form_answer, side_answer, AreAsked}
-use Rattle.rv_cases.proofs.Gathering.{same_truth as both_true}
-use Rattle.rv_forms.proofs.Flowing.{within_list as got_low}
+use Rattle.rv_base.proofs.Lists.{within_got}
+use Rattle.rv_diagram.proofs.Several.{same_truth}
 
 module _ (A : Type 0) (nodes : List Triple) (f : Valuation → A) (n : ℕ) (value : ℕ → A) (refs : List ℕ) (is : AreExact A nodes f n value refs) where
   pub exact_answers : AreAnswers nodes refs
@@ -39,7 +39,7 @@ module _ (A : Type 0) (nodes : List Triple) (f : Valuation → A) (n : ℕ) (val
 
   -- where two valuations have one value they have one answer
   pub exact_same : (i : ℕ) (v w : Valuation) → i < n → f v ≡ f w → is_in nodes refs i v ≡ is_in nodes refs i w
-  exact_same i v w lt same = both_true (is_in nodes refs i v) (is_in nodes refs i w)
+  exact_same i v w lt same = same_truth (is_in nodes refs i v) (is_in nodes refs i w)
       (λ h. (is.exact i lt w).1 (sym same ∙ (is.exact i lt v).0 h)) (λ h. (is.exact i lt v).1 (same ∙ (is.exact i lt w).0 h))
 
 -- the answers in a store that has grown
@@ -106,14 +106,14 @@ module _ (s : System) (d : Diagrams) (q : Questions) (asked : AreAsked s d q) wh
       record {
         absent = λ v h. (is.exact 0 (omega arith) v).0 h;
         present = λ i r v got h.
-            let low = got_low (rows_at q.rows t) i r got in
+            let low = within_got (rows_at q.rows t) i r got in
             (is.exact (i + 1) (omega (arith, low)) v).0 h ∙ ap (λ j. row_answer (rows_at q.rows t) j) (let e : i + 1 ≡ suc i = omega arith in e)
             ∙ ap Some (get_or_from_slice_get (rows_at q.rows t) i r (row_at [] 0) got);
       }
 
   update_answers : (k : ℕ) → k < s.memories → AreUpdateAnswers s d.nodes k (memory_answers q k) (forms_at q.forms k)
   update_answers k lt = record {
-    becomes = λ i f v got h. ((asked.memories k lt).exact i (got_low (forms_at q.forms k) i f got) v).0 h
+    becomes = λ i f v got h. ((asked.memories k lt).exact i (within_got (forms_at q.forms k) i f got) v).0 h
         ∙ get_or_from_slice_get (forms_at q.forms k) i f no_form got;
   }
 
@@ -160,22 +160,22 @@ module _ (s : System) (d : Diagrams) (q : Questions) (asked : AreAsked s d q) wh
     where
       by_row : (t i j : ℕ) (r : Row) → slice_get (rows_at q.rows t) i ≡ Some r → slice_get (rows_at q.rows t) j ≡ Some r → (t < s.tests) ⊎ (s.tests ≤ t) → i ≡ j
       by_row t i j r one two (inl lt) =
-          let a = got_low (rows_at q.rows t) i r one in
-          let b = got_low (rows_at q.rows t) j r two in
+          let a = within_got (rows_at q.rows t) i r one in
+          let b = within_got (rows_at q.rows t) j r two in
           let same = (asked.tests t lt).different (suc i) (suc j) (omega (arith, a)) (omega (arith, b))
           (ap Some (get_or_from_slice_get (rows_at q.rows t) i r (row_at [] 0) one ∙ sym (get_or_from_slice_get (rows_at q.rows t) j r (row_at [] 0) two))) in
           omega (arith, same)
       by_row t i j r one two (inr ge) =
           let none : rows_at q.rows t ≡ [] = get_or-eq_default q.rows [] (omega (arith, asked.many_tests)) in
-          absurd (let low = got_low (rows_at q.rows t) i r one in let z = ap (λ (l : List Row). length l) none in omega (arith, low, z))
+          absurd (let low = within_got (rows_at q.rows t) i r one in let z = ap (λ (l : List Row). length l) none in omega (arith, low, z))
 
       by_form : (k i j : ℕ) (f : Form) → slice_get (forms_at q.forms k) i ≡ Some f → slice_get (forms_at q.forms k) j ≡ Some f
           → (k < s.memories) ⊎ (s.memories ≤ k) → i ≡ j
       by_form k i j f one two (inl lt) =
-          let a = got_low (forms_at q.forms k) i f one in
-          let b = got_low (forms_at q.forms k) j f two in
+          let a = within_got (forms_at q.forms k) i f one in
+          let b = within_got (forms_at q.forms k) j f two in
           (asked.memories k lt).different i j a b
           (get_or_from_slice_get (forms_at q.forms k) i f no_form one ∙ sym (get_or_from_slice_get (forms_at q.forms k) j f no_form two))
       by_form k i j f one two (inr ge) =
           let none : forms_at q.forms k ≡ [] = get_or-eq_default q.forms [] (omega (arith, asked.many_memories)) in
-          absurd (let low = got_low (forms_at q.forms k) i f one in let z = ap (λ (l : List Form). length l) none in omega (arith, low, z))
+          absurd (let low = within_got (forms_at q.forms k) i f one in let z = ap (λ (l : List Form). length l) none in omega (arith, low, z))

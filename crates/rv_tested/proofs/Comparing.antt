@@ -21,7 +21,8 @@ use Rattle.rv_terms.proofs.Combining.{among-more, among_some, among_has, form_is
 use Rattle.rv_tested.specs.declared.rows.Answered.{Answered}
 use Rattle.rv_tested.specs.Rows.{IsLaid, HasRows, IsPut, IsAnswered, first_of}
 use Rattle.rv_tested.proofs.Putting.{rows_as, rows_later, put_none, put_both, put_as, put_after}
-use Rattle.rv_terms.proofs.Summing.{and-or as and_or}
+use Rattle.rv_terms.proofs.Summing.{and-or}
+use Rattle.rv_base.proofs.Truths.{and_false}
 
 -- TWO SIDES
 
@@ -60,15 +61,11 @@ sides_put s t u w form p x on off a b c e laid one two first second =
 
 -- THE PARTS OF A TERM
 
-and_none : (h : Bool) → (h && false) ≡ false
-and_none true = refl
-and_none false = refl
-
 pub rows_first : (s : Diagrams) (here truth : ℕ) (parts : List Part) (a : Answered) → Extends s s → IsLaid s.nodes a
     → IsPut s.nodes s.nodes (λ v. value_of s.nodes here v && among s.nodes parts 0 v)
     (λ v. tightened (test_row (value_of s.nodes truth v) (form_at s.nodes parts v))) a a
 rows_first s here truth parts a e laid = put_none s s (λ v. value_of s.nodes here v && among s.nodes parts 0 v)
-    (λ v. tightened (test_row (value_of s.nodes truth v) (form_at s.nodes parts v))) a e laid (λ v. and_none (value_of s.nodes here v))
+    (λ v. tightened (test_row (value_of s.nodes truth v) (form_at s.nodes parts v))) a e laid (λ v. and_false (value_of s.nodes here v))
 
 -- one part more
 pub rows_more : (s t u : Diagrams) (here truth i : ℕ) (parts : List Part) (part : Part) (a b c : Answered) → Extends s t
@@ -96,7 +93,7 @@ rows_more s t u here truth i parts part a b c e here_ref truth_ref refs disjoint
     let new = and_parts (value_of s.nodes here v) (holds s.nodes parts i v) (sym (there v) ∙ k) in
     disjoint old.0 i old.1 low v old.2 new.1)
     (λ v. ap (λ b. value_of s.nodes here v && b) (among-more s.nodes parts i v)
-    ∙ and_or (value_of s.nodes here v) (among s.nodes parts i v) (holds s.nodes parts i v)
+    ∙ and-or (value_of s.nodes here v) (among s.nodes parts i v) (holds s.nodes parts i v)
     ∙ ap (λ b. (value_of s.nodes here v && among s.nodes parts i v) || b) (sym (there v)))
     (λ v h. refl)
     (λ v h. let new = and_parts (value_of s.nodes here v) (holds s.nodes parts i v) (sym (there v) ∙ h) in

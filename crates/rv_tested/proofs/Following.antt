@@ -28,7 +28,6 @@ use Rattle.rv_bits.specs.Shown.{AreFlowRefs, clock_bit, is_there_at}
 use Rattle.rv_bits.proofs.Fitting.{over_fits}
 use Rattle.rv_cases.specs.Conditions.{list_at}
 use Rattle.rv_cases.specs.Questions.{rows_at}
-use Rattle.rv_cases.proofs.Lists.{got-append}
 use Rattle.rv_tested.specs.declared.compared.Compared.{Compared}
 use Rattle.rv_tested.specs.declared.rows.Answered.{Answered}
 use Rattle.rv_tested.specs.declared.testing.Sides.{Sides}
@@ -39,6 +38,7 @@ use Rattle.rv_tested.specs.Testing.{AreSidesRead, AreTestsRead, row_of_variable}
 use Rattle.rv_tested.proofs.Asking.{exact_later}
 use Rattle.rv_tested.proofs.Rowing.{answered_as, answered_exact}
 use Rattle.rv_tested.proofs.Siding.{sides_later}
+use Rattle.rv_base.proofs.Lists.{push_got}
 
 pub over_inside : (f : Flat) (n : ℕ) (k : Option ℕ) (t : FlatTree) → Fits (system_of f) (length (system_of f).flows) k kind.Int t → n ≡ length f.flows
     → IsOver n t
@@ -65,7 +65,7 @@ read_more f a b cs xs c x e at before here i d y one two = ⊎_elim
     let same : c ≡ d = some_is c d (sym at ∙ ap (λ n. slice_get cs n) (sym new.0) ∙ one) in
     subst (λ (z : Compared). AreSidesRead f b.nodes (comparison_in f.memories z) y) same
     (subst (λ (z : Sides). AreSidesRead f b.nodes (comparison_in f.memories c) z) new.1 here))
-    (got-append xs x y i two)
+    (push_got xs x y i two)
   where
     some_is : (p q : Compared) → Some p ≡ Some q → p ≡ q
     some_is p q z = cc

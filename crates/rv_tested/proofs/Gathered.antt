@@ -6,7 +6,7 @@ use Rattle.rv_agreement.specs.Valuations.{Comparison, item_comparisons, all_comp
 use Rattle.rv_flat.specs.declared.flat.Flat.{Flat}
 use Rattle.rv_flat.specs.FlatInstants.{system_of}
 use Rattle.rv_flat.specs.Systems.{assertion_item, flow_item, memory_item}
-use Rattle.rv_flat.proofs.Inlining.{items_kept as kept_items}
+use Rattle.rv_flat.proofs.Inlining.{items_kept}
 
 pub gathered : (f : Flat) (a b c d : List Comparison) → a ≡ []
     → b ≡ a ++ flat_map (item_comparisons (system_of f).flows) (map (flow_item f.memories) f.flows)
@@ -19,7 +19,7 @@ gathered f a b c d none flows memories assertions =
     let ys : List Item = map (memory_item f.memories) f.memories in
     let zs : List Item = map (assertion_item f.memories) f.assertions in
     let first : b ≡ flat_map g xs = flows ∙ ap (λ l. l ++ flat_map g xs) none in
-    let last : memory_items (system_of f) ≡ ys = kept_items f.memories f.memories in
+    let last : memory_items (system_of f) ≡ ys = items_kept f.memories f.memories in
     assertions ∙ ap (λ l. l ++ flat_map g zs) (memories ∙ ap (λ l. l ++ flat_map g ys) first)
     ∙ append_assoc (flat_map g xs) (flat_map g ys) (flat_map g zs)
     ∙ ap (λ l. flat_map g xs ++ l) (sym (flat_map-append g ys zs))

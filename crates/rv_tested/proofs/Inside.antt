@@ -28,8 +28,8 @@ use Rattle.rv_flat.proofs.FlowWeights.{item_light}
 use Rattle.rv_forms.specs.Terms.{weights_of}
 use Rattle.rv_tested.specs.declared.compared.Compared.{Compared}
 use Rattle.rv_tested.specs.Compared.{comparison_in, AreInside, IsInside}
-use Rattle.rv_flat.proofs.Inlining.{items_kept as kept_items}
-use Rattle.rv_types.proofs.Members.{nothing_in as none_in, of_flat_map as from_flat_map}
+use Rattle.rv_flat.proofs.Inlining.{items_kept}
+use Rattle.rv_types.proofs.Members.{nothing_in, of_flat_map}
 
 pub integer_kind : (i : Kind) → is_integer i ≡ true → i ≡ kind.Int
 integer_kind kind.Bool e = absurd (false≢true e)
@@ -38,9 +38,9 @@ integer_kind (kind.Labels l) e = absurd (false≢true e)
 
 -- what stands alone is placed and has a test
 own_placed : {X : Type 0} (p : Bool) (n : ℕ) (y c : X) → Contains (cond p (cond (nat_eq n 0) [] (y ∷ [])) []) c → (p ≡ true) × (0 < n)
-own_placed true zero y c w = none_in c w
+own_placed true zero y c w = nothing_in c w
 own_placed true (suc n) y c w = (refl, omega arith)
-own_placed false n y c w = none_in c w
+own_placed false n y c w = nothing_in c w
 
 module _ (s : System) (n : ℕ) (ws : List ℕ) (clocks : (j : ℕ) → j < n → IsNamed n (nth_item s.flows j).clock) where
   -- the operands are integers on the clock of the comparison, over these flows, and light
@@ -76,11 +76,11 @@ module _ (s : System) (n : ℕ) (ws : List ℕ) (clocks : (j : ℕ) → j < n �
 
     inside_form : (k : Option ℕ) (j : Kind) (at : Sites) (form : TreeForm) → IsNamed n k → FormFits s n k j at form → form_is_light ws form ≡ true
         → (c : Comparison) → Contains (form_comparisons s.flows k at form) c → Holds c
-    inside_form k j at (Constant z) named fit light c w = none_in c w
-    inside_form k j at (Flow x) named fit light c w = none_in c w
-    inside_form k j at (Memory m) named fit light c w = none_in c w
-    inside_form k j at (Ticked t) named fit light c w = none_in c w
-    inside_form k j at (Input x) named fit light c w = none_in c w
+    inside_form k j at (Constant z) named fit light c w = nothing_in c w
+    inside_form k j at (Flow x) named fit light c w = nothing_in c w
+    inside_form k j at (Memory m) named fit light c w = nothing_in c w
+    inside_form k j at (Ticked t) named fit light c w = nothing_in c w
+    inside_form k j at (Input x) named fit light c w = nothing_in c w
     inside_form k j at (Not e) named fit light c w = inside k kind.Bool e named fit.1 light c w
     inside_form k j at (Binary o a b) named fit light c w =
         let y : Comparison = record { at = at; clock = k; operator = o; left = a; right = b } in
@@ -108,11 +108,11 @@ module _ (s : System) (n : ℕ) (ws : List ℕ) (clocks : (j : ℕ) → j < n �
         ]
     inside_form k j at (AtMostOne es) named fit light c w = inside_all k es named fit.1 light c w
     inside_form k j at (When x e) named fit light c w = inside (nth_item s.flows x).clock j e (clocks x fit.1) fit.2 light c w
-    inside_form k j at (Current m i e) named fit light c w = none_in c w
+    inside_form k j at (Current m i e) named fit light c w = nothing_in c w
 
     inside_all : (k : Option ℕ) (es : FlatTrees) → IsNamed n k → AllFit s n k es → all_light ws es ≡ true → (c : Comparison)
         → Contains (comparisons_of s.flows k es) c → Holds c
-    inside_all k None named fit light c w = none_in c w
+    inside_all k None named fit light c w = nothing_in c w
     inside_all k (More e es) named fit light c w =
         let both = and_parts (is_light ws e) (all_light ws es) light in
         elim (Contains-append_cases (comparisons s.flows k e) (comparisons_of s.flows k es) c w) [
@@ -139,7 +139,7 @@ module _ (f : Flat) (well : IsWell (system_of f)) where
 
   memory_light : (m : ℕ) → m < length s.memories → is_light ws (nth_item (memory_items s) m).body ≡ true
   memory_light m lt =
-      let same = kept_items f.memories f.memories in
+      let same = items_kept f.memories f.memories in
       let many = length-map f.memories (kept_of f.memories) in
       let count = length-map f.memories (memory_item f.memories) in
       subst (λ xs. is_light ws (nth_item xs m).body ≡ true) (sym same)
@@ -169,7 +169,7 @@ module _ (f : Flat) (well : IsWell (system_of f)) where
 
   pub comparison_inside : (c : Comparison) → Contains (all_comparisons s) c → IsInside f c
   comparison_inside c there =
-      let x = from_flat_map (item_comparisons s.flows) (all_items s) c there in
+      let x = of_flat_map (item_comparisons s.flows) (all_items s) c there in
       let fit = item_there x.0 x.1 in
       let h = inside_item s total ws (λ j lt. (flow_fits j lt).0) fit.0 x.0 fit.1 fit.2 c x.2 in
       record { named = h.named; left = h.left; right = h.right; left_light = h.left_light; right_light = h.right_light; some = h.some }

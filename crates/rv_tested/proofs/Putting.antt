@@ -1,5 +1,5 @@
 -- One row after another is put to the answers of a test.
-use Rattle.std.proofs.Common.{◌≡◌, ◌≢◌, ◌⊎◌, inl, inr, ◌↔◌, ℕ, ◌+◌, ◌<◌, Bool, true, false, cond, ◌||◌, List, [], ◌∷◌, ◌++◌, length, length-append}
+use Rattle.std.proofs.Common.{◌≡◌, ◌≢◌, ◌⊎◌, inl, inr, ◌↔◌, ℕ, ◌+◌, ◌<◌, Bool, true, false, cond, ◌||◌, List, [], ◌∷◌, ◌++◌, length}
 use Rattle.std.proofs.Common.{refl, sym, ◌∙◌, ap, subst, arith, Option, Some}
 use Rattle.std.proofs.Common.{None as Nothing}
 use Rattle.std.specs.Prelude.{slice_set}
@@ -15,11 +15,12 @@ use Rattle.rv_cases.specs.Conditions.{is_in}
 use Rattle.rv_symbolic.specs.Growing.{Extends}
 use Rattle.rv_tested.specs.declared.rows.Answered.{Answered}
 use Rattle.rv_tested.specs.Rows.{IsLaid, HasRows, IsPut, IsAnswered}
-use Rattle.rv_agreement.proofs.Witnessed.{some_same as some_is}
-use Rattle.rv_cases.proofs.Gathering.{before-at as ref_before}
-use Rattle.rv_control.proofs.System.{always as or_true}
-use Rattle.rv_symbolic.proofs.Scheduling.{or_none as or_false}
-use Rattle.rv_terms.proofs.Adding.{or_left, or_right}
+use Rattle.rv_cases.proofs.Gathering.{before-at}
+use Rattle.rv_base.proofs.Options.{some_same}
+use Rattle.rv_base.proofs.Truths.{or_false, or_true}
+use Rattle.std.proofs.lemmas.Bool.{or_left}
+use Rattle.std.proofs.lemmas.Bool.{or_right}
+use Rattle.std.proofs.lemmas.List.{length_push}
 
 no_some : (r : Row) → Nothing ≡ Some r → ⊥
 no_some r e = cc
@@ -29,7 +30,7 @@ no_some r e = cc
 -- another row than the one that is put
 new_exact : (b u : Bool) (row r : Row) (o : Option Row) → (u ≡ true) ↔ (o ≡ Some r) → (b ≡ true → o ≡ Nothing) → (row ≡ r → ⊥)
     → (u ≡ true) ↔ (cond b (Some row) o ≡ Some r)
-new_exact true u row r o iff none off = (λ t. absurd (no_some r (sym (none refl) ∙ iff.0 t)), λ e. absurd (off (some_is row r e)))
+new_exact true u row r o iff none off = (λ t. absurd (no_some r (sym (none refl) ∙ iff.0 t)), λ e. absurd (off (some_same row r e)))
 new_exact false u row r o iff none off = iff
 
 -- the row that is put, where none had it
@@ -43,7 +44,7 @@ joined_exact true u row r o iff same = (λ t. ap Some same, λ e. or_true u)
 joined_exact false u row r o iff same = (λ t. iff.0 (sym (or_false u) ∙ t), λ e. or_false u ∙ iff.1 e)
 
 put_or_old : (b : Bool) (row r : Row) (o : Option Row) → cond b (Some row) o ≡ Some r → (row ≡ r) ⊎ (o ≡ Some r)
-put_or_old true row r o e = inl (some_is row r e)
+put_or_old true row r o e = inl (some_same row r e)
 put_or_old false row r o e = inr e
 
 -- ANSWERS
@@ -135,9 +136,6 @@ put_after a b c q g x y e laid one = record {
 
 -- A ROW
 
-length_push : {A : Type 0} (xs : List A) (x : A) → length (xs ++ x ∷ []) ≡ length xs + 1
-length_push xs x = length-append xs (x ∷ [])
-
 row_before : (rows : List Row) (row : Row) (i : ℕ) → i < length rows → row_at (rows ++ row ∷ []) i ≡ row_at rows i
 row_before rows row i lt = get_or_append_left rows (row ∷ []) (row_at [] 0) i lt
 
@@ -161,7 +159,7 @@ put_new s under row a b found laid fresh refs_are rows_are =
     λ i lt. ap (λ (l : List Row). row_at l i) rows_are ∙ row_before a.rows row i lt in
     let new_row : (i : ℕ) → i ≡ length a.rows → row_at b.rows i ≡ row = λ i e. ap (λ (l : List Row). row_at l i) rows_are ∙ row_last a.rows row i e in
     let old_ref : (i : ℕ) → i < length a.refs → ref_at b.refs i ≡ ref_at a.refs i =
-    λ i lt. ap (λ (l : List ℕ). ref_at l i) refs_are ∙ ref_before a.refs under i lt in
+    λ i lt. ap (λ (l : List ℕ). ref_at l i) refs_are ∙ before-at a.refs under i lt in
     let new_ref : (i : ℕ) → i ≡ length a.refs → ref_at b.refs i ≡ under = λ i e. ap (λ (l : List ℕ). ref_at l i) refs_are ∙ ref_last a.refs under i e in
     record {
       laid = record {

@@ -42,6 +42,8 @@ use Rattle.rv_tested.specs.Compared.{comparison_in}
 use Rattle.rv_tested.specs.Rows.{IsAnswered, first_of}
 use Rattle.rv_tested.specs.Exact.{AreExact, row_answer}
 use Rattle.rv_tested.specs.Testing.{AreSidesRead, IsTestTerm, row_in, first_comparisons}
+use Rattle.std.proofs.lemmas.Bool.{and_left}
+use Rattle.std.proofs.lemmas.Bool.{and_right}
 
 first_nothing : (a : Option Row) → a ≡ first_of a Nothing
 first_nothing Nothing = refl
@@ -72,21 +74,12 @@ module _ (s : System) (w : Valuation) (row : List (Option Reading)) (at : Sites)
   unfolding row_among
   among-none = refl
 
--- one comparison more that is none of the test
-pub and_false : (a b : Bool) → a ≡ false → (a && b) ≡ false
-and_false true b e = absurd (false≢true (sym e))
-and_false false b e = refl
-
-pub and_none : (a b : Bool) → b ≡ false → (a && b) ≡ false
-and_none true b e = e
-and_none false b e = refl
-
 pub other_place : (s : System) (w : Valuation) (row : List (Option Reading)) (at : Sites) (side : Side) (cs : List Comparison) (c : Comparison)
     → same_sites c.at at ≡ false → row_among s w row cs at side ≡ row_among s w row (cs ++ c ∷ []) at side
 other_place s w row at side cs c off =
     let none : row_among s w row (c ∷ []) at side ≡ Nothing = among-one s w row at side c
     ∙ ap (λ b. cond b (Some (tightened (test_row (w.test c.at side) (tested_form (width s) w.test (tested s w row c) side)))) Nothing)
-    (and_false (same_sites c.at at) (is_present (tested s w row c) side) off) in
+    (and_left (same_sites c.at at) (is_present (tested s w row c) side) off) in
     first_nothing (row_among s w row cs at side) ∙ ap (λ (o : Option Row). first_of (row_among s w row cs at side) o) (sym none)
     ∙ sym (among-append s w row at side cs (c ∷ []))
 
@@ -94,11 +87,11 @@ pub other_side : (s : System) (w : Valuation) (row : List (Option Reading)) (at 
     → has_side (sides_of c.operator) side ≡ false → row_among s w row cs at side ≡ row_among s w row (cs ++ c ∷ []) at side
 other_side s w row at side cs c off =
     let t : Tested = tested s w row c in
-    let absent : is_present t side ≡ false = and_none t.there (is_of_integers t.operator t.left t.right && has_side (sides_of t.operator) side)
-    (and_none (is_of_integers t.operator t.left t.right) (has_side (sides_of t.operator) side) off) in
+    let absent : is_present t side ≡ false = and_right t.there (is_of_integers t.operator t.left t.right && has_side (sides_of t.operator) side)
+    (and_right (is_of_integers t.operator t.left t.right) (has_side (sides_of t.operator) side) off) in
     let none : row_among s w row (c ∷ []) at side ≡ Nothing = among-one s w row at side c
     ∙ ap (λ b. cond b (Some (tightened (test_row (w.test c.at side) (tested_form (width s) w.test (tested s w row c) side)))) Nothing)
-    (and_none (same_sites c.at at) (is_present t side) absent) in
+    (and_right (same_sites c.at at) (is_present t side) absent) in
     first_nothing (row_among s w row cs at side) ∙ ap (λ (o : Option Row). first_of (row_among s w row cs at side) o) (sym none)
     ∙ sym (among-append s w row at side cs (c ∷ []))
 
@@ -151,8 +144,8 @@ own_row s w row at side c there truth f g form place has is left right truth_is 
         λ i. cond (present i) (Some (tightened (test_row (same_truth i) (same_form i)))) Nothing
     by false e one two =
         ap (λ b. cond b (Some (tightened (test_row (w.test c.at side) (tested_form (width s) w.test t side)))) Nothing)
-        (and_none (same_sites c.at at) (is_present t side)
-        (and_false t.there (is_of_integers t.operator t.left t.right && has_side (sides_of t.operator) side) (sym e)))
+        (and_right (same_sites c.at at) (is_present t side)
+        (and_left t.there (is_of_integers t.operator t.left t.right && has_side (sides_of t.operator) side) (sym e)))
 
 -- places
 pub sites_apart : (p q : Sites) → (p ≡ q → ⊥) → same_sites p q ≡ false

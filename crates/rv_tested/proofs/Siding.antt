@@ -30,8 +30,8 @@ use Rattle.rv_tested.specs.declared.compared.Compared.{Compared}
 use Rattle.rv_tested.specs.declared.testing.Sides.{Sides}
 use Rattle.rv_tested.specs.Compared.{comparison_in}
 use Rattle.rv_tested.specs.Testing.{IsSideRead, AreSidesRead, AreAllRead, IsDifference}
-use Rattle.rv_forms.proofs.Bounds.{bounded as bounded_of, within_more}
-use Rattle.rv_forms.proofs.Kept.{to_terms as as_terms, within_kept as within_later}
+use Rattle.rv_forms.proofs.Bounds.{bounded, within_more}
+use Rattle.rv_forms.proofs.Kept.{to_terms, within_kept}
 
 -- LATER
 
@@ -41,8 +41,8 @@ less_within n m f le is = (λ k d lt. let h = is.0 k d lt in omega (arith, h, le
 side_read : (f : Flat) (old mid new : Diagrams) (k : Option ℕ) (t : FlatTree) (parts : List Part) → ReadsAs f old mid t parts → Extends mid new
     → Fits (system_of f) (length (system_of f).flows) k kind.Int t → weight_in f t ≤ heaviest → IsSideRead f new.nodes k t parts
 side_read f old mid new k t parts is e fit light = record {
-  within = within_later mid new (columns_of f) heaviest parts e (within_more mid.nodes (columns_of f) (weight_in f t) heaviest parts light is.within);
-  shows = λ v row instant there. is.shows v row k instant fit there ∙ ap (λ (x : Form). Linear x) (sym (form_later mid new parts v (as_terms mid new e)
+  within = within_kept mid new (columns_of f) heaviest parts e (within_more mid.nodes (columns_of f) (weight_in f t) heaviest parts light is.within);
+  shows = λ v row instant there. is.shows v row k instant fit there ∙ ap (λ (x : Form). Linear x) (sym (form_later mid new parts v (to_terms mid new e)
       is.within.term.refs));
 }
 
@@ -62,8 +62,8 @@ sides_read f a b c x there left right first second e one two light lighter same 
 side_later : (f : Flat) (a b : Diagrams) (k : Option ℕ) (t : FlatTree) (parts : List Part) → Extends a b → IsSideRead f a.nodes k t parts
     → IsSideRead f b.nodes k t parts
 side_later f a b k t parts e is = record {
-  within = within_later a b (columns_of f) heaviest parts e is.within;
-  shows = λ v row instant there. is.shows v row instant there ∙ ap (λ (x : Form). Linear x) (sym (form_later a b parts v (as_terms a b e) is.within.term.refs));
+  within = within_kept a b (columns_of f) heaviest parts e is.within;
+  shows = λ v row instant there. is.shows v row instant there ∙ ap (λ (x : Form). Linear x) (sym (form_later a b parts v (to_terms a b e) is.within.term.refs));
 }
 
 pub sides_later : (f : Flat) (a b : Diagrams) (c : Comparison) (x : Sides) → Extends a b → AreSidesRead f a.nodes c x → AreSidesRead f b.nodes c x
@@ -111,7 +111,7 @@ negated_small x h = let e = unsigned_abs-mul (negsuc 0) x in omega (arith, e, h)
 pub can_negate : (nodes : List Triple) (columns : ℕ) (parts : List Part) → IsWithin nodes columns heaviest parts → (v : Valuation)
     → CanScale (negsuc 0) (form_at nodes parts v)
 can_negate nodes columns parts is v =
-    let b = bounded_of columns heaviest (form_at nodes parts v) (form_width nodes columns parts is.term v) (is.small v) in
+    let b = bounded columns heaviest (form_at nodes parts v) (form_width nodes columns parts is.term v) (is.small v) in
     record {
       coefficients = λ k. negated_small (number k (form_at nodes parts v).coefficients) (b.each k);
       constant = negated_small (form_at nodes parts v).constant b.constant;
@@ -124,9 +124,9 @@ pub can_subtract : (nodes : List Triple) (columns : ℕ) (parts others : List Pa
     → IsWithin nodes columns heaviest others
     → (v : Valuation) → CanAdd (form_at nodes parts v) (form_times (negsuc 0) (form_at nodes others v))
 can_subtract nodes columns parts others one two v =
-    let a = bounded_of columns heaviest (form_at nodes parts v) (form_width nodes columns parts one.term v) (one.small v) in
+    let a = bounded columns heaviest (form_at nodes parts v) (form_width nodes columns parts one.term v) (one.small v) in
     let b = times_bounded columns (negsuc 0) heaviest (form_at nodes others v)
-    (bounded_of columns heaviest (form_at nodes others v) (form_width nodes columns others two.term v) (two.small v)) in
+    (bounded columns heaviest (form_at nodes others v) (form_width nodes columns others two.term v) (two.small v)) in
     record {
       coefficients = λ k. sum_small (number k (form_at nodes parts v).coefficients) (number k (form_times (negsuc 0) (form_at nodes others v)).coefficients)
           (a.each k) (b.each k);
@@ -149,7 +149,7 @@ is_difference old new columns first second negative t one two minus is =
           (λ v. subst (FormWithin (2 ^ 100)) (sym (exact v)) (within_of columns (heaviest + heaviest) (2 ^ 100)
           (form_difference (form_at old.nodes first v) (form_at old.nodes second v)) (omega arith)
           (difference_bounded columns heaviest heaviest (form_at old.nodes first v) (form_at old.nodes second v)
-          (bounded_of columns heaviest (form_at old.nodes first v) (form_width old.nodes columns first one.term v) (one.small v))
-          (bounded_of columns heaviest (form_at old.nodes second v) (form_width old.nodes columns second two.term v) (two.small v)))));
+          (bounded columns heaviest (form_at old.nodes first v) (form_width old.nodes columns first one.term v) (one.small v))
+          (bounded columns heaviest (form_at old.nodes second v) (form_width old.nodes columns second two.term v) (two.small v)))));
       exact = exact;
     }

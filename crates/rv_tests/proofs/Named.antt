@@ -1,12 +1,10 @@
 -- The one file that the words of a command `prove` name.
-use Rattle.std.proofs.Common.{◌≡◌, inl, inr, ℕ, Bool, List, Some, None, ap, subst, sym}
+use Rattle.std.proofs.Common.{◌≡◌, inl, inr, ℕ, Bool, List, Some, ap, subst, sym}
 use Rattle.rv_words.specs.Asked.{prove}
 use Rattle.rv_words.specs.Words.{command}
 use Rattle.rv_run.specs.Words.{IsNamed, wanted, wanted_of}
 use Rattle.rv_run.proofs.Named.{same_pair}
-
-some_none : {X : Type 0} (x : X) → Some x ≡ None → ⊥
-some_none x h = cc
+use Rattle.rv_base.proofs.Options.{some_none}
 
 -- It is the one that the command holds.
 pub named_by : (words : List (List ℕ)) (file node : List ℕ) (nodes locations : ℕ) (accelerate : Bool)

@@ -9,34 +9,25 @@ use Rattle.rv_types.specs.declared.typed.Clock.{Clock}
 use Rattle.rv_types.specs.declared.typed.Clock.TheVariants.{Base, On}
 use Rattle.rv_types.specs.Clocks.{IsGrounded, at_base, through, ends, flow_clocks, clock_at}
 use Rattle.rv_types.specs.Chains.{follow, after, is_base}
+use Rattle.rv_base.proofs.Truths.{bit_most, bits_within}
 
 -- How many numbers below a bound pass a test.
 count : (ℕ → Bool) → ℕ → ℕ
 count f zero = 0
 count f (suc m) = count f m + cond (f m) 1 0
 
-bit_small : (b : Bool) → cond b 1 0 ≤ 1
-bit_small true = omega arith
-bit_small false = omega arith
-
 count_small : (f : ℕ → Bool) (m : ℕ) → count f m ≤ m
 unfolding count
 count_small f zero = omega arith
-count_small f (suc m) = omega (arith, count_small f m, bit_small (f m))
+count_small f (suc m) = omega (arith, count_small f m, bit_most (f m))
 
 count_same : (f g : ℕ → Bool) (m : ℕ) → ((i : ℕ) → i < m → f i ≡ g i) → count f m ≡ count g m
 unfolding count
 count_same f g zero same = refl
 count_same f g (suc m) same = (λ i. count_same f g m (λ j h. same j (omega arith)) i + cond (same m (omega arith) i) 1 0)
 
-no_flag : {X : Type 0} → false ≡ true → X
+pub no_flag : {X : Type 0} → false ≡ true → X
 no_flag e = cc
-
-bits : (b c : Bool) → (b ≡ true → c ≡ true) → cond b 1 0 ≤ cond c 1 0
-bits true true h = omega arith
-bits true false h = no_flag (h refl)
-bits false true h = omega arith
-bits false false h = omega arith
 
 -- what holds below a number and at it holds below the next
 up_to : (f g : ℕ → Bool) (m : ℕ) → ((i : ℕ) → i < m → f i ≡ g i) → f m ≡ g m → (i : ℕ) → i < suc m → f i ≡ g i
@@ -60,7 +51,7 @@ grows f g more (suc m) = by (grows f g more m)
 
     by : ((i : ℕ) → i < m → f i ≡ g i) ⊎ (count f m + 1 ≤ count g m) → ((i : ℕ) → i < suc m → f i ≡ g i) ⊎ (count f (suc m) + 1 ≤ count g (suc m))
     by (inl same) = here (f m) (g m) refl refl same
-    by (inr less) = inr (omega (arith, less, bits (f m) (g m) (more m)))
+    by (inr less) = inr (omega (arith, less, bits_within (f m) (g m) (more m)))
 
 -- Chains.
 

@@ -26,8 +26,9 @@ use Rattle.rv_types.proofs.FirstNames.{declared_append, before_append}
 use Rattle.rv_types.proofs.Turned.{twice}
 use Rattle.rv_types.proofs.RightNames.{both_empty}
 use Rattle.rv_types.proofs.NodeFlows.{none_of}
-use Rattle.rv_types.proofs.Members.{nothing_in, cons_cases, at_head, in_map, of_map, among_from, among_contains}
+use Rattle.rv_types.proofs.Members.{nothing_in, cons_cases, at_head, in_map, among_from, among_contains}
 use Rattle.rv_types.proofs.ExpressionKinds.{typed}
+use Rattle.rv_base.proofs.Lists.{from_map}
 
 -- What stands in a list stands in it turned round.
 
@@ -41,7 +42,7 @@ in_reverse (y ∷ ys) x w = subst (λ l. Contains l x) (sym (turned_more y ys)) 
   | inr rest ↦ Contains-append_left (reverse ys) (y ∷ []) x (in_reverse ys x rest)
 ])
 
-of_reverse : {X : Type 0} (xs : List X) (x : X) → Contains (reverse xs) x → Contains xs x
+pub of_reverse : {X : Type 0} (xs : List X) (x : X) → Contains (reverse xs) x → Contains xs x
 of_reverse xs x w = subst (λ l. Contains l x) (twice xs) (in_reverse (reverse xs) x w)
 
 abbrev constant_name : ConstantTree → Name
@@ -51,8 +52,8 @@ constant_name c = c.name
 declared_by : (cs ds : List ConstantTree) → ((c : ConstantTree) → Contains cs c → Contains ds c) → (x : Identifier)
     → is_declared (map constant_name cs) x ≡ true → is_declared (map constant_name ds) x ≡ true
 declared_by cs ds within x e =
-    let a = of_map (λ (y : Name). y.text) (map constant_name cs) x (among_contains (texts (map constant_name cs)) x e) in
-    let b = of_map constant_name cs a.0 a.1 in
+    let a = from_map (λ (y : Name). y.text) (map constant_name cs) x (among_contains (texts (map constant_name cs)) x e) in
+    let b = from_map constant_name cs a.0 a.1 in
     among_from (texts (map constant_name ds)) x
     (subst (Contains (texts (map constant_name ds))) (ap (λ (y : Name). y.text) b.2 ∙ a.2)
     (in_map (λ (y : Name). y.text) (map constant_name ds) b.0.name (in_map constant_name ds b.0 (within b.0 b.1))))
@@ -156,7 +157,7 @@ module _ (p : ProgramTree) (rising : IsRising p) (used : flat_map (constant_uses
       split = ap (map constant_name) whole ∙ map-append constant_name (reverse before) (c ∷ rest)
 
       none : stands_before c.name.at (map constant_name (c ∷ rest)) x ≡ false
-      none = none_before c.name.at (map constant_name (c ∷ rest)) x (λ y w. let d = of_map constant_name (c ∷ rest) y w in
+      none = none_before c.name.at (map constant_name (c ∷ rest)) x (λ y w. let d = from_map constant_name (c ∷ rest) y w in
           subst (λ (z : Name). c.name.at ≤ z.at) d.2 (later (reverse before) rest c d.0 whole d.1))
 
       told : (b l r : Bool) → cond b l r ≡ true → r ≡ false → b ≡ true

@@ -30,10 +30,11 @@ use Rattle.rv_base.specs.Limits.{too_heavy}
 use Rattle.rv_types.specs.ValueTables.{value_of_label, value_or, known_in, AreSmall}
 use Rattle.rv_types.specs.ConstantTables.{AreTablesOf, as_declared_by, declared_clash, constant_types_by}
 use Rattle.rv_types.proofs.Joined.{first_append}
-use Rattle.rv_types.proofs.LastFirst.{last_of, all_of, front_of, last_is, all_of-map, get_last, get_elsewhere}
+use Rattle.rv_types.proofs.LastFirst.{last_of, all_of, front_of, last_is, all_of-map, get_elsewhere}
 use Rattle.rv_types.proofs.TypeMeanings.{means}
 use Rattle.rv_types.proofs.Turned.{twice}
 use Rattle.rv_types.proofs.Entries.{label_is, place_of}
+use Rattle.rv_base.proofs.Lists.{get_push}
 
 abbrev constant_name : ConstantTree → Name
 constant_name c = c.name
@@ -147,7 +148,7 @@ slice_cases : {B : Type 0} (xs : List B) (v : B) (k : ℕ) → (slice_get (xs ++
 slice_cases xs v k = tested (nat_eq k (length xs)) refl
   where
     tested : (b : Bool) → nat_eq k (length xs) ≡ b → (slice_get (xs ++ v ∷ []) k ≡ Some v) ⊎ (slice_get xs k ≡ slice_get (xs ++ v ∷ []) k)
-    tested true e = let at : k ≡ length xs = grind (arith, nat_tests) in inl (ap (slice_get (xs ++ v ∷ [])) at ∙ get_last xs v)
+    tested true e = let at : k ≡ length xs = grind (arith, nat_tests) in inl (ap (slice_get (xs ++ v ∷ [])) at ∙ get_push xs v)
     tested false e = inr (get_elsewhere xs v k (λ at. let b : ⊥ = grind (arith, nat_tests) in b))
 
 pub more_small : (names : List Name) (vs : List Value) (labels : List Name) (places : List Label) (v : Value) → AreSmall (known_in names vs labels places)

@@ -30,14 +30,14 @@ part_small m (Whole z) h = counted_small m z h
 part_small m (Flag b) h = omega arith
 part_small m (value.Label k) h = omega arith
 
-negated_small : (m : ℕ) (z : ℤ) → nat_abs z ≤ m → nat_abs (neg_ℤ z) ≤ m
+pub negated_small : (m : ℕ) (z : ℤ) → nat_abs z ≤ m → nat_abs (neg_ℤ z) ≤ m
 negated_small m z h = omega (arith, ints)
 
-chosen_small : (b : Bool) (v w : Value) (m n : ℕ) → nat_abs (whole_in v) ≤ m → nat_abs (whole_in w) ≤ n → nat_abs (whole_in (cond b v w)) ≤ max m n
+pub chosen_small : (b : Bool) (v w : Value) (m n : ℕ) → nat_abs (whole_in v) ≤ m → nat_abs (whole_in w) ≤ n → nat_abs (whole_in (cond b v w)) ≤ max m n
 chosen_small true v w m n g h = omega (arith, g)
 chosen_small false v w m n g h = omega (arith, h)
 
-capped_less : (k m : ℕ) → k ≤ min m too_heavy → k ≤ m
+pub capped_less : (k m : ℕ) → k ≤ min m too_heavy → k ≤ m
 capped_less k m h = omega (arith, h)
 
 module _ (known : Identifier → Value) (small : AreSmall known) where

@@ -8,7 +8,7 @@ use Rattle.rv_types.specs.declared.fault.NameFault.TheVariants.{NoNode, UnknownN
 use Rattle.rv_types.specs.declared.fault.NameFault.TheVariants.{Memory}
 use Rattle.rv_types.specs.Faults.{offset, number, ComesBefore, IsFirst}
 use Rattle.rv_types.specs.Earliest.{rank, sooner, first}
-use Rattle.rv_types.proofs.Members.{at_head as here, cons_cases as contains_cases, in_tail as there}
+use Rattle.rv_types.proofs.Members.{at_head, cons_cases, in_tail}
 
 number_small : (f : NameFault) → number f < 16
 number_small NoNode = omega arith
@@ -55,7 +55,7 @@ least_cons : (x : NameFault) (xs : List NameFault) (f : NameFault) → Contains 
 unfolding Least
 least_cons x xs f m h below = (
   m,
-  λ g n. elim (contains_cases x xs g n) as (λ _. rank f ≤ rank g)
+  λ g n. elim (cons_cases x xs g n) as (λ _. rank f ≤ rank g)
       [ inl e ↦ subst (λ y. rank f ≤ rank y) e h | inr k ↦ below g k ],
 )
 
@@ -65,7 +65,7 @@ unfolding Least
 mutual_step x xs f None e rest h =
     let s : x ≡ f = cc in
     let n : xs ≡ [] = first_none xs e in
-    subst (λ y. Least y (x ∷ xs)) s (subst (λ l. Least x (x ∷ l)) (sym n) (least_cons x [] x (here x []) (omega arith) (λ g m. absurd (omega (arith, m.1)))))
+    subst (λ y. Least y (x ∷ xs)) s (subst (λ l. Least x (x ∷ l)) (sym n) (least_cons x [] x (at_head x []) (omega arith) (λ g m. absurd (omega (arith, m.1)))))
 mutual_step x xs f (Some g) e rest h = by (nat_le (rank x) (rank g)) refl h
   where
     by : (b : Bool) → nat_le (rank x) (rank g) ≡ b → cond b (Some x) (Some g) ≡ Some f → Least f (x ∷ xs)
@@ -73,12 +73,12 @@ mutual_step x xs f (Some g) e rest h = by (nat_le (rank x) (rank g)) refl h
         let s : x ≡ f = cc in
         let l : rank x ≤ rank g = grind (arith, nat_tests) in
         let r = rest g e in
-        subst (λ y. Least y (x ∷ xs)) s (least_cons x xs x (here x xs) (omega arith) (λ j m. omega (arith, r.1 j m)))
+        subst (λ y. Least y (x ∷ xs)) s (least_cons x xs x (at_head x xs) (omega arith) (λ j m. omega (arith, r.1 j m)))
     by false t k =
         let s : g ≡ f = cc in
         let l : rank g < rank x = grind (arith, nat_tests) in
         let r = rest g e in
-        subst (λ y. Least y (x ∷ xs)) s (least_cons x xs g (there x xs g r.0) (omega arith) r.1)
+        subst (λ y. Least y (x ∷ xs)) s (least_cons x xs g (in_tail x xs g r.0) (omega arith) r.1)
 
 pub first_least : (fs : List NameFault) (f : NameFault) → first fs ≡ Some f → Least f fs
 first_least [] f h = absurd (let b : ⊥ = cc in b)

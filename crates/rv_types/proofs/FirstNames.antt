@@ -11,20 +11,13 @@ use Rattle.rv_types.proofs.Spaced.{same_back}
 use Rattle.rv_types.proofs.Joined.{first_append, sooner_assoc}
 use Rattle.rv_types.specs.Earliest.{first, sooner}
 use Rattle.std.proofs.lemmas.List.{append-nil}
-
-or_assoc : (a b c : Bool) → ((a || b) || c) ≡ (a || (b || c))
-or_assoc true b c = refl
-or_assoc false b c = refl
+use Rattle.rv_base.proofs.Truths.{or_assoc, or_false}
 
 or_swap : (a b : Bool) → (a || b) ≡ (b || a)
 or_swap true true = refl
 or_swap true false = refl
 or_swap false true = refl
 or_swap false false = refl
-
-or_false : (a : Bool) → (a || false) ≡ a
-or_false true = refl
-or_false false = refl
 
 -- names with the same bytes are declared alike
 pub declared_alike : (xs : List Name) (t x : Identifier) → is_same t x ≡ true → is_declared xs t ≡ is_declared xs x

@@ -12,7 +12,7 @@ use Rattle.rv_types.specs.Heads.{kind_given, first_kind, first_output, head_kind
 use Rattle.rv_types.specs.Types.{Scope, Signature, same_kind, kind_in, where_met, one_of, two_of, three_of, both_are, all_typed, all_suit, fit, binary_rule}
 use Rattle.rv_types.specs.Types.{not_rule, minus_rule, memory_rule, when_of, if_rule, at_most_one_of, sole, call_of, is_constant, kind_of, form_verdict}
 use Rattle.rv_types.specs.Types.{kinds_of_all}
-use Rattle.rv_types.proofs.ConstantContents.{met_kind as met}
+use Rattle.rv_types.proofs.ConstantContents.{met_kind}
 
 named_is : (o : Option Kind) (k : Kind) → kind_in (one_of Has o) ≡ Some k → unwrap_or o Boolean ≡ k
 named_is Nothing k e = absurd (none-some k e)
@@ -20,20 +20,20 @@ named_is (Some j) k e = same_Some j k e
 
 not_is : (o : Option Kind) (k : Kind) → kind_in (one_of not_rule o) ≡ Some k → Boolean ≡ k
 not_is Nothing k e = absurd (none-some k e)
-not_is (Some j) k e = met (same_kind j Boolean) Boolean k e
+not_is (Some j) k e = met_kind (same_kind j Boolean) Boolean k e
 
 minus_is : (o : Option Kind) (k : Kind) → kind_in (one_of minus_rule o) ≡ Some k → Int ≡ k
 minus_is Nothing k e = absurd (none-some k e)
-minus_is (Some j) k e = met (same_kind j Int) Int k e
+minus_is (Some j) k e = met_kind (same_kind j Int) Int k e
 
 memory_is : (moves : Bool) (o : Option Kind) (k : Kind) → kind_in (one_of (memory_rule moves) o) ≡ Some k → o ≡ Some k
 memory_is moves Nothing k e = absurd (none-some k e)
-memory_is moves (Some j) k e = ap Some (met moves j k e)
+memory_is moves (Some j) k e = ap Some (met_kind moves j k e)
 
 when_is : (moves : Bool) (o c : Option Kind) (k : Kind) → kind_in (when_of moves o c) ≡ Some k → o ≡ Some k
 when_is true Nothing c k e = absurd (none-some k e)
 when_is true (Some j) Nothing k e = absurd (none-some k e)
-when_is true (Some j) (Some i) k e = ap Some (met (same_kind i Boolean) j k e)
+when_is true (Some j) (Some i) k e = ap Some (met_kind (same_kind i Boolean) j k e)
 when_is false Nothing c k e = absurd (none-some k e)
 when_is false (Some j) c k e = absurd (none-some k e)
 
@@ -41,13 +41,13 @@ if_is : (a b c : Option Kind) (k : Kind) → kind_in (three_of if_rule a b c) �
 if_is Nothing b c k e = absurd (none-some k e)
 if_is (Some h) Nothing c k e = absurd (none-some k e)
 if_is (Some h) (Some i) Nothing k e = absurd (none-some k e)
-if_is (Some h) (Some i) (Some j) k e = ap Some (met (same_kind h Boolean && same_kind i j) i k e)
+if_is (Some h) (Some i) (Some j) k e = ap Some (met_kind (same_kind h Boolean && same_kind i j) i k e)
 
 most_is : (ks : List (Option Kind)) (k : Kind) → kind_in (at_most_one_of ks) ≡ Some k → Boolean ≡ k
 most_is ks k e = by (all_typed ks) e
   where
     by : (b : Bool) → kind_in (cond b (where_met (all_suit Boolean ks) Boolean) Silent) ≡ Some k → Boolean ≡ k
-    by true e = met (all_suit Boolean ks) Boolean k e
+    by true e = met_kind (all_suit Boolean ks) Boolean k e
     by false e = absurd (none-some k e)
 
 product_is : (b scaled : Bool) (k : Kind) → kind_in (cond b (cond scaled (Has Int) Multiplies) Clashes) ≡ Some k → Int ≡ k
@@ -57,19 +57,19 @@ product_is false scaled k e = absurd (none-some k e)
 
 -- an operator, of whose left operand the head tells the type i
 rule_is : (moves scaled : Bool) (o : Op) (h i j k : Kind) → h ≡ i → kind_in (binary_rule moves scaled o i j) ≡ Some k → unwrap_or (kind_given o) h ≡ k
-rule_is moves scaled op.Arrow h i j k left e = left ∙ met (moves && same_kind i j) i k e
-rule_is moves scaled op.Implies h i j k left e = met (both_are Boolean i j) Boolean k e
-rule_is moves scaled op.Or h i j k left e = met (both_are Boolean i j) Boolean k e
-rule_is moves scaled op.Xor h i j k left e = met (both_are Boolean i j) Boolean k e
-rule_is moves scaled op.And h i j k left e = met (both_are Boolean i j) Boolean k e
-rule_is moves scaled op.Equal h i j k left e = met (same_kind i j) Boolean k e
-rule_is moves scaled op.Differs h i j k left e = met (same_kind i j) Boolean k e
-rule_is moves scaled op.Less h i j k left e = met (both_are Int i j) Boolean k e
-rule_is moves scaled op.AtMost h i j k left e = met (both_are Int i j) Boolean k e
-rule_is moves scaled op.Greater h i j k left e = met (both_are Int i j) Boolean k e
-rule_is moves scaled op.AtLeast h i j k left e = met (both_are Int i j) Boolean k e
-rule_is moves scaled op.Plus h i j k left e = met (both_are Int i j) Int k e
-rule_is moves scaled op.Minus h i j k left e = met (both_are Int i j) Int k e
+rule_is moves scaled op.Arrow h i j k left e = left ∙ met_kind (moves && same_kind i j) i k e
+rule_is moves scaled op.Implies h i j k left e = met_kind (both_are Boolean i j) Boolean k e
+rule_is moves scaled op.Or h i j k left e = met_kind (both_are Boolean i j) Boolean k e
+rule_is moves scaled op.Xor h i j k left e = met_kind (both_are Boolean i j) Boolean k e
+rule_is moves scaled op.And h i j k left e = met_kind (both_are Boolean i j) Boolean k e
+rule_is moves scaled op.Equal h i j k left e = met_kind (same_kind i j) Boolean k e
+rule_is moves scaled op.Differs h i j k left e = met_kind (same_kind i j) Boolean k e
+rule_is moves scaled op.Less h i j k left e = met_kind (both_are Int i j) Boolean k e
+rule_is moves scaled op.AtMost h i j k left e = met_kind (both_are Int i j) Boolean k e
+rule_is moves scaled op.Greater h i j k left e = met_kind (both_are Int i j) Boolean k e
+rule_is moves scaled op.AtLeast h i j k left e = met_kind (both_are Int i j) Boolean k e
+rule_is moves scaled op.Plus h i j k left e = met_kind (both_are Int i j) Int k e
+rule_is moves scaled op.Minus h i j k left e = met_kind (both_are Int i j) Int k e
 rule_is moves scaled op.Times h i j k left e = product_is (both_are Int i j) scaled k e
 rule_is moves scaled op.Slash h i j k left e = absurd (none-some k e)
 rule_is moves scaled op.Div h i j k left e = absurd (none-some k e)

@@ -1,6 +1,6 @@
 -- The first fault of two lists joined.
-use Rattle.std.proofs.Common.{◌≡◌, ℕ, ◌+◌, ◌<◌, Bool, true, false, List, [], ◌∷◌, ◌++◌, Option, Some, None, refl, sym, ap, ◌∙◌, arith, ◌&&◌, length, drop}
-use Rattle.std.proofs.Common.{get_or, drop-cons, suc, add-one, take, map, flat_map}
+use Rattle.std.proofs.Common.{◌≡◌, ℕ, ◌+◌, ◌<◌, List, [], ◌∷◌, ◌++◌, Option, Some, None, refl, sym, ap, ◌∙◌, arith, length}
+use Rattle.std.proofs.Common.{get_or, take, map, flat_map}
 use Rattle.rv_types.specs.declared.fault.NameFault.{NameFault}
 use Rattle.rv_types.specs.Earliest.{sooner, first}
 use Rattle.std.proofs.lemmas.Bool.Decides.{nat_tests}
@@ -29,14 +29,6 @@ first_two xs ys zs = simp first_append
 
 pub first_three : (xs ys zs us : List NameFault) → first (xs ++ (ys ++ (zs ++ us))) ≡ sooner (first xs) (sooner (first ys) (sooner (first zs) (first us)))
 first_three xs ys zs us = simp first_append
-
--- the elements from the k-th on begin with it
-pub drop_here : {A : Type 0} (es : List A) (k : ℕ) (e : A) → k < length es → e ≡ get_or es k e → drop k es ≡ e ∷ drop (k + 1) es
-drop_here es k e h i = rw (add-one) (drop-cons es k e h ∙ ap (λ x. x ∷ drop (suc k) es) (sym i))
-
-pub and_assoc : (a b c : Bool) → ((a && b) && c) ≡ (a && (b && c))
-and_assoc true b c = refl
-and_assoc false b c = refl
 
 -- the faults of one element more
 pub mapped_step : {X Y : Type 0} (f : Y → List NameFault) (t : X → Y) (xs : List X) (k : ℕ) (x : X) (fault one both : Option NameFault) → k < length xs

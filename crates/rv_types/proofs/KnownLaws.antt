@@ -19,7 +19,7 @@ use Rattle.rv_types.specs.Known.{first_spaces, second_declarations, knows_value,
 use Rattle.rv_types.specs.Known.{undefined_in, uses_in, names_in}
 use Rattle.rv_types.proofs.FirstNames.{declared_firsts, before_firsts}
 
-texts_of : (ds : List Decl) → texts (decl_names ds) ≡ names ds
+pub texts_of : (ds : List Decl) → texts (decl_names ds) ≡ names ds
 texts_of [] = refl
 texts_of (d ∷ ds) = ap (λ l. d.name.text ∷ l) (texts_of ds)
 

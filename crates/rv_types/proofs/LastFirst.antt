@@ -12,6 +12,8 @@ use Rattle.rv_types.specs.declared.fault.NameFault.{NameFault}
 use Rattle.rv_types.specs.declared.fault.NameFault.TheVariants.{DefinedTwice}
 use Rattle.rv_types.specs.Names.{texts, is_declared, repeated}
 use Rattle.rv_types.specs.Tables.{entry_in}
+use Rattle.rv_base.proofs.Lists.{get_push}
+use Rattle.std.proofs.lemmas.Bool.{or_parts}
 
 -- what a name means after declarations, the last of them first
 abbrev pub last_of : {A B : Type 0} → (A → Name) → (List A → A → B) → List A → Identifier → Option B
@@ -65,22 +67,14 @@ no_fault : (b : Bool) (at : ℕ) (fs : List NameFault) → cond b (DefinedTwice 
 no_fault true at fs h = absurd (let x : ⊥ = cc in x)
 no_fault false at fs h = (refl, h)
 
-neither : (a b : Bool) → (a || b) ≡ false → (a ≡ false) × (b ≡ false)
-neither true b h = absurd (let x : ⊥ = cc in x)
-neither false b h = (refl, h)
-
 -- where no name is declared twice, each is new among those before it
 pub fresh : (before xs : List Name) (y : Name) (rest : List Name) → repeated before (xs ++ y ∷ rest) ≡ []
     → (is_declared before y.text ≡ false) × (is_declared xs y.text ≡ false)
 fresh before [] y rest h = ((no_fault _ _ _ h).0, refl)
 fresh before (x ∷ xs) y rest h =
     let later = fresh (x ∷ before) xs y rest (no_fault _ _ _ h).1 in
-    let parts = neither _ _ later.0 in
+    let parts = or_parts _ _ later.0 in
     (parts.1, ap (λ b. b || is_declared xs y.text) parts.0 ∙ later.1)
-
-pub get_last : {B : Type 0} (xs : List B) (v : B) → slice_get (xs ++ v ∷ []) (length xs) ≡ Some v
-get_last [] v = refl
-get_last (x ∷ xs) v = get_last xs v
 
 pub get_elsewhere : {B : Type 0} (xs : List B) (v : B) (k : ℕ) → (k ≡ length xs → ⊥) → slice_get xs k ≡ slice_get (xs ++ v ∷ []) k
 get_elsewhere [] v zero h = absurd (h refl)
@@ -103,7 +97,7 @@ here name mean names rest c cs e different x s =
     ap (λ ns. index_of (texts ns) x) e ∙ index_there (front_of name cs) (name c) rest x absent s
     ∙ all_of-length (λ before c. name c) cs ∙ sym (all_of-length mean cs) in
     sym (ap (λ b. cond b (slice_get (all_of mean cs ++ mean cs c ∷ []) (index_of (texts names) x)) Nothing) declared
-    ∙ ap (slice_get (all_of mean cs ++ mean cs c ∷ [])) at ∙ get_last (all_of mean cs) (mean cs c))
+    ∙ ap (slice_get (all_of mean cs ++ mean cs c ∷ [])) at ∙ get_push (all_of mean cs) (mean cs c))
 
 elsewhere : {A B : Type 0} (name : A → Name) (mean : List A → A → B) (names rest : List Name) (c : A) (cs : List A) → names ≡ front_of name cs ++ name c ∷ rest
     → (x : Identifier) → is_same (name c).text x ≡ false → entry_in names (all_of mean cs) x ≡ entry_in names (all_of mean cs ++ mean cs c ∷ []) x

@@ -7,13 +7,13 @@ pub mod Fitting
 mod LastFirst
 mod TypeMeanings
 mod Turned
-mod Weights
+pub mod Weights
 mod Entries
 mod ConstantMeanings
 mod FirstNames
-mod KnownLaws
+pub mod KnownLaws
 mod FlowSpaces
-mod ChainLaws
+pub mod ChainLaws
 mod Meeting
 pub mod RightNames
 mod NodeScope
@@ -28,13 +28,13 @@ pub mod ConstantContents
 pub mod CallSites
 mod PartFaults
 mod ExpressionKinds
-mod ConstantKinds
-mod Paces
+pub mod ConstantKinds
+pub mod Paces
 mod RightSides
 mod NodeKinds
-mod WellNodes
+pub mod WellNodes
 pub mod RisingConstants
-mod ConstantValues
+pub mod ConstantValues
 pub mod WideParts
 mod OperatorTrees
 mod PutKinds

@@ -40,13 +40,6 @@ in_map f (y ∷ ys) x w = elim (cons_cases y ys x w) [
   | inr rest ↦ in_tail (f y) (map f ys) (f x) (in_map f ys x rest)
 ]
 
-pub of_map : {X Y : Type 0} (f : X → Y) (xs : List X) (y : Y) → Contains (map f xs) y → (x : X) × Contains xs x × (f x ≡ y)
-of_map f [] y w = nothing_in y w
-of_map f (x ∷ xs) y w = elim (cons_cases (f x) (map f xs) y w) [
-  | inl same ↦ (x, at_head x xs, same)
-  | inr rest ↦ let v = of_map f xs y rest in (v.0, in_tail x xs v.0 v.1, v.2)
-]
-
 pub in_flat_map : {X Y : Type 0} (f : X → List Y) (xs : List X) (x : X) (y : Y) → Contains xs x → Contains (f x) y → Contains (flat_map f xs) y
 in_flat_map f [] x y w v = nothing_in x w
 in_flat_map f (z ∷ zs) x y w v = elim (cons_cases z zs x w) [

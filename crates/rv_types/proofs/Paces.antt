@@ -140,7 +140,7 @@ module _ (n : NodeTree) where
 
 -- What joins without a clash.
 
-clock_same : (c d : Clock) → same_clock c d ≡ true → c ≡ d
+pub clock_same : (c d : Clock) → same_clock c d ≡ true → c ≡ d
 clock_same Base Base e = refl
 clock_same Base (On j) e = cc
 clock_same (On i) Base e = cc

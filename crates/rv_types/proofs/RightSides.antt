@@ -21,8 +21,9 @@ use Rattle.rv_types.proofs.KnownLaws.{flows_are}
 use Rattle.rv_types.proofs.RightNames.{both_empty}
 use Rattle.rv_types.proofs.NodeFlows.{none_of}
 use Rattle.rv_types.proofs.ExpressionKinds.{use_known}
-use Rattle.rv_types.proofs.Members.{nothing_in, cons_cases, at_head, in_map, of_map, in_flat_map, of_flat_map, among_from, among_contains, not_before}
+use Rattle.rv_types.proofs.Members.{nothing_in, cons_cases, at_head, in_map, in_flat_map, of_flat_map, among_from, among_contains, not_before}
 use Rattle.rv_types.proofs.Members.{names_apart, one_number}
+use Rattle.rv_base.proofs.Lists.{from_map}
 
 -- the groups of faults of a node, of which each is empty
 pub record IsNamedNode (p : ProgramTree) (n : NodeTree) : Type 0 where
@@ -55,13 +56,13 @@ lefts_of q = q.lefts
 -- a left side of one of some equations is among all
 in_lefts : (qs : List EquationTree) (q : EquationTree) (x : Identifier) → Contains qs q → Contains (texts q.lefts) x → Contains (texts (flat_map lefts_of qs)) x
 in_lefts qs q x w v =
-    let y = of_map (λ (y : Name). y.text) q.lefts x v in
+    let y = from_map (λ (y : Name). y.text) q.lefts x v in
     subst (Contains (texts (flat_map lefts_of qs))) y.2 (in_map (λ (y : Name). y.text) (flat_map lefts_of qs) y.0 (in_flat_map lefts_of qs q y.0 w y.1))
 
 of_lefts : (qs : List EquationTree) (x : Identifier) → Contains (texts (flat_map lefts_of qs)) x
     → (q : EquationTree) × Contains qs q × Contains (texts q.lefts) x
 of_lefts qs x w =
-    let y = of_map (λ (y : Name). y.text) (flat_map lefts_of qs) x w in
+    let y = from_map (λ (y : Name). y.text) (flat_map lefts_of qs) x w in
     let q = of_flat_map lefts_of qs y.0 y.1 in
     (q.0, q.1, subst (Contains (texts q.0.lefts)) y.2 (in_map (λ (y : Name). y.text) q.0.lefts y.0 q.2))
 
@@ -147,7 +148,7 @@ module _ (p : ProgramTree) (n : NodeTree) (named : IsNamedNode p n) where
   -- a left side is a flow
   pub side_flow : (q : EquationTree) (x : Identifier) → Contains n.equations q → Contains (texts q.lefts) x → is_flow n x ≡ true
   side_flow q x w v =
-      let y = of_map (λ (y : Name). y.text) q.lefts x v in
+      let y = from_map (λ (y : Name). y.text) q.lefts x v in
       subst (λ z. is_flow n z ≡ true) y.2 (use_known (is_flow n y.0.text) y.0.at (none_of (use_of (is_flow n)) q.lefts y.0 (sides_known q w).0 y.1))
 
   pub left_flow : (x : Identifier) (r : Right) → IsRight n x r → is_flow n x ≡ true
@@ -158,7 +159,7 @@ module _ (p : ProgramTree) (n : NodeTree) (named : IsNamedNode p n) where
   left_no_input x r w input =
       let l = left_of n x r w in
       let absent = not_before (decl_names n.inputs) (lefts n) named.once x (in_lefts n.equations l.equation x l.there l.side) in
-      let d = of_map (λ (d : Decl). d.name.text) n.inputs x input in
+      let d = from_map (λ (d : Decl). d.name.text) n.inputs x input in
       let present : is_declared (decl_names n.inputs) x ≡ true =
       among_from (texts (decl_names n.inputs)) x
       (subst (Contains (texts (decl_names n.inputs))) d.2 (in_map (λ (y : Name). y.text) (decl_names n.inputs) d.0.name
@@ -172,7 +173,7 @@ module _ (p : ProgramTree) (n : NodeTree) (named : IsNamedNode p n) where
   defined_by : (ds : List Decl) (x : Identifier) → ((d : Decl) → Contains ds d → Contains (n.outputs ++ n.locals) d) → Contains (names ds) x
       → (q : EquationTree) × Contains n.equations q × Contains (texts q.lefts) x
   defined_by ds x within w =
-      let d = of_map (λ (d : Decl). d.name.text) ds x w in
+      let d = from_map (λ (d : Decl). d.name.text) ds x w in
       let y = in_map (λ (d : Decl). d.name) (n.outputs ++ n.locals) d.0 (within d.0 d.1) in
       of_lefts n.equations x
       (among_contains (texts (lefts n)) x (subst (λ z. is_declared (lefts n) z ≡ true) d.2

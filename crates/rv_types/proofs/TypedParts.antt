@@ -1,6 +1,6 @@
 -- The parts of an expression that has a type have types, and so have the operands of each operator of a node that keeps
 -- the rules.
-use Rattle.std.proofs.Common.{◌≡◌, ℕ, suc, inl, inr, Bool, true, false, ◌&&◌, ◌||◌, cond, List, [], ◌∷◌, ◌++◌, flat_map, length, refl, sym, ◌∙◌, ap, subst}
+use Rattle.std.proofs.Common.{◌≡◌, ℕ, suc, inl, inr, Bool, true, false, ◌||◌, cond, List, [], ◌∷◌, ◌++◌, flat_map, length, refl, sym, ◌∙◌, ap, subst}
 use Rattle.std.proofs.Common.{arith, Option, Some, None as Nothing, unwrap_or}
 use Rattle.std.specs.List.{Contains}
 use Rattle.std.specs.Option.{option_map}
@@ -99,10 +99,6 @@ of_call true (Some g) ks w = tested (all_typed ks) refl w
     tested : (b : Bool) → all_typed ks ≡ b → IsKind (kind_in (cond b (cond (fit g.takes ks) (sole g.gives) Clashes) Silent)) → IsCalled (Some g) ks
     tested true e w = record { signature = g; there = refl; one = fitting (fit g.takes ks) w; typed = e }
     tested false e w = absurd (no_kind w.0 w.1)
-
-pub both_true : (a b : Bool) → (a && b) ≡ true → (a ≡ true) × (b ≡ true)
-both_true true b e = (refl, e)
-both_true false b e = cc
 
 first_typed : (o : Option Kind) (ks : List (Option Kind)) → all_typed (o ∷ ks) ≡ true → IsKind o × (all_typed ks ≡ true)
 first_typed Nothing ks e = cc

@@ -17,13 +17,13 @@ counted_small m z h = tested (nat_le m heaviest) refl
     tested true e = let l : m ≤ heaviest = grind (arith, nat_tests) in omega (arith, h, l)
     tested false e = let l : heaviest < m = grind (arith, nat_tests) in omega (arith, l)
 
-sum_small : (y z : ℤ) (v w : ℕ) → nat_abs y ≤ v → nat_abs z ≤ w → nat_abs (y +ℤ z) ≤ v + w
+pub sum_small : (y z : ℤ) (v w : ℕ) → nat_abs y ≤ v → nat_abs z ≤ w → nat_abs (y +ℤ z) ≤ v + w
 sum_small y z v w g h = omega (arith, ints)
 
-difference_small : (y z : ℤ) (v w : ℕ) → nat_abs y ≤ v → nat_abs z ≤ w → nat_abs (y -ℤ z) ≤ v + w
+pub difference_small : (y z : ℤ) (v w : ℕ) → nat_abs y ≤ v → nat_abs z ≤ w → nat_abs (y -ℤ z) ≤ v + w
 difference_small y z v w g h = omega (arith, ints)
 
-product_small : (y z : ℤ) (w : ℕ) → nat_abs z ≤ w → nat_abs (y *ℤ z) ≤ nat_abs y * w
+pub product_small : (y z : ℤ) (w : ℕ) → nat_abs z ≤ w → nat_abs (y *ℤ z) ≤ nat_abs y * w
 product_small y z w h = rw (unsigned_abs-mul y z) (mul-le-mul_left (nat_abs y) h)
 
 pub under_small : (o : Op) (x y : Value) (v w : ℕ) → nat_abs (whole_in x) ≤ v → nat_abs (whole_in y) ≤ w

@@ -41,7 +41,7 @@ use Rattle.rv_types.proofs.NodeKinds.{several, equation_sided, several_call, ass
 
 -- Inputs come first, and stand on the base clock.
 
-index_front : (xs ys : List Identifier) (x : Identifier) → Contains xs x → index_of (xs ++ ys) x < length xs
+pub index_front : (xs ys : List Identifier) (x : Identifier) → Contains xs x → index_of (xs ++ ys) x < length xs
 index_front [] ys x w = nothing_in x w
 index_front (z ∷ xs) ys x w = by (is_same z x) refl (cons_cases z xs x w) (index_front xs ys x)
   where
@@ -51,7 +51,7 @@ index_front (z ∷ xs) ys x w = by (is_same z x) refl (cons_cases z xs x w) (ind
     by false is (inl same) more = absurd (let yes : is_same z x ≡ true = ap (is_same z) (sym same) ∙ text_itself z in let no : ⊥ = cc in no)
     by false is (inr rest) more = let lt = more rest in omega (arith, lt)
 
-base_at : (ds : List Decl) (i : ℕ) → get_or (map base_clock ds) i Base ≡ Base
+pub base_at : (ds : List Decl) (i : ℕ) → get_or (map base_clock ds) i Base ≡ Base
 base_at [] i = refl
 base_at (d ∷ ds) zero = refl
 base_at (d ∷ ds) (suc i) = base_at ds i

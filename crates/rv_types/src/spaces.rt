@@ -4,7 +4,7 @@ ghost use Rattle.std.specs.Prelude.{◌≡◌, ◌∷◌, ◌++◌, [], IfOk, ma
 ghost use Rattle.rv_tree.specs.Tree.{program_tree, constant_tree, node_tree};
 ghost use Rattle.rv_types.specs.declared.fault.NameFault.TheVariants.{DefinedTwice};
 ghost use Rattle.rv_types.specs.Names.{is_declared, labels_of, decl_names, repeated, repeated_after, repeated_values};
-ghost use Rattle.rv_types.specs.Names.{type_names, constant_names, label_names, node_names};
+ghost use Rattle.rv_types.specs.Names.{constant_names, label_names};
 ghost use Rattle.rv_types.specs.Firsts.{with_name, firsts_after, firsts};
 ghost use Rattle.rv_types.specs.Known.{first_spaces, second_declarations};
 ghost use Rattle.rv_types.specs.Earliest.{first};

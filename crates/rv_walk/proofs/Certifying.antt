@@ -15,13 +15,11 @@ use Rattle.rv_proofs.specs.Reached.{IsControlClosed, IsControlGood}
 use Rattle.rv_proofs.specs.declared.certificate.Location.{Location}
 use Rattle.rv_proofs.specs.declared.certificate.Entry.{Entry}
 use Rattle.rv_proofs.specs.declared.report.Case.{Case}
-use Rattle.rv_symbolic.proofs.Parting.{got-append, new-append, none-at}
 use Rattle.rv_walk.specs.Ends.{has}
 use Rattle.rv_walk.specs.Plain.{IsPlain, ArePlain}
 use Rattle.rv_walk.specs.Walks.{entry_of, location_of, certificate_of}
-
-some_same : {A : Type 0} (x y : A) → Some x ≡ Some y → x ≡ y
-some_same x y e = cc
+use Rattle.rv_base.proofs.Lists.{get_push, none_at, push_got}
+use Rattle.rv_base.proofs.Options.{some_same}
 
 -- what a mapped list holds
 got-map : {A B : Type 0} (f : A → B) (xs : List A) (k : ℕ) (y : B) → slice_get (map f xs) k ≡ Some y → (x : A) × (slice_get xs k ≡ Some x) × (f x ≡ y)
@@ -52,10 +50,10 @@ plain control cases k l h =
 module _ (s : System) (control : Frozen) (cases : List Case) (set : IsControlSet s control) (closed : IsControlClosed s (has control))
     (good : IsControlGood s (has control)) (parts : AreCases s control cases) (few : length cases ≤ 2) where
   at-one : (k : ℕ) (l : Location) → slice_get (certificate_of control cases).locations k ≡ Some l → location_of control cases ≡ l
-  at-one k l h = ⊎_elim (λ none. absurd (none-at [] k l refl none.1)) (λ one. one.1) (got-append [] (location_of control cases) l k h)
+  at-one k l h = ⊎_elim (λ none. absurd (none_at [] k l refl none.1)) (λ one. one.1) (push_got [] (location_of control cases) l k h)
 
   first-is : slice_get (certificate_of control cases).locations 0 ≡ Some (location_of control cases)
-  first-is = new-append [] (location_of control cases)
+  first-is = get_push [] (location_of control cases)
 
   each_entry : (Q : Location → Entry → Type 0) → ((j : ℕ) (c : Case) → slice_get cases j ≡ Some c → Q (location_of control cases) (entry_of c))
       → (k j : ℕ) (l : Location) (e : Entry) → slice_get (certificate_of control cases).locations k ≡ Some l → slice_get l.entries j ≡ Some e → Q l e
@@ -103,8 +101,8 @@ module _ (s : System) (control : Frozen) (cases : List Case) (set : IsControlSet
 
   is_included : IsIncluded (location_of control cases)
   is_included = record {
-    entry = λ n r h. absurd (none-at [] n r refl h);
-    first = λ loop n r h. absurd (none-at [] n r refl h);
+    entry = λ n r h. absurd (none_at [] n r refl h);
+    first = λ loop n r h. absurd (none_at [] n r refl h);
     no_first = λ no. refl;
     no_around = λ no. refl;
   }

@@ -1,6 +1,6 @@
 -- Two sets in a store: what is new in the second, and both together.
-use Rattle.std.proofs.Common.{ℕ, Bool, ◌≡◌, true, false, refl, not, ◌&&◌, ◌||◌, sym, ap, ◌∙◌, subst, arith, Option, Some, None}
-use Rattle.std.specs.Prelude.{MatchOption, if◌then◌else◌}
+use Rattle.std.proofs.Common.{ℕ, ◌≡◌, false, not, ◌&&◌, ◌||◌, sym, ap, ◌∙◌, subst, arith, Option, Some, None}
+use Rattle.std.specs.Prelude.{MatchOption}
 use Rattle.rv_diagram.specs.Nodes.{Valuation, Diagrams, Answers, IsRef, IsOrderedOver, value_of}
 use Rattle.rv_diagram.specs.Several.{UsesNeeded}
 use Rattle.rv_diagram.specs.declared.frozen.Frozen.{Frozen}
@@ -13,13 +13,6 @@ use Rattle.rv_walk.specs.declared.sets.Extended.{Extended}
 use Rattle.rv_walk.specs.declared.sets.Grown.{Grown}
 use Rattle.rv_walk.specs.Ends.{has}
 use Rattle.rv_walk.specs.Extended.{fresh_of, either_of, fresh_in, either_in, IsTaken, IsExtended, IsWithout, IsGrown, IsLifted}
-
--- nothing where the second is true, else the first
-pub none_or : (a b n : Bool) → n ≡ false → (if b then n else a) ≡ (a && not b)
-none_or true true n is = is
-none_or false true n is = is
-none_or true false n is = refl
-none_or false false n is = refl
 
 -- a set of the store and another
 module _ (s0 s1 s2 s3 : Diagrams) (next : Frozen) (before step fresh all : ℕ) (here : IsRef s0.nodes before)

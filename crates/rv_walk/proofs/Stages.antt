@@ -14,11 +14,12 @@ use Rattle.rv_proofs.specs.Reached.{IsControlClosed}
 use Rattle.rv_symbolic.specs.declared.relation.NextStates.{NextStates}
 use Rattle.rv_symbolic.specs.Stepped.{AreNextStates}
 use Rattle.rv_symbolic.proofs.Reading.{control-value, control_set}
-use Rattle.rv_symbolic.proofs.Parting.{or_left, or_right}
 use Rattle.rv_walk.specs.Ends.{has, IsLeastControl}
 use Rattle.rv_walk.specs.Extended.{fresh_in, either_in, IsFresh}
 use Rattle.rv_walk.specs.Walks.{IsReached, IsFirst, IsStage, IsWalk, IsDone, missing, set_at, last_of, no_set}
 use Rattle.rv_walk.proofs.Counting.{missing_less}
+use Rattle.std.proofs.lemmas.Bool.{or_left}
+use Rattle.std.proofs.lemmas.Bool.{or_right}
 
 pub set-before : (sets : List Frozen) (f : Frozen) (t : ℕ) → t < length sets → set_at (sets ++ f ∷ []) t ≡ set_at sets t
 set-before sets f t low = get_or_append_left sets (f ∷ []) no_set t low

@@ -19,9 +19,9 @@ use Rattle.rv_proofs.specs.declared.certificate.EntryKind.{EntryKind}
 use Rattle.rv_proofs.specs.declared.certificate.EntryKind.TheVariants.{Dead, Go, Loop}
 use Rattle.rv_walk.specs.Plain.{ArePlain}
 use Rattle.rv_widen.specs.Ranged.{AreReach, IsRangedKind, IsRangedEntry, AreRangedEntries, IsLocationOf, IsRangedLocation, IsRanged}
-use Rattle.rv_widen.proofs.Pushing.{push_before}
 use Rattle.rv_widen.proofs.Fitting.{none_kept}
-use Rattle.rv_proofs.proofs.Sampling.{record_one as one_record}
+use Rattle.rv_proofs.proofs.Sampling.{record_one}
+use Rattle.rv_base.proofs.Lists.{push_cases}
 
 -- the multipliers of one row more
 pub reach_more : (n k : ℕ) (reach : List Multipliers) (m : Multipliers) → AreReach n k reach → IsRecord n m → AreReach n (k + 1) (reach ++ m ∷ [])
@@ -34,7 +34,7 @@ reach_more n k reach m are is = record {
 pub entries_more : (s : System) (p w n : ℕ) (es : List Entry) (e : Entry) → AreRangedEntries s p w n es → IsRangedEntry s p w e
     → AreRangedEntries s p w (n + 1) (es ++ e ∷ [])
 entries_more s p w n es e are is = record {
-  each = λ j x at. go j x (push_before es e x j at);
+  each = λ j x at. go j x (push_cases es e x j at);
   size = let q = are.size in omega (arith, q, length_push es e);
 }
   where
@@ -63,7 +63,7 @@ location_ranged s from rows wanted n es l control kept few are is = record {
     one : (j : ℕ) (d : Multipliers) → j < length l.by_entry → IsRecord (length rows) (get_or l.by_entry j d)
     one j d m =
         let inside : j < length rows = omega (arith, m, is.count) in
-        subst (IsRecord (length rows)) (sym (get_or_from_slice_get l.by_entry j (by_one j) d (is.by_entry j inside))) (one_record (length rows) j inside)
+        subst (IsRecord (length rows)) (sym (get_or_from_slice_get l.by_entry j (by_one j) d (is.by_entry j inside))) (record_one (length rows) j inside)
 
 module _ (s : System) (rows : List Row) (start later : Location) (one : IsRangedLocation s [] (length rows) start)
     (two : IsRangedLocation s rows (length rows) later) (x : Certificate) (is : x.locations ≡ start ∷ later ∷ []) where

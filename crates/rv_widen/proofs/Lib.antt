@@ -1,4 +1,3 @@
-pub mod Pushing
 pub mod Fitting
 pub mod Recording
 pub mod Assembling

@@ -1,6 +1,6 @@
 -- What the walk over the words makes of words that are no flags, whatever their text.
 use Rattle.std.proofs.Common.{◌≡◌, ◌∙◌, ◌==◌, ◌&&◌, ◌++◌, ap, ap₂, sym, refl, true, false, not}
-use Rattle.std.proofs.Common.{true≢false, Bool, ℕ, List, [], ◌∷◌, Some, None, is_some, append-nil, append_assoc}
+use Rattle.std.proofs.Common.{Bool, ℕ, List, [], ◌∷◌, Some, None, is_some, append-nil, append_assoc}
 use Rattle.std.specs.Prelude.{⊤, if◌then◌else◌, option_and_then}
 use Rattle.std.specs.List.{fold}
 use Rattle.std.specs.Option.{option_map_or}
@@ -12,10 +12,7 @@ use Rattle.clap.specs.Walk.{subcommand_met, subcommand_or_other, trailing, walke
 use Rattle.clap.specs.Simple.{Shape}
 use Rattle.clap.specs.Faults.{bundle_fault, flag_word_fault, other_fault, step_fault, turn_fault, walk_fault, word_fault}
 use Rattle.rv_words.specs.Plain.{is_plain}
-
-not_true : (b : Bool) → not b ≡ true → b ≡ false
-not_true true e = absurd (true≢false (sym e))
-not_true false e = refl
+use Rattle.rv_base.proofs.Truths.{of_not_true}
 
 -- a plain word is not `--`, and neither a long nor a short flag
 plain_parts : (word : Text) → is_plain word ≡ true → (bytes_eq word (45 ∷ 45 ∷ []) ≡ false) × (long_of word ≡ None) × (short_of word ≡ None)
@@ -27,7 +24,7 @@ plain_parts (x ∷ []) h = one (x == 45)
     one true = (refl, refl, refl)
     one false = (refl, refl, refl)
 plain_parts (x ∷ y ∷ rest) h =
-    let other : (x == 45) ≡ false = not_true (x == 45) h in (
+    let other : (x == 45) ≡ false = of_not_true (x == 45) h in (
       ap (λ b. b && bytes_eq (y ∷ rest) (45 ∷ [])) other,
       ap (λ b. option_and_then long_of_rest (option_and_then (strip_byte 45) (if b then Some (y ∷ rest) else None))) other,
       ap (λ b. option_and_then short_of_rest (if b then Some (y ∷ rest) else None)) other,

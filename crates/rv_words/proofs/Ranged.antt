@@ -13,31 +13,26 @@ use Rattle.rv_words.specs.Ranges.{HasRanges, IsUpTo}
 use Rattle.rv_words.specs.Reaver.{reaver}
 use Rattle.rv_words.specs.Words.{acceleration_of, asked_by, checking, command, count_of, digits_of, is_numeral, locations_of, names_of, nodes_of, proving}
 use Rattle.rv_words.specs.Words.{replaying}
+use Rattle.rv_base.proofs.Options.{some_same}
+use Rattle.rv_base.proofs.Truths.{both_of}
+use Rattle.std.proofs.NetLemmas.Options.{map_some}
 
 -- what a choice between something and none gives
 chosen : {X : Type 0} (b : Bool) (o : Option X) (x : X) → (if b then o else None) ≡ Some x → (b ≡ true) × (o ≡ Some x)
 chosen true o x e = (refl, e)
 chosen false o x e = absurd (let bad : ⊥ = cc in bad)
 
-both : (a b : Bool) → (a && b) ≡ true → (a ≡ true) × (b ≡ true)
-both true true e = (refl, refl)
-both true false e = absurd (let bad : ⊥ = cc in bad)
-both false b e = absurd (let bad : ⊥ = cc in bad)
-
-same : {X : Type 0} (x y : X) → Some x ≡ Some y → x ≡ y
-same x y e = cc
-
 pub digits-in_range : (most : ℕ) (text : Text) (n : ℕ) → digits_of 1 most text ≡ Some n → IsUpTo most n
 digits-in_range most text n e =
     let d = digits_value 10 text in
     let parts = chosen (is_numeral text && nat_le 1 d && nat_le d most) (Some d) n e in
-    let first = both (is_numeral text && nat_le 1 d) (nat_le d most) parts.0 in
-    let second = both (is_numeral text) (nat_le 1 d) first.0 in
-    subst (IsUpTo most) (same d n parts.1) (leb-true 1 d second.1, leb-true d most first.1)
+    let first = both_of (is_numeral text && nat_le 1 d) (nat_le d most) parts.0 in
+    let second = both_of (is_numeral text) (nat_le 1 d) first.0 in
+    subst (IsUpTo most) (some_same d n parts.1) (leb-true 1 d second.1, leb-true d most first.1)
 
 -- what an option says, or its default
 limited : (most default : ℕ) (o : Option Text) (n : ℕ) → IsUpTo most default → option_map_or (digits_of 1 most) o (Some default) ≡ Some n → IsUpTo most n
-limited most default None n is e = subst (IsUpTo most) (same default n e) is
+limited most default None n is e = subst (IsUpTo most) (some_same default n e) is
 limited most default (Some text) n is e = digits-in_range most text n e
 
 nodes-in_range : (rows : List Row) (n : ℕ) → nodes_of rows ≡ Some n → IsUpTo 33554432 n
@@ -50,34 +45,29 @@ count-in_range : (rows : List Row) (n : ℕ) → count_of rows ≡ Some n → Is
 count-in_range rows n e =
     option_and_then_some (digits_of 1 2000) (first_of (codes "count") rows) n e (λ text there read. digits-in_range 2000 text n read)
 
--- what a function of an option gives comes of what is there
-mapped : {X Y P : Type 0} (f : X → Y) (o : Option X) (y : Y) → option_map f o ≡ Some y → ((x : X) → o ≡ Some x → f x ≡ y → P) → P
-mapped f None y e next = absurd (let bad : ⊥ = cc in bad)
-mapped f (Some x) y e next = next x refl (same (f x) y e)
-
 module _ (rows : List Row) (a : Asked) where
   proving-in_range : proving rows ≡ Some a → HasRanges a
   proving-in_range e = option_and_then_some _ (names_of rows) a e (λ names there found.
       option_and_then_some _ (nodes_of rows) a found (λ nodes limit placed.
       option_and_then_some _ (locations_of rows) a placed (λ locations several answered.
-      mapped (λ accelerate. prove names.0 names.1 nodes locations accelerate) (acceleration_of rows) a answered (λ accelerate said is.
+      map_some (λ accelerate. prove names.0 names.1 nodes locations accelerate) (acceleration_of rows) a answered (λ accelerate said is.
       subst HasRanges is (nodes-in_range rows nodes limit, locations-in_range rows locations several)))))
 
   checking-in_range : checking rows ≡ Some a → HasRanges a
   checking-in_range e = option_and_then_some _ (names_of rows) a e (λ names there found.
       option_and_then_some _ (first_of (codes "invariant") rows) a found (λ invariant beside placed.
-      mapped (λ nodes. check names.0 names.1 invariant nodes) (nodes_of rows) a placed (λ nodes limit is.
+      map_some (λ nodes. check names.0 names.1 invariant nodes) (nodes_of rows) a placed (λ nodes limit is.
       subst HasRanges is (nodes-in_range rows nodes limit))))
 
   replaying-in_range : replaying rows ≡ Some a → HasRanges a
   replaying-in_range e = option_and_then_some _ (names_of rows) a e (λ names there found.
-      mapped (replay names.0 names.1) (first_of (codes "trace") rows) a found (λ trace beside is. subst HasRanges is tt))
+      map_some (replay names.0 names.1) (first_of (codes "trace") rows) a found (λ trace beside is. subst HasRanges is tt))
 
   making-in_range : option_map make (count_of rows) ≡ Some a → HasRanges a
-  making-in_range e = mapped make (count_of rows) a e (λ count there is. subst HasRanges is (count-in_range rows count there))
+  making-in_range e = map_some make (count_of rows) a e (λ count there is. subst HasRanges is (count-in_range rows count there))
 
   touring-in_range : option_map tour (count_of rows) ≡ Some a → HasRanges a
-  touring-in_range e = mapped tour (count_of rows) a e (λ count there is. subst HasRanges is (count-in_range rows count there))
+  touring-in_range e = map_some tour (count_of rows) a e (λ count there is. subst HasRanges is (count-in_range rows count there))
 
   -- one of the five, or none
   five : (p c r m t : Bool) → (if p then proving rows else (if c then checking rows else

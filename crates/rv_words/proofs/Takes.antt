@@ -33,6 +33,7 @@ use Rattle.clap.specs.declared.builder.action.ArgAction.TheVariants as action
 use Rattle.clap.specs.declared.builder.value_parser.ValueParser.{ValueParser}
 use Rattle.clap.specs.declared.error.kind.ErrorKind.{ErrorKind}
 use Rattle.clap.specs.declared.error.kind.ErrorKind.TheVariants as kind
+use Rattle.rv_base.proofs.Truths.{and_assoc}
 
 -- ---- lists of kinds
 
@@ -53,10 +54,6 @@ test_free false k = refl
 or_free : (b : Bool) (ks : Kinds) (p : Bool) → is_empty ks ≡ p → is_empty (if b then [] else ks) ≡ (b || p)
 or_free true ks p e = refl
 or_free false ks p e = e
-
-and_assoc : (a b c : Bool) → ((a && b) && c) ≡ (a && (b && c))
-and_assoc true b c = refl
-and_assoc false b c = refl
 
 and_swap : (a b c : Bool) → (a && (b && c)) ≡ (b && (a && c))
 and_swap true true c = refl

@@ -5,8 +5,8 @@ use Rattle.rv_diagram.specs.Nodes.{Diagrams}
 use Rattle.rv_proofs.specs.Systems.{System}
 use Rattle.rv_accept.specs.Held.{IsWithin}
 use Rattle.rv_accept.specs.Passing.{IsGiven}
-use Rattle.rv_accept.proofs.Later.{there_is}
 use Rattle.rv_accept.proofs.Firsts.{before_entry}
+use Rattle.rv_base.proofs.Lists.{item_at}
 use Rattle.rv_accept.proofs.checker.entries_fault.Goals as goal
 
 pub overflow_cast-j : goal.overflow_cast-j
@@ -15,7 +15,7 @@ overflow_cast-j c = let (s, g, w) = c.requires.given in let few : length c.args.
 
 pub returns-in-Some-clause-exact : goal.returns-in-Some-clause-exact
 returns-in-Some-clause-exact c = λ s g w before included covers.
-    let (e, at) = there_is c.args.location.now.entries c.loop-j.j (let low : c.loop-j.j < length c.args.location.now.entries = omega
+    let (e, at) = item_at c.args.location.now.entries c.loop-j.j (let low : c.loop-j.j < length c.args.location.now.entries = omega
     (arith, c.loop-j-test.true, c.len-j-end.ensures) in low) in
     let h = rw c.in-Some.is at (c.in_ok-reason.ensures.exact s (subst (λ
     (d : Diagrams). IsGiven s d c.args.parts.now c.args.questions.now c.args.certificate.now) (sym c.loop-j.invariant.same) g) (subst (λ

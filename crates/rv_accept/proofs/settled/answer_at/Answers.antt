@@ -3,7 +3,7 @@ use Rattle.std.proofs.lemmas.Bool.{cases_lt}
 use Rattle.std.proofs.lemmas.Option.{get_or_from_slice_get}
 use Rattle.rv_diagram.specs.Nodes.{value_of, valuation_of}
 use Rattle.rv_cases.specs.Conditions.{is_in}
-use Rattle.rv_accept.proofs.Growing.{clash}
+use Rattle.rv_base.proofs.Truths.{clash}
 use Rattle.rv_accept.proofs.settled.answer_at.Goals as goal
 
 pub value_at-requires-clause-found : goal.value_at-requires-clause-found

@@ -6,8 +6,8 @@ use Rattle.rv_rows.specs.declared.linear.Form.{Form}
 use Rattle.rv_proofs.specs.Implied.{form_at}
 use Rattle.rv_cases.specs.Conditions.{is_in}
 use Rattle.rv_accept.specs.Steps.{IsTrueOf}
-use Rattle.rv_accept.proofs.Growing.{clash}
 use Rattle.rv_accept.proofs.Stays.{settled_here, unsettled, form_right, form_all, form_or}
+use Rattle.rv_base.proofs.Truths.{clash}
 use Rattle.rv_accept.proofs.settled.settled_form.Goals as goal
 
 pub at-requires : goal.at-requires

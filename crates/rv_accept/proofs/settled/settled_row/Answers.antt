@@ -6,8 +6,8 @@ use Rattle.rv_rows.specs.declared.linear.Row.{Row}
 use Rattle.rv_rows.specs.Rows.{row_at}
 use Rattle.rv_cases.specs.Conditions.{is_in}
 use Rattle.rv_accept.specs.Steps.{IsTrueOf}
-use Rattle.rv_accept.proofs.Growing.{clash}
 use Rattle.rv_accept.proofs.Stays.{settled_here, unsettled, test_right, test_all, row_or}
+use Rattle.rv_base.proofs.Truths.{clash}
 use Rattle.rv_accept.proofs.settled.settled_row.Goals as goal
 
 pub returns-then-place-eq0-clause-exact : goal.returns-then-place-eq0-clause-exact

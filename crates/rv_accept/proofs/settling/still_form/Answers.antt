@@ -3,7 +3,7 @@ use Rattle.std.proofs.lemmas.Option.{get_or_from_slice_get}
 use Rattle.rv_diagram.specs.Nodes.{value_of}
 use Rattle.rv_rows.specs.declared.linear.Form.{Form}
 use Rattle.rv_accept.specs.Needs.{StaysForm}
-use Rattle.rv_accept.proofs.Growing.{clash}
+use Rattle.rv_base.proofs.Truths.{clash}
 use Rattle.rv_accept.proofs.settling.still_form.Goals as goal
 
 pub returns-in_default-clause-exact : goal.returns-in_default-clause-exact

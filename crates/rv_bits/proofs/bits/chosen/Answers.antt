@@ -2,7 +2,7 @@ use Rattle.std.proofs.Common.{◌≡◌, ◌∙◌, ◌+◌, ℕ, Bool, cond, Li
 use Rattle.rv_diagram.specs.Nodes.{Valuation, value_of}
 use Rattle.rv_symbolic.specs.Growing.{Extends}
 use Rattle.rv_symbolic.specs.Linked.{AreRefs}
-use Rattle.rv_symbolic.proofs.Extending.{extends_trans, grows_extends, refs_after as refs_kept}
+use Rattle.rv_symbolic.proofs.Extending.{extends_trans, grows_extends, refs_after}
 use Rattle.rv_bits.specs.Bits.{bit}
 use Rattle.rv_bits.proofs.Making.{refs_more, means_more, bits_kept}
 use Rattle.rv_bits.proofs.bits.chosen.Goals as goal
@@ -29,7 +29,7 @@ loop-number-preserved c =
     record {
       extends = extends_trans a s new before.extends step;
       size = ap (λ (l : List ℕ). length l) same ∙ long ∙ (λ i. before.size i + 1);
-      found = subst (AreRefs new.nodes) (sym same) (refs_more new.nodes refs r (refs_kept s new refs step before.found) c.in_ok-ite.ensures.ok.found);
+      found = subst (AreRefs new.nodes) (sym same) (refs_more new.nodes refs r (refs_after s new refs step before.found) c.in_ok-ite.ensures.ok.found);
       means = λ b v lt. ap (λ (l : List ℕ). bit new.nodes l v b) same ∙ means_more s new refs r k meaning before.size step before.found before.means last b v
           lt;
     }

@@ -12,7 +12,7 @@ use Rattle.rv_flat.specs.Tame.{AreOver}
 use Rattle.rv_control.specs.Named.{variables_of}
 use Rattle.rv_symbolic.specs.Growing.{Makes}
 use Rattle.rv_symbolic.specs.Linked.{AreRefs}
-use Rattle.rv_symbolic.proofs.Extending.{map_ok, extends_refl, extends_trans, refs_after as refs_kept}
+use Rattle.rv_symbolic.proofs.Extending.{map_ok, extends_refl, extends_trans, refs_after}
 use Rattle.rv_bits.specs.Bits.{bit, count_true, Spells, IsSingle}
 use Rattle.rv_bits.specs.Operators.{operated_by}
 use Rattle.rv_bits.specs.Shown.{refs_at, clock_bit, IsAfter, AreAfter, ReadsTo}
@@ -107,7 +107,7 @@ read_each-loop-e-preserved t c =
           omega (arith, before.smaller);
       shown = c.in_ok-bits.ensures.shown;
       extends = extends_trans c.args.store.now s new before.extends read.extends;
-      found = subst (AreRefs new.nodes) (sym pushed) (refs_more new.nodes refs (ref_at bits 0) (refs_kept s new refs read.extends before.found)
+      found = subst (AreRefs new.nodes) (sym pushed) (refs_more new.nodes refs (ref_at bits 0) (refs_after s new refs read.extends before.found)
           (any_ref new.nodes bits read.are_refs 0));
       fit = λ k all. (fit_more x es i e low left (length (system_of f).flows) k (before.fit k all)).1;
       counted = λ v row k instant all there.

@@ -1,5 +1,5 @@
 use Rattle.std.proofs.Common.{◌∙◌, Some, ap, sym}
-use Rattle.rv_boxes.proofs.Limiting.{take_push}
+use Rattle.rv_base.proofs.Lists.{take_push}
 use Rattle.rv_boxes.proofs.bounding.copy_rows.Goals as goal
 
 pub loop-place-preserved : goal.loop-place-preserved

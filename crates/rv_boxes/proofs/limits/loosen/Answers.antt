@@ -1,7 +1,8 @@
 use Rattle.std.proofs.Common.{◌≡◌, ◌≢◌, ◌<◌, ◌||◌, ◌+◌, ◌++◌, ◌∷◌, [], Bool, List, ℤ, length, take, subst, sym, refl, Option, None, ◌⊎◌}
 use Rattle.std.proofs.lemmas.Option.{get_or_from_slice_get}
 use Rattle.rv_boxes.specs.Limits.{AreLoosened, HasChanged, room_of}
-use Rattle.rv_boxes.proofs.Limiting.{take_push, loosened_more, loosened_room, changed_more, match_true, match_false}
+use Rattle.rv_boxes.proofs.Limiting.{loosened_more, loosened_room, changed_more, match_true, match_false}
+use Rattle.rv_base.proofs.Lists.{take_push}
 use Rattle.rv_boxes.proofs.limits.loosen.Goals as goal
 
 pub loop-memory-preserved : goal.loop-memory-preserved

@@ -4,11 +4,11 @@ use Rattle.rv_calls.specs.Callings.{node_texts}
 use Rattle.rv_calls.proofs.Collected.{collected}
 use Rattle.rv_instances.proofs.Known.{once}
 use Rattle.rv_tree.specs.Tree.{program_tree}
-use Rattle.rv_types.proofs.Fitting.{none_left as drop_all}
+use Rattle.rv_types.proofs.Fitting.{none_left}
 use Rattle.rv_calls.proofs.calls.names_of_nodes.Goals as goal
 
 pub returns : goal.returns
 returns c =
     collected c.args.p.now.nodes c.loop-node.names (once (program_tree c.args.p.now) c.requires)
-    (ap (λ l. with_names c.loop-node.names (node_texts l)) (sym (drop_all c.args.p.now.nodes c.loop-node.node-index
+    (ap (λ l. with_names c.loop-node.names (node_texts l)) (sym (none_left c.args.p.now.nodes c.loop-node.node-index
     (let n = ap length c.as_slice-node-items.ensures in omega (arith, n)))) ∙ c.loop-node.invariant)

@@ -2,9 +2,10 @@ use Rattle.std.proofs.Common.{◌≡◌, ◌<◌, ℕ, List, [], length, replica
 use Rattle.std.specs.List.{Contains}
 use Rattle.rv_calls.specs.Graphs.{Graph, edges}
 use Rattle.rv_calls.specs.Components.{IsReversedTo, IsTurned}
-use Rattle.rv_instances.proofs.Lists.{got, contains_at}
+use Rattle.rv_instances.proofs.Lists.{contains_at}
 use Rattle.rv_calls.proofs.Turned.{reversed_none, reversed_more}
 use Rattle.rv_calls.proofs.components.reversed.Goals as goal
+use Rattle.std.proofs.lemmas.Option.{get_or_from_slice_get}
 
 pub loop-v-init : goal.loop-v-init
 loop-v-init c =
@@ -14,7 +15,7 @@ loop-v-init c =
 pub turn_all-requires : goal.turn_all-requires
 turn_all-requires c w inside =
     let same : c.as_slice.result.now ≡ edges c.args.graph.now c.loop-v.v = c.as_slice.ensures
-    ∙ sym (got c.args.graph.now c.loop-v.v c.at.result.now [] c.at.ensures.value) in
+    ∙ sym (get_or_from_slice_get c.args.graph.now c.loop-v.v c.at.result.now [] c.at.ensures.value) in
     let at = contains_at (edges c.args.graph.now c.loop-v.v) w (subst (λ (ts : List ℕ). Contains ts w) same inside) in
     let less = subst (λ u. u < length c.args.graph.now) at.2 (c.requires.vertices c.loop-v.v at.0 (omega arith) at.1) in
     let n = c.loop-v.invariant.size in omega (arith, less, n)
@@ -22,7 +23,7 @@ turn_all-requires c w inside =
 pub loop-v-preserved : goal.loop-v-preserved
 loop-v-preserved c =
     let same : c.as_slice.result.now ≡ edges c.args.graph.now c.loop-v.v = c.as_slice.ensures
-    ∙ sym (got c.args.graph.now c.loop-v.v c.at.result.now [] c.at.ensures.value) in
+    ∙ sym (get_or_from_slice_get c.args.graph.now c.loop-v.v c.at.result.now [] c.at.ensures.value) in
     reversed_more c.args.graph.now c.loop-v.v c.loop-v.turned.items c.turn_all.new.turned.items (omega arith) c.loop-v.invariant
     (subst (λ (ts : List ℕ). IsTurned ts c.loop-v.v c.loop-v.turned.items c.turn_all.new.turned.items) same c.in_ok-turn_all.ensures)
 

@@ -2,9 +2,9 @@ use Rattle.std.proofs.Common.{◌≡◌, ℕ, ◌++◌, [], List, map, reverse, 
 use Rattle.rv_instances.specs.declared.answer.Instance.{Instance}
 use Rattle.rv_calls.specs.declared.calls.Calling.{Calling}
 use Rattle.rv_calls.specs.Listing.{called_instance, IsExpansion}
-use Rattle.rv_instances.proofs.Lists.{got}
 use Rattle.rv_calls.proofs.Expanding.{expansion_next, expansion_step, ahead_less}
 use Rattle.rv_calls.proofs.expansion.expand.Goals as goal
+use Rattle.std.proofs.lemmas.Option.{get_or_from_slice_get}
 
 pub at-requires : goal.at-requires
 at-requires c = expansion_next c.args.calls.now c.args.root c.loop-instance.found c.loop-instance.waiting c.pop.new.self c.in-Some.instance
@@ -16,7 +16,7 @@ loop-instance-smaller c =
     let lt = expansion_next c.args.calls.now c.args.root c.loop-instance.found c.loop-instance.waiting c.pop.new.self i c.loop-instance.invariant
     c.in-Some.ensures.taken in
     let calls : c.as_slice-callees.result.now ≡ get_or c.args.calls.now i.node [] = c.as_slice-callees.ensures
-    ∙ sym (got c.args.calls.now i.node c.at.result.now [] c.at.ensures.value) in
+    ∙ sym (get_or_from_slice_get c.args.calls.now i.node c.at.result.now [] c.at.ensures.value) in
     let pushed : c.push_callees.new.waiting ≡ c.pop.new.self ++ reverse (map (called_instance i.path) (get_or c.args.calls.now i.node [])) =
     c.in_ok-push_callees.ensures
     ∙ ap (λ (path : List ℕ). c.pop.new.self ++ reverse (map (called_instance path) c.as_slice-callees.result.now)) c.as_slice.ensures
@@ -28,7 +28,7 @@ pub loop-instance-preserved : goal.loop-instance-preserved
 loop-instance-preserved c =
     let i = c.in-Some.instance in
     let calls : c.as_slice-callees.result.now ≡ get_or c.args.calls.now i.node [] = c.as_slice-callees.ensures
-    ∙ sym (got c.args.calls.now i.node c.at.result.now [] c.at.ensures.value) in
+    ∙ sym (get_or_from_slice_get c.args.calls.now i.node c.at.result.now [] c.at.ensures.value) in
     let pushed : c.push_callees.new.waiting ≡ c.pop.new.self ++ reverse (map (called_instance i.path) (get_or c.args.calls.now i.node [])) =
     c.in_ok-push_callees.ensures
     ∙ ap (λ (path : List ℕ). c.pop.new.self ++ reverse (map (called_instance path) c.as_slice-callees.result.now)) c.as_slice.ensures

@@ -1,7 +1,7 @@
 use Rattle.std.proofs.Common.{false, ◌∙◌}
-use Rattle.rv_instances.proofs.Lists.{got}
 use Rattle.rv_calls.proofs.Walks.{left_step, went_step, met, loop_step}
 use Rattle.rv_calls.proofs.graph.explore.Goals as goal
+use Rattle.std.proofs.lemmas.Option.{get_or_from_slice_get}
 
 pub loop-top-smaller-in_ok-leave-in-None : goal.loop-top-smaller-in_ok-leave-in-None
 loop-top-smaller-in_ok-leave-in-None c =
@@ -19,7 +19,7 @@ pub loop_from-requires : goal.loop_from-requires
 loop_from-requires c =
     met c.args.graph.now c.requires.vertices c.loop-top.walk c.loop-top.invariant.walk c.in-Some.top c.in-Some.ensures.some.0 c.in-Some.ensures.some.1
     c.next_unfinished.new.self c.in-Some-next_unfinished.child c.in-Some-next_unfinished.ensures
-    (got c.next_unfinished.new.self.entered c.in-Some-next_unfinished.child c.at.result.now false c.at.ensures.value ∙ c.if-at.true)
+    (get_or_from_slice_get c.next_unfinished.new.self.entered c.in-Some-next_unfinished.child c.at.result.now false c.at.ensures.value ∙ c.if-at.true)
 
 pub returns-then-at-clause-found : goal.returns-then-at-clause-found
 returns-then-at-clause-found c =
@@ -32,7 +32,7 @@ pub loop-top-smaller : goal.loop-top-smaller
 loop-top-smaller c =
     (went_step c.args.graph.now c.requires.vertices c.loop-top.walk c.loop-top.invariant.walk c.in-Some.top c.in-Some.ensures.some.0 c.in-Some.ensures.some.1
     c.next_unfinished.new.self c.enter.new.self c.in-Some-next_unfinished.child c.in-Some-next_unfinished.ensures
-    (got c.next_unfinished.new.self.entered c.in-Some-next_unfinished.child c.at.result.now false c.at.ensures.value ∙ c.if-at.false)
+    (get_or_from_slice_get c.next_unfinished.new.self.entered c.in-Some-next_unfinished.child c.at.result.now false c.at.ensures.value ∙ c.if-at.false)
     c.in_ok-enter-in-Some-next_unfinished.ensures).2
 
 pub loop-top-preserved : goal.loop-top-preserved
@@ -40,6 +40,6 @@ loop-top-preserved c =
     let step = went_step c.args.graph.now c.requires.vertices c.loop-top.walk c.loop-top.invariant.walk c.in-Some.top c.in-Some.ensures.some.0
     c.in-Some.ensures.some.1
     c.next_unfinished.new.self c.enter.new.self c.in-Some-next_unfinished.child c.in-Some-next_unfinished.ensures
-    (got c.next_unfinished.new.self.entered c.in-Some-next_unfinished.child c.at.result.now false c.at.ensures.value ∙ c.if-at.false)
+    (get_or_from_slice_get c.next_unfinished.new.self.entered c.in-Some-next_unfinished.child c.at.result.now false c.at.ensures.value ∙ c.if-at.false)
     c.in_ok-enter-in-Some-next_unfinished.ensures in
     record { walk = step.0; kept = λ k e. step.1 k (c.loop-top.invariant.kept k e) }

@@ -1,7 +1,7 @@
 use Rattle.std.proofs.Common.{◌<◌, false, sym, ◌∙◌, subst}
 use Rattle.rv_calls.proofs.Walks.{root_step}
-use Rattle.rv_instances.proofs.Lists.{got}
 use Rattle.rv_calls.proofs.graph.visit.Goals as goal
+use Rattle.std.proofs.lemmas.Option.{get_or_from_slice_get}
 
 pub at-requires : goal.at-requires
 at-requires c = subst (λ n. c.args.root < n) (sym c.requires.walk.entered_size) c.requires.root
@@ -9,4 +9,4 @@ at-requires c = subst (λ n. c.args.root < n) (sym c.requires.walk.entered_size)
 pub explore-requires-clause-walk : goal.explore-requires-clause-walk
 explore-requires-clause-walk c =
     (root_step c.args.graph.now c.args.walk.now c.enter.new.self c.args.root c.requires.walk c.requires.path c.requires.root
-    (got c.args.walk.now.entered c.args.root c.at.result.now false c.at.ensures.value ∙ c.if-at.false) c.in_ok-enter.ensures).0
+    (get_or_from_slice_get c.args.walk.now.entered c.args.root c.at.result.now false c.at.ensures.value ∙ c.if-at.false) c.in_ok-enter.ensures).0

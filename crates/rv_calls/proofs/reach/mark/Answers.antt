@@ -1,13 +1,13 @@
 use Rattle.std.proofs.Common.{List, ℕ, ◌∷◌, ◌++◌, [], sym, subst, ◌∙◌, None as Nothing}
 use Rattle.rv_calls.specs.Components.{Marks, IsSpread}
-use Rattle.rv_instances.proofs.Lists.{got}
 use Rattle.rv_calls.proofs.Searches.{spread_not, spread_one}
 use Rattle.rv_calls.proofs.reach.mark.Goals as goal
+use Rattle.std.proofs.lemmas.Option.{get_or_from_slice_get}
 
 pub returns-in_ok-push : goal.returns-in_ok-push
 returns-in_ok-push c =
-    let a = got c.args.allowed.now c.args.v c.at-own.result.now Nothing c.at-own.ensures.value in
-    let b = got c.args.marks.now c.args.v c.at-mark.result.now Nothing c.at-mark.ensures.value in
+    let a = get_or_from_slice_get c.args.allowed.now c.args.v c.at-own.result.now Nothing c.at-own.ensures.value in
+    let b = get_or_from_slice_get c.args.marks.now c.args.v c.at-mark.result.now Nothing c.at-mark.ensures.value in
     let new = c.is_new.ensures.yes c.if-is_new.true in
     subst (λ (w : List ℕ). IsSpread c.args.allowed.now c.args.wanted c.args.from (c.args.v ∷ []) c.args.marks.now c.args.waiting.now c.set.new.self w)
     (sym c.in_ok-push.ensures.ok)
@@ -18,7 +18,7 @@ returns-in_ok-push c =
 
 pub returns-else-is_new : goal.returns-else-is_new
 returns-else-is_new c =
-    let a = got c.args.allowed.now c.args.v c.at-own.result.now Nothing c.at-own.ensures.value in
-    let b = got c.args.marks.now c.args.v c.at-mark.result.now Nothing c.at-mark.ensures.value in
+    let a = get_or_from_slice_get c.args.allowed.now c.args.v c.at-own.result.now Nothing c.at-own.ensures.value in
+    let b = get_or_from_slice_get c.args.marks.now c.args.v c.at-mark.result.now Nothing c.at-mark.ensures.value in
     let old = c.is_new.ensures.not c.if-is_new.false in
     spread_not c.args.allowed.now c.args.wanted c.args.from c.args.v c.args.marks.now c.args.waiting.now (λ e. b ∙ old (sym a ∙ e))

@@ -2,13 +2,13 @@ use Rattle.std.proofs.Common.{◌≡◌, ◌+◌, ◌∙◌, ℕ, ap, sym, subst
 use Rattle.rv_diagram.specs.Several.{ref_at}
 use Rattle.rv_proofs.specs.declared.report.Case.{Case}
 use Rattle.rv_cases.specs.Made.{IsMadeFor}
-use Rattle.rv_cases.proofs.Lists.{got-append, none-at}
+use Rattle.rv_base.proofs.Lists.{none_at, push_got}
 use Rattle.rv_cases.proofs.parting.make_cases.Goals as goal
 
 pub loop-j-init : goal.loop-j-init
 loop-j-init c = record {
   many = ap (λ (l : List Case). length l) c.new-cases.ensures;
-  made = λ j x got. absurd (none-at c.new-cases.result j x c.new-cases.ensures got);
+  made = λ j x got. absurd (none_at c.new-cases.result j x c.new-cases.ensures got);
 }
 
 pub loop-j-preserved : goal.loop-j-preserved
@@ -24,5 +24,5 @@ loop-j-preserved c =
           subst (λ (n : ℕ). IsMadeFor c.args.store.now c.args.questions.now (ref_at c.args.conditions.now n) x) at
           (subst (λ (y : Case). IsMadeFor c.args.store.now c.args.questions.now (ref_at c.args.conditions.now c.loop-j.j) y) new.1
           c.in_ok-case.ensures.made))
-          (got-append c.loop-j.cases c.in_ok-case.case x j (subst (λ (l : List Case). slice_get l j ≡ Some x) is got));
+          (push_got c.loop-j.cases c.in_ok-case.case x j (subst (λ (l : List Case). slice_get l j ≡ Some x) is got));
     }

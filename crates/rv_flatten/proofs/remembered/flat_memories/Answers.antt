@@ -6,14 +6,15 @@ use Rattle.rv_flatten.specs.Building.{IsRemembered, main_given, numbers_of, prog
 use Rattle.rv_flat.specs.Systems.{memory_of}
 use Rattle.rv_flatten.specs.Kept.{kept_memory}
 use Rattle.rv_flatten.proofs.ClockedNodes.{one_more}
-use Rattle.rv_flatten.proofs.KeptParts.{and_one_more, there}
-use Rattle.rv_types.proofs.Members.{nothing_in as none_in}
+use Rattle.rv_flatten.proofs.KeptParts.{and_one_more}
+use Rattle.rv_types.proofs.Members.{nothing_in}
+use Rattle.rv_base.proofs.Lists.{contains_got}
 use Rattle.rv_flatten.proofs.remembered.flat_memories.Goals as goal
 
 pub loop-kept-init : goal.loop-kept-init
 loop-kept-init c = (
   ap (map memory_of) c.new-memories.ensures,
-  λ m w. none_in m (subst (λ (l : List FlatMemory). Contains l m) c.new-memories.ensures w),
+  λ m w. nothing_in m (subst (λ (l : List FlatMemory). Contains l m) c.new-memories.ensures w),
 )
 
 pub loop-kept-preserved : goal.loop-kept-preserved
@@ -39,5 +40,5 @@ returns c =
     let all = take_all c.loop-kept.kept-index items c.loop-kept-test.false in
     record {
       list = c.loop-kept.invariant.0 ∙ ap (map kept_memory) (all ∙ c.as_slice-kept-items.ensures);
-      each = λ k m e. c.loop-kept.invariant.1 m (there c.loop-kept.memories k m e);
+      each = λ k m e. c.loop-kept.invariant.1 m (contains_got c.loop-kept.memories k m e);
     }

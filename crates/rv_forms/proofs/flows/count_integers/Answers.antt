@@ -3,7 +3,7 @@ use Rattle.rv_types.specs.declared.typed.Kind.TheVariants.{Bool}
 use Rattle.rv_types.specs.Variables.{is_integer}
 use Rattle.rv_agreement.specs.Valuations.{rank}
 use Rattle.rv_forms.proofs.Ranks.{rank_zero, rank_next, rank_all, rank_most}
-use Rattle.rv_terms.proofs.Counting.{bit-most as one_most}
+use Rattle.rv_base.proofs.Truths.{bit_most}
 use Rattle.rv_forms.proofs.flows.count_integers.Goals as goal
 
 pub loop-kind-init : goal.loop-kind-init
@@ -12,7 +12,7 @@ loop-kind-init c = sym (rank_zero c.args.kinds.now)
 pub overflow_add-count : goal.overflow_add-count
 overflow_add-count c =
     let most = rank_most c.args.kinds.now c.loop-kind.kind-index in
-    let one = one_most (is_integer (get_or c.args.kinds.now c.loop-kind.kind-index Bool)) in
+    let one = bit_most (is_integer (get_or c.args.kinds.now c.loop-kind.kind-index Bool)) in
     omega (arith, most, one, c.one_of-count.ensures, c.loop-kind.invariant)
 
 pub loop-kind-preserved : goal.loop-kind-preserved

@@ -3,14 +3,14 @@ use Rattle.rv_instances.specs.declared.answer.Instance.{Instance}
 use Rattle.rv_instances.specs.Layouts.{path_at}
 use Rattle.rv_instances.specs.Expanded.{no_instance}
 use Rattle.rv_instances.proofs.Chained.{deep_enough, next_chain, next_told}
-use Rattle.rv_instances.proofs.Lists.{got}
 use Rattle.rv_instances.proofs.layout.callees_of.Goals as goal
+use Rattle.std.proofs.lemmas.Option.{get_or_from_slice_get}
 
 pub tell_caller-requires : goal.tell_caller-requires
 tell_caller-requires c =
     let t = c.loop-instance.instance in
     let lt : t < length c.args.instances.now = omega arith in
-    let path = c.as_slice-path.ensures ∙ sym (ap (λ (i : Instance). i.path) (got c.args.instances.now t c.at.result.now no_instance c.at.ensures.value)) in
+    let path = c.as_slice-path.ensures ∙ sym (ap (λ (i : Instance). i.path) (get_or_from_slice_get c.args.instances.now t c.at.result.now no_instance c.at.ensures.value)) in
     let enough = deep_enough c.args.instances.now c.requires.paths t c.loop-instance.chain lt c.loop-instance.invariant.chained in
     let size = ap length path in
     omega (arith, enough, size)
@@ -19,7 +19,7 @@ pub loop-instance-preserved : goal.loop-instance-preserved
 loop-instance-preserved c =
     let t = c.loop-instance.instance in
     let lt : t < length c.args.instances.now = omega arith in
-    let path = c.as_slice-path.ensures ∙ sym (ap (λ (i : Instance). i.path) (got c.args.instances.now t c.at.result.now no_instance c.at.ensures.value)) in
+    let path = c.as_slice-path.ensures ∙ sym (ap (λ (i : Instance). i.path) (get_or_from_slice_get c.args.instances.now t c.at.result.now no_instance c.at.ensures.value)) in
     let long : c.push.new.self ≡ take (length (path_at c.args.instances.now t)) c.loop-instance.chain ++ t ∷ [] =
     c.in_ok-push.ensures.ok ∙ ap (λ l. l ++ t ∷ []) (c.truncate.ensures ∙ ap (λ n. take n c.loop-instance.chain) (ap length path)) in
     record {

@@ -15,8 +15,8 @@ use Rattle.rv_instances.proofs.CallsHere.{call_of, listed_of, laid_read}
 use Rattle.rv_instances.proofs.ExpandedLaws.{node_in, instance_at}
 use Rattle.rv_instances.proofs.LaidFlows.{laid_size}
 use Rattle.rv_instances.proofs.ToldCalls.{element}
-use Rattle.rv_instances.proofs.Lists.{got}
 use Rattle.rv_instances.proofs.layout.set_bases.Goals as goal
+use Rattle.std.proofs.lemmas.Option.{get_or_from_slice_get}
 
 pub at-requires : goal.at-requires
 at-requires c =
@@ -80,7 +80,7 @@ loop-call-preserved c =
     (number_of (flows_before (flow_count p x.instances.now) m) b (clock_of_args here.i.node here.call.args)) =
     c.set.ensures ∙ (λ t. set c.loop-call.bases (at t) (value t)) in
     let own : IsClockPlaced (all_places p x.instances.now) b here.i.base =
-    subst (λ o. IsClockPlaced (all_places p x.instances.now) o here.i.base) (got c.args.bases.now m b Nothing c.at-base.ensures.value)
+    subst (λ o. IsClockPlaced (all_places p x.instances.now) o here.i.base) (get_or_from_slice_get c.args.bases.now m b Nothing c.at-base.ensures.value)
     (c.requires.base here.i here.is here.at) in
     let one = base_set p main x.instances.now known c.args.callees.now c.requires.callees m here.i b c.requires.instance here.is here.at own c.loop-call.bases
     c.set.new.self here.call in

@@ -5,7 +5,7 @@ use Rattle.rv_invfile.specs.Forms.{word_of}
 use Rattle.rv_invfile.specs.Texts.{same_fields}
 use Rattle.rv_invfile.proofs.Decimals.{bytes-same}
 use Rattle.rv_invfile.proofs.SameFields.{later-differ, later-same, text-at}
-use Rattle.rv_meaning.proofs.Rows.{no_flag as false-true}
+use Rattle.rv_meaning.proofs.Rows.{no_flag}
 use Rattle.rv_invariant.proofs.naming.are_texts.Goals as goal
 
 pub returns-then-not-is_same : goal.returns-then-not-is_same
@@ -13,7 +13,7 @@ returns-then-not-is_same c =
     sym (ap (λ l. same_fields (here c.args.records.now) (c.args.word.now ∷ l)) (sym (map-id c.args.names.now))
     ∙ later-differ (λ (t : List ℕ). t) (here c.args.records.now) c.args.word.now c.args.names.now c.loop-index.index c.index-names-index.result
     c.loop-index-test.true c.index-names-index.is
-    (λ e. false-true (sym c.if-not-is_same.true ∙ c.is_same.ensures.1 (c.field.ensures ∙ e ∙ sym c.as_str.ensures ∙ sym c.as_bytes.ensures.value))))
+    (λ e. no_flag (sym c.if-not-is_same.true ∙ c.is_same.ensures.1 (c.field.ensures ∙ e ∙ sym c.as_str.ensures ∙ sym c.as_bytes.ensures.value))))
 
 pub loop-index-preserved : goal.loop-index-preserved
 loop-index-preserved c =

@@ -10,11 +10,8 @@ use Rattle.rv_invariant.proofs.Adding.{held-fits}
 use Rattle.rv_invariant.proofs.Lined.{certificate-wide}
 use Rattle.rv_invariant.proofs.Located.{document-exists}
 use Rattle.rv_invariant.proofs.Sounding.{records-back}
+use Rattle.rv_base.proofs.Lists.{same_text}
 use Rattle.rv_invariant.proofs.writing.write_certificate.Goals as goal
-
-is-text : {A E : Type 0} (r : Result A E) (items : A → List ℕ) (x y : List ℕ) → x ≡ y → IfOk r (λ v. items v ≡ x) → IfOk r (λ v. items v ≡ y)
-is-text (Ok v) items x y same h = h ∙ same
-is-text (Err e) items x y same h = tt
 
 reads-as : {A E : Type 0} (f : Flat) (x : Certificate) (r : Result A E) (items : A → List ℕ) → IfOk r (λ v. items v ≡ wide (certificate_records f x))
     → IfOk r (λ v. records_of (items v) ≡ certificate_records f x)
@@ -30,7 +27,7 @@ pub returns-clause-text : goal.returns-clause-text
 returns-clause-text c =
     let f = c.args.flat.now in
     let x = c.args.certificate.now in
-    is-text c.finish.result (λ v. v.items) (wide (certificate_records f x)) (lines (certificate_records f x)) (certificate-wide f x c.requires.told)
+    same_text c.finish.result (λ v. v.items) (wide (certificate_records f x)) (lines (certificate_records f x)) (certificate-wide f x c.requires.told)
     (c.finish.ensures (wide (certificate_records f x)) (c.in_ok-write_records.ensures.added [] c.new_writer-writer.ensures))
 
 pub returns-clause-written : goal.returns-clause-written

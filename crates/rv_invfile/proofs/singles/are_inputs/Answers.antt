@@ -4,14 +4,14 @@ use Rattle.rv_invfile.specs.Forms.{word_of}
 use Rattle.rv_flat.specs.declared.parts.FlatInput.{FlatInput}
 use Rattle.rv_invfile.proofs.Decimals.{bytes-same}
 use Rattle.rv_invfile.proofs.SameFields.{later-differ, later-same, text-at}
-use Rattle.rv_meaning.proofs.Rows.{no_flag as false-true}
+use Rattle.rv_meaning.proofs.Rows.{no_flag}
 use Rattle.rv_invfile.proofs.singles.are_inputs.Goals as goal
 
 pub returns-then-not-is_same : goal.returns-then-not-is_same
 returns-then-not-is_same c =
     sym (later-differ (λ (i : FlatInput). i.name) (here c.args.records.now) c.args.word.now c.args.inputs.now c.loop-index.index c.index-inputs-index.result
     c.loop-index-test.true c.index-inputs-index.is
-    (λ e. false-true (sym c.if-not-is_same.true ∙ c.is_same.ensures.1 (c.field.ensures ∙ e ∙ ap (λ (i : FlatInput). i.name) c.index-inputs-index.is
+    (λ e. no_flag (sym c.if-not-is_same.true ∙ c.is_same.ensures.1 (c.field.ensures ∙ e ∙ ap (λ (i : FlatInput). i.name) c.index-inputs-index.is
     ∙ sym c.as_str.ensures ∙ sym c.as_bytes.ensures.value))))
 
 pub loop-index-preserved : goal.loop-index-preserved

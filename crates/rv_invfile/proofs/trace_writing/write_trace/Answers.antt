@@ -8,11 +8,8 @@ use Rattle.rv_base.specs.declared.value.Trace.{Trace}
 use Rattle.rv_flat.specs.declared.flat.Flat.{Flat}
 use Rattle.rv_invfile.proofs.ReadBack.{trace-document}
 use Rattle.rv_invfile.proofs.Sound.{trace-wide, trace-read}
+use Rattle.rv_base.proofs.Lists.{same_text}
 use Rattle.rv_invfile.proofs.trace_writing.write_trace.Goals as goal
-
-is-text : {A E : Type 0} (r : Result A E) (items : A → List ℕ) (x y : List ℕ) → x ≡ y → IfOk r (λ v. items v ≡ x) → IfOk r (λ v. items v ≡ y)
-is-text (Ok v) items x y same h = h ∙ same
-is-text (Err e) items x y same h = tt
 
 reads-as : {A E : Type 0} (r : Result A E) (items : A → List ℕ) (x : List ℕ) (rows : List Fields) → records_of x ≡ rows → IfOk r (λ v. items v ≡ x)
     → IfOk r (λ v. records_of (items v) ≡ rows)
@@ -23,7 +20,7 @@ pub returns-clause-text : goal.returns-clause-text
 returns-clause-text c =
     let f = c.args.flat.now in
     let t = c.args.trace.now in
-    is-text c.finish.result (λ v. v.items) (wide (trace_records f t)) (lines (trace_records f t)) (trace-wide f t c.requires.told)
+    same_text c.finish.result (λ v. v.items) (wide (trace_records f t)) (lines (trace_records f t)) (trace-wide f t c.requires.told)
     (c.finish.ensures (wide (trace_records f t)) (c.in_ok-write_records.ensures [] c.new_writer-writer.ensures))
 
 pub returns-clause-records : goal.returns-clause-records

@@ -4,9 +4,10 @@ use Rattle.rv_rows.specs.declared.linear.Row.{Row}
 use Rattle.rv_rows.specs.Rows.{row_at}
 use Rattle.rv_rise.specs.Shown.{CanMove}
 use Rattle.rv_rise.specs.Limits.{AreLoosened, HasChanged, room_of}
-use Rattle.rv_rise.proofs.Loosening.{take_push, loosened_more, loosened_room, changed_more, match_true, match_false}
+use Rattle.rv_rise.proofs.Loosening.{loosened_more, loosened_room, changed_more, match_true, match_false}
 use Rattle.std.specs.List.{Contains}
 use Rattle.rv_seek.specs.Least.{bounded}
+use Rattle.rv_base.proofs.Lists.{take_push}
 use Rattle.rv_rise.proofs.limits.loosen.Goals as goal
 
 pub loosened_by-requires-clause-zero : goal.loosened_by-requires-clause-zero

@@ -1,5 +1,5 @@
 use Rattle.std.proofs.Common.{◌∙◌, Some, ap, sym}
-use Rattle.rv_rise.proofs.Loosening.{take_push}
+use Rattle.rv_base.proofs.Lists.{take_push}
 use Rattle.rv_rise.proofs.lists.copy_rows.Goals as goal
 
 pub loop-place-preserved : goal.loop-place-preserved

@@ -16,6 +16,7 @@ use Rattle.rv_run.specs.Verdicts.{IsDocumentOf, IsInvariantOf, IsViolated}
 use Rattle.rv_run.proofs.Named.{no_document, on_document, on_file, told_of, told_of_document}
 use Rattle.rv_run.proofs.Reported.{document-not_made, document-not_safe, document-not_toured, document-not_unknown, document-not_usage, document-not_verdict}
 use Rattle.rv_run.proofs.Reported.{document-not_violated, source-not_document}
+use Rattle.rv_base.proofs.Options.{some_none}
 use Rattle.rv_run.proofs.running.report_on_file.Goals as goal
 
 pub load_whole-requires : goal.load_whole-requires
@@ -28,9 +29,6 @@ report_on_document-requires-clause-served g c =
     ap (option_map (λ (b : Beside). (b.task, b.file.now))) c.in-Some.is in
     subst (λ (serves : List ℕ → Bool). IsTrue (serves other.file.now)) (sym c.load_whole.ensures.same_serves)
     (c.requires.served other.file.now (inr (other.task, with_other)))
-
-some_none : {X : Type 0} (x : X) → Some x ≡ None → ⊥
-some_none x e = cc
 
 none_some : (n : ℕ) → (let o : Option ℕ = None in o) ≡ Some n → ⊥
 none_some n e = cc

@@ -2,10 +2,10 @@ use Rattle.std.proofs.Common.{◌≡◌, ◌<◌, length, sym, ◌∙◌, ap, su
 use Rattle.rv_tree.specs.Tree.{program_tree}
 use Rattle.rv_calls.specs.Graphs.{IsGraph, IsOrdered}
 use Rattle.rv_calls.specs.Callings.{call_graph}
-use Rattle.rv_instances.proofs.Lists.{got}
 use Rattle.rv_calls.proofs.Recursions.{is_graph, table_size}
 use Rattle.rv_sizes.proofs.Measured.{total_read}
 use Rattle.rv_sizes.proofs.measure.total_of.Goals as goal
+use Rattle.std.proofs.lemmas.Option.{get_or_from_slice_get}
 
 pub totals-requires : goal.totals-requires
 totals-requires c =
@@ -28,4 +28,4 @@ pub returns : goal.returns
 returns c =
     total_read (program_tree c.args.p.now) c.requires.named c.args.own.now c.in_ok-sums.sums c.args.nodes.now.calls c.args.main c.at.result.now c.requires.main
     c.requires.nodes.calls
-    c.in_ok-sums.ensures (got c.in_ok-sums.sums c.args.main c.at.result.now 0 c.at.ensures.value)
+    c.in_ok-sums.ensures (get_or_from_slice_get c.in_ok-sums.sums c.args.main c.at.result.now 0 c.at.ensures.value)

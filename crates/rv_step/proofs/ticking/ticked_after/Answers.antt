@@ -1,4 +1,4 @@
-use Rattle.std.proofs.Common.{◌≡◌, ◌∷◌, ◌++◌, [], Bool, true, false, ◌||◌, length, map, get_or, Some, refl, sym, ◌∙◌, ap}
+use Rattle.std.proofs.Common.{◌≡◌, ◌∷◌, ◌++◌, [], true, false, length, map, get_or, Some, sym, ◌∙◌, ap}
 use Rattle.std.proofs.lemmas.Simd.{map-map}
 use Rattle.rv_tree.specs.Places.{index_of}
 use Rattle.rv_flat.specs.Facts.{numbers_among}
@@ -6,11 +6,8 @@ use Rattle.rv_flat.specs.Filling.{ticks_from}
 use Rattle.rv_flat.specs.FlatInstants.{places}
 use Rattle.rv_flat.specs.Lists.{tick_places}
 use Rattle.rv_meaning.proofs.NameLemmas.{same_text}
+use Rattle.rv_base.proofs.Truths.{or_true}
 use Rattle.rv_step.proofs.ticking.ticked_after.Goals as goal
-
-either : (b : Bool) → (b || true) ≡ true
-either true = refl
-either false = refl
 
 pub returns : goal.returns
 returns c =
@@ -24,4 +21,4 @@ returns c =
     ∙ (λ i. first i ++ ticks_from row had (length (first i)) (map (λ k. Some k) (c.as_slice.ensures i)))
     ∙ ap (λ ks. true ∷ ticks_from row had 1 (map (λ k. Some k) ks)) known
     ∙ ap (λ ks. true ∷ ticks_from row had 1 ks) (map-map (λ k. Some k) (index_of (places f)) (tick_places f.variables))
-    ∙ ap (λ b. b ∷ ticks_from row had 1 (map (λ p. Some (index_of (places f) p)) (tick_places f.variables))) (sym (either (get_or had 0 false)))
+    ∙ ap (λ b. b ∷ ticks_from row had 1 (map (λ p. Some (index_of (places f) p)) (tick_places f.variables))) (sym (or_true (get_or had 0 false)))

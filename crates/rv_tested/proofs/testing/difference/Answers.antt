@@ -8,7 +8,7 @@ use Rattle.rv_terms.specs.declared.parted.Term.{Term}
 use Rattle.rv_terms.specs.Parts.{form_at, term_width, IsTerm, IsTermOf}
 use Rattle.rv_tested.specs.Testing.{IsDifference}
 use Rattle.rv_tested.proofs.Siding.{can_negate, can_subtract, is_difference}
-use Rattle.rv_forms.proofs.Kept.{own_width as own_term, width_first as own_width}
+use Rattle.rv_forms.proofs.Kept.{own_width as own_term, width_first}
 use Rattle.rv_tested.proofs.testing.difference.Goals as goal
 
 pub scale-requires-clause-a : goal.scale-requires-clause-a
@@ -24,8 +24,8 @@ sum-requires-clause-a c = subst (λ (d : Diagrams). IsTerm d.nodes (term_width c
 pub sum-requires-clause-b : goal.sum-requires-clause-b
 sum-requires-clause-b c =
     let widths : term_width c.args.second.now.parts ≡ term_width c.args.first.now.parts =
-    own_width c.args.store.now.nodes c.requires.terms.0 c.args.second.now.parts c.requires.terms.2.term
-    ∙ sym (own_width c.args.store.now.nodes c.requires.terms.0 c.args.first.now.parts c.requires.terms.1.term) in
+    width_first c.args.store.now.nodes c.requires.terms.0 c.args.second.now.parts c.requires.terms.2.term
+    ∙ sym (width_first c.args.store.now.nodes c.requires.terms.0 c.args.first.now.parts c.requires.terms.1.term) in
     subst (λ (d : Diagrams). IsTerm d.nodes (term_width c.args.first.now.parts) c.in_ok-negative.negative.parts) (sym c.in_ok-negative.ensures.same)
     (subst (λ n. IsTerm c.args.store.now.nodes n c.in_ok-negative.negative.parts) widths c.in_ok-negative.ensures.exact.term)
 

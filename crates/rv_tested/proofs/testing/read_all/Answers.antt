@@ -1,12 +1,12 @@
 use Rattle.std.proofs.Common.{◌≡◌, ◌∙◌, ◌++◌, ◌∷◌, ◌+◌, ℕ, List, [], length, length-append, ap, sym, subst, arith, Some}
 use Rattle.std.specs.Prelude.{slice_get}
 use Rattle.rv_symbolic.proofs.Extending.{extends_refl, extends_trans}
-use Rattle.rv_cases.proofs.Lists.{none-at}
 use Rattle.rv_tested.specs.declared.compared.Compared.{Compared}
 use Rattle.rv_tested.specs.declared.testing.Sides.{Sides}
 use Rattle.rv_tested.specs.Compared.{comparison_in}
 use Rattle.rv_tested.specs.Testing.{AreSidesRead}
 use Rattle.rv_tested.proofs.Following.{read_more}
+use Rattle.rv_base.proofs.Lists.{none_at}
 use Rattle.rv_tested.proofs.testing.read_all.Goals as goal
 
 pub loop-number-init : goal.loop-number-init
@@ -14,7 +14,7 @@ loop-number-init c = record {
   extends = extends_refl c.args.store.now;
   ready = c.requires.ready;
   many = ap (λ (l : List Sides). length l) c.new-read.ensures;
-  each = λ i d y one two. absurd (none-at c.new-read.result i y c.new-read.ensures two);
+  each = λ i d y one two. absurd (none_at c.new-read.result i y c.new-read.ensures two);
 }
 
 pub read_sides-requires-clause-inside : goal.read_sides-requires-clause-inside

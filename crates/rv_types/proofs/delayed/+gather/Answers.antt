@@ -5,13 +5,14 @@ use Rattle.rv_types.specs.declared.typed.Kind.{Kind}
 use Rattle.rv_types.specs.Delayed.{delayed_in, delayed_in_all}
 use Rattle.rv_types.specs.Types.{kinds_of_all, kind_of}
 use Rattle.rv_types.specs.Tables.{scope_of}
-use Rattle.rv_types.proofs.Joined.{and_assoc, drop_here}
 use Rattle.rv_types.proofs.Fitting.{typed_more, fit_more, fit_end, nothing_left}
+use Rattle.rv_base.proofs.Lists.{next_of}
+use Rattle.rv_base.proofs.Truths.{and_assoc}
 use Rattle.rv_types.proofs.delayed.+gather.Goals as goal
 
 pub gather_all-loop-e-preserved : goal.gather_all-loop-e-preserved
 gather_all-loop-e-preserved t c =
-    let d = drop_here c.args.es.now c.loop-e.e-index c.e-item.result c.loop-e-test.true c.e-item.is in
+    let d = next_of c.args.es.now c.loop-e.e-index c.e-item.result c.loop-e-test.true c.e-item.is in
     let v = rw d at c.loop-e.invariant in
     let rest = trees (map tree_of (drop (c.loop-e.e-index + 1) c.args.es.now)) in
     let s = scope_of c.args.view.now in

@@ -3,13 +3,13 @@ use Rattle.rv_tree.specs.Tree.{equation_tree}
 use Rattle.rv_types.specs.Names.{repeated}
 use Rattle.rv_types.specs.Firsts.{firsts_after}
 use Rattle.rv_types.specs.Earliest.{first}
-use Rattle.rv_types.proofs.Joined.{drop_here}
 use Rattle.rv_types.proofs.FirstNames.{spaces_step, faults_step}
+use Rattle.rv_base.proofs.Lists.{next_of}
 use Rattle.rv_types.proofs.names.declare_lefts.Goals as goal
 
 pub loop-equation-preserved : goal.loop-equation-preserved
 loop-equation-preserved c =
-    let d = drop_here c.args.equations.now c.loop-equation.equation-index c.equation-item.result c.loop-equation-test.true c.equation-item.is in
+    let d = next_of c.args.equations.now c.loop-equation.equation-index c.equation-item.result c.loop-equation-test.true c.equation-item.is in
     let here = c.equation-item.result.lefts in
     let space = c.in_ok-declare_names.ensures.space ∙ ap (firsts_after c.loop-equation.space) c.as_slice.ensures in
     let fault = c.in_ok-declare_names.ensures.fault ∙ ap (λ l. first (repeated c.loop-equation.space l)) c.as_slice.ensures in

@@ -1,14 +1,15 @@
 use Rattle.std.proofs.Common.{◌+◌, drop, ◌∙◌, add-one, arith}
 use Rattle.rv_types.specs.NodeTypes.{lefts_by}
 use Rattle.rv_types.specs.Tables.{scope_of}
-use Rattle.rv_types.proofs.Joined.{and_assoc, drop_here}
 use Rattle.rv_types.proofs.Fitting.{fit_more, fit_end, none_left}
+use Rattle.rv_base.proofs.Lists.{next_of}
+use Rattle.rv_base.proofs.Truths.{and_assoc}
 use Rattle.rv_types.proofs.sides.fit_lefts.Goals as goal
 
 pub loop-x-preserved : goal.loop-x-preserved
 loop-x-preserved c =
     let s = scope_of c.args.view.now in
-    let d = drop_here c.args.lefts.now c.loop-x.x-index c.x-item.result c.loop-x-test.true c.x-item.is in
+    let d = next_of c.args.lefts.now c.loop-x.x-index c.x-item.result c.loop-x-test.true c.x-item.is in
     let v = rw d at c.loop-x.invariant.fits in
     let suited = fit_more c.args.wanted.now c.loop-x.count (s.clock c.x-item.result.text) (lefts_by s (drop (c.loop-x.x-index + 1) c.args.lefts.now)) in
     record {

@@ -2,13 +2,15 @@ use Rattle.std.proofs.Common.{map, drop, ap, ◌∙◌, add-one, ◌+◌, arith}
 use Rattle.rv_tree.specs.Tree.{tree_of, trees}
 use Rattle.rv_types.specs.Types.{kinds_of_all, kind_of}
 use Rattle.rv_types.specs.Tables.{scope_of}
-use Rattle.rv_types.proofs.Joined.{first_append, sooner_assoc, and_assoc, drop_here}
+use Rattle.rv_types.proofs.Joined.{first_append, sooner_assoc}
 use Rattle.rv_types.proofs.Fitting.{typed_more, fit_more, fit_end, nothing_left}
+use Rattle.rv_base.proofs.Lists.{next_of}
+use Rattle.rv_base.proofs.Truths.{and_assoc}
 use Rattle.rv_types.proofs.typing.+judge.Goals as goal
 
 pub judge_all-loop-e-preserved : goal.judge_all-loop-e-preserved
 judge_all-loop-e-preserved t c =
-    let d = drop_here c.args.es.now c.loop-e.e-index c.e-item.result c.loop-e-test.true c.e-item.is in
+    let d = next_of c.args.es.now c.loop-e.e-index c.e-item.result c.loop-e-test.true c.e-item.is in
     let v = rw d at c.loop-e.invariant in
     let rest = trees (map tree_of (drop (c.loop-e.e-index + 1) c.args.es.now)) in
     let s = scope_of c.args.view.now in

@@ -3,8 +3,8 @@ use Rattle.std.proofs.lemmas.List.{length_push}
 use Rattle.rv_proofs.specs.declared.certificate.Entry.{Entry}
 use Rattle.rv_proofs.specs.declared.report.Case.{Case}
 use Rattle.rv_widen.specs.Ranged.{IsRangedEntry, AreRangedEntries}
-use Rattle.rv_widen.proofs.Pushing.{seam_at, one_along, none_left}
 use Rattle.rv_widen.proofs.Assembling.{entries_more}
+use Rattle.rv_base.proofs.Lists.{none_left, seam_along, seam_at}
 use Rattle.rv_widen.proofs.entries.entries.Goals as goal
 
 pub entry_of-requires : goal.entry_of-requires
@@ -16,7 +16,7 @@ entry_of-requires c =
 
 pub loop-case-preserved : goal.loop-case-preserved
 loop-case-preserved c = record {
-  all = one_along c.args.cases c.loop-case.yielded c.loop-case.case-iterator.rest.items c.next.new.self.rest.items c.in-Some.case
+  all = seam_along c.args.cases c.loop-case.yielded c.loop-case.case-iterator.rest.items c.next.new.self.rest.items c.in-Some.case
       c.loop-case.invariant.all c.in-Some.ensures.steps.0;
   entries = λ s plan are.
       let at = seam_at c.args.cases c.loop-case.yielded c.next.new.self.rest.items c.in-Some.case (c.loop-case.invariant.all

@@ -1,11 +1,11 @@
 use Rattle.std.proofs.Common.{◌≡◌, ◌<◌, ℕ, List, [], length, get_or, false, true, refl, sym, ◌∙◌, ap, subst, ◌≤◌}
 use Rattle.rv_calls.specs.Graphs.{edges}
-use Rattle.rv_instances.proofs.Lists.{got}
 use Rattle.rv_calls.proofs.graph.Walk.next_unfinished.Goals as goal
+use Rattle.std.proofs.lemmas.Option.{get_or_from_slice_get}
 
 pub first_unmarked-requires : goal.first_unmarked-requires
 first_unmarked-requires c j lt =
-    let same : edges c.args.graph.now c.args.v ≡ c.as_slice-targets.result.now = got c.args.graph.now c.args.v c.at.result.now [] c.at.ensures.value
+    let same : edges c.args.graph.now c.args.v ≡ c.as_slice-targets.result.now = get_or_from_slice_get c.args.graph.now c.args.v c.at.result.now [] c.at.ensures.value
     ∙ sym c.as_slice-targets.ensures in
     let size : length c.args.graph.now ≡ length c.as_slice.result.now = sym (ap length c.as_slice.ensures ∙ c.requires.finished) in
     subst (λ n. get_or c.as_slice-targets.result.now j 0 < n) size
@@ -13,9 +13,9 @@ first_unmarked-requires c j lt =
 
 pub returns-in-None : goal.returns-in-None
 returns-in-None c =
-    let same : edges c.args.graph.now c.args.v ≡ c.as_slice-targets.result.now = got c.args.graph.now c.args.v c.at.result.now [] c.at.ensures.value
+    let same : edges c.args.graph.now c.args.v ≡ c.as_slice-targets.result.now = get_or_from_slice_get c.args.graph.now c.args.v c.at.result.now [] c.at.ensures.value
     ∙ sym c.as_slice-targets.ensures in
-    let start : get_or c.args.self.now.cursor c.args.v 0 ≡ c.at-start.result.now = got c.args.self.now.cursor c.args.v c.at-start.result.now 0
+    let start : get_or c.args.self.now.cursor c.args.v 0 ≡ c.at-start.result.now = get_or_from_slice_get c.args.self.now.cursor c.args.v c.at-start.result.now 0
     c.at-start.ensures.value in (
       refl,
       λ j from lt.
@@ -28,9 +28,9 @@ pub returns-in-Some : goal.returns-in-Some
 returns-in-Some c =
     let next = c.in-Some.next in
     let found = c.in-Some.ensures.some in
-    let same : edges c.args.graph.now c.args.v ≡ c.as_slice-targets.result.now = got c.args.graph.now c.args.v c.at.result.now [] c.at.ensures.value
+    let same : edges c.args.graph.now c.args.v ≡ c.as_slice-targets.result.now = get_or_from_slice_get c.args.graph.now c.args.v c.at.result.now [] c.at.ensures.value
     ∙ sym c.as_slice-targets.ensures in
-    let start : get_or c.args.self.now.cursor c.args.v 0 ≡ c.at-start.result.now = got c.args.self.now.cursor c.args.v c.at-start.result.now 0
+    let start : get_or c.args.self.now.cursor c.args.v 0 ≡ c.at-start.result.now = get_or_from_slice_get c.args.self.now.cursor c.args.v c.at-start.result.now 0
     c.at-start.ensures.value in
     let fin = c.as_slice.ensures in (
       next,
